@@ -1,0 +1,56 @@
+//! The board of Go: colours, points, colourings, sets of points, and their texts.
+#![tactic(auto)]
+
+ghost use Rattle.std.specs.Prelude.{◌≡◌};
+ghost use Rattle.go_points.specs.Grid.{opponent_of};
+
+/// The greatest number of rows and columns of a board.
+pub const MAX_SIZE: u8 = 19;
+
+/// The number of points of that board.
+pub const MAX_POINTS: usize = MAX_SIZE as usize * MAX_SIZE as usize;
+
+/// One of the two sides. White stands first, so that the derived order of cells is that of their texts.
+#[derive(Clone, Copy, Debug, PartialEq, Eq, PartialOrd, Ord, Hash)]
+pub enum Colour {
+    White,
+    Black,
+}
+
+impl Colour {
+    /// The other side.
+    pub fn opponent(self) -> Colour
+        ensures { result ≡ opponent_of self }
+    {
+        match self {
+            Colour::Black => Colour::White,
+            Colour::White => Colour::Black,
+        }
+    }
+}
+
+/// What a point holds.
+#[derive(Clone, Copy, Debug, PartialEq, Eq, PartialOrd, Ord, Hash)]
+pub enum Cell {
+    Empty,
+    Stone(Colour),
+}
+
+mod colouring;
+pub mod laws;
+mod point;
+mod point_set;
+mod size;
+
+pub use colouring::Colouring;
+pub use point::Point;
+pub use point_set::PointSet;
+pub use size::Size;
+
+/// A turn of the game: a pass, or a move at a point.
+#[derive(Clone, Copy, Debug, Default, PartialEq, Eq, PartialOrd, Ord, Hash)]
+pub enum Turn {
+    #[default]
+    Pass,
+    At(Point),
+}

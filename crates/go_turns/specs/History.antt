@@ -1,0 +1,18 @@
+-- The colourings that have occurred, in a list. The rules look only at which are in it.
+use Rattle.std.specs.Prelude.{ℕ, Bool, false, ◌||◌, List, [], ◌∷◌, Option, position}
+use Rattle.std.specs.List.{list_any}
+use Rattle.go_points.specs.declared.Cell.{Cell}
+use Rattle.go_points.specs.Grid.{same_cells}
+
+-- Has this colouring occurred?
+abbrev pub has_occurred : List (List Cell) → List Cell → Bool
+has_occurred history c = list_any (same_cells c) history
+
+-- The place of the first colouring of the list that is equal to it.
+abbrev pub place_in : List (List Cell) → List Cell → Option ℕ
+place_in history c = position (same_cells c) history
+
+-- Does a colouring stand twice?
+abbrev pub repeats : List (List Cell) → Bool
+repeats [] = false
+repeats (c ∷ cs) = has_occurred cs c || repeats cs

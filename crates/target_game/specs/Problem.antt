@@ -9,8 +9,8 @@ use Rattle.go_points.specs.Grid.{same_cell, cell_at, side_of}
 use Rattle.go_points.specs.Liberty.{all_reach_empty}
 use Rattle.go_points.specs.Place.{Place, on_board, number_of}
 use Rattle.go_turns.specs.History.{repeats}
-use Rattle.target_game.specs.declared.problem.BadProblem.{BadProblem}
-use Rattle.target_game.specs.declared.problem.BadProblem.TheVariants.{OtherSize, BadPlace, BadTargets, Ended, EmptyRegion, LongHistory, NoLiberty, Repeated}
+use Rattle.target_game.specs.declared.bad_problem.BadProblem.{BadProblem}
+use Rattle.target_game.specs.declared.bad_problem.BadProblem.TheVariants.{OtherSize, BadPlace, BadTargets, Ended, EmptyRegion, LongHistory, NoLiberty, Repeated}
 use Rattle.target_game.specs.declared.TheConstants.{MAX_HISTORY}
 use Rattle.target_game.specs.State.{GameProblem}
 

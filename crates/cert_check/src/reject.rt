@@ -1,0 +1,37 @@
+//! Why a claim is rejected.
+
+use go_points::Turn;
+
+/// Why a line of a claim is faulty.
+#[derive(Clone, Copy, Debug, PartialEq, Eq)]
+pub enum Why {
+    /// Not spelled as lines are, not ended, missing, or of a kind that cannot stand there.
+    Malformed,
+    /// The size is not the problem's.
+    SizeDiffers,
+    /// The winner has not won here.
+    NotWon,
+    /// The game is over, or the other side is to move.
+    WrongSide,
+    /// A point outside the region, or not empty.
+    TurnBarred,
+    /// The result is a known colouring.
+    RepeatsKnown,
+    /// The replies are not those that are due; this one is.
+    RepliesDiffer { due: Turn },
+    /// No lower lemma has this number.
+    LemmaNotLower,
+    /// More nodes, or a deeper one, than a claim may have.
+    Limit,
+    /// Something follows the claim.
+    TextAfterEnd,
+    /// Memory was refused.
+    Memory,
+}
+
+/// The first fault of a claim: its line, from 1, and why.
+#[derive(Clone, Copy, Debug, PartialEq, Eq)]
+pub struct Reject {
+    pub place: u64,
+    pub why: Why,
+}

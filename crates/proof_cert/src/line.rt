@@ -1,0 +1,154 @@
+//! The lines of a claim, and the bytes that spell them.
+
+ghost use Rattle.std.specs.Prelude.{◌≡◌, ◌<◌, option_map};
+ghost use Rattle.go_points.specs.Ply.{ply_of};
+ghost use Rattle.proof_cert.specs.Text.{after_word, number_of, colour_of, vertex_of, header_tail, lemma_tail, line_of};
+ghost use Rattle.proof_cert.specs.Stage.{line_value, version_one};
+
+use go_points::{Colour, Colouring, Size, Turn, sgf_point};
+
+/// One line of a claim.
+#[derive(Clone, Copy, Debug)]
+pub enum Line {
+    Header { size: u32, winner: Colour },
+    Lemma { mover: Colour, passes: u8, root: Colouring },
+    Not(Colouring),
+    Main,
+    Won,
+    Use(u32),
+    Play(Turn),
+    All(u32),
+    Reply(Turn),
+    End,
+}
+
+/// What stands behind the word at the front of the text, where it stands there.
+fn behind_word<'a>(word: &[u8], text: &'a [u8]) -> Option<&'a [u8]>
+    ensures { option_map (λ rest. rest.now) result ≡ after_word word.now text.now }
+{
+    text.strip_prefix(word)
+}
+
+/// A number: 1 to 8 digits, the first not 0.
+fn read_number(text: &[u8]) -> Option<u32>
+    ensures { result ≡ number_of text.now }
+{
+    if text.is_empty() || text.len() > 8 || text[0] == b'0' {
+        return None;
+    }
+    let mut value = 0u32;
+    for digit in text {
+        if *digit < b'0' || *digit > b'9' {
+            return None;
+        }
+        value = value * 10 + u32::from(*digit - b'0');
+    }
+    Some(value)
+}
+
+/// `B` or `W`.
+fn read_colour(text: &[u8]) -> Option<Colour>
+    ensures { result ≡ colour_of text.now }
+{
+    if text.len() != 1 {
+        return None;
+    }
+    match text[0] {
+        b'B' => Some(Colour::Black),
+        b'W' => Some(Colour::White),
+        _ => None,
+    }
+}
+
+/// `pass`, or the two letters of a point of the board.
+fn read_vertex(size: Size, text: &[u8]) -> Option<Turn>
+    ensures { option_map (ply_of size) result ≡ vertex_of size text.now }
+{
+    if text == b"pass" {
+        return Some(Turn::Pass);
+    }
+    match sgf_point(size, text) {
+        Some(point) => Some(Turn::At(point)),
+        None => None,
+    }
+}
+
+/// The place of the first space.
+fn first_space(text: &[u8]) -> Option<usize> {
+    text.iter().position(|byte| *byte == b' ')
+}
+
+/// A claim's first line behind its word: the version, which is 1, the size and the winner.
+fn read_header(text: &[u8]) -> Option<Line>
+    ensures { option_map (line_value 0) result ≡ version_one (header_tail text.now) }
+{
+    let rest = behind_word(b"1 ", text)?;
+    let space = first_space(rest)?;
+    let size = read_number(&rest[..space])?;
+    let winner = read_colour(&rest[space + 1..])?;
+    Some(Line::Header { size, winner })
+}
+
+/// A lemma's first line behind its word: the mover, the passes and the root.
+fn read_lemma(size: Size, text: &[u8]) -> Option<Line>
+    ensures { option_map (line_value size) result ≡ lemma_tail size text.now }
+{
+    if text.len() < 4 || text[1] != b' ' || text[3] != b' ' {
+        return None;
+    }
+    let mover = read_colour(&text[..1])?;
+    let passes = match text[2] {
+        b'0' => 0,
+        b'1' => 1,
+        _ => return None,
+    };
+    let root = Colouring::from_text(size, &text[4..])?;
+    Some(Line::Lemma {
+        mover,
+        passes,
+        root,
+    })
+}
+
+impl Line {
+    /// The line that these bytes spell, without their line feed, for a board of this size; `None` where they spell none.
+    pub fn from_text(size: Size, text: &[u8]) -> Option<Line>
+        ensures { option_map (line_value size) result ≡ version_one (line_of size text.now) }
+    {
+        if let Some(rest) = behind_word(b"tsucert ", text) {
+            return read_header(rest);
+        }
+        if let Some(rest) = behind_word(b"lemma ", text) {
+            return read_lemma(size, rest);
+        }
+        if let Some(rest) = behind_word(b"not ", text) {
+            return Some(Line::Not(Colouring::from_text(size, rest)?));
+        }
+        if let Some(rest) = behind_word(b"use ", text) {
+            return Some(Line::Use(read_number(rest)?));
+        }
+        if let Some(rest) = behind_word(b"play ", text) {
+            return Some(Line::Play(read_vertex(size, rest)?));
+        }
+        if let Some(rest) = behind_word(b"all ", text) {
+            return Some(Line::All(read_number(rest)?));
+        }
+        if let Some(rest) = behind_word(b"reply ", text) {
+            return Some(Line::Reply(read_vertex(size, rest)?));
+        }
+        plain_word(text)
+    }
+}
+
+/// The lines that are a word alone.
+fn plain_word(text: &[u8]) -> Option<Line> {
+    if text == b"main" {
+        Some(Line::Main)
+    } else if text == b"won" {
+        Some(Line::Won)
+    } else if text == b"end" {
+        Some(Line::End)
+    } else {
+        None
+    }
+}

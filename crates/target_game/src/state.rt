@@ -1,0 +1,165 @@
+//! States of the target game, and the play from them.
+
+ghost use Rattle.std.specs.Prelude.{◌≡◌, ◌≤◌, ◌<◌, [], ◌∷◌, IsTrue, IfOk, OnOk, OnErr, None, is_none, if◌then◌else◌, map, length};
+ghost use Rattle.go_points.specs.Grid.{cell_at, same_cell};
+ghost use Rattle.go_points.specs.Move.{after_move};
+ghost use Rattle.go_points.specs.Place.{IsOn, number_of};
+ghost use Rattle.go_points.specs.Ply.{ply_of};
+ghost use Rattle.go_turns.specs.History.{place_in};
+ghost use Rattle.target_game.specs.State.{Game, GameState, GameProblem, Line, start};
+ghost use Rattle.target_game.specs.Legal.{legal, legal_turns};
+ghost use Rattle.target_game.specs.Next.{next};
+ghost use Rattle.target_game.specs.Over.{over};
+
+use crate::MAX_TURNS;
+use crate::problem::Problem;
+use arrayvec::ArrayVec;
+use go_points::{Cell, Colour, Colouring, Point, PointSet, Size, Turn};
+use go_turns::{Board, Record, Seen};
+use std::alloc::{AllocError, Global};
+use std::marker::Model;
+
+/// A state of the game, with the turns that led to it from where it was made.
+#[derive(Drop)]
+pub struct State<B: Board + Copy, S: Seen> {
+    record: Record<B, S>,
+    mover: Colour,
+    targets: PointSet,
+    defender: Colour,
+    region: PointSet,
+}
+
+impl<B: Board + Copy, S: Seen> State<B, S> {
+    /// The start of the problem.
+    pub fn of(alloc: Global, problem: &Problem) -> Result<State<B, S>, AllocError>
+        ensures { IfOk result (λ s. s ≡ record { state = start problem.now; before = [] }) }
+    {
+        match Record::with_history(alloc, problem.history(), problem.place(), problem.passes()) {
+            Ok(record) => Ok(State {
+                record,
+                mover: problem.mover(),
+                targets: *problem.targets(),
+                defender: problem.defender(),
+                region: *problem.region(),
+            }),
+            Err(_) => Err(AllocError),
+        }
+    }
+
+    /// Who has won: the attacker, where some target point does not hold the defender's colour; else the defender, where two passes stand.
+    pub fn over(&self) -> Option<Colour>
+        ensures { result ≡ over self.now.state }
+    {
+        if !self.targets_stand() {
+            Some(self.defender.opponent())
+        } else if self.record.passes() == 2 {
+            Some(self.defender)
+        } else {
+            None
+        }
+    }
+
+    fn targets_stand(&self) -> bool {
+        for point in self.targets.iter() {
+            if self.record.cell(point) != Cell::Stone(self.defender) {
+                return false;
+            }
+        }
+        true
+    }
+
+    pub fn size(&self) -> Size
+        ensures { result ≡ self.now.state.game.size }
+    {
+        self.record.size()
+    }
+
+    /// Whether the point is an empty point of the region.
+    pub fn is_open(&self, point: Point) -> bool
+        requires { IsOn self.now.state.game.size point }
+    {
+        self.region.has(point) && self.record.cell(point).is_empty()
+    }
+
+    /// The colouring after the mover's move at an empty point.
+    pub fn result(&self, point: Point) -> Colouring
+        requires on_board { IsOn self.now.state.game.size point }
+    {
+        let mut board = *self.record.board();
+        let _removed = board.play(self.mover, point);
+        board.colouring()
+    }
+
+    /// Whether the mover may move at the point, if nobody has won.
+    fn may_move(&self, point: Point) -> bool {
+        self.is_open(point) && self.holds(&self.result(point)).is_none()
+    }
+
+    /// The legal turns, points ascending and then pass; none where somebody has won.
+    pub fn turns(&self) -> ArrayVec<Turn, MAX_TURNS>
+        ensures { map (ply_of self.now.state.game.size) result.items ≡ (if is_none (over self.now.state) then legal_turns self.now.state else []) }
+    {
+        let mut all = ArrayVec::new();
+        if self.over().is_some() {
+            return all;
+        }
+        let size = self.size();
+        for number in 0..size.area() {
+            let point = size.point_at(number);
+            if self.may_move(point) {
+                all.push(Turn::At(point));
+            }
+        }
+        all.push(Turn::Pass);
+        all
+    }
+
+    /// Makes the turn; memory may be refused, and then nothing changes.
+    pub fn after(&mut self, turn: Turn) -> Result<(), AllocError>
+        requires open { over self.old.state ≡ None }
+        requires legal { IsTrue (legal self.old.state (ply_of self.old.state.game.size turn)) }
+        ensures ok { OnOk result (self.new ≡ record { state = next self.old.state (ply_of self.old.state.game.size turn); before = self.old.state ∷ self.old.before }) }
+        ensures err { OnErr result (self.new ≡ self.old) }
+    {
+        if self.record.play(self.mover, turn).is_err() {
+            return Err(AllocError);
+        }
+        self.mover = self.mover.opponent();
+        Ok(())
+    }
+
+    /// Takes the last turn back.
+    pub fn back(&mut self)
+        requires { 0 < length self.old.before }
+        ensures { self.old.before ≡ self.new.state ∷ self.new.before }
+    {
+        let _done = self.record.undo();
+        self.mover = self.mover.opponent();
+    }
+
+    pub fn colouring(&self) -> Colouring
+        ensures { result ≡ self.now.state.colouring }
+    {
+        self.record.colouring()
+    }
+
+    pub fn mover(&self) -> Colour
+        ensures { result ≡ self.now.state.mover }
+    {
+        self.mover
+    }
+
+    /// The passes in a row.
+    pub fn passes(&self) -> u64
+        ensures { result ≡ self.now.state.passes }
+    {
+        self.record.passes()
+    }
+
+    /// The place of the colouring among those that have occurred.
+    pub fn holds(&self, colouring: &Colouring) -> Option<usize>
+        ensures { result ≡ place_in self.now.state.history colouring.now }
+    {
+        self.record.seen().holds(colouring)
+    }
+}

@@ -1,0 +1,27 @@
+//! tsumego: judges claims about problems of Go.
+#![tactic(auto)]
+
+mod fields;
+mod input;
+mod output;
+mod record;
+mod run;
+mod status;
+mod texts;
+
+use run::run;
+use status::Status;
+use std::convert::AsStr;
+use std::env;
+use std::process::ExitCode;
+
+fn main(rt: HostRuntime) -> ExitCode {
+    let alloc = rt.alloc();
+    let Ok(words) = env::args(&rt) else {
+        return ExitCode::from(Status::BadWords as u8);
+    };
+    let Ok(words) = words.collect::<Vec<String>>(alloc) else {
+        return ExitCode::from(Status::Failed as u8);
+    };
+    ExitCode::from(run(alloc, words.as_slice(), &mut rt.stdin(), &mut rt.stdout()) as u8)
+}

@@ -1,0 +1,65 @@
+//! A run of the program: its words and its input to its answer.
+
+use crate::input::{Reading, read_to_limit};
+use crate::output::write_whole;
+use crate::record::{RecordFault, read_record};
+use crate::status::Status;
+use crate::texts::{reject_text, wins_text};
+use cert_check::{Why, check_main};
+use std::alloc::Global;
+use std::convert::AsStr;
+use std::io::{Read, Write};
+
+/// The most bytes of input that `check` holds: 64 MiB.
+pub const MAX_INPUT: usize = 67_108_864;
+
+/// Runs the program on its words, the first of which is its name.
+pub fn run<S: AsStr, R: Read, W: Write>(
+    alloc: Global,
+    words: &[S],
+    reader: &mut R,
+    writer: &mut W,
+) -> Status {
+    if words.len() != 2 || words[1].as_str() != "check" {
+        return Status::BadWords;
+    }
+    check(alloc, reader, writer)
+}
+
+/// Judges the claim behind the record in the input.
+fn check<R: Read, W: Write>(alloc: Global, reader: &mut R, writer: &mut W) -> Status {
+    let mut input = Vec::new(alloc);
+    match read_to_limit(reader, &mut input, MAX_INPUT) {
+        Err(_) => answer(writer, b"failed: memory\n", Status::Failed),
+        Ok(Reading::Failed) | Ok(Reading::TooLong) => answer(writer, b"failed: read\n", Status::Failed),
+        Ok(Reading::Whole) => check_bytes(alloc, input.as_slice(), writer),
+    }
+}
+
+/// Judges the claim behind the record in these bytes.
+fn check_bytes<W: Write>(alloc: Global, bytes: &[u8], writer: &mut W) -> Status {
+    let (problem, end) = match read_record(alloc, bytes) {
+        Ok(found) => found,
+        Err(RecordFault::Subset) => return answer(writer, b"refused: subset\n", Status::Refused),
+        Err(RecordFault::Memory) => return answer(writer, b"failed: memory\n", Status::Failed),
+    };
+    if end >= bytes.len() || bytes[end] != b'\n' {
+        return answer(writer, b"refused: subset\n", Status::Refused);
+    }
+    match check_main(alloc, &problem, &bytes[end + 1..]) {
+        Ok(winner) => answer(writer, wins_text(winner), Status::Answered),
+        Err(reject) => match reject_text(alloc, &reject) {
+            Ok(text) => answer(writer, text.as_bytes(), Status::Unanswered),
+            Err(_) => answer(writer, b"failed: memory\n", Status::Failed),
+        },
+    }
+}
+
+/// Writes the whole text; a failed write has a status of its own.
+fn answer<W: Write>(writer: &mut W, text: &[u8], status: Status) -> Status {
+    if write_whole(writer, text) {
+        status
+    } else {
+        Status::Failed
+    }
+}

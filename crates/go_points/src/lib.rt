@@ -40,11 +40,13 @@ mod colouring;
 pub mod laws;
 mod point;
 mod point_set;
+mod points;
 mod size;
 
 pub use colouring::Colouring;
 pub use point::Point;
 pub use point_set::PointSet;
+pub use points::Points;
 pub use size::Size;
 
 /// A turn of the game: a pass, or a move at a point.

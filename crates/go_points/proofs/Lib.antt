@@ -6,3 +6,4 @@ pub mod Clearing
 pub mod Sides
 pub mod Adjacency
 pub mod Remaining
+pub mod Texts

@@ -5,3 +5,5 @@ pub mod Paths
 pub mod Clearing
 pub mod Sides
 pub mod Adjacency
+pub mod Remaining
+pub mod Texts

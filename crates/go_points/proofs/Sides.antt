@@ -1,6 +1,6 @@
 -- The number of rows of a colouring is the square root of its length.
 use Rattle.std.proofs.lemmas.Nat.{mul-add-lt}
-use Rattle.std.proofs.Common.{drop, replicate, ◌-◌, ◌++◌, take, set, get_or, get_or-take, ◌≡◌, ℕ, suc, ◌*◌, ◌<◌, ◌≤◌, true, List, length, refl, sym, ◌∙◌, ap, subst}
+use Rattle.std.proofs.Common.{drop, replicate, ◌-◌, ◌++◌, take, set, get_or, get_or-take, ◌≡◌, ℕ, ◌*◌, ◌<◌, ◌≤◌, List, length, sym, ◌∙◌, ap, subst}
 use Rattle.std.proofs.Math.Seq.{take-set-lt}
 use Rattle.go_points.specs.declared.TheConstants.{MAX_SIZE, MAX_POINTS}
 use Rattle.go_points.specs.declared.Cell.{Cell}

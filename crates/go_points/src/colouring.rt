@@ -112,6 +112,15 @@ impl Colouring {
     }
 }
 
+impl Colouring {
+    /// What the points hold, in order.
+    pub fn cells(&self) -> &[Cell]
+        ensures { result.now ≡ self.now }
+    {
+        &self.cells[..self.size.area()]
+    }
+}
+
 fn no_stones() -> [Cell; MAX_POINTS]
     ensures { result ≡ replicate MAX_POINTS Empty }
 {

@@ -2,7 +2,8 @@
 #![tactic(auto)]
 
 ghost use Rattle.std.specs.Prelude.{◌≡◌};
-ghost use Rattle.go_points.specs.Grid.{opponent_of};
+ghost use Rattle.go_points.specs.declared.Cell.TheVariants.{Empty, Stone};
+ghost use Rattle.go_points.specs.Grid.{opponent_of, same_cell};
 
 /// The greatest number of rows and columns of a board.
 pub const MAX_SIZE: u8 = 19;
@@ -36,15 +37,34 @@ pub enum Cell {
     Stone(Colour),
 }
 
+impl Cell {
+    /// Whether there is no stone.
+    pub fn is_empty(self) -> bool
+        ensures { result ≡ same_cell self Empty }
+    {
+        self == Cell::Empty
+    }
+
+    /// Whether there is a stone of this colour.
+    pub fn is_stone_of(self, colour: Colour) -> bool
+        ensures { result ≡ same_cell self (Stone colour) }
+    {
+        self == Cell::Stone(colour)
+    }
+}
+
 mod colouring;
 pub mod laws;
 mod point;
 mod point_set;
+mod points;
 mod size;
+mod text;
 
 pub use colouring::Colouring;
 pub use point::Point;
 pub use point_set::PointSet;
+pub use points::Points;
 pub use size::Size;
 
 /// A turn of the game: a pass, or a move at a point.

@@ -1,4 +1,4 @@
-use Rattle.std.proofs.Common.{length, drop, replicate, ◌∙◌, ◌*◌, ◌≤◌, ap, take, arith, mul-le-mul}
+use Rattle.std.proofs.Common.{length, drop, ◌∙◌, ◌*◌, ◌≤◌, ap, take, arith, mul-le-mul}
 use Rattle.std.proofs.lemmas.List.{take-replicate, drop-replicate, length-replicate}
 use Rattle.go_points.specs.declared.TheConstants.{MAX_SIZE, MAX_POINTS}
 use Rattle.go_points.specs.declared.Cell.TheVariants.{Empty}

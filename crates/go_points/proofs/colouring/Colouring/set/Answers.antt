@@ -1,5 +1,4 @@
 use Rattle.std.proofs.Common.{length-set, drop-set-lt, ◌∙◌, sym, ◌*◌, ap, set, take, ℕ}
-use Rattle.go_points.specs.Grid.{side_of}
 use Rattle.go_points.specs.Sides.{size_back}
 use Rattle.go_points.proofs.Sides.{number_below, on_kept, side_kept, set_kept}
 use Rattle.go_points.proofs.colouring.Colouring.set.Goals as goal

@@ -1,11 +1,11 @@
 //! The lines of a claim, and the bytes that spell them.
 
-ghost use Rattle.std.specs.Prelude.{◌≡◌, ◌<◌, option_map};
+ghost use Rattle.std.specs.Prelude.{◌≡◌, ◌<◌, true, option_map, is_some};
 ghost use Rattle.go_points.specs.Ply.{ply_of};
-ghost use Rattle.proof_cert.specs.Text.{after_word, number_of, colour_of, vertex_of, header_tail, lemma_tail, line_of};
+ghost use Rattle.proof_cert.specs.Text.{after_word, at_end, number_of, colour_of, vertex_of, header_tail, lemma_tail, line_of};
 ghost use Rattle.proof_cert.specs.Stage.{line_value, version_one};
 
-use go_points::{Colour, Colouring, Size, Turn, sgf_point};
+use go_points::{Colour, Colouring, Size, Turn};
 
 /// One line of a claim.
 #[derive(Clone, Copy, Debug)]
@@ -27,6 +27,16 @@ fn behind_word<'a>(word: &[u8], text: &'a [u8]) -> Option<&'a [u8]>
     ensures { option_map (λ rest. rest.now) result ≡ after_word word.now text.now }
 {
     text.strip_prefix(word)
+}
+
+/// Whether the text is just this word.
+fn is_word(word: &[u8], text: &[u8]) -> bool
+    ensures { result ≡ is_some (at_end true (after_word word.now text.now)) }
+{
+    match behind_word(word, text) {
+        Some(rest) => rest.is_empty(),
+        None => false,
+    }
 }
 
 /// A number: 1 to 8 digits, the first not 0.
@@ -64,13 +74,10 @@ fn read_colour(text: &[u8]) -> Option<Colour>
 fn read_vertex(size: Size, text: &[u8]) -> Option<Turn>
     ensures { option_map (ply_of size) result ≡ vertex_of size text.now }
 {
-    if text == b"pass" {
+    if is_word(b"pass", text) {
         return Some(Turn::Pass);
     }
-    match sgf_point(size, text) {
-        Some(point) => Some(Turn::At(point)),
-        None => None,
-    }
+    None
 }
 
 /// The place of the first space.
@@ -142,11 +149,11 @@ impl Line {
 
 /// The lines that are a word alone.
 fn plain_word(text: &[u8]) -> Option<Line> {
-    if text == b"main" {
+    if is_word(b"main", text) {
         Some(Line::Main)
-    } else if text == b"won" {
+    } else if is_word(b"won", text) {
         Some(Line::Won)
-    } else if text == b"end" {
+    } else if is_word(b"end", text) {
         Some(Line::End)
     } else {
         None

@@ -114,6 +114,18 @@ impl<B: Board + Copy, S: Seen> State<B, S> {
         all
     }
 
+    /// The first legal turn at a point of this number or a greater one; the pass, where there is none.
+    pub fn next_turn(&self, from: usize) -> Turn {
+        let size = self.size();
+        for number in from..size.area() {
+            let point = size.point_at(number);
+            if self.may_move(point) {
+                return Turn::At(point);
+            }
+        }
+        Turn::Pass
+    }
+
     /// Makes the turn; memory may be refused, and then nothing changes.
     pub fn after(&mut self, turn: Turn) -> Result<(), AllocError>
         requires open { over self.old.state ≡ None }

@@ -7,3 +7,4 @@ pub mod Sides
 pub mod Adjacency
 pub mod Remaining
 pub mod Texts
+pub mod Letters

@@ -9,10 +9,11 @@ ghost use Rattle.go_points.specs.Place.{IsOn, number_of};
 use crate::point::Point;
 use crate::size::Size;
 use crate::{Cell, MAX_POINTS};
+use std::cmp::Ordering;
 use std::hash::{Hash, Hasher};
 use std::marker::Model;
 
-/// What every point of a board holds, with room for the widest board.
+/// What every point of a board holds, with room for the widest board. Colourings are ordered as their texts are.
 #[derive(Clone, Copy, Debug)]
 pub struct Colouring {
     size: Size,
@@ -56,6 +57,42 @@ impl Eq for Colouring {
     ghost use Rattle.go_points.specs.Equal.{same_cells_equiv};
 
     ghost laws = { same_cells_equiv };
+}
+
+impl PartialOrd for Colouring {
+    ghost use Rattle.std.specs.Ordering.{as_partial_cmp};
+    ghost use Rattle.std.specs.Cmp.{partial_order_from_agreeing_total};
+    ghost use Rattle.std.specs.Cmp.Lexicographic.{on_texts};
+    ghost use Rattle.std.proofs.Common.{refl};
+    ghost use Rattle.go_points.specs.Text.{text_of};
+    ghost use Rattle.go_points.specs.Order.{text_order, same_cells_ties};
+
+    ghost partial_cmp = { as_partial_cmp text_order };
+
+    ghost laws = { partial_order_from_agreeing_total text_order (on_texts text_of) (λ c d. refl) same_cells_ties };
+
+    fn partial_cmp(&self, other: &Colouring) -> Option<Ordering> {
+        Some(self.cmp(other))
+    }
+}
+
+impl Ord for Colouring {
+    ghost use Rattle.std.specs.Cmp.Lexicographic.{on_texts};
+    ghost use Rattle.std.proofs.Common.{refl};
+    ghost use Rattle.go_points.specs.Text.{text_of};
+    ghost use Rattle.go_points.specs.Order.{text_order, same_cells_ties};
+
+    ghost cmp = { text_order };
+
+    ghost total = { on_texts text_of };
+
+    ghost matches_eq = { same_cells_ties };
+
+    ghost matches_partial_cmp = { λ c d. refl };
+
+    fn cmp(&self, other: &Colouring) -> Ordering {
+        self.cells().cmp(other.cells())
+    }
 }
 
 impl Hash for Colouring {

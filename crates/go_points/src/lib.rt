@@ -58,6 +58,7 @@ pub mod laws;
 mod point;
 mod point_set;
 mod points;
+mod sgf;
 mod size;
 mod text;
 
@@ -65,6 +66,7 @@ pub use colouring::Colouring;
 pub use point::Point;
 pub use point_set::PointSet;
 pub use points::Points;
+pub use sgf::{sgf_point, to_sgf};
 pub use size::Size;
 
 /// A turn of the game: a pass, or a move at a point.

@@ -2,10 +2,13 @@
 #![tactic(auto)]
 
 mod board;
+mod clearing;
 mod fault;
 pub mod laws;
+mod plain_board;
 mod seen;
 
 pub use board::{Board, NoLiberty, Occupied};
 pub use fault::TurnFault;
+pub use plain_board::PlainBoard;
 pub use seen::{ListSeen, Seen};

@@ -6,6 +6,7 @@ ghost use Rattle.go_turns.specs.History.{place_in, repeats};
 
 use go_points::Colouring;
 use std::alloc::{AllocError, Global};
+use std::marker::Model;
 
 /// A list of colourings without repeats. Only `add` takes memory.
 pub trait Seen: Drop {
@@ -46,4 +47,47 @@ pub trait Seen: Drop {
 #[derive(Drop)]
 pub struct ListSeen {
     colourings: Vec<Colouring>,
+}
+
+impl Model for ListSeen {
+    ghost use Rattle.std.specs.Prelude.{List, IsFalse};
+    ghost use Rattle.go_points.specs.declared.Cell.{Cell};
+    ghost use Rattle.go_turns.specs.History.{repeats};
+
+    ghost Value = { List (List Cell) };
+
+    ghost view = { λ s. s.colourings.items };
+
+    ghost invariant = { λ s. IsFalse (repeats s.colourings.items) };
+}
+
+impl Seen for ListSeen {
+    ghost content = { λ s. s };
+
+    fn new(alloc: Global) -> ListSeen {
+        ListSeen {
+            colourings: Vec::new(alloc),
+        }
+    }
+
+    fn holds(&self, colouring: &Colouring) -> Option<usize> {
+        self.colourings.iter().position(|seen| colouring == seen)
+    }
+
+    fn at(&self, place: usize) -> &Colouring {
+        &self.colourings[place]
+    }
+
+    fn len(&self) -> usize {
+        self.colourings.len()
+    }
+
+    fn add(&mut self, colouring: Colouring) -> Result<(), AllocError> {
+        self.colourings.push(colouring)?;
+        Ok(())
+    }
+
+    fn take_last(&mut self) {
+        let _last = self.colourings.pop();
+    }
 }

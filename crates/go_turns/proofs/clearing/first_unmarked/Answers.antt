@@ -1,0 +1,52 @@
+-- The stone at the point reaches empty exactly where it is marked.
+use Rattle.std.proofs.Common.{◌≡◌, ℕ, ◌*◌, ◌<◌, not, Some, sym, ◌∙◌, ap, inl, inr, arith, rules}
+use Rattle.std.proofs.lemmas.Bool.{cases_eq}
+use Rattle.go_points.specs.declared.Colour.TheVariants.{Black, White}
+use Rattle.go_points.specs.declared.Cell.TheVariants.{Stone}
+use Rattle.go_points.specs.Grid.{side_of, cell_at}
+use Rattle.go_points.specs.Place.{number_of}
+use Rattle.go_points.specs.Liberty.{lacks_liberty}
+use Rattle.go_turns.proofs.Liberties.{first_found, first_none, lacks_empty, lacks_stone}
+use Rattle.go_turns.proofs.clearing.first_unmarked.Goals as goal
+use Rattle.go_turns.proofs.clearing.first_unmarked.Goals.{in-Empty, in-Stone-Black, in-Stone-White}
+
+pub returns-then-not-is_free-clause-found : goal.returns-then-not-is_free-clause-found
+returns-then-not-is_free-clause-found c =
+    let cells = c.args.colouring.now in
+    let n = side_of cells in
+    let i = c.loop-number.number in
+    let at : number_of n c.point_at-point.result ≡ i = cc in
+    let on : i < n * n = search rules in
+    let cell : cell_at cells i ≡ c.get.result = sym (c.get.ensures.value ∙ ap (cell_at cells) at) in
+    let tells : lacks_liberty n cells i ≡ not c.match-get.is_free =
+    elim c.match-get.branch [
+      | in-Empty w ↦ lacks_empty n cells i (cell ∙ w.in-Empty.is) ∙ ap not (sym w.is_free-is)
+      | in-Stone-Black w ↦ lacks_stone n cells Black c.args.black.now i c.requires.black_free on (cell ∙ w.in-Stone-Black.is ∙ ap Stone w.in-Stone-Black.field-0-is) ∙ ap not (sym w.is_free-is)
+      | in-Stone-White w ↦ lacks_stone n cells White c.args.white.now i c.requires.white_free on (cell ∙ w.in-Stone-White.is ∙ ap Stone w.in-Stone-White.field-0-is) ∙ ap not (sym w.is_free-is)
+    ] in
+    first_found n cells i on c.loop-number.invariant (tells ∙ ap not c.if-not-is_free.true) ∙ ap Some (sym at)
+
+pub loop-number-preserved : goal.loop-number-preserved
+loop-number-preserved c =
+    let cells = c.args.colouring.now in
+    let n = side_of cells in
+    let i = c.loop-number.number in
+    let at : number_of n c.point_at-point.result ≡ i = cc in
+    let on : i < n * n = search rules in
+    let cell : cell_at cells i ≡ c.get.result = sym (c.get.ensures.value ∙ ap (cell_at cells) at) in
+    let tells : lacks_liberty n cells i ≡ not c.match-get.is_free =
+    elim c.match-get.branch [
+      | in-Empty w ↦ lacks_empty n cells i (cell ∙ w.in-Empty.is) ∙ ap not (sym w.is_free-is)
+      | in-Stone-Black w ↦ lacks_stone n cells Black c.args.black.now i c.requires.black_free on (cell ∙ w.in-Stone-Black.is ∙ ap Stone w.in-Stone-Black.field-0-is) ∙ ap not (sym w.is_free-is)
+      | in-Stone-White w ↦ lacks_stone n cells White c.args.white.now i c.requires.white_free on (cell ∙ w.in-Stone-White.is ∙ ap Stone w.in-Stone-White.field-0-is) ∙ ap not (sym w.is_free-is)
+    ] in
+    λ p low. elim (cases_eq p i) [
+      | inl same ↦ ap (lacks_liberty n cells) same ∙ tells ∙ ap not c.if-not-is_free.false
+      | inr other ↦ c.loop-number.invariant p (omega arith)
+    ]
+
+pub returns-clause-none : goal.returns-clause-none
+returns-clause-none c =
+    let n = side_of c.args.colouring.now in
+    let done : c.loop-number.number ≡ n * n = search rules in
+    first_none n c.args.colouring.now (λ q on. c.loop-number.invariant q (omega arith))

@@ -1,0 +1,8 @@
+use Rattle.std.proofs.Common.{◌≡◌, ℕ, ◌<◌, false}
+use Rattle.go_points.specs.Grid.{side_of}
+use Rattle.go_points.specs.Liberty.{lacks_liberty}
+use Rattle.go_turns.proofs.clearing.first_unmarked.Given as goal
+
+-- the stones so far reach empty
+abbrev pub invariant-loop-number : goal.invariant-loop-number
+invariant-loop-number l = (p : ℕ) → p < l.number → lacks_liberty (side_of l.colouring) l.colouring p ≡ false

@@ -1,0 +1,70 @@
+//! The simplest board: its cells, and nothing kept beside them.
+
+use crate::board::{Board, NoLiberty, Occupied};
+use crate::clearing::{are_same, clear_colour, find_without_liberty};
+use go_points::{Cell, Colour, Colouring, Point, Size};
+use std::marker::Model;
+
+/// A board that keeps its cells alone and looks for captures by sweeps over all of them.
+#[derive(Clone, Copy, Debug)]
+pub struct PlainBoard {
+    colouring: Colouring,
+}
+
+impl Model for PlainBoard {
+    ghost use Rattle.std.specs.Prelude.{◌≡◌, List, None};
+    ghost use Rattle.go_points.specs.declared.Cell.{Cell};
+    ghost use Rattle.go_points.specs.Grid.{side_of};
+    ghost use Rattle.go_points.specs.Liberty.{first_without_liberty};
+
+    ghost Value = { List Cell };
+
+    ghost view = { λ b. b.colouring };
+
+    ghost invariant = { λ b. first_without_liberty (side_of b.colouring) b.colouring ≡ None };
+
+    ghost inverse = { λ c. record { colouring = c } };
+}
+
+impl Board for PlainBoard {
+    ghost content = { λ b. b };
+
+    fn new(size: Size) -> PlainBoard {
+        PlainBoard {
+            colouring: Colouring::empty(size),
+        }
+    }
+
+    fn size(&self) -> Size {
+        self.colouring.size()
+    }
+
+    fn cell(&self, point: Point) -> Cell {
+        self.colouring.get(point)
+    }
+
+    fn colouring(&self) -> Colouring {
+        let _size = self.colouring.size();
+        self.colouring
+    }
+
+    fn play(&mut self, colour: Colour, point: Point) -> Result<u16, Occupied> {
+        if !are_same(self.colouring.get(point), Cell::Empty) {
+            return Err(Occupied);
+        }
+        self.colouring.set(point, Cell::Stone(colour));
+        let captured = clear_colour(&mut self.colouring, colour.opponent());
+        let lost = clear_colour(&mut self.colouring, colour);
+        Ok(captured + lost)
+    }
+
+    fn assign(&mut self, colouring: &Colouring) -> Result<(), NoLiberty> {
+        match find_without_liberty(colouring) {
+            Some(point) => Err(NoLiberty { point }),
+            None => {
+                self.colouring = *colouring;
+                Ok(())
+            }
+        }
+    }
+}

@@ -1,13 +1,15 @@
 -- What the reader of lines does, against the definitions, over plain bytes.
-use Rattle.std.proofs.Common.{◌≡◌, ℕ, zero, suc, ◌+◌, ◌-◌, ◌*◌, ◌<◌, ◌≤◌, ◌^◌, ◌⊎◌, inl, inr, if◌then◌else◌, Bool, true, false, cond, not, ◌&&◌, nat_eq, nat_le, List, [], ◌∷◌, length, take, drop, get_or, eq-eqb, eqb-true, leb-true, le-leb, Option, Some, None, MatchOption, option_map, is_some, Bor, refl, sym, ◌∙◌, ap, ap₂, arith}
+use Rattle.std.proofs.Common.{◌≡◌, ℕ, zero, suc, ◌+◌, ◌-◌, ◌*◌, ◌<◌, ◌≤◌, ◌^◌, ◌⊎◌, inl, inr, if◌then◌else◌, Bool, true, false, cond, not, ◌&&◌, nat_eq, nat_le, List, [], ◌∷◌, length, take, drop, get_or, eq-eqb, eqb-true, leb-true, le-leb, ltb-true, ltb-false, nat_lt, Option, Some, None, position, MatchOption, option_map, is_some, Bor, refl, sym, ◌∙◌, ap, ap₂, arith}
+use Rattle.std.proofs.Math.Nat.{pow-le-pow_right}
 use native.Mathlib.Numerals.{unary_clauses}
 use Rattle.std.specs.Str.{all_ascii_digits}
+use Rattle.std.specs.List.{position_or_len}
 use Rattle.std.specs.Char.{is_ascii_digit}
 use Rattle.std.proofs.Math.Seq.{drop-cons, drop-length}
 use Rattle.std.proofs.lemmas.Bool.{lt-leb}
 use Rattle.proof_cert.proofs.Words.{eq_false}
 use lib.Pointwise.{pointwise}
-use Rattle.proof_cert.specs.Text.{after_word, at_end, number_of, value_from}
+use Rattle.proof_cert.specs.Text.{after_word, at_end, at_space, number_of, value_from}
 
 -- a word at the front
 front_yes : (w b : List ℕ) → pointwise nat_eq (take (length w) b) w ≡ true → after_word w b ≡ Some (drop (length w) b)
@@ -103,3 +105,53 @@ number_whole (x ∷ b) v some short first had =
     ∙ ap (λ t. if not t && nat_le (length (x ∷ b)) 8 then Some (value_from 0 (x ∷ b)) else None) (eq_false x 48 first)
     ∙ ap (λ t. if t then Some (value_from 0 (x ∷ b)) else None) (le-leb (length (x ∷ b)) 8 short)
     ∙ ap Some (sym value)
+
+-- seven digits more or less
+pub below_limit : (i v : ℕ) → i < 8 → v < 10 ^ i → v < 10000000
+below_limit i v few below = let most : 10 ^ i ≤ 10 ^ 7 = pow-le-pow_right {n = 10} (omega arith) {i = i} {j = 7} (omega arith) in omega (arith, most, below)
+
+-- the first space, at the place pl where it stands or else behind the end
+abbrev place : List ℕ → ℕ
+place b = position_or_len (λ x. nat_eq x 32) b
+
+space_at : (b : List ℕ) → place b < length b → at_space b ≡ Some (take (place b) b, drop (suc (place b)) b)
+space_at [] h = absurd (omega arith)
+space_at (x ∷ b) h = go (nat_eq x 32) h (space_at b)
+  where
+    go : (t : Bool) → cond (not t) (1 + place b) 0 < suc (length b) → (place b < length b → at_space b ≡ Some (take (place b) b, drop (suc (place b)) b))
+        → ◌≡◌ {A = Option (List ℕ × List ℕ)} (elim t [ true ↦ Some ([], b) | false ↦ option_map (λ (p : List ℕ × List ℕ). (x ∷ p.0, p.1)) (at_space b) ]) (Some (take (cond (not t) (1 + place b) 0) (x ∷ b), drop (suc (cond (not t) (1 + place b) 0)) (x ∷ b)))
+    go true h' more = refl
+    go false h' more =
+        let next : suc (place b) ≡ 1 + place b = omega arith in
+        ap (option_map (λ (p : List ℕ × List ℕ). (x ∷ p.0, p.1))) (more (omega arith)) ∙ ap (λ j. Some (take j (x ∷ b), drop (suc j) (x ∷ b))) next
+
+space_none : (b : List ℕ) → length b ≤ place b → at_space b ≡ None
+space_none [] h = refl
+space_none (x ∷ b) h = go (nat_eq x 32) h (space_none b)
+  where
+    go : (t : Bool) → suc (length b) ≤ cond (not t) (1 + place b) 0 → (length b ≤ place b → at_space b ≡ None)
+        → ◌≡◌ {A = Option (List ℕ × List ℕ)} (elim t [ true ↦ Some ([], b) | false ↦ option_map (λ (p : List ℕ × List ℕ). (x ∷ p.0, p.1)) (at_space b) ]) None
+    go true h' more = absurd (omega arith)
+    go false h' more = ap (option_map (λ (p : List ℕ × List ℕ). (x ∷ p.0, p.1))) (more (omega arith))
+
+pub space_found : (b : List ℕ) (k : ℕ) → position (λ x. nat_eq x 32) b ≡ Some k → at_space b ≡ Some (take k b, drop (k + 1) b)
+space_found b k e = go (nat_lt (place b) (length b)) refl e
+  where
+    go : (t : Bool) → nat_lt (place b) (length b) ≡ t → cond t (Some (place b)) None ≡ Some k → at_space b ≡ Some (take k b, drop (k + 1) b)
+    go false low e' = absurd (cc)
+    go true low e' =
+        let same : place b ≡ k = cc e' in
+        let next : suc k ≡ k + 1 = omega arith in
+        space_at b (ltb-true (place b) (length b) low) ∙ ap (λ j. Some (take j b, drop (suc j) b)) same ∙ ap (λ j. Some (take k b, drop j b)) next
+
+pub space_missing : (b : List ℕ) → position (λ x. nat_eq x 32) b ≡ None → at_space b ≡ None
+space_missing b e = go (nat_lt (place b) (length b)) refl e
+  where
+    go : (t : Bool) → nat_lt (place b) (length b) ≡ t → ◌≡◌ {A = Option ℕ} (cond t (Some (place b)) None) None → at_space b ≡ None
+    go true low e' = absurd (cc)
+    go false low e' = space_none b (ltb-false (place b) (length b) low)
+
+-- what does not stand at the front
+pub none_there : (r : Option (Bor (List ℕ))) (w : Option (List ℕ)) → ((x : Bor (List ℕ)) → r ≡ Some x → ⊥) → option_map (λ (rest : Bor (List ℕ)). rest.now) r ≡ w → w ≡ None
+none_there None w h e = sym e
+none_there (Some x) w h e = absurd (h x refl)

@@ -1,11 +1,13 @@
 //! The lines of a claim, and the bytes that spell them.
 
-ghost use Rattle.std.specs.Prelude.{◌≡◌, ◌<◌, true, option_map, is_some};
+ghost use Rattle.std.specs.Prelude.{◌≡◌, ◌<◌, ℕ, true, codes, option_map, is_some, nat_eq, position};
 ghost use Rattle.go_points.specs.Ply.{ply_of};
-ghost use Rattle.proof_cert.specs.Text.{after_word, at_end, number_of, colour_of, vertex_of, header_tail, lemma_tail, line_of};
+ghost use Rattle.proof_cert.specs.Text.{after_word, at_end, at_space, number_of, colour_of, vertex_of, header_tail, lemma_tail, or_else, line_of};
+ghost use Rattle.proof_cert.specs.Lines.{main_line, won_line, end_line};
 ghost use Rattle.proof_cert.specs.Stage.{line_value, version_one};
 
-use go_points::{Colour, Colouring, Size, Turn};
+
+use go_points::{Colour, Colouring, Size, Turn, sgf_point};
 
 /// One line of a claim.
 #[derive(Clone, Copy, Debug)]
@@ -77,22 +79,35 @@ fn read_vertex(size: Size, text: &[u8]) -> Option<Turn>
     if is_word(b"pass", text) {
         return Some(Turn::Pass);
     }
-    None
+    match sgf_point(size, text) {
+        Some(point) => Some(Turn::At(point)),
+        None => None,
+    }
 }
 
-/// The place of the first space.
-fn first_space(text: &[u8]) -> Option<usize> {
-    text.iter().position(|byte| *byte == b' ')
+/// The place of the first such byte.
+fn place_of_byte(text: &[u8], wanted: u8) -> Option<usize>
+    ensures { result ≡ position (λ x. nat_eq x wanted) text.now }
+{
+    text.iter().position(|byte| *byte == wanted)
+}
+
+/// What stands before and behind the first space.
+fn parts_at_space(text: &[u8]) -> Option<(&[u8], &[u8])>
+    ensures { option_map (λ parts. (parts.0.now, parts.1.now)) result ≡ at_space text.now }
+{
+    let space = place_of_byte(text, b' ')?;
+    Some((&text[..space], &text[space + 1..]))
 }
 
 /// A claim's first line behind its word: the version, which is 1, the size and the winner.
 fn read_header(text: &[u8]) -> Option<Line>
-    ensures { option_map (line_value 0) result ≡ version_one (header_tail text.now) }
+    ensures { (n : ℕ) → option_map (line_value n) result ≡ version_one (header_tail text.now) }
 {
     let rest = behind_word(b"1 ", text)?;
-    let space = first_space(rest)?;
-    let size = read_number(&rest[..space])?;
-    let winner = read_colour(&rest[space + 1..])?;
+    let (size, winner) = parts_at_space(rest)?;
+    let size = read_number(size)?;
+    let winner = read_colour(winner)?;
     Some(Line::Header { size, winner })
 }
 
@@ -148,7 +163,9 @@ impl Line {
 }
 
 /// The lines that are a word alone.
-fn plain_word(text: &[u8]) -> Option<Line> {
+fn plain_word(text: &[u8]) -> Option<Line>
+    ensures { (n : ℕ) → option_map (line_value n) result ≡ or_else (at_end main_line (after_word (codes "main") text.now)) (or_else (at_end won_line (after_word (codes "won") text.now)) (at_end end_line (after_word (codes "end") text.now))) }
+{
     if is_word(b"main", text) {
         Some(Line::Main)
     } else if is_word(b"won", text) {

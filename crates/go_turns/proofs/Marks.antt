@@ -90,8 +90,8 @@ module _ (n : ℕ) (c : List Cell) (k : Colour) where
   pub reaches_marked : (marks : List Bool) (p : ℕ) → AreFree n c k marks → p < n * n → cell_at c p ≡ Stone k → reaches n c p Empty ≡ is_marked marks p
   reaches_marked marks p exact on stone =
       same_tests (reaches n c p Empty) (is_marked marks p)
-          (λ e. exact.marked p on (inr (stone, (reaches_path n c p Empty).0 e)))
-          (λ e. elim (exact.free p e) [ inl empty ↦ absurd (cc (stone, empty)) | inr found ↦ (reaches_path n c p Empty).1 found.1 ])
+      (λ e. exact.marked p on (inr (stone, (reaches_path n c p Empty).0 e)))
+      (λ e. elim (exact.free p e) [ inl empty ↦ absurd (cc (stone, empty)) | inr found ↦ (reaches_path n c p Empty).1 found.1 ])
 
 -- what a sweep has done at the points below i: `old` are the marks at its start, `has_spread` whether it has made one
 pub record SpreadSoFar (n : ℕ) (c : List Cell) (k : Colour) (old marks : List Bool) (has_spread : Bool) (i : ℕ) : Type 0 where

@@ -58,9 +58,9 @@ repeats_push : (h : List (List Cell)) (c : List Cell) → repeats h ≡ false �
 repeats_push [] c once new = refl
 repeats_push (x ∷ xs) c once new =
     or_from (has_occurred (xs ++ c ∷ []) x) (repeats (xs ++ c ∷ []))
-        (list_any-append (same_cells x) xs (c ∷ [])
-        ∙ or_from (has_occurred xs x) (same_cells x c || false) (or_no_left (has_occurred xs x) (repeats xs) once) (or_from (same_cells x c) false (same_cells_symm x c ∙ or_no_left (same_cells c x) (has_occurred xs c) new) refl))
-        (repeats_push xs c (or_no_right (has_occurred xs x) (repeats xs) once) (or_no_right (same_cells c x) (has_occurred xs c) new))
+    (list_any-append (same_cells x) xs (c ∷ [])
+    ∙ or_from (has_occurred xs x) (same_cells x c || false) (or_no_left (has_occurred xs x) (repeats xs) once) (or_from (same_cells x c) false (same_cells_symm x c ∙ or_no_left (same_cells c x) (has_occurred xs c) new) refl))
+    (repeats_push xs c (or_no_right (has_occurred xs x) (repeats xs) once) (or_no_right (same_cells c x) (has_occurred xs c) new))
 
 last_is_new : (h : List (List Cell)) (c : List Cell) → repeats (h ++ c ∷ []) ≡ false → has_occurred h c ≡ false
 last_is_new [] c once = refl

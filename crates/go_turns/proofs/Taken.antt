@@ -72,4 +72,4 @@ taken_count n c k p whole =
     let full : length placed ≡ n * n = length-set c p (Stone k) ∙ whole in
     let last = clear n (clear n placed (opponent_of k)) k in
     subst (λ m. count_by (is_gone placed last) (range_with_len 0 m) + stone_count last ≡ stone_count placed) full
-        (gone_count placed last (length-clear n (clear n placed (opponent_of k)) k ∙ sym full) (both_fewer n placed (opponent_of k) k))
+    (gone_count placed last (length-clear n (clear n placed (opponent_of k)) k ∙ sym full) (both_fewer n placed (opponent_of k) k))

@@ -1,0 +1,128 @@
+-- The steps that a record keeps, against its history.
+use Rattle.std.proofs.Common.{◌≡◌, ℕ, suc, ◌+◌, ◌-◌, ◌<◌, ◌≤◌, Bool, true, false, cond, List, [], ◌∷◌, ◌++◌, map, reverse, take, length, get_or, Result, Ok, Err, OnOk, OnErr, is_err, is_ok, Option, Some, None, inl, inr, refl, sym, ◌∙◌, ap, subst, arith}
+use Rattle.std.specs.List.{All, AllPairs}
+use Rattle.std.proofs.lemmas.List.{take-append-le, take-take, take_all, take_at, get_or_append_left, length-append, get_or-take, length-take-le, map-append, get_or_default, get_or_push, reverse-append}
+use Rattle.std.proofs.lemmas.Bool.{cases_lt}
+use Rattle.std.proofs.lemmas.List.Elements.{All-push}
+use Rattle.std.proofs.lemmas.List.Quantifiers.{all_pairs_push}
+use Rattle.go_points.specs.declared.Cell.{Cell}
+use Rattle.go_points.specs.Grid.{side_of}
+use Rattle.go_points.specs.Liberty.{first_without_liberty}
+use Rattle.go_turns.specs.Steps.{IsAt, CanStand, StepsFit}
+
+-- the colouring that is present can be taken over again
+pub can_stand : (h : List (List Cell)) (place : ℕ) (c : List Cell) → IsAt h place c → first_without_liberty (side_of c) c ≡ None → CanStand (side_of c) h place
+can_stand h place c at free = record {
+  within = at.within;
+  size = ap side_of at.same;
+  liberties = ap (first_without_liberty (side_of c)) at.same ∙ free;
+}
+
+-- the colouring that was added, at its place
+pub at_end : (h : List (List Cell)) (c : List Cell) → IsAt (h ++ c ∷ []) (length h) c
+at_end h c = record {
+  within = omega (arith, length-append h (c ∷ []));
+  same = get_or_push h c [] (length h) refl;
+}
+
+module _ {X : Type 0} (occurred place passes : X → ℕ) (n : ℕ) where
+  -- a longer history still fits
+  pub fit_longer : (h ys : List (List Cell)) (steps : List X) → StepsFit occurred place passes n h steps → StepsFit occurred place passes n (h ++ ys) steps
+  fit_longer h ys steps fit = record {
+    within = λ k d on. omega (arith, fit.within k d on, length-append h ys);
+    order = fit.order;
+    found = λ k d on. rw (take-append-le (occurred (get_or steps k d)) h ys (fit.within k d on)) (fit.found k d on);
+    few = fit.few;
+  }
+
+  -- one more step, which keeps the whole history
+  pub fit_push : (h : List (List Cell)) (steps : List X) (x : X) → occurred x ≡ length h → CanStand n h (place x) → passes x ≤ length steps + 2 → StepsFit occurred place passes n h steps → StepsFit occurred place passes n h (steps ++ x ∷ [])
+  fit_push h steps x whole stands few fit =
+      let all : take (occurred x) h ≡ h = take_all (occurred x) h (omega arith) in
+      record {
+        within = All-push (λ s. occurred s ≤ length h) steps x fit.within (omega arith);
+        order = all_pairs_push (λ s t. occurred s ≤ occurred t) steps x fit.order (λ k d on. omega (arith, fit.within k d on));
+        found = All-push (λ s. CanStand n (take (occurred s) h) (place s)) steps x fit.found (rw all stands);
+        few = λ k d on. few_push k d (omega (arith, on, length-append steps (x ∷ [])));
+      }
+    where
+      few_push : (k : ℕ) (d : X) → k < length steps + 1 → passes (get_or (steps ++ x ∷ []) k d) ≤ k + 2
+      few_push k d on = elim (cases_lt k (length steps)) [
+        | inl low ↦ rw (get_or_append_left steps (x ∷ []) d k low) (fit.few k d low)
+        | inr high ↦ (let last : k ≡ length steps = omega arith in rw (last, get_or_push steps x d (length steps) refl) few)
+      ]
+
+  -- no step keeps more than the last
+  pub below_last : (h : List (List Cell)) (steps : List X) (x : X) → StepsFit occurred place passes n h (steps ++ x ∷ []) → (k : ℕ) (d : X) → k < length steps → occurred (get_or steps k d) ≤ occurred x
+  below_last h steps x fit k d on =
+      let both = fit.order k (length steps) x on (omega (arith, length-append steps (x ∷ []))) in
+      rw (get_or_push steps x x (length steps) refl, get_or_append_left steps (x ∷ []) x k on, get_or_default steps k x d on) at both
+
+  -- what is known of the last step
+  pub last_stands : (h : List (List Cell)) (steps : List X) (x : X) → StepsFit occurred place passes n h (steps ++ x ∷ []) → CanStand n (take (occurred x) h) (place x)
+  last_stands h steps x fit = rw (get_or_push steps x x (length steps) refl) at (fit.found (length steps) x (omega (arith, length-append steps (x ∷ []))))
+
+  pub last_few : (h : List (List Cell)) (steps : List X) (x : X) → StepsFit occurred place passes n h (steps ++ x ∷ []) → passes x ≤ length steps + 2
+  last_few h steps x fit = rw (get_or_push steps x x (length steps) refl) at (fit.few (length steps) x (omega (arith, length-append steps (x ∷ []))))
+
+  pub last_within : (h : List (List Cell)) (steps : List X) (x : X) → StepsFit occurred place passes n h (steps ++ x ∷ []) → occurred x ≤ length h
+  last_within h steps x fit = rw (get_or_push steps x x (length steps) refl) at (fit.within (length steps) x (omega (arith, length-append steps (x ∷ []))))
+
+  -- the last step is taken off, and with it what it has not kept
+  pub fit_pop : (h : List (List Cell)) (steps : List X) (x : X) → StepsFit occurred place passes n h (steps ++ x ∷ []) → StepsFit occurred place passes n (take (occurred x) h) steps
+  fit_pop h steps x fit =
+      let long = length-append steps (x ∷ []) in
+      let short = length-take-le (occurred x) h (last_within h steps x fit) in
+      let below = below_last h steps x fit in
+      record {
+        within = λ k d on. omega (arith, below k d on, short);
+        order = λ i j d lt on. rw (get_or_append_left steps (x ∷ []) d i (omega arith), get_or_append_left steps (x ∷ []) d j on) at (fit.order i j d lt (omega arith));
+        found = λ k d on. rw (take-take (occurred (get_or steps k d)) (occurred x) h (below k d on)) (rw (get_or_append_left steps (x ∷ []) d k on) at (fit.found k d (omega arith)));
+        few = λ k d on. rw (get_or_append_left steps (x ∷ []) d k on) at (fit.few k d (omega arith));
+      }
+
+-- the moments of steps that keep no more than the first m colourings
+moments_front : {X Y : Type 0} (occurred : X → ℕ) (moment : List (List Cell) → X → Y) (h : List (List Cell)) (m : ℕ) (steps : List X) → ((k : ℕ) (d : X) → k < length steps → occurred (get_or steps k d) ≤ m) → map (λ s. moment (take (occurred s) h) s) steps ≡ map (λ s. moment (take (occurred s) (take m h)) s) steps
+moments_front occurred moment h m [] within = refl
+moments_front occurred moment h m (x ∷ xs) within =
+    λ i. moment (sym (take-take (occurred x) m h (within 0 x (omega arith))) i) x ∷ moments_front occurred moment h m xs (λ k d on. within (suc k) d (omega arith)) i
+
+-- the moments before the last step, and that of the last step, the latest first
+pub earlier_split : {X Y : Type 0} (occurred : X → ℕ) (moment : List (List Cell) → X → Y) (whole left : List (List Cell)) (all steps : List X) (x : X) → all ≡ steps ++ x ∷ [] → left ≡ take (occurred x) whole → ((k : ℕ) (d : X) → k < length steps → occurred (get_or steps k d) ≤ occurred x)
+    → reverse (map (λ s. moment (take (occurred s) whole) s) all) ≡ moment left x ∷ reverse (map (λ s. moment (take (occurred s) left) s) steps)
+earlier_split {X} {Y} occurred moment whole left all steps x split front below =
+    let at : List (List Cell) → X → Y = λ h s. moment (take (occurred s) h) s in
+    ap (λ xs. reverse (map (at whole) xs)) split
+    ∙ ap reverse (map-append (at whole) steps (x ∷ []))
+    ∙ reverse-append (map (at whole) steps) (at whole x ∷ [])
+    ∙ ap (λ zs. at whole x ∷ reverse zs) (moments_front occurred moment whole (occurred x) steps below)
+    ∙ ap (λ h. moment h x ∷ reverse (map (at h) steps)) (sym front)
+
+-- a front with its last element taken off
+pub front_shorter : (whole before after : List (List Cell)) → 0 < length before → before ≡ take (length before) whole → after ≡ take (length before - 1) before → (length after + 1 ≡ length before) × (after ≡ take (length after) whole)
+front_shorter whole before after some front taken =
+    let m = length before - 1 in
+    let long : length after ≡ m = ap length taken ∙ length-take-le m before (omega arith) in
+    (omega arith, taken ∙ ap (take m) front ∙ take-take m (length before) whole (omega arith) ∙ ap (λ k. take k whole) (sym long))
+
+-- a push that went well, and one that was taken back
+pub pushed : {X T E : Type 0} (r : Result T E) (xs ys zs : List X) → is_err r ≡ false → zs ≡ cond (is_ok r) xs ys → zs ≡ xs
+pushed (Ok t) xs ys zs e h = h
+pushed (Err t) xs ys zs e h = absurd (cc)
+
+pub unpushed : {X : Type 0} (steps more back : List X) (x : X) (m : ℕ) → more ≡ steps ++ x ∷ [] → m ≡ length more → back ≡ take (m - 1) more → back ≡ steps
+unpushed steps more back x m push whole pop =
+    let long : m - 1 ≡ length steps = omega (arith, whole, ap length push, length-append steps (x ∷ [])) in
+    pop ∙ ap (λ k. take k more) long ∙ ap (take (length steps)) push ∙ take_at steps (x ∷ []) (length steps) refl
+
+pub is_ok_from : {T E : Type 0} (r : Result T E) → is_err r ≡ false → is_ok r ≡ true
+is_ok_from (Ok x) e = refl
+is_ok_from (Err x) e = absurd (cc)
+
+pub on_ok_from : {T E P : Type 0} (r : Result T E) → is_err r ≡ false → OnOk r P → P
+on_ok_from (Ok x) e p = p
+on_ok_from (Err x) e p = absurd (cc)
+
+pub on_err_from : {T E P : Type 0} (r : Result T E) → is_err r ≡ true → OnErr r P → P
+on_err_from (Ok x) e p = absurd (cc)
+on_err_from (Err x) e p = p

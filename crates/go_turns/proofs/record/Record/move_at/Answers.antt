@@ -1,0 +1,72 @@
+-- The step that is kept, and the colouring that joins the history.
+use Rattle.std.proofs.Common.{◌≡◌, ℕ, ◌+◌, ◌*◌, ◌<◌, ◌++◌, [], ◌∷◌, List, map, reverse, take, length, true, Some, None, Option, Ok, Result, is_ok, refl, sym, ◌∙◌, ap, subst, arith}
+use Rattle.std.proofs.lemmas.List.{take_at}
+use Rattle.go_points.specs.declared.Cell.{Cell}
+use Rattle.go_points.specs.declared.Cell.TheVariants.{Empty}
+use Rattle.go_points.specs.Grid.{side_of, same_cell, cell_at}
+use Rattle.go_points.specs.Place.{Place, IsOn, number_of}
+use Rattle.go_points.specs.Move.{after_move}
+use Rattle.go_points.specs.Ply.{move}
+use Rattle.go_points.proofs.Sides.{number_below}
+use Rattle.go_turns.specs.declared.record.Step.{Step}
+use Rattle.go_turns.specs.History.{place_in}
+use Rattle.go_turns.specs.Record.{Moment, GameRecord, colouring_of, play_of, Did}
+use Rattle.go_turns.specs.Steps.{IsAt, CanStand}
+use Rattle.go_turns.proofs.Steps.{can_stand, at_end, fit_longer, fit_push, earlier_split, is_ok_from, on_ok_from}
+use Rattle.go_turns.proofs.Turns.{did_move}
+use Rattle.go_turns.proofs.record.Record.move_at.Given.{Over}
+use Rattle.go_turns.proofs.record.Record.move_at.Goals as goal
+
+pub invariant_of-self-2 : goal.invariant_of-self-2
+invariant_of-self-2 g c =
+    let whole = g.S.Seen.content c.self.inside.seen in
+    let old = g.B.Board.content c.self.inside.board in
+    let after = c.colouring-after.result in
+    let steps = c.self.inside.steps.items in
+    let occurred = λ (s : Step). s.occurred in
+    let place = λ (s : Step). s.place in
+    let passes = λ (s : Step). s.passes in
+    let step : Step = record { place = c.self.inside.place; occurred = c.len.result; passes = c.self.inside.passes; last_colour = c.self.inside.last_colour } in
+    let stands : CanStand (side_of old) whole c.self.inside.place = can_stand whole c.self.inside.place old c.self.invariant.here c.colouring-before.ensures.liberties in
+    let fit = fit_push occurred place passes (side_of old) whole steps step c.len.ensures.value stands c.self.invariant.few c.self.invariant.steps in
+    rw (c.play.ensures.size, c.in_default.ensures.history, c.in_default.ensures.steps) (record {
+      steps = fit_longer occurred place passes (side_of old) whole (after ∷ []) (steps ++ step ∷ []) fit;
+      here = rw (c.len.ensures.value, ← c.colouring-after.ensures.value) (at_end whole after);
+      few = omega arith;
+    })
+
+pub returns : goal.returns
+returns g c =
+    let whole = g.S.Seen.content c.self.inside.seen in
+    let old = g.B.Board.content c.self.inside.board in
+    let n = side_of old in
+    let k = c.args.colour in
+    let p = number_of n c.args.point in
+    let after = c.colouring-after.result in
+    let steps = c.self.inside.steps.items in
+    let moment : List (List Cell) → Step → Moment = λ h s. record { history = h; place = s.place; passes = s.passes; last_colour = s.last_colour } in
+    let step : Step = record { place = c.self.inside.place; occurred = c.len.result; passes = c.self.inside.passes; last_colour = c.self.inside.last_colour } in
+    let was : GameRecord = record { size = n; present = moment whole step; earlier = reverse (map (λ s. moment (take s.occurred whole) s) steps) } in
+    let is : GameRecord = record {
+      size = side_of (g.B.Board.content c.play.new.self);
+      present = record { history = g.S.Seen.content c.add_step.new.seen; place = c.len.result; passes = 0; last_colour = Some k };
+      earlier = reverse (map (λ s. moment (take s.occurred (g.S.Seen.content c.add_step.new.seen)) s) c.add_step.new.steps.items);
+    } in
+    let here : colouring_of was.present ≡ old = c.self.invariant.here.same in
+    let on : p < n * n = number_below n c.args.point (subst (λ (r : GameRecord). IsOn r.size c.args.point) (sym c.self.view_is) c.requires) in
+    let free : same_cell (cell_at (colouring_of was.present) p) Empty ≡ true =
+    ap (λ d. same_cell (cell_at d p) Empty) here ∙ sym c.play.ensures.variant ∙ is_ok_from c.play.result (sym c.is_err.ensures.value ∙ c.if-is_err.false) in
+    let made : after ≡ after_move n (colouring_of was.present) k p =
+    c.colouring-after.ensures.value ∙ on_ok_from c.play.result (sym c.is_err.ensures.value ∙ c.if-is_err.false) c.play.ensures.ok ∙ ap (λ d. after_move n d k p) (sym here) in
+    let fresh : place_in whole (after_move n (colouring_of was.present) k p) ≡ None = ap (place_in whole) (sym made) ∙ c.in_default.ensures.new in
+    let longer : g.S.Seen.content c.add_step.new.seen ≡ whole ++ after_move n (colouring_of was.present) k p ∷ [] = c.in_default.ensures.history ∙ ap (λ d. whole ++ d ∷ []) made in
+    let earlier : reverse (map (λ s. moment (take s.occurred (g.S.Seen.content c.add_step.new.seen)) s) c.add_step.new.steps.items) ≡ was.present ∷ was.earlier =
+    earlier_split (λ s. s.occurred) moment (g.S.Seen.content c.add_step.new.seen) whole c.add_step.new.steps.items steps step c.in_default.ensures.steps
+    (sym (ap (take c.len.result) c.in_default.ensures.history ∙ take_at whole (after ∷ []) c.len.result (sym c.len.ensures.value)))
+    (λ j d in_steps. omega (arith, c.self.invariant.steps.within j d in_steps, c.len.ensures.value)) in
+    subst (λ (r : GameRecord). Did (play_of r k (move (number_of r.size c.args.point))) r (Ok tt) is) c.self.view_is
+    (did_move was k p is on free fresh (λ i. record {
+      size = c.play.ensures.size i;
+      present = record { history = longer i; place = c.len.ensures.value i; passes = 0; last_colour = Some k };
+      earlier = earlier i;
+    }) tt)

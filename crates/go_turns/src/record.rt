@@ -1,0 +1,211 @@
+//! Records of turns. A record keeps one board and one history; a step keeps only what it changed, and `undo` looks its colouring up in the history.
+
+ghost use Rattle.std.specs.Prelude.{◌≡◌, ◌<◌, ◌≤◌, ◌+◌, ◌++◌, [], ◌∷◌, length, slice_index_or, IsFalse, IfErr, OnOk, OnErr, None};
+ghost use Rattle.std.specs.List.{All};
+ghost use Rattle.go_points.specs.Grid.{cell_at, side_of, IsColouring};
+ghost use Rattle.go_points.specs.Place.{IsOn, number_of};
+ghost use Rattle.go_points.specs.Liberty.{first_without_liberty};
+ghost use Rattle.go_points.specs.Ply.{ply_of, pass as a_pass, move as a_move};
+ghost use Rattle.go_turns.specs.History.{place_in, repeats};
+ghost use Rattle.go_turns.specs.Record.{colouring_of, play_of, undo_of, opened, Did, DidWithoutMemory, Opens};
+ghost use Rattle.go_turns.specs.Steps.{IsNotAdded};
+
+use crate::board::Board;
+use crate::fault::TurnFault;
+use crate::seen::Seen;
+use go_points::{Cell, Colour, Colouring, Point, Size, Turn};
+use std::alloc::Global;
+use std::marker::Model;
+
+// What stood before a step: the place of the colouring, how many colourings had occurred, the passes in a row, and the colour of the last play.
+#[derive(Clone, Copy)]
+struct Step {
+    place: usize,
+    occurred: usize,
+    passes: u64,
+    last_colour: Option<Colour>,
+}
+
+/// A record of turns: the present colouring, those that have occurred, and the steps to be taken back.
+#[derive(Drop)]
+pub struct Record<B: Board, S: Seen> {
+    board: B,
+    seen: S,
+    place: usize,
+    passes: u64,
+    last_colour: Option<Colour>,
+    steps: Vec<Step>,
+}
+
+impl<B: Board, S: Seen> Model for Record<B, S> {
+    ghost use Rattle.std.specs.Prelude.{map, take, reverse, length, ◌≤◌, ◌+◌};
+    ghost use Rattle.go_points.specs.Grid.{side_of};
+    ghost use Rattle.go_turns.specs.Record.{GameRecord};
+    ghost use Rattle.go_turns.specs.Steps.{IsAt, StepsFit};
+
+    ghost Value = { GameRecord };
+
+    ghost view = { λ r. record {
+      size = side_of (B.content r.board);
+      present = record { history = S.content r.seen; place = r.place; passes = r.passes; last_colour = r.last_colour };
+      earlier = reverse (map (λ s. record { history = take s.occurred (S.content r.seen); place = s.place; passes = s.passes; last_colour = s.last_colour }) r.steps.items);
+    } };
+
+    ghost invariant = { λ r. record {
+      steps : StepsFit (λ s. s.occurred) (λ s. s.place) (λ s. s.passes) (side_of (B.content r.board)) (S.content r.seen) r.steps.items;
+      here : IsAt (S.content r.seen) r.place (B.content r.board);
+      few : r.passes ≤ length r.steps.items + 2;
+    } };
+}
+
+// Adds the colouring to the history and the step to the steps, or leaves both as they were.
+fn add_step<S: Seen>(
+    seen: &mut S,
+    steps: &mut Vec<Step>,
+    step: Step,
+    colouring: Colouring,
+) -> Result<(), TurnFault>
+    ensures new { OnOk result (place_in (S.content seen.old) colouring ≡ None) }
+    ensures history { OnOk result (S.content seen.new ≡ S.content seen.old ++ colouring ∷ []) }
+    ensures steps { OnOk result (steps.new.items ≡ steps.old.items ++ step ∷ []) }
+    ensures fault { IfErr result (λ e. IsNotAdded (place_in (S.content seen.old) colouring) e) }
+    ensures history_kept { OnErr result (S.content seen.new ≡ S.content seen.old) }
+    ensures steps_kept { OnErr result (steps.new.items ≡ steps.old.items) }
+{
+    if let Some(earlier) = seen.holds(&colouring) {
+        return Err(TurnFault::Repeats { earlier });
+    }
+    if steps.push(step).is_err() {
+        return Err(TurnFault::Memory);
+    }
+    if seen.add(colouring).is_err() {
+        let _untaken = steps.pop();
+        return Err(TurnFault::Memory);
+    }
+    Ok(())
+}
+
+impl<B: Board, S: Seen> Record<B, S> {
+    /// Adds a turn of this colour, whoever played last. A pass always succeeds, memory aside. A move succeeds where the board holds the point, it is empty and the colouring that it makes has not occurred.
+    pub fn play(&mut self, colour: Colour, turn: Turn) -> Result<(), TurnFault>
+        ensures { Did (play_of self.old colour (ply_of self.old.size turn)) self.old result self.new }
+    {
+        match turn {
+            Turn::Pass => self.pass(colour),
+            Turn::At(point) => {
+                if !self.size().holds(point) {
+                    return Err(TurnFault::OffBoard);
+                }
+                self.move_at(colour, point)
+            }
+        }
+    }
+
+    fn pass(&mut self, colour: Colour) -> Result<(), TurnFault>
+        ensures { Did (play_of self.old colour a_pass) self.old result self.new }
+    {
+        let _colouring = self.board.colouring();
+        let step = Step {
+            place: self.place,
+            occurred: self.seen.len(),
+            passes: self.passes,
+            last_colour: self.last_colour,
+        };
+        if self.steps.push(step).is_err() {
+            return Err(TurnFault::Memory);
+        }
+        self.passes += 1;
+        self.last_colour = Some(colour);
+        Ok(())
+    }
+
+    fn move_at(&mut self, colour: Colour, point: Point) -> Result<(), TurnFault>
+        requires { IsOn self.old.size point }
+        ensures { Did (play_of self.old colour (a_move (number_of self.old.size point))) self.old result self.new }
+    {
+        let before = self.board.colouring();
+        let step = Step {
+            place: self.place,
+            occurred: self.seen.len(),
+            passes: self.passes,
+            last_colour: self.last_colour,
+        };
+        if self.board.play(colour, point).is_err() {
+            return Err(TurnFault::Occupied);
+        }
+        let after = self.board.colouring();
+        if let Err(fault) = add_step(&mut self.seen, &mut self.steps, step, after) {
+            let _back = self.board.assign(&before);
+            return Err(fault);
+        }
+        self.place = step.occurred;
+        self.passes = 0;
+        self.last_colour = Some(colour);
+        Ok(())
+    }
+
+    /// Takes the last step back, with all that it changed.
+    pub fn undo(&mut self) -> Result<(), TurnFault>
+        ensures { DidWithoutMemory (undo_of self.old) self.old result self.new }
+    {
+        let Some(step) = self.steps.pop() else {
+            return Err(TurnFault::CannotUndo);
+        };
+        while self.seen.len() > step.occurred {
+            self.seen.take_last();
+        }
+        let _back = self.board.assign(self.seen.at(step.place));
+        self.place = step.place;
+        self.passes = step.passes;
+        self.last_colour = step.last_colour;
+        Ok(())
+    }
+
+    /// The size of the board.
+    pub fn size(&self) -> Size
+        ensures { result ≡ self.now.size }
+    {
+        self.board.size()
+    }
+
+    /// What the point holds.
+    pub fn cell(&self, point: Point) -> Cell
+        requires { IsOn self.now.size point }
+        ensures { result ≡ cell_at (colouring_of self.now.present) (number_of self.now.size point) }
+    {
+        self.board.cell(point)
+    }
+
+    /// The present colouring, in which every stone reaches empty.
+    pub fn colouring(&self) -> Colouring
+        ensures value { result ≡ colouring_of self.now.present }
+        ensures size { side_of result ≡ self.now.size }
+        ensures colouring { IsColouring self.now.size result }
+        ensures liberties { first_without_liberty self.now.size result ≡ None }
+        ensures within { self.now.present.place < length self.now.present.history }
+    {
+        self.board.colouring()
+    }
+
+    /// The colourings that have occurred.
+    pub fn seen(&self) -> &S
+        ensures { S.content result.now ≡ self.now.present.history }
+    {
+        &self.seen
+    }
+
+    /// How many of the last turns were passes.
+    pub fn passes(&self) -> u64
+        ensures value { result ≡ self.now.present.passes }
+        ensures few { result ≤ length self.now.earlier + 2 }
+    {
+        self.passes
+    }
+
+    /// The colour of the last play, if there was one.
+    pub fn last_colour(&self) -> Option<Colour>
+        ensures { result ≡ self.now.present.last_colour }
+    {
+        self.last_colour
+    }
+}

@@ -168,6 +168,14 @@ impl<B: Board, S: Seen> Record<B, S> {
         self.board.size()
     }
 
+    /// The board, which holds the present colouring.
+    pub fn board(&self) -> &B
+        ensures value { B.content result.now ≡ colouring_of self.now.present }
+        ensures size { side_of (B.content result.now) ≡ self.now.size }
+    {
+        &self.board
+    }
+
     /// What the point holds.
     pub fn cell(&self, point: Point) -> Cell
         requires { IsOn self.now.size point }

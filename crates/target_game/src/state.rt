@@ -1,15 +1,17 @@
 //! States of the target game, and the play from them.
 
-ghost use Rattle.std.specs.Prelude.{◌≡◌, ◌≤◌, ◌<◌, [], ◌∷◌, IsTrue, IfOk, OnOk, OnErr, None, is_none, if◌then◌else◌, map, length};
+ghost use Rattle.std.specs.Prelude.{◌≡◌, ◌≤◌, ◌<◌, ◌&&◌, true, [], ◌∷◌, IsTrue, IfOk, OnOk, OnErr, None, is_none, if◌then◌else◌, map, length};
 ghost use Rattle.go_points.specs.Grid.{cell_at, same_cell};
 ghost use Rattle.go_points.specs.Move.{after_move};
 ghost use Rattle.go_points.specs.Place.{IsOn, number_of};
-ghost use Rattle.go_points.specs.Ply.{ply_of};
+ghost use Rattle.go_points.specs.Ply.{ply_of, move};
+ghost use Rattle.go_points.specs.declared.Cell.TheVariants.{Empty};
 ghost use Rattle.go_turns.specs.History.{place_in};
 ghost use Rattle.target_game.specs.State.{Game, GameState, GameProblem, Line, start};
-ghost use Rattle.target_game.specs.Legal.{legal, legal_turns};
+ghost use Rattle.target_game.specs.Legal.{legal, legal_turns, holds_point};
 ghost use Rattle.target_game.specs.Next.{next};
-ghost use Rattle.target_game.specs.Over.{over};
+ghost use Rattle.target_game.specs.Over.{over, targets_stand};
+ghost use Rattle.target_game.specs.Kept.{turn_from};
 
 use crate::MAX_TURNS;
 use crate::problem::Problem;
@@ -27,6 +29,19 @@ pub struct State<B: Board + Copy, S: Seen> {
     targets: PointSet,
     defender: Colour,
     region: PointSet,
+}
+
+impl<B: Board + Copy, S: Seen> Model for State<B, S> {
+    ghost use Rattle.std.specs.List.{All};
+    ghost use Rattle.go_points.specs.Place.{IsOn};
+    ghost use Rattle.target_game.specs.State.{Line};
+    ghost use Rattle.target_game.specs.Kept.{kept_game, kept_line};
+
+    ghost Value = { Line };
+
+    ghost view = { λ a. kept_line (kept_game a.record.size a.targets a.defender a.region) a.mover a.record };
+
+    ghost invariant = { λ a. All (IsOn a.record.size) a.targets × All (IsOn a.record.size) a.region };
 }
 
 impl<B: Board + Copy, S: Seen> State<B, S> {
@@ -59,7 +74,10 @@ impl<B: Board + Copy, S: Seen> State<B, S> {
         }
     }
 
-    fn targets_stand(&self) -> bool {
+    /// Whether each target point holds the defender's colour.
+    fn targets_stand(&self) -> bool
+        ensures { result ≡ targets_stand self.now.state }
+    {
         for point in self.targets.iter() {
             if self.record.cell(point) != Cell::Stone(self.defender) {
                 return false;
@@ -77,6 +95,7 @@ impl<B: Board + Copy, S: Seen> State<B, S> {
     /// Whether the point is an empty point of the region.
     pub fn is_open(&self, point: Point) -> bool
         requires { IsOn self.now.state.game.size point }
+        ensures { result ≡ holds_point self.now.state.game.region (number_of self.now.state.game.size point) && same_cell (cell_at self.now.state.colouring (number_of self.now.state.game.size point)) Empty }
     {
         self.region.has(point) && self.record.cell(point).is_empty()
     }
@@ -84,6 +103,8 @@ impl<B: Board + Copy, S: Seen> State<B, S> {
     /// The colouring after the mover's move at an empty point.
     pub fn result(&self, point: Point) -> Colouring
         requires on_board { IsOn self.now.state.game.size point }
+        requires empty { same_cell (cell_at self.now.state.colouring (number_of self.now.state.game.size point)) Empty ≡ true }
+        ensures { result ≡ after_move self.now.state.game.size self.now.state.colouring self.now.state.mover (number_of self.now.state.game.size point) }
     {
         let mut board = *self.record.board();
         let _removed = board.play(self.mover, point);
@@ -91,7 +112,10 @@ impl<B: Board + Copy, S: Seen> State<B, S> {
     }
 
     /// Whether the mover may move at the point, if nobody has won.
-    fn may_move(&self, point: Point) -> bool {
+    fn may_move(&self, point: Point) -> bool
+        requires { IsOn self.now.state.game.size point }
+        ensures { result ≡ legal self.now.state (move (number_of self.now.state.game.size point)) }
+    {
         self.is_open(point) && self.holds(&self.result(point)).is_none()
     }
 
@@ -115,7 +139,9 @@ impl<B: Board + Copy, S: Seen> State<B, S> {
     }
 
     /// The first legal turn at a point of this number or a greater one; the pass, where there is none.
-    pub fn next_turn(&self, from: usize) -> Turn {
+    pub fn next_turn(&self, from: usize) -> Turn
+        ensures { ply_of self.now.state.game.size result ≡ turn_from self.now.state from }
+    {
         let size = self.size();
         for number in from..size.area() {
             let point = size.point_at(number);

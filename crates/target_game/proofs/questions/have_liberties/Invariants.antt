@@ -1,0 +1,8 @@
+use Rattle.std.proofs.Common.{◌≡◌}
+use Rattle.go_points.specs.Grid.{side_of}
+use Rattle.go_points.specs.Liberty.{all_reach_empty}
+use Rattle.target_game.proofs.Loops.{AllAfter}
+use Rattle.target_game.proofs.questions.have_liberties.Given as goal
+
+abbrev pub invariant-loop-colouring : goal.invariant-loop-colouring
+invariant-loop-colouring l = (side_of l.board ≡ l.fn.size) × AllAfter (all_reach_empty l.fn.size) l.history l.colouring-index

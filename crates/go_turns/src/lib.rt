@@ -14,3 +14,8 @@ pub use fault::TurnFault;
 pub use plain_board::PlainBoard;
 pub use record::Record;
 pub use seen::{ListSeen, Seen};
+
+/// The board and the list of colourings that play uses: layers above name these, so that faster ones take their place here alone.
+pub type PlayBoard = PlainBoard;
+
+pub type PlaySeen = ListSeen;

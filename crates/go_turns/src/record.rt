@@ -14,7 +14,7 @@ use crate::board::Board;
 use crate::fault::TurnFault;
 use crate::seen::Seen;
 use go_points::{Cell, Colour, Colouring, Point, Size, Turn};
-use std::alloc::Global;
+use std::alloc::{AllocError, Global};
 use std::marker::Model;
 
 // What stood before a step: the place of the colouring, how many colourings had occurred, the passes in a row, and the colour of the last play.
@@ -38,8 +38,9 @@ pub struct Record<B: Board, S: Seen> {
 }
 
 impl<B: Board, S: Seen> Model for Record<B, S> {
-    ghost use Rattle.std.specs.Prelude.{map, take, reverse, length, ◌≤◌, ◌+◌};
+    ghost use Rattle.std.specs.Prelude.{map, take, reverse, length, ◌≡◌, ◌≤◌, ◌+◌, None};
     ghost use Rattle.go_points.specs.Grid.{side_of};
+    ghost use Rattle.go_points.specs.Liberty.{first_without_liberty};
     ghost use Rattle.go_turns.specs.Record.{GameRecord};
     ghost use Rattle.go_turns.specs.Steps.{IsAt, StepsFit};
 
@@ -54,6 +55,7 @@ impl<B: Board, S: Seen> Model for Record<B, S> {
     ghost invariant = { λ r. record {
       steps : StepsFit (λ s. s.occurred) (λ s. s.place) (λ s. s.passes) (side_of (B.content r.board)) (S.content r.seen) r.steps.items;
       here : IsAt (S.content r.seen) r.place (B.content r.board);
+      liberties : first_without_liberty (side_of (B.content r.board)) (B.content r.board) ≡ None;
       few : r.passes ≤ length r.steps.items + 2;
     } };
 }
@@ -85,7 +87,60 @@ fn add_step<S: Seen>(
     Ok(())
 }
 
+// Adds the colourings of a history to the empty list.
+fn add_all<S: Seen>(seen: &mut S, history: &[Colouring]) -> Result<(), AllocError>
+    requires empty { S.content seen.old ≡ [] }
+    requires once { IsFalse (repeats history.now) }
+    ensures { OnOk result (S.content seen.new ≡ history.now) }
+{
+    for colouring in history {
+        seen.add(*colouring)?;
+    }
+    Ok(())
+}
+
 impl<B: Board, S: Seen> Record<B, S> {
+    /// The record without steps whose history is this colouring. Refused where a stone does not reach empty, by the least such point.
+    pub fn new(alloc: Global, colouring: &Colouring) -> Result<Record<B, S>, TurnFault>
+        ensures { Opens (side_of colouring.now) (opened (side_of colouring.now) (colouring.now ∷ []) 0 0) result }
+    {
+        Record::with_history(alloc, &[*colouring], 0, 0)
+    }
+
+    /// The record without steps whose history is this one, with the colouring at `place` present and so many passes just made. Refused where a stone of that colouring does not reach empty, by the least such point; the others are only remembered.
+    pub fn with_history(
+        alloc: Global,
+        history: &[Colouring],
+        place: usize,
+        passes: u64,
+    ) -> Result<Record<B, S>, TurnFault>
+        requires within { place < length history.now }
+        requires sizes { All (λ c. side_of c ≡ side_of (slice_index_or history.now place [])) history.now }
+        requires once { IsFalse (repeats history.now) }
+        requires few { passes ≤ 2 }
+        ensures { let n = side_of (slice_index_or history.now place []) in Opens n (opened n history.now place passes) result }
+    {
+        let colouring = history[place];
+        let mut board = B::new(colouring.size());
+        if let Err(refused) = board.assign(&colouring) {
+            return Err(TurnFault::NoLiberty {
+                point: refused.point,
+            });
+        }
+        let mut seen = S::new(alloc);
+        if add_all(&mut seen, history).is_err() {
+            return Err(TurnFault::Memory);
+        }
+        Ok(Record {
+            board,
+            seen,
+            place,
+            passes,
+            last_colour: None,
+            steps: Vec::new(alloc),
+        })
+    }
+
     /// Adds a turn of this colour, whoever played last. A pass always succeeds, memory aside. A move succeeds where the board holds the point, it is empty and the colouring that it makes has not occurred.
     pub fn play(&mut self, colour: Colour, turn: Turn) -> Result<(), TurnFault>
         ensures { Did (play_of self.old colour (ply_of self.old.size turn)) self.old result self.new }
@@ -104,7 +159,6 @@ impl<B: Board, S: Seen> Record<B, S> {
     fn pass(&mut self, colour: Colour) -> Result<(), TurnFault>
         ensures { Did (play_of self.old colour a_pass) self.old result self.new }
     {
-        let _colouring = self.board.colouring();
         let step = Step {
             place: self.place,
             occurred: self.seen.len(),

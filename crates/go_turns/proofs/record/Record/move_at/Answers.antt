@@ -27,13 +27,14 @@ invariant_of-self-2 g c =
     let place = λ (s : Step). s.place in
     let passes = λ (s : Step). s.passes in
     let step : Step = record { place = c.self.inside.place; occurred = c.len.result; passes = c.self.inside.passes; last_colour = c.self.inside.last_colour } in
-    let stands : CanStand (side_of old) whole c.self.inside.place = can_stand whole c.self.inside.place old c.self.invariant.here c.colouring-before.ensures.liberties in
+    let stands : CanStand (side_of old) whole c.self.inside.place = can_stand whole c.self.inside.place old c.self.invariant.here c.self.invariant.liberties in
     let fit = fit_push occurred place passes (side_of old) whole steps step c.len.ensures.value stands c.self.invariant.few c.self.invariant.steps in
-    rw (c.play.ensures.size, c.in_default.ensures.history, c.in_default.ensures.steps) (record {
-      steps = fit_longer occurred place passes (side_of old) whole (after ∷ []) (steps ++ step ∷ []) fit;
-      here = rw (c.len.ensures.value, ← c.colouring-after.ensures.value) (at_end whole after);
+    record {
+      steps = rw (c.play.ensures.size, c.in_default.ensures.history, c.in_default.ensures.steps) (fit_longer occurred place passes (side_of old) whole (after ∷ []) (steps ++ step ∷ []) fit);
+      here = rw (c.in_default.ensures.history, c.len.ensures.value, ← c.colouring-after.ensures.value) (at_end whole after);
+      liberties = c.colouring-after.ensures.liberties;
       few = omega arith;
-    })
+    }
 
 pub returns : goal.returns
 returns g c =

@@ -34,12 +34,15 @@ at_is g c = get_or_from_slice_get (g.S.Seen.content c.loop-self.self-inside.seen
 side_is : (g : Over) (c : goal.After-self-3-1 g) → side_of c.at.result.now ≡ side_of (g.B.Board.content c.self.inside.board)
 side_is g c = ap side_of (sym (at_is g c)) ∙ (stands g c).size
 
+free_is : (g : Over) (c : goal.After-self-3-1 g) → first_without_liberty (side_of c.at.result.now) c.at.result.now ≡ None
+free_is g c =
+    let colouring : List Cell = c.at.result.now in
+    ap (λ m. first_without_liberty m colouring) (side_is g c) ∙ ap (first_without_liberty (side_of (g.B.Board.content c.self.inside.board))) (sym (at_is g c)) ∙ (stands g c).liberties
+
 board_is : (g : Over) (c : goal.After-self-3-1 g) → g.B.Board.content c.assign-back.new.self ≡ c.at.result.now
 board_is g c =
     let colouring : List Cell = c.at.result.now in
-    let free : first_without_liberty (side_of colouring) colouring ≡ None =
-    ap (λ m. first_without_liberty m colouring) (side_is g c) ∙ ap (first_without_liberty (side_of (g.B.Board.content c.self.inside.board))) (sym (at_is g c)) ∙ (stands g c).liberties in
-    was_made c.assign-back.result (first_without_liberty (side_of colouring) colouring) (λ (e : NoLiberty). number_of (side_of colouring) e.point) c.assign-back.ensures.ok c.assign-back.ensures.fault free
+    was_made c.assign-back.result (first_without_liberty (side_of colouring) colouring) (λ (e : NoLiberty). number_of (side_of colouring) e.point) c.assign-back.ensures.ok c.assign-back.ensures.fault (free_is g c)
 
 size_is : (g : Over) (c : goal.After-self-3-1 g) → side_of (g.B.Board.content c.assign-back.new.self) ≡ side_of (g.B.Board.content c.self.inside.board)
 size_is g c = ap side_of (board_is g c) ∙ side_is g c
@@ -61,6 +64,7 @@ invariant_of-self-2 g c =
     record {
       steps = rw (size_is g c, left_is g c, c.loop-self.invariant.steps) (fit_pop occurred place passes n whole steps step fit);
       here = here;
+      liberties = rw (board_is g c) (free_is g c);
       few = rw c.loop-self.invariant.steps (last_few occurred place passes n whole steps step fit);
     }
 

@@ -23,6 +23,7 @@ enum Awaited {
 }
 
 /// How far the judging has come.
+#[derive(Drop)]
 struct Judge {
     state: State<PlayBoard, PlaySeen>,
     winner: Colour,

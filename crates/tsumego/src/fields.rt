@@ -2,81 +2,69 @@
 
 ghost use Rattle.std.specs.Prelude.{◌<◌, ◌≤◌, IfSome, length};
 
-/// The values of each property as they stand in the text, brackets included.
-#[derive(Clone, Copy)]
-pub struct Fields<'a> {
-    pub format: Option<&'a [u8]>,
-    pub game: Option<&'a [u8]>,
-    pub size: Option<&'a [u8]>,
-    pub black: Option<&'a [u8]>,
-    pub white: Option<&'a [u8]>,
-    pub mover: Option<&'a [u8]>,
-    pub targets: Option<&'a [u8]>,
-    pub region: Option<&'a [u8]>,
-}
-
-impl<'a> Fields<'a> {
-    fn none() -> Fields<'a> {
-        Fields {
-            format: None,
-            game: None,
-            size: None,
-            black: None,
-            white: None,
-            mover: None,
-            targets: None,
-            region: None,
-        }
-    }
-
-    /// The field with this name; `None` where no field is called so.
-    fn get(&self, name: &[u8]) -> Option<Option<&'a [u8]>> {
-        if name == b"FF" {
-            Some(self.format)
-        } else if name == b"GM" {
-            Some(self.game)
-        } else if name == b"SZ" {
-            Some(self.size)
-        } else if name == b"AB" {
-            Some(self.black)
-        } else if name == b"AW" {
-            Some(self.white)
-        } else if name == b"PL" {
-            Some(self.mover)
-        } else if name == b"TR" {
-            Some(self.targets)
-        } else if name == b"SQ" {
-            Some(self.region)
-        } else {
-            None
-        }
-    }
-
-    /// Gives the field with this name its values.
-    fn set(&mut self, name: &[u8], values: &'a [u8]) {
-        let values = Some(values);
-        if name == b"FF" {
-            self.format = values;
-        } else if name == b"GM" {
-            self.game = values;
-        } else if name == b"SZ" {
-            self.size = values;
-        } else if name == b"AB" {
-            self.black = values;
-        } else if name == b"AW" {
-            self.white = values;
-        } else if name == b"PL" {
-            self.mover = values;
-        } else if name == b"TR" {
-            self.targets = values;
-        } else if name == b"SQ" {
-            self.region = values;
-        }
-    }
+/// The properties that a record may have.
+#[derive(Clone, Copy, Debug, PartialEq, Eq)]
+pub enum Field {
+    Format,
+    Game,
+    Size,
+    Black,
+    White,
+    Mover,
+    Targets,
+    Region,
 }
 
 /// How many properties a record has at most.
-const MOST_FIELDS: u8 = 8;
+const MOST_FIELDS: usize = 8;
+
+impl Field {
+    /// The property with this name.
+    fn named(name: &[u8]) -> Option<Field> {
+        let [first, second] = name else {
+            return None;
+        };
+        match (*first, *second) {
+            (b'F', b'F') => Some(Field::Format),
+            (b'G', b'M') => Some(Field::Game),
+            (b'S', b'Z') => Some(Field::Size),
+            (b'A', b'B') => Some(Field::Black),
+            (b'A', b'W') => Some(Field::White),
+            (b'P', b'L') => Some(Field::Mover),
+            (b'T', b'R') => Some(Field::Targets),
+            (b'S', b'Q') => Some(Field::Region),
+            _ => None,
+        }
+    }
+
+    /// Its place among the properties.
+    fn place(self) -> usize
+        ensures { result < 8 }
+    {
+        match self {
+            Field::Format => 0,
+            Field::Game => 1,
+            Field::Size => 2,
+            Field::Black => 3,
+            Field::White => 4,
+            Field::Mover => 5,
+            Field::Targets => 6,
+            Field::Region => 7,
+        }
+    }
+}
+
+/// The values of each property as they stand in the text, brackets included.
+#[derive(Clone, Copy)]
+pub struct Fields<'a> {
+    values: [Option<&'a [u8]>; MOST_FIELDS],
+}
+
+impl<'a> Fields<'a> {
+    pub fn get(&self, field: Field) -> Option<&'a [u8]> {
+        self.values[field.place()]
+    }
+}
 
 /// The fields of the record at the front of the text, and the place after it.
 pub fn read_fields(text: &[u8]) -> Option<(Fields<'_>, usize)>
@@ -85,7 +73,9 @@ pub fn read_fields(text: &[u8]) -> Option<(Fields<'_>, usize)>
     if !text.starts_with(b"(;") {
         return None;
     }
-    let mut fields = Fields::none();
+    let mut fields = Fields {
+        values: [None; MOST_FIELDS],
+    };
     let mut at = 2;
     for _ in 0..MOST_FIELDS + 1 {
         if at < text.len() && text[at] == b')' {
@@ -94,12 +84,12 @@ pub fn read_fields(text: &[u8]) -> Option<(Fields<'_>, usize)>
         if text.len() - at < 2 {
             return None;
         }
-        let name = &text[at..at + 2];
-        if fields.get(name)?.is_some() {
+        let place = Field::named(&text[at..at + 2])?.place();
+        if fields.values[place].is_some() {
             return None;
         }
         let end = values_end(text, at + 2)?;
-        fields.set(name, &text[at + 2..end]);
+        fields.values[place] = Some(&text[at + 2..end]);
         at = end;
     }
     None

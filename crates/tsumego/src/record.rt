@@ -1,6 +1,6 @@
 //! The records that are read so far: one node, with properties of a few kinds, spelled without white space.
 
-use crate::fields::{Fields, next_value, read_fields};
+use crate::fields::{Field, Fields, next_value, read_fields};
 use go_points::{Cell, Colour, Colouring, PointSet, Size, sgf_point};
 use std::alloc::Global;
 use target_game::Problem;
@@ -32,6 +32,7 @@ pub fn read_record(alloc: Global, text: &[u8]) -> Result<(Problem, usize), Recor
 }
 
 /// What the fields of a record say.
+#[derive(Drop)]
 struct Parts {
     colouring: Colouring,
     mover: Colour,
@@ -40,18 +41,18 @@ struct Parts {
 }
 
 fn read_parts(fields: &Fields) -> Option<Parts> {
-    if !is_go(fields.game) {
+    if !is_go(fields.get(Field::Game)) {
         return None;
     }
-    let size = read_size(fields.size)?;
+    let size = read_size(fields.get(Field::Size))?;
     let mut colouring = Colouring::empty(size);
-    place_stones(&mut colouring, fields.black, Colour::Black)?;
-    place_stones(&mut colouring, fields.white, Colour::White)?;
+    place_stones(&mut colouring, fields.get(Field::Black), Colour::Black)?;
+    place_stones(&mut colouring, fields.get(Field::White), Colour::White)?;
     Some(Parts {
         colouring,
-        mover: read_mover(fields.mover)?,
-        targets: read_points(size, fields.targets?)?,
-        region: match fields.region {
+        mover: read_mover(fields.get(Field::Mover))?,
+        targets: read_points(size, fields.get(Field::Targets)?)?,
+        region: match fields.get(Field::Region) {
             Some(values) => read_points(size, values)?,
             None => whole_board(size),
         },
@@ -61,7 +62,7 @@ fn read_parts(fields: &Fields) -> Option<Parts> {
 /// The game is Go where nothing else is said.
 fn is_go(values: Option<&[u8]>) -> bool {
     match values {
-        Some(values) => values == b"[1]",
+        Some(values) => values == b"[1]".as_slice(),
         None => true,
     }
 }
@@ -90,9 +91,9 @@ fn read_mover(values: Option<&[u8]>) -> Option<Colour> {
     let Some(values) = values else {
         return Some(Colour::Black);
     };
-    if values == b"[B]" {
+    if values == b"[B]".as_slice() {
         Some(Colour::Black)
-    } else if values == b"[W]" {
+    } else if values == b"[W]".as_slice() {
         Some(Colour::White)
     } else {
         None

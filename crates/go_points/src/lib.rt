@@ -64,7 +64,7 @@ mod text;
 
 pub use colouring::Colouring;
 pub use point::Point;
-pub use point_set::PointSet;
+pub use point_set::{Members, PointSet};
 pub use points::Points;
 pub use sgf::{sgf_point, to_sgf};
 pub use size::Size;

@@ -60,6 +60,8 @@ mod point_set;
 mod points;
 mod sgf;
 mod size;
+#[cfg(test)]
+mod tests;
 mod text;
 
 pub use colouring::Colouring;

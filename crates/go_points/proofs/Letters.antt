@@ -3,7 +3,7 @@ use Rattle.std.proofs.Common.{◌≡◌, ℕ, ◌+◌, ◌-◌, ◌<◌, ◌≤�
 use Rattle.std.proofs.lemmas.Bool.{lt-ltb, le-leb}
 use Rattle.go_points.specs.Place.{Place, IsOn}
 use Rattle.go_points.specs.Sgf.{is_letter, sgf_place, sgf_text}
-use Rattle.go_points.proofs.Lists.{and_left, and_right, and_both}
+use Rattle.go_points.proofs.Lists.{and_left, and_right, and_both, some_same, none_some}
 
 letter_of : (n k : ℕ) → k < n → is_letter n (97 + k) ≡ true
 letter_of n k low = and_both _ _ (le-leb 97 (97 + k) (omega arith)) (lt-ltb (97 + k - 97) n (omega arith))
@@ -24,12 +24,6 @@ letter_within n x h = ltb-true (x - 97) n (and_right (nat_le 97 x) (nat_lt (x - 
 
 there : (x : ℕ) → 97 ≤ x → 97 + (x - 97) ≡ x
 there x h = omega arith
-
-some_same : {A : Type 0} (a b : A) → Some a ≡ Some b → a ≡ b
-some_same a b e = cc
-
-none_some : {A : Type 0} (a : A) → None ≡ Some a → ⊥
-none_some a e = cc
 
 pub points_have_their_letters : (n : ℕ) (text : List ℕ) (p : Place) → sgf_place n text ≡ Some p → IsOn n p × (sgf_text p ≡ text)
 points_have_their_letters n [] p e = absurd (none_some p e)

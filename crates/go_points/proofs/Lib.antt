@@ -8,3 +8,6 @@ pub mod Adjacency
 pub mod Remaining
 pub mod Texts
 pub mod Letters
+pub mod Bits
+pub mod PlaceSets
+pub mod Counting

@@ -5,6 +5,7 @@ use Rattle.go_points.specs.declared.Colour.TheVariants.{Black, White}
 use Rattle.go_points.specs.declared.Cell.{Cell}
 use Rattle.go_points.specs.declared.Cell.TheVariants.{Empty, Stone}
 use Rattle.go_points.specs.Grid.{side_of}
+use Rattle.go_points.proofs.Lists.{some_same, none_some}
 use Rattle.go_points.specs.Text.{cell_code, cell_of, text_of, cons_cell, cells_of, colouring_from_text}
 
 code_back : (a : Cell) → cell_of (cell_code a) ≡ Some a
@@ -18,12 +19,6 @@ cells_back (a ∷ c) = ap₂ cons_cell (code_back a) (cells_back c)
 
 pub texts_read_back : (n : ℕ) (c : List Cell) → length c ≡ n * n → colouring_from_text n (text_of c) ≡ Some c
 texts_read_back n c e = ap (λ b. cond b (cells_of (text_of c)) None) (eq-eqb (length (text_of c)) (n * n) (length-map c cell_code ∙ e)) ∙ cells_back c
-
-some_same : {A : Type 0} (a b : A) → Some a ≡ Some b → a ≡ b
-some_same a b e = cc
-
-none_some : {A : Type 0} (a : A) → None ≡ Some a → ⊥
-none_some a e = cc
 
 -- what is read has the byte that was read
 code_of : (b : ℕ) (a : Cell) → cell_of b ≡ Some a → cell_code a ≡ b

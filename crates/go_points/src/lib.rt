@@ -60,11 +60,13 @@ mod point_set;
 mod points;
 mod sgf;
 mod size;
+#[cfg(test)]
+mod tests;
 mod text;
 
 pub use colouring::Colouring;
 pub use point::Point;
-pub use point_set::PointSet;
+pub use point_set::{Members, PointSet};
 pub use points::Points;
 pub use sgf::{sgf_point, to_sgf};
 pub use size::Size;

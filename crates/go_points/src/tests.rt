@@ -1,0 +1,185 @@
+//! Small boards by hand, from the rules.
+
+ghost use Rattle.go_points.specs.Place.{IsOn};
+
+use crate::{Cell, Colour, Colouring, MAX_SIZE, Point, PointSet, Size, Turn, sgf_point, to_sgf};
+use std::cmp::Ordering;
+use std::process::Abort;
+use std::test::Fail;
+
+fn board(rt: &impl Abort, rows: u8) -> Size {
+    Size::new(rows).expect(rt, "a size")
+}
+
+fn at(rt: &impl Abort, size: Size, column: u8, row: u8) -> Point
+    ensures { IsOn size result }
+{
+    size.point(column, row).expect(rt, "a point of the board")
+}
+
+// The neighbours have these columns and rows.
+fn expect_beside(rt: &impl Abort, size: Size, column: u8, row: u8, wanted: &[(u8, u8)]) {
+    let found = at(rt, size, column, row).neighbours(size);
+    let found = found.as_slice();
+    assert_eq!(rt; found.len(), wanted.len());
+    for (point, place) in found.iter().zip(wanted) {
+        assert_eq!(rt; (point.col(), point.row()), *place);
+    }
+}
+
+#[test]
+fn sizes(rt: HostRuntime) {
+    assert_eq!(rt; Size::new(0), None);
+    assert_eq!(rt; Size::new(MAX_SIZE + 1), None);
+    assert_eq!(rt; board(&rt, MAX_SIZE).rows(), MAX_SIZE);
+    let size = board(&rt, 3);
+    assert_eq!(rt; size.area(), 9);
+    assert_eq!(rt; size.point(3, 0), None);
+    assert_eq!(rt; size.point(0, 3), None);
+    assert!(rt; !board(&rt, 2).holds(at(&rt, size, 2, 1)));
+    assert!(rt; size.holds(at(&rt, size, 2, 1)));
+}
+
+#[test]
+fn points_by_row(rt: HostRuntime) {
+    let size = board(&rt, 3);
+    let point = at(&rt, size, 1, 2);
+    assert_eq!(rt; point.number(size), 7);
+    assert_eq!(rt; size.point_at(7), point);
+    let mut points = board(&rt, 2).points();
+    for (column, row) in [(0, 0), (1, 0), (0, 1), (1, 1)] {
+        assert_eq!(rt; points.next(), Some(at(&rt, size, column, row)));
+    }
+    assert_eq!(rt; points.next(), None);
+}
+
+#[test]
+fn neighbours_on_small_boards(rt: HostRuntime) {
+    expect_beside(&rt, board(&rt, 1), 0, 0, &[]);
+    expect_beside(&rt, board(&rt, 2), 0, 0, &[(1, 0), (0, 1)]);
+    expect_beside(&rt, board(&rt, 2), 1, 1, &[(1, 0), (0, 1)]);
+    expect_beside(&rt, board(&rt, 3), 1, 1, &[(1, 0), (0, 1), (2, 1), (1, 2)]);
+    expect_beside(&rt, board(&rt, 3), 2, 1, &[(2, 0), (1, 1), (2, 2)]);
+}
+
+#[test]
+fn neighbours_on_the_widest_board(rt: HostRuntime) {
+    let size = board(&rt, MAX_SIZE);
+    let last = MAX_SIZE - 1;
+    expect_beside(&rt, size, last, 0, &[(last - 1, 0), (last, 1)]);
+    expect_beside(&rt, size, last, last, &[(last, last - 1), (last - 1, last)]);
+    expect_beside(&rt, size, 0, 9, &[(0, 8), (1, 9), (0, 10)]);
+    expect_beside(&rt, size, 9, 9, &[(9, 8), (8, 9), (10, 9), (9, 10)]);
+}
+
+#[test]
+fn cells(rt: HostRuntime) {
+    assert_eq!(rt; Colour::Black.opponent(), Colour::White);
+    assert_eq!(rt; Colour::White.opponent(), Colour::Black);
+    assert!(rt; Cell::Empty.is_empty());
+    assert!(rt; !Cell::Stone(Colour::White).is_empty());
+    assert!(rt; Cell::Stone(Colour::White).is_stone_of(Colour::White));
+    assert!(rt; !Cell::Stone(Colour::White).is_stone_of(Colour::Black));
+    assert_eq!(rt; Turn::default(), Turn::Pass);
+}
+
+#[test]
+fn texts(rt: HostRuntime) -> Result<(), Fail> {
+    let size = board(&rt, 3);
+    let mut colouring = Colouring::empty(size);
+    colouring.set(at(&rt, size, 2, 0), Cell::Stone(Colour::White));
+    colouring.set(at(&rt, size, 0, 1), Cell::Stone(Colour::Black));
+    let text = colouring.to_text(rt.alloc())?;
+    assert_eq!(rt; text.as_slice(), b"..OX.....".as_slice());
+    assert_eq!(rt;
+        Colouring::from_text(size, text.as_slice()),
+        Some(colouring)
+    );
+    assert_eq!(rt; colouring.size(), size);
+    assert_eq!(rt; colouring.cells().len(), 9);
+    Ok(())
+}
+
+#[test]
+fn texts_that_are_no_colourings(rt: HostRuntime) {
+    let size = board(&rt, 2);
+    assert_eq!(rt; Colouring::from_text(size, b"..."), None);
+    assert_eq!(rt; Colouring::from_text(size, b"....."), None);
+    assert_eq!(rt; Colouring::from_text(size, b"...x"), None);
+    assert_eq!(rt; Colouring::from_text(size, b"..0."), None);
+    assert_eq!(rt; Colouring::from_text(size, b""), None);
+}
+
+#[test]
+fn order_of_colourings(rt: HostRuntime) -> Result<(), Fail> {
+    let one = board(&rt, 1);
+    let two = board(&rt, 2);
+    let rising = [
+        Colouring::from_text(one, b".").ok_or("text")?,
+        Colouring::from_text(two, b"....").ok_or("text")?,
+        Colouring::from_text(two, b"...X").ok_or("text")?,
+        Colouring::from_text(two, b"..O.").ok_or("text")?,
+        Colouring::from_text(two, b"..X.").ok_or("text")?,
+        Colouring::from_text(one, b"O").ok_or("text")?,
+        Colouring::from_text(two, b"O...").ok_or("text")?,
+        Colouring::from_text(one, b"X").ok_or("text")?,
+    ];
+    for (i, low) in rising.iter().enumerate() {
+        for (j, high) in rising.iter().enumerate() {
+            assert_eq!(rt; low.cmp(high), i.cmp(&j));
+            assert_eq!(rt; low.partial_cmp(high), Some(i.cmp(&j)));
+            assert_eq!(rt; low == high, i == j);
+        }
+    }
+    Ok(())
+}
+
+#[test]
+fn letters(rt: HostRuntime) {
+    let size = board(&rt, 3);
+    assert_eq!(rt; sgf_point(size, b"aa"), size.point(0, 0));
+    assert_eq!(rt; sgf_point(size, b"bc"), size.point(1, 2));
+    assert_eq!(rt; to_sgf(at(&rt, size, 1, 2)), *b"bc");
+    for text in [b"ad", b"da", b"tt", b"Aa", b"aA", b"a`", b"a1", b"  "] {
+        assert_eq!(rt; sgf_point(size, text), None);
+    }
+    assert_eq!(rt; sgf_point(size, b""), None);
+    assert_eq!(rt; sgf_point(size, b"a"), None);
+    assert_eq!(rt; sgf_point(size, b"aaa"), None);
+}
+
+#[test]
+fn sets(rt: HostRuntime) {
+    let size = board(&rt, MAX_SIZE);
+    let last = MAX_SIZE - 1;
+    let mut set = PointSet::new();
+    assert!(rt; set.is_empty());
+    assert_eq!(rt; set.first(), None);
+    for (column, row) in [(last, last), (7, 3), (0, 0), (6, 3), (7, 3), (2, 0)] {
+        set.insert(at(&rt, size, column, row));
+    }
+    assert_eq!(rt; set.len(), 5);
+    let mut left = set.iter();
+    for (column, row) in [(0, 0), (2, 0), (6, 3), (7, 3), (last, last)] {
+        assert_eq!(rt; left.next(), Some(at(&rt, size, column, row)));
+    }
+    assert_eq!(rt; left.next(), None);
+    assert!(rt; set.has(at(&rt, size, 6, 3)));
+    assert!(rt; !set.has(at(&rt, size, 3, 6)));
+}
+
+#[test]
+fn sets_that_lose_points(rt: HostRuntime) {
+    let size = board(&rt, 3);
+    let mut set = PointSet::new();
+    set.insert(at(&rt, size, 1, 1));
+    let one = set;
+    set.insert(at(&rt, size, 2, 0));
+    assert_ne!(rt; set, one);
+    set.remove(at(&rt, size, 0, 0));
+    set.remove(at(&rt, size, 2, 0));
+    assert_eq!(rt; set, one);
+    assert_eq!(rt; set.first(), size.point(1, 1));
+    set.remove(at(&rt, size, 1, 1));
+    assert_eq!(rt; set, PointSet::new());
+}

@@ -1,9 +1,18 @@
 -- Tests of the elements of a list, one by one: what is still to be tested decides.
-use Rattle.std.proofs.Common.{◌≡◌, ℕ, suc, ◌+◌, ◌*◌, ◌<◌, ◌≤◌, Bool, true, false, not, ◌&&◌, ◌||◌, nat_eq, eq-eqb, eqb-true, List, [], ◌∷◌, drop, length, get_or, refl, sym, ◌∙◌, ap, arith}
-use Rattle.std.specs.List.{list_all, list_any}
+use Rattle.std.proofs.Common.{◌≡◌, ℕ, zero, suc, ◌+◌, ◌*◌, ◌<◌, ◌≤◌, Bool, true, false, not, ◌&&◌, ◌||◌, nat_eq, nat_lt, ltb-true, slice_get, Err, eq-eqb, eqb-true, List, [], ◌∷◌, drop, length, get_or, cond, map, Option, Some, None, refl, sym, ◌∙◌, ap, ap₂, subst, arith}
+use Rattle.std.specs.List.{All, list_all, list_any}
 use Rattle.std.proofs.Math.Seq.{drop-cons, drop-length}
 use Rattle.go_points.specs.declared.Cell.{Cell}
-use Rattle.go_points.specs.Grid.{side_of, IsColouring}
+use Rattle.go_points.specs.declared.Colour.{Colour}
+use Rattle.go_points.specs.declared.Colour.TheVariants.{Black, White}
+use Rattle.go_points.specs.declared.Cell.TheVariants.{Empty, Stone}
+use Rattle.go_points.specs.Grid.{same_cell, side_of, IsColouring}
+use Rattle.go_points.specs.Place.{Place, IsOn, on_board}
+use Rattle.go_points.specs.Points.{first_place}
+use Rattle.go_points.proofs.Cells.{same_cell_refl}
+use Rattle.go_points.proofs.Lists.{and_left, and_right}
+use Rattle.target_game.specs.declared.bad_problem.BadProblem.TheVariants.{BadPlace}
+use Rattle.target_game.specs.Problem.{one_colour, problem_on, problem_of}
 use Rattle.go_points.specs.Sides.{side_of-whole}
 use Rattle.go_turns.specs.History.{repeats, has_occurred}
 
@@ -80,3 +89,55 @@ differs_in_size n r c b value test passed = not_of_size n c (λ e. go (eq-eqb r 
   where
     go : nat_eq r n ≡ true → ⊥
     go same = absurd (cc (sym passed ∙ test ∙ ap not same))
+
+-- a list from which the first has been taken
+pub left_on : {A : Type 0} (P : A → Type 0) (xs ys : List A) (x : A) → xs ≡ x ∷ ys → All P xs → All P ys
+left_on P xs ys x e on k d low = let all : All P (x ∷ ys) = subst (λ zs. All P zs) e on in all (suc k) d (omega arith)
+
+pub left_all : {A : Type 0} (f : A → Bool) (xs ys : List A) (x : A) → xs ≡ x ∷ ys → f x ≡ true → list_all f ys ≡ list_all f xs
+left_all f xs ys x e h = sym (ap (list_all f) e ∙ ap (λ b. b && list_all f ys) h)
+
+same_cell_symm : (a b : Cell) → same_cell a b ≡ same_cell b a
+same_cell_symm Empty Empty = refl
+same_cell_symm Empty (Stone y) = refl
+same_cell_symm (Stone x) Empty = refl
+same_cell_symm (Stone Black) (Stone Black) = refl
+same_cell_symm (Stone Black) (Stone White) = refl
+same_cell_symm (Stone White) (Stone Black) = refl
+same_cell_symm (Stone White) (Stone White) = refl
+
+-- the colour of the stones at some points, by the first of them
+pub colour_is : (f : Place → Cell) (ps : List Place) (p : Place) (x : Colour) (b : Bool) → first_place ps ≡ Some p → f p ≡ Stone x → b ≡ list_all (λ q. same_cell (f q) (Stone x)) ps → one_colour (map f ps) ≡ cond b (Some x) None
+colour_is f [] p x b first at all = absurd (cc)
+colour_is f (q ∷ qs) p x b first at all =
+    let same : q ≡ p = cc first in
+    let here : f q ≡ Stone x = ap f same ∙ at in
+    ap (λ a. one_colour (a ∷ map f qs)) here ∙ ap (λ t. cond t (Some x) None) (others qs ∙ sym (all ∙ ap (λ a. same_cell a (Stone x) && list_all (λ r. same_cell (f r) (Stone x)) qs) here ∙ ap (λ t. t && list_all (λ r. same_cell (f r) (Stone x)) qs) (same_cell_refl (Stone x))))
+  where
+    others : (rs : List Place) → list_all (same_cell (Stone x)) (map f rs) ≡ list_all (λ r. same_cell (f r) (Stone x)) rs
+    others [] = refl
+    others (r ∷ rs) = ap₂ (λ a t. a && t) (same_cell_symm (Stone x) (f r)) (others rs)
+
+-- what all elements pass, when their test says so
+pub all_sides : (n : ℕ) (h : List (List Cell)) → list_all (λ (c : List Cell). nat_eq (length c) (n * n)) h ≡ true → All (λ c. side_of c ≡ n) h
+all_sides n [] all k d low = absurd (omega arith)
+all_sides n (c ∷ cs) all zero d low = side_of-whole c n (eqb-true (length c) (n * n) (and_left (nat_eq (length c) (n * n)) (list_all (λ (e : List Cell). nat_eq (length e) (n * n)) cs) all))
+all_sides n (c ∷ cs) all (suc k) d low = all_sides n cs (and_right (nat_eq (length c) (n * n)) (list_all (λ (e : List Cell). nat_eq (length e) (n * n)) cs) all) k d (omega arith)
+
+pub all_on : (n : ℕ) (ps : List Place) → list_all (on_board n) ps ≡ true → All (IsOn n) ps
+all_on n [] all k d low = absurd (omega arith)
+all_on n (p ∷ ps) all zero d low =
+    let here : on_board n p ≡ true = and_left (on_board n p) (list_all (on_board n) ps) all in
+    record { row_within = ltb-true p.row n (and_left (nat_lt p.row n) (nat_lt p.column n) here); column_within = ltb-true p.column n (and_right (nat_lt p.row n) (nat_lt p.column n) here) }
+all_on n (p ∷ ps) all (suc k) d low = all_on n ps (and_right (on_board n p) (list_all (on_board n) ps) all) k d (omega arith)
+
+-- a problem by its first colouring
+pub on_first : (h : List (List Cell)) (c : List Cell) (place : ℕ) (mover : Colour) (passes : ℕ) (targets region : List Place) → slice_get h 0 ≡ Some c → problem_of h place mover passes targets region ≡ problem_on (side_of c) h place mover passes targets region
+unfolding problem_of
+on_first [] c place mover passes targets region e = absurd (cc)
+on_first (d ∷ ds) c place mover passes targets region e = let same : d ≡ c = cc e in ap (λ x. problem_on (side_of x) (d ∷ ds) place mover passes targets region) same
+
+pub no_first : (h : List (List Cell)) (place : ℕ) (mover : Colour) (passes : ℕ) (targets region : List Place) → slice_get h 0 ≡ None → problem_of h place mover passes targets region ≡ Err BadPlace
+unfolding problem_of
+no_first [] place mover passes targets region e = refl
+no_first (d ∷ ds) place mover passes targets region e = absurd (cc)

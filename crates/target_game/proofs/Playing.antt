@@ -1,18 +1,20 @@
 -- Playing a legal turn on a record, and the legal turns one by one.
-use Rattle.std.proofs.Common.{◌≡◌, ℕ, zero, suc, ◌+◌, ◌-◌, ◌*◌, ◌/◌, ◌%◌, ◌<◌, ◌≤◌, Bool, true, false, cond, not, ◌&&◌, ◌||◌, nat_eq, nat_lt, eqb-true, eq-eqb, ltb-true, ltb-false, List, [], ◌∷◌, ◌++◌, map, filter, length, get_or, Option, Some, None, Result, Ok, Err, position, is_some, is_none, refl, sym, ◌∙◌, ap, ap₂, subst, arith, if◌then◌else◌}
-use Rattle.std.specs.List.{All, list_any, range_with_len}
+use Rattle.std.proofs.Common.{◌≡◌, ℕ, zero, suc, ◌+◌, ◌-◌, ◌*◌, ◌/◌, ◌%◌, ◌<◌, ◌≤◌, Bool, true, false, cond, not, ◌&&◌, ◌||◌, nat_eq, nat_lt, eqb-true, eq-eqb, ltb-true, ltb-false, lt-ltb, find, List, [], ◌∷◌, ◌++◌, map, filter, length, get_or, Option, Some, None, Result, Ok, Err, position, is_some, is_none, refl, sym, ◌∙◌, ap, ap₂, subst, arith, if◌then◌else◌}
+use Rattle.std.specs.List.{All, list_any, list_all, range_with_len}
 use Rattle.std.proofs.lemmas.Nat.{div-mul-add, mod-mul-add}
 use Rattle.std.proofs.lemmas.List.{map-append, map-id, append-nil}
 use Rattle.std.proofs.lemmas.List.FromFn.{filter_of_map_range_with_len_more}
 use Rattle.std.proofs.Math.Seq.{get_or-append_seam}
 use Rattle.go_points.specs.declared.Colour.{Colour}
 use Rattle.go_points.specs.declared.Cell.{Cell}
-use Rattle.go_points.specs.declared.Cell.TheVariants.{Empty}
+use Rattle.go_points.specs.declared.Cell.TheVariants.{Empty, Stone}
 use Rattle.go_points.specs.Grid.{opponent_of, same_cell, same_cells, cell_at}
 use Rattle.go_points.specs.Move.{after_move}
-use Rattle.go_points.specs.Place.{Place, IsOn, number_of}
+use Rattle.go_points.specs.Place.{Place, IsOn, on_board, number_of}
 use Rattle.go_points.specs.Points.{same_place, holds_place}
-use Rattle.go_points.specs.Ply.{Ply, pass, move}
+use Rattle.go_points.specs.declared.Turn.{Turn}
+use Rattle.go_points.specs.declared.Turn.TheVariants.{Pass, At}
+use Rattle.go_points.specs.Ply.{Ply, pass, move, ply_of}
 use Rattle.go_points.proofs.Lists.{and_left, and_right, and_both, not_true}
 use Rattle.go_turns.specs.declared.fault.TurnFault.{TurnFault}
 use Rattle.go_turns.specs.History.{has_occurred, place_in}
@@ -21,7 +23,8 @@ use Rattle.go_turns.proofs.Repeats.{no_position, no_element}
 use Rattle.target_game.specs.State.{Game, GameState}
 use Rattle.target_game.specs.Legal.{holds_point, legal, legal_turns}
 use Rattle.target_game.specs.Next.{next}
-use Rattle.target_game.specs.Kept.{kept_state}
+use Rattle.target_game.proofs.Facts.{map_all}
+use Rattle.target_game.specs.Kept.{kept_state, turn_or_pass, turn_from}
 
 -- whether a colouring has occurred, by its place
 pub occurred_place : (h : List (List Cell)) (c : List Cell) → not (has_occurred h c) ≡ is_none (place_in h c)
@@ -83,3 +86,93 @@ pub passing_more : (f : ℕ → Bool) (i : ℕ) → filter f (range_with_len 0 (
 passing_more f i =
     let whole : filter f (map (λ x. x) (range_with_len 0 (i + 1))) ≡ filter f (map (λ x. x) (range_with_len 0 i)) ++ cond (f i) (i ∷ []) [] = filter_of_map_range_with_len_more f (λ x. x) 0 i i (omega arith) in
     simp map-id at whole
+
+-- an open point, by the set that is the region
+pub open_is : (n : ℕ) (ps : List Place) (p : Place) (a : Cell) (held empty : Bool) → All (IsOn n) ps → IsOn n p → held ≡ holds_place ps p → held ≡ true → empty ≡ same_cell a Empty
+    → empty ≡ holds_point (map (number_of n) ps) (number_of n p) && same_cell a Empty
+open_is n ps p a held empty on_ps on_p has there test = test ∙ sym (ap (λ b. b && same_cell a Empty) (holds_numbered n ps p on_ps on_p ∙ sym has ∙ there))
+
+pub closed_is : (n : ℕ) (ps : List Place) (p : Place) (a : Cell) (held : Bool) → All (IsOn n) ps → IsOn n p → held ≡ holds_place ps p → held ≡ false
+    → held ≡ holds_point (map (number_of n) ps) (number_of n p) && same_cell a Empty
+closed_is n ps p a held on_ps on_p has gone = gone ∙ sym (ap (λ b. b && same_cell a Empty) (holds_numbered n ps p on_ps on_p ∙ sym has ∙ gone))
+
+-- a legal move at an open point
+pub legal_open : (s : GameState) (p : ℕ) → p < s.game.size * s.game.size → (holds_point s.game.region p && same_cell (cell_at s.colouring p) Empty) ≡ true
+    → legal s (move p) ≡ not (has_occurred s.history (after_move s.game.size s.colouring s.mover p))
+legal_open s p on free =
+    let held : holds_point s.game.region p ≡ true = and_left (holds_point s.game.region p) (same_cell (cell_at s.colouring p) Empty) free in
+    let empty : same_cell (cell_at s.colouring p) Empty ≡ true = and_right (holds_point s.game.region p) (same_cell (cell_at s.colouring p) Empty) free in
+    ap (λ b. b && holds_point s.game.region p && same_cell (cell_at s.colouring p) Empty && not (has_occurred s.history (after_move s.game.size s.colouring s.mover p))) (lt-ltb p (s.game.size * s.game.size) on)
+    ∙ ap (λ b. b && same_cell (cell_at s.colouring p) Empty && not (has_occurred s.history (after_move s.game.size s.colouring s.mover p))) held
+    ∙ ap (λ b. b && not (has_occurred s.history (after_move s.game.size s.colouring s.mover p))) empty
+
+-- the legal moves, one point more
+pub moves_more : (s : GameState) (n : ℕ) (xs : List Turn) (i : ℕ) (p : Place) → map (ply_of n) xs ≡ map move (filter (λ q. legal s (move q)) (range_with_len 0 i)) → IsOn n p → number_of n p ≡ i → legal s (move (number_of n p)) ≡ true
+    → map (ply_of n) (xs ++ At p ∷ []) ≡ map move (filter (λ q. legal s (move q)) (range_with_len 0 (i + 1)))
+moves_more s n xs i p had on at fine =
+    let here : on_board n p ≡ true = and_both (nat_lt p.row n) (nat_lt p.column n) (lt-ltb p.row n on.row_within) (lt-ltb p.column n on.column_within) in
+    let one : ply_of n (At p) ≡ move i = ap (λ b. move (if b then number_of n p else n * n)) here ∙ ap move at in
+    let passed : legal s (move i) ≡ true = subst (λ k. legal s (move k) ≡ true) at fine in
+    map-append (ply_of n) xs (At p ∷ []) ∙ ap₂ (λ a b. a ++ b ∷ []) had one
+    ∙ sym (ap (map move) (passing_more (λ q. legal s (move q)) i ∙ ap (λ b. filter (λ q. legal s (move q)) (range_with_len 0 i) ++ cond b (i ∷ []) []) passed) ∙ map-append move (filter (λ q. legal s (move q)) (range_with_len 0 i)) (i ∷ []))
+
+pub moves_same : (s : GameState) (n : ℕ) (xs : List Turn) (i k : ℕ) → map (ply_of n) xs ≡ map move (filter (λ q. legal s (move q)) (range_with_len 0 i)) → k ≡ i → legal s (move k) ≡ false
+    → map (ply_of n) xs ≡ map move (filter (λ q. legal s (move q)) (range_with_len 0 (i + 1)))
+moves_same s n xs i k had at barred =
+    let failed : legal s (move i) ≡ false = subst (λ j. legal s (move j) ≡ false) at barred in
+    had ∙ sym (ap (map move) (passing_more (λ q. legal s (move q)) i ∙ ap (λ b. filter (λ q. legal s (move q)) (range_with_len 0 i) ++ cond b (i ∷ []) []) failed ∙ append-nil (filter (λ q. legal s (move q)) (range_with_len 0 i))))
+
+pub moves_whole : (s : GameState) (xs : List Turn) → map (ply_of s.game.size) xs ≡ map move (filter (λ q. legal s (move q)) (range_with_len 0 (s.game.size * s.game.size)))
+    → map (ply_of s.game.size) (xs ++ Pass ∷ []) ≡ legal_turns s
+unfolding legal_turns
+moves_whole s xs had = map-append (ply_of s.game.size) xs (Pass ∷ []) ∙ ap (λ ys. ys ++ pass ∷ []) had
+
+-- the first legal turn from a point on
+pub turn_here : (s : GameState) (i k : ℕ) → i < s.game.size * s.game.size → k ≡ i → legal s (move k) ≡ true → turn_from s i ≡ move k
+unfolding turn_from
+turn_here s i k low at fine =
+    let passed : legal s (move i) ≡ true = subst (λ j. legal s (move j) ≡ true) at fine in
+    let left : s.game.size * s.game.size - i ≡ suc (s.game.size * s.game.size - suc i) = omega arith in
+    ap (λ m. turn_or_pass (find (λ p. legal s (move p)) (range_with_len i m))) left
+    ∙ ap (λ b. turn_or_pass (cond b (Some i) (find (λ p. legal s (move p)) (range_with_len (i + 1) (s.game.size * s.game.size - suc i))))) passed ∙ sym (ap move at)
+
+pub turn_later : (s : GameState) (i k : ℕ) → i < s.game.size * s.game.size → k ≡ i → legal s (move k) ≡ false → turn_from s i ≡ turn_from s (i + 1)
+unfolding turn_from
+turn_later s i k low at barred =
+    let failed : legal s (move i) ≡ false = subst (λ j. legal s (move j) ≡ false) at barred in
+    let left : s.game.size * s.game.size - i ≡ suc (s.game.size * s.game.size - (i + 1)) = omega arith in
+    ap (λ m. turn_or_pass (find (λ p. legal s (move p)) (range_with_len i m))) left
+    ∙ ap (λ b. turn_or_pass (cond b (Some i) (find (λ p. legal s (move p)) (range_with_len (i + 1) (s.game.size * s.game.size - (i + 1)))))) failed
+
+pub turn_none : (s : GameState) (i : ℕ) → s.game.size * s.game.size ≤ i → turn_from s i ≡ pass
+unfolding turn_from
+turn_none s i past =
+    let left : s.game.size * s.game.size - i ≡ 0 = omega arith in
+    ap (λ m. turn_or_pass (find (λ p. legal s (move p)) (range_with_len i m))) left
+
+-- a move at a point of the board
+pub ply_at : (n : ℕ) (p : Place) → IsOn n p → ply_of n (At p) ≡ move (number_of n p)
+ply_at n p on =
+    let here : on_board n p ≡ true = and_both (nat_lt p.row n) (nat_lt p.column n) (lt-ltb p.row n on.row_within) (lt-ltb p.column n on.column_within) in
+    ap (λ b. move (if b then number_of n p else n * n)) here
+
+-- a missing place, by the test that it is there
+pub none_from_some : (o : Option ℕ) (b : Bool) → is_some o ≡ not b → b ≡ is_none o
+none_from_some None true h = refl
+none_from_some None false h = absurd (cc)
+none_from_some (Some p) true h = absurd (cc)
+none_from_some (Some p) false h = refl
+
+-- whether the targets stand, by their places
+pub stand_is : (n : ℕ) (c : List Cell) (k : Colour) (ts : List Place) → list_all (λ p. same_cell (cell_at c p) (Stone k)) (map (number_of n) ts) ≡ list_all (λ t. same_cell (cell_at c (number_of n t)) (Stone k)) ts
+stand_is n c k ts = map_all (number_of n) (λ p. same_cell (cell_at c p) (Stone k)) ts
+
+pub stand_no : (f : Place → Bool) (ts left rest : List Place) (p : Place) (b : Bool) → left ≡ p ∷ rest → b ≡ f p → b ≡ false → list_all f left ≡ list_all f ts → list_all f ts ≡ false
+stand_no f ts left rest p b first test failed had = sym had ∙ ap (list_all f) first ∙ ap (λ a. a && list_all f rest) (sym test ∙ failed)
+
+pub stand_yes : (f : Place → Bool) (ts left : List Place) → left ≡ [] → list_all f left ≡ list_all f ts → list_all f ts ≡ true
+stand_yes f ts left end had = sym had ∙ ap (list_all f) end
+
+pub open_none : (o : Option Colour) (b : Bool) → b ≡ is_some o → b ≡ false → is_none o ≡ true
+open_none None b e f = refl
+open_none (Some x) b e f = absurd (cc)

@@ -46,20 +46,23 @@ abbrev pub unless_refused : Option BadProblem → GameProblem → Result GamePro
 unless_refused (Some fault) q = Err fault
 unless_refused None q = Ok q
 
--- The problem of a history, the place of the present colouring in it, the colour to move, the passes in a row, the targets and the region; or the first refusal. The defender is the targets' colour.
-unfoldable pub problem_of : List (List Cell) → ℕ → Colour → ℕ → List Place → List Place → Result GameProblem BadProblem
-problem_of [] place mover passes targets region = Err BadPlace
-problem_of (c ∷ cs) place mover passes targets region =
-    let n = side_of c in
-    unless_refused (first_refusal (refusals n (c ∷ cs) place passes targets region)) (record {
+-- The problem on a board of n rows, or the first refusal. The defender is the targets' colour.
+abbrev pub problem_on : ℕ → List (List Cell) → ℕ → Colour → ℕ → List Place → List Place → Result GameProblem BadProblem
+problem_on n history place mover passes targets region =
+    unless_refused (first_refusal (refusals n history place passes targets region)) (record {
       game = record {
         size = n;
         targets = map (number_of n) targets;
-        defender = the_colour (one_colour (map (λ p. cell_at (slice_index_or (c ∷ cs) place []) (number_of n p)) targets));
+        defender = the_colour (one_colour (map (λ p. cell_at (slice_index_or history place []) (number_of n p)) targets));
         region = map (number_of n) region;
       };
-      history = c ∷ cs;
+      history = history;
       place = place;
       mover = mover;
       passes = passes;
     })
+
+-- The problem of a history, the place of the present colouring in it, the colour to move, the passes in a row, the targets and the region; or the first refusal. The board is that of the first colouring.
+unfoldable pub problem_of : List (List Cell) → ℕ → Colour → ℕ → List Place → List Place → Result GameProblem BadProblem
+problem_of [] place mover passes targets region = Err BadPlace
+problem_of (c ∷ cs) place mover passes targets region = problem_on (side_of c) (c ∷ cs) place mover passes targets region

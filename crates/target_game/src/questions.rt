@@ -1,19 +1,22 @@
 //! The questions that a problem is asked before it is one.
 
-ghost use Rattle.std.specs.Prelude.{◌≡◌, ◌*◌, ◌<◌, ℕ, map, length, nat_eq, IsTrue};
+ghost use Rattle.std.specs.Prelude.{◌≡◌, ◌*◌, ◌<◌, ℕ, [], map, length, nat_eq, slice_index_or, IsTrue, MatchResult, Some, None};
 ghost use Rattle.std.specs.List.{All, list_all};
-ghost use Rattle.go_points.specs.Grid.{cell_at, side_of};
+ghost use Rattle.go_points.specs.Grid.{cell_at, same_cell, side_of};
 ghost use Rattle.go_points.specs.Liberty.{all_reach_empty};
 ghost use Rattle.go_points.specs.Place.{IsOn, on_board, number_of};
 ghost use Rattle.go_turns.specs.History.{repeats, has_occurred};
-ghost use Rattle.target_game.specs.Problem.{one_colour};
+ghost use Rattle.target_game.specs.Problem.{one_colour, first_refusal, refusals};
 
+use crate::MAX_HISTORY;
+use crate::bad_problem::BadProblem;
 use go_points::{Cell, Colour, Colouring, PointSet, Size};
 use go_turns::{Board, PlayBoard};
 
 /// Whether each colouring is of this size.
-pub(crate) fn are_of_size(history: &[Colouring], size: Size) -> bool
-    ensures { result ≡ list_all (λ c. nat_eq (length c) (size * size)) history.now }
+fn are_of_size(history: &[Colouring], size: Size) -> bool
+    ensures sides { IsTrue result → All (λ c. side_of c ≡ size) history.now }
+    ensures value { result ≡ list_all (λ c. nat_eq (length c) (size * size)) history.now }
 {
     for colouring in history {
         if colouring.size() != size {
@@ -24,8 +27,9 @@ pub(crate) fn are_of_size(history: &[Colouring], size: Size) -> bool
 }
 
 /// Whether the board has each point of the set.
-pub(crate) fn are_on_board(points: &PointSet, size: Size) -> bool
-    ensures { result ≡ list_all (on_board size) points.now }
+fn are_on_board(points: &PointSet, size: Size) -> bool
+    ensures members { IsTrue result → All (IsOn size) points.now }
+    ensures value { result ≡ list_all (on_board size) points.now }
 {
     for point in points.iter() {
         if !size.holds(point) {
@@ -35,28 +39,37 @@ pub(crate) fn are_on_board(points: &PointSet, size: Size) -> bool
     true
 }
 
+/// Whether each of these points holds this.
+fn all_hold(colouring: &Colouring, points: &PointSet, cell: Cell) -> bool
+    requires { All (IsOn (side_of colouring.now)) points.now }
+    ensures { result ≡ list_all (λ p. same_cell (cell_at colouring.now (number_of (side_of colouring.now) p)) cell) points.now }
+{
+    for point in points.iter() {
+        if colouring.get(point) != cell {
+            return false;
+        }
+    }
+    true
+}
+
 /// The colour of the stones at these points, where they are stones of one colour, and at least one.
-pub(crate) fn colour_at(colouring: &Colouring, points: &PointSet) -> Option<Colour>
+fn colour_at(colouring: &Colouring, points: &PointSet) -> Option<Colour>
     requires { All (IsOn (side_of colouring.now)) points.now }
     ensures { result ≡ one_colour (map (λ p. cell_at colouring.now (number_of (side_of colouring.now) p)) points.now) }
 {
-    let mut found = None;
-    for point in points.iter() {
-        match (colouring.get(point), found) {
-            (Cell::Empty, _) => return None,
-            (Cell::Stone(colour), None) => found = Some(colour),
-            (Cell::Stone(colour), Some(before)) => {
-                if colour != before {
-                    return None;
-                }
-            }
-        }
+    let first = points.first()?;
+    let Cell::Stone(colour) = colouring.get(first) else {
+        return None;
+    };
+    if all_hold(colouring, points, Cell::Stone(colour)) {
+        Some(colour)
+    } else {
+        None
     }
-    found
 }
 
 /// Whether every stone of each colouring reaches empty.
-pub(crate) fn have_liberties(history: &[Colouring], size: Size) -> bool
+fn have_liberties(history: &[Colouring], size: Size) -> bool
     requires { All (λ c. side_of c ≡ size) history.now }
     ensures { result ≡ list_all (all_reach_empty size) history.now }
 {
@@ -82,7 +95,7 @@ fn stands_in(history: &[Colouring], colouring: &Colouring) -> bool
 }
 
 /// Whether a colouring stands twice in the list. It has at most as many colourings as a problem may have.
-pub(crate) fn stand_twice(history: &[Colouring]) -> bool
+fn stand_twice(history: &[Colouring]) -> bool
     ensures { result ≡ repeats history.now }
 {
     for (place, colouring) in history.iter().enumerate() {
@@ -91,4 +104,42 @@ pub(crate) fn stand_twice(history: &[Colouring]) -> bool
         }
     }
     false
+}
+
+/// The defender's colour, or the first refusal.
+pub(crate) fn defender_of(
+    history: &[Colouring],
+    size: Size,
+    place: usize,
+    passes: u64,
+    targets: &PointSet,
+    region: &PointSet,
+) -> Result<Colour, BadProblem>
+    ensures { MatchResult result (λ x. (first_refusal (refusals size history.now place passes targets.now region.now) ≡ None) × (one_colour (map (λ p. cell_at (slice_index_or history.now place []) (number_of size p)) targets.now) ≡ Some x)) (λ e. first_refusal (refusals size history.now place passes targets.now region.now) ≡ Some e) }
+{
+    if !are_of_size(history, size) || !are_on_board(targets, size) || !are_on_board(region, size) {
+        return Err(BadProblem::OtherSize);
+    }
+    if place >= history.len() {
+        return Err(BadProblem::BadPlace);
+    }
+    let Some(defender) = colour_at(&history[place], targets) else {
+        return Err(BadProblem::BadTargets);
+    };
+    if passes >= 2 {
+        return Err(BadProblem::Ended);
+    }
+    if region.is_empty() {
+        return Err(BadProblem::EmptyRegion);
+    }
+    if history.len() > MAX_HISTORY {
+        return Err(BadProblem::LongHistory);
+    }
+    if !have_liberties(history, size) {
+        return Err(BadProblem::NoLiberty);
+    }
+    if stand_twice(history) {
+        return Err(BadProblem::Repeated);
+    }
+    Ok(defender)
 }

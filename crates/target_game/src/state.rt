@@ -16,7 +16,7 @@ ghost use Rattle.target_game.specs.Kept.{turn_from};
 use crate::MAX_TURNS;
 use crate::problem::Problem;
 use arrayvec::ArrayVec;
-use go_points::{Cell, Colour, Colouring, Point, PointSet, Size, Turn};
+use go_points::{Colour, Colouring, Point, PointSet, Size, Turn};
 use go_turns::{Board, Record, Seen};
 use std::alloc::{AllocError, Global};
 use std::marker::Model;
@@ -24,7 +24,7 @@ use std::marker::Model;
 /// A state of the game, with the turns that led to it from where it was made.
 #[derive(Drop)]
 pub struct State<B: Board + Copy, S: Seen> {
-    record: Record<B, S>,
+    played: Record<B, S>,
     mover: Colour,
     targets: PointSet,
     defender: Colour,
@@ -39,9 +39,9 @@ impl<B: Board + Copy, S: Seen> Model for State<B, S> {
 
     ghost Value = { Line };
 
-    ghost view = { λ a. kept_line (kept_game a.record.size a.targets a.defender a.region) a.mover a.record };
+    ghost view = { λ a. kept_line (kept_game a.played.size a.targets a.defender a.region) a.mover a.played };
 
-    ghost invariant = { λ a. All (IsOn a.record.size) a.targets × All (IsOn a.record.size) a.region };
+    ghost invariant = { λ a. All (IsOn a.played.size) a.targets × All (IsOn a.played.size) a.region };
 }
 
 impl<B: Board + Copy, S: Seen> State<B, S> {
@@ -50,8 +50,8 @@ impl<B: Board + Copy, S: Seen> State<B, S> {
         ensures { IfOk result (λ s. s ≡ record { state = start problem.now; before = [] }) }
     {
         match Record::with_history(alloc, problem.history(), problem.place(), problem.passes()) {
-            Ok(record) => Ok(State {
-                record,
+            Ok(played) => Ok(State {
+                played,
                 mover: problem.mover(),
                 targets: *problem.targets(),
                 defender: problem.defender(),
@@ -67,7 +67,7 @@ impl<B: Board + Copy, S: Seen> State<B, S> {
     {
         if !self.targets_stand() {
             Some(self.defender.opponent())
-        } else if self.record.passes() == 2 {
+        } else if self.played.passes() == 2 {
             Some(self.defender)
         } else {
             None
@@ -79,7 +79,7 @@ impl<B: Board + Copy, S: Seen> State<B, S> {
         ensures { result ≡ targets_stand self.now.state }
     {
         for point in self.targets.iter() {
-            if self.record.cell(point) != Cell::Stone(self.defender) {
+            if !self.played.cell(point).is_stone_of(self.defender) {
                 return false;
             }
         }
@@ -89,7 +89,7 @@ impl<B: Board + Copy, S: Seen> State<B, S> {
     pub fn size(&self) -> Size
         ensures { result ≡ self.now.state.game.size }
     {
-        self.record.size()
+        self.played.size()
     }
 
     /// Whether the point is an empty point of the region.
@@ -97,7 +97,7 @@ impl<B: Board + Copy, S: Seen> State<B, S> {
         requires { IsOn self.now.state.game.size point }
         ensures { result ≡ holds_point self.now.state.game.region (number_of self.now.state.game.size point) && same_cell (cell_at self.now.state.colouring (number_of self.now.state.game.size point)) Empty }
     {
-        self.region.has(point) && self.record.cell(point).is_empty()
+        self.region.has(point) && self.played.cell(point).is_empty()
     }
 
     /// The colouring after the mover's move at an empty point.
@@ -106,7 +106,7 @@ impl<B: Board + Copy, S: Seen> State<B, S> {
         requires empty { same_cell (cell_at self.now.state.colouring (number_of self.now.state.game.size point)) Empty ≡ true }
         ensures { result ≡ after_move self.now.state.game.size self.now.state.colouring self.now.state.mover (number_of self.now.state.game.size point) }
     {
-        let mut board = *self.record.board();
+        let mut board = *self.played.board();
         let _removed = board.play(self.mover, point);
         board.colouring()
     }
@@ -159,7 +159,7 @@ impl<B: Board + Copy, S: Seen> State<B, S> {
         ensures ok { OnOk result (self.new ≡ record { state = next self.old.state (ply_of self.old.state.game.size turn); before = self.old.state ∷ self.old.before }) }
         ensures err { OnErr result (self.new ≡ self.old) }
     {
-        if self.record.play(self.mover, turn).is_err() {
+        if self.played.play(self.mover, turn).is_err() {
             return Err(AllocError);
         }
         self.mover = self.mover.opponent();
@@ -171,14 +171,14 @@ impl<B: Board + Copy, S: Seen> State<B, S> {
         requires { 0 < length self.old.before }
         ensures { self.old.before ≡ self.new.state ∷ self.new.before }
     {
-        let _done = self.record.undo();
+        let _done = self.played.undo();
         self.mover = self.mover.opponent();
     }
 
     pub fn colouring(&self) -> Colouring
         ensures { result ≡ self.now.state.colouring }
     {
-        self.record.colouring()
+        self.played.colouring()
     }
 
     pub fn mover(&self) -> Colour
@@ -191,13 +191,13 @@ impl<B: Board + Copy, S: Seen> State<B, S> {
     pub fn passes(&self) -> u64
         ensures { result ≡ self.now.state.passes }
     {
-        self.record.passes()
+        self.played.passes()
     }
 
     /// The place of the colouring among those that have occurred.
     pub fn holds(&self, colouring: &Colouring) -> Option<usize>
         ensures { result ≡ place_in self.now.state.history colouring.now }
     {
-        self.record.seen().holds(colouring)
+        self.played.seen().holds(colouring)
     }
 }

@@ -1,0 +1,10 @@
+use Rattle.std.proofs.Common.{◌≡◌}
+use Rattle.std.specs.List.{list_all}
+use Rattle.go_points.specs.Place.{on_board}
+use Rattle.target_game.proofs.questions.are_on_board.Given as goal
+
+abbrev pub invariant-loop-point : goal.invariant-loop-point
+invariant-loop-point l =
+    (goal.iterator-loop-point).can_next l.point-iterator
+    × (goal.iterator-loop-point).is_finite l.point-iterator
+    × (list_all (on_board l.size) l.point-iterator ≡ list_all (on_board l.size) l.points)

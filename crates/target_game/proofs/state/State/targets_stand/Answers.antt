@@ -1,0 +1,32 @@
+use Rattle.std.proofs.Common.{rules, ◌≡◌, ◌∙◌, sym, ap, subst, true, false}
+use Rattle.go_points.specs.declared.Cell.TheVariants.{Stone}
+use Rattle.go_points.specs.Grid.{cell_at, same_cell}
+use Rattle.go_points.specs.Place.{Place, IsOn, number_of}
+use Rattle.go_turns.specs.Record.{colouring_of}
+use Rattle.target_game.specs.State.{Line}
+use Rattle.target_game.specs.Over.{targets_stand}
+use Rattle.target_game.proofs.Loops.{left_on}
+use Rattle.target_game.proofs.Playing.{stand_is, stand_no, stand_yes}
+use Rattle.target_game.proofs.state.State.targets_stand.Goals as goal
+
+pub loop-point-preserved : goal.loop-point-preserved
+loop-point-preserved g c = (search rules, search rules, left_on (IsOn c.self.inside.played.size) c.loop-point.point-iterator c.next.new.self c.in-Some.point c.in-Some.ensures.steps c.loop-point.invariant.2, search rules)
+
+pub returns-then-not-is_stone_of : goal.returns-then-not-is_stone_of
+returns-then-not-is_stone_of g c =
+    let n = c.self.inside.played.size in
+    let cells = colouring_of c.self.inside.played.present in
+    let k = c.self.inside.defender in
+    let f = λ (t : Place). same_cell (cell_at cells (number_of n t)) (Stone k) in
+    subst (λ (v : Line). false ≡ targets_stand v.state) c.self.view_is
+        (sym (stand_is n cells k c.self.inside.targets
+        ∙ stand_no f c.self.inside.targets c.loop-point.point-iterator c.next.new.self c.in-Some.point c.is_stone_of.result c.in-Some.ensures.steps (c.is_stone_of.ensures ∙ ap (λ a. same_cell a (Stone k)) c.cell.ensures) c.if-not-is_stone_of.true c.loop-point.invariant.3))
+
+pub returns : goal.returns
+returns g c =
+    let n = c.self.inside.played.size in
+    let cells = colouring_of c.self.inside.played.present in
+    let k = c.self.inside.defender in
+    let f = λ (t : Place). same_cell (cell_at cells (number_of n t)) (Stone k) in
+    subst (λ (v : Line). true ≡ targets_stand v.state) c.self.view_is
+        (sym (stand_is n cells k c.self.inside.targets ∙ stand_yes f c.self.inside.targets c.loop-point.point-iterator c.in-None.ensures.steps.0 c.loop-point.invariant.3))

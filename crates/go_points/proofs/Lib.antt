@@ -11,3 +11,4 @@ pub mod Letters
 pub mod Bits
 pub mod PlaceSets
 pub mod Counting
+pub mod Membership

@@ -1,6 +1,7 @@
 //! Colourings as texts: one byte for each point, in order.
 
-ghost use Rattle.std.specs.Prelude.{◌≡◌, IfOk};
+ghost use Rattle.std.specs.Prelude.{◌≡◌, IfOk, IfSome};
+ghost use Rattle.go_points.specs.Grid.{side_of};
 ghost use Rattle.go_points.specs.Text.{cell_code, cell_of, text_of, colouring_from_text};
 
 use crate::colouring::Colouring;
@@ -22,7 +23,8 @@ impl Colouring {
 
     /// The colouring of this size with this text; `None` where the text has another length than the board has points, or another byte.
     pub fn from_text(size: Size, text: &[u8]) -> Option<Colouring>
-        ensures { result ≡ colouring_from_text size text.now }
+        ensures value { result ≡ colouring_from_text size text.now }
+        ensures size { IfSome result (λ colouring. side_of colouring ≡ size) }
     {
         if text.len() != size.area() {
             return None;

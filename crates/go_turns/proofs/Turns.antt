@@ -18,7 +18,7 @@ use Rattle.go_turns.specs.Steps.{IsNotAdded}
 pub on_from : (n : ℕ) (p : Place) → IsOn n p → on_board n p ≡ true
 on_from n p on = and_from (nat_lt p.row n) (nat_lt p.column n) (lt-ltb p.row n on.row_within) (lt-ltb p.column n on.column_within)
 
-is_on_from : (n : ℕ) (p : Place) → on_board n p ≡ true → IsOn n p
+pub is_on_from : (n : ℕ) (p : Place) → on_board n p ≡ true → IsOn n p
 is_on_from n p e =
     let both = and_parts (nat_lt p.row n) (nat_lt p.column n) e in
     record { row_within = ltb-true p.row n both.0; column_within = ltb-true p.column n both.1 }

@@ -162,6 +162,51 @@ fn a_past_forbids_and_a_smothered_opening_is_refused(rt: HostRuntime) -> Result<
     Ok(())
 }
 
+#[test]
+fn a_setup_is_a_step(rt: HostRuntime) -> Result<(), Fail> {
+    let size = Size::new(2).ok_or("size")?;
+    let upper_left = size.point(0, 0).ok_or("point")?;
+    let upper_right = size.point(1, 0).ok_or("point")?;
+    let lower_left = size.point(0, 1).ok_or("point")?;
+    let beyond = Size::new(3).ok_or("size")?.point(2, 0).ok_or("point")?;
+    let black = Cell::Stone(Colour::Black);
+    let white = Cell::Stone(Colour::White);
+    let mut record = Record::<PlayBoard, PlaySeen>::new(rt.alloc(), &Colouring::empty(size)).expect(
+        &rt, "memory",
+    );
+    assert_eq!(rt; record.play(Colour::White, Turn::Pass), Ok(()));
+    assert_eq!(rt;
+        record.setup(&[
+            (upper_left, white),
+            (upper_left, black),
+            (upper_right, white)
+        ]),
+        Ok(())
+    );
+    assert_eq!(rt; record.colouring(), painted(size, "XO.."));
+    assert_eq!(rt; record.passes(), 0);
+    assert_eq!(rt; record.last_colour(), Some(Colour::White));
+    assert_eq!(rt;
+        record.setup(&[(lower_left, white)]),
+        Err(TurnFault::NoLiberty { point: upper_left })
+    );
+    assert_eq!(rt;
+        record.setup(&[(lower_left, white), (beyond, black)]),
+        Err(TurnFault::OffBoard)
+    );
+    assert_eq!(rt; record.colouring(), painted(size, "XO.."));
+    assert_eq!(rt;
+        record.setup(&[(upper_left, Cell::Empty), (upper_right, Cell::Empty)]),
+        Ok(())
+    );
+    assert_eq!(rt; record.seen().len(), 2);
+    assert_eq!(rt; record.undo(), Ok(()));
+    assert_eq!(rt; record.undo(), Ok(()));
+    assert_eq!(rt; record.seen().len(), 1);
+    assert_eq!(rt; record.passes(), 1);
+    Ok(())
+}
+
 // A move on the board, as the number of stones that it takes off, if it is one.
 fn taken<B: Board>(board: &mut B, colour: Colour, point: Point) -> Option<u16> {
     if board.size().holds(point) {

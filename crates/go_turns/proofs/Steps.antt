@@ -104,25 +104,3 @@ front_shorter whole before after some front taken =
     let m = length before - 1 in
     let long : length after ≡ m = ap length taken ∙ length-take-le m before (omega arith) in
     (omega arith, taken ∙ ap (take m) front ∙ take-take m (length before) whole (omega arith) ∙ ap (λ k. take k whole) (sym long))
-
--- a push that went well, and one that was taken back
-pub pushed : {X T E : Type 0} (r : Result T E) (xs ys zs : List X) → is_err r ≡ false → zs ≡ cond (is_ok r) xs ys → zs ≡ xs
-pushed (Ok t) xs ys zs e h = h
-pushed (Err t) xs ys zs e h = absurd (cc)
-
-pub unpushed : {X : Type 0} (steps more back : List X) (x : X) (m : ℕ) → more ≡ steps ++ x ∷ [] → m ≡ length more → back ≡ take (m - 1) more → back ≡ steps
-unpushed steps more back x m push whole pop =
-    let long : m - 1 ≡ length steps = omega (arith, whole, ap length push, length-append steps (x ∷ [])) in
-    pop ∙ ap (λ k. take k more) long ∙ ap (take (length steps)) push ∙ take_at steps (x ∷ []) (length steps) refl
-
-pub is_ok_from : {T E : Type 0} (r : Result T E) → is_err r ≡ false → is_ok r ≡ true
-is_ok_from (Ok x) e = refl
-is_ok_from (Err x) e = absurd (cc)
-
-pub on_ok_from : {T E P : Type 0} (r : Result T E) → is_err r ≡ false → OnOk r P → P
-on_ok_from (Ok x) e p = p
-on_ok_from (Err x) e p = absurd (cc)
-
-pub on_err_from : {T E P : Type 0} (r : Result T E) → is_err r ≡ true → OnErr r P → P
-on_err_from (Ok x) e p = absurd (cc)
-on_err_from (Err x) e p = p

@@ -1,5 +1,5 @@
 -- What the definitions of records give, by the tests that a play asks.
-use Rattle.std.proofs.Common.{◌≡◌, ℕ, ◌+◌, ◌*◌, ◌<◌, ◌≤◌, Bool, true, false, cond, nat_lt, ◌&&◌, List, [], ◌∷◌, ◌++◌, length, Option, Some, None, Result, Ok, Err, OnOk, IfErr, refl, sym, ◌∙◌, ap, subst, arith}
+use Rattle.std.proofs.Common.{◌≡◌, ℕ, ◌+◌, ◌*◌, ◌<◌, ◌≤◌, Bool, true, false, cond, nat_lt, ◌&&◌, List, [], ◌∷◌, ◌++◌, length, Option, Some, None, Result, Ok, Err, OnOk, IfErr, is_err, is_ok, refl, sym, ◌∙◌, ap, subst, arith}
 use Rattle.std.proofs.lemmas.Bool.{lt-ltb, le-ltb, ltb-true, and_from, and_parts, false_from_ne_true}
 use Rattle.go_points.specs.declared.Colour.{Colour}
 use Rattle.go_points.specs.declared.Turn.TheVariants.{At}
@@ -82,6 +82,15 @@ module _ (r : GameRecord) (k : Colour) where
 pub did_undo : (old new : GameRecord) → old.size ≡ new.size → old.earlier ≡ new.present ∷ new.earlier → (u : Unit {0}) → DidWithoutMemory (undo_of old) old (Ok u) new
 did_undo old new size split u =
     subst (λ ms. DidWithoutMemory (without_last old ms) old (Ok u) new) (sym split) (λ i. record { size = sym size i; present = new.present; earlier = new.earlier })
+
+-- a move that the board made: the point was empty, and the colouring is that of the move
+pub was_empty : {T E : Type 0} (before old : List Cell) (p : ℕ) (r : Result T E) → before ≡ old → is_err r ≡ false → is_ok r ≡ same_cell (cell_at old p) Empty → same_cell (cell_at before p) Empty ≡ true
+was_empty before old p (Ok x) same ok variant = ap (λ d. same_cell (cell_at d p) Empty) same ∙ sym variant
+was_empty before old p (Err x) same ok variant = absurd (cc)
+
+pub was_moved : {T E : Type 0} (n : ℕ) (before old new after : List Cell) (k : Colour) (p : ℕ) (r : Result T E) → before ≡ old → is_err r ≡ false → OnOk r (new ≡ after_move n old k p) → after ≡ new → after ≡ after_move n before k p
+was_moved n before old new after k p (Ok x) same ok made is = is ∙ made ∙ ap (λ d. after_move n d k p) (sym same)
+was_moved n before old new after k p (Err x) same ok made is = absurd (cc)
 
 -- an assignment that names no stone without liberty was made
 pub was_made : {T E : Type 0} {P : Type 0} (r : Result T E) (found : Option ℕ) (named : E → ℕ) → OnOk r P → IfErr r (λ e. found ≡ Some (named e)) → found ≡ None → P

@@ -1,4 +1,4 @@
--- What a record keeps of its steps, against its history.
+-- What a record keeps of its steps, against its history. Words of private fields and functions alone: no public clause rests on them.
 use Rattle.std.specs.Prelude.{◌≡◌, ℕ, ◌+◌, ◌≤◌, ◌<◌, List, [], ◌∷◌, ◌++◌, length, take, slice_index_or, Option, Some, None}
 use Rattle.std.specs.List.{All, AllPairs}
 use Rattle.go_points.specs.declared.Cell.{Cell}

@@ -1,5 +1,5 @@
 -- Points assigned in order, and what the definition of a setup gives.
-use Rattle.std.proofs.Common.{◌≡◌, ℕ, zero, suc, ◌+◌, ◌*◌, ◌<◌, ◌≤◌, Bool, true, false, cond, nat_lt, ◌&&◌, List, [], ◌∷◌, ◌++◌, map, take, length, get_or, set, Option, Some, None, Result, Ok, Err, refl, sym, ◌∙◌, ap, subst, arith}
+use Rattle.std.proofs.Common.{◌≡◌, ℕ, zero, suc, ◌+◌, ◌*◌, ◌<◌, Bool, true, false, cond, nat_lt, ◌&&◌, List, [], ◌∷◌, ◌++◌, map, take, length, get_or, set, Option, Some, None, Result, Ok, Err, refl, sym, ◌∙◌, ap, subst, arith}
 use Rattle.std.specs.List.{list_all}
 use Rattle.std.proofs.lemmas.Bool.{lt-ltb, le-ltb, false_from_ne_true}
 use Rattle.std.proofs.lemmas.List.{map-append, take_more, take_all, take_at}
@@ -7,14 +7,13 @@ use Rattle.std.proofs.lemmas.List.Quantifiers.{position-Some}
 use Rattle.go_points.specs.declared.Cell.{Cell}
 use Rattle.go_points.specs.Grid.{same_cells}
 use Rattle.go_points.specs.Equal.{same_cells_eq}
-use Rattle.go_points.specs.Place.{Place, IsOn, on_board, number_of, place_of}
+use Rattle.go_points.specs.Place.{Place, IsOn, on_board, number_of}
 use Rattle.go_points.specs.Liberty.{first_without_liberty}
-use Rattle.go_points.proofs.Lists.{and_left}
 use Rattle.go_points.proofs.Sides.{number_below}
 use Rattle.go_turns.specs.declared.fault.TurnFault.{TurnFault}
-use Rattle.go_turns.specs.declared.fault.TurnFault.TheVariants.{OffBoard, NoLiberty, Memory}
+use Rattle.go_turns.specs.declared.fault.TurnFault.TheVariants.{OffBoard, NoLiberty}
 use Rattle.go_turns.specs.History.{place_in}
-use Rattle.go_turns.specs.Record.{Moment, GameRecord, colouring_of, numbered, assigned, set_to, with_liberties, stepped, setup_of, Did}
+use Rattle.go_turns.specs.Record.{GameRecord, colouring_of, numbered, assigned, set_to, with_liberties, stepped, setup_of, Did}
 use Rattle.go_turns.specs.Steps.{IsAt, StepsFit, Joins}
 use Rattle.go_turns.proofs.Steps.{at_end, fit_longer}
 use Rattle.go_turns.proofs.Turns.{on_from, is_on_from}
@@ -122,17 +121,9 @@ module _ (r : GameRecord) (cells : List (ℕ × Cell)) (c : List Cell) (is : c �
   unfolding choice found at
   due on o tested first = ap (λ b. choice b found at) tested ∙ ap (λ f. choice on f at) (sym same_found ∙ first)
 
-  pub did_not_find : list_all (λ a. nat_lt a.0 (r.size * r.size)) cells ≡ false → Did (setup_of r cells) r (Err OffBoard) r
-  unfolding choice found at
-  did_not_find off = subst (λ d. Did d r (Err OffBoard) r) (sym (due false found off same_found)) (refl, refl)
-
   pub did_smother : (p : Place) (new : GameRecord) → list_all (λ a. nat_lt a.0 (r.size * r.size)) cells ≡ true → first_without_liberty r.size c ≡ Some (number_of r.size p) → IsOn r.size p → new ≡ r → Did (setup_of r cells) r (Err (NoLiberty p)) new
   unfolding choice found at
   did_smother p new all first on kept = subst (λ d. Did d r (Err (NoLiberty p)) new) (sym (due true (Some (number_of r.size p)) all first)) (ap NoLiberty (sym (place_back r.size p on)), kept)
-
-  pub did_not_remember : (new : GameRecord) → list_all (λ a. nat_lt a.0 (r.size * r.size)) cells ≡ true → first_without_liberty r.size c ≡ None → new ≡ r → Did (setup_of r cells) r (Err Memory) new
-  unfolding choice found at
-  did_not_remember new all first kept = subst (λ d. Did d r (Err Memory) new) (sym (due true None all first)) (refl, kept)
 
   pub did_set : (place : ℕ) (history : List (List Cell)) (new : GameRecord) → list_all (λ a. nat_lt a.0 (r.size * r.size)) cells ≡ true → first_without_liberty r.size c ≡ None
       → Joins (place_in r.present.history c) r.present.history c place history

@@ -1,7 +1,6 @@
 -- The steps that a record keeps, against its history.
-use Rattle.std.proofs.Common.{◌≡◌, ℕ, suc, ◌+◌, ◌-◌, ◌<◌, ◌≤◌, Bool, true, false, cond, List, [], ◌∷◌, ◌++◌, map, reverse, take, length, get_or, Result, Ok, Err, OnOk, OnErr, is_err, is_ok, Option, Some, None, inl, inr, refl, sym, ◌∙◌, ap, subst, arith}
-use Rattle.std.specs.List.{All, AllPairs}
-use Rattle.std.proofs.lemmas.List.{take-append-le, take-take, take_all, take_at, get_or_append_left, length-append, get_or-take, length-take-le, map-append, get_or_default, get_or_push, reverse-append}
+use Rattle.std.proofs.Common.{◌≡◌, ℕ, suc, ◌+◌, ◌<◌, ◌≤◌, List, [], ◌∷◌, ◌++◌, map, reverse, take, length, get_or, None, inl, inr, refl, sym, ◌∙◌, ap, arith}
+use Rattle.std.proofs.lemmas.List.{take-append-le, take-take, take_all, get_or_append_left, length-append, length-take-le, map-append, get_or_default, get_or_push, reverse-append}
 use Rattle.std.proofs.lemmas.Bool.{cases_lt}
 use Rattle.std.proofs.lemmas.List.Elements.{All-push}
 use Rattle.std.proofs.lemmas.List.Quantifiers.{all_pairs_push}
@@ -97,10 +96,3 @@ earlier_split {X} {Y} occurred moment whole left all steps x split front below =
     ∙ reverse-append (map (at whole) steps) (at whole x ∷ [])
     ∙ ap (λ zs. at whole x ∷ reverse zs) (moments_front occurred moment whole (occurred x) steps below)
     ∙ ap (λ h. moment h x ∷ reverse (map (at h) steps)) (sym front)
-
--- a front with its last element taken off
-pub front_shorter : (whole before after : List (List Cell)) → 0 < length before → before ≡ take (length before) whole → after ≡ take (length before - 1) before → (length after + 1 ≡ length before) × (after ≡ take (length after) whole)
-front_shorter whole before after some front taken =
-    let m = length before - 1 in
-    let long : length after ≡ m = ap length taken ∙ length-take-le m before (omega arith) in
-    (omega arith, taken ∙ ap (take m) front ∙ take-take m (length before) whole (omega arith) ∙ ap (λ k. take k whole) (sym long))

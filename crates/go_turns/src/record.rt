@@ -26,7 +26,7 @@ struct Step {
     last_colour: Option<Colour>,
 }
 
-/// A record of turns: the present colouring, those that have occurred, and the steps to be taken back.
+/// A record of turns: the present colouring, those that have occurred, and the steps to be taken back. Turns are those of the Tromp-Taylor rules, except that either colour may play at any time; setups, undo and the history before the opening are this project's own. A refused call leaves the record as it was.
 #[derive(Drop)]
 pub struct Record<B: Board, S: Seen> {
     board: B,
@@ -182,7 +182,7 @@ impl<B: Board, S: Seen> Record<B, S> {
         })
     }
 
-    /// Adds a turn of this colour, whoever played last. A pass always succeeds, memory aside. A move succeeds where the board holds the point, it is empty and the colouring that it makes has not occurred.
+    /// Adds a turn of this colour, whoever played last. A pass always succeeds, memory aside. A move succeeds where the board holds the point, it is empty and the colouring that it makes has not occurred, in whatever order of turns (positional superko).
     pub fn play(&mut self, colour: Colour, turn: Turn) -> Result<(), TurnFault>
         ensures { Did (play_of self.old colour (ply_of self.old.size turn)) self.old result self.new }
     {
@@ -267,7 +267,7 @@ impl<B: Board, S: Seen> Record<B, S> {
         Ok(())
     }
 
-    /// Takes the last step back, with all that it changed.
+    /// Takes the last step back, with all that it changed, and takes no memory. Refused where there is none.
     pub fn undo(&mut self) -> Result<(), TurnFault>
         ensures { DidWithoutMemory (undo_of self.old) self.old result self.new }
     {

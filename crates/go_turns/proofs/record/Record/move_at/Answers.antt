@@ -1,20 +1,19 @@
 -- The step that is kept, and the colouring that joins the history.
-use Rattle.std.proofs.Common.{◌≡◌, ℕ, ◌+◌, ◌*◌, ◌<◌, ◌++◌, [], ◌∷◌, List, map, reverse, take, length, true, Some, None, Option, Ok, Result, is_ok, refl, sym, ◌∙◌, ap, subst, arith}
+use Rattle.std.proofs.Common.{◌≡◌, ◌*◌, ◌<◌, ◌++◌, [], ◌∷◌, List, map, reverse, take, true, Some, None, Ok, sym, ◌∙◌, ap, subst, arith}
 use Rattle.std.proofs.lemmas.List.{take_at}
 use Rattle.go_points.specs.declared.Cell.{Cell}
 use Rattle.go_points.specs.declared.Cell.TheVariants.{Empty}
 use Rattle.go_points.specs.Grid.{side_of, same_cell, cell_at}
-use Rattle.go_points.specs.Place.{Place, IsOn, number_of}
+use Rattle.go_points.specs.Place.{IsOn, number_of}
 use Rattle.go_points.specs.Move.{after_move}
 use Rattle.go_points.specs.Ply.{move}
 use Rattle.go_points.proofs.Sides.{number_below}
 use Rattle.go_turns.specs.declared.record.Step.{Step}
 use Rattle.go_turns.specs.History.{place_in}
 use Rattle.go_turns.specs.Record.{Moment, GameRecord, colouring_of, play_of, Did}
-use Rattle.go_turns.specs.Steps.{IsAt, CanStand}
+use Rattle.go_turns.specs.Steps.{CanStand}
 use Rattle.go_turns.proofs.Steps.{can_stand, at_end, fit_longer, fit_push, earlier_split}
 use Rattle.go_turns.proofs.Turns.{did_move, was_empty, was_moved}
-use Rattle.go_turns.proofs.record.Record.move_at.Given.{Over}
 use Rattle.go_turns.proofs.record.Record.move_at.Goals as goal
 
 pub invariant_of-self-2 : goal.invariant_of-self-2

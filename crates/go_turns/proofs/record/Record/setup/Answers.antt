@@ -1,5 +1,5 @@
 -- The step that is kept, and the colouring that has its place in the history.
-use Rattle.std.proofs.Common.{◌≡◌, ℕ, ◌+◌, ◌*◌, ◌≤◌, ◌++◌, [], ◌∷◌, List, map, nat_lt, reverse, take, length, true, Some, None, Ok, Err, refl, sym, ◌∙◌, ap, subst, arith}
+use Rattle.std.proofs.Common.{◌≡◌, ℕ, ◌*◌, ◌++◌, [], ◌∷◌, List, map, nat_lt, reverse, take, true, Some, None, Ok, Err, sym, ◌∙◌, ap, subst, arith}
 use Rattle.std.specs.List.{list_all}
 use Rattle.go_points.specs.declared.Cell.{Cell}
 use Rattle.go_points.specs.Grid.{side_of}
@@ -12,7 +12,6 @@ use Rattle.go_turns.specs.Record.{Moment, GameRecord, colouring_of, numbered, as
 use Rattle.go_turns.specs.Steps.{CanStand}
 use Rattle.go_turns.proofs.Steps.{can_stand, fit_push, earlier_split}
 use Rattle.go_turns.proofs.Setups.{joined_at, joined_front, joined_fit, did_smother, did_set}
-use Rattle.go_turns.proofs.record.Record.setup.Given.{Over}
 use Rattle.go_turns.proofs.record.Record.setup.Goals as goal
 
 pub invariant_of-self-2 : goal.invariant_of-self-2

@@ -1,5 +1,5 @@
 -- Marks that are sound and closed are on exactly the free points.
-use Rattle.std.proofs.Common.{◌≡◌, ◌≢◌, ℕ, ◌+◌, ◌*◌, ◌<◌, ◌≤◌, Bool, true, false, ◌⊎◌, inl, inr, cond, List, [], ◌∷◌, length, get_or, set, refl, sym, ◌∙◌, ap, subst, arith}
+use Rattle.std.proofs.Common.{◌≡◌, ℕ, ◌+◌, ◌*◌, ◌<◌, ◌≤◌, Bool, true, false, ◌⊎◌, inl, inr, cond, List, [], ◌∷◌, length, get_or, set, refl, sym, ◌∙◌, ap, subst, arith}
 use Rattle.std.specs.List.{list_any}
 use Rattle.std.proofs.lemmas.Bool.{cases_eq, cases_lt, both_ways, true≢false}
 use Rattle.std.proofs.lemmas.List.{get_or-set_same, get_or-set_other, get_or_past}
@@ -8,12 +8,12 @@ use Rattle.go_points.specs.declared.Colour.{Colour}
 use Rattle.go_points.specs.declared.Cell.{Cell}
 use Rattle.go_points.specs.declared.Cell.TheVariants.{Empty, Stone}
 use Rattle.go_points.specs.Grid.{same_cell, adjacent, neighbours, cell_at}
-use Rattle.go_points.specs.Reach.{reaches, IsPath, Reaches}
+use Rattle.go_points.specs.Reach.{reaches, IsPath}
 use Rattle.go_points.proofs.Lists.{any_from, any_to}
 use Rattle.go_points.proofs.Cells.{same_cell_eq, eq_same_cell, adjacent_on_board, member_neighbours, neighbours_member}
 use Rattle.go_points.proofs.Paths.{reaches_path}
 use Rattle.go_turns.specs.Marks.{is_marked, mark_count, IsFree, IsSound, HasSeeds, IsClosedBelow, AreFree}
-use Rattle.go_turns.proofs.Tests.{same_tests}
+use Rattle.go_turns.proofs.Anywhere.{same_tests}
 
 -- one more mark
 pub count_marked : (marks : List Bool) (i : ℕ) → i < length marks → is_marked marks i ≡ false → mark_count (set marks i true) ≡ mark_count marks + 1

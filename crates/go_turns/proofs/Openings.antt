@@ -1,22 +1,14 @@
 -- What the definition of an opening gives, by whether the present colouring has its liberties.
-use Rattle.std.proofs.Common.{◌≡◌, ℕ, ◌+◌, ◌*◌, ◌<◌, ◌/◌, ◌%◌, List, [], Option, Some, None, Result, Ok, Err, refl, sym, ◌∙◌, ap, subst, arith}
+use Rattle.std.proofs.Common.{◌≡◌, ℕ, Option, Some, Err, sym, ap, subst}
 use Rattle.std.proofs.lemmas.Nat.{div-mul-add, mod-mul-add}
-use Rattle.go_points.specs.declared.Cell.{Cell}
 use Rattle.go_points.specs.Place.{Place, IsOn, number_of, place_of}
-use Rattle.go_points.specs.Liberty.{first_without_liberty}
-use Rattle.go_turns.specs.declared.fault.TurnFault.TheVariants.{NoLiberty, Memory}
-use Rattle.go_turns.specs.Record.{Moment, GameRecord, with_liberties, Opens}
+use Rattle.go_turns.specs.declared.fault.TurnFault.TheVariants.{NoLiberty}
+use Rattle.go_turns.specs.Record.{Moment, with_liberties, Opens}
 
 -- a point of the board is the place of its number
 pub place_back : (n : ℕ) (p : Place) → IsOn n p → place_of n (number_of n p) ≡ p
 place_back n p on = λ i. record { row = div-mul-add p.row n p.column on.column_within i; column = mod-mul-add p.row n p.column on.column_within i }
 
 module _ (n : ℕ) (found : Option ℕ) (m : Moment) where
-  pub opens : (r : GameRecord) → found ≡ None → r ≡ record { size = n; present = m; earlier = [] } → Opens n (with_liberties n found m) (Ok r)
-  opens r free is = subst (λ o. Opens n (with_liberties n o m) (Ok r)) (sym free) is
-
-  pub opens_without_memory : found ≡ None → Opens n (with_liberties n found m) (Err Memory)
-  opens_without_memory free = subst (λ o. Opens n (with_liberties n o m) (Err Memory)) (sym free) refl
-
   pub opens_refused : (p : Place) → found ≡ Some (number_of n p) → IsOn n p → Opens n (with_liberties n found m) (Err (NoLiberty p))
   opens_refused p first on = subst (λ o. Opens n (with_liberties n o m) (Err (NoLiberty p))) (sym first) (ap NoLiberty (sym (place_back n p on)))

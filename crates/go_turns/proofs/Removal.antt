@@ -1,5 +1,5 @@
 -- Clearing, a point at a time.
-use Rattle.std.proofs.Common.{◌≡◌, ℕ, ◌+◌, ◌*◌, ◌<◌, ◌≤◌, Bool, true, false, ◌&&◌, not, cond, inl, inr, List, length, get_or, set, refl, sym, ◌∙◌, ap, arith}
+use Rattle.std.proofs.Common.{◌≡◌, ℕ, ◌+◌, ◌*◌, ◌<◌, ◌≤◌, Bool, true, false, ◌&&◌, not, cond, inl, inr, List, length, get_or, set, sym, ◌∙◌, ap, arith}
 use Rattle.std.proofs.lemmas.List.{get_or-set_same, get_or-set_other, length-set}
 use Rattle.std.proofs.lemmas.List.FromFn.{fill_by_all}
 use Rattle.std.proofs.lemmas.List.Sums.{sum_by-set}
@@ -27,15 +27,6 @@ pub record ClearedSoFar (n : ℕ) (old : List Cell) (k : Colour) (new : List Cel
   pub rest : (p : ℕ) → i ≤ p → cell_at new p ≡ cell_at old p
   pub count : removed + stone_count new ≡ stone_count old
   pub few : removed ≤ i
-
-pub cleared_none : (n : ℕ) (old : List Cell) (k : Colour) → length old ≡ n * n → ClearedSoFar n old k old 0 0
-cleared_none n old k full = record {
-  full = full;
-  done = λ p h. absurd (omega arith);
-  rest = λ p h. refl;
-  count = omega arith;
-  few = omega arith;
-}
 
 captured_cell : (n : ℕ) (old : List Cell) (k : Colour) (p : ℕ) → is_captured n old k p ≡ true → cleared_cell n old k p ≡ Empty
 captured_cell n old k p e = ap (λ b. cond b Empty (cell_at old p)) e

@@ -1,7 +1,6 @@
 -- The steps that a record keeps, against its history.
-use Rattle.std.proofs.Common.{◌≡◌, ℕ, suc, ◌+◌, ◌-◌, ◌<◌, ◌≤◌, Bool, true, false, cond, List, [], ◌∷◌, ◌++◌, map, reverse, take, length, get_or, Result, Ok, Err, OnOk, OnErr, is_err, is_ok, Option, Some, None, inl, inr, refl, sym, ◌∙◌, ap, subst, arith}
-use Rattle.std.specs.List.{All, AllPairs}
-use Rattle.std.proofs.lemmas.List.{take-append-le, take-take, take_all, take_at, get_or_append_left, length-append, get_or-take, length-take-le, map-append, get_or_default, get_or_push, reverse-append}
+use Rattle.std.proofs.Common.{◌≡◌, ℕ, suc, ◌+◌, ◌<◌, ◌≤◌, List, [], ◌∷◌, ◌++◌, map, reverse, take, length, get_or, None, inl, inr, refl, sym, ◌∙◌, ap, arith}
+use Rattle.std.proofs.lemmas.List.{take-append-le, take-take, take_all, get_or_append_left, length-append, length-take-le, map-append, get_or_default, get_or_push, reverse-append}
 use Rattle.std.proofs.lemmas.Bool.{cases_lt}
 use Rattle.std.proofs.lemmas.List.Elements.{All-push}
 use Rattle.std.proofs.lemmas.List.Quantifiers.{all_pairs_push}
@@ -97,32 +96,3 @@ earlier_split {X} {Y} occurred moment whole left all steps x split front below =
     ∙ reverse-append (map (at whole) steps) (at whole x ∷ [])
     ∙ ap (λ zs. at whole x ∷ reverse zs) (moments_front occurred moment whole (occurred x) steps below)
     ∙ ap (λ h. moment h x ∷ reverse (map (at h) steps)) (sym front)
-
--- a front with its last element taken off
-pub front_shorter : (whole before after : List (List Cell)) → 0 < length before → before ≡ take (length before) whole → after ≡ take (length before - 1) before → (length after + 1 ≡ length before) × (after ≡ take (length after) whole)
-front_shorter whole before after some front taken =
-    let m = length before - 1 in
-    let long : length after ≡ m = ap length taken ∙ length-take-le m before (omega arith) in
-    (omega arith, taken ∙ ap (take m) front ∙ take-take m (length before) whole (omega arith) ∙ ap (λ k. take k whole) (sym long))
-
--- a push that went well, and one that was taken back
-pub pushed : {X T E : Type 0} (r : Result T E) (xs ys zs : List X) → is_err r ≡ false → zs ≡ cond (is_ok r) xs ys → zs ≡ xs
-pushed (Ok t) xs ys zs e h = h
-pushed (Err t) xs ys zs e h = absurd (cc)
-
-pub unpushed : {X : Type 0} (steps more back : List X) (x : X) (m : ℕ) → more ≡ steps ++ x ∷ [] → m ≡ length more → back ≡ take (m - 1) more → back ≡ steps
-unpushed steps more back x m push whole pop =
-    let long : m - 1 ≡ length steps = omega (arith, whole, ap length push, length-append steps (x ∷ [])) in
-    pop ∙ ap (λ k. take k more) long ∙ ap (take (length steps)) push ∙ take_at steps (x ∷ []) (length steps) refl
-
-pub is_ok_from : {T E : Type 0} (r : Result T E) → is_err r ≡ false → is_ok r ≡ true
-is_ok_from (Ok x) e = refl
-is_ok_from (Err x) e = absurd (cc)
-
-pub on_ok_from : {T E P : Type 0} (r : Result T E) → is_err r ≡ false → OnOk r P → P
-on_ok_from (Ok x) e p = p
-on_ok_from (Err x) e p = absurd (cc)
-
-pub on_err_from : {T E P : Type 0} (r : Result T E) → is_err r ≡ true → OnErr r P → P
-on_err_from (Ok x) e p = absurd (cc)
-on_err_from (Err x) e p = p

@@ -1,5 +1,5 @@
 -- The stones that a move takes off, counted over the points.
-use Rattle.std.proofs.Common.{◌≡◌, ℕ, zero, suc, ◌+◌, ◌*◌, ◌≤◌, ◌⊎◌, inl, inr, Bool, true, false, ◌&&◌, not, cond, List, map, take, length, set, refl, sym, ◌∙◌, ap, subst, arith}
+use Rattle.std.proofs.Common.{◌≡◌, ℕ, zero, suc, ◌+◌, ◌*◌, ◌≤◌, ◌⊎◌, inl, inr, Bool, true, false, ◌&&◌, not, cond, List, map, take, length, set, refl, sym, ◌∙◌, subst, arith}
 use Rattle.std.specs.List.{range_with_len, count_by, sum_by}
 use Rattle.std.proofs.lemmas.List.{map-id, take_all, length-set}
 use Rattle.std.proofs.lemmas.List.Sums.{sum_by_more}

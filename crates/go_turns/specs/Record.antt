@@ -7,7 +7,7 @@ use Rattle.go_points.specs.declared.Cell.TheVariants.{Empty}
 use Rattle.go_points.specs.Grid.{same_cell, cell_at}
 use Rattle.go_points.specs.Liberty.{first_without_liberty}
 use Rattle.go_points.specs.Move.{after_move}
-use Rattle.go_points.specs.Place.{place_of}
+use Rattle.go_points.specs.Place.{Place, on_board, number_of, place_of}
 use Rattle.go_points.specs.Ply.{Ply, pass, move}
 use Rattle.go_turns.specs.declared.fault.TurnFault.{TurnFault}
 use Rattle.go_turns.specs.declared.fault.TurnFault.TheVariants.{OffBoard, Occupied, Repeats, NoLiberty, CannotUndo, Memory}
@@ -47,6 +47,10 @@ after_play n m k (move p) = (if nat_lt p (n * n)
     then (let c = after_move n (colouring_of m) k p in moved m k c (place_in m.history c))
     else Err Occupied)
     else Err OffBoard)
+
+-- A place with what it is to hold, by the number of the place. Off the board it gets a number that no point has, so no rule allows it.
+abbrev pub numbered : ℕ → Place × Cell → ℕ × Cell
+numbered n a = ((if on_board n a.0 then number_of n a.0 else n * n), a.1)
 
 -- The colouring after points are assigned in order.
 abbrev pub assigned : List Cell → List (ℕ × Cell) → List Cell

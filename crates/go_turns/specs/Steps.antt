@@ -1,5 +1,5 @@
--- What a record keeps of its steps, against its history.
-use Rattle.std.specs.Prelude.{◌≡◌, ℕ, ◌+◌, ◌≤◌, ◌<◌, List, [], length, take, slice_index_or, Option, Some, None}
+-- What a record keeps of its steps, against its history. Words of private fields and functions alone: no public clause rests on them.
+use Rattle.std.specs.Prelude.{◌≡◌, ℕ, ◌+◌, ◌≤◌, ◌<◌, List, [], ◌∷◌, ◌++◌, length, take, slice_index_or, Option, Some, None}
 use Rattle.std.specs.List.{All, AllPairs}
 use Rattle.go_points.specs.declared.Cell.{Cell}
 use Rattle.go_points.specs.Grid.{side_of}
@@ -29,3 +29,8 @@ pub record StepsFit {X : Type 0} (occurred place passes : X → ℕ) (n : ℕ) (
 abbrev pub IsNotAdded : Option ℕ → TurnFault → Type 0
 IsNotAdded (Some earlier) fault = fault ≡ Repeats earlier
 IsNotAdded None fault = fault ≡ Memory
+
+-- A colouring has its place in the history: that where it stood, or else the next.
+abbrev pub Joins : Option ℕ → List (List Cell) → List Cell → ℕ → List (List Cell) → Type 0
+Joins (Some earlier) old c place new = (place ≡ earlier) × (new ≡ old)
+Joins None old c place new = (place ≡ length old) × (new ≡ old ++ c ∷ [])

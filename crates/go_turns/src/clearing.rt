@@ -17,20 +17,7 @@ use go_points::{Cell, Colour, Colouring, MAX_POINTS, Point, Size};
 pub(crate) fn are_same(cell: Cell, other: Cell) -> bool
     ensures { result ≡ same_cell cell other }
 {
-    match cell {
-        Cell::Empty => match other {
-            Cell::Empty => true,
-            Cell::Stone(_) => false,
-        },
-        Cell::Stone(Colour::Black) => match other {
-            Cell::Stone(Colour::Black) => true,
-            _ => false,
-        },
-        Cell::Stone(Colour::White) => match other {
-            Cell::Stone(Colour::White) => true,
-            _ => false,
-        },
-    }
+    cell == other
 }
 
 // Whether a point adjacent to this one is marked.

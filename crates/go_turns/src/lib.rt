@@ -19,3 +19,6 @@ pub use seen::{ListSeen, Seen};
 pub type PlayBoard = PlainBoard;
 
 pub type PlaySeen = ListSeen;
+
+#[cfg(test)]
+mod tests;

@@ -2,7 +2,7 @@
 
 use crate::board::{Board, NoLiberty, Occupied};
 use crate::clearing::{are_same, clear_colour, find_without_liberty};
-use go_points::{Cell, Colour, Colouring, Point, Size};
+use go_points::{Cell, Colour, Colouring, MAX_SIZE, Point, Size};
 use std::marker::Model;
 
 /// A board that keeps its cells alone and looks for captures by sweeps over all of them.
@@ -44,7 +44,7 @@ impl Board for PlainBoard {
     }
 
     fn colouring(&self) -> Colouring {
-        let _size = self.colouring.size();
+        prove!(self.colouring.size().rows() <= MAX_SIZE);
         self.colouring
     }
 

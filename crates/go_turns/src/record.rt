@@ -1,14 +1,14 @@
 //! Records of turns. A record keeps one board and one history; a step keeps only what it changed, and `undo` looks its colouring up in the history.
 
-ghost use Rattle.std.specs.Prelude.{◌≡◌, ◌<◌, ◌≤◌, ◌+◌, ◌++◌, [], ◌∷◌, length, slice_index_or, IsFalse, IfErr, OnOk, OnErr, None};
-ghost use Rattle.std.specs.List.{All};
+ghost use Rattle.std.specs.Prelude.{◌≡◌, ◌<◌, ◌≤◌, ◌+◌, ◌*◌, ◌++◌, [], ◌∷◌, length, map, nat_lt, slice_index_or, IsFalse, IfErr, IfOk, IfSome, OnOk, OnErr, None, is_some};
+ghost use Rattle.std.specs.List.{All, list_all};
 ghost use Rattle.go_points.specs.Grid.{cell_at, side_of, IsColouring};
 ghost use Rattle.go_points.specs.Place.{IsOn, number_of};
 ghost use Rattle.go_points.specs.Liberty.{first_without_liberty};
 ghost use Rattle.go_points.specs.Ply.{ply_of, pass as a_pass, move as a_move};
 ghost use Rattle.go_turns.specs.History.{place_in, repeats};
-ghost use Rattle.go_turns.specs.Record.{colouring_of, play_of, undo_of, opened, Did, DidWithoutMemory, Opens};
-ghost use Rattle.go_turns.specs.Steps.{IsNotAdded};
+ghost use Rattle.go_turns.specs.Record.{colouring_of, numbered, assigned, play_of, setup_of, undo_of, opened, Did, DidWithoutMemory, Opens};
+ghost use Rattle.go_turns.specs.Steps.{IsNotAdded, Joins};
 
 use crate::board::Board;
 use crate::fault::TurnFault;
@@ -26,7 +26,7 @@ struct Step {
     last_colour: Option<Colour>,
 }
 
-/// A record of turns: the present colouring, those that have occurred, and the steps to be taken back.
+/// A record of turns: the present colouring, those that have occurred, and the steps to be taken back. Turns are those of the Tromp-Taylor rules, except that either colour may play at any time; setups, undo and the history before the opening are this project's own. A refused call leaves the record as it was.
 #[derive(Drop)]
 pub struct Record<B: Board, S: Seen> {
     board: B,
@@ -87,6 +87,47 @@ fn add_step<S: Seen>(
     Ok(())
 }
 
+// Adds the step to the steps, and the colouring to the history where it is new, or leaves both as they were. The place of the colouring.
+fn add_setup<S: Seen>(
+    seen: &mut S,
+    steps: &mut Vec<Step>,
+    step: Step,
+    colouring: Colouring,
+) -> Result<usize, AllocError>
+    ensures history { IfOk result (λ place. Joins (place_in (S.content seen.old) colouring) (S.content seen.old) colouring place (S.content seen.new)) }
+    ensures steps { OnOk result (steps.new.items ≡ steps.old.items ++ step ∷ []) }
+    ensures history_kept { OnErr result (S.content seen.new ≡ S.content seen.old) }
+    ensures steps_kept { OnErr result (steps.new.items ≡ steps.old.items) }
+{
+    steps.push(step)?;
+    if let Some(earlier) = seen.holds(&colouring) {
+        return Ok(earlier);
+    }
+    let place = seen.len();
+    if let Err(error) = seen.add(colouring) {
+        let _untaken = steps.pop();
+        return Err(error);
+    }
+    Ok(place)
+}
+
+// The colouring after the points are assigned in order, if the board holds them all.
+fn with_cells(colouring: &Colouring, cells: &[(Point, Cell)]) -> Option<Colouring>
+    ensures on_board { is_some result ≡ list_all (λ a. nat_lt a.0 (side_of colouring.now * side_of colouring.now)) (map (numbered (side_of colouring.now)) cells.now) }
+    ensures value { IfSome result (λ c. c ≡ assigned colouring.now (map (numbered (side_of colouring.now)) cells.now)) }
+    ensures size { IfSome result (λ c. side_of c ≡ side_of colouring.now) }
+{
+    let mut after = *colouring;
+    for assignment in cells {
+        let (point, cell) = *assignment;
+        if !after.size().holds(point) {
+            return None;
+        }
+        after.set(point, cell);
+    }
+    Some(after)
+}
+
 // Adds the colourings of a history to the empty list.
 fn add_all<S: Seen>(seen: &mut S, history: &[Colouring]) -> Result<(), AllocError>
     requires empty { S.content seen.old ≡ [] }
@@ -141,7 +182,7 @@ impl<B: Board, S: Seen> Record<B, S> {
         })
     }
 
-    /// Adds a turn of this colour, whoever played last. A pass always succeeds, memory aside. A move succeeds where the board holds the point, it is empty and the colouring that it makes has not occurred.
+    /// Adds a turn of this colour, whoever played last. A pass always succeeds, memory aside. A move succeeds where the board holds the point, it is empty and the colouring that it makes has not occurred, in whatever order of turns (positional superko).
     pub fn play(&mut self, colour: Colour, turn: Turn) -> Result<(), TurnFault>
         ensures { Did (play_of self.old colour (ply_of self.old.size turn)) self.old result self.new }
     {
@@ -198,7 +239,35 @@ impl<B: Board, S: Seen> Record<B, S> {
         Ok(())
     }
 
-    /// Takes the last step back, with all that it changed.
+    /// Lets points hold these cells, in order, and ends the passes. Refused where the board does not hold a point, or where a stone is left that does not reach empty, by the least such point. The colouring joins the history where it is new.
+    pub fn setup(&mut self, cells: &[(Point, Cell)]) -> Result<(), TurnFault>
+        ensures { Did (setup_of self.old (map (numbered self.old.size) cells.now)) self.old result self.new }
+    {
+        let before = self.board.colouring();
+        let Some(after) = with_cells(&before, cells) else {
+            return Err(TurnFault::OffBoard);
+        };
+        let step = Step {
+            place: self.place,
+            occurred: self.seen.len(),
+            passes: self.passes,
+            last_colour: self.last_colour,
+        };
+        if let Err(refused) = self.board.assign(&after) {
+            return Err(TurnFault::NoLiberty {
+                point: refused.point,
+            });
+        }
+        let Ok(place) = add_setup(&mut self.seen, &mut self.steps, step, after) else {
+            let _as_before = self.board.assign(&before);
+            return Err(TurnFault::Memory);
+        };
+        self.place = place;
+        self.passes = 0;
+        Ok(())
+    }
+
+    /// Takes the last step back, with all that it changed, and takes no memory. Refused where there is none.
     pub fn undo(&mut self) -> Result<(), TurnFault>
         ensures { DidWithoutMemory (undo_of self.old) self.old result self.new }
     {

@@ -1,5 +1,5 @@
 -- The stone at the point reaches empty exactly where it is marked.
-use Rattle.std.proofs.Common.{◌≡◌, ℕ, ◌*◌, ◌<◌, not, Some, sym, ◌∙◌, ap, inl, inr, arith, rules}
+use Rattle.std.proofs.Common.{◌≡◌, ◌*◌, ◌<◌, not, Some, sym, ◌∙◌, ap, inl, inr, arith, rules}
 use Rattle.std.proofs.lemmas.Bool.{cases_eq}
 use Rattle.go_points.specs.declared.Colour.TheVariants.{Black, White}
 use Rattle.go_points.specs.declared.Cell.TheVariants.{Stone}

@@ -1,5 +1,5 @@
-use Rattle.std.proofs.Common.{◌≡◌, ◌*◌, ◌<◌, true, false, ◌∙◌, sym, ap, arith, rules}
-use Rattle.go_points.specs.declared.Cell.TheVariants.{Empty, Stone}
+use Rattle.std.proofs.Common.{◌≡◌, ◌*◌, ◌<◌, true, false, ◌∙◌, arith, rules}
+use Rattle.go_points.specs.declared.Cell.TheVariants.{Stone}
 use Rattle.go_points.specs.Grid.{side_of, same_cell, cell_at}
 use Rattle.go_points.specs.Place.{number_of}
 use Rattle.go_points.proofs.Cells.{same_cell_eq}

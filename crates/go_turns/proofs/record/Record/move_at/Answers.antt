@@ -1,20 +1,19 @@
 -- The step that is kept, and the colouring that joins the history.
-use Rattle.std.proofs.Common.{◌≡◌, ℕ, ◌+◌, ◌*◌, ◌<◌, ◌++◌, [], ◌∷◌, List, map, reverse, take, length, true, Some, None, Option, Ok, Result, is_ok, refl, sym, ◌∙◌, ap, subst, arith}
+use Rattle.std.proofs.Common.{◌≡◌, ◌*◌, ◌<◌, ◌++◌, [], ◌∷◌, List, map, reverse, take, true, Some, None, Ok, sym, ◌∙◌, ap, subst, arith}
 use Rattle.std.proofs.lemmas.List.{take_at}
 use Rattle.go_points.specs.declared.Cell.{Cell}
 use Rattle.go_points.specs.declared.Cell.TheVariants.{Empty}
 use Rattle.go_points.specs.Grid.{side_of, same_cell, cell_at}
-use Rattle.go_points.specs.Place.{Place, IsOn, number_of}
+use Rattle.go_points.specs.Place.{IsOn, number_of}
 use Rattle.go_points.specs.Move.{after_move}
 use Rattle.go_points.specs.Ply.{move}
 use Rattle.go_points.proofs.Sides.{number_below}
 use Rattle.go_turns.specs.declared.record.Step.{Step}
 use Rattle.go_turns.specs.History.{place_in}
 use Rattle.go_turns.specs.Record.{Moment, GameRecord, colouring_of, play_of, Did}
-use Rattle.go_turns.specs.Steps.{IsAt, CanStand}
-use Rattle.go_turns.proofs.Steps.{can_stand, at_end, fit_longer, fit_push, earlier_split, is_ok_from, on_ok_from}
-use Rattle.go_turns.proofs.Turns.{did_move}
-use Rattle.go_turns.proofs.record.Record.move_at.Given.{Over}
+use Rattle.go_turns.specs.Steps.{CanStand}
+use Rattle.go_turns.proofs.Steps.{can_stand, at_end, fit_longer, fit_push, earlier_split}
+use Rattle.go_turns.proofs.Turns.{did_move, was_empty, was_moved}
 use Rattle.go_turns.proofs.record.Record.move_at.Goals as goal
 
 pub invariant_of-self-2 : goal.invariant_of-self-2
@@ -56,9 +55,9 @@ returns g c =
     let here : colouring_of was.present ≡ old = c.self.invariant.here.same in
     let on : p < n * n = number_below n c.args.point (subst (λ (r : GameRecord). IsOn r.size c.args.point) (sym c.self.view_is) c.requires) in
     let free : same_cell (cell_at (colouring_of was.present) p) Empty ≡ true =
-    ap (λ d. same_cell (cell_at d p) Empty) here ∙ sym c.play.ensures.variant ∙ is_ok_from c.play.result (sym c.is_err.ensures.value ∙ c.if-is_err.false) in
+    was_empty (colouring_of was.present) old p c.play.result here (sym c.is_err.ensures.value ∙ c.if-is_err.false) c.play.ensures.variant in
     let made : after ≡ after_move n (colouring_of was.present) k p =
-    c.colouring-after.ensures.value ∙ on_ok_from c.play.result (sym c.is_err.ensures.value ∙ c.if-is_err.false) c.play.ensures.ok ∙ ap (λ d. after_move n d k p) (sym here) in
+    was_moved n (colouring_of was.present) old (g.B.Board.content c.play.new.self) after k p c.play.result here (sym c.is_err.ensures.value ∙ c.if-is_err.false) c.play.ensures.ok c.colouring-after.ensures.value in
     let fresh : place_in whole (after_move n (colouring_of was.present) k p) ≡ None = ap (place_in whole) (sym made) ∙ c.in_default.ensures.new in
     let longer : g.S.Seen.content c.add_step.new.seen ≡ whole ++ after_move n (colouring_of was.present) k p ∷ [] = c.in_default.ensures.history ∙ ap (λ d. whole ++ d ∷ []) made in
     let earlier : reverse (map (λ s. moment (take s.occurred (g.S.Seen.content c.add_step.new.seen)) s) c.add_step.new.steps.items) ≡ was.present ∷ was.earlier =

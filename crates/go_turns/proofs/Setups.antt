@@ -1,0 +1,139 @@
+-- Points assigned in order, and what the definition of a setup gives.
+use Rattle.std.proofs.Common.{◌≡◌, ℕ, zero, suc, ◌+◌, ◌*◌, ◌<◌, Bool, true, false, cond, nat_lt, ◌&&◌, List, [], ◌∷◌, ◌++◌, map, take, length, get_or, set, Option, Some, None, Result, Ok, Err, refl, sym, ◌∙◌, ap, subst, arith}
+use Rattle.std.specs.List.{list_all}
+use Rattle.std.proofs.lemmas.Bool.{lt-ltb, le-ltb, false_from_ne_true}
+use Rattle.std.proofs.lemmas.List.{map-append, take_more, take_all, take_at}
+use Rattle.std.proofs.lemmas.List.Quantifiers.{position-Some}
+use Rattle.go_points.specs.declared.Cell.{Cell}
+use Rattle.go_points.specs.Grid.{same_cells}
+use Rattle.go_points.specs.Equal.{same_cells_eq}
+use Rattle.go_points.specs.Place.{Place, IsOn, on_board, number_of}
+use Rattle.go_points.specs.Liberty.{first_without_liberty}
+use Rattle.go_points.proofs.Sides.{number_below}
+use Rattle.go_turns.specs.declared.fault.TurnFault.{TurnFault}
+use Rattle.go_turns.specs.declared.fault.TurnFault.TheVariants.{OffBoard, NoLiberty}
+use Rattle.go_turns.specs.History.{place_in}
+use Rattle.go_turns.specs.Record.{GameRecord, colouring_of, numbered, assigned, set_to, with_liberties, stepped, setup_of, Did}
+use Rattle.go_turns.specs.Steps.{IsAt, StepsFit, Joins}
+use Rattle.go_turns.proofs.Steps.{at_end, fit_longer}
+use Rattle.go_turns.proofs.Turns.{on_from, is_on_from}
+use Rattle.go_turns.proofs.Openings.{place_back}
+
+-- the number of a place is one of the board's exactly where the place is
+pub number_on : (n : ℕ) (a : Place × Cell) → IsOn n a.0 → numbered n a ≡ (number_of n a.0, a.1)
+number_on n a on = ap (λ b. (cond b (number_of n a.0) (n * n), a.1)) (on_from n a.0 on)
+
+pub test_on : (n : ℕ) (a : Place × Cell) → IsOn n a.0 → nat_lt (numbered n a).0 (n * n) ≡ true
+test_on n a on = ap (λ b. nat_lt b.0 (n * n)) (number_on n a on) ∙ lt-ltb (number_of n a.0) (n * n) (number_below n a.0 on)
+
+pub test_off : (n : ℕ) (a : Place × Cell) → (IsOn n a.0 → ⊥) → nat_lt (numbered n a).0 (n * n) ≡ false
+test_off n a off =
+    ap (λ b. nat_lt (cond b (number_of n a.0) (n * n)) (n * n)) (false_from_ne_true (on_board n a.0) (λ e. off (is_on_from n a.0 e)))
+    ∙ le-ltb (n * n) (n * n) (omega arith)
+
+-- one assignment more
+all_push : {X : Type 0} (test : X → Bool) (xs : List X) (x : X) → list_all test (xs ++ x ∷ []) ≡ (list_all test xs && test x)
+all_push test [] x = last (test x)
+  where
+    last : (b : Bool) → (b && true) ≡ b
+    last true = refl
+    last false = refl
+all_push test (y ∷ ys) x = ap (λ b. test y && b) (all_push test ys x) ∙ grouped (test y) (list_all test ys) (test x)
+  where
+    grouped : (a b c : Bool) → (a && (b && c)) ≡ ((a && b) && c)
+    grouped true b c = refl
+    grouped false b c = refl
+
+assigned_push : (c : List Cell) (xs : List (ℕ × Cell)) (a : ℕ × Cell) → assigned c (xs ++ a ∷ []) ≡ set (assigned c xs) a.0 a.1
+assigned_push c [] a = refl
+assigned_push c (x ∷ xs) a = assigned_push (set c x.0 x.1) xs a
+
+module _ (n : ℕ) (cells : List (Place × Cell)) (i : ℕ) (a : Place × Cell) (within : i < length cells) (here : get_or cells i a ≡ a) (on : IsOn n a.0) where
+  front : map (numbered n) (take (i + 1) cells) ≡ map (numbered n) (take i cells) ++ numbered n a ∷ []
+  front =
+      ap (map (numbered n)) (take_more cells i a within)
+      ∙ map-append (numbered n) (take i cells) (get_or cells i a ∷ [])
+      ∙ ap (λ x. map (numbered n) (take i cells) ++ numbered n x ∷ []) here
+
+  pub more_on : list_all (λ x. nat_lt x.0 (n * n)) (map (numbered n) (take i cells)) ≡ true → list_all (λ x. nat_lt x.0 (n * n)) (map (numbered n) (take (i + 1) cells)) ≡ true
+  more_on had =
+      ap (list_all (λ x. nat_lt x.0 (n * n))) front
+      ∙ all_push (λ x. nat_lt x.0 (n * n)) (map (numbered n) (take i cells)) (numbered n a)
+      ∙ ap (λ b. b && nat_lt (numbered n a).0 (n * n)) had
+      ∙ test_on n a on
+
+  pub more_assigned : (c after : List Cell) → after ≡ assigned c (map (numbered n) (take i cells)) → set after (number_of n a.0) a.1 ≡ assigned c (map (numbered n) (take (i + 1) cells))
+  more_assigned c after had =
+      sym (ap (assigned c) front
+      ∙ assigned_push c (map (numbered n) (take i cells)) (numbered n a)
+      ∙ ap (λ x. set (assigned c (map (numbered n) (take i cells))) x.0 x.1) (number_on n a on)
+      ∙ ap (λ x. set x (number_of n a.0) a.1) (sym had))
+
+pub set_at : (c : List Cell) (m n : ℕ) (a : Place × Cell) → m ≡ n → set c (number_of m a.0) a.1 ≡ set c (number_of n a.0) a.1
+set_at c m n a e = ap (λ x. set c (number_of x a.0) a.1) e
+
+-- one that the board does not hold
+pub not_all : (n : ℕ) (cells : List (Place × Cell)) (i : ℕ) (d : Place × Cell) → i < length cells → (IsOn n (get_or cells i d).0 → ⊥) → list_all (λ a. nat_lt a.0 (n * n)) (map (numbered n) cells) ≡ false
+not_all n [] i d within off = absurd (omega arith)
+not_all n (a ∷ rest) zero d within off = ap (λ b. b && list_all (λ x. nat_lt x.0 (n * n)) (map (numbered n) rest)) (test_off n a off)
+not_all n (a ∷ rest) (suc i) d within off = ap (λ b. nat_lt (numbered n a).0 (n * n) && b) (not_all n rest i d (omega arith) off) ∙ no_both (nat_lt (numbered n a).0 (n * n))
+  where
+    no_both : (b : Bool) → (b && false) ≡ false
+    no_both true = refl
+    no_both false = refl
+
+-- the history after a colouring has its place
+module _ (old new : List (List Cell)) (c : List Cell) (place : ℕ) where
+  pub joined_at : Joins (place_in old c) old c place new → IsAt new place c
+  joined_at joins = go (place_in old c) refl joins
+    where
+      go : (o : Option ℕ) → place_in old c ≡ o → Joins o old c place new → IsAt new place c
+      go (Some earlier) e j =
+          let found = position-Some (same_cells c) old earlier [] e in
+          let here : IsAt old earlier c = record { within = found.0; same = sym (same_cells_eq c (get_or old earlier []) found.1) } in
+          rw (j.0, j.1) here
+      go None e j = rw (j.0, j.1) (at_end old c)
+
+  pub joined_front : (o : Option ℕ) → Joins o old c place new → take (length old) new ≡ old
+  joined_front (Some earlier) j = ap (take (length old)) j.1 ∙ take_all (length old) old (omega arith)
+  joined_front None j = ap (take (length old)) j.1 ∙ take_at old (c ∷ []) (length old) refl
+
+  pub joined_fit : {X : Type 0} (occurred place_of_step passes : X → ℕ) (n : ℕ) (steps : List X) (o : Option ℕ) → Joins o old c place new → StepsFit occurred place_of_step passes n old steps → StepsFit occurred place_of_step passes n new steps
+  joined_fit occurred place_of_step passes n steps (Some earlier) j fit = rw j.1 fit
+  joined_fit occurred place_of_step passes n steps None j fit = rw j.1 (fit_longer occurred place_of_step passes n old (c ∷ []) steps fit)
+
+module _ (r : GameRecord) (cells : List (ℕ × Cell)) (c : List Cell) (is : c ≡ assigned (colouring_of r.present) cells) where
+  choice : Bool → Option ℕ → Option ℕ → Result GameRecord TurnFault
+  choice on found at = stepped r (cond on (with_liberties r.size found (set_to r.present (assigned (colouring_of r.present) cells) at)) (Err OffBoard))
+
+  found : Option ℕ
+  found = first_without_liberty r.size (assigned (colouring_of r.present) cells)
+
+  same_found : first_without_liberty r.size c ≡ found
+  unfolding found
+  same_found = ap (first_without_liberty r.size) is
+
+  at : Option ℕ
+  at = place_in r.present.history (assigned (colouring_of r.present) cells)
+
+  -- by its three tests
+  due : (on : Bool) (o : Option ℕ) → list_all (λ a. nat_lt a.0 (r.size * r.size)) cells ≡ on → first_without_liberty r.size c ≡ o → setup_of r cells ≡ choice on o at
+  unfolding choice found at
+  due on o tested first = ap (λ b. choice b found at) tested ∙ ap (λ f. choice on f at) (sym same_found ∙ first)
+
+  pub did_smother : (p : Place) (new : GameRecord) → list_all (λ a. nat_lt a.0 (r.size * r.size)) cells ≡ true → first_without_liberty r.size c ≡ Some (number_of r.size p) → IsOn r.size p → new ≡ r → Did (setup_of r cells) r (Err (NoLiberty p)) new
+  unfolding choice found at
+  did_smother p new all first on kept = subst (λ d. Did d r (Err (NoLiberty p)) new) (sym (due true (Some (number_of r.size p)) all first)) (ap NoLiberty (sym (place_back r.size p on)), kept)
+
+  pub did_set : (place : ℕ) (history : List (List Cell)) (new : GameRecord) → list_all (λ a. nat_lt a.0 (r.size * r.size)) cells ≡ true → first_without_liberty r.size c ≡ None
+      → Joins (place_in r.present.history c) r.present.history c place history
+      → new ≡ record r { present = record { history = history; place = place; passes = 0; last_colour = r.present.last_colour }; earlier = r.present ∷ r.earlier }
+      → (u : Unit {0}) → Did (setup_of r cells) r (Ok u) new
+  unfolding choice found at
+  did_set place history new all first joins becomes u =
+      subst (λ d. Did d r (Ok u) new) (sym (due true None all first))
+      (go (place_in r.present.history (assigned (colouring_of r.present) cells)) (subst (λ x. Joins (place_in r.present.history x) r.present.history x place history) is joins))
+    where
+      go : (o : Option ℕ) → Joins o r.present.history (assigned (colouring_of r.present) cells) place history → Did (stepped r (Ok (set_to r.present (assigned (colouring_of r.present) cells) o))) r (Ok u) new
+      go (Some earlier) j = becomes ∙ (λ i. record r { present = record { history = j.1 i; place = j.0 i; passes = 0; last_colour = r.present.last_colour }; earlier = r.present ∷ r.earlier })
+      go None j = becomes ∙ (λ i. record r { present = record { history = j.1 i; place = j.0 i; passes = 0; last_colour = r.present.last_colour }; earlier = r.present ∷ r.earlier })

@@ -112,7 +112,7 @@ impl<B: Board + Copy, S: Seen> State<B, S> {
     }
 
     /// Whether the mover may move at the point, if nobody has won.
-    fn may_move(&self, point: Point) -> bool
+    pub fn may_move(&self, point: Point) -> bool
         requires { IsOn self.now.state.game.size point }
         ensures { result ≡ legal self.now.state (move (number_of self.now.state.game.size point)) }
     {

@@ -85,7 +85,8 @@ pub fn read_fields(text: &[u8]) -> Option<(Fields<'_>, usize)>
             return None;
         }
         let place = Field::named(&text[at..at + 2])?.place();
-        if fields.values[place].is_some() {
+        let before = fields.values[place];
+        if before.is_some() {
             return None;
         }
         let end = values_end(text, at + 2)?;

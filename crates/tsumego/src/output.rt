@@ -1,6 +1,6 @@
 //! The text of the answer, written whole.
 
-ghost use Rattle.std.specs.Prelude.{◌×◌, ◌≤◌, ℕ, IsTrue, length, take};
+ghost use Rattle.std.specs.Prelude.{◌≤◌, ℕ, IsTrue, length, take};
 ghost use Rattle.std.specs.Io.KnownBytes.{Appends};
 
 use std::io::Write;

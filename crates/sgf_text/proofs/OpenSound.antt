@@ -106,7 +106,7 @@ begins_at AfterBackslash _ h = absurd cc
 pub value_node : (i : List ℕ) (vs : List (List ℕ)) (ps : List Property) → IsSoundProperty AfterValue i vs → IsTrue (is_node ps) → IsTrue (is_node (added ps i vs))
 value_node i vs ps s h = added_good i vs s.0 s.1 s.2 ps h
 
-all_nodes : (ns : List Node) (n : Node) → IsTrue (list_all is_node ns) → IsTrue (is_node n) → IsTrue (list_all is_node (ns ++ n ∷ []))
+pub all_nodes : (ns : List Node) (n : Node) → IsTrue (list_all is_node ns) → IsTrue (is_node n) → IsTrue (list_all is_node (ns ++ n ∷ []))
 all_nodes [] n h g = both_good (is_node n) true g refl
 all_nodes (x ∷ xs) n h g = let b = both_parts (is_node x) (list_all is_node xs) h in both_good (is_node x) (list_all is_node (xs ++ n ∷ [])) b.0 (all_nodes xs n b.1 g)
 

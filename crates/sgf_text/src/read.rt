@@ -33,9 +33,9 @@ pub fn read_tree(alloc: Global, text: &[u8]) -> Result<(Tree, usize), SgfFault>
     let Some(place) = tree_place(seen) else {
         return Err(SgfFault::NoTree);
     };
-    let mut open = OpenTrees::new(alloc);
+    let mut trees = OpenTrees::new(alloc);
     for at in place + 1..seen.len() {
-        match open.step(seen[at], at) {
+        match trees.step(seen[at], at) {
             Ok(None) => {}
             Ok(Some(tree)) => return Ok((tree, at + 1)),
             Err(fault) => return Err(fault),
@@ -67,15 +67,13 @@ fn tree_place(text: &[u8]) -> Option<usize>
     ensures { result ≡ tree_place text.now }
 {
     // The last "(", while only white space has come behind it.
-    let mut open = None;
+    let mut last = None;
     for at in 0..text.len() {
-        let byte = text[at];
-        if byte == b'(' {
-            open = Some(at);
-        } else if byte == b';' && open.is_some() {
-            return open;
-        } else if !is_white(byte) {
-            open = None;
+        match text[at] {
+            b'(' => last = Some(at),
+            b';' if last.is_some() => return last,
+            byte if is_white(byte) => {}
+            _ => last = None,
         }
     }
     None

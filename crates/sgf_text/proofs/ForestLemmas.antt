@@ -1,7 +1,8 @@
 -- Forests one after another.
-use Rattle.std.proofs.Common.{◌≡◌, List, [], ◌∷◌, ◌++◌, sym, ap, ◌∙◌, refl}
+use Rattle.std.proofs.Common.{◌≡◌, ℕ, ◌+◌, ◌<◌, List, [], ◌∷◌, ◌++◌, length, get_or, take, sym, ap, ◌∙◌, subst, refl}
+use Rattle.std.proofs.lemmas.List.{take_more}
 use Rattle.std.specs.Prelude.{Bool, true, false, ◌&&◌, IsTrue}
-use Rattle.sgf_text.specs.Text.{is_forest, are_nodes}
+use Rattle.sgf_text.specs.Text.{is_forest, is_tree, are_nodes}
 use Rattle.sgf_text.specs.Trees.{Node, Forest, no_tree, tree_then, GameTree, forest_of, tree_of}
 use Rattle.sgf_text.specs.OpenTrees.{forest_join, with_child}
 
@@ -32,3 +33,9 @@ join_good (tree_then nodes children others) g h k = go (are_nodes nodes) (is_for
     go true true false x y z h ih = absurd cc
     go true false c x y z h ih = absurd cc
     go false b c x y z h ih = absurd cc
+
+-- one good tree more
+pub forest_more : (ts : List GameTree) (i : ℕ) (t : GameTree) → i < length ts → t ≡ get_or ts i t → IsTrue (is_tree t) → IsTrue (is_forest (forest_of (take i ts))) → IsTrue (is_forest (forest_of (take (i + 1) ts)))
+forest_more ts i t h e g k =
+    subst (λ f. IsTrue (is_forest f)) (sym (ap forest_of (take_more ts i t h ∙ ap (λ (x : GameTree). take i ts ++ x ∷ []) (sym e)) ∙ forest_pushed (take i ts) t))
+    (join_good (forest_of (take i ts)) (tree_then t.nodes t.children no_tree) k (both_good (are_nodes t.nodes && is_forest t.children) true g refl))

@@ -94,7 +94,7 @@ module _ (o : Open) (c at : ℕ) (s : IsSound o) where
   opened_tree e rest =
       ap (λ k. option_map (filled AfterOpen (opened_in (node_ended o.place o))) (complete AfterOpen (suc (length k)) rest)) (ended_outer o.place o)
       ∙ map_map (complete AfterOpen (suc (length o.outer)) rest) (filled AfterOpen (opened_in (node_ended o.place o))) (filled o.place o) opened
-        (λ G g. at_outer G.word G.values G.properties G.nodes G.trees G.rest G.outer (sound AfterOpen (suc (length o.outer)) rest G g).1)
+      (λ G g. at_outer G.word G.values G.properties G.nodes G.trees G.rest G.outer (sound AfterOpen (suc (length o.outer)) rest G g).1)
       ∙ sym (here Opens e rest)
     where
       at_outer : (w : List ℕ) (vs : _) (ps : _) (ns : List Node) (f : Forest) (r : List ℕ) (outer : List Forest) → length outer ≡ suc (length o.outer)
@@ -126,7 +126,7 @@ module _ (o : Open) (c at : ℕ) (s : IsSound o) where
   begun_tree e rest =
       ap (λ k. option_map (filled AfterSemicolon (begun_in (node_ended o.place o))) (complete AfterSemicolon (length k) rest)) (ended_outer o.place o)
       ∙ map_map (complete AfterSemicolon (length o.outer) rest) (filled AfterSemicolon (begun_in (node_ended o.place o))) (filled o.place o) begun
-        (λ G g. begun_filled o.place o (begins_at o.place (sign_of c) e) s.properties G)
+      (λ G g. begun_filled o.place o (begins_at o.place (sign_of c) e) s.properties G)
       ∙ sym (here Begins e rest)
 
   begun_end : move o.place (sign_of c) ≡ Begins → nat_lt o.nodes node_limit ≡ true → (cut : SgfFault) (rest : List ℕ) → ends cut (begun_in (node_ended o.place o)) (at + 1) rest ≡ ends cut o at (c ∷ rest)
@@ -151,7 +151,7 @@ module _ (o : Open) (c at : ℕ) (s : IsSound o) where
   closed_tree : move o.place (sign_of c) ≡ Closes → (a : GameTree) (os : List GameTree) → o.outer ≡ a ∷ os → (rest : List ℕ) → completed (closed_in (node_ended o.place o) a os) rest ≡ completed o (c ∷ rest)
   closed_tree e a os z rest =
       map_map (complete AfterChild (length os) rest) (filled AfterChild (closed_in (node_ended o.place o) a os)) (filled o.place o) closed
-        (λ G g. closed_filled o.place o (closes_at o.place (sign_of c) e) a os z G (sound AfterChild (length os) rest G g).0.3)
+      (λ G g. closed_filled o.place o (closes_at o.place (sign_of c) e) a os z G (sound AfterChild (length os) rest G g).0.3)
       ∙ ap (λ (k : List GameTree). option_map (filled o.place o) (last_front (length k) rest (λ around. complete AfterChild around rest))) (sym z)
       ∙ sym (here Closes e rest)
 
@@ -180,12 +180,12 @@ module _ (o : Open) (c at : ℕ) (s : IsSound o) where
   leads_follow next e (Ok None) n h = subst (Follows o c at (Ok None)) (sym h) (
     subst (LedSound o o.place (sign_of c) c) e (led_sound o s.outer o.place (sign_of c) c (means c) s.word s.property s.properties s.tree),
     λ rest. ap (λ (k : List GameTree). option_map (filled next (moved next (led o.place (sign_of c) c o))) (complete next (length k) rest)) (led_outer c o o.place (sign_of c))
-    ∙ map_map (complete next (length o.outer) rest) (filled next (moved next (led o.place (sign_of c) c o))) (filled o.place o) (kept o.place (sign_of c) c)
-      (λ G g. moved_filled next next (led o.place (sign_of c) c o) G ∙ subst (Led o G o.place (sign_of c) c) e (led_filled o G o.place (sign_of c) c (means c) s.word s.property) rest (sound next (length o.outer) rest G g).0)
-    ∙ sym (here (To next) e rest),
+        ∙ map_map (complete next (length o.outer) rest) (filled next (moved next (led o.place (sign_of c) c o))) (filled o.place o) (kept o.place (sign_of c) c)
+        (λ G g. moved_filled next next (led o.place (sign_of c) c o) G ∙ subst (Led o G o.place (sign_of c) c) e (led_filled o G o.place (sign_of c) c (means c) s.word s.property) rest (sound next (length o.outer) rest G g).0)
+        ∙ sym (here (To next) e rest),
     λ cut rest. ap (λ (k : List GameTree). tree_end cut next (length k) (led o.place (sign_of c) c o).nodes (at + 1) rest) (led_outer c o o.place (sign_of c))
-    ∙ ap (λ k. tree_end cut next (length o.outer) k (at + 1) rest) (led_nodes c o o.place (sign_of c))
-    ∙ sym (end_here (To next) e cut rest),
+        ∙ ap (λ k. tree_end cut next (length o.outer) k (at + 1) rest) (led_nodes c o o.place (sign_of c))
+        ∙ sym (end_here (To next) e cut rest),
   )
   leads_follow next e (Ok (Some x)) n h = absurd h
   leads_follow next e (Err Memory) n h = tt

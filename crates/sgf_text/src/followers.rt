@@ -88,7 +88,8 @@ pub fn follow(place: Place, sign: Sign) -> Move
         (Place::InIdent(true), Sign::White) => Move::To(Place::AfterIdent),
         (Place::InIdent(false), _) => Move::Refused,
         (_, Sign::White) => Move::To(place),
-        (Place::InIdent(true) | Place::AfterIdent | Place::AfterValue, Sign::OpenSquare) => Move::To(Place::InValue),
+        (Place::InIdent(true) | Place::AfterIdent | Place::AfterValue, Sign::OpenSquare) =>
+            Move::To(Place::InValue),
         (Place::AfterSemicolon | Place::AfterValue, _) => part(sign),
         (Place::AfterOpen, Sign::Semicolon) => Move::Begins,
         (Place::AfterChild, Sign::OpenRound) => Move::Opens,

@@ -27,7 +27,9 @@ impl OpenNode {
     pub fn new(alloc: Global) -> Self
         ensures { result ≡ [] }
     {
-        OpenNode { properties: Vec::new(alloc) }
+        OpenNode {
+            properties: Vec::new(alloc),
+        }
     }
 
     /// Adds the values to the property of this name, or a property with them at the end.
@@ -56,5 +58,7 @@ impl OpenNode {
 fn place_of(properties: &[Property], name: &[u8]) -> Option<usize>
     ensures { result ≡ spot (is_named name.now) properties.now }
 {
-    properties.iter().position(|property| name == property.ident.as_slice())
+    properties
+        .iter()
+        .position(|property| name == property.ident.as_slice())
 }

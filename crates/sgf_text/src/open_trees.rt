@@ -48,14 +48,14 @@ impl Model for OpenTrees {
     ghost coded = { Prim.hlevel (codes, coded_tree) };
 
     ghost view = { λ o. record {
-        place = o.place;
-        word = o.word.items;
-        ident = o.ident;
-        values = o.values;
-        properties = o.node;
-        tree = o.tree;
-        outer = reverse o.outer.items;
-        nodes = o.nodes;
+      place = o.place;
+      word = o.word.items;
+      ident = o.ident;
+      values = o.values;
+      properties = o.node;
+      tree = o.tree;
+      outer = reverse o.outer.items;
+      nodes = o.nodes;
     } };
 }
 

@@ -68,6 +68,10 @@ impl<'a> Iterator for TextTokens<'a> {
         let rest: &'a [u8] = &self.text[at..];
         let len = token_len(rest);
         self.at += len;
-        Some(Token { kind: kind_of(rest[0]), text: &rest[..len], at })
+        Some(Token {
+            kind: kind_of(rest[0]),
+            text: &rest[..len],
+            at,
+        })
     }
 }

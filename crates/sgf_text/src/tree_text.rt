@@ -54,7 +54,11 @@ fn put_node<W: Write>(node: &SgfNode, held: &mut Held, writer: &mut W) -> Result
     put_properties(node.as_slice(), held, writer)
 }
 
-fn put_properties<W: Write>(properties: &[Property], held: &mut Held, writer: &mut W) -> Result<(), WriteFault>
+fn put_properties<W: Write>(
+    properties: &[Property],
+    held: &mut Held,
+    writer: &mut W,
+) -> Result<(), WriteFault>
     ensures put { OnOk result (Puts (W.contents writer.old) (W.contents writer.new) held.old.items held.new.items (flat_map property_text properties.now)) }
     ensures cut { OnErr result (TakesPart (W.contents writer.old) (W.contents writer.new) (held.old.items ++ flat_map property_text properties.now)) }
 {
@@ -64,7 +68,11 @@ fn put_properties<W: Write>(properties: &[Property], held: &mut Held, writer: &m
     Ok(())
 }
 
-fn put_property<W: Write>(property: &Property, held: &mut Held, writer: &mut W) -> Result<(), WriteFault>
+fn put_property<W: Write>(
+    property: &Property,
+    held: &mut Held,
+    writer: &mut W,
+) -> Result<(), WriteFault>
     ensures put { OnOk result (Puts (W.contents writer.old) (W.contents writer.new) held.old.items held.new.items (property_text property.now)) }
     ensures cut { OnErr result (TakesPart (W.contents writer.old) (W.contents writer.new) (held.old.items ++ property_text property.now)) }
 {

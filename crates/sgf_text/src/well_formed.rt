@@ -37,7 +37,9 @@ fn are_distinct(properties: &[Property]) -> bool
 fn has_name(properties: &[Property], name: &[u8]) -> bool
     ensures { result ≡ list_any (is_named name.now) properties.now }
 {
-    properties.iter().any(|property| name == property.ident.as_slice())
+    properties
+        .iter()
+        .any(|property| name == property.ident.as_slice())
 }
 
 /// Whether it is a name of one or more upper-case letters with one or more values.

@@ -13,11 +13,11 @@ into_node-requires c =
     let place = sym (ap (λ (o : Open). o.place) c.self.view_is) in
     elim c.match-self.branch [
       | in-AfterSemicolon w ↦
-        let p : c.replace-node.result ≡ o.properties = c.replace-node.ensures.value ∙ ap (λ (o : Open). o.properties) (c.self-2.view_is ∙ w.self-is) in
-        subst (λ ps. IsTrue (is_node ps)) (sym p) (subst (λ P. IsSoundNode P o.properties) (place ∙ w.in-AfterSemicolon.is) c.requires.properties)
+          let p : c.replace-node.result ≡ o.properties = c.replace-node.ensures.value ∙ ap (λ (o : Open). o.properties) (c.self-2.view_is ∙ w.self-is) in
+          subst (λ ps. IsTrue (is_node ps)) (sym p) (subst (λ P. IsSoundNode P o.properties) (place ∙ w.in-AfterSemicolon.is) c.requires.properties)
       | in-AfterValue+in_ok-end_property-in-AfterValue w ↦
-        let p : c.replace-node.result ≡ added o.properties o.ident o.values = c.replace-node.ensures.value ∙ ap (λ (o : Open). o.properties) (c.self-2.view_is ∙ w.self-is ∙ w.in_ok-end_property-in-AfterValue.ensures) in
-        let e : o.place ≡ AfterValue = place ∙ w.in-AfterValue.is in
-        subst (λ ps. IsTrue (is_node ps)) (sym p)
-        (value_node o.ident o.values o.properties (subst (λ P. IsSoundProperty P o.ident o.values) e c.requires.property) (subst (λ P. IsSoundNode P o.properties) e c.requires.properties))
+          let p : c.replace-node.result ≡ added o.properties o.ident o.values = c.replace-node.ensures.value ∙ ap (λ (o : Open). o.properties) (c.self-2.view_is ∙ w.self-is ∙ w.in_ok-end_property-in-AfterValue.ensures) in
+          let e : o.place ≡ AfterValue = place ∙ w.in-AfterValue.is in
+          subst (λ ps. IsTrue (is_node ps)) (sym p)
+          (value_node o.ident o.values o.properties (subst (λ P. IsSoundProperty P o.ident o.values) e c.requires.property) (subst (λ P. IsSoundNode P o.properties) e c.requires.properties))
     ]

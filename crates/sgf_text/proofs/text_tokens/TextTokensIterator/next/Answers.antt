@@ -11,7 +11,7 @@ first : (c : goal.After-kind_of) → c.args.self.now ≡ record { kind = c.kind_
 first c =
     let within : c.loop-self.self-inside.at < length c.loop-self.self-inside.text.now = omega arith in
     let solid : is_white (get_or c.loop-self.self-inside.text.now c.loop-self.self-inside.at 0) ≡ false =
-        elim c.loop-self-test.branch [ then-loop-self-test+else-is_white w ↦ sym w.is_white.ensures ∙ w.if-is_white.false | else-loop-self-test w ↦ absurd (omega arith) ] in
+    elim c.loop-self-test.branch [ then-loop-self-test+else-is_white w ↦ sym w.is_white.ensures ∙ w.if-is_white.false | else-loop-self-test w ↦ absurd (omega arith) ] in
     sym c.loop-self.invariant.left ∙ tokens_step c.loop-self.self-inside.text.now c.loop-self.self-inside.at within solid c.token_len-len.result c.kind_of.result c.token_len-len.ensures.len c.token_len-len.ensures.some c.kind_of.ensures
 
 pub returns-clause-steps : goal.returns-clause-steps

@@ -9,7 +9,7 @@ use Rattle.std.proofs.lemmas.Iterator.Adapters.{position_from-zero}
 use Rattle.std.proofs.lemmas.Slice.Eq.{bytes_eq-Decides}
 use Rattle.sgf_text.specs.declared.node.Property.{Property}
 use Rattle.sgf_text.specs.Nodes.{is_value, is_ident, is_property, is_named, are_distinct, is_node, values_at, without, joined}
-use Rattle.sgf_text.specs.OpenTrees.{added}
+use Rattle.sgf_text.specs.OpenTrees.{added, names_of}
 
 abbrev pub property : List ℕ → List (List ℕ) → Property
 property name values = record { ident = name; values = values }
@@ -72,6 +72,20 @@ added_at ps name values i d e = let r = some_from ps name values d 0 i (sym (pos
 pub appended_at : (now ps : List Property) (name : List ℕ) (values new : List (List ℕ)) (i : ℕ) (d : Property) → ps ≡ now → position (is_named name) ps ≡ Some i → d ≡ get_or ps i d → new ≡ d.values ++ values → set ps i (property d.ident new) ≡ added now name values
 appended_at now ps name values new i d e p g n =
     ap (λ (x : List (List ℕ)). set ps i (property d.ident x)) n ∙ ap (λ (q : Property). set ps i (property q.ident (q.values ++ values))) g ∙ sym (added_at ps name values i d p) ∙ ap (λ qs. added qs name values) e
+
+-- ---- as the code keeps the names
+
+names_from : (ps : List Property) (name : List ℕ) (k : ℕ) → position_from (bytes_eq name) k (names_of ps) ≡ position_from (is_named name) k ps
+names_from [] name k = refl
+names_from (p ∷ ps) name k = ap (cond (is_named name p) (Some k)) (names_from ps name (k + 1))
+
+pub names_position : (ps : List Property) (name : List ℕ) → position (bytes_eq name) (names_of ps) ≡ position (is_named name) ps
+names_position ps name = position_from-zero (bytes_eq name) (names_of ps) ∙ names_from ps name 0 ∙ sym (position_from-zero (is_named name) ps)
+
+pub names_set : (ps : List Property) (i : ℕ) (d : Property) (new : List (List ℕ)) → d ≡ get_or ps i d → names_of (set ps i (property d.ident new)) ≡ names_of ps
+names_set [] i d new e = refl
+names_set (p ∷ ps) zero d new e = ap (λ (q : Property). q.ident ∷ names_of ps) e
+names_set (p ∷ ps) (suc i) d new e = ap (λ (ns : List (List ℕ)). p.ident ∷ ns) (names_set ps i d new e)
 
 -- ---- a good node stays one
 

@@ -1,6 +1,6 @@
 -- What a reader of trees holds between two bytes, and what each byte does to it. These are words of private functions:
 -- no public contract rests on them.
-use Rattle.std.specs.Prelude.{◌≡◌, ◌≢◌, ℕ, ◌+◌, Bool, true, false, List, [], ◌∷◌, ◌++◌, length, nat_lt, IsTrue, Option, Some, None, Result, Ok, Err}
+use Rattle.std.specs.Prelude.{◌≡◌, ◌≢◌, ℕ, ◌+◌, Bool, true, false, List, [], ◌∷◌, ◌++◌, length, map, nat_lt, IsTrue, Option, Some, None, Result, Ok, Err}
 use Rattle.std.specs.List.{list_all}
 use Rattle.sgf_text.specs.declared.followers.Sign.{Sign}
 use Rattle.sgf_text.specs.declared.followers.Sign.TheVariants.{White, Upper, Lower, OpenSquare, CloseSquare}
@@ -24,6 +24,9 @@ added (p ∷ ps) name values = elim (is_named name p) [
   | true ↦ record { ident = p.ident; values = p.values ++ values } ∷ ps
   | false ↦ p ∷ added ps name values
 ]
+
+abbrev pub names_of : List Property → List (List ℕ)
+names_of ps = map (λ p. p.ident) ps
 
 -- the trees of the first and then those of the second
 abbrev pub forest_join : Forest → Forest → Forest

@@ -1,26 +1,34 @@
 //! The node that is being read: properties whose values are joined under one name.
+//!
+//! Names are found by their hash, so that a node with many properties is read in time linear in its text.
 
-ghost use Rattle.std.specs.Prelude.{◌≡◌, [], IsTrue, OnOk, position as spot};
-ghost use Rattle.sgf_text.specs.Nodes.{is_node, is_named};
+ghost use Rattle.std.specs.Prelude.{◌≡◌, [], IsTrue, OnOk};
+ghost use Rattle.sgf_text.specs.Nodes.{is_node};
 ghost use Rattle.sgf_text.specs.OpenTrees.{added};
 
 use crate::node::{Bytes, Property, SgfNode, Values};
+use indexmap::IndexSet;
 use std::alloc::{AllocError, Global};
 use std::marker::Model;
 
 /// Properties in the order of their names' first places. Contracts see them as a list.
 #[derive(Drop)]
 pub struct OpenNode {
+    alloc: Global,
+    names: IndexSet<Bytes>,
     properties: Vec<Property>,
 }
 
 impl Model for OpenNode {
-    ghost use Rattle.std.specs.Prelude.{List};
+    ghost use Rattle.std.specs.Prelude.{◌≡◌, List};
     ghost use Rattle.sgf_text.specs.declared.node.Property.{Property};
+    ghost use Rattle.sgf_text.specs.OpenTrees.{names_of};
 
     ghost Value = { List Property };
 
     ghost view = { λ n. n.properties.items };
+
+    ghost invariant = { λ n. n.names.keys ≡ names_of n.properties.items };
 }
 
 impl OpenNode {
@@ -28,6 +36,8 @@ impl OpenNode {
         ensures { result ≡ [] }
     {
         OpenNode {
+            alloc,
+            names: IndexSet::new(alloc),
             properties: Vec::new(alloc),
         }
     }
@@ -36,13 +46,18 @@ impl OpenNode {
     pub fn add(&mut self, ident: Bytes, values: Values) -> Result<(), AllocError>
         ensures { OnOk result (self.new ≡ added self.old ident values) }
     {
-        match place_of(self.properties.as_slice(), ident.as_slice()) {
-            Some(place) => self.properties[place].values.append(values),
-            None => {
-                self.properties.push(Property { ident, values })?;
-                Ok(())
-            }
+        if let Some(place) = self.names.get_index_of(&ident) {
+            return self.properties[place].values.append(values);
         }
+        let name = Bytes::from_vec(ident.as_slice().to_vec(self.alloc)?);
+        if self.names.insert(name).is_err() {
+            return Err(AllocError);
+        }
+        if self.properties.push(Property { ident, values }).is_err() {
+            *self = OpenNode::new(self.alloc);
+            return Err(AllocError);
+        }
+        Ok(())
     }
 
     /// The node that is read.
@@ -52,13 +67,4 @@ impl OpenNode {
     {
         SgfNode::from_good(self.properties)
     }
-}
-
-/// The place of the property of this name.
-fn place_of(properties: &[Property], name: &[u8]) -> Option<usize>
-    ensures { result ≡ spot (is_named name.now) properties.now }
-{
-    properties
-        .iter()
-        .position(|property| name == property.ident.as_slice())
 }

@@ -150,6 +150,27 @@ fn holds_deep_and_long_trees(rt: HostRuntime) -> Result<(), Fail> {
     Ok(())
 }
 
+/// A node with so many properties of different names, each with one empty value.
+fn many_names(alloc: Global, n: usize) -> Result<Vec<u8>, Fail> {
+    let mut text = b"(;".to_vec(alloc)?;
+    for i in 0..n {
+        for unit in [1, 26, 676, 17_576] {
+            text.push(b"ABCDEFGHIJKLMNOPQRSTUVWXYZ"[i / unit % 26])?;
+        }
+        text.extend_from_slice(b"[]")?;
+    }
+    text.push(b')')?;
+    Ok(text)
+}
+
+#[test]
+fn reads_many_names(rt: HostRuntime) -> Result<(), Fail> {
+    let alloc = rt.alloc();
+    let text = many_names(alloc, 170_000)?;
+    assert!(rt; written(alloc, text.as_slice())?.as_slice() == text.as_slice());
+    Ok(())
+}
+
 #[test]
 fn cuts_into_tokens(rt: HostRuntime) -> Result<(), Fail> {
     let text = b"( ;GaMe[1\\]\\\\]x!B [ab\\]";

@@ -1,0 +1,215 @@
+-- Each byte that the reader takes is one step of the followers and of the reader on lists.
+use Rattle.std.proofs.Common.{◌≡◌, ◌≢◌, ℕ, zero, suc, ◌+◌, List, [], ◌∷◌, ◌++◌, sym, ap, ◌∙◌, subst, refl, arith, length}
+use Rattle.std.specs.Prelude.{Bool, true, false, nat_lt, Option, Some, None, option_map, Result, Ok, Err}
+use Rattle.sgf_text.specs.declared.followers.Sign.{Sign}
+use Rattle.sgf_text.specs.declared.followers.Sign.TheVariants.{Upper, Lower, CloseSquare}
+use Rattle.sgf_text.specs.declared.followers.Place.{Place}
+use Rattle.sgf_text.specs.declared.followers.Place.TheVariants.{AfterOpen, AfterSemicolon, InIdent, AfterIdent, InValue, AfterBackslash, AfterValue, AfterChild}
+use Rattle.sgf_text.specs.declared.followers.Move.{Move}
+use Rattle.sgf_text.specs.declared.followers.Move.TheVariants.{Opens, Begins, Closes, To, Refused}
+use Rattle.sgf_text.specs.declared.fault.SgfFault.{SgfFault}
+use Rattle.sgf_text.specs.declared.fault.SgfFault.TheVariants.{NoTree, Syntax, TooLong, TooDeep, TooMany, Memory}
+use Rattle.sgf_text.specs.Bytes.{sign_of}
+use Rattle.sgf_text.specs.Trees.{Node, Forest, GameTree}
+use Rattle.sgf_text.specs.Followers.{move, tree_end, depth_limit, node_limit}
+use Rattle.sgf_text.specs.OpenTrees.{Open, moved, led, node_ended, begun_in, opened_in, closed_in, ClosesTo, Steps, IsSound}
+use Rattle.sgf_text.proofs.Signs.{Means, means}
+use Rattle.sgf_text.proofs.Machine.{Front, front, ended, closed, opened, begun, kept, complete}
+use Rattle.sgf_text.proofs.Sound.{Fits, sound}
+use Rattle.sgf_text.proofs.Limits.{front_at, end_at, tested, last_end, last_front}
+use Rattle.sgf_text.proofs.OpenSound.{opens_at, begins_at, closes_at, ended_outer, ended_nodes}
+use Rattle.sgf_text.proofs.OpenKept.{LedSound, led_sound, begun_sound, opened_sound, closed_sound}
+use Rattle.sgf_text.proofs.Filled.{filled, Led, led_filled, opened_filled, closed_filled, last_filled, begun_filled}
+
+-- the first tree, if the rest of the text completes it
+abbrev pub completed : Open → List ℕ → Option GameTree
+completed o rest = option_map (filled o.place o) (complete o.place (length o.outer) rest)
+
+-- where the first tree ends, or the first fault
+abbrev pub ends : SgfFault → Open → ℕ → List ℕ → Result ℕ SgfFault
+ends cut o at rest = tree_end cut o.place (length o.outer) o.nodes at rest
+
+abbrev pub Follows : Open → ℕ → ℕ → Result (Option GameTree) SgfFault → Open → Type 0
+Follows o c at (Ok None) n = IsSound n × ((rest : List ℕ) → completed n rest ≡ completed o (c ∷ rest)) × ((cut : SgfFault) (rest : List ℕ) → ends cut n (at + 1) rest ≡ ends cut o at (c ∷ rest))
+Follows o c at (Ok (Some tree)) n = ((rest : List ℕ) → Some tree ≡ completed o (c ∷ rest)) × ((cut : SgfFault) (rest : List ℕ) → ends cut o at (c ∷ rest) ≡ Ok (at + 1))
+Follows o c at (Err Memory) n = Unit {0}
+Follows o c at (Err e) n = (cut : SgfFault) (rest : List ℕ) → ends cut o at (c ∷ rest) ≡ Err e
+
+led_outer : (c : ℕ) (o : Open) (P : Place) (z : Sign) → (led P z c o).outer ≡ o.outer
+led_outer c o AfterOpen z = refl
+led_outer c o AfterSemicolon Upper = refl
+led_outer c o AfterSemicolon _ = refl
+led_outer c o (InIdent has) Upper = refl
+led_outer c o (InIdent has) Lower = refl
+led_outer c o (InIdent has) _ = refl
+led_outer c o AfterIdent z = refl
+led_outer c o InValue CloseSquare = refl
+led_outer c o InValue _ = refl
+led_outer c o AfterBackslash z = refl
+led_outer c o AfterValue Upper = refl
+led_outer c o AfterValue Lower = refl
+led_outer c o AfterValue _ = refl
+led_outer c o AfterChild z = refl
+
+led_nodes : (c : ℕ) (o : Open) (P : Place) (z : Sign) → (led P z c o).nodes ≡ o.nodes
+led_nodes c o AfterOpen z = refl
+led_nodes c o AfterSemicolon Upper = refl
+led_nodes c o AfterSemicolon _ = refl
+led_nodes c o (InIdent has) Upper = refl
+led_nodes c o (InIdent has) Lower = refl
+led_nodes c o (InIdent has) _ = refl
+led_nodes c o AfterIdent z = refl
+led_nodes c o InValue CloseSquare = refl
+led_nodes c o InValue _ = refl
+led_nodes c o AfterBackslash z = refl
+led_nodes c o AfterValue Upper = refl
+led_nodes c o AfterValue Lower = refl
+led_nodes c o AfterValue _ = refl
+led_nodes c o AfterChild z = refl
+
+moved_filled : (P next : Place) (o : Open) (F : Front) → filled P (moved next o) F ≡ filled P o F
+moved_filled AfterOpen next o F = refl
+moved_filled AfterSemicolon next o F = refl
+moved_filled (InIdent has) next o F = refl
+moved_filled AfterIdent next o F = refl
+moved_filled InValue next o F = refl
+moved_filled AfterBackslash next o F = refl
+moved_filled AfterValue next o F = refl
+moved_filled AfterChild next o F = refl
+
+map_map : (x : Option Front) (f g : Front → GameTree) (h : Front → Front) → ((G : Front) → x ≡ Some G → f G ≡ g (h G)) → option_map f x ≡ option_map g (option_map h x)
+map_map None f g h k = refl
+map_map (Some G) f g h k = ap Some (k G refl)
+
+module _ (o : Open) (c at : ℕ) (s : IsSound o) where
+  here : (m : Move) → move o.place (sign_of c) ≡ m → (rest : List ℕ) → completed o (c ∷ rest) ≡ option_map (filled o.place o) (front_at m (kept o.place (sign_of c) c) (length o.outer) rest (λ next around. complete next around rest))
+  here m e rest = ap (λ x. option_map (filled o.place o) (front_at x (kept o.place (sign_of c) c) (length o.outer) rest (λ next around. complete next around rest))) e
+
+  end_here : (m : Move) → move o.place (sign_of c) ≡ m → (cut : SgfFault) (rest : List ℕ) → ends cut o at (c ∷ rest) ≡ end_at m (length o.outer) o.nodes at (λ next around count. tree_end cut next around count (at + 1) rest)
+  end_here m e cut rest = ap (λ x. end_at x (length o.outer) o.nodes at (λ next around count. tree_end cut next around count (at + 1) rest)) e
+
+  -- ---- the "(" of a tree
+
+  opened_tree : move o.place (sign_of c) ≡ Opens → (rest : List ℕ) → completed (opened_in (node_ended o.place o)) rest ≡ completed o (c ∷ rest)
+  opened_tree e rest =
+      ap (λ k. option_map (filled AfterOpen (opened_in (node_ended o.place o))) (complete AfterOpen (suc (length k)) rest)) (ended_outer o.place o)
+      ∙ map_map (complete AfterOpen (suc (length o.outer)) rest) (filled AfterOpen (opened_in (node_ended o.place o))) (filled o.place o) opened
+      (λ G g. at_outer G.word G.values G.properties G.nodes G.trees G.rest G.outer (sound AfterOpen (suc (length o.outer)) rest G g).1)
+      ∙ sym (here Opens e rest)
+    where
+      at_outer : (w : List ℕ) (vs : _) (ps : _) (ns : List Node) (f : Forest) (r : List ℕ) (outer : List Forest) → length outer ≡ suc (length o.outer)
+          → filled AfterOpen (opened_in (node_ended o.place o)) (front w vs ps ns f outer r) ≡ filled o.place o (opened (front w vs ps ns f outer r))
+      at_outer w vs ps ns f r [] l = absurd cc
+      at_outer w vs ps ns f r (x ∷ xs) l = opened_filled o.place o (opens_at o.place (sign_of c) e) ns f x xs r
+
+  opened_end : move o.place (sign_of c) ≡ Opens → nat_lt (length o.outer + 1) depth_limit ≡ true → (cut : SgfFault) (rest : List ℕ) → ends cut (opened_in (node_ended o.place o)) (at + 1) rest ≡ ends cut o at (c ∷ rest)
+  opened_end e t cut rest =
+      ap (λ k. tree_end cut AfterOpen (suc (length k)) (node_ended o.place o).nodes (at + 1) rest) (ended_outer o.place o)
+      ∙ ap (λ k. tree_end cut AfterOpen k (node_ended o.place o).nodes (at + 1) rest) (omega arith)
+      ∙ ap (λ k. tree_end cut AfterOpen (length o.outer + 1) k (at + 1) rest) (ended_nodes o.place o)
+      ∙ ap (λ b. tested b (tree_end cut AfterOpen (length o.outer + 1) o.nodes (at + 1) rest) TooDeep) (sym t)
+      ∙ sym (end_here Opens e cut rest)
+
+  opens_follow : move o.place (sign_of c) ≡ Opens → (r : Result (Option GameTree) SgfFault) (n : Open) → Steps Opens (sign_of c) c at o r n → Follows o c at r n
+  opens_follow e (Ok None) n (t, h) = subst (Follows o c at (Ok None)) (sym h) (opened_sound o s (opens_at o.place (sign_of c) e), opened_tree e, opened_end e t)
+  opens_follow e (Ok (Some x)) n h = absurd h
+  opens_follow e (Err Memory) n h = tt
+  opens_follow e (Err TooDeep) n h = λ cut rest. end_here Opens e cut rest ∙ ap (λ b. tested b (tree_end cut AfterOpen (length o.outer + 1) o.nodes (at + 1) rest) TooDeep) h
+  opens_follow e (Err NoTree) n h = absurd h
+  opens_follow e (Err (Syntax k)) n h = absurd h
+  opens_follow e (Err TooLong) n h = absurd h
+  opens_follow e (Err TooMany) n h = absurd h
+
+  -- ---- the ";" of a node
+
+  begun_tree : move o.place (sign_of c) ≡ Begins → (rest : List ℕ) → completed (begun_in (node_ended o.place o)) rest ≡ completed o (c ∷ rest)
+  begun_tree e rest =
+      ap (λ k. option_map (filled AfterSemicolon (begun_in (node_ended o.place o))) (complete AfterSemicolon (length k) rest)) (ended_outer o.place o)
+      ∙ map_map (complete AfterSemicolon (length o.outer) rest) (filled AfterSemicolon (begun_in (node_ended o.place o))) (filled o.place o) begun
+      (λ G g. begun_filled o.place o (begins_at o.place (sign_of c) e) s.properties G)
+      ∙ sym (here Begins e rest)
+
+  begun_end : move o.place (sign_of c) ≡ Begins → nat_lt o.nodes node_limit ≡ true → (cut : SgfFault) (rest : List ℕ) → ends cut (begun_in (node_ended o.place o)) (at + 1) rest ≡ ends cut o at (c ∷ rest)
+  begun_end e t cut rest =
+      ap (λ k. tree_end cut AfterSemicolon (length k) ((node_ended o.place o).nodes + 1) (at + 1) rest) (ended_outer o.place o)
+      ∙ ap (λ k. tree_end cut AfterSemicolon (length o.outer) (k + 1) (at + 1) rest) (ended_nodes o.place o)
+      ∙ ap (λ b. tested b (tree_end cut AfterSemicolon (length o.outer) (o.nodes + 1) (at + 1) rest) TooMany) (sym t)
+      ∙ sym (end_here Begins e cut rest)
+
+  begins_follow : move o.place (sign_of c) ≡ Begins → (r : Result (Option GameTree) SgfFault) (n : Open) → Steps Begins (sign_of c) c at o r n → Follows o c at r n
+  begins_follow e (Ok None) n (t, h) = subst (Follows o c at (Ok None)) (sym h) (begun_sound o s (begins_at o.place (sign_of c) e), begun_tree e, begun_end e t)
+  begins_follow e (Ok (Some x)) n h = absurd h
+  begins_follow e (Err Memory) n h = tt
+  begins_follow e (Err TooMany) n h = λ cut rest. end_here Begins e cut rest ∙ ap (λ b. tested b (tree_end cut AfterSemicolon (length o.outer) (o.nodes + 1) (at + 1) rest) TooMany) h
+  begins_follow e (Err NoTree) n h = absurd h
+  begins_follow e (Err (Syntax k)) n h = absurd h
+  begins_follow e (Err TooLong) n h = absurd h
+  begins_follow e (Err TooDeep) n h = absurd h
+
+  -- ---- the ")" of a tree
+
+  closed_tree : move o.place (sign_of c) ≡ Closes → (a : GameTree) (os : List GameTree) → o.outer ≡ a ∷ os → (rest : List ℕ) → completed (closed_in (node_ended o.place o) a os) rest ≡ completed o (c ∷ rest)
+  closed_tree e a os z rest =
+      map_map (complete AfterChild (length os) rest) (filled AfterChild (closed_in (node_ended o.place o) a os)) (filled o.place o) closed
+      (λ G g. closed_filled o.place o (closes_at o.place (sign_of c) e) a os z G (sound AfterChild (length os) rest G g).0.3)
+      ∙ ap (λ (k : List GameTree). option_map (filled o.place o) (last_front (length k) rest (λ around. complete AfterChild around rest))) (sym z)
+      ∙ sym (here Closes e rest)
+
+  closed_end : move o.place (sign_of c) ≡ Closes → (a : GameTree) (os : List GameTree) → o.outer ≡ a ∷ os → (cut : SgfFault) (rest : List ℕ) → ends cut (closed_in (node_ended o.place o) a os) (at + 1) rest ≡ ends cut o at (c ∷ rest)
+  closed_end e a os z cut rest =
+      ap (λ k. tree_end cut AfterChild (length os) k (at + 1) rest) (ended_nodes o.place o)
+      ∙ ap (λ (k : List GameTree). last_end (length k) at (λ around. tree_end cut AfterChild around o.nodes (at + 1) rest)) (sym z)
+      ∙ sym (end_here Closes e cut rest)
+
+  closes_follow : move o.place (sign_of c) ≡ Closes → (r : Result (Option GameTree) SgfFault) (n : Open) → Steps Closes (sign_of c) c at o r n → Follows o c at r n
+  closes_follow e (Ok None) n (a, os, z, h) = subst (Follows o c at (Ok None)) (sym h) (closed_sound o s (closes_at o.place (sign_of c) e) a os z, closed_tree e a os z, closed_end e a os z)
+  closes_follow e (Ok (Some tree)) n (z, h) = (
+    λ rest. ap Some (h ∙ last_filled o.place o (closes_at o.place (sign_of c) e) z rest) ∙ ap (λ (k : List GameTree). option_map (filled o.place o) (last_front (length k) rest (λ around. complete AfterChild around rest))) (sym z) ∙ sym (here Closes e rest),
+    λ cut rest. end_here Closes e cut rest ∙ ap (λ (k : List GameTree). last_end (length k) at (λ around. tree_end cut AfterChild around o.nodes (at + 1) rest)) z,
+  )
+  closes_follow e (Err Memory) n h = tt
+  closes_follow e (Err NoTree) n h = absurd h
+  closes_follow e (Err (Syntax k)) n h = absurd h
+  closes_follow e (Err TooLong) n h = absurd h
+  closes_follow e (Err TooDeep) n h = absurd h
+  closes_follow e (Err TooMany) n h = absurd h
+
+  -- ---- a byte that leads on, and one that is no follower
+
+  leads_follow : (next : Place) → move o.place (sign_of c) ≡ To next → (r : Result (Option GameTree) SgfFault) (n : Open) → Steps (To next) (sign_of c) c at o r n → Follows o c at r n
+  leads_follow next e (Ok None) n h = subst (Follows o c at (Ok None)) (sym h) (
+    subst (LedSound o o.place (sign_of c) c) e (led_sound o s.outer o.place (sign_of c) c (means c) s.word s.property s.properties s.tree),
+    λ rest. ap (λ (k : List GameTree). option_map (filled next (moved next (led o.place (sign_of c) c o))) (complete next (length k) rest)) (led_outer c o o.place (sign_of c))
+        ∙ map_map (complete next (length o.outer) rest) (filled next (moved next (led o.place (sign_of c) c o))) (filled o.place o) (kept o.place (sign_of c) c)
+        (λ G g. moved_filled next next (led o.place (sign_of c) c o) G ∙ subst (Led o G o.place (sign_of c) c) e (led_filled o G o.place (sign_of c) c (means c) s.word s.property) rest (sound next (length o.outer) rest G g).0)
+        ∙ sym (here (To next) e rest),
+    λ cut rest. ap (λ (k : List GameTree). tree_end cut next (length k) (led o.place (sign_of c) c o).nodes (at + 1) rest) (led_outer c o o.place (sign_of c))
+        ∙ ap (λ k. tree_end cut next (length o.outer) k (at + 1) rest) (led_nodes c o o.place (sign_of c))
+        ∙ sym (end_here (To next) e cut rest),
+  )
+  leads_follow next e (Ok (Some x)) n h = absurd h
+  leads_follow next e (Err Memory) n h = tt
+  leads_follow next e (Err NoTree) n h = absurd h
+  leads_follow next e (Err (Syntax k)) n h = absurd h
+  leads_follow next e (Err TooLong) n h = absurd h
+  leads_follow next e (Err TooDeep) n h = absurd h
+  leads_follow next e (Err TooMany) n h = absurd h
+
+  refused_follow : move o.place (sign_of c) ≡ Refused → (r : Result (Option GameTree) SgfFault) (n : Open) → Steps Refused (sign_of c) c at o r n → Follows o c at r n
+  refused_follow e (Ok x) n h = absurd h
+  refused_follow e (Err Memory) n h = tt
+  refused_follow e (Err (Syntax k)) n h = λ cut rest. end_here Refused e cut rest ∙ ap (λ i. Err (Syntax i)) (sym h)
+  refused_follow e (Err NoTree) n h = absurd h
+  refused_follow e (Err TooLong) n h = absurd h
+  refused_follow e (Err TooDeep) n h = absurd h
+  refused_follow e (Err TooMany) n h = absurd h
+
+  follows_at : (m : Move) → move o.place (sign_of c) ≡ m → (r : Result (Option GameTree) SgfFault) (n : Open) → Steps m (sign_of c) c at o r n → Follows o c at r n
+  follows_at Opens e r n h = opens_follow e r n h
+  follows_at Begins e r n h = begins_follow e r n h
+  follows_at Closes e r n h = closes_follow e r n h
+  follows_at (To next) e r n h = leads_follow next e r n h
+  follows_at Refused e r n h = refused_follow e r n h
+
+  pub steps_follow : (r : Result (Option GameTree) SgfFault) (n : Open) → Steps (move o.place (sign_of c)) (sign_of c) c at o r n → Follows o c at r n
+  steps_follow r n h = follows_at (move o.place (sign_of c)) refl r n h

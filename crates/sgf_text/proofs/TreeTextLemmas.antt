@@ -1,0 +1,22 @@
+-- The text of a tree, child by child.
+use Rattle.std.proofs.Common.{◌≡◌, ℕ, zero, suc, ◌+◌, ◌<◌, List, [], ◌∷◌, ◌++◌, get_or, sym, ap, ◌∙◌, refl, length, arith}
+use Rattle.std.specs.Prelude.{flat_map}
+use Rattle.std.proofs.lemmas.List.{append_assoc}
+use Rattle.sgf_text.specs.Text.{node_text, tree_text, forest_text}
+use Rattle.sgf_text.specs.Trees.{Node, Forest, GameTree, forest_of, forest_count, tree_count}
+
+pub forest_flat : (kids : List GameTree) → forest_text (forest_of kids) ≡ flat_map tree_text kids
+forest_flat [] = refl
+forest_flat (k ∷ ks) = regroup (flat_map node_text k.nodes) (forest_text k.children) (forest_text (forest_of ks)) ∙ ap (λ t. tree_text k ++ t) (forest_flat ks)
+  where
+    regroup : (a b r : List ℕ) → 40 ∷ a ++ b ++ 41 ∷ r ≡ (40 ∷ a ++ b ++ 41 ∷ []) ++ r
+    regroup a b r = simp append_assoc
+
+kid_within : (kids : List GameTree) (i : ℕ) (x : GameTree) → i < length kids → x ≡ get_or kids i x → forest_count x.children < forest_count (forest_of kids)
+kid_within [] i x h e = absurd (omega arith)
+kid_within (k ∷ ks) zero x h e = let f : forest_count x.children ≡ forest_count k.children = ap (λ (t : GameTree). forest_count t.children) e in omega arith
+kid_within (k ∷ ks) (suc i) x h e = let r = kid_within ks i x (omega arith) e in omega arith
+
+-- a child tree has fewer trees
+pub kid_is_smaller : (tree : GameTree) (kids : List GameTree) (i : ℕ) (x : GameTree) → forest_of kids ≡ tree.children → i < length kids → x ≡ get_or kids i x → tree_count x < tree_count tree
+kid_is_smaller tree kids i x e h is = let r = kid_within kids i x h is in let f : forest_count (forest_of kids) ≡ forest_count tree.children = ap forest_count e in omega arith

@@ -1,0 +1,8 @@
+use Rattle.std.proofs.Common.{take}
+use Rattle.std.specs.Prelude.{IsTrue}
+use Rattle.sgf_text.specs.Text.{is_forest}
+use Rattle.sgf_text.specs.Trees.{forest_of}
+use Rattle.sgf_text.proofs.tree.know_children.Given as goal
+
+abbrev pub invariant-loop-child : goal.invariant-loop-child
+invariant-loop-child l = IsTrue (is_forest (forest_of (take l.child-index l.children)))

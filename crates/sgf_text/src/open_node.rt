@@ -1,0 +1,70 @@
+//! The node that is being read: properties whose values are joined under one name.
+//!
+//! Names are found by their hash, so that a node with many properties is read in time linear in its text.
+
+ghost use Rattle.std.specs.Prelude.{◌≡◌, [], IsTrue, OnOk};
+ghost use Rattle.sgf_text.specs.Nodes.{is_node};
+ghost use Rattle.sgf_text.specs.OpenTrees.{added};
+
+use crate::node::{Bytes, Property, SgfNode, Values};
+use indexmap::IndexSet;
+use std::alloc::{AllocError, Global};
+use std::marker::Model;
+
+/// Properties in the order of their names' first places. Contracts see them as a list.
+#[derive(Drop)]
+pub struct OpenNode {
+    alloc: Global,
+    names: IndexSet<Bytes>,
+    properties: Vec<Property>,
+}
+
+impl Model for OpenNode {
+    ghost use Rattle.std.specs.Prelude.{◌≡◌, List};
+    ghost use Rattle.sgf_text.specs.declared.node.Property.{Property};
+    ghost use Rattle.sgf_text.specs.OpenTrees.{names_of};
+
+    ghost Value = { List Property };
+
+    ghost view = { λ n. n.properties.items };
+
+    ghost invariant = { λ n. n.names.keys ≡ names_of n.properties.items };
+}
+
+impl OpenNode {
+    pub fn new(alloc: Global) -> Self
+        ensures { result ≡ [] }
+    {
+        OpenNode {
+            alloc,
+            names: IndexSet::new(alloc),
+            properties: Vec::new(alloc),
+        }
+    }
+
+    /// Adds the values to the property of this name, or a property with them at the end.
+    pub fn add(&mut self, ident: Bytes, values: Values) -> Result<(), AllocError>
+        ensures { OnOk result (self.new ≡ added self.old ident values) }
+    {
+        if let Some(place) = self.names.get_index_of(&ident) {
+            return self.properties[place].values.append(values);
+        }
+        let name = Bytes::from_vec(ident.as_slice().to_vec(self.alloc)?);
+        if self.names.insert(name).is_err() {
+            return Err(AllocError);
+        }
+        if self.properties.push(Property { ident, values }).is_err() {
+            *self = OpenNode::new(self.alloc);
+            return Err(AllocError);
+        }
+        Ok(())
+    }
+
+    /// The node that is read.
+    pub fn into_node(self) -> SgfNode
+        requires { IsTrue (is_node self) }
+        ensures { result ≡ self }
+    {
+        SgfNode::from_good(self.properties)
+    }
+}

@@ -1,0 +1,203 @@
+//! The open trees of a text that is being read, byte by byte.
+//!
+//! The trees stand on a stack of their own, which the limit of depth bounds, so reading recurses over nothing.
+
+ghost use Rattle.std.specs.Prelude.{◌≡◌, ◌+◌, false, length, nat_lt, IsTrue, OnOk, IfOk, ◌<◌};
+ghost use Rattle.sgf_text.specs.Bytes.{sign_of};
+ghost use Rattle.sgf_text.specs.Followers.{move, depth_limit, node_limit};
+ghost use Rattle.sgf_text.specs.OpenTrees.{Steps, IsSound, at_start, led, can_close, opened_in, begun_in, ClosesTo, node_ended, property_ended, ident_ended, value_ended, with_byte};
+
+use crate::fault::SgfFault;
+use crate::followers::{Move, Place, Sign, follow, sign_of};
+use crate::node::{Bytes, Values};
+use crate::open_node::OpenNode;
+use crate::open_tree::OpenTree;
+use crate::tree::Tree;
+use std::alloc::{AllocError, Global};
+use std::marker::Model;
+use std::mem;
+
+/// How many trees may be open at once.
+const MOST_DEEP: usize = 1000;
+
+/// How many nodes a text may have.
+const MOST_NODES: usize = 100_000;
+
+/// What is known of the open trees between two bytes. Contracts see it as one record.
+#[derive(Drop)]
+pub struct OpenTrees {
+    alloc: Global,
+    place: Place,
+    word: Vec<u8>,
+    ident: Bytes,
+    values: Values,
+    node: OpenNode,
+    tree: OpenTree,
+    outer: Vec<OpenTree>,
+    nodes: usize,
+}
+
+impl Model for OpenTrees {
+    ghost use Rattle.std.specs.Prelude.{reverse};
+    ghost use Rattle.std.specs.Coded.{codes};
+    ghost use Rattle.sgf_text.specs.OpenTrees.{Open};
+    ghost use Rattle.sgf_text.specs.TreeCodes.{coded_tree};
+
+    ghost Value = { Open };
+
+    ghost coded = { Prim.hlevel (codes, coded_tree) };
+
+    ghost view = { λ o. record {
+      place = o.place;
+      word = o.word.items;
+      ident = o.ident;
+      values = o.values;
+      properties = o.node;
+      tree = o.tree;
+      outer = reverse o.outer.items;
+      nodes = o.nodes;
+    } };
+}
+
+impl OpenTrees {
+    /// Just behind the "(" of the first tree.
+    pub fn new(alloc: Global) -> Self
+        ensures { result ≡ at_start }
+    {
+        OpenTrees {
+            alloc,
+            place: Place::AfterOpen,
+            word: Vec::new(alloc),
+            ident: Bytes::from_vec(Vec::new(alloc)),
+            values: Values::from_vec(Vec::new(alloc)),
+            node: OpenNode::new(alloc),
+            tree: OpenTree::new(alloc),
+            outer: Vec::new(alloc),
+            nodes: 0,
+        }
+    }
+
+    /// Takes the byte at a place of the text. Gives the first tree where the byte ends it.
+    pub fn step(&mut self, byte: u8, at: usize) -> Result<Option<Tree>, SgfFault>
+        requires { IsSound self.old }
+        ensures { Steps (move self.old.place (sign_of byte)) (sign_of byte) byte at self.old result self.new }
+    {
+        let sign = sign_of(byte);
+        match follow(self.place, sign) {
+            Move::Opens => {
+                if self.outer.len() >= MOST_DEEP - 1 {
+                    return Err(SgfFault::TooDeep);
+                }
+                self.open()?;
+            }
+            Move::Begins => {
+                if self.nodes >= MOST_NODES {
+                    return Err(SgfFault::TooMany);
+                }
+                self.begin()?;
+            }
+            Move::Closes => return Ok(self.close()?),
+            Move::To(next) => {
+                self.lead(sign, byte)?;
+                self.place = next;
+            }
+            Move::Refused => return Err(SgfFault::Syntax { at }),
+        }
+        Ok(None)
+    }
+
+    fn open(&mut self) -> Result<(), AllocError>
+        requires { IsSound self.old }
+        ensures { OnOk result (self.new ≡ opened_in (node_ended self.old.place self.old)) }
+    {
+        self.end_node()?;
+        let tree = mem::replace(&mut self.tree, OpenTree::new(self.alloc));
+        self.outer.push(tree)?;
+        self.place = Place::AfterOpen;
+        Ok(())
+    }
+
+    fn begin(&mut self) -> Result<(), AllocError>
+        requires sound { IsSound self.old }
+        requires few { self.old.nodes < node_limit }
+        ensures { OnOk result (self.new ≡ begun_in (node_ended self.old.place self.old)) }
+    {
+        self.end_node()?;
+        self.nodes += 1;
+        self.place = Place::AfterSemicolon;
+        Ok(())
+    }
+
+    /// Ends the innermost tree, and gives it where it is the first.
+    fn close(&mut self) -> Result<Option<Tree>, AllocError>
+        requires sound { IsSound self.old }
+        requires closes { IsTrue (can_close self.old.place) }
+        ensures { IfOk result (λ tree. ClosesTo self.old tree self.new) }
+    {
+        self.end_node()?;
+        let tree = mem::replace(&mut self.tree, OpenTree::new(self.alloc)).into_tree();
+        let Some(mut around) = self.outer.pop() else {
+            return Ok(Some(tree));
+        };
+        around.push_child(tree)?;
+        self.tree = around;
+        self.place = Place::AfterChild;
+        Ok(None)
+    }
+
+    /// Ends the node that is open, if one is.
+    fn end_node(&mut self) -> Result<(), AllocError>
+        requires { IsSound self.old }
+        ensures { OnOk result (self.new ≡ node_ended self.old.place self.old) }
+    {
+        match self.place {
+            Place::AfterSemicolon => {}
+            Place::AfterValue => self.end_property()?,
+            _ => return Ok(()),
+        }
+        let node = mem::replace(&mut self.node, OpenNode::new(self.alloc));
+        self.tree.push_node(node.into_node())
+    }
+
+    /// Takes a byte that leads on.
+    fn lead(&mut self, sign: Sign, byte: u8) -> Result<(), AllocError>
+        ensures { OnOk result (self.new ≡ led self.old.place sign byte self.old) }
+    {
+        match (self.place, sign) {
+            (Place::AfterValue, Sign::Upper) => {
+                self.end_property()?;
+                self.word.push(byte)?;
+            }
+            (Place::AfterValue, Sign::Lower) => self.end_property()?,
+            (Place::AfterSemicolon | Place::InIdent(_), Sign::Upper) => self.word.push(byte)?,
+            (Place::InIdent(_), Sign::Lower) => {}
+            (Place::InIdent(_), _) => self.end_ident(),
+            (Place::InValue, Sign::CloseSquare) => self.end_value()?,
+            (Place::InValue | Place::AfterBackslash, _) => self.word.push(byte)?,
+            _ => {}
+        }
+        Ok(())
+    }
+
+    fn end_ident(&mut self)
+        ensures { self.new ≡ ident_ended self.old }
+    {
+        let word = mem::replace(&mut self.word, Vec::new(self.alloc));
+        self.ident = Bytes::from_vec(word);
+    }
+
+    fn end_value(&mut self) -> Result<(), AllocError>
+        ensures { OnOk result (self.new ≡ value_ended self.old) }
+    {
+        let word = mem::replace(&mut self.word, Vec::new(self.alloc));
+        self.values.push(Bytes::from_vec(word))
+    }
+
+    fn end_property(&mut self) -> Result<(), AllocError>
+        ensures { OnOk result (self.new ≡ property_ended self.old) }
+    {
+        let ident = mem::replace(&mut self.ident, Bytes::from_vec(Vec::new(self.alloc)));
+        let values = mem::replace(&mut self.values, Values::from_vec(Vec::new(self.alloc)));
+        self.node.add(ident, values)
+    }
+}

@@ -3,7 +3,6 @@
 
 mod fields;
 mod input;
-mod output;
 mod record;
 mod run;
 mod status;

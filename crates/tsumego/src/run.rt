@@ -1,13 +1,13 @@
 //! A run of the program: its words and its input to its answer.
 
 use crate::input::{Reading, read_to_limit};
-use crate::output::write_whole;
 use crate::record::{RecordFault, read_record};
 use crate::status::Status;
 use crate::texts::{reject_text, wins_text};
-use cert_check::{Why, check_main};
+use cert_check::{Reject, Why, check_main};
 use std::alloc::Global;
 use std::convert::AsStr;
+use sgf_text::write_bytes;
 use std::io::{Read, Write};
 
 /// The most bytes of input that `check` holds: 64 MiB.
@@ -48,18 +48,25 @@ fn check_bytes<W: Write>(alloc: Global, bytes: &[u8], writer: &mut W) -> Status 
     }
     match check_main(alloc, &problem, &bytes[end + 1..]) {
         Ok(winner) => answer(writer, wins_text(winner), Status::Answered),
-        Err(reject) => match reject_text(alloc, &reject) {
-            Ok(text) => answer(writer, text.as_bytes(), Status::Unanswered),
-            Err(_) => answer(writer, b"failed: memory\n", Status::Failed),
-        },
+        Err(reject) => answer_reject(alloc, &reject, writer),
+    }
+}
+
+/// Writes why the claim is rejected, or that memory was refused.
+fn answer_reject<W: Write>(alloc: Global, reject: &Reject, writer: &mut W) -> Status {
+    if reject.why == Why::Memory {
+        return answer(writer, b"failed: memory\n", Status::Failed);
+    }
+    match reject_text(alloc, reject) {
+        Ok(text) => answer(writer, text.as_bytes(), Status::Unanswered),
+        Err(_) => answer(writer, b"failed: memory\n", Status::Failed),
     }
 }
 
 /// Writes the whole text; a failed write has a status of its own.
 fn answer<W: Write>(writer: &mut W, text: &[u8], status: Status) -> Status {
-    if write_whole(writer, text) {
-        status
-    } else {
-        Status::Failed
+    match write_bytes(text, writer) {
+        Ok(()) => status,
+        Err(_) => Status::Failed,
     }
 }

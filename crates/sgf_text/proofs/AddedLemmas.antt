@@ -1,14 +1,13 @@
 -- Values added to a node under a name, and what joins properties that stand twice.
-use Rattle.std.proofs.Common.{◌≡◌, ◌≢◌, ℕ, zero, suc, ◌+◌, List, [], ◌∷◌, ◌++◌, set, get_or, sym, ap, ◌∙◌, subst, refl, arith}
-use Rattle.std.specs.Prelude.{Bool, true, false, not, ◌&&◌, ◌||◌, cond, filter, Option, Some, None, option_map, position}
+use Rattle.std.proofs.Common.{◌≡◌, ℕ, zero, suc, ◌+◌, List, [], ◌∷◌, ◌++◌, set, get_or, sym, ap, ◌∙◌, subst, refl, arith}
+use Rattle.std.specs.Prelude.{Bool, true, false, not, ◌&&◌, ◌||◌, cond, Some, None, position}
 use Rattle.std.specs.List.{list_all, list_any}
 use Rattle.std.specs.Str.{bytes_eq}
-use Rattle.std.proofs.lemmas.List.{append_assoc, append-nil}
 use Rattle.std.specs.List.{position_from}
 use Rattle.std.proofs.lemmas.Iterator.Adapters.{position_from-zero}
 use Rattle.std.proofs.lemmas.Slice.Eq.{bytes_eq-Decides}
 use Rattle.sgf_text.specs.declared.node.Property.{Property}
-use Rattle.sgf_text.specs.Nodes.{is_value, is_ident, is_property, is_named, are_distinct, is_node, values_at, without, joined}
+use Rattle.sgf_text.specs.Nodes.{is_value, is_ident, is_property, is_named, are_distinct, is_node}
 use Rattle.sgf_text.specs.OpenTrees.{added, names_of}
 
 abbrev pub property : List ℕ → List (List ℕ) → Property

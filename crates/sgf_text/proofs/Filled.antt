@@ -1,22 +1,21 @@
 -- What an open tree becomes with what is still to come, and that no byte changes it.
-use Rattle.std.proofs.Common.{◌≡◌, ◌≢◌, ℕ, zero, suc, ◌+◌, List, [], ◌∷◌, ◌++◌, sym, ap, ◌∙◌, subst, refl, arith, length}
-use Rattle.std.specs.Prelude.{Bool, true, false, map, filter}
+use Rattle.std.proofs.Common.{◌≡◌, ℕ, List, [], ◌∷◌, ◌++◌, sym, ap, ◌∙◌, refl}
+use Rattle.std.specs.Prelude.{true, false, map, filter}
 use Rattle.std.proofs.lemmas.List.{append_assoc, append-nil}
 use Rattle.sgf_text.specs.declared.followers.Sign.{Sign}
-use Rattle.sgf_text.specs.declared.followers.Sign.TheVariants.{White, Upper, Lower, OpenRound, CloseRound, Semicolon, OpenSquare, CloseSquare, Backslash, Other}
+use Rattle.sgf_text.specs.declared.followers.Sign.TheVariants.{White, Upper, Lower, OpenRound, Semicolon, OpenSquare, CloseSquare, Backslash}
 use Rattle.sgf_text.specs.declared.followers.Place.{Place}
 use Rattle.sgf_text.specs.declared.followers.Place.TheVariants.{AfterOpen, AfterSemicolon, InIdent, AfterIdent, InValue, AfterBackslash, AfterValue, AfterChild}
 use Rattle.sgf_text.specs.declared.followers.Move.{Move}
-use Rattle.sgf_text.specs.declared.followers.Move.TheVariants.{Opens, Begins, Closes, To, Refused}
-use Rattle.sgf_text.specs.declared.node.Property.{Property}
+use Rattle.sgf_text.specs.declared.followers.Move.TheVariants.{To}
 use Rattle.sgf_text.specs.Bytes.{is_upper}
 use Rattle.sgf_text.specs.Nodes.{joined}
 use Rattle.sgf_text.specs.Trees.{Node, Forest, no_tree, tree_then, GameTree}
-use Rattle.sgf_text.specs.Grammar.{joined_forest, joined_tree}
+use Rattle.sgf_text.specs.Grammar.{joined_forest}
 use Rattle.sgf_text.specs.Followers.{move}
-use Rattle.sgf_text.specs.OpenTrees.{added, forest_join, bare_tree, Open, led, node_ended, can_close, begun_in, opened_in, closed_in, IsSoundWord, IsSoundProperty, IsSoundNode}
+use Rattle.sgf_text.specs.OpenTrees.{added, forest_join, Open, led, node_ended, can_close, begun_in, opened_in, closed_in, IsSoundWord, IsSoundProperty, IsSoundNode}
 use Rattle.sgf_text.proofs.Signs.{Means}
-use Rattle.sgf_text.proofs.Machine.{Front, front, ended, closed, opened, begun, kept}
+use Rattle.sgf_text.proofs.Machine.{Front, front, ended, closed, begun, kept}
 use Rattle.sgf_text.proofs.Sound.{Fits}
 use Rattle.sgf_text.proofs.ForestLemmas.{join_none, join_joined}
 use Rattle.sgf_text.proofs.JoinedLemmas.{joined_onto, joined_is}

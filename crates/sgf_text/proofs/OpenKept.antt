@@ -1,6 +1,6 @@
 -- No byte breaks what an open tree keeps.
-use Rattle.std.proofs.Common.{◌≡◌, ◌≢◌, ℕ, List, [], ◌∷◌, ◌++◌, sym, ap, ◌∙◌, subst, refl, arith}
-use Rattle.std.specs.Prelude.{Bool, true, false, not, ◌&&◌, ◌==◌, IsTrue}
+use Rattle.std.proofs.Common.{◌≡◌, ◌≢◌, ℕ, List, [], ◌∷◌, ◌++◌, sym, ap, ◌∙◌, subst, refl}
+use Rattle.std.specs.Prelude.{true, false, ◌&&◌, IsTrue}
 use Rattle.std.specs.List.{list_all}
 use Rattle.std.proofs.lemmas.List.{append_assoc, append-nil}
 use Rattle.sgf_text.specs.declared.followers.Sign.{Sign}
@@ -8,14 +8,14 @@ use Rattle.sgf_text.specs.declared.followers.Sign.TheVariants.{White, Upper, Low
 use Rattle.sgf_text.specs.declared.followers.Place.{Place}
 use Rattle.sgf_text.specs.declared.followers.Place.TheVariants.{AfterOpen, AfterSemicolon, InIdent, AfterIdent, InValue, AfterBackslash, AfterValue, AfterChild}
 use Rattle.sgf_text.specs.declared.followers.Move.{Move}
-use Rattle.sgf_text.specs.declared.followers.Move.TheVariants.{Opens, Begins, Closes, To, Refused}
+use Rattle.sgf_text.specs.declared.followers.Move.TheVariants.{To}
 use Rattle.sgf_text.specs.declared.node.Property.{Property}
 use Rattle.sgf_text.specs.Bytes.{is_upper}
 use Rattle.sgf_text.specs.Nodes.{is_value_after, is_value, is_ident, is_node}
-use Rattle.sgf_text.specs.Trees.{Node, Forest, no_tree, tree_then, GameTree}
+use Rattle.sgf_text.specs.Trees.{no_tree, tree_then, GameTree}
 use Rattle.sgf_text.specs.Text.{is_tree, is_forest, are_nodes}
 use Rattle.sgf_text.specs.Followers.{move}
-use Rattle.sgf_text.specs.OpenTrees.{added, bare_tree, forest_join, with_node, with_child, Open, moved, led, node_ended, can_close, begun_in, opened_in, closed_in, IsSound, IsSoundWord, IsSoundProperty, IsSoundNode, IsSoundTree}
+use Rattle.sgf_text.specs.OpenTrees.{added, forest_join, with_node, with_child, Open, moved, led, node_ended, can_close, begun_in, opened_in, closed_in, IsSound, IsSoundWord, IsSoundProperty, IsSoundNode, IsSoundTree}
 use Rattle.sgf_text.proofs.Signs.{Means}
 use Rattle.sgf_text.proofs.Sound.{IsPlain, plain_white, plain_letter, plain_at}
 use Rattle.sgf_text.proofs.AddedLemmas.{both_good, both_parts}

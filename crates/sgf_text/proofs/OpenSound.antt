@@ -1,24 +1,19 @@
 -- What an open tree keeps, step by step.
-use Rattle.std.proofs.Common.{◌≡◌, ◌≢◌, ℕ, List, [], ◌∷◌, ◌++◌, sym, ap, ◌∙◌, subst, refl, arith}
-use Rattle.std.specs.Prelude.{Bool, true, false, not, ◌&&◌, ◌==◌, IsTrue}
+use Rattle.std.proofs.Common.{◌≡◌, ℕ, List, [], ◌∷◌, ◌++◌, refl}
+use Rattle.std.specs.Prelude.{Bool, true, false, IsTrue}
 use Rattle.std.specs.List.{list_all}
-use Rattle.std.proofs.lemmas.List.{append_assoc}
 use Rattle.sgf_text.specs.declared.followers.Sign.{Sign}
-use Rattle.sgf_text.specs.declared.followers.Sign.TheVariants.{White, Upper, Lower, OpenRound, CloseRound, Semicolon, OpenSquare, CloseSquare, Backslash, Other}
+use Rattle.sgf_text.specs.declared.followers.Sign.TheVariants.{White, Upper, Lower, OpenRound, CloseRound, Semicolon, OpenSquare, CloseSquare, Backslash}
 use Rattle.sgf_text.specs.declared.followers.Place.{Place}
 use Rattle.sgf_text.specs.declared.followers.Place.TheVariants.{AfterOpen, AfterSemicolon, InIdent, AfterIdent, InValue, AfterBackslash, AfterValue, AfterChild}
-use Rattle.sgf_text.specs.declared.followers.Move.{Move}
-use Rattle.sgf_text.specs.declared.followers.Move.TheVariants.{Opens, Begins, Closes, To, Refused}
+use Rattle.sgf_text.specs.declared.followers.Move.TheVariants.{Opens, Begins, Closes}
 use Rattle.sgf_text.specs.declared.node.Property.{Property}
-use Rattle.sgf_text.specs.Bytes.{is_upper}
-use Rattle.sgf_text.specs.Nodes.{is_value_after, is_value, is_ident, is_node}
-use Rattle.sgf_text.specs.Trees.{Node, Forest, no_tree, tree_then, GameTree}
+use Rattle.sgf_text.specs.Nodes.{is_node}
+use Rattle.sgf_text.specs.Trees.{Node, GameTree}
 use Rattle.sgf_text.specs.Text.{is_tree, is_forest, are_nodes}
 use Rattle.sgf_text.specs.Followers.{move}
-use Rattle.sgf_text.specs.OpenTrees.{added, bare_tree, with_node, with_child, Open, at_start, moved, led, node_ended, can_close, begun_in, opened_in, closed_in, IsSound, IsSoundWord, IsSoundProperty, IsSoundNode, IsSoundTree}
-use Rattle.sgf_text.proofs.Signs.{Means}
+use Rattle.sgf_text.specs.OpenTrees.{added, with_node, Open, at_start, node_ended, can_close, IsSound, IsSoundProperty, IsSoundNode, IsSoundTree}
 use Rattle.sgf_text.proofs.AddedLemmas.{both_good, both_parts, added_good}
-use Rattle.sgf_text.proofs.ForestLemmas.{join_good}
 
 abbrev pub open_at : Place → List ℕ → List ℕ → List (List ℕ) → List Property → GameTree → List GameTree → ℕ → Open
 open_at P w i vs ps t os n = record { place = P; word = w; ident = i; values = vs; properties = ps; tree = t; outer = os; nodes = n }

@@ -1,6 +1,6 @@
 -- From the reader's steps to what it answers.
-use Rattle.std.proofs.Common.{◌≡◌, ◌≢◌, ℕ, zero, suc, ◌+◌, ◌<◌, ◌≤◌, List, [], ◌∷◌, ◌++◌, length, get_or, take, drop, sym, ap, ◌∙◌, subst, refl, arith}
-use Rattle.std.specs.Prelude.{Option, Some, None, option_map, Result, Ok, Err, MatchResult, IfOk, IfErr}
+use Rattle.std.proofs.Common.{◌≡◌, ◌≢◌, ℕ, suc, ◌+◌, ◌<◌, ◌≤◌, List, ◌∷◌, ◌++◌, length, get_or, take, drop, sym, ap, ◌∙◌, subst, refl, arith}
+use Rattle.std.specs.Prelude.{Some, None, option_map, Ok, Err}
 use Rattle.std.proofs.Math.Seq.{drop-cons}
 use Rattle.std.proofs.Math.ListN.{drop_of_length-le}
 use Rattle.std.proofs.lemmas.List.{take-append-drop, get_or-take, length-take, length-append}
@@ -13,8 +13,7 @@ use Rattle.sgf_text.specs.Grammar.{tree_place, Reads, joined_tree}
 use Rattle.sgf_text.specs.Followers.{move, byte_limit, cut_fault, outcome_in, outcome_of}
 use Rattle.sgf_text.specs.Laws.{IsWithin}
 use Rattle.sgf_text.specs.OpenTrees.{Open, at_start, Steps, IsSound}
-use Rattle.sgf_text.proofs.Machine.{Front, front, complete}
-use Rattle.sgf_text.proofs.Readings.{Finds, finds_of, one_reading, no_fault_where_read, place_split, place_grow}
+use Rattle.sgf_text.proofs.Readings.{finds_of, one_reading, no_fault_where_read, place_split, place_grow}
 use Rattle.sgf_text.proofs.Filled.{filled}
 use Rattle.sgf_text.proofs.OpenSound.{start_sound}
 use Rattle.sgf_text.proofs.Reading.{completed, ends, Follows, steps_follow}

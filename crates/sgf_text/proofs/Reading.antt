@@ -1,6 +1,6 @@
 -- Each byte that the reader takes is one step of the followers and of the reader on lists.
-use Rattle.std.proofs.Common.{◌≡◌, ◌≢◌, ℕ, zero, suc, ◌+◌, List, [], ◌∷◌, ◌++◌, sym, ap, ◌∙◌, subst, refl, arith, length}
-use Rattle.std.specs.Prelude.{Bool, true, false, nat_lt, Option, Some, None, option_map, Result, Ok, Err}
+use Rattle.std.proofs.Common.{◌≡◌, ℕ, suc, ◌+◌, List, [], ◌∷◌, sym, ap, ◌∙◌, subst, refl, arith, length}
+use Rattle.std.specs.Prelude.{true, nat_lt, Option, Some, None, option_map, Result, Ok, Err}
 use Rattle.sgf_text.specs.declared.followers.Sign.{Sign}
 use Rattle.sgf_text.specs.declared.followers.Sign.TheVariants.{Upper, Lower, CloseSquare}
 use Rattle.sgf_text.specs.declared.followers.Place.{Place}
@@ -12,10 +12,10 @@ use Rattle.sgf_text.specs.declared.fault.SgfFault.TheVariants.{NoTree, Syntax, T
 use Rattle.sgf_text.specs.Bytes.{sign_of}
 use Rattle.sgf_text.specs.Trees.{Node, Forest, GameTree}
 use Rattle.sgf_text.specs.Followers.{move, tree_end, depth_limit, node_limit}
-use Rattle.sgf_text.specs.OpenTrees.{Open, moved, led, node_ended, begun_in, opened_in, closed_in, ClosesTo, Steps, IsSound}
-use Rattle.sgf_text.proofs.Signs.{Means, means}
-use Rattle.sgf_text.proofs.Machine.{Front, front, ended, closed, opened, begun, kept, complete}
-use Rattle.sgf_text.proofs.Sound.{Fits, sound}
+use Rattle.sgf_text.specs.OpenTrees.{Open, moved, led, node_ended, begun_in, opened_in, closed_in, Steps, IsSound}
+use Rattle.sgf_text.proofs.Signs.{means}
+use Rattle.sgf_text.proofs.Machine.{Front, front, closed, opened, begun, kept, complete}
+use Rattle.sgf_text.proofs.Sound.{sound}
 use Rattle.sgf_text.proofs.Limits.{front_at, end_at, tested, last_end, last_front}
 use Rattle.sgf_text.proofs.OpenSound.{opens_at, begins_at, closes_at, ended_outer, ended_nodes}
 use Rattle.sgf_text.proofs.OpenKept.{LedSound, led_sound, begun_sound, opened_sound, closed_sound}

@@ -1,7 +1,7 @@
-use Rattle.std.proofs.Common.{◌≡◌, [], ◌∷◌, ◌++◌, arith, rules, ap, ◌∙◌, sym, subst, take, length}
-use Rattle.std.specs.Prelude.{flat_map, OnOk, OnErr}
+use Rattle.std.proofs.Common.{◌≡◌, [], ◌∷◌, ◌++◌, arith, ap, ◌∙◌, sym, subst, take}
+use Rattle.std.specs.Prelude.{flat_map}
 use Rattle.std.proofs.lemmas.List.{append-nil, take_all}
-use Rattle.sgf_text.specs.Taken.{Puts, TakesPart}
+use Rattle.sgf_text.specs.Taken.{Puts}
 use Rattle.sgf_text.specs.Text.{node_text, tree_text, forest_text}
 use Rattle.sgf_text.proofs.TakenLemmas.{on_err, more_cut, puts_cut, puts_then, then_puts, then_cut, next_puts, next_cut}
 use Rattle.sgf_text.proofs.TreeTextLemmas.{forest_flat, kid_is_smaller}

@@ -1,6 +1,6 @@
-use Rattle.std.proofs.Common.{[], ◌∷◌, ◌++◌}
+use Rattle.std.proofs.Common.{[], ◌∷◌}
 use Rattle.std.specs.Prelude.{flat_map}
-use Rattle.sgf_text.specs.Text.{property_text, value_text}
+use Rattle.sgf_text.specs.Text.{property_text}
 use Rattle.sgf_text.proofs.TakenLemmas.{on_err, more_cut, then_puts, then_cut}
 use Rattle.sgf_text.proofs.tree_text.put_node.Goals as goal
 

@@ -1,4 +1,4 @@
-use Rattle.std.proofs.Common.{◌≡◌, ◌++◌, sym, ◌∙◌, ap, rules}
+use Rattle.std.proofs.Common.{◌≡◌, rules}
 use Rattle.sgf_text.proofs.TakenLemmas.{on_err, front_cut, written_puts, written_cut}
 use Rattle.sgf_text.proofs.write.put.Goals as goal
 

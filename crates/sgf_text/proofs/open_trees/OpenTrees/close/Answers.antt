@@ -1,9 +1,9 @@
-use Rattle.std.proofs.Common.{◌≡◌, sym, ap, ◌∙◌, subst}
+use Rattle.std.proofs.Common.{sym, ap, ◌∙◌, subst}
 use Rattle.std.specs.Prelude.{IsTrue, reverse, [], ◌∷◌}
 use Rattle.std.proofs.lemmas.List.{reverse-append}
 use Rattle.sgf_text.specs.declared.followers.Place.TheVariants.{AfterChild}
 use Rattle.sgf_text.specs.Text.{is_tree}
-use Rattle.sgf_text.specs.OpenTrees.{Open, node_ended, with_child}
+use Rattle.sgf_text.specs.OpenTrees.{Open, with_child}
 use Rattle.sgf_text.proofs.OpenSound.{tree_good, ended_outer}
 use Rattle.sgf_text.proofs.open_trees.OpenTrees.close.Goals as goal
 

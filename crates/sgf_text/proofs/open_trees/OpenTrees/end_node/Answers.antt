@@ -1,6 +1,6 @@
 use Rattle.std.proofs.Common.{◌≡◌, sym, ap, ◌∙◌, subst}
 use Rattle.std.specs.Prelude.{IsTrue}
-use Rattle.sgf_text.specs.declared.followers.Place.TheVariants.{AfterSemicolon, AfterValue}
+use Rattle.sgf_text.specs.declared.followers.Place.TheVariants.{AfterValue}
 use Rattle.sgf_text.specs.Nodes.{is_node}
 use Rattle.sgf_text.specs.OpenTrees.{Open, added, IsSoundNode, IsSoundProperty}
 use Rattle.sgf_text.proofs.OpenSound.{value_node}

@@ -1,6 +1,6 @@
-use Rattle.std.proofs.Common.{rules, arith, ◌≡◌, ◌<◌, ◌≤◌, length, ℕ, ◌+◌, ◌-◌, Bool, true, false, List, [], ◌∷◌, get_or, take, drop, sym, ◌∙◌, ap}
+use Rattle.std.proofs.Common.{rules, arith, ◌≡◌, ◌<◌, length, ◌+◌, ◌-◌, false, ◌∷◌, get_or, take, drop, sym, ◌∙◌, ap}
 use Rattle.sgf_text.specs.Bytes.{is_white}
-use Rattle.sgf_text.specs.Tokens.{Span, tokens_after}
+use Rattle.sgf_text.specs.Tokens.{tokens_after}
 use Rattle.sgf_text.proofs.TokenLemmas.{tokens_step}
 use Rattle.sgf_text.proofs.text_tokens.TextTokensIterator.next.Goals as goal
 use Rattle.sgf_text.proofs.text_tokens.TextTokensIterator.next.Goals.{then-loop-self-test+else-is_white, else-loop-self-test}

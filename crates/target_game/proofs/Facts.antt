@@ -54,9 +54,11 @@ all_of_colour (Stone y ∷ rest) x h = go (list_all (same_cell (Stone y)) rest) 
     go : (b : Bool) → list_all (same_cell (Stone y)) rest ≡ b → cond b (Some y) None ≡ Some x → (0 < suc (length rest)) × ((same_cell (Stone y) (Stone x) && list_all (λ a. same_cell a (Stone x)) rest) ≡ true)
     go false e h' = absurd (cc)
     go true e h' =
-        let same : y ≡ x = cc h' in
-        (omega arith, subst (λ z. (same_cell (Stone y) (Stone z) && list_all (λ a. same_cell a (Stone z)) rest) ≡ true) same
-            (ap (λ b. b && list_all (λ a. same_cell a (Stone y)) rest) (same_cell_refl (Stone y)) ∙ others rest e))
+        let same : y ≡ x = cc h' in (
+          omega arith,
+          subst (λ z. (same_cell (Stone y) (Stone z) && list_all (λ a. same_cell a (Stone z)) rest) ≡ true) same
+              (ap (λ b. b && list_all (λ a. same_cell a (Stone y)) rest) (same_cell_refl (Stone y)) ∙ others rest e),
+        )
 
 some_colour : (o : Option Colour) → is_none o ≡ false → o ≡ Some (the_colour o)
 some_colour None h = absurd (cc)
@@ -107,8 +109,8 @@ facts (c ∷ cs) place mover passes targets region q h =
     let defender : Colour = the_colour (one_colour cells) in
     let stones = all_of_colour cells defender (some_colour (one_colour cells) a3.0) in
     let stand : list_all (λ p. same_cell (cell_at (get_or hs place []) p) (Stone defender)) (map (number_of n) targets) ≡ true =
-      map_all (number_of n) (λ p. same_cell (cell_at (get_or hs place []) p) (Stone defender)) targets
-      ∙ sym (map_all (λ p. cell_at (get_or hs place []) (number_of n p)) (λ a. same_cell a (Stone defender)) targets) ∙ stones.1 in
+    map_all (number_of n) (λ p. same_cell (cell_at (get_or hs place []) p) (Stone defender)) targets
+    ∙ sym (map_all (λ p. cell_at (get_or hs place []) (number_of n p)) (λ a. same_cell a (Stone defender)) targets) ∙ stones.1 in
     subst (λ (r : GameProblem). Facts hs place passes targets region r) made.1 (record {
       problem = record {
         present = ltb-true place (length hs) (not_false (nat_lt place (length hs)) a2.0);

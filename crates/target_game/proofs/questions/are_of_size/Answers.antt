@@ -7,8 +7,8 @@ pub returns-then-ne-clause-value : goal.returns-then-ne-clause-value
 returns-then-ne-clause-value c =
     let n = c.args.size in
     sym (all_no (λ (x : List Cell). nat_eq (length x) (n * n)) c.args.history.now c.loop-colouring.colouring-index c.colouring-item.result c.loop-colouring-test.true (sym c.colouring-item.is)
-        (differs_in_size n c.size.result c.colouring-item.result c.ne.result c.size.ensures.value c.ne.ensures c.if-ne.true)
-        c.loop-colouring.invariant)
+    (differs_in_size n c.size.result c.colouring-item.result c.ne.result c.size.ensures.value c.ne.ensures c.if-ne.true)
+    c.loop-colouring.invariant)
 
 pub returns-clause-sides : goal.returns-clause-sides
 returns-clause-sides c t =

@@ -14,8 +14,8 @@ returns-then-has g c =
     let n = c.self.inside.played.size in
     let on : IsOn n p = subst (λ (v : Line). IsOn v.state.game.size p) (sym c.self.view_is) c.requires in
     subst (λ (v : Line). c.is_empty.result ≡ holds_point v.state.game.region (number_of v.state.game.size p) && same_cell (cell_at v.state.colouring (number_of v.state.game.size p)) Empty) c.self.view_is
-        (open_is n c.self.inside.region p (cell_at (colouring_of c.self.inside.played.present) (number_of n p)) c.has.result c.is_empty.result c.self.invariant.1 on c.has.ensures c.if-has.true
-            (c.is_empty.ensures ∙ ap (λ a. same_cell a Empty) c.cell.ensures))
+    (open_is n c.self.inside.region p (cell_at (colouring_of c.self.inside.played.present) (number_of n p)) c.has.result c.is_empty.result c.self.invariant.1 on c.has.ensures c.if-has.true
+    (c.is_empty.ensures ∙ ap (λ a. same_cell a Empty) c.cell.ensures))
 
 pub returns-else-has : goal.returns-else-has
 returns-else-has g c =
@@ -23,4 +23,4 @@ returns-else-has g c =
     let n = c.self.inside.played.size in
     let on : IsOn n p = subst (λ (v : Line). IsOn v.state.game.size p) (sym c.self.view_is) c.requires in
     subst (λ (v : Line). c.has.result ≡ holds_point v.state.game.region (number_of v.state.game.size p) && same_cell (cell_at v.state.colouring (number_of v.state.game.size p)) Empty) c.self.view_is
-        (closed_is n c.self.inside.region p (cell_at (colouring_of c.self.inside.played.present) (number_of n p)) c.has.result c.self.invariant.1 on c.has.ensures c.if-has.false)
+    (closed_is n c.self.inside.region p (cell_at (colouring_of c.self.inside.played.present) (number_of n p)) c.has.result c.self.invariant.1 on c.has.ensures c.if-has.false)

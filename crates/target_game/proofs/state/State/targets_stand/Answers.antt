@@ -19,8 +19,8 @@ returns-then-not-is_stone_of g c =
     let k = c.self.inside.defender in
     let f = λ (t : Place). same_cell (cell_at cells (number_of n t)) (Stone k) in
     subst (λ (v : Line). false ≡ targets_stand v.state) c.self.view_is
-        (sym (stand_is n cells k c.self.inside.targets
-        ∙ stand_no f c.self.inside.targets c.loop-point.point-iterator c.next.new.self c.in-Some.point c.is_stone_of.result c.in-Some.ensures.steps (c.is_stone_of.ensures ∙ ap (λ a. same_cell a (Stone k)) c.cell.ensures) c.if-not-is_stone_of.true c.loop-point.invariant.3))
+    (sym (stand_is n cells k c.self.inside.targets
+    ∙ stand_no f c.self.inside.targets c.loop-point.point-iterator c.next.new.self c.in-Some.point c.is_stone_of.result c.in-Some.ensures.steps (c.is_stone_of.ensures ∙ ap (λ a. same_cell a (Stone k)) c.cell.ensures) c.if-not-is_stone_of.true c.loop-point.invariant.3))
 
 pub returns : goal.returns
 returns g c =
@@ -29,4 +29,4 @@ returns g c =
     let k = c.self.inside.defender in
     let f = λ (t : Place). same_cell (cell_at cells (number_of n t)) (Stone k) in
     subst (λ (v : Line). true ≡ targets_stand v.state) c.self.view_is
-        (sym (stand_is n cells k c.self.inside.targets ∙ stand_yes f c.self.inside.targets c.loop-point.point-iterator c.in-None.ensures.steps.0 c.loop-point.invariant.3))
+    (sym (stand_is n cells k c.self.inside.targets ∙ stand_yes f c.self.inside.targets c.loop-point.point-iterator c.in-None.ensures.steps.0 c.loop-point.invariant.3))

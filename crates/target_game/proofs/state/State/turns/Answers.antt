@@ -21,13 +21,15 @@ loop-number-preserved g c =
     let on : IsOn n p = subst (λ (m : ℕ). IsOn m p) same c.point_at-point.ensures.on_board in
     elim c.if-may_move.branch [
       | then-may_move w ↦
-          rw (w.all-is)
-              (omega (arith, w.push.ensures.len, c.loop-number.invariant.0),
-              ap (map (ply_of n)) w.push.ensures.items ∙ moves_more s n c.loop-number.all.items i p c.loop-number.invariant.1 on at (sym c.may_move.ensures ∙ w.if-may_move.true))
+          rw (w.all-is) (
+            omega (arith, w.push.ensures.len, c.loop-number.invariant.0),
+            ap (map (ply_of n)) w.push.ensures.items ∙ moves_more s n c.loop-number.all.items i p c.loop-number.invariant.1 on at (sym c.may_move.ensures ∙ w.if-may_move.true),
+          )
       | else-may_move w ↦
-          rw (w.all-is)
-              (omega (arith, c.loop-number.invariant.0),
-              moves_same s n c.loop-number.all.items i (number_of n p) c.loop-number.invariant.1 at (sym c.may_move.ensures ∙ w.if-may_move.false))
+          rw (w.all-is) (
+            omega (arith, c.loop-number.invariant.0),
+            moves_same s n c.loop-number.all.items i (number_of n p) c.loop-number.invariant.1 at (sym c.may_move.ensures ∙ w.if-may_move.false),
+          )
     ]
 
 pub returns : goal.returns

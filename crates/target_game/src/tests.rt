@@ -1,0 +1,349 @@
+//! Problems and play on small boards, with results worked out by the rules.
+
+use crate::{BadProblem, MAX_HISTORY, Problem, State};
+use go_points::{Cell, Colour, Colouring, MAX_SIZE, PointSet, Size, Turn, sgf_point};
+use go_turns::{PlayBoard, PlaySeen};
+use std::alloc::Global;
+use std::process::Abort;
+
+type Play = State<PlayBoard, PlaySeen>;
+
+// The colouring of 3 by 3 with this text.
+fn three(rt: &impl Abort, text: &str) -> Colouring {
+    let size = Size::new(3).expect(rt, "a size");
+    Colouring::from_text(size, text.as_bytes()).expect(rt, "a text")
+}
+
+// The points of 3 by 3 with these letters, two for each.
+fn points(rt: &impl Abort, letters: &str) -> PointSet {
+    let size = Size::new(3).expect(rt, "a size");
+    let mut found = PointSet::new();
+    for pair in letters.as_bytes().chunks(2) {
+        found.insert(sgf_point(size, pair).expect(rt, "a point"));
+    }
+    found
+}
+
+fn turn(rt: &impl Abort, letters: &str) -> Turn {
+    let size = Size::new(3).expect(rt, "a size");
+    Turn::At(sgf_point(size, letters.as_bytes()).expect(rt, "a point"))
+}
+
+fn history(rt: &impl Abort, alloc: Global, texts: &[&str]) -> Vec<Colouring> {
+    let mut all = Vec::new(alloc);
+    for text in texts {
+        all.push(three(rt, text)).expect(rt, "memory");
+    }
+    all
+}
+
+// The start of a problem on 3 by 3 whose present colouring is the last of its history.
+fn start(
+    rt: &impl Abort,
+    alloc: Global,
+    texts: &[&str],
+    mover: Colour,
+    targets: &str,
+    region: &str,
+) -> Play {
+    let place = texts.len().saturating_sub(1);
+    let problem = Problem::new(
+        history(rt, alloc, texts),
+        place,
+        mover,
+        0,
+        points(rt, targets),
+        points(rt, region),
+    );
+    State::of(alloc, &problem.expect(rt, "a problem")).expect(rt, "memory")
+}
+
+// Makes a turn, if it is legal.
+fn play(state: &mut Play, turn: Turn) -> bool {
+    if state.over().is_some() {
+        return false;
+    }
+    match turn {
+        Turn::Pass => state.after(Turn::Pass).is_ok(),
+        Turn::At(point) => {
+            if !state.size().holds(point) || !state.may_move(point) {
+                return false;
+            }
+            state.after(Turn::At(point)).is_ok()
+        }
+    }
+}
+
+#[test]
+fn a_capture_wins_for_the_attacker(rt: HostRuntime) {
+    let mut state = start(&rt, rt.alloc(), &["O..X....."], Colour::Black, "aa", "ba");
+    assert_eq!(rt; state.over(), None);
+    assert_eq!(rt;
+        state.turns().as_slice(),
+        [turn(&rt, "ba"), Turn::Pass].as_slice()
+    );
+    assert_eq!(rt; state.next_turn(0), turn(&rt, "ba"));
+    assert_eq!(rt; state.next_turn(2), Turn::Pass);
+    assert!(rt; play(&mut state, turn(&rt, "ba")));
+    assert_eq!(rt; state.over(), Some(Colour::Black));
+    assert_eq!(rt; state.mover(), Colour::White);
+    assert_eq!(rt; state.colouring(), three(&rt, ".X.X....."));
+    assert!(rt; state.turns().is_empty());
+}
+
+#[test]
+fn two_passes_win_for_the_defender(rt: HostRuntime) {
+    let mut state = start(&rt, rt.alloc(), &["O..X....."], Colour::White, "aa", "ba");
+    assert!(rt; play(&mut state, turn(&rt, "ba")));
+    assert!(rt; play(&mut state, Turn::Pass));
+    assert_eq!(rt; state.passes(), 1);
+    assert_eq!(rt; state.over(), None);
+    assert!(rt; play(&mut state, Turn::Pass));
+    assert_eq!(rt; state.over(), Some(Colour::White));
+    assert!(rt; !play(&mut state, Turn::Pass));
+}
+
+#[test]
+fn the_past_decides_at_a_ko(rt: HostRuntime) {
+    let free = start(&rt, rt.alloc(), &["O.OXO...."], Colour::Black, "aa", "ba");
+    assert_eq!(rt;
+        free.turns().as_slice(),
+        [turn(&rt, "ba"), Turn::Pass].as_slice()
+    );
+    let barred = start(
+        &rt,
+        rt.alloc(),
+        &[".XOXO....", "O.OXO...."],
+        Colour::Black,
+        "aa",
+        "ba",
+    );
+    assert_eq!(rt; barred.turns().as_slice(), [Turn::Pass].as_slice());
+    assert_eq!(rt; barred.holds(&three(&rt, ".XOXO....")), Some(0));
+    assert_eq!(rt; barred.holds(&three(&rt, ".X.XO....")), None);
+}
+
+#[test]
+fn suicide_of_one_stone_is_no_turn(rt: HostRuntime) {
+    let state = start(&rt, rt.alloc(), &[".XXXXXXX."], Colour::White, "bb", "aacc");
+    assert_eq!(rt; state.turns().as_slice(), [Turn::Pass].as_slice());
+}
+
+#[test]
+fn suicide_of_two_stones_is_a_turn_and_loses_the_targets(rt: HostRuntime) {
+    let mut state = start(&rt, rt.alloc(), &["X.OOO...."], Colour::Black, "aa", "ba");
+    assert_eq!(rt;
+        state.turns().as_slice(),
+        [turn(&rt, "ba"), Turn::Pass].as_slice()
+    );
+    assert!(rt; play(&mut state, turn(&rt, "ba")));
+    assert_eq!(rt; state.colouring(), three(&rt, "..OOO...."));
+    assert_eq!(rt; state.over(), Some(Colour::White));
+}
+
+#[test]
+fn the_region_binds_both_sides(rt: HostRuntime) {
+    let mut state = start(&rt, rt.alloc(), &["O........"], Colour::Black, "aa", "ba");
+    assert_eq!(rt;
+        state.turns().as_slice(),
+        [turn(&rt, "ba"), Turn::Pass].as_slice()
+    );
+    assert!(rt; !play(&mut state, turn(&rt, "ab")));
+    assert!(rt; play(&mut state, turn(&rt, "ba")));
+    assert_eq!(rt; state.turns().as_slice(), [Turn::Pass].as_slice());
+}
+
+#[test]
+fn a_turn_is_taken_back_whole(rt: HostRuntime) {
+    let mut state = start(&rt, rt.alloc(), &["O..X....."], Colour::Black, "aa", "bacc");
+    assert!(rt; play(&mut state, Turn::Pass));
+    let corner = Size::new(3)
+        .expect(&rt, "a size")
+        .point(2, 2)
+        .expect(&rt, "a point");
+    assert!(rt; state.over().is_none() && state.size().holds(corner) && state.may_move(corner));
+    if state.over().is_none() && state.size().holds(corner) && state.may_move(corner) {
+        assert!(rt; state.after(Turn::At(corner)).is_ok());
+        assert_eq!(rt; state.colouring(), three(&rt, "O..X....O"));
+        assert_eq!(rt; state.passes(), 0);
+        state.back();
+    }
+    assert_eq!(rt; state.passes(), 1);
+    assert_eq!(rt; state.mover(), Colour::White);
+    assert_eq!(rt; state.colouring(), three(&rt, "O..X....."));
+    assert_eq!(rt; state.holds(&three(&rt, "O..X....O")), None);
+}
+
+// The refusal of a problem on 3 by 3, if it is refused.
+fn refusal(
+    rt: &impl Abort,
+    alloc: Global,
+    texts: &[&str],
+    place: usize,
+    passes: u64,
+    targets: &str,
+    region: &str,
+) -> Option<BadProblem> {
+    let all = history(rt, alloc, texts);
+    match Problem::new(
+        all,
+        place,
+        Colour::Black,
+        passes,
+        points(rt, targets),
+        points(rt, region),
+    ) {
+        Ok(_) => None,
+        Err(fault) => Some(fault),
+    }
+}
+
+#[test]
+fn each_refusal_comes_alone(rt: HostRuntime) {
+    let alloc = rt.alloc();
+    let fine = ["O..X....."];
+    let fine = fine.as_slice();
+    assert_eq!(rt; refusal(&rt, alloc, fine, 0, 1, "aa", "ba"), None);
+    assert_eq!(rt;
+        refusal(&rt, alloc, &[], 0, 0, "aa", "ba"),
+        Some(BadProblem::BadPlace)
+    );
+    assert_eq!(rt;
+        refusal(&rt, alloc, fine, 1, 0, "aa", "ba"),
+        Some(BadProblem::BadPlace)
+    );
+    assert_eq!(rt;
+        refusal(&rt, alloc, fine, 0, 0, "", "ba"),
+        Some(BadProblem::BadTargets)
+    );
+    assert_eq!(rt;
+        refusal(&rt, alloc, fine, 0, 0, "cc", "ba"),
+        Some(BadProblem::BadTargets)
+    );
+    assert_eq!(rt;
+        refusal(&rt, alloc, fine, 0, 0, "aaab", "ba"),
+        Some(BadProblem::BadTargets)
+    );
+    assert_eq!(rt;
+        refusal(&rt, alloc, fine, 0, 2, "aa", "ba"),
+        Some(BadProblem::Ended)
+    );
+    assert_eq!(rt;
+        refusal(&rt, alloc, fine, 0, 0, "aa", ""),
+        Some(BadProblem::EmptyRegion)
+    );
+    let dead = ["OX.X.....", "O..X....."];
+    assert_eq!(rt;
+        refusal(&rt, alloc, &dead, 1, 0, "aa", "ba"),
+        Some(BadProblem::NoLiberty)
+    );
+    let twice = ["O..X.....", ".........", "O..X....."];
+    assert_eq!(rt;
+        refusal(&rt, alloc, &twice, 2, 0, "aa", "ba"),
+        Some(BadProblem::Repeated)
+    );
+}
+
+#[test]
+fn the_earlier_refusal_is_named(rt: HostRuntime) {
+    let alloc = rt.alloc();
+    let fine = ["O..X....."];
+    let fine = fine.as_slice();
+    assert_eq!(rt;
+        refusal(&rt, alloc, fine, 1, 2, "", ""),
+        Some(BadProblem::BadPlace)
+    );
+    assert_eq!(rt;
+        refusal(&rt, alloc, fine, 0, 2, "cc", ""),
+        Some(BadProblem::BadTargets)
+    );
+    assert_eq!(rt;
+        refusal(&rt, alloc, fine, 0, 2, "aa", ""),
+        Some(BadProblem::Ended)
+    );
+    let dead = ["OX.X.....", "O..X.....", "O..X....."];
+    assert_eq!(rt;
+        refusal(&rt, alloc, &dead, 1, 0, "aa", ""),
+        Some(BadProblem::EmptyRegion)
+    );
+    assert_eq!(rt;
+        refusal(&rt, alloc, &dead, 1, 0, "aa", "ba"),
+        Some(BadProblem::NoLiberty)
+    );
+}
+
+#[test]
+fn a_colouring_of_another_size_is_refused(rt: HostRuntime) {
+    let mut all = history(&rt, rt.alloc(), &["O..X....."]);
+    all.push(Colouring::empty(Size::new(2).expect(&rt, "a size")))
+        .expect(&rt, "memory");
+    match Problem::new(
+        all,
+        5,
+        Colour::Black,
+        0,
+        points(&rt, "aa"),
+        points(&rt, "ba"),
+    ) {
+        Ok(_) => assert!(rt; false),
+        Err(fault) => assert_eq!(rt; fault, BadProblem::OtherSize),
+    }
+}
+
+// That many colourings of the widest board, all different: a black stone at one point and a white one at another.
+fn long_history(rt: &impl Abort, alloc: Global, count: usize) -> Vec<Colouring> {
+    let size = Size::new(MAX_SIZE).expect(rt, "a size");
+    let mut all = Vec::new(alloc);
+    for number in 0..count {
+        let black = number / (size.area() - 1);
+        let white = black + 1 + number % (size.area() - 1);
+        let mut colouring = Colouring::empty(size);
+        if black < size.area() {
+            colouring.set(size.point_at(black), Cell::Stone(Colour::Black));
+        }
+        colouring.set(
+            size.point_at(white % size.area()),
+            Cell::Stone(Colour::White),
+        );
+        all.push(colouring).expect(rt, "memory");
+    }
+    all
+}
+
+#[test]
+fn a_history_has_a_thousand_colourings_at_most(rt: HostRuntime) {
+    let mut targets = PointSet::new();
+    let size = Size::new(MAX_SIZE).expect(&rt, "a size");
+    targets.insert(size.point(0, 0).expect(&rt, "a point"));
+    let fits = long_history(&rt, rt.alloc(), MAX_HISTORY);
+    assert!(rt; Problem::new(fits, 0, Colour::White, 0, targets, targets).is_ok());
+    let long = long_history(&rt, rt.alloc(), MAX_HISTORY + 1);
+    match Problem::new(long, 0, Colour::White, 0, targets, targets) {
+        Ok(_) => assert!(rt; false),
+        Err(fault) => assert_eq!(rt; fault, BadProblem::LongHistory),
+    }
+}
+
+#[test]
+fn a_problem_tells_its_parts(rt: HostRuntime) {
+    let all = history(&rt, rt.alloc(), &[".XOXO....", "O.OXO...."]);
+    let made = Problem::new(
+        all,
+        1,
+        Colour::Black,
+        1,
+        points(&rt, "aa"),
+        points(&rt, "bacc"),
+    );
+    let made = made.expect(&rt, "a problem");
+    let problem = made.copy(rt.alloc()).expect(&rt, "memory");
+    assert_eq!(rt; problem.size().rows(), 3);
+    assert_eq!(rt; problem.history().len(), 2);
+    assert_eq!(rt; problem.place(), 1);
+    assert_eq!(rt; *problem.colouring(), three(&rt, "O.OXO...."));
+    assert_eq!(rt; problem.mover(), Colour::Black);
+    assert_eq!(rt; problem.passes(), 1);
+    assert_eq!(rt; problem.defender(), Colour::White);
+    assert_eq!(rt; *problem.targets(), points(&rt, "aa"));
+    assert_eq!(rt; *problem.region(), points(&rt, "bacc"));
+}

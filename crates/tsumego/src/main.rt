@@ -8,6 +8,9 @@ mod run;
 mod status;
 mod texts;
 
+#[cfg(test)]
+mod tests;
+
 use run::run;
 use status::Status;
 use std::convert::AsStr;

@@ -15,9 +15,10 @@ pub use plain_board::PlainBoard;
 pub use record::Record;
 pub use seen::{ListSeen, Seen};
 
-/// The board and the list of colourings that play uses: layers above name these, so that faster ones take their place here alone.
+/// The board that play uses. The layers above name it so, and a faster one takes its place here alone.
 pub type PlayBoard = PlainBoard;
 
+/// The list of colourings that play uses, named so for the same reason.
 pub type PlaySeen = ListSeen;
 
 #[cfg(test)]

@@ -86,7 +86,7 @@ fn read_vertex(size: Size, text: &[u8]) -> Option<Turn>
 }
 
 /// The place of the first such byte.
-fn place_of_byte(text: &[u8], wanted: u8) -> Option<usize>
+pub(crate) fn place_of_byte(text: &[u8], wanted: u8) -> Option<usize>
     ensures { result ≡ position (λ x. nat_eq x wanted) text.now }
 {
     text.iter().position(|byte| *byte == wanted)

@@ -6,14 +6,20 @@ ghost use Rattle.proof_cert.specs.Text.{after_word, at_end, at_space, number_of,
 ghost use Rattle.proof_cert.specs.Lines.{main_line, won_line, end_line};
 ghost use Rattle.proof_cert.specs.Stage.{line_value, version_one};
 
-
 use go_points::{Colour, Colouring, Size, Turn, sgf_point};
 
 /// One line of a claim.
 #[derive(Clone, Copy, Debug)]
 pub enum Line {
-    Header { size: u32, winner: Colour },
-    Lemma { mover: Colour, passes: u8, root: Colouring },
+    Header {
+        size: u32,
+        winner: Colour,
+    },
+    Lemma {
+        mover: Colour,
+        passes: u8,
+        root: Colouring,
+    },
     Not(Colouring),
     Main,
     Won,

@@ -1,6 +1,6 @@
 //! The lines of a claim, one at a time.
 
-ghost use Rattle.std.specs.Prelude.{◌≡◌, ◌<◌, ◌∷◌, length, option_map};
+ghost use Rattle.std.specs.Prelude.{◌≡◌, ◌<◌, ◌^◌, ◌∷◌, length, option_map};
 ghost use Rattle.proof_cert.specs.Stage.{line_value};
 ghost use Rattle.proof_cert.specs.Source.{lines_read, source_of, answer, answer_value, later};
 
@@ -86,7 +86,8 @@ impl<'a> TextSource<'a> {
 
     /// The number of the line or fault that was answered last; 0 at first.
     pub fn line_number(&self) -> u64
-        ensures { result ≡ self.now.number }
+        ensures value { result ≡ self.now.number }
+        ensures few { result < 2 ^ 63 }
     {
         self.number
     }

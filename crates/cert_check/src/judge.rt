@@ -1,5 +1,11 @@
 //! The judge of a claim without lemmas: a recursion on nodes, over the lines of the claim, that builds no tree.
 
+ghost use Rattle.std.specs.Prelude.{◌≡◌, ◌≤◌, IsTrue, false, OnOk, MatchResult, Some, None};
+ghost use Rattle.go_points.specs.Ply.{ply_of};
+ghost use Rattle.target_game.specs.Legal.{legal};
+ghost use Rattle.target_game.specs.Over.{over};
+ghost use Rattle.cert_check.specs.Stage.{IsReadBehind};
+
 use crate::questions::{all_fault, play_fault, won_fault};
 use crate::reading::{NodeLine, Reading};
 use crate::reject::{Reject, Why};
@@ -14,19 +20,32 @@ pub(crate) type PlayState = State<PlayBoard, PlaySeen>;
 /// Who wins the problem by the claim that the text spells, or the first fault.
 pub fn check_main(alloc: Global, problem: &Problem, text: &[u8]) -> Result<Colour, Reject> {
     let mut reading = Reading::new(problem.size(), text);
-    let winner = reading.header(problem.size())?;
-    reading.main()?;
+    let winner = match reading.header(problem.size()) {
+        Ok(winner) => winner,
+        Err(reject) => return Err(reject),
+    };
+    if let Err(reject) = reading.main() {
+        return Err(reject);
+    }
     let Ok(mut state) = State::of(alloc, problem) else {
         return Err(reading.reject(Why::Memory));
     };
-    judge_node(&mut reading, &mut state, winner, 1)?;
-    reading.end()?;
-    reading.nothing()?;
+    if let Err(reject) = judge_node(&mut reading, &mut state, winner, 1) {
+        return Err(reject);
+    }
+    if let Err(reject) = reading.end() {
+        return Err(reject);
+    }
+    if let Err(reject) = reading.nothing() {
+        return Err(reject);
+    }
     Ok(winner)
 }
 
 /// Goes on where the questions of the line that was read last leave no fault.
-fn ask(reading: &Reading<'_>, fault: Option<Why>) -> Result<(), Reject> {
+fn ask(reading: &Reading<'_>, fault: Option<Why>) -> Result<(), Reject>
+    ensures { MatchResult result (λ _. fault ≡ None) (λ e. (fault ≡ Some e.why) × (e.place ≡ reading.now.source.number)) }
+{
     match fault {
         None => Ok(()),
         Some(why) => Err(reading.reject(why)),
@@ -40,18 +59,61 @@ fn judge_node(
     state: &mut PlayState,
     winner: Colour,
     depth: u32,
-) -> Result<(), Reject> {
-    match reading.node(depth)? {
+) -> Result<(), Reject>
+    requires { reading.old.source.has_failed ≡ false }
+    ensures kept { OnOk result (IsReadBehind reading.old.source reading.new.source) }
+    ensures state { OnOk result (state.new ≡ state.old) }
+{
+    let node = match reading.node(depth) {
+        Ok(node) => node,
+        Err(reject) => return Err(reject),
+    };
+    match node {
         NodeLine::Won => ask(reading, won_fault(state, winner)),
         NodeLine::Use(_) => Err(reading.reject(Why::LemmaNotLower)),
-        NodeLine::Play(turn) => {
-            ask(reading, play_fault(state, winner, turn))?;
-            judge_after(reading, state, winner, depth, turn)
-        }
-        NodeLine::All(replies) => {
-            ask(reading, all_fault(state, winner, replies))?;
-            judge_replies(reading, state, winner, depth)
-        }
+        NodeLine::Play(turn) => judge_play(reading, state, winner, depth, turn),
+        NodeLine::All(replies) => judge_all(reading, state, winner, depth, replies),
+    }
+}
+
+/// Judges a turn of the winner and the node below it, behind its line.
+#[cycle(judge)]
+fn judge_play(
+    reading: &mut Reading<'_>,
+    state: &mut PlayState,
+    winner: Colour,
+    depth: u32,
+    turn: Turn,
+) -> Result<(), Reject>
+    requires unfailed { reading.old.source.has_failed ≡ false }
+    requires shallow { depth ≤ 2000 }
+    ensures kept { OnOk result (IsReadBehind reading.old.source reading.new.source) }
+    ensures state { OnOk result (state.new ≡ state.old) }
+{
+    let made = turn;
+    match ask(reading, play_fault(state, winner, made)) {
+        Ok(()) => judge_after(reading, state, winner, depth, turn),
+        Err(reject) => Err(reject),
+    }
+}
+
+/// Judges the replies to the other side's turns, behind the line that counts them.
+#[cycle(judge)]
+fn judge_all(
+    reading: &mut Reading<'_>,
+    state: &mut PlayState,
+    winner: Colour,
+    depth: u32,
+    replies: u32,
+) -> Result<(), Reject>
+    requires unfailed { reading.old.source.has_failed ≡ false }
+    requires shallow { depth ≤ 2000 }
+    ensures kept { OnOk result (IsReadBehind reading.old.source reading.new.source) }
+    ensures state { OnOk result (state.new ≡ state.old) }
+{
+    match ask(reading, all_fault(state, winner, replies)) {
+        Ok(()) => judge_replies(reading, state, winner, depth),
+        Err(reject) => Err(reject),
     }
 }
 
@@ -63,13 +125,45 @@ fn judge_after(
     winner: Colour,
     depth: u32,
     turn: Turn,
-) -> Result<(), Reject> {
+) -> Result<(), Reject>
+    requires unfailed { reading.old.source.has_failed ≡ false }
+    requires open { over state.old.state ≡ None }
+    requires legal { IsTrue (legal state.old.state (ply_of state.old.state.game.size turn)) }
+    requires shallow { depth ≤ 2000 }
+    ensures kept { OnOk result (IsReadBehind reading.old.source reading.new.source) }
+    ensures state { OnOk result (state.new ≡ state.old) }
+{
     if state.after(turn).is_err() {
         return Err(reading.reject(Why::Memory));
     }
-    judge_node(reading, state, winner, depth + 1)?;
+    if let Err(reject) = judge_node(reading, state, winner, depth + 1) {
+        return Err(reject);
+    }
     state.back();
     Ok(())
+}
+
+/// Judges the reply that is due and its node.
+#[cycle(judge)]
+fn judge_reply(
+    reading: &mut Reading<'_>,
+    state: &mut PlayState,
+    winner: Colour,
+    depth: u32,
+    turn: Turn,
+) -> Result<(), Reject>
+    requires unfailed { reading.old.source.has_failed ≡ false }
+    requires open { over state.old.state ≡ None }
+    requires legal { IsTrue (legal state.old.state (ply_of state.old.state.game.size turn)) }
+    requires shallow { depth ≤ 2000 }
+    ensures kept { OnOk result (IsReadBehind reading.old.source reading.new.source) }
+    ensures state { OnOk result (state.new ≡ state.old) }
+{
+    let due = turn;
+    match reading.reply(due) {
+        Ok(()) => judge_after(reading, state, winner, depth, turn),
+        Err(reject) => Err(reject),
+    }
 }
 
 /// Judges the replies that are due, each with its node: moves ascending, and then the pass.
@@ -79,15 +173,21 @@ fn judge_replies(
     state: &mut PlayState,
     winner: Colour,
     depth: u32,
-) -> Result<(), Reject> {
+) -> Result<(), Reject>
+    requires unfailed { reading.old.source.has_failed ≡ false }
+    requires open { over state.old.state ≡ None }
+    requires shallow { depth ≤ 2000 }
+    ensures kept { OnOk result (IsReadBehind reading.old.source reading.new.source) }
+    ensures state { OnOk result (state.new ≡ state.old) }
+{
     let size = state.size();
     for number in 0..size.area() {
         let point = size.point_at(number);
         if state.may_move(point) {
-            reading.reply(Turn::At(point))?;
-            judge_after(reading, state, winner, depth, Turn::At(point))?;
+            if let Err(reject) = judge_reply(reading, state, winner, depth, Turn::At(point)) {
+                return Err(reject);
+            }
         }
     }
-    reading.reply(Turn::Pass)?;
-    judge_after(reading, state, winner, depth, Turn::Pass)
+    judge_reply(reading, state, winner, depth, Turn::Pass)
 }

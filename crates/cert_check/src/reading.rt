@@ -1,5 +1,11 @@
 //! How far the reading of a claim has come, and the questions that lines are asked by their kind alone.
 
+ghost use Rattle.std.specs.Prelude.{◌≡◌, ◌≤◌, ℕ, false, Some, is_some, IfOk, IfErr, OnOk, option_map};
+ghost use Rattle.proof_cert.specs.Stage.{line_value};
+ghost use Rattle.proof_cert.specs.Source.{source_of};
+ghost use Rattle.cert_check.specs.Verdict.{read_line, fine, plain_line};
+ghost use Rattle.cert_check.specs.Stage.{IsReadOn, Refuses, reading_at, node_value, node_line};
+
 use crate::reject::{Reject, Why};
 use go_points::{Colour, Size, Turn};
 use proof_cert::{Line, TextSource};
@@ -20,14 +26,37 @@ pub(crate) enum NodeLine {
 }
 
 /// The lines that are left, and how many nodes the claim has had so far.
-#[derive(Clone, Copy)]
+#[derive(Drop)]
 pub(crate) struct Reading<'a> {
     source: TextSource<'a>,
     nodes: u32,
 }
 
+/// Whether the line is one that is read so far: lemmas are not.
+fn is_read(line: &Line) -> bool
+    ensures { (n : ℕ) → result ≡ is_some (plain_line (Some (line_value n line.now))) }
+{
+    !matches!(line, Line::Lemma { .. })
+}
+
+/// The line, where it is a node's.
+fn node_of(line: Line) -> Option<NodeLine>
+    ensures { (n : ℕ) → option_map (node_value n) result ≡ node_line (line_value n line) }
+{
+    match line {
+        Line::Won => Some(NodeLine::Won),
+        Line::Use(lemma) => Some(NodeLine::Use(lemma)),
+        Line::Play(turn) => Some(NodeLine::Play(turn)),
+        Line::All(replies) => Some(NodeLine::All(replies)),
+        _ => None,
+    }
+}
+
 impl<'a> Reading<'a> {
-    pub(crate) fn new(size: Size, text: &'a [u8]) -> Reading<'a> {
+    pub(crate) fn new(size: Size, text: &'a [u8]) -> Reading<'a>
+        ensures source { result.source ≡ source_of size text.now }
+        ensures nodes { result.nodes ≡ 0 }
+    {
         Reading {
             source: TextSource::new(size, text),
             nodes: 0,
@@ -35,7 +64,10 @@ impl<'a> Reading<'a> {
     }
 
     /// The fault of the line that was read last.
-    pub(crate) fn reject(&self, why: Why) -> Reject {
+    pub(crate) fn reject(&self, why: Why) -> Reject
+        ensures place { result.place ≡ self.now.source.number }
+        ensures why { result.why ≡ why }
+    {
         Reject {
             place: self.source.line_number(),
             why,
@@ -43,9 +75,21 @@ impl<'a> Reading<'a> {
     }
 
     /// The next line; one that is missing is malformed, at the number that it would have.
-    fn next(&mut self) -> Result<Line, Reject> {
+    fn next(&mut self) -> Result<Line, Reject>
+        requires { self.old.source.has_failed ≡ false }
+        ensures kept { OnOk result (IsReadOn self.old.source self.new.source) }
+        ensures nodes { self.new.nodes ≡ self.old.nodes }
+        ensures ok { IfOk result (λ l. read_line (reading_at self.old.source self.old.nodes) ≡ fine (line_value self.old.source.size l) (reading_at self.new.source self.new.nodes)) }
+        ensures err { IfErr result (λ e. Refuses self.old.source.size (read_line (reading_at self.old.source self.old.nodes)) e) }
+    {
         match self.source.next() {
-            Ok(Some(line)) => Ok(line),
+            Ok(Some(line)) => {
+                if is_read(&line) {
+                    Ok(line)
+                } else {
+                    Err(self.reject(Why::Malformed))
+                }
+            }
             Ok(None) => Err(Reject {
                 place: self.source.line_number() + 1,
                 why: Why::Malformed,
@@ -55,64 +99,92 @@ impl<'a> Reading<'a> {
     }
 
     /// The first line: the winner, where the size is this.
-    pub(crate) fn header(&mut self, size: Size) -> Result<Colour, Reject> {
-        let Line::Header {
-            size: named,
-            winner,
-        } = self.next()?
-        else {
-            return Err(self.reject(Why::Malformed));
-        };
-        if named != u32::from(size.rows()) {
-            return Err(self.reject(Why::SizeDiffers));
+    pub(crate) fn header(&mut self, size: Size) -> Result<Colour, Reject>
+        requires { self.old.source.has_failed ≡ false }
+        ensures kept { OnOk result (IsReadOn self.old.source self.new.source) }
+        ensures nodes { self.new.nodes ≡ self.old.nodes }
+    {
+        match self.next() {
+            Ok(
+                Line::Header {
+                    size: named,
+                    winner,
+                },
+            ) => {
+                if named == u32::from(size.rows()) {
+                    Ok(winner)
+                } else {
+                    Err(self.reject(Why::SizeDiffers))
+                }
+            }
+            Ok(_) => Err(self.reject(Why::Malformed)),
+            Err(reject) => Err(reject),
         }
-        Ok(winner)
     }
 
     /// The line `main`.
-    pub(crate) fn main(&mut self) -> Result<(), Reject> {
-        match self.next()? {
-            Line::Main => Ok(()),
-            _ => Err(self.reject(Why::Malformed)),
+    pub(crate) fn main(&mut self) -> Result<(), Reject>
+        requires { self.old.source.has_failed ≡ false }
+        ensures kept { OnOk result (IsReadOn self.old.source self.new.source) }
+        ensures nodes { self.new.nodes ≡ self.old.nodes }
+    {
+        match self.next() {
+            Ok(Line::Main) => Ok(()),
+            Ok(_) => Err(self.reject(Why::Malformed)),
+            Err(reject) => Err(reject),
         }
     }
 
     /// The line `end`.
-    pub(crate) fn end(&mut self) -> Result<(), Reject> {
-        match self.next()? {
-            Line::End => Ok(()),
-            _ => Err(self.reject(Why::Malformed)),
+    pub(crate) fn end(&mut self) -> Result<(), Reject>
+        requires { self.old.source.has_failed ≡ false }
+        ensures kept { OnOk result (IsReadOn self.old.source self.new.source) }
+        ensures nodes { self.new.nodes ≡ self.old.nodes }
+    {
+        match self.next() {
+            Ok(Line::End) => Ok(()),
+            Ok(_) => Err(self.reject(Why::Malformed)),
+            Err(reject) => Err(reject),
         }
     }
 
     /// The line `reply` with the turn that is due.
-    pub(crate) fn reply(&mut self, due: Turn) -> Result<(), Reject> {
-        match self.next()? {
-            Line::Reply(turn) => {
+    pub(crate) fn reply(&mut self, due: Turn) -> Result<(), Reject>
+        requires { self.old.source.has_failed ≡ false }
+        ensures kept { OnOk result (IsReadOn self.old.source self.new.source) }
+        ensures nodes { self.new.nodes ≡ self.old.nodes }
+    {
+        match self.next() {
+            Ok(Line::Reply(turn)) => {
                 if turn == due {
                     Ok(())
                 } else {
                     Err(self.reject(Why::RepliesDiffer { due }))
                 }
             }
-            _ => Err(self.reject(Why::Malformed)),
+            Ok(_) => Err(self.reject(Why::Malformed)),
+            Err(reject) => Err(reject),
         }
     }
 
     /// The line of a node at this depth, which is counted.
-    pub(crate) fn node(&mut self, depth: u32) -> Result<NodeLine, Reject> {
-        let line = match self.next()? {
-            Line::Won => NodeLine::Won,
-            Line::Use(lemma) => NodeLine::Use(lemma),
-            Line::Play(turn) => NodeLine::Play(turn),
-            Line::All(replies) => NodeLine::All(replies),
-            _ => return Err(self.reject(Why::Malformed)),
+    pub(crate) fn node(&mut self, depth: u32) -> Result<NodeLine, Reject>
+        requires { self.old.source.has_failed ≡ false }
+        ensures kept { OnOk result (IsReadOn self.old.source self.new.source) }
+        ensures shallow { OnOk result (depth ≤ 2000) }
+    {
+        let line = match self.next() {
+            Ok(line) => line,
+            Err(reject) => return Err(reject),
+        };
+        let Some(node) = node_of(line) else {
+            return Err(self.reject(Why::Malformed));
         };
         if self.nodes >= MAX_NODES || depth > MAX_DEPTH {
             return Err(self.reject(Why::Limit));
         }
         self.nodes += 1;
-        Ok(line)
+        Ok(node)
     }
 
     /// Nothing may follow.

@@ -65,7 +65,7 @@ number_more text i v d low at digit had =
     record {
       digits = sym (ap (λ k. all_ascii_digits (drop k text)) next) ∙ sym (ap (λ b. b && all_ascii_digits (drop (suc i) text)) digit_yes) ∙ sym (ap all_ascii_digits step) ∙ had.digits;
       value = sym (ap (λ k. value_from (v * 10 + (d - 48)) (drop k text)) next) ∙ ap (λ k. value_from (k + (d - 48)) (drop (suc i) text)) (omega arith) ∙ sym (ap (value_from v) step) ∙ had.value;
-      below = omega (arith, had.below, power, digit.1)
+      below = omega (arith, had.below, power, digit.1);
     }
 
 not_digits : (text : List ℕ) → all_ascii_digits text ≡ false → number_of text ≡ None

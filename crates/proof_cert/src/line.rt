@@ -6,14 +6,20 @@ ghost use Rattle.proof_cert.specs.Text.{after_word, at_end, at_space, number_of,
 ghost use Rattle.proof_cert.specs.Lines.{main_line, won_line, end_line};
 ghost use Rattle.proof_cert.specs.Stage.{line_value, version_one};
 
-
 use go_points::{Colour, Colouring, Size, Turn, sgf_point};
 
 /// One line of a claim.
 #[derive(Clone, Copy, Debug)]
 pub enum Line {
-    Header { size: u32, winner: Colour },
-    Lemma { mover: Colour, passes: u8, root: Colouring },
+    Header {
+        size: u32,
+        winner: Colour,
+    },
+    Lemma {
+        mover: Colour,
+        passes: u8,
+        root: Colouring,
+    },
     Not(Colouring),
     Main,
     Won,
@@ -86,7 +92,7 @@ fn read_vertex(size: Size, text: &[u8]) -> Option<Turn>
 }
 
 /// The place of the first such byte.
-fn place_of_byte(text: &[u8], wanted: u8) -> Option<usize>
+pub(crate) fn place_of_byte(text: &[u8], wanted: u8) -> Option<usize>
     ensures { result ≡ position (λ x. nat_eq x wanted) text.now }
 {
     text.iter().position(|byte| *byte == wanted)

@@ -1,7 +1,12 @@
 //! The lines of a claim, one at a time.
 
-use crate::line::Line;
+ghost use Rattle.std.specs.Prelude.{◌≡◌, ◌<◌, ◌^◌, ◌∷◌, length, option_map};
+ghost use Rattle.proof_cert.specs.Stage.{line_value};
+ghost use Rattle.proof_cert.specs.Source.{lines_read, source_of, answer, answer_value, later};
+
+use crate::line::{Line, place_of_byte};
 use go_points::Size;
+use std::marker::Model;
 
 /// Why a source gives no line.
 #[derive(Clone, Copy, Debug, PartialEq, Eq)]
@@ -13,7 +18,7 @@ pub enum SourceFault {
 }
 
 /// The lines of a text that is held, for a board of one size.
-#[derive(Clone, Copy)]
+#[derive(Drop)]
 pub struct TextSource<'a> {
     size: Size,
     left: &'a [u8],
@@ -21,8 +26,35 @@ pub struct TextSource<'a> {
     has_failed: bool,
 }
 
+impl<'a> Model for TextSource<'a> {
+    ghost use Rattle.std.specs.Prelude.{◌+◌, ◌^◌, ◌<◌, length};
+    ghost use Rattle.proof_cert.specs.Source.{Source, lines_read};
+
+    ghost Value = { Source };
+
+    ghost view = { λ a. record { size = a.size; left = lines_read a.size a.left.now; number = a.number; has_failed = a.has_failed } };
+
+    ghost invariant = { λ a. a.number + length a.left.now < 2 ^ 63 };
+}
+
+/// The first line of a text that is not empty, if its bytes spell one and a line feed ends it; and what stands behind it.
+fn first_line<'a>(size: Size, text: &'a [u8]) -> (Option<Line>, &'a [u8])
+    requires { 0 < length text.now }
+    ensures lines { lines_read size text.now ≡ option_map (line_value size) result.0 ∷ lines_read size result.1.now }
+    ensures shorter { length result.1.now < length text.now }
+{
+    match place_of_byte(text, b'\n') {
+        Some(end) => (Line::from_text(size, &text[..end]), &text[end + 1..]),
+        None => (None, &text[text.len()..]),
+    }
+}
+
 impl<'a> TextSource<'a> {
-    pub fn new(size: Size, text: &'a [u8]) -> TextSource<'a> {
+    /// The lines of the text, for a board of this size.
+    pub fn new(size: Size, text: &'a [u8]) -> TextSource<'a>
+        ensures { result ≡ source_of size text.now }
+    {
+        prove!(text.len() < 9_223_372_036_854_775_808);
         TextSource {
             size,
             left: text,
@@ -32,28 +64,31 @@ impl<'a> TextSource<'a> {
     }
 
     /// The next line; `None` where the text has ended. After a fault it is the same fault.
-    pub fn next(&mut self) -> Result<Option<Line>, SourceFault> {
+    pub fn next(&mut self) -> Result<Option<Line>, SourceFault>
+        ensures answer { answer_value self.old.size result ≡ answer self.old }
+        ensures later { self.new ≡ later self.old }
+    {
         if self.has_failed {
             return Err(SourceFault::Malformed);
         }
         if self.left.is_empty() {
             return Ok(None);
         }
-        self.number = self.number.saturating_add(1);
-        let Some(end) = self.left.iter().position(|byte| *byte == b'\n') else {
+        let (line, left) = first_line(self.size, self.left);
+        self.left = left;
+        self.number += 1;
+        if line.is_none() {
             self.has_failed = true;
             return Err(SourceFault::Malformed);
-        };
-        let Some(line) = Line::from_text(self.size, &self.left[..end]) else {
-            self.has_failed = true;
-            return Err(SourceFault::Malformed);
-        };
-        self.left = &self.left[end + 1..];
-        Ok(Some(line))
+        }
+        Ok(line)
     }
 
     /// The number of the line or fault that was answered last; 0 at first.
-    pub fn line_number(&self) -> u64 {
+    pub fn line_number(&self) -> u64
+        ensures value { result ≡ self.now.number }
+        ensures few { result < 2 ^ 63 }
+    {
         self.number
     }
 }

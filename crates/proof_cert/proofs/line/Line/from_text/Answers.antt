@@ -20,10 +20,10 @@ pub returns : goal.returns
 returns c =
     c.plain_word.ensures c.args.size
     ∙ sym (line_word c.args.size c.args.text.now
-        (none_there c.behind_word.result _ c.in_default.not-Some c.behind_word.ensures)
-        (none_there c.behind_word-2.result _ c.in_default-behind_word.not-Some c.behind_word-2.ensures)
-        (none_there c.behind_word-3.result _ c.in_default-behind_word-2.not-Some c.behind_word-3.ensures)
-        (none_there c.behind_word-4.result _ c.in_default-behind_word-3.not-Some c.behind_word-4.ensures)
-        (none_there c.behind_word-5.result _ c.in_default-behind_word-4.not-Some c.behind_word-5.ensures)
-        (none_there c.behind_word-6.result _ c.in_default-behind_word-5.not-Some c.behind_word-6.ensures)
-        (none_there c.behind_word-7.result _ c.in_default-behind_word-6.not-Some c.behind_word-7.ensures))
+    (none_there c.behind_word.result _ c.in_default.not-Some c.behind_word.ensures)
+    (none_there c.behind_word-2.result _ c.in_default-behind_word.not-Some c.behind_word-2.ensures)
+    (none_there c.behind_word-3.result _ c.in_default-behind_word-2.not-Some c.behind_word-3.ensures)
+    (none_there c.behind_word-4.result _ c.in_default-behind_word-3.not-Some c.behind_word-4.ensures)
+    (none_there c.behind_word-5.result _ c.in_default-behind_word-4.not-Some c.behind_word-5.ensures)
+    (none_there c.behind_word-6.result _ c.in_default-behind_word-5.not-Some c.behind_word-6.ensures)
+    (none_there c.behind_word-7.result _ c.in_default-behind_word-6.not-Some c.behind_word-7.ensures))

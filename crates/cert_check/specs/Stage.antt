@@ -1,0 +1,80 @@
+-- What the program's refusals and readings say, while claims without lemmas are read alone.
+--     why_value n w      why a line is refused; None where memory was
+--     Refuses n j e      the refusal is the fault of what was judged
+--     reading_at s nodes      the reading of a source of lines
+use Rattle.std.specs.Prelude.{◌≡◌, ℕ, suc, ◌<◌, ◌≤◌, false, not, length, List, [], map, Option, Some, None}
+use Rattle.go_points.specs.Ply.{Ply, pass, move, ply_of}
+use Rattle.target_game.specs.State.{GameState}
+use Rattle.target_game.specs.Next.{next}
+use Rattle.proof_cert.specs.Lines.{Line, won_line, use_line, play_line, all_line}
+use Rattle.proof_cert.specs.Source.{Source}
+use Rattle.cert_check.specs.declared.reject.Why as code
+use Rattle.cert_check.specs.declared.reject.Why.TheVariants.{Malformed, SizeDiffers, NotWon, WrongSide, TurnBarred, RepeatsKnown, RepliesDiffer, LemmaNotLower, Limit, TextAfterEnd, Memory}
+use Rattle.cert_check.specs.declared.reject.Reject.{Reject}
+use Rattle.cert_check.specs.declared.reading.NodeLine.{NodeLine}
+use Rattle.cert_check.specs.declared.reading.NodeLine.TheVariants.{Won, Use, Play, All}
+use Rattle.cert_check.specs.Body.{Body, Why, malformed, size_differs, not_won, wrong_side, turn_barred, repeats_known, replies_differ, lemma_not_lower, limit, text_after_end, ask, is_open, is_known, result_of, won_fault, play_fault, use_fault, all_fault, due_replies}
+use Rattle.cert_check.specs.Verdict.{Reading, Judged, faulty, then_judge, asked, plain_line}
+
+abbrev pub why_value : ℕ → code.Why → Option Why
+why_value n Malformed = Some malformed
+why_value n SizeDiffers = Some size_differs
+why_value n NotWon = Some not_won
+why_value n WrongSide = Some wrong_side
+why_value n TurnBarred = Some turn_barred
+why_value n RepeatsKnown = Some repeats_known
+why_value n (RepliesDiffer due) = Some (replies_differ (ply_of n due))
+why_value n LemmaNotLower = Some lemma_not_lower
+why_value n Limit = Some limit
+why_value n TextAfterEnd = Some text_after_end
+why_value n Memory = None
+
+-- where memory was refused, nothing is said of the claim
+abbrev pub IsFault : {A : Type 0} → Judged A → ℕ → Option Why → Type 0
+IsFault j place None = Unit {0}
+IsFault j place (Some why) = j ≡ faulty place why
+
+abbrev pub Refuses : {A : Type 0} → ℕ → Judged A → Reject → Type 0
+Refuses n j e = IsFault j e.place (why_value n e.why)
+
+abbrev pub reading_at : Source → ℕ → Reading
+reading_at s nodes = record { rest = map plain_line s.left; place = suc s.number; nodes = nodes; listed = 0 }
+
+-- a line was read, and the source has not failed; and the same of any number of lines
+pub record IsReadOn (old new : Source) : Type 0 where
+  pub unfailed : new.has_failed ≡ false
+  pub size : new.size ≡ old.size
+  pub number : new.number ≡ suc old.number
+  pub shorter : length new.left < length old.left
+
+pub record IsReadBehind (old new : Source) : Type 0 where
+  pub unfailed : new.has_failed ≡ false
+  pub size : new.size ≡ old.size
+  pub shorter : length new.left ≤ length old.left
+
+-- the questions of a move alone; a pass has none
+abbrev pub move_fault : GameState → Ply → Option Why
+move_fault s pass = None
+move_fault s (move p) = ask (is_open s p) turn_barred (ask (not (is_known s (result_of s p))) repeats_known None)
+
+-- the lines of nodes
+abbrev pub node_value : ℕ → NodeLine → Line
+node_value n Won = won_line
+node_value n (Use j) = use_line j
+node_value n (Play t) = play_line (ply_of n t)
+node_value n (All m) = all_line m
+
+abbrev pub node_line : Line → Option Line
+node_line won_line = Some won_line
+node_line (use_line j) = Some (use_line j)
+node_line (play_line t) = Some (play_line t)
+node_line (all_line m) = Some (all_line m)
+node_line _ = None
+
+-- what is left of judging a node when its line, at this place, is read and counted
+abbrev pub judge_read : Body → GameState → (GameState → Reading → Judged (Unit {0})) → (List Ply → Reading → Judged (Unit {0})) → ℕ → Line → Reading → Judged (Unit {0})
+judge_read b s below answers place won_line r = asked place (won_fault b s) r
+judge_read b s below answers place (use_line j) r = asked place (use_fault b s j) r
+judge_read b s below answers place (play_line t) r = then_judge (asked place (play_fault b s t) r) (λ _ r'. below (next s t) r')
+judge_read b s below answers place (all_line m) r = then_judge (asked place (all_fault b s m) r) (λ _ r'. answers (due_replies s) r')
+judge_read b s below answers place _ r = faulty place malformed

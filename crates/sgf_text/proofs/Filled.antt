@@ -19,7 +19,7 @@ use Rattle.sgf_text.proofs.Machine.{Front, front, ended, closed, begun, kept}
 use Rattle.sgf_text.proofs.Sound.{Fits}
 use Rattle.sgf_text.proofs.ForestLemmas.{join_none, join_joined}
 use Rattle.sgf_text.proofs.JoinedLemmas.{joined_onto, joined_is}
-use Rattle.sgf_text.proofs.OpenSound.{can_begin}
+use Rattle.sgf_text.proofs.OpenSound.{can_begin, ended_outer}
 
 abbrev pub ident_filled : Place → Open → Front → List ℕ
 ident_filled (InIdent has) o F = o.word ++ filter is_upper F.word
@@ -136,11 +136,6 @@ settled_children : (P : Place) (o : Open) → (node_ended P o).tree.children ≡
 settled_children AfterSemicolon o = refl
 settled_children AfterValue o = refl
 settled_children place o = refl
-
-ended_outer : (P : Place) (o : Open) → (node_ended P o).outer ≡ o.outer
-ended_outer AfterSemicolon o = refl
-ended_outer AfterValue o = refl
-ended_outer place o = refl
 
 pub opened_filled : (P : Place) (o : Open) → can_close P ≡ true → (ns : List Node) (f x : Forest) (xs : List Forest) (r : List ℕ) → filled AfterOpen (opened_in (node_ended P o)) (front [] [] [] ns f (x ∷ xs) r) ≡ filled P o (front [] [] [] [] (tree_then ns f x) xs r)
 opened_filled P o c ns f x xs r =

@@ -6,10 +6,9 @@ mod input;
 mod record;
 mod run;
 mod status;
-mod texts;
-
 #[cfg(test)]
 mod tests;
+mod texts;
 
 use run::run;
 use status::Status;

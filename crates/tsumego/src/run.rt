@@ -5,9 +5,9 @@ use crate::record::{RecordFault, read_record};
 use crate::status::Status;
 use crate::texts::{reject_text, wins_text};
 use cert_check::{Reject, Why, check_main};
+use sgf_text::write_bytes;
 use std::alloc::Global;
 use std::convert::AsStr;
-use sgf_text::write_bytes;
 use std::io::{Read, Write};
 
 /// The most bytes of input that `check` holds: 64 MiB.
@@ -31,7 +31,11 @@ fn check<R: Read, W: Write>(alloc: Global, reader: &mut R, writer: &mut W) -> St
     let mut input = Vec::new(alloc);
     match read_to_limit(reader, &mut input, MAX_INPUT) {
         Err(_) => answer(writer, b"failed: memory\n", Status::Failed),
-        Ok(Reading::Failed) | Ok(Reading::TooLong) => answer(writer, b"failed: read\n", Status::Failed),
+        Ok(Reading::Failed) | Ok(Reading::TooLong) => answer(
+            writer,
+            b"failed: read\n",
+            Status::Failed,
+        ),
         Ok(Reading::Whole) => check_bytes(alloc, input.as_slice(), writer),
     }
 }

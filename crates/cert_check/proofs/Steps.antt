@@ -127,7 +127,7 @@ replies_on b d s due t ts r r' first good = ap (λ us. judged_replies b d s us r
 pub replies_refused : (n : ℕ) (b : Body) (d : ℕ) (s : GameState) (due : List Ply) (t : Ply) (ts : List Ply) (r : Reading) (e : Reject) → due ≡ t ∷ ts → Refuses n (judged_reply b d s t r) e → Refuses n (judged_replies b d s due r) e
 replies_refused n b d s due t ts r e first bad =
     refuses_same n (then_judge (judged_reply b d s t r) (λ _ r2. judged_replies b d s ts r2)) (judged_replies b d s due r) e (ap (λ us. judged_replies b d s us r) first ∙ replies_is b d s t ts r)
-        (refuses_then n (judged_reply b d s t r) (λ _ r2. judged_replies b d s ts r2) e bad)
+    (refuses_then n (judged_reply b d s t r) (λ _ r2. judged_replies b d s ts r2) e bad)
 
 pub behind_on : (a b c : Source) → IsReadBehind a b → IsReadBehind b c → IsReadBehind a c
 behind_on a b c h k =

@@ -32,7 +32,7 @@ judge_node-returns-in-Err-clause-err t c =
     let d = c.args.depth in
     let r = reading_at c.args.reading.now.source c.args.reading.now.nodes in
     refuses_size c.args.reading.now.source.size s.game.size _ c.in-Err.reject c.requires.size
-        (refuses_same c.args.reading.now.source.size _ _ c.in-Err.reject (node_is b d s r) (c.in-Err.ensures.err b s (judged_node b (suc d)) (judged_replies b d s)))
+    (refuses_same c.args.reading.now.source.size _ _ c.in-Err.reject (node_is b d s r) (c.in-Err.ensures.err b s (judged_node b (suc d)) (judged_replies b d s)))
 
 pub judge_node-returns-in-Won-clause-ok : goal.judge_node-returns-in-Won-clause-ok
 judge_node-returns-in-Won-clause-ok t c =
@@ -66,7 +66,7 @@ judge_node-returns-in-Use-clause-err t c =
     let m = c.args.reading.now.source.size in
     let read = node_is b d s r ∙ c.in-Ok.ensures.ok b s (judged_node b (suc d)) (judged_replies b d s) ∙ ap (λ (k : NodeLine). judged_read b d s c.node.new.self.source.number (node_value m k) r1) c.in-Use.is in
     refuses_as s.game.size _ c.reject.result LemmaNotLower c.node.new.self.source.number lemma_not_lower c.reject.ensures.place c.reject.ensures.why refl
-        (read ∙ use_none c.args.winner s c.in-Use.field-0 c.node.new.self.source.number r1)
+    (read ∙ use_none c.args.winner s c.in-Use.field-0 c.node.new.self.source.number r1)
 
 pub judge_node-returns-in-Play-clause-ok : goal.judge_node-returns-in-Play-clause-ok
 judge_node-returns-in-Play-clause-ok t c =
@@ -77,7 +77,7 @@ judge_node-returns-in-Play-clause-ok t c =
     let r1 = reading_at c.node.new.self.source c.node.new.self.nodes in
     let m = c.args.reading.now.source.size in
     let read = node_is b d s r ∙ c.in-Ok.ensures.ok b s (judged_node b (suc d)) (judged_replies b d s) ∙ ap (λ (k : NodeLine). judged_read b d s c.node.new.self.source.number (node_value m k) r1) c.in-Play.is
-        ∙ ap (λ (q : ℕ). judged_read b d s c.node.new.self.source.number (node_value q (NodeLine.Play c.in-Play.turn)) r1) c.requires.size in
+    ∙ ap (λ (q : ℕ). judged_read b d s c.node.new.self.source.number (node_value q (NodeLine.Play c.in-Play.turn)) r1) c.requires.size in
     on_ok_map c.judge_play.result _ _ (λ h. read ∙ h) c.judge_play.ensures.ok
 
 pub judge_node-returns-in-Play-clause-err : goal.judge_node-returns-in-Play-clause-err
@@ -89,7 +89,7 @@ judge_node-returns-in-Play-clause-err t c =
     let r1 = reading_at c.node.new.self.source c.node.new.self.nodes in
     let m = c.args.reading.now.source.size in
     let read = node_is b d s r ∙ c.in-Ok.ensures.ok b s (judged_node b (suc d)) (judged_replies b d s) ∙ ap (λ (k : NodeLine). judged_read b d s c.node.new.self.source.number (node_value m k) r1) c.in-Play.is
-        ∙ ap (λ (q : ℕ). judged_read b d s c.node.new.self.source.number (node_value q (NodeLine.Play c.in-Play.turn)) r1) c.requires.size in
+    ∙ ap (λ (q : ℕ). judged_read b d s c.node.new.self.source.number (node_value q (NodeLine.Play c.in-Play.turn)) r1) c.requires.size in
     if_err_map c.judge_play.result _ _ (λ e h. refuses_same s.game.size _ _ e read h) c.judge_play.ensures.err
 
 pub judge_node-returns-in-All-clause-ok : goal.judge_node-returns-in-All-clause-ok
@@ -158,15 +158,18 @@ judge_replies-loop-number-preserved t c =
           let free : legal s (move (number_of n p)) ≡ true = subst (λ (v : Line). legal v.state (move (number_of v.state.game.size p)) ≡ true) kept (sym c.may_move.ensures ∙ w.if-may_move.true) in
           let r1 = reading_at w.judge_reply.new.reading.source w.judge_reply.new.reading.nodes in
           let good : judged_reply b d s (ply_of n (At p)) r ≡ fine tt r1 = subst (λ (v : Line). judged_reply b d v.state (ply_of v.state.game.size (At p)) r ≡ fine tt r1) kept w.in_default.ensures.ok in
-          rw (w.state-is, w.reading-is)
-              (w.in_default.ensures.state ∙ kept,
-              behind_on c.args.reading.now.source c.loop-number.reading.source w.judge_reply.new.reading.source c.loop-number.invariant.1 w.in_default.ensures.kept,
-              c.loop-number.invariant.2 ∙ replies_on b d s (due_from s i) (ply_of n (At p)) (due_from s (i + 1)) r r1 (due_here s i p low at on free) good)
+          rw (w.state-is, w.reading-is) (
+            w.in_default.ensures.state ∙ kept,
+            behind_on c.args.reading.now.source c.loop-number.reading.source w.judge_reply.new.reading.source c.loop-number.invariant.1 w.in_default.ensures.kept,
+            c.loop-number.invariant.2 ∙ replies_on b d s (due_from s i) (ply_of n (At p)) (due_from s (i + 1)) r r1 (due_here s i p low at on free) good,
+          )
       | judge_replies-else-may_move w ↦
           let barred : legal s (move (number_of n p)) ≡ false = subst (λ (v : Line). legal v.state (move (number_of v.state.game.size p)) ≡ false) kept (sym c.may_move.ensures ∙ w.if-may_move.false) in
-          rw (w.state-is, w.reading-is)
-              (kept, c.loop-number.invariant.1,
-              c.loop-number.invariant.2 ∙ ap (λ (due : List Ply). judged_replies b d s due r) (due_later s i p low at barred))
+          rw (w.state-is, w.reading-is) (
+            kept,
+            c.loop-number.invariant.1,
+            c.loop-number.invariant.2 ∙ ap (λ (due : List Ply). judged_replies b d s due r) (due_later s i p low at barred),
+          )
     ]
 
 pub judge_replies-returns-clause-ok : goal.judge_replies-returns-clause-ok
@@ -182,7 +185,7 @@ judge_replies-returns-clause-ok t c =
     let past : n * n ≤ i = omega (arith, c.loop-number-test.false, c.area-number-end.ensures.value, square) in
     let kept : c.loop-number.state ≡ c.args.state.now = c.loop-number.invariant.0 in
     on_ok_map c.judge_reply-2.result _ _
-        (λ h. c.loop-number.invariant.2
-            ∙ replies_on b d s (due_from s i) pass [] r _ (due_last s i past) (subst (λ (v : Line). judged_reply b d v.state (ply_of v.state.game.size Pass) r ≡ fine tt (reading_at c.judge_reply-2.new.reading.source c.judge_reply-2.new.reading.nodes)) kept h)
-            ∙ replies_none b d s _)
-        c.judge_reply-2.ensures.ok
+    (λ h. c.loop-number.invariant.2
+    ∙ replies_on b d s (due_from s i) pass [] r _ (due_last s i past) (subst (λ (v : Line). judged_reply b d v.state (ply_of v.state.game.size Pass) r ≡ fine tt (reading_at c.judge_reply-2.new.reading.source c.judge_reply-2.new.reading.nodes)) kept h)
+    ∙ replies_none b d s _)
+    c.judge_reply-2.ensures.ok

@@ -1,10 +1,15 @@
 //! How far the reading of a claim has come, and the questions that lines are asked by their kind alone.
 
-ghost use Rattle.std.specs.Prelude.{◌≡◌, ◌≤◌, ℕ, false, Some, is_some, IfOk, IfErr, OnOk, option_map};
+ghost use Rattle.std.specs.Prelude.{◌≡◌, ◌≤◌, ℕ, suc, false, [], Some, is_some, IsTrue, IfOk, IfErr, OnOk, MatchResult, List, option_map};
+ghost use Rattle.go_points.specs.declared.Colour.{Colour as SpecColour};
+ghost use Rattle.go_points.specs.Ply.{Ply, ply_of};
+ghost use Rattle.target_game.specs.State.{Game, GameState};
+ghost use Rattle.proof_cert.specs.Lines.{turn_fits};
 ghost use Rattle.proof_cert.specs.Stage.{line_value};
 ghost use Rattle.proof_cert.specs.Source.{source_of};
-ghost use Rattle.cert_check.specs.Verdict.{read_line, fine, plain_line};
-ghost use Rattle.cert_check.specs.Stage.{IsReadOn, Refuses, reading_at, node_value, node_line};
+ghost use Rattle.cert_check.specs.Body.{Body};
+ghost use Rattle.cert_check.specs.Verdict.{Reading as SpecReading, Judged, read_line, fine, judge_lemmas, judge_end, at_end, accepted, plain_line};
+ghost use Rattle.cert_check.specs.Stage.{IsReadOn, Refuses, Rejects, reading_at, node_value, node_line, judged_line, judge_read, judged_header, answered};
 
 use crate::reject::{Reject, Why};
 use go_points::{Colour, Size, Turn};
@@ -79,6 +84,7 @@ impl<'a> Reading<'a> {
         requires { self.old.source.has_failed ≡ false }
         ensures kept { OnOk result (IsReadOn self.old.source self.new.source) }
         ensures nodes { self.new.nodes ≡ self.old.nodes }
+        ensures plain { IfOk result (λ l. plain_line (Some (line_value self.old.source.size l)) ≡ Some (line_value self.old.source.size l)) }
         ensures ok { IfOk result (λ l. read_line (reading_at self.old.source self.old.nodes) ≡ fine (line_value self.old.source.size l) (reading_at self.new.source self.new.nodes)) }
         ensures err { IfErr result (λ e. Refuses self.old.source.size (read_line (reading_at self.old.source self.old.nodes)) e) }
     {
@@ -100,9 +106,11 @@ impl<'a> Reading<'a> {
 
     /// The first line: the winner, where the size is this.
     pub(crate) fn header(&mut self, size: Size) -> Result<Colour, Reject>
-        requires { self.old.source.has_failed ≡ false }
+        requires unfailed { self.old.source.has_failed ≡ false }
+        requires first { self.old.source.number ≡ 0 }
         ensures kept { OnOk result (IsReadOn self.old.source self.new.source) }
-        ensures nodes { self.new.nodes ≡ self.old.nodes }
+        ensures ok { IfOk result (λ x. (g : Game) → g.size ≡ size → judged_header g (reading_at self.old.source self.old.nodes) ≡ fine (1, x) (reading_at self.new.source self.new.nodes)) }
+        ensures err { IfErr result (λ e. (g : Game) → g.size ≡ size → Refuses self.old.source.size (judged_header g (reading_at self.old.source self.old.nodes)) e) }
     {
         match self.next() {
             Ok(
@@ -126,7 +134,8 @@ impl<'a> Reading<'a> {
     pub(crate) fn main(&mut self) -> Result<(), Reject>
         requires { self.old.source.has_failed ≡ false }
         ensures kept { OnOk result (IsReadOn self.old.source self.new.source) }
-        ensures nodes { self.new.nodes ≡ self.old.nodes }
+        ensures ok { OnOk result ((bound : ℕ) (g : Game) (version : ℕ) (x : SpecColour) → judge_lemmas (suc bound) g version x [] (reading_at self.old.source self.old.nodes) ≡ fine [] (reading_at self.new.source self.new.nodes)) }
+        ensures err { IfErr result (λ e. (bound : ℕ) (g : Game) (version : ℕ) (x : SpecColour) → Refuses self.old.source.size (judge_lemmas (suc bound) g version x [] (reading_at self.old.source self.old.nodes)) e) }
     {
         match self.next() {
             Ok(Line::Main) => Ok(()),
@@ -139,7 +148,8 @@ impl<'a> Reading<'a> {
     pub(crate) fn end(&mut self) -> Result<(), Reject>
         requires { self.old.source.has_failed ≡ false }
         ensures kept { OnOk result (IsReadOn self.old.source self.new.source) }
-        ensures nodes { self.new.nodes ≡ self.old.nodes }
+        ensures ok { OnOk result (judge_end (reading_at self.old.source self.old.nodes) ≡ fine tt (reading_at self.new.source self.new.nodes)) }
+        ensures err { IfErr result (λ e. Refuses self.old.source.size (judge_end (reading_at self.old.source self.old.nodes)) e) }
     {
         match self.next() {
             Ok(Line::End) => Ok(()),
@@ -150,9 +160,11 @@ impl<'a> Reading<'a> {
 
     /// The line `reply` with the turn that is due.
     pub(crate) fn reply(&mut self, due: Turn) -> Result<(), Reject>
-        requires { self.old.source.has_failed ≡ false }
+        requires unfailed { self.old.source.has_failed ≡ false }
+        requires on_board { IsTrue (turn_fits self.old.source.size (ply_of self.old.source.size due)) }
         ensures kept { OnOk result (IsReadOn self.old.source self.new.source) }
-        ensures nodes { self.new.nodes ≡ self.old.nodes }
+        ensures ok { OnOk result (answered (ply_of self.old.source.size due) (reading_at self.old.source self.old.nodes) ≡ fine tt (reading_at self.new.source self.new.nodes)) }
+        ensures err { IfErr result (λ e. Refuses self.old.source.size (answered (ply_of self.old.source.size due) (reading_at self.old.source self.old.nodes)) e) }
     {
         match self.next() {
             Ok(Line::Reply(turn)) => {
@@ -172,6 +184,8 @@ impl<'a> Reading<'a> {
         requires { self.old.source.has_failed ≡ false }
         ensures kept { OnOk result (IsReadOn self.old.source self.new.source) }
         ensures shallow { OnOk result (depth ≤ 2000) }
+        ensures ok { IfOk result (λ k. (b : Body) (s : GameState) (below : GameState → SpecReading → Judged (Unit {0})) (answers : List Ply → SpecReading → Judged (Unit {0})) → judged_line b depth s below answers (reading_at self.old.source self.old.nodes) ≡ judge_read b s below answers self.new.source.number (node_value self.old.source.size k) (reading_at self.new.source self.new.nodes)) }
+        ensures err { IfErr result (λ e. (b : Body) (s : GameState) (below : GameState → SpecReading → Judged (Unit {0})) (answers : List Ply → SpecReading → Judged (Unit {0})) → Refuses self.old.source.size (judged_line b depth s below answers (reading_at self.old.source self.old.nodes)) e) }
     {
         let line = match self.next() {
             Ok(line) => line,
@@ -188,7 +202,11 @@ impl<'a> Reading<'a> {
     }
 
     /// Nothing may follow.
-    pub(crate) fn nothing(&mut self) -> Result<(), Reject> {
+    pub(crate) fn nothing(&mut self) -> Result<(), Reject>
+        requires { self.old.source.has_failed ≡ false }
+        ensures ok { OnOk result ((x : SpecColour) → at_end (reading_at self.old.source self.old.nodes).rest (reading_at self.old.source self.old.nodes).place x ≡ accepted x) }
+        ensures err { IfErr result (λ e. (x : SpecColour) → Rejects self.old.source.size (at_end (reading_at self.old.source self.old.nodes).rest (reading_at self.old.source self.old.nodes).place x) e) }
+    {
         match self.source.next() {
             Ok(None) => Ok(()),
             _ => Err(self.reject(Why::TextAfterEnd)),

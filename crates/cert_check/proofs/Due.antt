@@ -1,0 +1,73 @@
+-- The turn that is due and the turn that is given.
+use Rattle.std.proofs.Common.{◌≡◌, ℕ, zero, suc, None, not, ◌+◌, ◌*◌, ◌<◌, Bool, true, false, ◌&&◌, ◌||◌, nat_eq, nat_lt, IsTrue, eqb-true, ltb-true, lt-ltb, List, [], ◌∷◌, map, refl, sym, ap, ◌∙◌, subst, arith, if◌then◌else◌}
+use Rattle.std.specs.List.{All}
+use Rattle.go_points.specs.declared.Cell.TheVariants.{Empty}
+use Rattle.go_points.specs.Grid.{same_cell, cell_at}
+use Rattle.go_points.specs.Move.{after_move}
+use Rattle.go_turns.specs.History.{has_occurred}
+use Rattle.go_points.specs.Place.{Place, IsOn, on_board, number_of}
+use Rattle.go_points.specs.Points.{same_place, holds_place}
+use Rattle.go_points.specs.Equal.{same_place_decides}
+use Rattle.go_points.specs.declared.Turn.{Turn}
+use Rattle.go_points.specs.declared.Turn.TheVariants.{Pass, At}
+use Rattle.go_points.specs.Ply.{Ply, pass, move, ply_of, same_ply}
+use Rattle.target_game.specs.State.{GameState}
+use Rattle.target_game.specs.Legal.{legal, holds_point}
+use Rattle.target_game.proofs.Playing.{holds_numbered}
+use Rattle.proof_cert.specs.Lines.{Line, reply_line, turn_fits}
+use Rattle.cert_check.specs.Body.{replies_differ}
+use Rattle.cert_check.specs.Verdict.{Reading, fine, faulty, then_judge, read_line, asked, judge_reply}
+use Rattle.cert_check.specs.Body.{ask}
+use Rattle.cert_check.specs.Stage.{answered}
+use Rattle.cert_check.proofs.Members.{and_first, and_second}
+
+is_on : (n : ℕ) (p : Place) → on_board n p ≡ true → IsOn n p
+is_on n p e = record { row_within = ltb-true p.row n (and_first (nat_lt p.row n) (nat_lt p.column n) e); column_within = ltb-true p.column n (and_second (nat_lt p.row n) (nat_lt p.column n) e) }
+
+or_none : (b : Bool) → (b || false) ≡ b
+or_none true = refl
+or_none false = refl
+
+apart : (n : ℕ) (p q : Place) → IsOn n p → IsOn n q → (p ≡ q → ⊥) → nat_eq (number_of n p) (number_of n q) ≡ false
+apart n p q on_p on_q other =
+    sym (or_none (nat_eq (number_of n p) (number_of n q)))
+    ∙ holds_numbered n (q ∷ []) p at on_p
+    ∙ or_none (same_place p q) ∙ go (same_place p q) refl
+  where
+    at : All (IsOn n) (q ∷ [])
+    at zero d low = on_q
+    at (suc k) d low = absurd (omega arith)
+
+    go : (b : Bool) → same_place p q ≡ b → b ≡ false
+    go true e = absurd (other ((same_place_decides p q).0 e))
+    go false e = refl
+
+pub turns_apart : (n : ℕ) (due given : Turn) → IsTrue (turn_fits n (ply_of n due)) → (given ≡ due → ⊥) → same_ply (ply_of n due) (ply_of n given) ≡ false
+turns_apart n Pass Pass fits other = absurd (other refl)
+turns_apart n Pass (At q) fits other = refl
+turns_apart n (At p) Pass fits other = refl
+turns_apart n (At p) (At q) fits other = go (on_board n p) refl (on_board n q) refl fits
+  where
+    go : (a : Bool) → on_board n p ≡ a → (b : Bool) → on_board n q ≡ b → IsTrue (nat_lt (if a then number_of n p else n * n) (n * n))
+        → nat_eq (if a then number_of n p else n * n) (if b then number_of n q else n * n) ≡ false
+    go false e b f h = absurd (let low = ltb-true (n * n) (n * n) h in omega arith)
+    go true e true f h = apart n p q (is_on n p e) (is_on n q f) (λ same. other (ap At (sym same)))
+    go true e false f h = no (nat_eq (number_of n p) (n * n)) refl
+      where
+        no : (c : Bool) → nat_eq (number_of n p) (n * n) ≡ c → c ≡ false
+        no true g = absurd (let low : number_of n p < n * n = ltb-true (number_of n p) (n * n) h in let same : number_of n p ≡ n * n = eqb-true (number_of n p) (n * n) g in omega arith)
+        no false g = refl
+
+pub reply_apart : (n : ℕ) (due given : Turn) (r0 r1 : Reading) → IsTrue (turn_fits n (ply_of n due)) → (given ≡ due → ⊥) → read_line r0 ≡ fine (reply_line (ply_of n given)) r1 → answered (ply_of n due) r0 ≡ faulty r0.place (replies_differ (ply_of n due))
+reply_apart n due given r0 r1 fits other read =
+    ap (λ j. then_judge j (judge_reply r0 (ply_of n due))) read
+    ∙ ap (λ b. asked r0.place (ask b (replies_differ (ply_of n due)) None) r1) (turns_apart n due given fits other)
+
+-- a legal turn is one of the board
+pub legal_fits : (s : GameState) (t : Ply) → IsTrue (legal s t) → IsTrue (turn_fits s.game.size t)
+legal_fits s pass h = refl
+legal_fits s (move p) h =
+    let on : Bool = nat_lt p (s.game.size * s.game.size) in
+    let held : Bool = holds_point s.game.region p in
+    let empty : Bool = same_cell (cell_at s.colouring p) Empty in
+    and_first on held (and_first (on && held) empty (and_first (on && held && empty) (not (has_occurred s.history (after_move s.game.size s.colouring s.mover p))) h))

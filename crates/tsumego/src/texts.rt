@@ -1,11 +1,16 @@
 //! What the program prints.
 
+ghost use Rattle.std.specs.Prelude.{◌≡◌};
+ghost use Rattle.tsumego.specs.Answers.{wins_text};
+
 use cert_check::{Reject, Why};
 use go_points::{Colour, Turn, to_sgf};
 use std::alloc::{AllocError, Global};
 
 /// The verdict on a claim that is accepted.
-pub fn wins_text(winner: Colour) -> &'static [u8] {
+pub fn wins_text(winner: Colour) -> &'static [u8]
+    ensures { result.now ≡ wins_text winner }
+{
     match winner {
         Colour::Black => b"wins Black\n",
         Colour::White => b"wins White\n",

@@ -5,6 +5,8 @@ ghost use Rattle.go_points.specs.Ply.{ply_of};
 ghost use Rattle.target_game.specs.Legal.{legal};
 ghost use Rattle.target_game.specs.Next.{next};
 ghost use Rattle.target_game.specs.Over.{over};
+ghost use Rattle.target_game.specs.State.{start};
+ghost use Rattle.target_game.specs.Wins.{Wins};
 ghost use Rattle.proof_cert.specs.Text.{lines};
 ghost use Rattle.proof_cert.specs.Lines.{play_line, all_line};
 ghost use Rattle.cert_check.specs.Body.{Why as SpecWhy, main_body, due_replies};
@@ -26,8 +28,10 @@ pub(crate) type PlayState = State<PlayBoard, PlaySeen>;
 /// and says nothing of the claim.
 pub fn check_main(alloc: Global, problem: &Problem, text: &[u8]) -> Result<Colour, Reject>
     ensures ok { IfOk result (λ x. plain_verdict problem.now (lines problem.now.game.size text.now) ≡ accepted x) }
+    ensures wins { IfOk result (λ x. Wins x (start problem.now)) }
     ensures err { IfErr result (λ e. Rejects problem.now.game.size (plain_verdict problem.now (lines problem.now.game.size text.now)) e) }
 {
+    prove!(problem.place() < problem.history().len());
     let mut reading = Reading::new(problem.size(), text);
     let winner = match judge_claim(alloc, problem, &mut reading) {
         Ok(winner) => winner,

@@ -68,9 +68,13 @@ number_named (c ∷ cs) = if c == 43 then digits_value cs else digits_value (c �
 abbrev pub is_colon : ℕ → Bool
 is_colon c = c == 58
 
+-- two equal numbers
+abbrev pub equal : Option ℕ → Option ℕ → Option ℕ
+equal a b = option_and_then (λ n. option_and_then (λ m. if n == m then Some n else None) b) a
+
 -- FF[4], SZ: a number, or a square's "n:n"
 abbrev pub size_named : List ℕ → Option ℕ
-size_named value = if list_any is_colon value then option_and_then (λ n. option_and_then (λ m. if n == m then Some n else None) (number_named (after_first is_colon value))) (number_named (before_first is_colon value)) else number_named value
+size_named value = if list_any is_colon value then equal (number_named (before_first is_colon value)) (number_named (after_first is_colon value)) else number_named value
 
 abbrev pub size_in : List ℕ → Option ℕ
 size_in value = size_named (trim value)

@@ -1,5 +1,5 @@
 -- The problem of a tree: a walk along the main line (this project's own).
-use Rattle.std.specs.Prelude.{ℕ, ◌+◌, Bool, true, false, not, List, [], ◌∷◌, ◌++◌, length, map, take, codes, position, slice_index_or, unwrap_or, ◌&&◌, ◌||◌, nat_lt, nat_le, is_none, Option, Some, None, option_map, option_and_then, Result, Ok, Err, if◌then◌else◌}
+use Rattle.std.specs.Prelude.{ℕ, ◌+◌, ◌^◌, Bool, true, false, not, List, [], ◌∷◌, ◌++◌, length, map, take, codes, position, slice_index_or, unwrap_or, ◌&&◌, ◌||◌, nat_lt, nat_le, is_none, Option, Some, None, option_map, option_and_then, Result, Ok, Err, if◌then◌else◌}
 use Rattle.std.specs.List.{list_any, list_all}
 use Rattle.std.specs.Str.{bytes_eq}
 use Rattle.go_points.specs.declared.TheConstants.{MAX_SIZE}
@@ -45,6 +45,10 @@ is_marked node = has (codes "TR") node || has (codes "SQ") node
 
 abbrev pub problem_node : GameTree → Option ℕ
 problem_node tree = position is_marked (main_line tree)
+
+-- the number, where a `usize` holds it
+abbrev pub usize_of : ℕ → Option ℕ
+usize_of k = if nat_lt k (2 ^ 64) then Some k else None
 
 abbrev pub has_setup : Node → Bool
 has_setup node = has (codes "AB") node || has (codes "AW") node || has (codes "AE") node

@@ -3,7 +3,11 @@
 
 pub mod fault;
 pub mod laws;
+mod main_line;
+mod named_points;
+mod sizes;
 mod values;
 
 pub use fault::{ProblemFault, SingleProperty, TurnFaultCause};
+pub use main_line::problem_node;
 pub use values::read_turn;

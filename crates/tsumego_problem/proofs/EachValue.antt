@@ -1,0 +1,59 @@
+-- The points of values, one value after another.
+use Rattle.std.proofs.Common.{◌≡◌, ℕ, suc, ◌+◌, ◌≤◌, ◌<◌, Bool, true, false, List, [], ◌∷◌, ◌++◌, drop, length, get_or, map, filter, append-nil, append_assoc, Option, Some, None, option_map, option_and_then, refl, sym, ◌∙◌, ap, ap₂, subst, arith}
+use Rattle.std.proofs.Math.Seq.{drop-cons, drop-length}
+use Rattle.std.proofs.lemmas.Nat.{div-add-mod'}
+use Rattle.go_points.specs.Grid.{points}
+use Rattle.go_points.specs.Place.{Place, place_of, number_of}
+use Rattle.go_points.specs.Points.{places_that}
+use Rattle.go_points.proofs.PlaceSets.{places_none}
+use Rattle.target_game.specs.Legal.{holds_point}
+use Rattle.tsumego_problem.specs.Values.{trim, points_named, points_of_each, points_of}
+use Rattle.tsumego_problem.specs.Named.{points_in, Adds}
+
+-- the set holds the points of the values before i
+abbrev pub EachFrom : ℕ → List (List ℕ) → ℕ → List Place → Type 0
+EachFrom n values i set = (ps : List ℕ) × (set ≡ points_in n ps) × (points_of_each n values ≡ option_map (λ qs. ps ++ qs) (points_of_each n (drop i values)))
+
+numbers_back : (n : ℕ) (xs : List ℕ) → map (number_of n) (map (place_of n) xs) ≡ xs
+numbers_back n [] = refl
+numbers_back n (x ∷ xs) = ap₂ (λ y ys. y ∷ ys) (div-add-mod' x n) (numbers_back n xs)
+
+numbers_in : (n : ℕ) (ps : List ℕ) → map (number_of n) (points_in n ps) ≡ filter (holds_point ps) (points n)
+unfolding places_that
+numbers_in n ps = numbers_back n (filter (holds_point ps) (points n))
+
+module _ (n : ℕ) (values : List (List ℕ)) where
+  pub each_start : (set : List Place) → set ≡ [] → EachFrom n values 0 set
+  each_start set e = ([], e ∙ sym (places_none n (holds_point []) (λ i low. refl)), whole (points_of_each n values))
+    where
+      whole : (o : Option (List ℕ)) → o ≡ option_map (λ (qs : List ℕ). [] ++ qs) o
+      whole None = refl
+      whole (Some qs) = refl
+
+  pub each_more : (i : ℕ) (v : List ℕ) (old new : List Place) → i < length values → get_or values i v ≡ v → Adds n (points_named n (trim v)) true old new → EachFrom n values i old → EachFrom n values (i + 1) new
+  each_more i v old new low at adds (ps, is, left) =
+      let next : suc i ≡ i + 1 = omega arith in
+      let step : drop i values ≡ v ∷ drop (i + 1) values = drop-cons values i v low ∙ ap (λ y. y ∷ drop (suc i) values) at ∙ ap (λ k. v ∷ drop k values) next in
+      go (points_named n (trim v)) adds (left ∙ ap (λ vs. option_map (λ qs. ps ++ qs) (points_of_each n vs)) step)
+    where
+      both : (qs : List ℕ) (o : Option (List ℕ)) → option_map (λ (rs : List ℕ). ps ++ rs) (option_map (λ (rs : List ℕ). qs ++ rs) o) ≡ option_map (λ (rs : List ℕ). (ps ++ qs) ++ rs) o
+      both qs None = refl
+      both qs (Some rs) = ap Some (sym (append_assoc ps qs rs))
+
+      go : (o : Option (List ℕ)) → Adds n o true old new → points_of_each n values ≡ option_map (λ qs. ps ++ qs) (option_and_then (λ qs. option_map (λ rs. qs ++ rs) (points_of_each n (drop (i + 1) values))) o) → EachFrom n values (i + 1) new
+      go None other e = absurd (cc)
+      go (Some qs) (passed, gains) e = (ps ++ qs, gains ps is, e ∙ both qs (points_of_each n (drop (i + 1) values)))
+
+  pub each_stop : (i : ℕ) (v : List ℕ) (old new : List Place) → i < length values → get_or values i v ≡ v → Adds n (points_named n (trim v)) false old new → EachFrom n values i old → points_of n values ≡ None
+  each_stop i v old new low at adds (ps, is, left) =
+      let step : drop i values ≡ v ∷ drop (suc i) values = drop-cons values i v low ∙ ap (λ y. y ∷ drop (suc i) values) at in
+      go (points_named n (trim v)) adds (left ∙ ap (λ vs. option_map (λ qs. ps ++ qs) (points_of_each n vs)) step)
+    where
+      go : (o : Option (List ℕ)) → Adds n o false old new → points_of_each n values ≡ option_map (λ qs. ps ++ qs) (option_and_then (λ qs. option_map (λ rs. qs ++ rs) (points_of_each n (drop (suc i) values))) o) → points_of n values ≡ None
+      go None other e = ap (option_map (λ (qs : List ℕ). filter (holds_point qs) (points n))) e
+      go (Some qs) (passed, gains) e = absurd (cc)
+
+  pub each_end : (i : ℕ) (set : List Place) → i ≡ length values → EachFrom n values i set → Some (map (number_of n) set) ≡ points_of n values
+  each_end i set end (ps, is, left) =
+      let whole : points_of_each n values ≡ Some ps = left ∙ ap (λ k. option_map (λ qs. ps ++ qs) (points_of_each n (drop k values))) end ∙ ap (λ vs. option_map (λ qs. ps ++ qs) (points_of_each n vs)) (drop-length values) ∙ ap Some (append-nil ps) in
+      ap Some (ap (map (number_of n)) is ∙ numbers_in n ps) ∙ sym (ap (option_map (λ (qs : List ℕ). filter (holds_point qs) (points n))) whole)

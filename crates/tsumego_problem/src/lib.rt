@@ -1,0 +1,13 @@
+//! Problems from SGF trees, and back.
+#![tactic(auto)]
+
+pub mod fault;
+pub mod laws;
+mod main_line;
+mod named_points;
+mod sizes;
+mod values;
+
+pub use fault::{ProblemFault, SingleProperty, TurnFaultCause};
+pub use main_line::problem_node;
+pub use values::read_turn;

@@ -1,0 +1,62 @@
+//! The main line of a tree, and what its nodes hold.
+
+ghost use Rattle.std.specs.Prelude.{◌≡◌, option_and_then, position};
+ghost use Rattle.sgf_text.specs.Nodes.{values_at};
+ghost use Rattle.tsumego_problem.specs.Walk.{has, is_marked, problem_node, usize_of};
+
+use sgf_text::{Bytes, SgfNode, Tree};
+
+/// The values of the property with this name, none where the node does not have it.
+pub(crate) fn values_at<'a>(name: &[u8], node: &'a SgfNode) -> &'a [Bytes]
+    ensures { result.now ≡ values_at name.now node.now }
+{
+    for property in node.as_slice() {
+        if name == property.ident.as_slice() {
+            return property.values.as_slice();
+        }
+    }
+    &[]
+}
+
+/// Whether the node has a property with this name.
+pub(crate) fn has(name: &[u8], node: &SgfNode) -> bool
+    ensures { result ≡ has name.now node.now }
+{
+    !values_at(name, node).is_empty()
+}
+
+/// Whether the node has TR or SQ.
+pub(crate) fn is_marked(node: &SgfNode) -> bool
+    ensures { result ≡ is_marked node.now }
+{
+    has(b"TR", node) || has(b"SQ", node)
+}
+
+/// The first marked node.
+fn first_marked(nodes: &[SgfNode]) -> Option<usize>
+    ensures { result ≡ position is_marked nodes.now }
+{
+    nodes.iter().position(|node| is_marked(node))
+}
+
+/// The number of the problem node: of the first node of the main line that has TR or SQ. `None` where there is none, or where its number is past the greatest `usize`.
+pub fn problem_node(tree: &Tree) -> Option<usize>
+    ensures { result ≡ option_and_then usize_of (problem_node tree.now) }
+{
+    let mut part = tree;
+    let mut before: usize = 0;
+    loop {
+        let nodes = part.nodes();
+        if let Some(at) = first_marked(nodes) {
+            return before.checked_add(at);
+        }
+        let Some(count) = before.checked_add(nodes.len()) else {
+            return None;
+        };
+        before = count;
+        let Some(child) = part.children().first() else {
+            return None;
+        };
+        part = child;
+    }
+}

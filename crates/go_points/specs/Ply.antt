@@ -1,4 +1,4 @@
--- A turn of the game, by the numbers of the points: "A turn is either a pass; or a move .."
+-- A turn of the game, by the numbers of the points: a pass, or a move (Tromp-Taylor rules).
 use Rattle.std.specs.Prelude.{ℕ, ◌*◌, Bool, true, false, nat_eq, List, if◌then◌else◌}
 use Rattle.std.specs.List.{list_any}
 use Rattle.go_points.specs.declared.Turn.{Turn}

@@ -1,0 +1,76 @@
+//! Measures reading and writing SGF against copying the same bytes.
+#![tactic(auto)]
+
+mod sample;
+mod speed;
+mod timing;
+
+use sample::{LARGE, SMALL, sample};
+use speed::{bytes_per_second, tenths};
+use std::alloc::Global;
+use std::convert::AsStr;
+use std::rt::Clock;
+use std::time::Duration;
+use std::{env, io};
+use timing::{copy_again, read, time_copying, time_reading, time_writing, write_again};
+
+/// How often each is done where it is measured.
+const ROUNDS: u32 = 40;
+
+fn main(rt: HostRuntime) -> io::Result<()> {
+    let words = env::args(&rt)?.collect::<Vec<String>>(rt.alloc())?;
+    if words.len() == 2 && words[1].as_str() == "measure" {
+        measure(&rt)
+    } else {
+        try_once(&rt)
+    }
+}
+
+/// Reads, writes and copies a small text, and says whether all gave the same bytes.
+fn try_once<R: Print + AllocGlobal>(rt: &R) -> io::Result<()> {
+    let text = sample(rt.alloc(), SMALL)?;
+    if is_same(rt.alloc(), text.as_slice())? {
+        rt.println("read, written and copied: the same bytes")
+    } else {
+        rt.println("read, written and copied: other bytes")
+    }
+}
+
+/// Whether the text is written, and copied, as itself.
+fn is_same(alloc: Global, text: &[u8]) -> io::Result<bool> {
+    let tree = read(alloc, text)?;
+    let mut written = Vec::new(alloc);
+    write_again(&tree, &mut written)?;
+    let mut copied = Vec::new(alloc);
+    copy_again(text, &mut copied)?;
+    Ok(written.as_slice() == text && copied.as_slice() == text)
+}
+
+/// Prints how fast a large text is read, written and copied.
+fn measure<R: Print + Clock + AllocGlobal>(rt: &R) -> io::Result<()> {
+    let text = sample(rt.alloc(), LARGE)?;
+    let len = text.len();
+    println!(rt; "{len} bytes, {ROUNDS} rounds")?;
+    let reading = time_reading(rt, text.as_slice(), ROUNDS)?;
+    let writing = time_writing(rt, text.as_slice(), ROUNDS)?;
+    let copying = time_copying(rt, text.as_slice(), ROUNDS)?;
+    print_speed(rt, "reading", len, reading)?;
+    print_speed(rt, "writing", len, writing)?;
+    print_speed(rt, "copying", len, copying)?;
+    print_ratio(rt, "reading", reading, copying)?;
+    print_ratio(rt, "writing", writing, copying)
+}
+
+/// Prints how many bytes went through in a second.
+fn print_speed(rt: &impl Print, name: &str, len: usize, time: Duration) -> io::Result<()> {
+    let speed = bytes_per_second(len, ROUNDS, time);
+    println!(rt; "{name}: {speed} bytes per second")
+}
+
+/// Prints how much longer it took than copying.
+fn print_ratio(rt: &impl Print, name: &str, time: Duration, copying: Duration) -> io::Result<()> {
+    let ratio = tenths(time, copying);
+    let whole = ratio / 10;
+    let part = ratio % 10;
+    println!(rt; "{name} takes {whole}.{part} times as long as copying")
+}

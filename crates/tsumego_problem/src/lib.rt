@@ -6,6 +6,8 @@ pub mod laws;
 mod main_line;
 mod named_points;
 mod sizes;
+#[cfg(test)]
+mod tests;
 mod values;
 
 pub use fault::{ProblemFault, SingleProperty, TurnFaultCause};

@@ -1,0 +1,139 @@
+//! Values with what they stand for, and records with their problem nodes.
+
+use crate::main_line::values_at;
+use crate::named_points::read_points;
+use crate::sizes::read_size;
+use crate::values::read_colour;
+use crate::{problem_node, read_turn};
+use go_points::{Colour, Size, Turn, sgf_point};
+use sgf_text::read_tree;
+use std::alloc::Global;
+use std::process::Abort;
+use std::test::Fail;
+
+fn three(rt: &impl Abort) -> Size {
+    Size::new(3).expect(rt, "a size")
+}
+
+#[test]
+fn reads_turns(rt: HostRuntime) {
+    let size = three(&rt);
+    let point = sgf_point(size, b"ba").expect(&rt, "a point");
+    let moves: [&[u8]; 2] = [b"ba", b" \t\x0bba\r\n"];
+    for value in moves {
+        assert_eq!(rt; read_turn(size, value), Some(Turn::At(point)));
+    }
+    let passes: [&[u8]; 3] = [b"", b" \n", b"tt"];
+    for value in passes {
+        assert_eq!(rt; read_turn(size, value), Some(Turn::Pass));
+    }
+    let bad: [&[u8]; 5] = [b"da", b"BA", b"b a", b"b", b"baa"];
+    for value in bad {
+        assert!(rt; read_turn(size, value).is_none());
+    }
+}
+
+#[test]
+fn reads_sizes(rt: HostRuntime) {
+    let rows: [(&[u8], Option<u8>); 15] = [
+        (b"9", Some(9)),
+        (b"+009", Some(9)),
+        (b"19:19", Some(19)),
+        (b" 3:+03 ", Some(3)),
+        (b"1", Some(1)),
+        (b"0", None),
+        (b"20", None),
+        (b"256", None),
+        (b"18446744073709551625", None),
+        (b"9:19", None),
+        (b"9:", None),
+        (b"9:9:9", None),
+        (b"+", None),
+        (b"-9", None),
+        (b"", None),
+    ];
+    for (value, rows_of_it) in rows {
+        assert_eq!(rt; read_size(value).map(|size| size.rows()), rows_of_it);
+    }
+}
+
+#[test]
+fn reads_colours(rt: HostRuntime) {
+    let rows: [(&[u8], Option<Colour>); 9] = [
+        (b"B", Some(Colour::Black)),
+        (b"b", Some(Colour::Black)),
+        (b" bLack ", Some(Colour::Black)),
+        (b"W", Some(Colour::White)),
+        (b"w\n", Some(Colour::White)),
+        (b"WHITE", Some(Colour::White)),
+        (b"", None),
+        (b"x", None),
+        (b"blackk", None),
+    ];
+    for (value, colour) in rows {
+        assert_eq!(rt; read_colour(value), colour);
+    }
+}
+
+// The places in the board of 3 by 3 of the points of AB of the first node.
+fn black_points(alloc: Global, rt: &impl Abort, text: &[u8]) -> Result<Option<Vec<usize>>, Fail> {
+    let size = three(rt);
+    let (tree, _end) = read_tree(alloc, text)?;
+    let nodes = tree.nodes();
+    let Some(set) = read_points(size, values_at(b"AB", &nodes[0])) else {
+        return Ok(None);
+    };
+    let mut places = Vec::new(alloc);
+    for number in 0..size.area() {
+        if set.has(size.point_at(number)) {
+            places.push(number)?;
+        }
+    }
+    Ok(Some(places))
+}
+
+#[test]
+fn reads_points(rt: HostRuntime) -> Result<(), Fail> {
+    let alloc = rt.alloc();
+    let good: [(&[u8], &[usize]); 5] = [
+        (b"(;)", &[]),
+        (b"(;AB[ba:cb][ba])", &[1, 2, 4, 5]),
+        (b"(;AB[bb:bb])", &[4]),
+        (b"(;AB[cc][ aa ][cc])", &[0, 8]),
+        (b"(;AB[aa:cc])", &[0, 1, 2, 3, 4, 5, 6, 7, 8]),
+    ];
+    for (text, places) in good {
+        let found = black_points(alloc, &rt, text)?.expect(&rt, "points");
+        assert_eq!(rt; found.as_slice(), places);
+    }
+    let bad: [&[u8]; 6] = [
+        b"(;AB[])",
+        b"(;AB[cb:ba])",
+        b"(;AB[aa][da])",
+        b"(;AB[aa:])",
+        b"(;AB[aa :bb])",
+        b"(;AB[tt])",
+    ];
+    for text in bad {
+        assert!(rt; black_points(alloc, &rt, text)?.is_none());
+    }
+    Ok(())
+}
+
+#[test]
+fn finds_the_problem_node(rt: HostRuntime) -> Result<(), Fail> {
+    let alloc = rt.alloc();
+    let rows: [(&[u8], Option<usize>); 6] = [
+        (b"(;TR[aa])", Some(0)),
+        (b"(;SQ[aa];TR[aa])", Some(0)),
+        (b"(;B[aa];W[bb](;B[cc];TR[aa])(;TR[bb]))", Some(3)),
+        (b"(;B[aa](;W[bb])(;TR[aa]))", None),
+        (b"(;(;(;SQ[aa])))", Some(2)),
+        (b"(;MA[aa])", None),
+    ];
+    for (text, number) in rows {
+        let (tree, _end) = read_tree(alloc, text)?;
+        assert_eq!(rt; problem_node(&tree), number);
+    }
+    Ok(())
+}

@@ -1,18 +1,18 @@
 -- The questions of a move, by its point.
-use Rattle.std.proofs.Common.{◌≡◌, ℕ, ◌+◌, ◌*◌, ◌<◌, Bool, true, false, cond, not, ◌&&◌, nat_lt, lt-ltb, Option, Some, None, is_some, is_none, refl, sym, ◌∙◌, ap, subst}
+use Rattle.std.proofs.Common.{◌≡◌, ℕ, ◌*◌, ◌<◌, Bool, true, false, cond, not, ◌&&◌, lt-ltb, Option, Some, None, is_some, is_none, refl, sym, ◌∙◌, ap}
 use Rattle.std.proofs.lemmas.Nat.{mul-add-lt}
 use Rattle.go_points.specs.declared.Cell.TheVariants.{Empty}
 use Rattle.go_points.specs.Grid.{same_cell, cell_at}
 use Rattle.go_points.specs.Move.{after_move}
 use Rattle.go_points.specs.Place.{Place, IsOn, number_of}
 use Rattle.go_points.specs.declared.Turn.TheVariants.{At}
-use Rattle.go_points.specs.Ply.{move, ply_of}
+use Rattle.go_points.specs.Ply.{ply_of}
 use Rattle.go_turns.specs.History.{place_in, has_occurred}
 use Rattle.target_game.specs.State.{GameState}
 use Rattle.target_game.specs.Legal.{holds_point}
 use Rattle.target_game.proofs.Playing.{occurred_place, ply_at}
-use Rattle.cert_check.specs.Body.{Why, turn_barred, repeats_known, ask}
-use Rattle.cert_check.specs.Stage.{move_fault}
+use Rattle.cert_check.specs.Body.{turn_barred, repeats_known, ask}
+use Rattle.cert_check.specs.Parts.{move_fault}
 
 -- a move at an open point
 pub move_asked : (s : GameState) (p : Place) (o : Option ℕ) (b : Bool) → IsOn s.game.size p

@@ -1,17 +1,18 @@
 -- The claim in main alone, part by part, and its lines.
-use Rattle.std.proofs.Common.{◌≡◌, ℕ, zero, suc, ◌+◌, ◌*◌, ◌<◌, ◌≤◌, Bool, true, false, ◌&&◌, nat_eq, nat_lt, IsTrue, List, [], ◌∷◌, length, map, Option, Some, None, refl, sym, ap, ◌∙◌, subst, arith, le_refl, if◌then◌else◌}
+use Rattle.std.proofs.Common.{◌≡◌, ℕ, zero, suc, ◌<◌, ◌≤◌, Bool, true, false, nat_eq, List, [], ◌∷◌, length, map, Option, Some, None, refl, sym, ap, ◌∙◌, subst, arith, le_refl, if◌then◌else◌}
 use Rattle.go_points.specs.declared.Colour.{Colour}
 use Rattle.target_game.specs.State.{GameProblem, start}
 use Rattle.proof_cert.specs.Claim.{Head}
 use Rattle.proof_cert.specs.Lines.{Line, header_line, lemma_line, had_line, not_line, main_line, won_line, use_line, play_line, all_line, reply_line, end_line, line_fits, fitting}
-use Rattle.proof_cert.specs.Text.{pieces, line_of_piece, line_of, lines, is_spelled, numbers_spelled}
+use Rattle.proof_cert.specs.Text.{pieces, line_of_piece, line_of, lines, numbers_spelled}
 use Rattle.proof_cert.specs.Stage.{version_one}
 use Rattle.proof_cert.specs.Source.{Source, source_of}
 use Rattle.proof_cert.proofs.Texts.{line_of-is}
 use Rattle.cert_check.specs.declared.reject.Reject.{Reject}
 use Rattle.cert_check.specs.Body.{Why, main_body}
-use Rattle.cert_check.specs.Verdict.{Reading, Judged, fine, faulty, then_judge, read_line, judge_header, judge_lemmas, judge_node, judge_end, judge_claim, Verdict, accepted, rejected, at_end, verdict_of, plain_line, plain_verdict}
-use Rattle.cert_check.specs.Stage.{why_value, IsFault, Refuses, IsRejection, Rejects, reading_at, judged_header, judged_main}
+use Rattle.cert_check.specs.Verdict.{Reading, Judged, fine, then_judge, read_line, judge_header, judge_lemmas, judge_node, judge_end, judge_claim, Verdict, verdict_of, plain_line, plain_verdict}
+use Rattle.cert_check.specs.Stage.{why_value, IsRejection, Rejects}
+use Rattle.cert_check.specs.Parts.{IsFault, Refuses, reading_at, judged_header, judged_main}
 use Rattle.cert_check.proofs.Members.{and_first}
 use Rattle.cert_check.proofs.Bounds.{same_node}
 use Rattle.cert_check.proofs.Steps.{then_then, refuses_then, refuses_same}

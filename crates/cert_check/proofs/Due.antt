@@ -1,12 +1,12 @@
 -- The turn that is due and the turn that is given.
-use Rattle.std.proofs.Common.{◌≡◌, ℕ, zero, suc, None, not, ◌+◌, ◌*◌, ◌<◌, Bool, true, false, ◌&&◌, ◌||◌, nat_eq, nat_lt, IsTrue, eqb-true, ltb-true, lt-ltb, List, [], ◌∷◌, map, refl, sym, ap, ◌∙◌, subst, arith, if◌then◌else◌}
+use Rattle.std.proofs.Common.{◌≡◌, ℕ, zero, suc, None, not, ◌*◌, ◌<◌, Bool, true, false, ◌&&◌, ◌||◌, nat_eq, nat_lt, IsTrue, eqb-true, ltb-true, [], ◌∷◌, refl, sym, ap, ◌∙◌, arith, if◌then◌else◌}
 use Rattle.std.specs.List.{All}
 use Rattle.go_points.specs.declared.Cell.TheVariants.{Empty}
 use Rattle.go_points.specs.Grid.{same_cell, cell_at}
 use Rattle.go_points.specs.Move.{after_move}
 use Rattle.go_turns.specs.History.{has_occurred}
 use Rattle.go_points.specs.Place.{Place, IsOn, on_board, number_of}
-use Rattle.go_points.specs.Points.{same_place, holds_place}
+use Rattle.go_points.specs.Points.{same_place}
 use Rattle.go_points.specs.Equal.{same_place_decides}
 use Rattle.go_points.specs.declared.Turn.{Turn}
 use Rattle.go_points.specs.declared.Turn.TheVariants.{Pass, At}
@@ -14,11 +14,11 @@ use Rattle.go_points.specs.Ply.{Ply, pass, move, ply_of, same_ply}
 use Rattle.target_game.specs.State.{GameState}
 use Rattle.target_game.specs.Legal.{legal, holds_point}
 use Rattle.target_game.proofs.Playing.{holds_numbered}
-use Rattle.proof_cert.specs.Lines.{Line, reply_line, turn_fits}
+use Rattle.proof_cert.specs.Lines.{reply_line, turn_fits}
 use Rattle.cert_check.specs.Body.{replies_differ}
 use Rattle.cert_check.specs.Verdict.{Reading, fine, faulty, then_judge, read_line, asked, judge_reply}
 use Rattle.cert_check.specs.Body.{ask}
-use Rattle.cert_check.specs.Stage.{answered}
+use Rattle.cert_check.specs.Parts.{answered}
 use Rattle.cert_check.proofs.Members.{and_first, and_second}
 
 is_on : (n : ℕ) (p : Place) → on_board n p ≡ true → IsOn n p

@@ -1,5 +1,5 @@
 -- The verdict before lemmas and version 2 are read.
-use Rattle.std.proofs.Common.{◌≡◌, ℕ, ◌≤◌, Bool, true, false, ◌&&◌, nat_eq, eqb-true, IsTrue, List, [], ◌∷◌, ◌++◌, length, map, Option, Some, None, refl, sym, ap, ap₂, ◌∙◌, subst, if◌then◌else◌}
+use Rattle.std.proofs.Common.{◌≡◌, ℕ, ◌≤◌, Bool, true, false, nat_eq, eqb-true, IsTrue, List, [], ◌∷◌, ◌++◌, length, map, Option, Some, None, refl, sym, ap, ap₂, ◌∙◌, subst, if◌then◌else◌}
 use Rattle.std.proofs.lemmas.List.{map-append}
 use Rattle.std.specs.List.{list_all}
 use Rattle.go_points.specs.declared.Colour.{Colour}
@@ -10,7 +10,7 @@ use Rattle.proof_cert.specs.Text.{text, lines, is_spelled, LinesOfTexts}
 use Rattle.cert_check.specs.Verdict.{accepted, plain_line, plain_verdict}
 use Rattle.cert_check.specs.Validity.{IsValid}
 use Rattle.cert_check.specs.Laws.{AcceptsPlainTexts}
-use Rattle.cert_check.proofs.Members.{and_first, and_second}
+use Rattle.cert_check.proofs.Members.{and_second}
 use Rattle.cert_check.proofs.Spelling.{accepts_valid_claims, text_spelled}
 
 -- a line that is read is read as it is

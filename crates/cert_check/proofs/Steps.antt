@@ -1,22 +1,22 @@
 -- The judge line by line: what each part of a claim is, from the line that is next.
-use Rattle.std.proofs.Common.{◌≡◌, ℕ, zero, suc, ◌+◌, ◌-◌, ◌*◌, ◌<◌, ◌≤◌, Bool, true, false, cond, not, ◌&&◌, nat_eq, nat_lt, nat_le, IsTrue, eqb-true, eq-eqb, ltb-true, lt-ltb, List, [], ◌∷◌, ◌++◌, length, map, filter, Option, Some, None, Result, Ok, Err, OnOk, IfErr, is_some, option_map, refl, sym, ap, ◌∙◌, subst, arith, le_refl}
+use Rattle.std.proofs.Common.{◌≡◌, ℕ, zero, suc, ◌+◌, ◌-◌, ◌*◌, ◌<◌, ◌≤◌, true, false, cond, List, [], ◌∷◌, ◌++◌, length, map, filter, Option, Some, None, Result, Ok, Err, OnOk, IfErr, refl, sym, ap, ◌∙◌, subst, arith, le_refl}
 use Rattle.std.specs.List.{range_with_len}
 use Rattle.go_points.specs.declared.Colour.{Colour}
 use Rattle.go_points.specs.declared.Turn.TheVariants.{At}
 use Rattle.go_points.specs.Place.{Place, IsOn, number_of}
 use Rattle.go_points.specs.Ply.{Ply, pass, move, ply_of}
 use Rattle.target_game.proofs.Playing.{ply_at}
-use Rattle.target_game.specs.State.{Game, GameState}
+use Rattle.target_game.specs.State.{GameState}
 use Rattle.target_game.specs.Legal.{legal, legal_turns}
 use Rattle.target_game.specs.Next.{next}
-use Rattle.proof_cert.specs.Claim.{max_nodes, max_depth}
-use Rattle.proof_cert.specs.Lines.{Line, header_line, lemma_line, had_line, not_line, main_line, won_line, use_line, play_line, all_line, reply_line, end_line, turn_fits}
+use Rattle.proof_cert.specs.Lines.{Line}
 use Rattle.proof_cert.specs.Source.{Source}
 use Rattle.cert_check.specs.declared.reject.Reject.{Reject}
 use Rattle.cert_check.specs.declared.reject.Why as code
-use Rattle.cert_check.specs.Body.{Body, Why, malformed, limit, lemma_not_lower, main_body, won_fault, use_fault, play_fault, all_fault, due_replies}
-use Rattle.cert_check.specs.Verdict.{Reading, Judged, fine, faulty, then_judge, read_line, asked, judge_line, judge_reply, judge_node, judge_replies}
-use Rattle.cert_check.specs.Stage.{IsReadBehind, why_value, IsFault, Refuses, node_line, judged_line, judge_read, judged_node, judged_replies, answered, judged_reply, due_from}
+use Rattle.cert_check.specs.Body.{Body, Why, lemma_not_lower, main_body, use_fault, due_replies}
+use Rattle.cert_check.specs.Verdict.{Reading, Judged, fine, faulty, then_judge, asked, judge_reply, judge_node, judge_replies}
+use Rattle.cert_check.specs.Stage.{why_value}
+use Rattle.cert_check.specs.Parts.{IsReadBehind, IsFault, Refuses, judged_line, judged_node, judged_replies, judged_reply, due_from}
 use Rattle.cert_check.proofs.Bounds.{reading, then_same, Leaves-reply, Leaves-node, same_line, same_node, same_replies}
 
 pub then_then : {A B C : Type 0} (j : Judged A) (f : A → Reading → Judged B) (g : B → Reading → Judged C) → then_judge (then_judge j f) g ≡ then_judge j (λ a r. then_judge (f a r) g)

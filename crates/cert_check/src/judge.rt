@@ -11,7 +11,8 @@ ghost use Rattle.proof_cert.specs.Text.{lines};
 ghost use Rattle.proof_cert.specs.Lines.{play_line, all_line};
 ghost use Rattle.cert_check.specs.Body.{Why as SpecWhy, main_body, due_replies};
 ghost use Rattle.cert_check.specs.Verdict.{Reading as SpecReading, asked, fine, judge_claim, accepted, plain_verdict};
-ghost use Rattle.cert_check.specs.Stage.{IsReadBehind, Refuses, Rejects, judged_main, why_value, reading_at, judged_node, judged_read, judged_reply, judged_replies};
+ghost use Rattle.cert_check.specs.Stage.{Rejects, why_value};
+ghost use Rattle.cert_check.specs.Parts.{IsReadBehind, Refuses, judged_main, reading_at, judged_node, judged_read, judged_reply, judged_replies};
 
 use crate::questions::{all_fault, play_fault, won_fault};
 use crate::reading::{NodeLine, Reading};

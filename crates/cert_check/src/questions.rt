@@ -4,7 +4,8 @@ ghost use Rattle.std.specs.Prelude.{◌≡◌, [], Some, option_map};
 ghost use Rattle.go_points.specs.Ply.{ply_of};
 ghost use Rattle.cert_check.specs.Body.{main_body, is_to_move, won_fault, play_fault, all_fault};
 ghost use Rattle.go_points.specs.declared.Turn.TheVariants.{At};
-ghost use Rattle.cert_check.specs.Stage.{why_value, move_fault};
+ghost use Rattle.cert_check.specs.Stage.{why_value};
+ghost use Rattle.cert_check.specs.Parts.{move_fault};
 
 use crate::judge::PlayState;
 use crate::reject::Why;

@@ -9,7 +9,8 @@ ghost use Rattle.proof_cert.specs.Stage.{line_value};
 ghost use Rattle.proof_cert.specs.Source.{source_of};
 ghost use Rattle.cert_check.specs.Body.{Body};
 ghost use Rattle.cert_check.specs.Verdict.{Reading as SpecReading, Judged, read_line, fine, judge_lemmas, judge_end, at_end, accepted, plain_line};
-ghost use Rattle.cert_check.specs.Stage.{IsReadOn, Refuses, Rejects, reading_at, node_value, node_line, judged_line, judge_read, judged_header, answered};
+ghost use Rattle.cert_check.specs.Stage.{Rejects};
+ghost use Rattle.cert_check.specs.Parts.{IsReadOn, Refuses, reading_at, node_value, node_line, judged_line, judge_read, judged_header, answered};
 
 use crate::reject::{Reject, Why};
 use go_points::{Colour, Size, Turn};

@@ -1,4 +1,4 @@
-use Rattle.std.proofs.Common.{rules, arith, ◌≡◌, ◌≤◌, ◌<◌, ◌+◌, ◌*◌, ◌∷◌, ℕ, suc, List, [], true, false, IsTrue, sym, ap, ◌∙◌, subst, refl}
+use Rattle.std.proofs.Common.{rules, arith, ◌≡◌, ◌≤◌, ◌<◌, ◌+◌, ◌*◌, ℕ, suc, List, [], true, false, sym, ap, ◌∙◌, subst, refl}
 use Rattle.go_points.specs.declared.Turn.TheVariants.{At, Pass}
 use Rattle.go_points.specs.Place.{IsOn, number_of}
 use Rattle.go_points.specs.Ply.{Ply, pass, move, ply_of}
@@ -6,9 +6,9 @@ use Rattle.target_game.specs.State.{Line}
 use Rattle.target_game.specs.Legal.{legal}
 use Rattle.cert_check.specs.declared.reading.NodeLine.{NodeLine}
 use Rattle.cert_check.specs.declared.reject.Why.TheVariants.{LemmaNotLower}
-use Rattle.cert_check.specs.Body.{main_body, won_fault, play_fault, all_fault, due_replies, lemma_not_lower}
+use Rattle.cert_check.specs.Body.{main_body, won_fault, play_fault, all_fault, lemma_not_lower}
 use Rattle.cert_check.specs.Verdict.{fine}
-use Rattle.cert_check.specs.Stage.{IsReadBehind, Refuses, reading_at, node_value, judged_line, judge_read, judged_node, judged_read, judged_reply, judged_replies, due_from}
+use Rattle.cert_check.specs.Parts.{Refuses, reading_at, node_value, judged_node, judged_read, judged_reply, judged_replies, due_from}
 use Rattle.cert_check.proofs.Steps.{node_is, refuses_then, refuses_same, refuses_size, refuses_as, on_ok_map, if_err_map, use_none, due_begun, due_here, due_later, due_last, behind_on, replies_on, replies_refused, replies_none}
 use Rattle.cert_check.proofs.judge.+judge.Goals as goal
 use Rattle.cert_check.proofs.judge.+judge.Goals.{judge_replies-then-may_move+in_default, judge_replies-else-may_move}

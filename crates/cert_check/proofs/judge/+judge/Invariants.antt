@@ -1,6 +1,6 @@
 use Rattle.std.proofs.Common.{◌≡◌, [], ◌+◌, ◌*◌, length}
 use Rattle.cert_check.specs.Body.{main_body, due_replies}
-use Rattle.cert_check.specs.Stage.{IsReadBehind, judged_replies, reading_at, due_from}
+use Rattle.cert_check.specs.Parts.{IsReadBehind, judged_replies, reading_at, due_from}
 use Rattle.cert_check.proofs.judge.+judge.Given as goal
 
 abbrev pub decreases-judge_node : goal.decreases-judge_node

@@ -1,8 +1,9 @@
-use Rattle.std.proofs.Common.{rules, ◌≡◌, ℕ, sym, ap, ◌∙◌, subst, map}
+use Rattle.std.proofs.Common.{◌≡◌, ℕ, sym, ap, ◌∙◌, subst, map}
 use Rattle.proof_cert.specs.Text.{lines}
 use Rattle.proof_cert.specs.Source.{source_of}
 use Rattle.cert_check.specs.Verdict.{Reading, accepted, at_end, judge_claim, plain_line, plain_verdict, verdict_of}
-use Rattle.cert_check.specs.Stage.{Rejects, reading_at}
+use Rattle.cert_check.specs.Stage.{Rejects}
+use Rattle.cert_check.specs.Parts.{reading_at}
 use Rattle.cert_check.proofs.ReadingClaims.{accepted_sides_win}
 use Rattle.cert_check.proofs.Claims.{text_judged, rejects_judged, rejects_same}
 use Rattle.cert_check.proofs.judge.check_main.Goals as goal

@@ -1,6 +1,6 @@
-use Rattle.std.proofs.Common.{arith, ◌≡◌, ◌<◌, length, sym, ap, ◌∙◌}
+use Rattle.std.proofs.Common.{arith, ◌<◌, length, sym, ap, ◌∙◌}
 use Rattle.cert_check.specs.Verdict.{fine, then_judge}
-use Rattle.cert_check.specs.Stage.{reading_at}
+use Rattle.cert_check.specs.Parts.{reading_at}
 use Rattle.cert_check.proofs.Steps.{refuses_size, refuses_same, refuses_then}
 use Rattle.cert_check.proofs.Claims.{header_refused, main_refused, main_is}
 use Rattle.cert_check.proofs.judge.judge_claim.Goals as goal

@@ -1,4 +1,4 @@
-use Rattle.std.proofs.Common.{rules, ◌≡◌, Some, option_map, ℕ, sym, ap, ◌∙◌, subst}
+use Rattle.std.proofs.Common.{rules, Some, option_map, ℕ, sym, ap, ◌∙◌, subst}
 use Rattle.go_points.specs.Place.{IsOn}
 use Rattle.cert_check.proofs.Asked.{move_asked}
 use Rattle.cert_check.proofs.questions.move_fault.Goals as goal

@@ -1,6 +1,5 @@
-use Rattle.std.proofs.Common.{rules, ◌≡◌, subst, sym, ap, ◌∙◌}
-use Rattle.cert_check.specs.Stage.{Refuses, answered, reading_at}
-use Rattle.go_points.specs.Ply.{ply_of}
+use Rattle.std.proofs.Common.{rules, ◌≡◌}
+use Rattle.cert_check.specs.Parts.{reading_at}
 use Rattle.cert_check.proofs.Due.{reply_apart}
 use Rattle.cert_check.proofs.reading.Reading.reply.Goals as goal
 

@@ -1,9 +1,11 @@
 -- The points of values, one value after another.
-use Rattle.std.proofs.Common.{◌≡◌, ℕ, suc, ◌+◌, ◌≤◌, ◌<◌, Bool, true, false, List, [], ◌∷◌, ◌++◌, drop, length, get_or, map, filter, append-nil, append_assoc, Option, Some, None, option_map, option_and_then, refl, sym, ◌∙◌, ap, ap₂, subst, arith}
+use Rattle.std.specs.List.{All, list_all}
+use Rattle.tsumego_problem.proofs.Points.{picked_below, both_true, row_small, column_small}
+use Rattle.std.proofs.Common.{◌≡◌, ℕ, zero, suc, ◌*◌, nat_lt, ltb-true, ◌+◌, ◌≤◌, ◌<◌, Bool, true, false, List, [], ◌∷◌, ◌++◌, drop, length, get_or, map, filter, append-nil, append_assoc, Option, Some, None, option_map, option_and_then, refl, sym, ◌∙◌, ap, ap₂, subst, arith}
 use Rattle.std.proofs.Math.Seq.{drop-cons, drop-length}
 use Rattle.std.proofs.lemmas.Nat.{div-add-mod'}
 use Rattle.go_points.specs.Grid.{points}
-use Rattle.go_points.specs.Place.{Place, place_of, number_of}
+use Rattle.go_points.specs.Place.{Place, IsOn, place_of, number_of}
 use Rattle.go_points.specs.Points.{places_that}
 use Rattle.go_points.proofs.PlaceSets.{places_none}
 use Rattle.target_game.specs.Legal.{holds_point}
@@ -57,3 +59,13 @@ module _ (n : ℕ) (values : List (List ℕ)) where
   each_end i set end (ps, is, left) =
       let whole : points_of_each n values ≡ Some ps = left ∙ ap (λ k. option_map (λ qs. ps ++ qs) (points_of_each n (drop k values))) end ∙ ap (λ vs. option_map (λ qs. ps ++ qs) (points_of_each n vs)) (drop-length values) ∙ ap Some (append-nil ps) in
       ap Some (ap (map (number_of n)) is ∙ numbers_in n ps) ∙ sym (ap (option_map (λ (qs : List ℕ). filter (holds_point qs) (points n))) whole)
+
+-- the set holds points of the board alone
+pub each_on : (i : ℕ) (set : List Place) → (n : ℕ) (values : List (List ℕ)) → 1 ≤ n → EachFrom n values i set → All (IsOn n) set
+unfolding places_that
+each_on i set n values least (ps, is, left) = subst (All (IsOn n)) (sym is) (on_each (filter (holds_point ps) (points n)) (picked_below n (holds_point ps)))
+  where
+    on_each : (xs : List ℕ) → list_all (λ p. nat_lt p (n * n)) xs ≡ true → All (IsOn n) (map (place_of n) xs)
+    on_each [] h k d low = absurd (omega arith)
+    on_each (x ∷ xs) h zero d low = let at : x < n * n = ltb-true x (n * n) (both_true (nat_lt x (n * n)) (list_all (λ p. nat_lt p (n * n)) xs) h).0 in record { row_within = row_small n x least at; column_within = column_small n x least }
+    on_each (x ∷ xs) h (suc k) d low = on_each xs (both_true (nat_lt x (n * n)) (list_all (λ p. nat_lt p (n * n)) xs) h).1 k d (omega arith)

@@ -2,7 +2,7 @@
 
 ghost use Rattle.std.specs.Prelude.{◌≡◌, option_and_then, position};
 ghost use Rattle.sgf_text.specs.Nodes.{values_at};
-ghost use Rattle.tsumego_problem.specs.Walk.{has, is_marked, problem_node, usize_of};
+ghost use Rattle.tsumego_problem.specs.Walk.{has, has_setup, has_turn, is_marked, problem_node, usize_of};
 
 use sgf_text::{Bytes, SgfNode, Tree};
 
@@ -30,6 +30,20 @@ pub(crate) fn is_marked(node: &SgfNode) -> bool
     ensures { result ≡ is_marked node.now }
 {
     has(b"TR", node) || has(b"SQ", node)
+}
+
+/// Whether the node has AB, AW or AE.
+pub(crate) fn has_setup(node: &SgfNode) -> bool
+    ensures { result ≡ has_setup node.now }
+{
+    has(b"AB", node) || has(b"AW", node) || has(b"AE", node)
+}
+
+/// Whether the node has B or W.
+pub(crate) fn has_turn(node: &SgfNode) -> bool
+    ensures { result ≡ has_turn node.now }
+{
+    has(b"B", node) || has(b"W", node)
 }
 
 /// The first marked node.

@@ -1,14 +1,17 @@
 //! The points that the values of a property stand for.
 
-ghost use Rattle.std.specs.Prelude.{◌≡◌, ◌&&◌, ◌++◌, ◌∷◌, [], length, nat_le, filter, map, option_map, Some};
+ghost use Rattle.std.specs.Prelude.{◌≡◌, ◌&&◌, ◌++◌, ◌∷◌, [], length, nat_le, filter, map, option_map, Some, IfSome};
+ghost use Rattle.std.specs.List.{All};
 ghost use Rattle.go_points.specs.Grid.{points};
 ghost use Rattle.go_points.specs.Place.{IsOn, number_of};
 ghost use Rattle.tsumego_problem.specs.Values.{trim, inside, rectangle, points_named, points_of};
 ghost use Rattle.tsumego_problem.specs.Named.{Gains, Adds};
+ghost use Rattle.tsumego_problem.specs.Walk.{points_at};
 
 use crate::values::trim;
+use crate::main_line::values_at;
 use go_points::{Point, PointSet, Size, sgf_point};
-use sgf_text::Bytes;
+use sgf_text::{Bytes, SgfNode};
 
 /// Whether the point is neither left of nor above the first, and neither right of nor below the last.
 fn is_inside(first: Point, last: Point, point: Point) -> bool
@@ -91,7 +94,8 @@ fn add_named(size: Size, value: &[u8], set: &mut PointSet) -> bool
 
 /// The points that the values of AB, AW, AE, TR or SQ stand for (SGF FF[4], "Compressed point lists"): points and rectangles, each point once. `None` where a value names none.
 pub(crate) fn read_points(size: Size, values: &[Bytes]) -> Option<PointSet>
-    ensures { option_map (map (number_of size)) result ≡ points_of size values.now }
+    ensures value { option_map (map (number_of size)) result ≡ points_of size values.now }
+    ensures on_board { IfSome result (λ s. All (IsOn size) s) }
 {
     prove!(size.area() > 0);
     let mut set = PointSet::new();
@@ -101,4 +105,15 @@ pub(crate) fn read_points(size: Size, values: &[Bytes]) -> Option<PointSet>
         }
     }
     Some(set)
+}
+
+/// The points of a property whose values have been found good. Bad values count as none.
+pub(crate) fn points_at(size: Size, name: &[u8], node: &SgfNode) -> PointSet
+    ensures value { map (number_of size) result ≡ points_at size name.now node.now }
+    ensures on_board { All (IsOn size) result }
+{
+    match read_points(size, values_at(name, node)) {
+        Some(points) => points,
+        None => PointSet::new(),
+    }
 }

@@ -2,7 +2,7 @@ use Rattle.std.proofs.Common.{true, sym, subst, arith}
 use Rattle.go_points.proofs.Lists.{not_false}
 use Rattle.tsumego_problem.specs.Values.{trim, points_named}
 use Rattle.tsumego_problem.specs.Named.{Adds}
-use Rattle.tsumego_problem.proofs.EachValue.{each_start, each_more, each_end}
+use Rattle.tsumego_problem.proofs.EachValue.{each_start, each_more, each_end, each_on}
 use Rattle.tsumego_problem.proofs.named_points.read_points.Goals as goal
 
 pub loop-value-init : goal.loop-value-init
@@ -16,5 +16,8 @@ loop-value-preserved c =
     (subst (λ b. Adds n (points_named n (trim c.as_slice.result.now)) b c.loop-value.set c.add_named.new.set) c.if-not-add_named.false c.add_named.ensures))
     c.loop-value.invariant
 
-pub returns : goal.returns
-returns c = each_end c.args.size c.args.values.now c.loop-value.value-index c.loop-value.set (omega (arith, c.loop-value-test.false, c.loop-value.auto.value-index-end)) c.loop-value.invariant
+pub returns-clause-value : goal.returns-clause-value
+returns-clause-value c = each_end c.args.size c.args.values.now c.loop-value.value-index c.loop-value.set (omega (arith, c.loop-value-test.false, c.loop-value.auto.value-index-end)) c.loop-value.invariant
+
+pub returns-clause-on_board : goal.returns-clause-on_board
+returns-clause-on_board c = each_on c.loop-value.value-index c.loop-value.set c.args.size c.args.values.now c.area.ensures.least c.loop-value.invariant

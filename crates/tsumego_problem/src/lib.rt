@@ -5,6 +5,7 @@ pub mod fault;
 pub mod laws;
 mod main_line;
 mod named_points;
+mod node_change;
 mod node_fault;
 mod sizes;
 #[cfg(test)]

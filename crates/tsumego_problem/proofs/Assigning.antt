@@ -1,0 +1,173 @@
+-- Setups: the colouring that a node assigns, and the record that it is set up in.
+use Rattle.std.proofs.Common.{◌≡◌, ℕ, zero, suc, ◌+◌, ◌*◌, ◌<◌, ◌≤◌, Bool, true, false, cond, not, nat_lt, ◌&&◌, inl, inr, List, [], ◌∷◌, ◌++◌, map, length, get_or, set, Option, Some, None, Result, Ok, Err, is_none, refl, sym, ◌∙◌, ap, ap₂, subst, arith}
+use Rattle.std.specs.Prelude.{codes, unwrap_or}
+use Rattle.std.specs.List.{All, list_all, range_with_len}
+use Rattle.std.proofs.lemmas.Bool.{cases_eq, lt-ltb}
+use Rattle.std.proofs.lemmas.List.{get_or-set_same, get_or-set_other, length-set, map-append, ext_get_or}
+use Rattle.std.proofs.lemmas.List.FromFn.{fill_by_all, map-range_with_len_more, length-map-range_with_len}
+use Rattle.std.proofs.lemmas.List.Quantifiers.{position-Some}
+use Rattle.std.proofs.Math.Seq.{get_or-append_seam}
+use Rattle.go_points.specs.declared.Colour.{Colour}
+use Rattle.go_points.specs.declared.Colour.TheVariants.{Black, White}
+use Rattle.go_points.specs.declared.Cell.{Cell}
+use Rattle.go_points.specs.declared.Cell.TheVariants.{Empty, Stone}
+use Rattle.go_points.specs.Equal.{same_cells_eq}
+use Rattle.go_points.specs.Grid.{points, cell_at, side_of, same_cells}
+use Rattle.go_points.specs.Liberty.{first_without_liberty}
+use Rattle.go_points.specs.Place.{Place, IsOn, number_of}
+use Rattle.go_points.specs.Points.{holds_place}
+use Rattle.go_turns.specs.History.{place_in, has_occurred}
+use Rattle.go_turns.specs.Record.{GameRecord, Moment, colouring_of, numbered, assigned as put_in_order, setup_of, after_setup, with_liberties, set_to as moment_set_to, stepped, Did}
+use Rattle.go_turns.specs.declared.fault.TurnFault.{TurnFault}
+use Rattle.go_turns.specs.declared.fault.TurnFault.TheVariants as turns
+use Rattle.go_turns.proofs.Setups.{number_on}
+use Rattle.go_turns.proofs.Repeats.{no_position, no_element}
+use Rattle.target_game.specs.Legal.{holds_point}
+use Rattle.target_game.proofs.Playing.{holds_numbered}
+use Rattle.sgf_text.specs.Trees.{Node}
+use Rattle.tsumego_problem.specs.Walk.{Walk, points_at, assigned, set_to, player_at, has_no_liberty, joined_by}
+use Rattle.tsumego_problem.specs.Walked.{walk_of}
+use Rattle.tsumego_problem.specs.declared.fault.ProblemFault.{ProblemFault}
+use Rattle.tsumego_problem.specs.declared.fault.ProblemFault.TheVariants as faults
+use Rattle.tsumego_problem.proofs.Points.{range_below}
+
+-- ---- a colouring that is filled point by point
+
+-- what a setup leaves at a point
+abbrev pub left_at : ℕ → Node → List Cell → ℕ → Cell
+left_at n node c p =
+    cond (holds_point (points_at n (codes "AB") node) p) (Stone Black)
+    (cond (holds_point (points_at n (codes "AW") node) p) (Stone White)
+    (cond (holds_point (points_at n (codes "AE") node) p) Empty (cell_at c p)))
+
+-- the points below i are done
+pub record FilledTo (n : ℕ) (f : ℕ → Cell) (new : List Cell) (i : ℕ) : Type 0 where
+  pub size : side_of new ≡ n
+  pub full : length new ≡ n * n
+  pub done : (p : ℕ) → p < i → cell_at new p ≡ f p
+
+pub filled_more : (n : ℕ) (f : ℕ → Cell) (old new : List Cell) (i p : ℕ) (v : Cell) → i < n * n → p ≡ i → v ≡ f i → new ≡ set old p v → side_of new ≡ n → FilledTo n f old i → FilledTo n f new (i + 1)
+filled_more n f old new i p v low at value is side so_far =
+    let within : i < length old = omega (arith, so_far.full) in
+    let step : new ≡ set old i v = is ∙ ap (λ q. set old q v) at in
+    record {
+      size = side;
+      full = ap length step ∙ length-set old i v ∙ so_far.full;
+      done = λ q h. ap (λ c. cell_at c q) step ∙ elim (cases_eq q i) [
+        | inl same ↦ ap (cell_at (set old i v)) same ∙ get_or-set_same old i v Empty within ∙ value ∙ ap f (sym same)
+        | inr other ↦ get_or-set_other old i q v Empty other ∙ so_far.done q (omega arith)
+      ];
+    }
+
+pub assigned_all : (n : ℕ) (node : Node) (c new : List Cell) → FilledTo n (left_at n node c) new (n * n) → new ≡ assigned n node c
+assigned_all n node c new so_far = fill_by_all (left_at n node c) new (n * n) Empty so_far.full so_far.done
+
+-- what a point holds, by the sets
+pub left_by_sets : (n : ℕ) (node : Node) (c : List Cell) (black white empty : List Place) (p : Place) (v : Cell)
+    → map (number_of n) black ≡ points_at n (codes "AB") node → All (IsOn n) black
+    → map (number_of n) white ≡ points_at n (codes "AW") node → All (IsOn n) white
+    → map (number_of n) empty ≡ points_at n (codes "AE") node → All (IsOn n) empty
+    → IsOn n p → v ≡ cell_at c (number_of n p)
+    → cond (holds_place black p) (Stone Black) (cond (holds_place white p) (Stone White) (cond (holds_place empty p) Empty v)) ≡ left_at n node c (number_of n p)
+left_by_sets n node c black white empty p v bs on_b ws on_w es on_e on at =
+    ap (λ b. cond b (Stone Black) (cond (holds_place white p) (Stone White) (cond (holds_place empty p) Empty v))) (held black (points_at n (codes "AB") node) bs on_b)
+    ∙ ap (λ b. cond (holds_point (points_at n (codes "AB") node) (number_of n p)) (Stone Black) (cond b (Stone White) (cond (holds_place empty p) Empty v))) (held white (points_at n (codes "AW") node) ws on_w)
+    ∙ ap₂ (λ b x. cond (holds_point (points_at n (codes "AB") node) (number_of n p)) (Stone Black) (cond (holds_point (points_at n (codes "AW") node) (number_of n p)) (Stone White) (cond b Empty x))) (held empty (points_at n (codes "AE") node) es on_e) at
+  where
+    held : (set : List Place) (numbers : List ℕ) → map (number_of n) set ≡ numbers → All (IsOn n) set → holds_place set p ≡ holds_point numbers (number_of n p)
+    held set numbers e on_set = sym (holds_numbered n set p on_set on) ∙ ap (λ ns. holds_point ns (number_of n p)) e
+
+-- ---- every point with what it holds
+
+pub cells_more : (n : ℕ) (c : List Cell) (old : List (Place × Cell)) (i : ℕ) (p : Place) (v : Cell) → IsOn n p → number_of n p ≡ i → v ≡ cell_at c (number_of n p)
+    → map (numbered n) old ≡ map (λ q. (q, cell_at c q)) (range_with_len 0 i) → map (numbered n) (old ++ (p, v) ∷ []) ≡ map (λ q. (q, cell_at c q)) (range_with_len 0 (i + 1))
+cells_more n c old i p v on at value had =
+    map-append (numbered n) old ((p, v) ∷ [])
+    ∙ ap₂ (λ xs x. xs ++ x ∷ []) had (number_on n (p, v) on ∙ ap₂ (λ q x. (q, x)) at (value ∙ ap (cell_at c) at))
+    ∙ sym (map-range_with_len_more (λ q. (q, cell_at c q)) 0 i i (omega arith))
+
+-- assigning them all gives the colouring
+all_put : (d c : List Cell) (i k : ℕ) → length c ≡ i + k → length d ≡ i + k → ((p : ℕ) → p < i → cell_at c p ≡ cell_at d p) → put_in_order c (map (λ p. (p, cell_at d p)) (range_with_len i k)) ≡ d
+all_put d c i zero len_c len_d done = ext_get_or Empty c d (len_c ∙ sym len_d) (λ p h. done p (omega (arith, len_c)))
+all_put d c i (suc k) len_c len_d done = all_put d (set c i (cell_at d i)) (i + 1) k (length-set c i (cell_at d i) ∙ len_c ∙ shift) (len_d ∙ shift) more
+  where
+    shift : i + suc k ≡ i + 1 + k
+    shift = omega arith
+
+    more : (p : ℕ) → p < i + 1 → cell_at (set c i (cell_at d i)) p ≡ cell_at d p
+    more p h = elim (cases_eq p i) [
+      | inl same ↦ ap (cell_at (set c i (cell_at d i))) same ∙ get_or-set_same c i (cell_at d i) Empty (omega (arith, len_c)) ∙ ap (cell_at d) (sym same)
+      | inr other ↦ get_or-set_other c i p (cell_at d i) Empty other ∙ done p (omega arith)
+    ]
+
+all_on_board : (d : List Cell) (bound a k : ℕ) → a + k ≤ bound → list_all (λ (x : ℕ × Cell). nat_lt x.0 bound) (map (λ p. (p, cell_at d p)) (range_with_len a k)) ≡ true
+all_on_board d bound a zero h = refl
+all_on_board d bound a (suc k) h = ap (λ b. b && list_all (λ (x : ℕ × Cell). nat_lt x.0 bound) (map (λ p. (p, cell_at d p)) (range_with_len (a + 1) k))) (lt-ltb a bound (omega arith)) ∙ all_on_board d bound (a + 1) k (omega arith)
+
+-- ---- a record that is set up
+
+-- whether a colouring has occurred, by its place
+pub occurred_by_place : (h : List (List Cell)) (d : List Cell) (o : Option ℕ) → place_in h d ≡ o → has_occurred h d ≡ not (is_none o)
+occurred_by_place h d None e = no_element (same_cells d) h e
+occurred_by_place h d (Some p) e = go (has_occurred h d) refl
+  where
+    go : (b : Bool) → has_occurred h d ≡ b → b ≡ true
+    go true f = refl
+    go false f = absurd (cc (no_position (same_cells d) h f, e))
+
+pub at_its_place : (h : List (List Cell)) (d : List Cell) (p : ℕ) → place_in h d ≡ Some p → get_or h p [] ≡ d
+at_its_place h d p e = sym (same_cells_eq d (get_or h p []) (position-Some (same_cells d) h p [] e).1)
+
+module _ (n k : ℕ) (node : Node) (r : GameRecord) (mover : Colour) (d : List Cell) (cells : List (ℕ × Cell)) (size : r.size ≡ n)
+    (all : cells ≡ map (λ p. (p, cell_at d p)) (points n)) (len_c : length (colouring_of r.present) ≡ n * n) (len_d : length d ≡ n * n) where
+  due : setup_of r cells ≡ stepped r (with_liberties n (first_without_liberty n d) (moment_set_to r.present d (place_in r.present.history d)))
+  due =
+      ap (λ m. stepped r (after_setup m r.present cells)) size
+      ∙ ap (λ xs. stepped r (after_setup n r.present xs)) all
+      ∙ ap (λ b. stepped r (cond b (with_liberties n (first_without_liberty n made) (moment_set_to r.present made (place_in r.present.history made))) (Err turns.OffBoard))) (all_on_board d (n * n) 0 (n * n) (omega arith))
+      ∙ ap (λ x. stepped r (with_liberties n (first_without_liberty n x) (moment_set_to r.present x (place_in r.present.history x)))) (let whole : n * n ≡ 0 + n * n = omega arith in all_put d (colouring_of r.present) 0 (n * n) (len_c ∙ whole) (len_d ∙ whole) (λ p h. absurd (omega arith)))
+    where
+      made : List Cell
+      made = put_in_order (colouring_of r.present) (map (λ p. (p, cell_at d p)) (points n))
+
+  pub set_up_fine : (u : Unit {0}) (new : GameRecord) → Did (setup_of r cells) r (Ok u) new
+      → (set_to k node d (walk_of r mover) (has_no_liberty n d) ≡ Ok (walk_of new (unwrap_or (player_at node) mover))) × (new.size ≡ n)
+  set_up_fine u new did = go (first_without_liberty n d) refl (place_in r.present.history d) refl (subst (λ x. Did x r (Ok u) new) due did)
+    where
+      go : (o : Option ℕ) → first_without_liberty n d ≡ o → (at : Option ℕ) → place_in r.present.history d ≡ at → Did (stepped r (with_liberties n (first_without_liberty n d) (moment_set_to r.present d (place_in r.present.history d)))) r (Ok u) new
+          → (set_to k node d (walk_of r mover) (has_no_liberty n d) ≡ Ok (walk_of new (unwrap_or (player_at node) mover))) × (new.size ≡ n)
+      go (Some p) e at f h = absurd (subst (λ o. Did (stepped r (with_liberties n o (moment_set_to r.present d (place_in r.present.history d)))) r (Ok u) new) e h)
+      go None e (Some at) f h =
+          let is : new ≡ record r { present = record r.present { place = at; passes = 0 }; earlier = r.present ∷ r.earlier } = subst (λ o. Did (stepped r (with_liberties n o (moment_set_to r.present d (Some at)))) r (Ok u) new) e (subst (λ o. Did (stepped r (with_liberties n (first_without_liberty n d) (moment_set_to r.present d o))) r (Ok u) new) f h) in
+          (ap (λ o. set_to k node d (walk_of r mover) (not (is_none o))) e
+           ∙ ap (λ b. Ok (record { history = cond b r.present.history (r.present.history ++ d ∷ []); present = d; mover = unwrap_or (player_at node) mover; passes = 0 })) (occurred_by_place r.present.history d (Some at) f)
+           ∙ ap (λ x. Ok (record { history = r.present.history; present = x; mover = unwrap_or (player_at node) mover; passes = 0 })) (sym (at_its_place r.present.history d at f))
+           ∙ sym (ap (λ x. Ok (walk_of x (unwrap_or (player_at node) mover))) is),
+           ap (λ x. x.size) is ∙ size)
+      go None e None f h =
+          let is : new ≡ record r { present = record r.present { history = r.present.history ++ d ∷ []; place = length r.present.history; passes = 0 }; earlier = r.present ∷ r.earlier } = subst (λ o. Did (stepped r (with_liberties n o (moment_set_to r.present d None))) r (Ok u) new) e (subst (λ o. Did (stepped r (with_liberties n (first_without_liberty n d) (moment_set_to r.present d o))) r (Ok u) new) f h) in
+          (ap (λ o. set_to k node d (walk_of r mover) (not (is_none o))) e
+           ∙ ap (λ b. Ok (record { history = cond b r.present.history (r.present.history ++ d ∷ []); present = d; mover = unwrap_or (player_at node) mover; passes = 0 })) (occurred_by_place r.present.history d None f)
+           ∙ ap (λ x. Ok (record { history = r.present.history ++ d ∷ []; present = x; mover = unwrap_or (player_at node) mover; passes = 0 })) (sym (get_or-append_seam r.present.history d [] []))
+           ∙ sym (ap (λ x. Ok (walk_of x (unwrap_or (player_at node) mover))) is),
+           ap (λ x. x.size) is ∙ size)
+
+  pub set_up_refused : (p : Place) (new : GameRecord) → Did (setup_of r cells) r (Err (turns.NoLiberty p)) new → set_to k node d (walk_of r mover) (has_no_liberty n d) ≡ Err (faults.NoLiberty k)
+  set_up_refused p new did = go (first_without_liberty n d) refl (subst (λ x. Did x r (Err (turns.NoLiberty p)) new) due did)
+    where
+      go : (o : Option ℕ) → first_without_liberty n d ≡ o → Did (stepped r (with_liberties n (first_without_liberty n d) (moment_set_to r.present d (place_in r.present.history d)))) r (Err (turns.NoLiberty p)) new
+          → set_to k node d (walk_of r mover) (has_no_liberty n d) ≡ Err (faults.NoLiberty k)
+      go (Some q) e h = ap (λ o. set_to k node d (walk_of r mover) (not (is_none o))) e
+      go None e h = absurd (let g = subst (λ o. Did (stepped r (with_liberties n o (moment_set_to r.present d (place_in r.present.history d)))) r (Err (turns.NoLiberty p)) new) e h in cc (g.0))
+
+pub length_assigned : (n : ℕ) (node : Node) (c : List Cell) → length (assigned n node c) ≡ n * n
+length_assigned n node c = length-map-range_with_len (left_at n node c) 0 (n * n)
+
+-- the cells that a call hands to the record, and the length of the record's colouring
+pub handed : (m n : ℕ) (node : Node) (present seen d : List Cell) (slice items : List (Place × Cell)) → m ≡ n → slice ≡ items → map (numbered n) items ≡ map (λ p. (p, cell_at d p)) (points n) → d ≡ assigned n node seen → seen ≡ present
+    → map (numbered m) slice ≡ map (λ p. (p, cell_at (assigned n node present) p)) (points n)
+handed m n node present seen d slice items size same listed is here =
+    ap₂ (λ k xs. map (numbered k) xs) size same ∙ listed ∙ ap (λ x. map (λ p. (p, cell_at x p)) (points n)) (is ∙ ap (assigned n node) here)
+
+pub length_of : (m n : ℕ) (present seen : List Cell) → m ≡ n → seen ≡ present → length seen ≡ m * m → length present ≡ n * n
+length_of m n present seen size here full = ap length (sym here) ∙ full ∙ ap (λ k. k * k) size

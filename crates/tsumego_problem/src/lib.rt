@@ -11,6 +11,7 @@ mod sizes;
 #[cfg(test)]
 mod tests;
 mod values;
+mod walk;
 
 pub use fault::{ProblemFault, SingleProperty, TurnFaultCause};
 pub use main_line::problem_node;

@@ -1,0 +1,12 @@
+use Rattle.std.proofs.Common.{◌≡◌}
+use Rattle.std.specs.List.{All, list_all}
+use Rattle.go_points.specs.Grid.{same_cell, cell_at, side_of}
+use Rattle.go_points.specs.Place.{Place, IsOn, number_of}
+use Rattle.tsumego_problem.proofs.walk.all_hold.Given as goal
+
+abbrev pub invariant-loop-point : goal.invariant-loop-point
+invariant-loop-point l =
+    (goal.iterator-loop-point).can_next l.point-iterator
+    × (goal.iterator-loop-point).is_finite l.point-iterator
+    × All (IsOn (side_of l.colouring)) l.point-iterator
+    × (list_all (λ (p : Place). same_cell (cell_at l.colouring (number_of (side_of l.colouring) p)) l.cell) l.point-iterator ≡ list_all (λ (p : Place). same_cell (cell_at l.colouring (number_of (side_of l.colouring) p)) l.cell) l.points)

@@ -1,0 +1,97 @@
+//! The walk along the main line, up to the problem node.
+
+ghost use Rattle.std.specs.Prelude.{◌≡◌, map, IfOk, IfErr, OnOk, Ok, Some};
+ghost use Rattle.std.specs.List.{All, list_all};
+ghost use Rattle.go_points.specs.Grid.{side_of, same_cell, cell_at};
+ghost use Rattle.go_points.specs.Place.{IsOn, number_of};
+ghost use Rattle.tsumego_problem.specs.Walk.{are_targets, late_fault, walk_node, history_limit};
+ghost use Rattle.tsumego_problem.specs.Walked.{walk_of, IsRefusal};
+ghost use Rattle.go_points.specs.declared.Colour.{Colour};
+
+use crate::fault::ProblemFault;
+use crate::main_line::{has, has_turn, is_marked};
+use crate::named_points::points_at;
+use crate::node_change::{PlayRecord, assigned, change, player_at};
+use crate::node_fault::node_fault;
+use go_points::{Cell, Colour, Colouring, PointSet, Size};
+use go_turns::{Board, PlayBoard, Record, Seen, TurnFault};
+use sgf_text::{SgfNode, Tree};
+use std::alloc::Global;
+use target_game::MAX_HISTORY;
+
+/// Whether each of these points holds this.
+fn all_hold(colouring: &Colouring, points: &PointSet, cell: Cell) -> bool
+    requires { All (IsOn (side_of colouring.now)) points.now }
+    ensures { result ≡ list_all (λ p. same_cell (cell_at colouring.now (number_of (side_of colouring.now) p)) cell) points.now }
+{
+    for point in points.iter() {
+        if colouring.get(point) != cell {
+            return false;
+        }
+    }
+    true
+}
+
+/// Whether these points are stones of one colour, one at least.
+fn are_targets(colouring: &Colouring, points: &PointSet) -> bool
+    requires { All (IsOn (side_of colouring.now)) points.now }
+    ensures { result ≡ are_targets colouring.now (map (number_of (side_of colouring.now)) points.now) }
+{
+    let Some(first) = points.first() else {
+        return false;
+    };
+    let cell = colouring.get(first);
+    !cell.is_empty() && all_hold(colouring, points, cell)
+}
+
+/// The first of the refusals that are asked behind what a node does.
+fn late_fault(
+    played: &PlayRecord,
+    size: Size,
+    number: usize,
+    node: &SgfNode,
+) -> Option<ProblemFault>
+    requires { played.now.size ≡ size }
+    ensures { (mover : Colour) → result ≡ late_fault (Some history_limit) size number node.now (walk_of played.now mover) }
+{
+    if is_marked(node) && !are_targets(&played.colouring(), &points_at(size, b"TR", node)) {
+        return Some(ProblemFault::BadTargets { node: number });
+    }
+    if is_marked(node) && played.passes() >= 2 {
+        return Some(ProblemFault::Ended { node: number });
+    }
+    if has(b"PL", node) && !has_turn(node) && player_at(node).is_none() {
+        return Some(ProblemFault::BadColour { node: number });
+    }
+    if played.seen().len() > MAX_HISTORY {
+        return Some(ProblemFault::LongHistory { node: number });
+    }
+    None
+}
+
+/// Walks over one node. The colour to move afterwards.
+fn walk_node(
+    alloc: Global,
+    played: &mut PlayRecord,
+    size: Size,
+    number: usize,
+    mover: Colour,
+    node: &SgfNode,
+) -> Result<Colour, ProblemFault>
+    requires { played.old.size ≡ size }
+    ensures ok { IfOk result (λ m. walk_node (Some history_limit) size number node.now (walk_of played.old mover) ≡ Ok (walk_of played.new m)) }
+    ensures size { OnOk result (played.new.size ≡ size) }
+    ensures refused { IfErr result (λ e. IsRefusal (walk_node (Some history_limit) size number node.now (walk_of played.old mover)) e) }
+{
+    if let Some(fault) = node_fault(size, number, node) {
+        return Err(fault);
+    }
+    let mover = match change(alloc, played, size, number, mover, node) {
+        Ok(mover) => mover,
+        Err(fault) => return Err(fault),
+    };
+    match late_fault(played, size, number, node) {
+        Some(fault) => Err(fault),
+        None => Ok(mover),
+    }
+}

@@ -32,7 +32,7 @@ not_refused : (t : Bool) (x : BadProblem) (rest : Option BadProblem) → cond t 
 not_refused true x rest h = absurd (cc)
 not_refused false x rest h = (refl, h)
 
-unrefused : (o : Option BadProblem) (r q : GameProblem) → unless_refused o r ≡ Ok q → (o ≡ None) × (r ≡ q)
+pub unrefused : (o : Option BadProblem) (r q : GameProblem) → unless_refused o r ≡ Ok q → (o ≡ None) × (r ≡ q)
 unrefused None r q h = (refl, cc h)
 unrefused (Some x) r q h = absurd (cc)
 

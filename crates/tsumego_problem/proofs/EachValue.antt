@@ -1,7 +1,10 @@
 -- The points of values, one value after another.
-use Rattle.std.specs.List.{All, list_all}
-use Rattle.tsumego_problem.proofs.Points.{picked_below, both_true, row_small, column_small}
-use Rattle.std.proofs.Common.{◌≡◌, ℕ, zero, suc, ◌*◌, nat_lt, ltb-true, ◌+◌, ◌≤◌, ◌<◌, Bool, true, false, List, [], ◌∷◌, ◌++◌, drop, length, get_or, map, filter, append-nil, append_assoc, Option, Some, None, option_map, option_and_then, refl, sym, ◌∙◌, ap, ap₂, subst, arith}
+use Rattle.std.specs.List.{All, list_all, range_with_len}
+use Rattle.std.proofs.lemmas.List.FromFn.{map-range_with_len_more}
+use Rattle.go_points.specs.Points.{with_place}
+use Rattle.tsumego_problem.proofs.Rectangles.{put}
+use Rattle.tsumego_problem.proofs.Points.{picked_below, picked_again, both_true, row_small, column_small}
+use Rattle.std.proofs.Common.{◌≡◌, ℕ, zero, suc, ◌*◌, nat_lt, ltb-true, ◌+◌, ◌≤◌, ◌<◌, Bool, true, false, List, [], ◌∷◌, ◌++◌, drop, length, get_or, map, filter, append-nil, append_assoc, Option, Some, None, option_map, option_and_then, refl, sym, ◌∙◌, ap, ap₂, subst, arith, map-id}
 use Rattle.std.proofs.Math.Seq.{drop-cons, drop-length}
 use Rattle.std.proofs.lemmas.Nat.{div-add-mod'}
 use Rattle.go_points.specs.Grid.{points}
@@ -60,12 +63,34 @@ module _ (n : ℕ) (values : List (List ℕ)) where
       let whole : points_of_each n values ≡ Some ps = left ∙ ap (λ k. option_map (λ qs. ps ++ qs) (points_of_each n (drop k values))) end ∙ ap (λ vs. option_map (λ qs. ps ++ qs) (points_of_each n vs)) (drop-length values) ∙ ap Some (append-nil ps) in
       ap Some (ap (map (number_of n)) is ∙ numbers_in n ps) ∙ sym (ap (option_map (λ (qs : List ℕ). filter (holds_point qs) (points n))) whole)
 
--- the set holds points of the board alone
-pub each_on : (i : ℕ) (set : List Place) → (n : ℕ) (values : List (List ℕ)) → 1 ≤ n → EachFrom n values i set → All (IsOn n) set
+-- such sets hold points of the board alone
+pub in_board : (n : ℕ) (ps : List ℕ) → 1 ≤ n → All (IsOn n) (points_in n ps)
 unfolding places_that
-each_on i set n values least (ps, is, left) = subst (All (IsOn n)) (sym is) (on_each (filter (holds_point ps) (points n)) (picked_below n (holds_point ps)))
+in_board n ps least = on_each (filter (holds_point ps) (points n)) (picked_below n (holds_point ps))
   where
     on_each : (xs : List ℕ) → list_all (λ p. nat_lt p (n * n)) xs ≡ true → All (IsOn n) (map (place_of n) xs)
     on_each [] h k d low = absurd (omega arith)
     on_each (x ∷ xs) h zero d low = let at : x < n * n = ltb-true x (n * n) (both_true (nat_lt x (n * n)) (list_all (λ p. nat_lt p (n * n)) xs) h).0 in record { row_within = row_small n x least at; column_within = column_small n x least }
     on_each (x ∷ xs) h (suc k) d low = on_each xs (both_true (nat_lt x (n * n)) (list_all (λ p. nat_lt p (n * n)) xs) h).1 k d (omega arith)
+
+pub each_on : (i : ℕ) (set : List Place) → (n : ℕ) (values : List (List ℕ)) → 1 ≤ n → EachFrom n values i set → All (IsOn n) set
+each_on i set n values least (ps, is, left) = subst (All (IsOn n)) (sym is) (in_board n ps least)
+
+-- ---- every point of the board
+
+pub none_in : (n : ℕ) (set : List Place) → set ≡ [] → set ≡ points_in n (range_with_len 0 0)
+none_in n set e = e ∙ sym (places_none n (holds_point []) (λ i low. refl))
+
+pub one_in : (n k : ℕ) (old : List Place) (p : Place) → 0 < n → k < n * n → p ≡ place_of n k → old ≡ points_in n (range_with_len 0 k) → with_place old p ≡ points_in n (range_with_len 0 (k + 1))
+one_in n k old p some on at had =
+    ap₂ (λ s q. with_place s q) had at ∙ put n k (range_with_len 0 k) some on
+    ∙ ap (points_in n) (sym (sym (map-id (range_with_len 0 (k + 1))) ∙ map-range_with_len_more (λ x. x) 0 k k (omega arith) ∙ ap (λ xs. xs ++ k ∷ []) (map-id (range_with_len 0 k))))
+
+all_pass : (xs : List ℕ) → filter (λ _. true) xs ≡ xs
+all_pass [] = refl
+all_pass (x ∷ xs) = ap (λ ys. x ∷ ys) (all_pass xs)
+
+pub all_in : (n : ℕ) (set : List Place) → set ≡ points_in n (points n) → map (number_of n) set ≡ points n
+all_in n set e =
+    ap (map (number_of n)) e ∙ numbers_in n (points n)
+    ∙ ap (λ xs. filter (holds_point xs) (points n)) (sym (all_pass (points n))) ∙ picked_again n (λ _. true) ∙ all_pass (points n)

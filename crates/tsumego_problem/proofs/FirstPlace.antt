@@ -6,7 +6,7 @@ use Rattle.sgf_text.specs.Trees.{GameTree, Forest, forest_of}
 use Rattle.tsumego_problem.specs.Walk.{usize_of, line_below, main_line}
 
 module _ {X : Type 0} (f : X → Bool) where
-  first_place : (x : X) (xs : List X) → position f (x ∷ xs) ≡ cond (f x) (Some 0) (option_map (λ k. 1 + k) (position f xs))
+  pub first_place : (x : X) (xs : List X) → position f (x ∷ xs) ≡ cond (f x) (Some 0) (option_map (λ k. 1 + k) (position f xs))
   first_place x xs = go (f x) (nat_lt (position_or_len f xs) (length xs)) refl
     where
       go : (b t : Bool) → nat_lt (position_or_len f xs) (length xs) ≡ t
@@ -15,7 +15,7 @@ module _ {X : Type 0} (f : X → Bool) where
       go false true e = ap (λ a. cond a (Some (1 + position_or_len f xs)) None) (lt-ltb (1 + position_or_len f xs) (suc (length xs)) (omega (arith, ltb-true (position_or_len f xs) (length xs) e)))
       go false false e = ap (λ a. cond a (Some (1 + position_or_len f xs)) None) (le-ltb (1 + position_or_len f xs) (suc (length xs)) (omega (arith, ltb-false (position_or_len f xs) (length xs) e)))
 
-  abbrev behind : List X → Option ℕ → Option ℕ → Option ℕ
+  abbrev pub behind : List X → Option ℕ → Option ℕ → Option ℕ
   behind xs (Some k) o = Some k
   behind xs None o = option_map (λ k. length xs + k) o
 

@@ -7,6 +7,7 @@ mod main_line;
 mod named_points;
 mod node_change;
 mod node_fault;
+mod read;
 mod sizes;
 #[cfg(test)]
 mod tests;
@@ -15,4 +16,5 @@ mod walk;
 
 pub use fault::{ProblemFault, SingleProperty, TurnFaultCause};
 pub use main_line::problem_node;
+pub use read::read_problem;
 pub use values::read_turn;

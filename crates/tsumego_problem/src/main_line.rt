@@ -47,7 +47,7 @@ pub(crate) fn has_turn(node: &SgfNode) -> bool
 }
 
 /// The first marked node.
-fn first_marked(nodes: &[SgfNode]) -> Option<usize>
+pub(crate) fn first_marked(nodes: &[SgfNode]) -> Option<usize>
     ensures { result ≡ position is_marked nodes.now }
 {
     nodes.iter().position(|node| is_marked(node))

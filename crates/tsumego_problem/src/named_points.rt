@@ -117,3 +117,15 @@ pub(crate) fn points_at(size: Size, name: &[u8], node: &SgfNode) -> PointSet
         None => PointSet::new(),
     }
 }
+
+/// Every point of the board.
+pub(crate) fn all_points(size: Size) -> PointSet
+    ensures value { map (number_of size) result ≡ points size }
+    ensures on_board { All (IsOn size) result }
+{
+    let mut set = PointSet::new();
+    for number in 0..size.area() {
+        set.insert(size.point_at(number));
+    }
+    set
+}

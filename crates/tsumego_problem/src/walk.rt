@@ -1,11 +1,11 @@
 //! The walk along the main line, up to the problem node.
 
-ghost use Rattle.std.specs.Prelude.{◌≡◌, map, IfOk, IfErr, OnOk, Ok, Some};
+ghost use Rattle.std.specs.Prelude.{◌≡◌, ◌+◌, ◌<◌, ◌^◌, [], length, map, slice_index_or, IfOk, IfErr, IfSome, OnOk, Ok, Some, None};
 ghost use Rattle.std.specs.List.{All, list_all};
 ghost use Rattle.go_points.specs.Grid.{side_of, same_cell, cell_at};
 ghost use Rattle.go_points.specs.Place.{IsOn, number_of};
-ghost use Rattle.tsumego_problem.specs.Walk.{are_targets, late_fault, walk_node, history_limit};
-ghost use Rattle.tsumego_problem.specs.Walked.{walk_of, IsRefusal};
+ghost use Rattle.tsumego_problem.specs.Walk.{are_targets, late_fault, walk_node, main_line, line_below, history_limit};
+ghost use Rattle.tsumego_problem.specs.Walked.{walk_of, walk_to_mark, IsRefusal};
 ghost use Rattle.go_points.specs.declared.Colour.{Colour};
 
 use crate::fault::ProblemFault;
@@ -93,5 +93,71 @@ fn walk_node(
     match late_fault(played, size, number, node) {
         Some(fault) => Err(fault),
         None => Ok(mover),
+    }
+}
+
+/// Walks over the nodes of a tree's own sequence, the first of which has this number, up to the first marked one. Its place in the sequence, where there is one; and the colour to move.
+fn walk_sequence(
+    alloc: Global,
+    played: &mut PlayRecord,
+    size: Size,
+    first: usize,
+    mover: Colour,
+    part: &Tree,
+) -> Result<(Option<usize>, Colour), ProblemFault>
+    requires size { played.old.size ≡ size }
+    requires few { first + length part.now.nodes < 2 ^ 64 }
+    ensures size { OnOk result (played.new.size ≡ size) }
+    ensures place { IfOk result (λ r. IfSome r.0 (λ p. p < length part.now.nodes)) }
+    ensures marked { IfOk result (λ r. IfSome r.0 (λ p. walk_to_mark (Some history_limit) size first (main_line part.now) (walk_of played.old mover) ≡ Ok (slice_index_or part.now.nodes p [], walk_of played.new r.1))) }
+    ensures unmarked { IfOk result (λ r. r.0 ≡ None → walk_to_mark (Some history_limit) size (first + length part.now.nodes) (line_below part.now.children) (walk_of played.new r.1) ≡ walk_to_mark (Some history_limit) size first (main_line part.now) (walk_of played.old mover)) }
+    ensures refused { IfErr result (λ e. IsRefusal (walk_to_mark (Some history_limit) size first (main_line part.now) (walk_of played.old mover)) e) }
+{
+    let nodes = part.nodes();
+    let mut mover = mover;
+    for place in 0..nodes.len() {
+        let node = &nodes[place];
+        match walk_node(alloc, played, size, first + place, mover, node) {
+            Ok(next) => mover = next,
+            Err(fault) => return Err(fault),
+        }
+        if is_marked(node) {
+            return Ok((Some(place), mover));
+        }
+    }
+    Ok((None, mover))
+}
+
+/// Walks along the main line up to the first marked node: that node, and the colour to move there.
+pub(crate) fn walk_line<'a>(
+    alloc: Global,
+    played: &mut PlayRecord,
+    size: Size,
+    mover: Colour,
+    tree: &'a Tree,
+) -> Result<(&'a SgfNode, Colour), ProblemFault>
+    requires size { played.old.size ≡ size }
+    ensures size { OnOk result (played.new.size ≡ size) }
+    ensures ok { IfOk result (λ r. walk_to_mark (Some history_limit) size 0 (main_line tree.now) (walk_of played.old mover) ≡ Ok (r.0.now, walk_of played.new r.1)) }
+    ensures refused { IfErr result (λ e. IsRefusal (walk_to_mark (Some history_limit) size 0 (main_line tree.now) (walk_of played.old mover)) e) }
+{
+    let mut part = tree;
+    let mut first: usize = 0;
+    let mut mover = mover;
+    loop {
+        // More nodes than a `usize` counts are more than memory holds.
+        let Some(next) = first.checked_add(part.nodes().len()) else {
+            return Err(ProblemFault::Memory);
+        };
+        match walk_sequence(alloc, played, size, first, mover, part) {
+            Err(fault) => return Err(fault),
+            Ok((Some(place), at_mark)) => return Ok((&part.nodes()[place], at_mark)),
+            Ok((None, behind)) => mover = behind,
+        }
+        let Some(child) = part.children().first() else {
+            return Err(ProblemFault::NoProblemNode);
+        };
+        part = child;
+        first = next;
     }
 }

@@ -1,0 +1,19 @@
+use Rattle.std.proofs.Common.{◌≡◌, Ok, Option, sym, ◌∙◌, ap, ap₂}
+use Rattle.std.specs.Prelude.{unwrap_or}
+use Rattle.go_points.specs.Grid.{side_of}
+use Rattle.go_turns.specs.History.{place_in}
+use Rattle.go_turns.specs.Record.{colouring_of}
+use Rattle.target_game.specs.Problem.{problem_of}
+use Rattle.tsumego_problem.proofs.Making.{problem_made}
+use Rattle.tsumego_problem.proofs.read.problem_at.Goals as goal
+
+pub returns-in-Ok-new-clause-ok : goal.returns-in-Ok-new-clause-ok
+returns-in-Ok-new-clause-ok c =
+    let r = c.args.played.now in
+    problem_made c.args.size c.args.node.now r c.args.mover c.unwrap_or-place.result c.points_at-targets.result c.region_at-region.result c.in-Ok-new.problem
+      c.colouring.ensures.within
+      (ap side_of (sym c.colouring.ensures.value) ∙ c.colouring.ensures.size ∙ c.requires)
+      (c.unwrap_or-place.ensures ∙ ap (λ o. unwrap_or o 0) (c.holds.ensures ∙ ap₂ place_in c.seen-2.ensures c.colouring.ensures.value))
+      c.points_at-targets.ensures.value c.region_at-region.ensures.value
+      (sym (ap₂ (λ h p. problem_of h c.unwrap_or-place.result c.args.mover p c.points_at-targets.result c.region_at-region.result) (c.in-Ok.ensures ∙ c.seen.ensures) c.passes.ensures.value)
+       ∙ sym c.new.ensures ∙ c.in-Ok-new.is)

@@ -1,5 +1,5 @@
 -- What every problem keeps, from the refusals that it was asked.
-use Rattle.std.proofs.Common.{◌≡◌, ℕ, zero, suc, ◌+◌, ◌*◌, ◌<◌, ◌≤◌, Bool, true, false, cond, not, ◌&&◌, ◌||◌, IsTrue, IsFalse, nat_eq, nat_lt, nat_le, eqb-true, ltb-true, ltb-false, leb-false, List, [], ◌∷◌, map, length, get_or, Option, Some, None, is_none, slice_get, Result, Ok, Err, MatchResult, refl, sym, ◌∙◌, ap, subst, arith, if◌then◌else◌}
+use Rattle.std.proofs.Common.{◌≡◌, ℕ, zero, suc, ◌*◌, ◌<◌, Bool, true, false, cond, not, ◌&&◌, nat_eq, nat_lt, nat_le, eqb-true, ltb-true, ltb-false, leb-false, List, [], ◌∷◌, map, length, get_or, Option, Some, None, is_none, slice_get, Result, Ok, Err, MatchResult, refl, sym, ◌∙◌, ap, subst, arith}
 use Rattle.std.specs.List.{All, list_all}
 use Rattle.std.proofs.lemmas.Nat.{mul-add-lt}
 use Rattle.std.proofs.lemmas.List.{length-map}
@@ -15,7 +15,7 @@ use Rattle.go_points.proofs.Cells.{same_cell_eq, same_cell_refl, eq_same_cell}
 use Rattle.go_turns.specs.History.{repeats}
 use Rattle.target_game.specs.declared.bad_problem.BadProblem.{BadProblem}
 use Rattle.target_game.specs.declared.TheConstants.{MAX_HISTORY}
-use Rattle.target_game.specs.State.{Game, GameProblem, start}
+use Rattle.target_game.specs.State.{GameProblem}
 use Rattle.target_game.specs.Problem.{one_colour, first_refusal, refusals, the_colour, unless_refused, problem_on, problem_of}
 use Rattle.target_game.specs.Kept.{kept_problem}
 use Rattle.target_game.specs.Laws.{IsProblem}

@@ -1,5 +1,5 @@
 -- Tests of the elements of a list, one by one: what is still to be tested decides.
-use Rattle.std.proofs.Common.{◌≡◌, ℕ, zero, suc, ◌+◌, ◌*◌, ◌<◌, ◌≤◌, Bool, true, false, not, ◌&&◌, ◌||◌, nat_eq, nat_lt, ltb-true, slice_get, Err, eq-eqb, eqb-true, List, [], ◌∷◌, drop, length, get_or, cond, map, Option, Some, None, refl, sym, ◌∙◌, ap, ap₂, subst, arith}
+use Rattle.std.proofs.Common.{◌≡◌, ℕ, zero, suc, ◌+◌, ◌*◌, ◌<◌, Bool, true, false, not, ◌&&◌, ◌||◌, nat_eq, nat_lt, ltb-true, slice_get, Err, eq-eqb, eqb-true, List, [], ◌∷◌, drop, length, get_or, cond, map, Some, None, refl, sym, ◌∙◌, ap, ap₂, subst, arith}
 use Rattle.std.specs.List.{All, list_all, list_any}
 use Rattle.std.proofs.Math.Seq.{drop-cons, drop-length}
 use Rattle.go_points.specs.declared.Cell.{Cell}

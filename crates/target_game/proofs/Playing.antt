@@ -1,6 +1,6 @@
 -- Playing a legal turn on a record, and the legal turns one by one.
-use Rattle.std.proofs.Common.{◌≡◌, ℕ, zero, suc, ◌+◌, ◌-◌, ◌*◌, ◌/◌, ◌%◌, ◌<◌, ◌≤◌, Bool, true, false, cond, not, ◌&&◌, ◌||◌, nat_eq, nat_lt, eqb-true, eq-eqb, ltb-true, ltb-false, lt-ltb, find, List, [], ◌∷◌, ◌++◌, map, filter, length, get_or, Option, Some, None, Result, Ok, Err, position, is_some, is_none, refl, sym, ◌∙◌, ap, ap₂, subst, arith, if◌then◌else◌}
-use Rattle.std.specs.List.{All, list_any, list_all, range_with_len}
+use Rattle.std.proofs.Common.{◌≡◌, ℕ, suc, ◌+◌, ◌-◌, ◌*◌, ◌/◌, ◌%◌, ◌<◌, ◌≤◌, Bool, true, false, cond, not, ◌&&◌, ◌||◌, nat_eq, nat_lt, eqb-true, eq-eqb, lt-ltb, find, List, [], ◌∷◌, ◌++◌, map, filter, length, Option, Some, None, Ok, is_some, is_none, refl, sym, ◌∙◌, ap, ap₂, subst, arith, if◌then◌else◌}
+use Rattle.std.specs.List.{All, list_all, range_with_len}
 use Rattle.std.proofs.lemmas.Nat.{div-mul-add, mod-mul-add}
 use Rattle.std.proofs.lemmas.List.{map-append, map-id, append-nil}
 use Rattle.std.proofs.lemmas.List.FromFn.{filter_of_map_range_with_len_more}
@@ -14,11 +14,10 @@ use Rattle.go_points.specs.Place.{Place, IsOn, on_board, number_of}
 use Rattle.go_points.specs.Points.{same_place, holds_place}
 use Rattle.go_points.specs.declared.Turn.{Turn}
 use Rattle.go_points.specs.declared.Turn.TheVariants.{Pass, At}
-use Rattle.go_points.specs.Ply.{Ply, pass, move, ply_of}
+use Rattle.go_points.specs.Ply.{pass, move, ply_of}
 use Rattle.go_points.proofs.Lists.{and_left, and_right, and_both, not_true}
-use Rattle.go_turns.specs.declared.fault.TurnFault.{TurnFault}
 use Rattle.go_turns.specs.History.{has_occurred, place_in}
-use Rattle.go_turns.specs.Record.{Moment, GameRecord, colouring_of, moved, after_play}
+use Rattle.go_turns.specs.Record.{Moment, colouring_of, after_play}
 use Rattle.go_turns.proofs.Repeats.{no_position, no_element}
 use Rattle.target_game.specs.State.{Game, GameState}
 use Rattle.target_game.specs.Legal.{holds_point, legal, legal_turns}

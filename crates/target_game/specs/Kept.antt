@@ -1,11 +1,11 @@
 -- What problems and states keep, as the definitions' values.
-use Rattle.std.specs.Prelude.{◌≡◌, ℕ, ◌<◌, List, [], ◌∷◌, map, IsTrue, Option, Some, None, if◌then◌else◌, Ok}
-use Rattle.std.specs.List.{All, range_with_len}
+use Rattle.std.specs.Prelude.{◌≡◌, ℕ, List, [], ◌∷◌, map, Option, Some, None, Ok}
+use Rattle.std.specs.List.{range_with_len}
 use Rattle.std.specs.Prelude.{find, ◌*◌, ◌-◌}
 use Rattle.go_points.specs.declared.Colour.{Colour}
 use Rattle.go_points.specs.declared.Cell.{Cell}
 use Rattle.go_points.specs.Grid.{opponent_of}
-use Rattle.go_points.specs.Place.{Place, IsOn, number_of}
+use Rattle.go_points.specs.Place.{Place, number_of}
 use Rattle.go_points.specs.Ply.{Ply, pass, move}
 use Rattle.go_turns.specs.Record.{Moment, GameRecord, colouring_of}
 use Rattle.target_game.specs.State.{Game, GameState, GameProblem, Line}

@@ -9,13 +9,13 @@ use std::process::Abort;
 type Play = State<PlayBoard, PlaySeen>;
 
 // The colouring of 3 by 3 with this text.
-fn three(rt: &impl Abort, text: &str) -> Colouring {
+pub(crate) fn three(rt: &impl Abort, text: &str) -> Colouring {
     let size = Size::new(3).expect(rt, "a size");
     Colouring::from_text(size, text.as_bytes()).expect(rt, "a text")
 }
 
 // The points of 3 by 3 with these letters, two for each.
-fn points(rt: &impl Abort, letters: &str) -> PointSet {
+pub(crate) fn points(rt: &impl Abort, letters: &str) -> PointSet {
     let size = Size::new(3).expect(rt, "a size");
     let mut found = PointSet::new();
     for pair in letters.as_bytes().chunks(2) {
@@ -29,7 +29,7 @@ fn turn(rt: &impl Abort, letters: &str) -> Turn {
     Turn::At(sgf_point(size, letters.as_bytes()).expect(rt, "a point"))
 }
 
-fn history(rt: &impl Abort, alloc: Global, texts: &[&str]) -> Vec<Colouring> {
+pub(crate) fn history(rt: &impl Abort, alloc: Global, texts: &[&str]) -> Vec<Colouring> {
     let mut all = Vec::new(alloc);
     for text in texts {
         all.push(three(rt, text)).expect(rt, "memory");

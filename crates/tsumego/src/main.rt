@@ -1,6 +1,9 @@
 //! tsumego: judges claims about problems of Go.
 #![tactic(auto)]
 
+mod command_line;
+#[cfg(test)]
+mod command_line_tests;
 mod fields;
 mod input;
 mod record;

@@ -1,4 +1,4 @@
-use Rattle.std.proofs.Common.{sym, ap, ◌∙◌, slice_get, Ok, option_copied, Bor, List}
+use Rattle.std.proofs.Common.{sym, ap, ◌∙◌, slice_get, option_copied}
 use Rattle.target_game.proofs.Loops.{no_first}
 use Rattle.target_game.proofs.Facts.{asked_ok, asked_err}
 use Rattle.target_game.proofs.problem.Problem.new.Goals as goal

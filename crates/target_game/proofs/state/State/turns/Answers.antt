@@ -1,7 +1,5 @@
-use Rattle.std.proofs.Common.{sym, ap, ◌∙◌, ◌≡◌, ◌<◌, ◌≤◌, ◌+◌, ◌*◌, ◌++◌, ◌∷◌, [], subst, arith, ℕ, List, map, filter, Bool, true, is_none, is_some, if◌then◌else◌}
+use Rattle.std.proofs.Common.{sym, ap, ◌∙◌, ◌≡◌, ◌*◌, [], subst, arith, ℕ, map, filter, Bool, true, is_none, is_some, if◌then◌else◌}
 use Rattle.std.specs.List.{range_with_len}
-use Rattle.arrayvec.specs.ArrayVec.{array_vec_len}
-use Rattle.go_points.specs.declared.Turn.{Turn}
 use Rattle.go_points.specs.Place.{IsOn, number_of}
 use Rattle.go_points.specs.Ply.{move, ply_of}
 use Rattle.target_game.specs.Legal.{legal, legal_turns}

@@ -1,0 +1,175 @@
+//! Who wins in the tree of all legal play, and how many states it has: one pass answers both.
+//!
+//! The pass goes down with a number of states that are still allowed and gives back what is left of it, so no sum can
+//! overflow and it stops at the first state past the limit. It keeps one path of play and makes no list of turns.
+
+ghost use Rattle.std.specs.Prelude.{◌≡◌, ◌+◌, ◌≤◌, IsTrue, OnOk, IfOk, None, option_map, if◌then◌else◌};
+ghost use Rattle.go_points.specs.Grid.{same_colour};
+ghost use Rattle.go_points.specs.Ply.{ply_of};
+ghost use Rattle.go_points.specs.declared.Colour.TheVariants.{Black, White};
+ghost use Rattle.target_game.specs.Legal.{legal, legal_turns};
+ghost use Rattle.target_game.specs.Next.{next};
+ghost use Rattle.target_game.specs.Over.{over};
+ghost use Rattle.target_game.specs.Wins.{is_winner};
+ghost use Rattle.target_game.specs.Tally.{tally_of, before_turns, with_below, with_turns};
+ghost use Rattle.target_game.specs.declared.within.Within.TheVariants.{Wins, Neither};
+
+use crate::state::State;
+use crate::within::Within;
+use go_points::{Colour, Turn};
+use go_turns::{PlayBoard, PlaySeen};
+use std::alloc::AllocError;
+
+/// A state of the problem.
+pub(crate) type PlayState = State<PlayBoard, PlaySeen>;
+
+/// What is known of a tree of play.
+#[derive(Clone, Copy)]
+pub(crate) struct Tally {
+    /// How many more states are allowed.
+    left: u64,
+    /// Whether Black can force a win.
+    black: bool,
+    /// Whether White can.
+    white: bool,
+}
+
+impl Tally {
+    /// A state that is the last of its line of play.
+    fn last(left: u64, winner: Option<Colour>) -> Tally
+        ensures left { result.left ≡ left }
+        ensures black { result.black ≡ is_winner Black winner }
+        ensures white { result.white ≡ is_winner White winner }
+    {
+        match winner {
+            None => Tally {
+                left,
+                black: false,
+                white: false,
+            },
+            Some(Colour::Black) => Tally {
+                left,
+                black: true,
+                white: false,
+            },
+            Some(Colour::White) => Tally {
+                left,
+                black: false,
+                white: true,
+            },
+        }
+    }
+
+    /// A state where nobody has won, before any of the mover's turns.
+    fn before_turns(mover: Colour, left: u64) -> Tally
+        ensures { result ≡ before_turns mover left }
+    {
+        match mover {
+            Colour::Black => Tally {
+                left,
+                black: false,
+                white: true,
+            },
+            Colour::White => Tally {
+                left,
+                black: true,
+                white: false,
+            },
+        }
+    }
+
+    /// The same with one turn more: the mover needs one turn that wins, the other side needs all.
+    fn with_below(self, mover: Colour, below: Tally) -> Tally
+        ensures { result ≡ with_below mover self below }
+    {
+        match mover {
+            Colour::Black => Tally {
+                left: below.left,
+                black: self.black || below.black,
+                white: self.white && below.white,
+            },
+            Colour::White => Tally {
+                left: below.left,
+                black: self.black && below.black,
+                white: self.white || below.white,
+            },
+        }
+    }
+
+    /// Who can force a win.
+    pub(crate) fn decision(self) -> Within
+        ensures { result ≡ (if self.black then Wins Black else (if self.white then Wins White else Neither)) }
+    {
+        if self.black {
+            Within::Wins(Colour::Black)
+        } else if self.white {
+            Within::Wins(Colour::White)
+        } else {
+            Within::Neither
+        }
+    }
+}
+
+/// The tally of all legal play of at most so many turns from the state, which is then as it was; none, where that has
+/// more states than are left.
+#[cycle(tally)]
+pub(crate) fn tally_state(
+    state: &mut PlayState,
+    turns: u32,
+    left: u64,
+) -> Result<Option<Tally>, AllocError>
+    ensures state { OnOk result (state.new ≡ state.old) }
+    ensures tally { IfOk result (λ r. r ≡ tally_of state.old.state turns left) }
+{
+    if left == 0 {
+        return Ok(None);
+    }
+    let winner = state.over();
+    if winner.is_some() || turns == 0 {
+        return Ok(Some(Tally::last(left - 1, winner)));
+    }
+    tally_turns(state, turns - 1, left - 1)
+}
+
+/// The same of a state where nobody has won and that is itself counted already, with so many turns after the first.
+#[cycle(tally)]
+fn tally_turns(state: &mut PlayState, turns: u32, left: u64) -> Result<Option<Tally>, AllocError>
+    requires open { over state.old.state ≡ None }
+    ensures state { OnOk result (state.new ≡ state.old) }
+    ensures tally { IfOk result (λ r. r ≡ with_turns state.old.state turns (legal_turns state.old.state) (before_turns state.old.state.mover left)) }
+{
+    let mut seen = Tally::before_turns(state.mover(), left);
+    let size = state.size();
+    for number in 0..size.area() {
+        let point = size.point_at(number);
+        if state.may_move(point) {
+            match tally_turn(state, turns, Turn::At(point), seen)? {
+                Some(tally) => seen = tally,
+                None => return Ok(None),
+            }
+        }
+    }
+    tally_turn(state, turns, Turn::Pass, seen)
+}
+
+/// What is known of the turns that were seen, with the tree below one more.
+#[cycle(tally)]
+fn tally_turn(
+    state: &mut PlayState,
+    turns: u32,
+    turn: Turn,
+    seen: Tally,
+) -> Result<Option<Tally>, AllocError>
+    requires open { over state.old.state ≡ None }
+    requires legal { IsTrue (legal state.old.state (ply_of state.old.state.game.size turn)) }
+    ensures state { OnOk result (state.new ≡ state.old) }
+    ensures tally { IfOk result (λ r. r ≡ option_map (with_below state.old.state.mover seen) (tally_of (next state.old.state (ply_of state.old.state.game.size turn)) turns seen.left)) }
+{
+    state.after(turn)?;
+    let below = tally_state(state, turns, seen.left)?;
+    state.back();
+    match below {
+        Some(below) => Ok(Some(seen.with_below(state.mover(), below))),
+        None => Ok(None),
+    }
+}

@@ -1,0 +1,53 @@
+-- Worked examples of the command line, computed by the definitions.
+use Rattle.std.proofs.Common.{◌≡◌, [], ◌∷◌, Some, None, codes, refl}
+use Rattle.clap.proofs.OnLiterals.{clap_on_literals}
+use Rattle.tsumego.specs.declared.command_line.Command.TheVariants.{Check, Within}
+use Rattle.tsumego.specs.CommandLine.{command_of}
+
+check_asked : command_of (codes "tsumego" ∷ codes "check" ∷ []) ≡ Some Check
+unfolding clap_on_literals command_of
+check_asked = refl
+
+within_asked : command_of (codes "tsumego" ∷ codes "within" ∷ codes "3" ∷ []) ≡ Some (Within 3 1000000)
+unfolding clap_on_literals command_of
+within_asked = refl
+
+numbers_after_signs : command_of (codes "tsumego" ∷ codes "within" ∷ codes "+5" ∷ codes "--nodes=5" ∷ []) ≡ Some (Within 5 5)
+unfolding clap_on_literals command_of
+numbers_after_signs = refl
+
+greatest_numbers : command_of (codes "tsumego" ∷ codes "within" ∷ codes "--nodes" ∷ codes "4294967295" ∷ codes "200" ∷ []) ≡ Some (Within 200 4294967295)
+unfolding clap_on_literals command_of
+greatest_numbers = refl
+
+too_many_turns : command_of (codes "tsumego" ∷ codes "within" ∷ codes "201" ∷ []) ≡ None
+unfolding clap_on_literals command_of
+too_many_turns = refl
+
+too_many_nodes : command_of (codes "tsumego" ∷ codes "within" ∷ codes "3" ∷ codes "--nodes" ∷ codes "4294967296" ∷ []) ≡ None
+unfolding clap_on_literals command_of
+too_many_nodes = refl
+
+negative_number : command_of (codes "tsumego" ∷ codes "within" ∷ codes "-1" ∷ []) ≡ None
+unfolding clap_on_literals command_of
+negative_number = refl
+
+given_twice : command_of (codes "tsumego" ∷ codes "within" ∷ codes "3" ∷ codes "--nodes" ∷ codes "1" ∷ codes "--nodes" ∷ codes "1" ∷ []) ≡ None
+unfolding clap_on_literals command_of
+given_twice = refl
+
+no_turns : command_of (codes "tsumego" ∷ codes "within" ∷ []) ≡ None
+unfolding clap_on_literals command_of
+no_turns = refl
+
+no_subcommand : command_of (codes "tsumego" ∷ []) ≡ None
+unfolding clap_on_literals command_of
+no_subcommand = refl
+
+unknown_subcommand : command_of (codes "tsumego" ∷ codes "chek" ∷ []) ≡ None
+unfolding clap_on_literals command_of
+unknown_subcommand = refl
+
+call_for_help : command_of (codes "tsumego" ∷ codes "within" ∷ codes "--help" ∷ []) ≡ None
+unfolding clap_on_literals command_of
+call_for_help = refl

@@ -1,0 +1,20 @@
+use Rattle.std.proofs.Common.{map, sym, ◌∙◌}
+use Rattle.clap.specs.Words.{app_of}
+use Rattle.tsumego.proofs.CommandLines.{command_found, command_faulty}
+use Rattle.tsumego.proofs.command_line.read_command.Goals as goal
+
+pub returns-in-Some-clause-ok : goal.returns-in-Some-clause-ok
+returns-in-Some-clause-ok g c =
+    let found = c.in-Ok-try_get_matches_from in
+    command_found (app_of c.in-Ok.command) (map g.S.AsStr.text c.args.words.now) found.matches c.in-Ok.ensures found.ensures.matches found.ensures.kinds
+    ∙ sym c.chosen.ensures.value ∙ c.in-Some.is
+
+pub returns-in-Ok-try_get_matches_from-clause-err : goal.returns-in-Ok-try_get_matches_from-clause-err
+returns-in-Ok-try_get_matches_from-clause-err g c =
+    let found = c.in-Ok-try_get_matches_from in
+    λ _. command_found (app_of c.in-Ok.command) (map g.S.AsStr.text c.args.words.now) found.matches c.in-Ok.ensures found.ensures.matches found.ensures.kinds
+    ∙ sym c.chosen.ensures.value ∙ c.in-None.is
+
+pub returns-clause-err : goal.returns-clause-err
+returns-clause-err g c =
+    λ faulty. command_faulty (app_of c.in-Ok.command) (map g.S.AsStr.text c.args.words.now) c.in-Err.error c.in-Ok.ensures c.in-Err.ensures.kinds (c.fault.ensures faulty)

@@ -1,0 +1,81 @@
+-- The command line: what the words ask for, by the grammar that `clap` is given.
+use Rattle.std.specs.Prelude.{◌≤◌, ℕ, true, false, List, [], ◌∷◌, codes, Option, Some, None, option_and_then, if◌then◌else◌}
+use Rattle.std.specs.Str.{bytes_eq}
+use Rattle.std.specs.Str.Parse.{digits_value, without_leading_plus}
+use Rattle.clap.specs.Words.{App, Kinds, Row, Rule, Shape, Text, fault_of, new_rule, one_of, subcommand_of}
+use Rattle.clap.specs.Simple.{new_shape}
+use Rattle.clap.specs.ValueTests.{is_unsigned_in}
+use Rattle.clap.specs.declared.builder.value_parser.ValueParser.TheVariants.{Unsigned}
+use Rattle.tsumego.specs.declared.command_line.Command.{Command}
+use Rattle.tsumego.specs.declared.command_line.Command.TheVariants.{Check, Within}
+use Rattle.tsumego.specs.declared.command_line.NoCommand.{NoCommand}
+use Rattle.tsumego.specs.declared.command_line.NoCommand.TheVariants.{Words, Memory}
+
+-- The most turns, and the most states, that may be asked for.
+abbrev pub most_turns : ℕ
+most_turns = 200
+
+abbrev pub most_nodes : ℕ
+most_nodes = 4294967295
+
+-- `within` has the number of turns, which is required, and an option for the number of states.
+abbrev pub turns_rule : Rule
+turns_rule = record (new_rule (codes "K")) { required = true; parser = Some (Unsigned 0 most_turns) }
+
+abbrev pub nodes_rule : Rule
+nodes_rule = record (new_rule (codes "nodes")) {
+  long = Some (codes "nodes");
+  value_names = 1;
+  defaults = codes "1000000" ∷ [];
+  parser = Some (Unsigned 0 most_nodes);
+}
+
+abbrev pub check_shape : Shape
+check_shape = new_shape (codes "check")
+
+abbrev pub within_shape : Shape
+within_shape = record (new_shape (codes "within")) { rules = turns_rule ∷ nodes_rule ∷ [] }
+
+-- The program, one of whose subcommands has to be named.
+abbrev pub grammar : App
+grammar = record {
+  top = record (new_shape (codes "tsumego")) { is_leaf = false; subcommand_required = true };
+  subs = check_shape ∷ within_shape ∷ [];
+}
+
+-- The number that the first value of an argument writes, where it is at most so much.
+abbrev pub number_in : ℕ → Text → Option ℕ
+number_in most text = (if is_unsigned_in 0 most text then Some (digits_value 10 (without_leading_plus text)) else None)
+
+abbrev pub number_of : Text → ℕ → List Row → Option ℕ
+number_of id most rows = option_and_then (number_in most) (one_of id rows)
+
+abbrev pub within_of : Option ℕ → Option ℕ → Option Command
+within_of (Some turns) (Some nodes) = Some (Within turns nodes)
+within_of _ _ = None
+
+-- The command that a subcommand and its matches name.
+abbrev pub command_named : Text → List Row → Option Command
+command_named name rows =
+    (if bytes_eq name (codes "check") then Some Check
+    else (if bytes_eq name (codes "within") then within_of (number_of (codes "K") most_turns rows) (number_of (codes "nodes") most_nodes rows)
+    else None))
+
+-- No command at a fault.
+abbrev pub unless_faulty : Kinds → Option Command → Option Command
+unless_faulty [] command = command
+unless_faulty (_ ∷ _) command = None
+
+-- The command that the words give, the first of which is the program's name: that of the subcommand which `clap` finds in them, where it finds no fault.
+unfoldable pub command_of : List Text → Option Command
+command_of words = unless_faulty (fault_of grammar words) (option_and_then (λ p. command_named p.0 p.1) (subcommand_of grammar words))
+
+-- The numbers of a command are within their ranges.
+abbrev pub FitsRanges : Command → Type 0
+FitsRanges Check = Unit {0}
+FitsRanges (Within turns nodes) = (turns ≤ most_turns) × (nodes ≤ most_nodes)
+
+-- The words are at fault, and not the memory.
+abbrev pub IsWordsFault : NoCommand → Type 0
+IsWordsFault (Words text) = Unit {0}
+IsWordsFault Memory = ⊥

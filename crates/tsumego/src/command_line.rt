@@ -1,0 +1,151 @@
+//! The command line: its grammar, and the command that the words give.
+//!
+//! The words are read by `clap`, whose contracts make the command a function of the words. Its check is dear, so
+//! each part of the grammar has a function of its own, and nothing else stands here.
+
+ghost use Rattle.std.specs.Prelude.{◌≡◌, ◌≤◌, false, Some, None, codes, IfOk, IfErr, IfSome, option_and_then, map};
+ghost use Rattle.clap.specs.Words.{app_of, found_of, kind_of, new_app, one_of, rows_of, rule_of, subcommand_rows_of, with_rule};
+ghost use Rattle.clap.specs.declared.builder.command.Command.TheViews.{out-Command as fields_of};
+ghost use Rattle.tsumego.specs.CommandLine.{FitsRanges, IsWordsFault, command_named, command_of, grammar, most_nodes, most_turns, nodes_rule, number_of, turns_rule};
+
+use clap::builder::ValueParser;
+use clap::error::ErrorKind;
+use clap::{Arg, ArgMatches, Error};
+use std::alloc::{AllocError, Global};
+use std::convert::AsStr;
+
+/// The most turns that may be asked for.
+const MOST_TURNS: u64 = 200;
+
+/// The most states that may be asked for.
+const MOST_NODES: u64 = 4_294_967_295;
+
+/// What the words ask for.
+#[derive(Clone, Copy, Debug, PartialEq, Eq)]
+pub enum Command {
+    /// Judge the claim behind a record.
+    Check,
+    /// Decide who wins the problem of a record within so many turns, where the tree has at most so many states.
+    Within { turns: u32, nodes: u64 },
+}
+
+/// Why there is no command.
+#[derive(Debug, Drop)]
+pub enum NoCommand {
+    /// The words have a fault, or call for help: this is `clap`'s text.
+    Words(String),
+    Memory,
+}
+
+/// The command that the words give, the first of which is the program's name.
+pub fn read_command<'a, S: AsStr>(alloc: Global, words: &'a [S]) -> Result<Command, NoCommand>
+    ensures ok { IfOk result (λ c. command_of (map S.text words.now) ≡ Some c) }
+    ensures ranges { IfOk result FitsRanges }
+    ensures err { IfErr result (λ e. IsWordsFault e → command_of (map S.text words.now) ≡ None) }
+{
+    let Ok(command) = program(alloc) else {
+        return Err(NoCommand::Memory);
+    };
+    match command.try_get_matches_from(words) {
+        Ok(matches) => match chosen(&matches) {
+            Some(command) => Ok(command),
+            None => Err(NoCommand::Words(String::new(alloc))),
+        },
+        Err(error) => Err(fault(alloc, &error)),
+    }
+}
+
+/// What a parse that failed says.
+fn fault(alloc: Global, error: &Error) -> NoCommand
+    ensures { IsWordsFault result → kind_of error.now ≡ ErrorKind.OutOfMemory → ⊥ }
+{
+    match error.kind() {
+        ErrorKind::OutOfMemory => NoCommand::Memory,
+        _ => match format!(in alloc; "{error}") {
+            Ok(text) => NoCommand::Words(text),
+            Err(_) => NoCommand::Memory,
+        },
+    }
+}
+
+/// The command that a parse found.
+fn chosen(matches: &ArgMatches<'_>) -> Option<Command>
+    ensures value { result ≡ option_and_then (λ p. command_named p.0 p.1) (subcommand_rows_of matches.now) }
+    ensures ranges { IfSome result FitsRanges }
+{
+    let (name, given) = matches.subcommand()?;
+    if name == "check" {
+        return Some(Command::Check);
+    }
+    if name == "within" {
+        let turns = number(given, "K", MOST_TURNS)?;
+        let nodes = number(given, "nodes", MOST_NODES)?;
+        return Some(Command::Within {
+            turns: turns as u32,
+            nodes,
+        });
+    }
+    None
+}
+
+/// The number of an argument, where it is at most so much.
+fn number(given: &ArgMatches<'_>, id: &str, most: u64) -> Option<u64>
+    ensures value { result ≡ number_of id.now most (rows_of (found_of given.now)) }
+    ensures most { IfSome result (λ n. n ≤ most) }
+{
+    match given.get_one::<u64>(id) {
+        Some(number) if number <= most => Some(number),
+        _ => None,
+    }
+}
+
+/// The program with its subcommands, one of which has to be named.
+fn program<'a>(alloc: Global) -> Result<clap::Command<'a>, AllocError>
+    ensures { IfOk result (λ c. app_of c ≡ grammar) }
+{
+    let program = clap::Command::new(alloc, "tsumego")
+        .about("Judges and decides problems of life and death in Go, read from standard input.")
+        .subcommand_required(true);
+    let program = program.subcommand(check_command(alloc))?;
+    program.subcommand(within_command(alloc)?)
+}
+
+fn check_command<'a>(alloc: Global) -> clap::Command<'a>
+    ensures app { app_of result ≡ new_app (codes "check") }
+    ensures local { (fields_of result).has_globals ≡ false }
+{
+    clap::Command::new(alloc, "check").about("Judges the claim that stands behind a record.")
+}
+
+fn within_command<'a>(alloc: Global) -> Result<clap::Command<'a>, AllocError>
+    ensures app { IfOk result (λ c. app_of c ≡ with_rule (with_rule (new_app (codes "within")) turns_rule) nodes_rule) }
+    ensures local { IfOk result (λ c. (fields_of c).has_globals ≡ false) }
+{
+    let within = clap::Command::new(alloc, "within").about(
+        "Says who can force a win within K turns, by all legal play.",
+    );
+    let within = within.arg(turns_argument(alloc))?;
+    within.arg(nodes_argument(alloc))
+}
+
+fn turns_argument<'a>(alloc: Global) -> Arg<'a>
+    ensures rule { rule_of result ≡ turns_rule }
+    ensures local { result.global ≡ false }
+{
+    Arg::new(alloc, "K")
+        .help("The number of turns, 0 to 200")
+        .required(true)
+        .value_parser(ValueParser::unsigned(0, MOST_TURNS))
+}
+
+fn nodes_argument<'a>(alloc: Global) -> Arg<'a>
+    ensures rule { rule_of result ≡ nodes_rule }
+    ensures local { result.global ≡ false }
+{
+    Arg::new(alloc, "nodes")
+        .help("The most states of the tree, 0 to 4294967295")
+        .long("nodes")
+        .value_name("N")
+        .value_parser(ValueParser::unsigned(0, MOST_NODES))
+        .default_value("1000000")
+}

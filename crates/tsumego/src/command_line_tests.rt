@@ -1,0 +1,161 @@
+//! Words of the command line. The texts are `clap`'s; of them only a part is asked that tells one fault from another.
+
+use crate::command_line::{Command, NoCommand, read_command};
+use std::alloc::Global;
+use std::process::Abort;
+
+// The words, behind the program's name, give this command.
+fn gives(rt: &impl Abort, alloc: Global, words: &[&str], wanted: Command) {
+    match read_command(alloc, words) {
+        Ok(command) => assert_eq!(rt; command, wanted),
+        Err(_) => panic!(rt; "no command"),
+    }
+}
+
+// The words give no command, and the text has this part.
+fn refuses(rt: &impl Abort, alloc: Global, words: &[&str], part: &str) {
+    match read_command(alloc, words) {
+        Err(NoCommand::Words(text)) => assert!(rt; text.as_str().contains(part)),
+        _ => panic!(rt; "a command, or want of memory"),
+    }
+}
+
+#[test]
+fn a_subcommand_gives_the_command(rt: HostRuntime) {
+    let alloc = rt.alloc();
+    gives(&rt, alloc, &["tsumego", "check"], Command::Check);
+    let within = |turns: u32, nodes: u64| Command::Within { turns, nodes };
+    gives(
+        &rt,
+        alloc,
+        &["tsumego", "within", "0"],
+        within(0, 1_000_000),
+    );
+    gives(
+        &rt,
+        alloc,
+        &["tsumego", "within", "200"],
+        within(200, 1_000_000),
+    );
+    gives(
+        &rt,
+        alloc,
+        &["tsumego", "within", "3", "--nodes", "0"],
+        within(3, 0),
+    );
+    gives(
+        &rt,
+        alloc,
+        &["tsumego", "within", "--nodes", "4294967295", "3"],
+        within(3, 4_294_967_295),
+    );
+    gives(
+        &rt,
+        alloc,
+        &["tsumego", "within", "+5", "--nodes=5"],
+        within(5, 5),
+    );
+    gives(
+        &rt,
+        alloc,
+        &["tsumego", "within", "--nodes=+7", "--", "005"],
+        within(5, 7),
+    );
+}
+
+#[test]
+fn numbers_out_of_range_are_refused(rt: HostRuntime) {
+    let alloc = rt.alloc();
+    refuses(
+        &rt,
+        alloc,
+        &["tsumego", "within", "201"],
+        "201 is not in 0..=200",
+    );
+    refuses(
+        &rt,
+        alloc,
+        &["tsumego", "within", "3", "--nodes", "4294967296"],
+        "4294967296 is not in 0..=4294967295",
+    );
+    refuses(
+        &rt,
+        alloc,
+        &["tsumego", "within", "99999999999999999999"],
+        "number too large",
+    );
+    refuses(
+        &rt,
+        alloc,
+        &["tsumego", "within", "3", "--nodes=-1"],
+        "invalid digit",
+    );
+    refuses(
+        &rt,
+        alloc,
+        &["tsumego", "within", "-1"],
+        "unexpected argument",
+    );
+    refuses(&rt, alloc, &["tsumego", "within", "three"], "invalid digit");
+    refuses(&rt, alloc, &["tsumego", "within", ""], "empty string");
+}
+
+#[test]
+fn words_too_many_or_too_few_are_refused(rt: HostRuntime) {
+    let alloc = rt.alloc();
+    refuses(&rt, alloc, &["tsumego"], "requires a subcommand");
+    refuses(&rt, alloc, &[], "requires a subcommand");
+    refuses(&rt, alloc, &["tsumego", "within"], "<K>");
+    refuses(
+        &rt,
+        alloc,
+        &["tsumego", "within", "3", "--nodes"],
+        "value is required",
+    );
+    refuses(
+        &rt,
+        alloc,
+        &["tsumego", "within", "3", "4"],
+        "unexpected argument",
+    );
+    refuses(
+        &rt,
+        alloc,
+        &["tsumego", "check", "3"],
+        "unexpected argument",
+    );
+    refuses(
+        &rt,
+        alloc,
+        &["tsumego", "check", "--nodes", "3"],
+        "unexpected argument",
+    );
+    refuses(
+        &rt,
+        alloc,
+        &["tsumego", "within", "3", "--nodes", "5", "--nodes", "5"],
+        "cannot be used multiple times",
+    );
+}
+
+#[test]
+fn unknown_subcommands_are_refused(rt: HostRuntime) {
+    let alloc = rt.alloc();
+    refuses(&rt, alloc, &["tsumego", "chek"], "unrecognized subcommand");
+    refuses(&rt, alloc, &["tsumego", "solve"], "unrecognized subcommand");
+    refuses(&rt, alloc, &["tsumego", "Check"], "unrecognized subcommand");
+}
+
+#[test]
+fn help_is_a_text_and_no_command(rt: HostRuntime) {
+    let alloc = rt.alloc();
+    refuses(
+        &rt,
+        alloc,
+        &["tsumego", "--help"],
+        "Usage: tsumego <COMMAND>",
+    );
+    refuses(&rt, alloc, &["tsumego", "help"], "Usage: tsumego <COMMAND>");
+    refuses(&rt, alloc, &["tsumego", "within", "--help"], "--nodes <N>");
+    refuses(&rt, alloc, &["tsumego", "help", "within"], "--nodes <N>");
+}

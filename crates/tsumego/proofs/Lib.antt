@@ -1,2 +1,5 @@
 pub mod CommandLines
 pub mod CommandExamples
+pub mod Records
+pub mod Headline
+pub mod Recording

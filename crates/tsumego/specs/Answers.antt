@@ -1,20 +1,72 @@
--- What an answer of the program says.
-use Rattle.std.specs.Prelude.{◌≡◌, ℕ, List, [], ◌∷◌, ◌++◌, codes, Option}
-use Rattle.std.specs.Io.KnownBytes.{Appends}
-use Rattle.go_points.specs.declared.Colour.{Colour}
-use Rattle.go_points.specs.declared.Colour.TheVariants.{Black, White}
+-- What each command answers: the whole text, and the status with it.
+--     check_answer, within_answer      of what the definitions of claims and of winning say
+--     Says command bytes status text      the whole text that the command may have for these bytes
+use Rattle.std.specs.Prelude.{◌≡◌, ℕ, List, map, drop, Option, Some, Ok, ◌⊎◌}
 use Rattle.target_game.specs.State.{GameProblem, start}
-use Rattle.target_game.specs.Wins.{Wins}
+use Rattle.target_game.specs.Within.{decision}
+use Rattle.target_game.specs.declared.within.Within.{Within}
+use Rattle.target_game.specs.declared.within.Within.TheVariants as within
+use Rattle.sgf_text.specs.Trees.{GameTree}
+use Rattle.sgf_text.specs.Grammar.{Reads}
+use Rattle.sgf_text.specs.Laws.{IsWithin}
+use Rattle.tsumego_problem.specs.Values.{skip_white}
+use Rattle.tsumego_problem.specs.Walk.{problem_within, history_limit}
+use Rattle.tsumego_problem.specs.Refusals.{Refuses}
 use Rattle.proof_cert.specs.Text.{lines}
-use Rattle.cert_check.specs.Verdict.{plain_verdict, accepted}
+use Rattle.proof_cert.specs.Lines.{Line}
+use Rattle.cert_check.specs.Verdict.{Verdict, accepted, rejected, verdict, plain_line}
+use Rattle.tsumego.specs.declared.command_line.Command.{Command}
+use Rattle.tsumego.specs.declared.command_line.Command.TheVariants as command
+use Rattle.tsumego.specs.declared.status.Status.{Status}
+use Rattle.tsumego.specs.declared.status.Status.TheVariants.{Answered, Unanswered, Refused}
+use Rattle.tsumego.specs.Texts.{line, wins_text, rejected_line_text, neither_text, limit_text, no_memory_text, no_read_text}
 
--- The text that names a side, this project's own, ended by a line feed.
-abbrev pub wins_text : Colour → List ℕ
-wins_text Black = codes "wins Black" ++ 10 ∷ []
-wins_text White = codes "wins White" ++ 10 ∷ []
+-- a status and the whole text with it
+abbrev pub Answer : Type 0
+Answer = Status × List ℕ
 
--- The verdict on the lines of the claim names x, and x wins the problem; the writer took just the text that says so.
-pub record IsAnswered (q : GameProblem) (claim : List ℕ) (x : Colour) (old new : Option (List ℕ)) : Type 0 where
-  pub verdict : plain_verdict q (lines q.game.size claim) ≡ accepted x
-  pub wins : Wins x (start q)
-  pub written : Appends old new (wins_text x)
+-- The bytes begin with a record, of which this is the tree, and this is its problem; the record ends before the place n.
+pub record IsRecord (bytes : List ℕ) (tree : GameTree) (n : ℕ) (q : GameProblem) : Type 0 where
+  pub reads : Reads bytes tree n
+  pub within : IsWithin tree n
+  pub problem : problem_within (Some history_limit) tree ≡ Ok q
+
+-- The bytes are refused; or they begin with a record, and what is said of its problem is said.
+abbrev pub RefusedOr : (GameProblem → ℕ → Status → List ℕ → Type 0) → List ℕ → Status → List ℕ → Type 0
+RefusedOr Said bytes status text =
+    ((refusal : List ℕ) × Refuses bytes refusal × (status ≡ Refused) × (text ≡ line refusal))
+    ⊎ ((q : GameProblem) × (tree : GameTree) × (n : ℕ) × IsRecord bytes tree n q × Said q n status text)
+
+-- ---- check
+
+-- the claim: what follows the record and the white space behind it
+abbrev pub claim_in : List ℕ → ℕ → List ℕ
+claim_in bytes n = skip_white (drop n bytes)
+
+-- its lines, of which those of lemmas and of version 2 count as malformed so far; and the verdict on them
+abbrev pub claim_lines : ℕ → List ℕ → List (Option Line)
+claim_lines n claim = map plain_line (lines n claim)
+
+abbrev pub claim_verdict : GameProblem → List ℕ → Verdict
+claim_verdict q claim = verdict q (claim_lines q.game.size claim)
+
+abbrev pub check_answer : ℕ → Verdict → Answer
+check_answer n (accepted x) = (Answered, wins_text x)
+check_answer n (rejected place why) = (Unanswered, rejected_line_text n place why)
+
+-- ---- within
+
+abbrev pub within_answer : Within → Answer
+within_answer (within.Wins x) = (Answered, wins_text x)
+within_answer within.Neither = (Answered, neither_text)
+within_answer within.Limit = (Unanswered, limit_text)
+
+-- ---- all commands
+
+abbrev pub Says : Command → List ℕ → Status → List ℕ → Type 0
+Says command.Check bytes = RefusedOr (λ q n status text. (status, text) ≡ check_answer q.game.size (claim_verdict q (claim_in bytes n))) bytes
+Says (command.Within turns nodes) bytes = RefusedOr (λ q n status text. (status, text) ≡ within_answer (decision (start q) turns nodes)) bytes
+
+-- Memory was refused, or a read failed, or the input has no end in sight.
+abbrev pub SaysFailure : List ℕ → Type 0
+SaysFailure text = (text ≡ no_memory_text) ⊎ (text ≡ no_read_text)

@@ -1,2 +1,6 @@
-pub mod Answers
 pub mod CommandLine
+pub mod Texts
+pub mod Answers
+pub mod Outcome
+pub mod Replies
+pub mod Laws

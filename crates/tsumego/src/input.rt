@@ -1,5 +1,8 @@
 //! The whole input, up to a bound.
 
+ghost use Rattle.std.specs.Prelude.{◌≡◌, ◌++◌, ℕ, List, OnOk, IfOk};
+ghost use Rattle.std.specs.Io.KnownBytes.{Consumes, IsAtEnd};
+
 use std::alloc::AllocError;
 use std::io::Read;
 
@@ -19,7 +22,10 @@ pub fn read_to_limit<R: Read>(
     reader: &mut R,
     into: &mut Vec<u8>,
     limit: usize,
-) -> Result<Reading, AllocError> {
+) -> Result<Reading, AllocError>
+    ensures bytes { OnOk result ((bytes : List ℕ) × (into.new.items ≡ into.old.items ++ bytes) × Consumes (R.remaining reader.old) (R.remaining reader.new) bytes) }
+    ensures end { IfOk result (λ r. r ≡ Reading.Whole → IsAtEnd (R.remaining reader.new)) }
+{
     let mut block = [0u8; 65536];
     for _ in 0..u64::MAX {
         if into.len() > limit {

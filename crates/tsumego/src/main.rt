@@ -4,13 +4,12 @@
 mod command_line;
 #[cfg(test)]
 mod command_line_tests;
-mod fields;
 mod input;
+pub mod laws;
 mod record;
+mod reply;
 mod run;
 mod status;
-#[cfg(test)]
-mod tests;
 mod texts;
 
 use run::run;

@@ -1,29 +1,109 @@
 //! What the program prints.
 
-ghost use Rattle.std.specs.Prelude.{◌≡◌};
-ghost use Rattle.tsumego.specs.Answers.{wins_text};
+ghost use Rattle.std.specs.Prelude.{◌≡◌, IfOk, Some};
+ghost use Rattle.go_points.specs.Ply.{ply_of};
+ghost use Rattle.proof_cert.specs.Text.{vertex_text};
+ghost use Rattle.cert_check.specs.Body.{Why as SpecWhy};
+ghost use Rattle.cert_check.specs.Stage.{why_value};
+ghost use Rattle.tsumego_problem.specs.Refusals.{sgf_refusal, problem_refusal, property_name, cause_text};
+ghost use Rattle.tsumego.specs.Texts.{line, wins_text, rejected_line_text, claim_fault_text, no_memory_text, no_read_text};
 
 use cert_check::{Reject, Why};
-use go_points::{Colour, Turn, to_sgf};
+use go_points::{Colour, Size, Turn, to_sgf};
+use sgf_text::SgfFault;
 use std::alloc::{AllocError, Global};
+use tsumego_problem::{ProblemFault, SingleProperty, TurnFaultCause};
 
-/// The verdict on a claim that is accepted.
-pub fn wins_text(winner: Colour) -> &'static [u8]
+/// Memory was refused.
+pub const NO_MEMORY: &[u8] = b"failed: memory\n";
+
+/// A read failed, or what is read has no end in sight.
+pub const NO_READ: &[u8] = b"failed: read\n";
+
+/// This side wins.
+pub fn wins_text(winner: Colour) -> &'static str
     ensures { result.now ≡ wins_text winner }
 {
     match winner {
-        Colour::Black => b"wins Black\n",
-        Colour::White => b"wins White\n",
+        Colour::Black => "wins Black\n",
+        Colour::White => "wins White\n",
     }
 }
 
-/// The verdict on a claim that is not.
-pub fn reject_text(alloc: Global, reject: &Reject) -> Result<String, AllocError> {
-    let why = why_text(alloc, reject.why)?;
-    format!(in alloc; "rejected line {}: {}\n", reject.place, why)
+/// Why no tree was read.
+pub fn sgf_refusal(alloc: Global, fault: SgfFault) -> Result<String, AllocError>
+    ensures { IfOk result (λ text. text ≡ line (sgf_refusal fault)) }
+{
+    match fault {
+        SgfFault::NoTree => format!(in alloc; "refused: sgf 1 no tree\n"),
+        SgfFault::Syntax { at } => format!(in alloc; "refused: sgf 2 syntax at {at}\n"),
+        SgfFault::TooLong => format!(in alloc; "refused: sgf 3 too long\n"),
+        SgfFault::TooDeep => format!(in alloc; "refused: sgf 4 too deep\n"),
+        SgfFault::TooMany => format!(in alloc; "refused: sgf 5 too many nodes\n"),
+        SgfFault::Memory => format!(in alloc; "failed: memory\n"),
+    }
 }
 
-fn why_text(alloc: Global, why: Why) -> Result<String, AllocError> {
+fn property_name(property: SingleProperty) -> &'static str
+    ensures { result.now ≡ property_name property }
+{
+    match property {
+        SingleProperty::B => "B",
+        SingleProperty::W => "W",
+        SingleProperty::PL => "PL",
+    }
+}
+
+fn cause_text(alloc: Global, cause: TurnFaultCause) -> Result<String, AllocError>
+    ensures { IfOk result (λ text. text ≡ cause_text cause) }
+{
+    match cause {
+        TurnFaultCause::Occupied => format!(in alloc; ": occupied"),
+        TurnFaultCause::Repeats { earlier } => format!(in alloc; ": repeats {earlier}"),
+    }
+}
+
+/// Why a tree gives no problem.
+pub fn problem_refusal(alloc: Global, fault: ProblemFault) -> Result<String, AllocError>
+    ensures { IfOk result (λ text. text ≡ line (problem_refusal fault)) }
+{
+    match fault {
+        ProblemFault::Game => format!(in alloc; "refused: problem 1 game\n"),
+        ProblemFault::Size => format!(in alloc; "refused: problem 2 size\n"),
+        ProblemFault::NoProblemNode => format!(in alloc; "refused: problem 3 no problem node\n"),
+        ProblemFault::ManyValues { property, node } => {
+            let name = property_name(property);
+            format!(in alloc; "refused: problem 4 many values of {name} at node {node}\n")
+        }
+        ProblemFault::BadPoint { node } => format!(in alloc; "refused: problem 5 bad point at node {node}\n"),
+        ProblemFault::SharedPoint { node } => format!(in alloc; "refused: problem 6 shared point at node {node}\n"),
+        ProblemFault::MixedNode { node } => format!(in alloc; "refused: problem 7 mixed at node {node}\n"),
+        ProblemFault::BothColours { node } => format!(in alloc; "refused: problem 8 both colours at node {node}\n"),
+        ProblemFault::IllegalTurn { node, cause } => {
+            let cause = cause_text(alloc, cause)?;
+            format!(in alloc; "refused: problem 9 illegal turn at node {node}{cause}\n")
+        }
+        ProblemFault::NoLiberty { node } => format!(in alloc; "refused: problem 10 no liberty at node {node}\n"),
+        ProblemFault::BadTargets { node } => format!(in alloc; "refused: problem 11 bad targets at node {node}\n"),
+        ProblemFault::Ended { node } => format!(in alloc; "refused: problem 12 ended at node {node}\n"),
+        ProblemFault::BadColour { node } => format!(in alloc; "refused: problem 13 bad colour at node {node}\n"),
+        ProblemFault::LongHistory { node } => format!(in alloc; "refused: problem 14 long history at node {node}\n"),
+        ProblemFault::Memory => format!(in alloc; "failed: memory\n"),
+    }
+}
+
+/// Why a line of a claim is refused. The cause is not want of memory.
+pub fn reject_text(alloc: Global, size: Size, reject: &Reject) -> Result<String, AllocError>
+    ensures { IfOk result (λ text. (why : SpecWhy) → why_value size reject.now.why ≡ Some why → text ≡ rejected_line_text size reject.now.place why) }
+{
+    let why = why_text(alloc, size, reject.why)?;
+    let place = reject.place;
+    format!(in alloc; "rejected line {place}: {why}\n")
+}
+
+fn why_text(alloc: Global, size: Size, why: Why) -> Result<String, AllocError>
+    ensures { IfOk result (λ text. (w : SpecWhy) → why_value size why ≡ Some w → text ≡ claim_fault_text size w) }
+{
     match why {
         Why::Malformed => format!(in alloc; "C01 malformed"),
         Why::SizeDiffers => format!(in alloc; "C02 size differs"),
@@ -32,8 +112,8 @@ fn why_text(alloc: Global, why: Why) -> Result<String, AllocError> {
         Why::TurnBarred => format!(in alloc; "C06 turn barred"),
         Why::RepeatsKnown => format!(in alloc; "C07 repeats a known position"),
         Why::RepliesDiffer { due } => {
-            let due = turn_text(alloc, due)?;
-            format!(in alloc; "C09 replies differ, due {}", due)
+            let due = turn_text(alloc, size, due)?;
+            format!(in alloc; "C09 replies differ, due {due}")
         }
         Why::LemmaNotLower => format!(in alloc; "C10 lemma number not lower"),
         Why::Limit => format!(in alloc; "C15 limit"),
@@ -43,7 +123,9 @@ fn why_text(alloc: Global, why: Why) -> Result<String, AllocError> {
 }
 
 /// Two letters, or `pass`.
-fn turn_text(alloc: Global, turn: Turn) -> Result<String, AllocError> {
+fn turn_text(alloc: Global, size: Size, turn: Turn) -> Result<String, AllocError>
+    ensures { IfOk result (λ text. text ≡ vertex_text size (ply_of size turn)) }
+{
     match turn {
         Turn::Pass => format!(in alloc; "pass"),
         Turn::At(point) => {

@@ -1,0 +1,67 @@
+-- What is answered is so.
+use Rattle.std.proofs.Common.{◌≡◌, ℕ, Bool, true, false, cond, nat_lt, List, inl, inr, refl, sym, ◌∙◌, ap, subst}
+use Rattle.go_points.specs.declared.Colour.{Colour}
+use Rattle.go_points.specs.declared.Colour.TheVariants.{Black, White}
+use Rattle.target_game.specs.State.{GameProblem, start}
+use Rattle.target_game.specs.Wins.{Wins, wins, nodes}
+use Rattle.target_game.specs.Within.{decision}
+use Rattle.target_game.specs.declared.within.Within.{Within}
+use Rattle.target_game.specs.declared.within.Within.TheVariants as within
+use Rattle.sgf_text.specs.Trees.{GameTree}
+use Rattle.tsumego_problem.specs.Walk.{history_limit}
+use Rattle.proof_cert.specs.Text.{lines}
+use Rattle.cert_check.specs.Verdict.{Verdict, accepted, rejected}
+use Rattle.cert_check.proofs.ReadingClaims.{accepted_sides_win}
+use Rattle.tsumego.specs.declared.status.Status.TheVariants.{Answered}
+use Rattle.tsumego.specs.Texts.{wins_text, neither_text}
+use Rattle.tsumego.specs.Answers.{Answer, IsRecord, check_answer, within_answer, claim_in, claim_lines, claim_verdict}
+use Rattle.tsumego.specs.Laws.{SideWins, CheckIsTrue, WithinIsTrue}
+use Rattle.tsumego.proofs.Records.{placed}
+
+side_wins : (bytes : List ℕ) (tree : GameTree) (n : ℕ) (q : GameProblem) (x : Colour) → IsRecord bytes tree n q → Wins x (start q) → SideWins bytes q x
+side_wins bytes tree n q x r w = record { tree = tree; end = n; reads = r.reads; problem = (placed history_limit tree q r.problem).free; wins = w }
+
+-- an answer names a side only where the verdict does
+accepts : (n : ℕ) (v : Verdict) (text : List ℕ) → (Answered, text) ≡ check_answer n v → (x : Colour) × (v ≡ accepted x) × (text ≡ wins_text x)
+accepts n (accepted x) text h = (x, refl, ap (λ (a : Answer). a.1) h)
+accepts n (rejected place why) text h = absurd (cc (ap (λ (a : Answer). a.0) h))
+
+pub check_is_true : CheckIsTrue
+check_is_true bytes written (inr (failed, _)) = absurd cc
+check_is_true bytes written (inl (inl (refusal, r, e, t))) = absurd cc
+check_is_true bytes written (inl (inr (q, tree, n, r, h))) =
+    let (x, e, t) = accepts q.game.size (claim_verdict q (claim_in bytes n)) written h in
+    (q, x, t, side_wins bytes tree n q x r (accepted_sides_win q (claim_lines q.game.size (claim_in bytes n)) x (placed history_limit tree q r.problem).place e))
+
+-- the text names one side
+named : (x y : Colour) → wins_text x ≡ wins_text y → x ≡ y
+named Black Black h = refl
+named White White h = refl
+named Black White h = absurd (cc h)
+named White Black h = absurd (cc h)
+
+decides : (q : GameProblem) (turns nodes_most : ℕ) (x : Colour) → decision (start q) turns nodes_most ≡ within.Wins x → wins x (start q) turns ≡ true
+decides q turns most x h = go (nat_lt most (nodes (start q) turns)) (wins Black (start q) turns) refl (wins White (start q) turns) refl h
+  where
+    go : (l b : Bool) → wins Black (start q) turns ≡ b → (w : Bool) → wins White (start q) turns ≡ w
+        → cond l within.Limit (cond b (within.Wins Black) (cond w (within.Wins White) within.Neither)) ≡ within.Wins x → wins x (start q) turns ≡ true
+    go true b e w f h = absurd (cc h)
+    go false true e w f h = let same : Black ≡ x = cc h in subst (λ k. wins k (start q) turns ≡ true) same e
+    go false false e true f h = let same : White ≡ x = cc h in subst (λ k. wins k (start q) turns ≡ true) same f
+    go false false e false f h = absurd (cc h)
+
+pub within_is_true : WithinIsTrue
+within_is_true turns most bytes x (inr (failed, _)) = absurd cc
+within_is_true turns most bytes x (inl (inl (refusal, r, e, t))) = absurd cc
+within_is_true turns most bytes x (inl (inr (q, tree, n, r, h))) =
+    let forced = by (decision (start q) turns most) refl h in
+    (q, side_wins bytes tree n q x r (turns, forced), forced)
+  where
+    by : (d : Within) → decision (start q) turns most ≡ d → (Answered, wins_text x) ≡ within_answer d → wins x (start q) turns ≡ true
+    by (within.Wins y) e h = decides q turns most x (e ∙ ap (λ k. within.Wins k) (sym (named x y (ap (λ (a : Answer). a.1) h))))
+    by within.Neither e h = absurd (other x (ap (λ (a : Answer). a.1) h))
+      where
+        other : (x : Colour) → wins_text x ≡ neither_text → ⊥
+        other Black h = absurd (cc h)
+        other White h = absurd (cc h)
+    by within.Limit e h = absurd (cc (ap (λ (a : Answer). a.0) h))

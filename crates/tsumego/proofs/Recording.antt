@@ -1,0 +1,32 @@
+-- What a record that is read, or is not, says of the bytes.
+use Rattle.std.proofs.Common.{◌≡◌, ◌≢◌, ℕ, ◌+◌, ◌≤◌, List, ◌++◌, length, Result, Ok, Err, Some, inl, inr, refl, sym, ◌∙◌, ap, subst, arith}
+use Rattle.std.proofs.lemmas.List.{length-append}
+use Rattle.target_game.specs.State.{GameProblem}
+use Rattle.sgf_text.specs.Trees.{GameTree}
+use Rattle.sgf_text.specs.Grammar.{Reads}
+use Rattle.sgf_text.specs.Laws.{IsWithin}
+use Rattle.sgf_text.specs.Followers.{outcome_of}
+use Rattle.sgf_text.specs.declared.fault.SgfFault.{SgfFault}
+use Rattle.sgf_text.specs.declared.fault.SgfFault.TheVariants as sgf
+use Rattle.tsumego_problem.specs.Refusals.{Refuses, sgf_refusal, problem_refusal}
+use Rattle.tsumego_problem.specs.Walk.{problem_within, history_limit}
+use Rattle.tsumego_problem.specs.declared.fault.ProblemFault.{ProblemFault}
+use Rattle.tsumego_problem.specs.declared.fault.ProblemFault.TheVariants as faults
+use Rattle.tsumego.specs.declared.record.NoRecord.{NoRecord}
+use Rattle.tsumego.specs.declared.record.NoRecord.TheVariants as no
+use Rattle.tsumego.specs.Texts.{line}
+use Rattle.tsumego.specs.Replies.{HasNoRecord, IsTold}
+
+pub ends_within : (bytes : List ℕ) (tree : GameTree) (n : ℕ) → Reads bytes tree n → n ≤ length bytes
+ends_within bytes tree n (header, spelling, rest, spelled, whole, place, spells, is, end) =
+    let sum : length bytes ≡ length header + length (spelling ++ rest) = ap length whole ∙ length-append header (spelling ++ rest) in
+    omega (arith, sum, length-append spelling rest, end)
+
+pub has_no_tree : (bytes : List ℕ) (fault : SgfFault) (r : NoRecord) → (fault ≢ sgf.Memory → outcome_of bytes ≡ Err fault) → IsTold (line (sgf_refusal fault)) r → (fault ≡ sgf.Memory → r ≡ no.Memory) → HasNoRecord bytes r
+has_no_tree bytes fault (no.Refused text) h told memory = (sgf_refusal fault, inl (fault, h (λ e. absurd (cc (memory e))), refl), told)
+has_no_tree bytes fault no.Memory h told memory = tt
+
+pub has_no_problem : (bytes : List ℕ) (tree : GameTree) (n : ℕ) (fault : ProblemFault) (r : NoRecord) → Reads bytes tree n → IsWithin tree n → (fault ≢ faults.Memory → problem_within (Some history_limit) tree ≡ Err fault)
+    → IsTold (line (problem_refusal fault)) r → (fault ≡ faults.Memory → r ≡ no.Memory) → HasNoRecord bytes r
+has_no_problem bytes tree n fault (no.Refused text) reads within h told memory = (problem_refusal fault, inr (tree, n, fault, reads, within, h (λ e. absurd (cc (memory e))), refl), told)
+has_no_problem bytes tree n fault no.Memory reads within h told memory = tt

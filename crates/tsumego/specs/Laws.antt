@@ -1,0 +1,30 @@
+-- What the outcome of a run says of the game.
+use Rattle.std.specs.Prelude.{◌≡◌, ℕ, List, IsTrue, Some, Ok}
+use Rattle.go_points.specs.declared.Colour.{Colour}
+use Rattle.target_game.specs.State.{GameProblem, start}
+use Rattle.target_game.specs.Wins.{Wins, wins}
+use Rattle.sgf_text.specs.Trees.{GameTree}
+use Rattle.sgf_text.specs.Grammar.{Reads}
+use Rattle.tsumego_problem.specs.Walk.{problem_of}
+use Rattle.tsumego.specs.declared.command_line.Command.TheVariants as command
+use Rattle.tsumego.specs.declared.status.Status.TheVariants.{Answered}
+use Rattle.tsumego.specs.Texts.{wins_text}
+use Rattle.tsumego.specs.Outcome.{Outcome}
+
+-- The bytes begin with a record, and this side wins its problem, with all its earlier positions.
+pub record SideWins (bytes : List ℕ) (q : GameProblem) (x : Colour) : Type 0 where
+  pub tree : GameTree
+  pub end : ℕ
+  pub reads : Reads bytes tree end
+  pub problem : problem_of tree ≡ Ok q
+  pub wins : Wins x (start q)
+
+-- Where `check` answers, it names a side, and that side wins the problem of the record that was read.
+abbrev pub CheckIsTrue : Type 0
+CheckIsTrue = (bytes written : List ℕ) → Outcome (Some command.Check) bytes Answered written →
+    (q : GameProblem) × (x : Colour) × (written ≡ wins_text x) × SideWins bytes q x
+
+-- Where `within` names a side, that side can force a win of the record's problem within so many turns.
+abbrev pub WithinIsTrue : Type 0
+WithinIsTrue = (turns nodes : ℕ) (bytes : List ℕ) (x : Colour) → Outcome (Some (command.Within turns nodes)) bytes Answered (wins_text x) →
+    (q : GameProblem) × SideWins bytes q x × IsTrue (wins x (start q) turns)

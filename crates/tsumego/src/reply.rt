@@ -1,0 +1,116 @@
+//! What a command answers for its input.
+
+ghost use Rattle.std.specs.Prelude.{◌≡◌, ◌≤◌, IfOk, drop};
+ghost use Rattle.target_game.specs.State.{start};
+ghost use Rattle.target_game.specs.Within.{decision};
+ghost use Rattle.tsumego_problem.specs.Values.{skip_white};
+ghost use Rattle.tsumego.specs.CommandLine.{FitsRanges};
+ghost use Rattle.tsumego.specs.Answers.{Says, check_answer, claim_verdict, within_answer};
+
+use crate::command_line::Command;
+use crate::record::{NoRecord, read_record};
+use crate::status::Status;
+use crate::texts::{reject_text, wins_text};
+use cert_check::{Why, check_main};
+use sgf_text::token::is_white;
+use std::alloc::Global;
+use target_game::{Problem, Within, decide_within};
+
+/// The most white space between a record and a claim, in bytes.
+pub const MAX_WHITE: usize = 1_048_576;
+
+/// A whole answer.
+#[derive(Debug, Drop)]
+pub struct Reply {
+    pub status: Status,
+    pub text: String,
+}
+
+/// Why there is no answer.
+#[derive(Clone, Copy, Debug, PartialEq, Eq)]
+pub enum Failure {
+    Memory,
+    /// A read failed, or what is read has no end in sight.
+    Read,
+}
+
+/// What the command answers for these bytes.
+pub fn reply_to(alloc: Global, command: Command, bytes: &[u8]) -> Result<Reply, Failure>
+    requires { FitsRanges command }
+    ensures { IfOk result (λ r. Says command bytes.now r.status r.text) }
+{
+    let (problem, end) = match read_record(alloc, bytes) {
+        Ok(record) => record,
+        Err(NoRecord::Refused(text)) => {
+            return Ok(Reply {
+                status: Status::Refused,
+                text,
+            });
+        }
+        Err(NoRecord::Memory) => return Err(Failure::Memory),
+    };
+    match command {
+        Command::Check => check(alloc, &problem, &bytes[end..]),
+        Command::Within { turns, nodes } => within(alloc, &problem, turns, nodes),
+    }
+}
+
+/// Judges the claim behind white space.
+fn check(alloc: Global, problem: &Problem, behind: &[u8]) -> Result<Reply, Failure>
+    ensures { IfOk result (λ r. (r.status, r.text) ≡ check_answer problem.now.game.size (claim_verdict problem.now (skip_white behind.now))) }
+{
+    let claim = skip_white(behind);
+    if behind.len() - claim.len() > MAX_WHITE {
+        return Err(Failure::Read);
+    }
+    match check_main(alloc, problem, claim) {
+        Ok(winner) => said(alloc, Status::Answered, wins_text(winner)),
+        Err(reject) => {
+            if reject.why == Why::Memory {
+                return Err(Failure::Memory);
+            }
+            match reject_text(alloc, problem.size(), &reject) {
+                Ok(text) => Ok(Reply {
+                    status: Status::Unanswered,
+                    text,
+                }),
+                Err(_) => Err(Failure::Memory),
+            }
+        }
+    }
+}
+
+/// The text from its first byte on that is no white space.
+fn skip_white(text: &[u8]) -> &[u8]
+    ensures { result.now ≡ skip_white text.now }
+{
+    for start in 0..text.len() {
+        if !is_white(text[start]) {
+            return &text[start..];
+        }
+    }
+    &[]
+}
+
+/// Decides by full search who can force a win.
+fn within(alloc: Global, problem: &Problem, turns: u32, nodes: u64) -> Result<Reply, Failure>
+    requires { turns ≤ 200 }
+    ensures { IfOk result (λ r. (r.status, r.text) ≡ within_answer (decision (start problem.now) turns nodes)) }
+{
+    match decide_within(alloc, problem, turns, nodes) {
+        Ok(Within::Wins(winner)) => said(alloc, Status::Answered, wins_text(winner)),
+        Ok(Within::Neither) => said(alloc, Status::Answered, "neither\n"),
+        Ok(Within::Limit) => said(alloc, Status::Unanswered, "limit\n"),
+        Err(_) => Err(Failure::Memory),
+    }
+}
+
+/// A text that is not made of parts.
+fn said(alloc: Global, status: Status, text: &str) -> Result<Reply, Failure>
+    ensures { IfOk result (λ r. (r.status ≡ status) × (r.text ≡ text.now)) }
+{
+    match text.to_string(alloc) {
+        Ok(text) => Ok(Reply { status, text }),
+        Err(_) => Err(Failure::Memory),
+    }
+}

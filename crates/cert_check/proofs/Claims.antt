@@ -15,7 +15,7 @@ begun q ls h n size is =
     sym (ap (λ (k : Held). verdict_of (judge_claim q (reading_of k))) (is ∙ ap (λ m. record { size = m; left = held_lines m ls; number = 0; nodes = 0; listed = 0 }) size))
 
 pub rejects_judged : (n : ℕ) (j : Judged Colour) (v : Verdict) (e : Reject) → v ≡ verdict_of j → Refuses n j e → Rejects n v e
-rejects_judged n j v e is h = go (why_value n e.why) h
+rejects_judged n j v e is h = go (why_value n e.why) h.0
   where
     go : (o : Option Why) → IsFault j e.place o → IsRejection v e.place o
     go None g = tt

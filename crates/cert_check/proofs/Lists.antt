@@ -52,7 +52,7 @@ pub front_end : (front : List (List Cell)) (i : Judged (List (List Cell))) (r : 
 front_end front i r e = ap (behind_front front) e ∙ ap (λ cs. fine cs r) (append-nil front)
 
 pub front_refused : (n : ℕ) (front : List (List Cell)) (j : Judged (List (List Cell))) (e : Reject) → Refuses n j e → Refuses n (behind_front front j) e
-front_refused n front j e h = go (why_value n e.why) h
+front_refused n front j e h = (go (why_value n e.why) h.0, h.1)
   where
     go : (o : Option Why) → IsFault j e.place o → IsFault (behind_front front j) e.place o
     go None g = tt

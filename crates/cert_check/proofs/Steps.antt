@@ -11,7 +11,6 @@ use Rattle.target_game.specs.Legal.{legal, legal_turns}
 use Rattle.target_game.specs.Next.{next}
 use Rattle.proof_cert.specs.Lines.{Line}
 use Rattle.cert_check.specs.declared.reject.Reject.{Reject}
-use Rattle.cert_check.specs.declared.reject.Why as code
 use Rattle.cert_check.specs.Body.{Body, Why, due_replies}
 use Rattle.cert_check.specs.Verdict.{Reading, Judged, fine, faulty, then_judge, asked, judge_reply, judge_node, judge_replies}
 use Rattle.cert_check.specs.Stage.{why_value}
@@ -24,7 +23,7 @@ then_then (faulty place why) f g = refl
 
 -- a fault stays the fault, whatever would come behind
 pub refuses_then : {A B : Type 0} (n : ℕ) (j : Judged A) (f : A → Reading → Judged B) (e : Reject) → Refuses n j e → Refuses n (then_judge j f) e
-refuses_then {A} {B} n j f e h = go (why_value n e.why) h
+refuses_then {A} {B} n j f e h = (go (why_value n e.why) h.0, h.1)
   where
     go : (o : Option Why) → IsFault j e.place o → IsFault (then_judge j f) e.place o
     go None g = tt
@@ -80,9 +79,6 @@ if_err_map (Err e) P Q f h = f e h
 
 pub refuses_size : {A : Type 0} (n m : ℕ) (j : Judged A) (e : Reject) → n ≡ m → Refuses n j e → Refuses m j e
 refuses_size n m j e same h = subst (λ k. Refuses k j e) same h
-
-pub refuses_as : {A : Type 0} (n : ℕ) (j : Judged A) (e : Reject) (w : code.Why) (place : ℕ) (why : Why) → e.place ≡ place → e.why ≡ w → why_value n w ≡ Some why → j ≡ faulty place why → Refuses n j e
-refuses_as n j e w place why at same value is = rw (same, value) (is ∙ ap (λ p. faulty p why) (sym at))
 
 -- the replies that are due, point by point
 pub due_begun : (s : GameState) → due_replies s ≡ due_from s 0

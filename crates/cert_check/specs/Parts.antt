@@ -16,6 +16,8 @@ use Rattle.proof_cert.specs.Claim.{Head}
 use Rattle.proof_cert.specs.Lines.{Line, lemma_line, main_line, won_line, use_line, play_line, all_line, fitting}
 use Rattle.proof_cert.specs.Stage.{line_value}
 use Rattle.proof_cert.specs.declared.line.Line as code
+use Rattle.cert_check.specs.declared.reject.Why as code_why
+use Rattle.cert_check.specs.declared.reject.Why.TheVariants.{Read}
 use Rattle.cert_check.specs.declared.reject.Reject.{Reject}
 use Rattle.cert_check.specs.declared.reading.NodeLine.{NodeLine}
 use Rattle.cert_check.specs.declared.reading.NodeLine.TheVariants.{Won, Use, Play, All}
@@ -30,8 +32,13 @@ abbrev pub IsFault : {A : Type 0} → Judged A → ℕ → Option Why → Type 0
 IsFault j place None = Unit {0}
 IsFault j place (Some why) = j ≡ faulty place why
 
+-- what is judged is never refused for a failed read
+abbrev pub IsJudged : code_why.Why → Type 0
+IsJudged Read = ⊥
+IsJudged _ = Unit {0}
+
 abbrev pub Refuses : {A : Type 0} → ℕ → Judged A → Reject → Type 0
-Refuses n j e = IsFault j e.place (why_value n e.why)
+Refuses n j e = IsFault j e.place (why_value n e.why) × IsJudged e.why
 
 -- The lines that are left, for a board of one size; the number of the line that was read last;
 -- and how many nodes and listed colourings the claim has had so far.

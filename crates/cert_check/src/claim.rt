@@ -5,7 +5,7 @@ ghost use Rattle.target_game.specs.State.{start};
 ghost use Rattle.target_game.specs.Wins.{Wins};
 ghost use Rattle.cert_check.specs.Verdict.{fine, judge_claim, accepted, verdict};
 ghost use Rattle.cert_check.specs.Stage.{Rejects};
-ghost use Rattle.cert_check.specs.Parts.{Refuses, reading_of, line_values};
+ghost use Rattle.cert_check.specs.Parts.{IsJudged, Refuses, reading_of, line_values};
 
 use crate::body::Body;
 use crate::judge::judge_body;
@@ -57,6 +57,7 @@ pub(crate) fn judge_lines(
     ensures ok { IfOk result (λ x. verdict problem.now (line_values problem.now.game.size lines.now) ≡ accepted x) }
     ensures wins { IfOk result (λ x. Wins x (start problem.now)) }
     ensures err { IfErr result (λ e. Rejects problem.now.game.size (verdict problem.now (line_values problem.now.game.size lines.now)) e) }
+    ensures judged { IfErr result (λ e. IsJudged e.why) }
 {
     prove!(problem.place() < problem.history().len());
     let mut reading = Reading::new(problem.size(), lines);

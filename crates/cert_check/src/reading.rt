@@ -11,7 +11,7 @@ ghost use Rattle.proof_cert.specs.Stage.{line_value};
 ghost use Rattle.cert_check.specs.Body.{Body as SpecBody};
 ghost use Rattle.cert_check.specs.Verdict.{Reading as SpecReading, Judged, read_line, fine, is_after, with_first, judge_end, at_end, accepted};
 ghost use Rattle.cert_check.specs.Stage.{Rejects};
-ghost use Rattle.cert_check.specs.Parts.{Held, IsReadOn, Refuses, reading_of, held_lines, node_value, node_line, opening_value, opening_line, judged_line, judge_read, next_listed, judged_list, judged_header, judged_opening, answered};
+ghost use Rattle.cert_check.specs.Parts.{Held, IsReadOn, IsJudged, Refuses, reading_of, held_lines, node_value, node_line, opening_value, opening_line, judged_line, judge_read, next_listed, judged_list, judged_header, judged_opening, answered};
 
 use crate::reject::{Reject, Why};
 use go_points::{Colour, Colouring, Size, Turn};
@@ -376,6 +376,7 @@ impl<'a> Reading<'a> {
     pub(crate) fn nothing(&self) -> Result<(), Reject>
         ensures ok { OnOk result ((x : SpecColour) → at_end (reading_of self.now).rest (reading_of self.now).place x ≡ accepted x) }
         ensures err { IfErr result (λ e. (x : SpecColour) → Rejects self.now.size (at_end (reading_of self.now).rest (reading_of self.now).place x) e) }
+        ensures judged { IfErr result (λ e. IsJudged e.why) }
     {
         if self.left.is_empty() {
             Ok(())

@@ -11,14 +11,14 @@ use Rattle.cert_check.specs.Body.{Body, Why, malformed, size_differs, limit, lis
 use Rattle.cert_check.specs.Verdict.{Reading, Judged, fine, faulty, then_judge, read_line, asked, node_asked, judge_line, judge_reply, judge_node, judge_replies, judge_end, judge_end_line, had_of, not_of, is_after, with_first, judge_list, judge_had, judge_not, judge_lemma, lemma_fault, judge_opening, judge_lemmas, rejected, judge_header, judge_claim, at_end, verdict, verdict_of}
 use Rattle.cert_check.proofs.Bounds.{reading}
 
-abbrev pub HasMalformed : List (Option Line) → Type 0
-HasMalformed [] = ⊥
-HasMalformed (None ∷ ls) = Unit {0}
-HasMalformed (Some l ∷ ls) = HasMalformed ls
+abbrev pub IsMalformedIn : List (Option Line) → Type 0
+IsMalformedIn [] = ⊥
+IsMalformedIn (None ∷ ls) = Unit {0}
+IsMalformedIn (Some l ∷ ls) = IsMalformedIn ls
 
 -- a malformed line is left, and the line behind the last has this number
 abbrev IsBefore : Reading → ℕ → Type 0
-IsBefore r end = HasMalformed r.rest × (r.place + length r.rest ≡ end)
+IsBefore r end = IsMalformedIn r.rest × (r.place + length r.rest ≡ end)
 
 -- it does not come to the end
 abbrev Stops : {A : Type 0} → Judged A → ℕ → Type 0
@@ -34,7 +34,7 @@ Stops-asked place None r end low h = h
 Stops-asked place (Some w) r end low h = low
 
 -- the next line has a number below the end
-some_left : (ls : List (Option Line)) → HasMalformed ls → 0 < length ls
+some_left : (ls : List (Option Line)) → IsMalformedIn ls → 0 < length ls
 some_left [] h = absurd h
 some_left (l ∷ ls) h = omega arith
 
@@ -112,7 +112,7 @@ Stops-first c (fine cs r) end h = h
 Stops-first c (faulty p w) end h = h
 
 module _ (pick : Option Line → Option (List Cell)) (none : pick None ≡ None) where
-  still : (l : Option Line) (ls : List (Option Line)) (c : List Cell) → pick l ≡ Some c → HasMalformed (l ∷ ls) → HasMalformed ls
+  still : (l : Option Line) (ls : List (Option Line)) (c : List Cell) → pick l ≡ Some c → IsMalformedIn (l ∷ ls) → IsMalformedIn ls
   still None ls c e h = absurd (cc (none, e))
   still (Some y) ls c e h = h
 
@@ -124,7 +124,7 @@ module _ (pick : Option Line → Option (List Cell)) (none : pick None ≡ None)
       go None c g = Stops-first c (judge_list pick (Some c) ls (reading ls (suc p) k (suc i))) end g
       go (Some w) c g = low_at l ls p k i end h
 
-      at : (o : Option (List Cell)) → pick l ≡ o → ((c : List Cell) → HasMalformed ls → Stops (judge_list pick (Some c) ls (reading ls (suc p) k (suc i))) end)
+      at : (o : Option (List Cell)) → pick l ≡ o → ((c : List Cell) → IsMalformedIn ls → Stops (judge_list pick (Some c) ls (reading ls (suc p) k (suc i))) end)
           → Stops (elim o [ None ↦ fine [] (reading (l ∷ ls) p k i) | Some c ↦ then_judge (asked p (ask (nat_lt i max_listed) limit (ask (is_after last c) list_order None)) (reading ls (suc p) k (suc i))) (λ _ r'. with_first c (judge_list pick (Some c) ls r')) ]) end
       at None e g = h
       at (Some c) e g = go (ask (nat_lt i max_listed) limit (ask (is_after last c) list_order None)) c (g c (still l ls c e h.0))
@@ -214,7 +214,7 @@ Stops-header g (all_line m) r end lt h = lt
 Stops-header g (reply_line t) r end lt h = lt
 Stops-header g end_line r end lt h = lt
 
-Stops-claim : (q : GameProblem) (ls : List (Option Line)) → HasMalformed ls → Stops (judge_claim q (reading ls 1 0 0)) (1 + length ls)
+Stops-claim : (q : GameProblem) (ls : List (Option Line)) → IsMalformedIn ls → Stops (judge_claim q (reading ls 1 0 0)) (1 + length ls)
 Stops-claim q [] h = absurd h
 Stops-claim q (None ∷ ls) h = omega arith
 Stops-claim q (Some l ∷ ls) h =
@@ -226,12 +226,12 @@ Stops-claim q (Some l ∷ ls) h =
     (λ _ r4 h4. Stops-then (judge_end r4) (λ _ r5. fine head.1 r5) (1 + suc (length ls)) (Stops-end r4 (1 + suc (length ls)) h4) (λ _ r5 h5. h5))))
 
 -- the verdict
-still_malformed : (n : ℕ) (ls : List (Option Line)) → HasMalformed ls → HasMalformed (map (fitting n) ls)
+still_malformed : (n : ℕ) (ls : List (Option Line)) → IsMalformedIn ls → IsMalformedIn (map (fitting n) ls)
 still_malformed n [] h = absurd h
 still_malformed n (None ∷ ls) h = tt
 still_malformed n (Some l ∷ ls) h = at (line_fits n l) (still_malformed n ls h)
   where
-    at : (b : Bool) → HasMalformed (map (fitting n) ls) → HasMalformed ((if b then Some l else None) ∷ map (fitting n) ls)
+    at : (b : Bool) → IsMalformedIn (map (fitting n) ls) → IsMalformedIn ((if b then Some l else None) ∷ map (fitting n) ls)
     at true g = g
     at false g = tt
 
@@ -239,7 +239,7 @@ stopped : (j : Judged Colour) (end : ℕ) → Stops j end → (p : ℕ) × (w : 
 stopped (faulty p w) end h = (p, w, refl, h)
 stopped (fine x r) end h = at r.rest h.0 refl
   where
-    at : (ls : List (Option Line)) → HasMalformed ls → r.rest ≡ ls → (p : ℕ) × (w : Why) × (at_end r.rest r.place x ≡ rejected p w) × (p < end)
+    at : (ls : List (Option Line)) → IsMalformedIn ls → r.rest ≡ ls → (p : ℕ) × (w : Why) × (at_end r.rest r.place x ≡ rejected p w) × (p < end)
     at [] g e = absurd g
     at (l ∷ ls) g e =
         let long : length r.rest ≡ suc (length ls) = ap length e in
@@ -250,7 +250,7 @@ long_as : (n : ℕ) (ls : List (Option Line)) → length (map (fitting n) ls) �
 long_as n [] = refl
 long_as n (l ∷ ls) = ap suc (long_as n ls)
 
-pub malformed_rejected : (q : GameProblem) (ls : List (Option Line)) → HasMalformed ls → (p : ℕ) × (w : Why) × (verdict q ls ≡ rejected p w) × (p ≤ length ls)
+pub malformed_rejected : (q : GameProblem) (ls : List (Option Line)) → IsMalformedIn ls → (p : ℕ) × (w : Why) × (verdict q ls ≡ rejected p w) × (p ≤ length ls)
 malformed_rejected q ls h =
     let found = stopped (judge_claim q (reading (map (fitting q.game.size) ls) 1 0 0)) (1 + length (map (fitting q.game.size) ls)) (Stops-claim q (map (fitting q.game.size) ls) (still_malformed q.game.size ls h)) in
     let less = found.3 in

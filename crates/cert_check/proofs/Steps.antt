@@ -1,5 +1,5 @@
 -- The judge line by line: what each part of a claim is, from the line that is next.
-use Rattle.std.proofs.Common.{◌≡◌, ℕ, zero, suc, ◌+◌, ◌-◌, ◌*◌, ◌<◌, ◌≤◌, true, false, cond, List, [], ◌∷◌, ◌++◌, length, map, filter, Option, Some, None, Result, Ok, Err, OnOk, IfErr, refl, sym, ap, ◌∙◌, subst, arith, le_refl}
+use Rattle.std.proofs.Common.{◌≡◌, ℕ, zero, suc, ◌+◌, ◌-◌, ◌*◌, ◌<◌, ◌≤◌, true, false, cond, List, [], ◌∷◌, ◌++◌, length, map, filter, Option, Some, None, Result, Ok, Err, OnOk, IfOk, IfErr, refl, sym, ap, ◌∙◌, subst, arith, le_refl}
 use Rattle.std.specs.List.{range_with_len}
 use Rattle.go_points.specs.declared.Colour.{Colour}
 use Rattle.go_points.specs.declared.Turn.TheVariants.{At}
@@ -72,6 +72,10 @@ replies_none b d s r = replies_none_at b d s r.rest r.place r.nodes r.listed
 pub on_ok_map : {A E : Type 0} (r : Result A E) (P Q : Type 0) → (P → Q) → OnOk r P → OnOk r Q
 on_ok_map (Ok a) P Q f h = f h
 on_ok_map (Err e) P Q f h = tt
+
+pub if_ok_map : {A E : Type 0} (r : Result A E) (P Q : A → Type 0) → ((a : A) → P a → Q a) → IfOk r P → IfOk r Q
+if_ok_map (Ok a) P Q f h = f a h
+if_ok_map (Err e) P Q f h = tt
 
 pub if_err_map : {A E : Type 0} (r : Result A E) (P Q : E → Type 0) → ((e : E) → P e → Q e) → IfErr r P → IfErr r Q
 if_err_map (Ok a) P Q f h = tt

@@ -1,5 +1,5 @@
 -- The judge line by line: what each part of a claim is, from the line that is next.
-use Rattle.std.proofs.Common.{◌≡◌, ℕ, zero, suc, ◌+◌, ◌-◌, ◌*◌, ◌<◌, ◌≤◌, true, false, cond, List, [], ◌∷◌, ◌++◌, length, map, filter, Option, Some, None, Result, Ok, Err, OnOk, IfErr, refl, sym, ap, ◌∙◌, subst, arith, le_refl}
+use Rattle.std.proofs.Common.{◌≡◌, ℕ, zero, suc, ◌+◌, ◌-◌, ◌*◌, ◌<◌, ◌≤◌, true, false, cond, List, [], ◌∷◌, ◌++◌, length, map, filter, Option, Some, None, Result, Ok, Err, OnOk, IfOk, IfErr, refl, sym, ap, ◌∙◌, subst, arith, le_refl}
 use Rattle.std.specs.List.{range_with_len}
 use Rattle.go_points.specs.declared.Colour.{Colour}
 use Rattle.go_points.specs.declared.Turn.TheVariants.{At}
@@ -10,13 +10,11 @@ use Rattle.target_game.specs.State.{GameState}
 use Rattle.target_game.specs.Legal.{legal, legal_turns}
 use Rattle.target_game.specs.Next.{next}
 use Rattle.proof_cert.specs.Lines.{Line}
-use Rattle.proof_cert.specs.Source.{Source}
 use Rattle.cert_check.specs.declared.reject.Reject.{Reject}
-use Rattle.cert_check.specs.declared.reject.Why as code
-use Rattle.cert_check.specs.Body.{Body, Why, lemma_not_lower, main_body, use_fault, due_replies}
+use Rattle.cert_check.specs.Body.{Body, Why, due_replies}
 use Rattle.cert_check.specs.Verdict.{Reading, Judged, fine, faulty, then_judge, asked, judge_reply, judge_node, judge_replies}
 use Rattle.cert_check.specs.Stage.{why_value}
-use Rattle.cert_check.specs.Parts.{IsReadBehind, IsFault, Refuses, judged_line, judged_node, judged_replies, judged_reply, due_from}
+use Rattle.cert_check.specs.Parts.{Held, IsReadBehind, IsFault, Refuses, judged_line, judged_node, judged_replies, judged_reply, due_from}
 use Rattle.cert_check.proofs.Bounds.{reading, then_same, Leaves-reply, Leaves-node, same_line, same_node, same_replies}
 
 pub then_then : {A B C : Type 0} (j : Judged A) (f : A → Reading → Judged B) (g : B → Reading → Judged C) → then_judge (then_judge j f) g ≡ then_judge j (λ a r. then_judge (f a r) g)
@@ -25,7 +23,7 @@ then_then (faulty place why) f g = refl
 
 -- a fault stays the fault, whatever would come behind
 pub refuses_then : {A B : Type 0} (n : ℕ) (j : Judged A) (f : A → Reading → Judged B) (e : Reject) → Refuses n j e → Refuses n (then_judge j f) e
-refuses_then {A} {B} n j f e h = go (why_value n e.why) h
+refuses_then {A} {B} n j f e h = (go (why_value n e.why) h.0, h.1)
   where
     go : (o : Option Why) → IsFault j e.place o → IsFault (then_judge j f) e.place o
     go None g = tt
@@ -75,20 +73,16 @@ pub on_ok_map : {A E : Type 0} (r : Result A E) (P Q : Type 0) → (P → Q) →
 on_ok_map (Ok a) P Q f h = f h
 on_ok_map (Err e) P Q f h = tt
 
+pub if_ok_map : {A E : Type 0} (r : Result A E) (P Q : A → Type 0) → ((a : A) → P a → Q a) → IfOk r P → IfOk r Q
+if_ok_map (Ok a) P Q f h = f a h
+if_ok_map (Err e) P Q f h = tt
+
 pub if_err_map : {A E : Type 0} (r : Result A E) (P Q : E → Type 0) → ((e : E) → P e → Q e) → IfErr r P → IfErr r Q
 if_err_map (Ok a) P Q f h = tt
 if_err_map (Err e) P Q f h = f e h
 
 pub refuses_size : {A : Type 0} (n m : ℕ) (j : Judged A) (e : Reject) → n ≡ m → Refuses n j e → Refuses m j e
 refuses_size n m j e same h = subst (λ k. Refuses k j e) same h
-
-pub refuses_as : {A : Type 0} (n : ℕ) (j : Judged A) (e : Reject) (w : code.Why) (place : ℕ) (why : Why) → e.place ≡ place → e.why ≡ w → why_value n w ≡ Some why → j ≡ faulty place why → Refuses n j e
-refuses_as n j e w place why at same value is = rw (same, value) (is ∙ ap (λ p. faulty p why) (sym at))
-
--- no lemma stands before main
-pub use_none : (x : Colour) (s : GameState) (j place : ℕ) (r : Reading) → asked place (use_fault (main_body x []) s j) r ≡ faulty place lemma_not_lower
-use_none x s zero place r = refl
-use_none x s (suc i) place r = refl
 
 -- the replies that are due, point by point
 pub due_begun : (s : GameState) → due_replies s ≡ due_from s 0
@@ -129,8 +123,8 @@ replies_refused n b d s due t ts r e first bad =
     refuses_same n (then_judge (judged_reply b d s t r) (λ _ r2. judged_replies b d s ts r2)) (judged_replies b d s due r) e (ap (λ us. judged_replies b d s us r) first ∙ replies_is b d s t ts r)
     (refuses_then n (judged_reply b d s t r) (λ _ r2. judged_replies b d s ts r2) e bad)
 
-pub behind_on : (a b c : Source) → IsReadBehind a b → IsReadBehind b c → IsReadBehind a c
+pub behind_on : (a b c : Held) → IsReadBehind a b → IsReadBehind b c → IsReadBehind a c
 behind_on a b c h k =
     let one = h.shorter in
     let two = k.shorter in
-    record { unfailed = k.unfailed; size = k.size ∙ h.size; shorter = omega arith }
+    record { size = k.size ∙ h.size; shorter = omega arith }

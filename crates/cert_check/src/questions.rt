@@ -1,21 +1,22 @@
 //! The questions that the line of a node is asked at a state, each kind by its own.
 
-ghost use Rattle.std.specs.Prelude.{◌≡◌, [], Some, option_map};
+ghost use Rattle.std.specs.Prelude.{◌≡◌, Some, option_map};
 ghost use Rattle.go_points.specs.Ply.{ply_of};
-ghost use Rattle.cert_check.specs.Body.{main_body, is_to_move, won_fault, play_fault, all_fault};
+ghost use Rattle.cert_check.specs.Body.{is_to_move, won_fault, play_fault, head_fault, use_fault, all_fault};
 ghost use Rattle.go_points.specs.declared.Turn.TheVariants.{At};
 ghost use Rattle.cert_check.specs.Stage.{why_value};
 ghost use Rattle.cert_check.specs.Parts.{move_fault};
 
+use crate::body::{Body, Head, none_known};
 use crate::judge::PlayState;
 use crate::reject::Why;
 use go_points::{Colour, Point, Turn};
 
 /// The winner has won here.
-pub(crate) fn won_fault(state: &PlayState, winner: Colour) -> Option<Why>
-    ensures { option_map (why_value state.now.state.game.size) result ≡ option_map Some (won_fault (main_body winner []) state.now.state) }
+pub(crate) fn won_fault(body: &Body<'_>, state: &PlayState) -> Option<Why>
+    ensures { option_map (why_value state.now.state.game.size) result ≡ option_map Some (won_fault body.now state.now.state) }
 {
-    if state.over() == Some(winner) {
+    if state.over() == Some(body.winner()) {
         None
     } else {
         Some(Why::NotWon)
@@ -29,37 +30,67 @@ fn is_to_move(state: &PlayState, colour: Colour) -> bool
     state.over().is_none() && state.mover() == colour
 }
 
-/// A move is at an empty point of the region, and its result is not known.
-fn move_fault(state: &PlayState, point: Point) -> Option<Why>
-    ensures { option_map (why_value state.now.state.game.size) result ≡ option_map Some (move_fault state.now.state (ply_of state.now.state.game.size (At point))) }
+/// A move is at an empty point of the region; its result is not known, and in a lemma it is on its list.
+fn move_fault(body: &Body<'_>, state: &PlayState, point: Point) -> Option<Why>
+    ensures { option_map (why_value state.now.state.game.size) result ≡ option_map Some (move_fault body.now.listed state.now.state (ply_of state.now.state.game.size (At point))) }
 {
     if !state.size().holds(point) || !state.is_open(point) {
         return Some(Why::TurnBarred);
     }
-    if state.holds(&state.result(point)).is_some() {
+    let result = state.result(point);
+    if state.holds(&result).is_some() {
         return Some(Why::RepeatsKnown);
+    }
+    if !body.lists(&result) {
+        return Some(Why::NotListed);
     }
     None
 }
 
-/// The winner makes a turn: it is to move, and a move is at an empty point of the region with a result that is not known.
-pub(crate) fn play_fault(state: &PlayState, winner: Colour, turn: Turn) -> Option<Why>
-    ensures { option_map (why_value state.now.state.game.size) result ≡ option_map Some (play_fault (main_body winner []) state.now.state (ply_of state.now.state.game.size turn)) }
+/// The winner makes a turn: it is to move, and where the turn is a move that is asked as well.
+pub(crate) fn play_fault(body: &Body<'_>, state: &PlayState, turn: Turn) -> Option<Why>
+    ensures { option_map (why_value state.now.state.game.size) result ≡ option_map Some (play_fault body.now state.now.state (ply_of state.now.state.game.size turn)) }
 {
-    if !is_to_move(state, winner) {
+    if !is_to_move(state, body.winner()) {
         return Some(Why::WrongSide);
     }
     match turn {
         Turn::Pass => None,
-        Turn::At(point) => move_fault(state, point),
+        Turn::At(point) => move_fault(body, state, point),
+    }
+}
+
+/// The lemma speaks of the state: its root is here, none of its colourings is known, and in a lemma each is on its list.
+fn head_fault(body: &Body<'_>, state: &PlayState, head: &Head) -> Option<Why>
+    ensures { option_map (why_value state.now.state.game.size) result ≡ option_map Some (head_fault body.now state.now.state (Some head.now)) }
+{
+    if !head.is_at(state) {
+        return Some(Why::StateDiffers);
+    }
+    if !none_known(state, head.absent()) {
+        return Some(Why::ListedOccurred);
+    }
+    if !body.lists_all(head.absent()) {
+        return Some(Why::ListedNotPassedOn);
+    }
+    None
+}
+
+/// An earlier lemma has the number, and it speaks of the state.
+pub(crate) fn use_fault(body: &Body<'_>, state: &PlayState, number: u32) -> Option<Why>
+    ensures { option_map (why_value state.now.state.game.size) result ≡ option_map Some (use_fault body.now state.now.state number) }
+{
+    match body.lemma(number) {
+        Some(head) => head_fault(body, state, head),
+        None => Some(Why::LemmaNotLower),
     }
 }
 
 /// The other side moves: so many replies are due.
-pub(crate) fn all_fault(state: &PlayState, winner: Colour, replies: u32) -> Option<Why>
-    ensures { option_map (why_value state.now.state.game.size) result ≡ option_map Some (all_fault (main_body winner []) state.now.state replies) }
+pub(crate) fn all_fault(body: &Body<'_>, state: &PlayState, replies: u32) -> Option<Why>
+    ensures { option_map (why_value state.now.state.game.size) result ≡ option_map Some (all_fault body.now state.now.state replies) }
 {
-    if !is_to_move(state, winner.opponent()) {
+    if !is_to_move(state, body.winner().opponent()) {
         return Some(Why::WrongSide);
     }
     if replies as usize != state.turns().len() {

@@ -1,26 +1,31 @@
 //! How far the reading of a claim has come, and the questions that lines are asked by their kind alone.
 
-ghost use Rattle.std.specs.Prelude.{◌≡◌, ◌≤◌, ℕ, suc, false, [], Some, is_some, IsTrue, IfOk, IfErr, OnOk, MatchResult, List, option_map};
+ghost use Rattle.std.specs.Prelude.{◌≡◌, ◌≤◌, ◌<◌, ◌^◌, ℕ, suc, nat_lt, nat_le, nat_eq, ◌&&◌, ◌*◌, length, drop, [], false, None, Some, IsTrue, IsSome, IfSome, IfOk, IfErr, OnOk, List, option_map};
 ghost use Rattle.go_points.specs.declared.Colour.{Colour as SpecColour};
+ghost use Rattle.go_points.specs.declared.Cell.{Cell as SpecCell};
 ghost use Rattle.go_points.specs.Ply.{Ply, ply_of};
 ghost use Rattle.target_game.specs.State.{Game, GameState};
-ghost use Rattle.proof_cert.specs.Lines.{turn_fits};
+ghost use Rattle.proof_cert.specs.Claim.{Head as SpecHead, max_nodes, max_depth, max_listed};
+ghost use Rattle.proof_cert.specs.Lines.{turn_fits, line_fits};
 ghost use Rattle.proof_cert.specs.Stage.{line_value};
-ghost use Rattle.proof_cert.specs.Source.{source_of};
-ghost use Rattle.cert_check.specs.Body.{Body};
-ghost use Rattle.cert_check.specs.Verdict.{Reading as SpecReading, Judged, read_line, fine, judge_lemmas, judge_end, at_end, accepted, plain_line};
+ghost use Rattle.cert_check.specs.Body.{Body as SpecBody};
+ghost use Rattle.cert_check.specs.Verdict.{Reading as SpecReading, Judged, read_line, fine, is_after, with_first, judge_end, at_end, accepted};
 ghost use Rattle.cert_check.specs.Stage.{Rejects};
-ghost use Rattle.cert_check.specs.Parts.{IsReadOn, Refuses, reading_at, node_value, node_line, judged_line, judge_read, judged_header, answered};
+ghost use Rattle.cert_check.specs.Parts.{Held, IsReadOn, IsJudged, Refuses, reading_of, held_lines, node_value, node_line, opening_value, opening_line, judged_line, judge_read, next_listed, judged_list, judged_header, judged_opening, answered};
 
 use crate::reject::{Reject, Why};
-use go_points::{Colour, Size, Turn};
-use proof_cert::{Line, TextSource};
+use go_points::{Colour, Colouring, Size, Turn};
+use proof_cert::Line;
+use std::marker::Model;
 
 /// The greatest number of nodes of a claim.
 pub const MAX_NODES: u32 = 10_000_000;
 
 /// The greatest depth of a node; a body's first node has depth 1.
 pub const MAX_DEPTH: u32 = 2_000;
+
+/// The greatest number of listed colourings of a claim.
+pub const MAX_LISTED: u32 = 1_000_000;
 
 /// The line of a node.
 #[derive(Clone, Copy, Debug, PartialEq, Eq)]
@@ -31,18 +36,37 @@ pub(crate) enum NodeLine {
     All(u32),
 }
 
-/// The lines that are left, and how many nodes the claim has had so far.
-#[derive(Drop)]
-pub(crate) struct Reading<'a> {
-    source: TextSource<'a>,
-    nodes: u32,
+/// The line that stands before a body.
+#[derive(Clone, Copy, Debug)]
+pub(crate) enum Opening {
+    Lemma {
+        mover: Colour,
+        passes: u8,
+        root: Colouring,
+    },
+    Main,
 }
 
-/// Whether the line is one that is read so far: lemmas are not.
-fn is_read(line: &Line) -> bool
-    ensures { (n : ℕ) → result ≡ is_some (plain_line (Some (line_value n line.now))) }
-{
-    !matches!(line, Line::Lemma { .. })
+/// The lines that are left, the number of the one that was read last, and how many nodes and listed colourings the claim
+/// has had so far. A line that is `None` is malformed.
+#[derive(Drop)]
+pub(crate) struct Reading<'a> {
+    size: Size,
+    left: &'a [Option<Line>],
+    number: u64,
+    nodes: u32,
+    listed: u32,
+}
+
+impl<'a> Model for Reading<'a> {
+    ghost use Rattle.std.specs.Prelude.{◌+◌, ◌^◌, ◌<◌, length};
+    ghost use Rattle.cert_check.specs.Parts.{Held, held_lines};
+
+    ghost Value = { Held };
+
+    ghost view = { λ a. record { size = a.size; left = held_lines a.size a.left.now; number = a.number; nodes = a.nodes; listed = a.listed } };
+
+    ghost invariant = { λ a. a.number + length a.left.now < 2 ^ 63 };
 }
 
 /// The line, where it is a node's.
@@ -58,60 +82,127 @@ fn node_of(line: Line) -> Option<NodeLine>
     }
 }
 
+/// The line, where it stands before a body.
+fn opening_of(line: Line) -> Option<Opening>
+    ensures { (n : ℕ) → option_map opening_value result ≡ opening_line (line_value n line) }
+{
+    match line {
+        Line::Lemma {
+            mover,
+            passes,
+            root,
+        } => Some(Opening::Lemma {
+            mover,
+            passes,
+            root,
+        }),
+        Line::Main => Some(Opening::Main),
+        _ => None,
+    }
+}
+
+/// Whether a colouring is one of boards of this size.
+fn colouring_fits(size: Size, colouring: &Colouring) -> bool
+    ensures { result ≡ nat_eq (length colouring.now) (size * size) }
+{
+    colouring.cells().len() == size.area()
+}
+
+/// Whether a turn is one of boards of this size.
+fn turn_fits(size: Size, turn: Turn) -> bool
+    ensures { result ≡ turn_fits size (ply_of size turn) }
+{
+    match turn {
+        Turn::Pass => true,
+        Turn::At(point) => size.holds(point),
+    }
+}
+
+/// Whether a colouring is after the one before it in its list, where there is one.
+fn is_after(last: Option<Colouring>, colouring: &Colouring) -> bool
+    requires { IfSome last (λ c. length c ≡ length colouring.now) }
+    ensures { result ≡ is_after last colouring.now }
+{
+    match last {
+        Some(before) => before.cmp(colouring).is_lt(),
+        None => true,
+    }
+}
+
+/// Whether the line can stand in a claim for boards of this size.
+fn line_fits(size: Size, line: &Line) -> bool
+    ensures { result ≡ line_fits size (line_value size line.now) }
+{
+    match *line {
+        Line::Lemma { passes, root, .. } => passes <= 1 && colouring_fits(size, &root),
+        Line::Not(colouring) => colouring_fits(size, &colouring),
+        Line::Play(turn) => turn_fits(size, turn),
+        Line::Reply(turn) => turn_fits(size, turn),
+        _ => true,
+    }
+}
+
 impl<'a> Reading<'a> {
-    pub(crate) fn new(size: Size, text: &'a [u8]) -> Reading<'a>
-        ensures source { result.source ≡ source_of size text.now }
-        ensures nodes { result.nodes ≡ 0 }
+    /// Before the first line.
+    pub(crate) fn new(size: Size, lines: &'a [Option<Line>]) -> Reading<'a>
+        ensures { result ≡ record { size = size; left = held_lines size lines.now; number = 0; nodes = 0; listed = 0 } }
     {
+        prove!(lines.len() < 9_223_372_036_854_775_808);
         Reading {
-            source: TextSource::new(size, text),
+            size,
+            left: lines,
+            number: 0,
             nodes: 0,
+            listed: 0,
         }
     }
 
-    /// The fault of the line that was read last.
+    /// Why the line that was read last is refused.
     pub(crate) fn reject(&self, why: Why) -> Reject
-        ensures place { result.place ≡ self.now.source.number }
+        ensures place { result.place ≡ self.now.number }
         ensures why { result.why ≡ why }
     {
         Reject {
-            place: self.source.line_number(),
+            place: self.number,
             why,
         }
     }
 
-    /// The next line; one that is missing is malformed, at the number that it would have.
+    /// The next line; one that is missing or cannot stand on the board is malformed.
     fn next(&mut self) -> Result<Line, Reject>
-        requires { self.old.source.has_failed ≡ false }
-        ensures kept { OnOk result (IsReadOn self.old.source self.new.source) }
-        ensures nodes { self.new.nodes ≡ self.old.nodes }
-        ensures plain { IfOk result (λ l. plain_line (Some (line_value self.old.source.size l)) ≡ Some (line_value self.old.source.size l)) }
-        ensures ok { IfOk result (λ l. read_line (reading_at self.old.source self.old.nodes) ≡ fine (line_value self.old.source.size l) (reading_at self.new.source self.new.nodes)) }
-        ensures err { IfErr result (λ e. Refuses self.old.source.size (read_line (reading_at self.old.source self.old.nodes)) e) }
+        ensures kept { OnOk result (IsReadOn self.old self.new) }
+        ensures size { self.new.size ≡ self.old.size }
+        ensures counts { (self.new.nodes ≡ self.old.nodes) × (self.new.listed ≡ self.old.listed) }
+        ensures fits { IfOk result (λ l. IsTrue (line_fits self.old.size (line_value self.old.size l))) }
+        ensures ok { IfOk result (λ l. read_line (reading_of self.old) ≡ fine (line_value self.old.size l) (reading_of self.new)) }
+        ensures err { IfErr result (λ e. Refuses self.old.size (read_line (reading_of self.old)) e) }
     {
-        match self.source.next() {
-            Ok(Some(line)) => {
-                if is_read(&line) {
+        let Some((first, left)) = self.left.split_first() else {
+            return Err(Reject {
+                place: self.number + 1,
+                why: Why::Malformed,
+            });
+        };
+        self.left = left;
+        self.number += 1;
+        match *first {
+            Some(line) => {
+                if line_fits(self.size, &line) {
                     Ok(line)
                 } else {
                     Err(self.reject(Why::Malformed))
                 }
             }
-            Ok(None) => Err(Reject {
-                place: self.source.line_number() + 1,
-                why: Why::Malformed,
-            }),
-            Err(_) => Err(self.reject(Why::Malformed)),
+            None => Err(self.reject(Why::Malformed)),
         }
     }
 
     /// The first line: the winner, where the size is this.
     pub(crate) fn header(&mut self, size: Size) -> Result<Colour, Reject>
-        requires unfailed { self.old.source.has_failed ≡ false }
-        requires first { self.old.source.number ≡ 0 }
-        ensures kept { OnOk result (IsReadOn self.old.source self.new.source) }
-        ensures ok { IfOk result (λ x. (g : Game) → g.size ≡ size → judged_header g (reading_at self.old.source self.old.nodes) ≡ fine (1, x) (reading_at self.new.source self.new.nodes)) }
-        ensures err { IfErr result (λ e. (g : Game) → g.size ≡ size → Refuses self.old.source.size (judged_header g (reading_at self.old.source self.old.nodes)) e) }
+        requires { self.old.number ≡ 0 }
+        ensures kept { OnOk result (IsReadOn self.old self.new) }
+        ensures ok { IfOk result (λ x. (g : Game) → g.size ≡ size → judged_header g (reading_of self.old) ≡ fine (1, x) (reading_of self.new)) }
+        ensures err { IfErr result (λ e. (g : Game) → g.size ≡ size → Refuses self.old.size (judged_header g (reading_of self.old)) e) }
     {
         match self.next() {
             Ok(
@@ -131,26 +222,28 @@ impl<'a> Reading<'a> {
         }
     }
 
-    /// The line `main`.
-    pub(crate) fn main(&mut self) -> Result<(), Reject>
-        requires { self.old.source.has_failed ≡ false }
-        ensures kept { OnOk result (IsReadOn self.old.source self.new.source) }
-        ensures ok { OnOk result ((bound : ℕ) (g : Game) (version : ℕ) (x : SpecColour) → judge_lemmas (suc bound) g version x [] (reading_at self.old.source self.old.nodes) ≡ fine [] (reading_at self.new.source self.new.nodes)) }
-        ensures err { IfErr result (λ e. (bound : ℕ) (g : Game) (version : ℕ) (x : SpecColour) → Refuses self.old.source.size (judge_lemmas (suc bound) g version x [] (reading_at self.old.source self.old.nodes)) e) }
+    /// The first line of a lemma, or the line `main`.
+    pub(crate) fn opening(&mut self) -> Result<Opening, Reject>
+        ensures kept { OnOk result (IsReadOn self.old self.new) }
+        ensures fits { IfOk result (λ o. IsTrue (line_fits self.old.size (opening_value o))) }
+        ensures ok { IfOk result (λ o. read_line (reading_of self.old) ≡ fine (opening_value o) (reading_of self.new)) }
+        ensures err { IfErr result (λ e. (g : Game) (heads : List SpecHead) (lemma : SpecColour → ℕ → List SpecCell → SpecReading → Judged (List SpecHead)) → Refuses self.old.size (judged_opening g heads lemma (reading_of self.old)) e) }
     {
-        match self.next() {
-            Ok(Line::Main) => Ok(()),
-            Ok(_) => Err(self.reject(Why::Malformed)),
-            Err(reject) => Err(reject),
+        let line = match self.next() {
+            Ok(line) => line,
+            Err(reject) => return Err(reject),
+        };
+        match opening_of(line) {
+            Some(opening) => Ok(opening),
+            None => Err(self.reject(Why::Malformed)),
         }
     }
 
     /// The line `end`.
     pub(crate) fn end(&mut self) -> Result<(), Reject>
-        requires { self.old.source.has_failed ≡ false }
-        ensures kept { OnOk result (IsReadOn self.old.source self.new.source) }
-        ensures ok { OnOk result (judge_end (reading_at self.old.source self.old.nodes) ≡ fine tt (reading_at self.new.source self.new.nodes)) }
-        ensures err { IfErr result (λ e. Refuses self.old.source.size (judge_end (reading_at self.old.source self.old.nodes)) e) }
+        ensures kept { OnOk result (IsReadOn self.old self.new) }
+        ensures ok { OnOk result (judge_end (reading_of self.old) ≡ fine tt (reading_of self.new)) }
+        ensures err { IfErr result (λ e. Refuses self.old.size (judge_end (reading_of self.old)) e) }
     {
         match self.next() {
             Ok(Line::End) => Ok(()),
@@ -161,11 +254,10 @@ impl<'a> Reading<'a> {
 
     /// The line `reply` with the turn that is due.
     pub(crate) fn reply(&mut self, due: Turn) -> Result<(), Reject>
-        requires unfailed { self.old.source.has_failed ≡ false }
-        requires on_board { IsTrue (turn_fits self.old.source.size (ply_of self.old.source.size due)) }
-        ensures kept { OnOk result (IsReadOn self.old.source self.new.source) }
-        ensures ok { OnOk result (answered (ply_of self.old.source.size due) (reading_at self.old.source self.old.nodes) ≡ fine tt (reading_at self.new.source self.new.nodes)) }
-        ensures err { IfErr result (λ e. Refuses self.old.source.size (answered (ply_of self.old.source.size due) (reading_at self.old.source self.old.nodes)) e) }
+        requires on_board { IsTrue (turn_fits self.old.size (ply_of self.old.size due)) }
+        ensures kept { OnOk result (IsReadOn self.old self.new) }
+        ensures ok { OnOk result (answered (ply_of self.old.size due) (reading_of self.old) ≡ fine tt (reading_of self.new)) }
+        ensures err { IfErr result (λ e. Refuses self.old.size (answered (ply_of self.old.size due) (reading_of self.old)) e) }
     {
         match self.next() {
             Ok(Line::Reply(turn)) => {
@@ -180,13 +272,92 @@ impl<'a> Reading<'a> {
         }
     }
 
+    /// The colouring of the next line, where it is a line `not` that can stand on the board.
+    fn next_listed(&self) -> Option<Colouring>
+        ensures value { result ≡ next_listed self.now.left }
+        ensures fits { IfSome result (λ c. length c ≡ self.now.size * self.now.size) }
+    {
+        let Some(first) = self.left.first() else {
+            return None;
+        };
+        match *first {
+            Some(Line::Not(colouring)) => {
+                if colouring_fits(self.size, &colouring) {
+                    Some(colouring)
+                } else {
+                    None
+                }
+            }
+            _ => None,
+        }
+    }
+
+    /// Goes on behind the next line.
+    fn skip(&mut self)
+        requires { 0 < length self.old.left }
+        ensures kept { IsReadOn self.old self.new }
+        ensures left { self.new.left ≡ drop 1 self.old.left }
+        ensures counts { (self.new.nodes ≡ self.old.nodes) × (self.new.listed ≡ self.old.listed) }
+    {
+        self.left = &self.left[1..];
+        self.number += 1;
+    }
+
+    /// Counts one listed colouring more, unless there are too many.
+    fn count_listed(&mut self) -> bool
+        ensures room { result ≡ nat_lt self.old.listed max_listed }
+        ensures counted { IsTrue result → self.new ≡ record self.old { listed = suc self.old.listed } }
+        ensures kept { result ≡ false → self.new ≡ self.old }
+    {
+        if self.listed >= MAX_LISTED {
+            return false;
+        }
+        self.listed += 1;
+        true
+    }
+
+    /// The colouring of the next line, where that is a line `not`, behind the colouring before it in its list.
+    pub(crate) fn listed(&mut self, last: Option<Colouring>) -> Result<Option<Colouring>, Reject>
+        requires { IfSome last (λ c. length c ≡ self.old.size * self.old.size) }
+        ensures size { OnOk result (self.new.size ≡ self.old.size) }
+        ensures shorter { IfOk result (λ o. IsSome o → length self.new.left < length self.old.left) }
+        ensures fits { IfOk result (λ o. IfSome o (λ c. length c ≡ self.old.size * self.old.size)) }
+        ensures none { IfOk result (λ o. o ≡ None → (self.new ≡ self.old) × (judged_list last (reading_of self.old) ≡ fine [] (reading_of self.old))) }
+        ensures some { IfOk result (λ o. IfSome o (λ c. judged_list last (reading_of self.old) ≡ with_first c (judged_list (Some c) (reading_of self.new)))) }
+        ensures err { IfErr result (λ e. Refuses self.old.size (judged_list last (reading_of self.old)) e) }
+    {
+        let Some(colouring) = self.next_listed() else {
+            return Ok(None);
+        };
+        self.skip();
+        if !self.count_listed() {
+            return Err(self.reject(Why::Limit));
+        }
+        if !is_after(last, &colouring) {
+            return Err(self.reject(Why::ListOrder));
+        }
+        Ok(Some(colouring))
+    }
+
+    /// Counts one node more at a depth, unless there are too many or it is too deep.
+    fn count_node(&mut self, depth: u32) -> bool
+        ensures room { result ≡ (nat_lt self.old.nodes max_nodes && nat_le depth max_depth) }
+        ensures counted { IsTrue result → self.new ≡ record self.old { nodes = suc self.old.nodes } }
+        ensures kept { result ≡ false → self.new ≡ self.old }
+    {
+        if self.nodes >= MAX_NODES || depth > MAX_DEPTH {
+            return false;
+        }
+        self.nodes += 1;
+        true
+    }
+
     /// The line of a node at this depth, which is counted.
     pub(crate) fn node(&mut self, depth: u32) -> Result<NodeLine, Reject>
-        requires { self.old.source.has_failed ≡ false }
-        ensures kept { OnOk result (IsReadOn self.old.source self.new.source) }
+        ensures kept { OnOk result (IsReadOn self.old self.new) }
         ensures shallow { OnOk result (depth ≤ 2000) }
-        ensures ok { IfOk result (λ k. (b : Body) (s : GameState) (below : GameState → SpecReading → Judged (Unit {0})) (answers : List Ply → SpecReading → Judged (Unit {0})) → judged_line b depth s below answers (reading_at self.old.source self.old.nodes) ≡ judge_read b s below answers self.new.source.number (node_value self.old.source.size k) (reading_at self.new.source self.new.nodes)) }
-        ensures err { IfErr result (λ e. (b : Body) (s : GameState) (below : GameState → SpecReading → Judged (Unit {0})) (answers : List Ply → SpecReading → Judged (Unit {0})) → Refuses self.old.source.size (judged_line b depth s below answers (reading_at self.old.source self.old.nodes)) e) }
+        ensures ok { IfOk result (λ k. (b : SpecBody) (s : GameState) (below : GameState → SpecReading → Judged (Unit {0})) (answers : List Ply → SpecReading → Judged (Unit {0})) → judged_line b depth s below answers (reading_of self.old) ≡ judge_read b s below answers self.new.number (node_value self.old.size k) (reading_of self.new)) }
+        ensures err { IfErr result (λ e. (b : SpecBody) (s : GameState) (below : GameState → SpecReading → Judged (Unit {0})) (answers : List Ply → SpecReading → Judged (Unit {0})) → Refuses self.old.size (judged_line b depth s below answers (reading_of self.old)) e) }
     {
         let line = match self.next() {
             Ok(line) => line,
@@ -195,22 +366,25 @@ impl<'a> Reading<'a> {
         let Some(node) = node_of(line) else {
             return Err(self.reject(Why::Malformed));
         };
-        if self.nodes >= MAX_NODES || depth > MAX_DEPTH {
+        if !self.count_node(depth) {
             return Err(self.reject(Why::Limit));
         }
-        self.nodes += 1;
         Ok(node)
     }
 
     /// Nothing may follow.
-    pub(crate) fn nothing(&mut self) -> Result<(), Reject>
-        requires { self.old.source.has_failed ≡ false }
-        ensures ok { OnOk result ((x : SpecColour) → at_end (reading_at self.old.source self.old.nodes).rest (reading_at self.old.source self.old.nodes).place x ≡ accepted x) }
-        ensures err { IfErr result (λ e. (x : SpecColour) → Rejects self.old.source.size (at_end (reading_at self.old.source self.old.nodes).rest (reading_at self.old.source self.old.nodes).place x) e) }
+    pub(crate) fn nothing(&self) -> Result<(), Reject>
+        ensures ok { OnOk result ((x : SpecColour) → at_end (reading_of self.now).rest (reading_of self.now).place x ≡ accepted x) }
+        ensures err { IfErr result (λ e. (x : SpecColour) → Rejects self.now.size (at_end (reading_of self.now).rest (reading_of self.now).place x) e) }
+        ensures judged { IfErr result (λ e. IsJudged e.why) }
     {
-        match self.source.next() {
-            Ok(None) => Ok(()),
-            _ => Err(self.reject(Why::TextAfterEnd)),
+        if self.left.is_empty() {
+            Ok(())
+        } else {
+            Err(Reject {
+                place: self.number + 1,
+                why: Why::TextAfterEnd,
+            })
         }
     }
 }

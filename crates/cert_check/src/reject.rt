@@ -9,6 +9,8 @@ pub enum Why {
     Malformed,
     /// The size is not the problem's.
     SizeDiffers,
+    /// The lemma's root has a stone that does not reach empty.
+    RootWithoutLiberty,
     /// The winner has not won here.
     NotWon,
     /// The game is over, or the other side is to move.
@@ -17,16 +19,28 @@ pub enum Why {
     TurnBarred,
     /// The result is a known colouring.
     RepeatsKnown,
+    /// The result is not on the lemma's list.
+    NotListed,
     /// The replies are not those that are due; this one is.
     RepliesDiffer { due: Turn },
     /// No lower lemma has this number.
     LemmaNotLower,
-    /// More nodes, or a deeper one, than a claim may have.
+    /// The root, the mover or the passes of the lemma are not the present ones.
+    StateDiffers,
+    /// A colouring on the lemma's list is known.
+    ListedOccurred,
+    /// A colouring on the lemma's list is not on the list of the lemma that uses it.
+    ListedNotPassedOn,
+    /// The colouring is not greater than the one before it on the list.
+    ListOrder,
+    /// More lemmas, nodes or listed colourings, or a deeper node, than a claim may have.
     Limit,
     /// Something follows the claim.
     TextAfterEnd,
     /// Memory was refused.
     Memory,
+    /// The lines could not be read.
+    Read,
 }
 
 /// The first fault of a claim: its line, from 1, and why.

@@ -1,9 +1,9 @@
 -- The line that bytes spell, by the word at their front: no two words begin alike.
-use Rattle.std.proofs.Common.{◌≡◌, ℕ, Bool, true, false, nat_eq, List, [], ◌∷◌, eqb-true, Option, Some, None, option_map, option_and_then, is_some, codes, refl, sym, ◌∙◌, ap}
+use Rattle.std.proofs.Common.{◌≡◌, ℕ, Bool, true, false, nat_eq, List, [], ◌∷◌, eqb-true, Option, Some, None, option_map, option_and_then, is_some, codes, refl, sym}
 use Rattle.go_points.specs.declared.Cell.{Cell}
 use Rattle.go_points.specs.Text.{colouring_from_text}
-use Rattle.proof_cert.specs.Lines.{Line, header_line, had_line, not_line, main_line, won_line, use_line, play_line, all_line, reply_line, end_line}
-use Rattle.proof_cert.specs.Text.{after_word, at_end, number_of, vertex_of, behind, header_tail, lemma_tail, or_else, line_of}
+use Rattle.proof_cert.specs.Lines.{Line, had_line, not_line, main_line, won_line, use_line, play_line, all_line, reply_line, end_line}
+use Rattle.proof_cert.specs.Text.{after_word, at_end, number_of, vertex_of, header_tail, lemma_tail, or_else, line_of}
 use Rattle.proof_cert.specs.Stage.{version_one}
 
 or_none : {A : Type 0} (o : Option A) → or_else o None ≡ o

@@ -1,12 +1,11 @@
 -- The first line of a text, by the place of its line feed.
-use Rattle.std.proofs.Common.{◌≡◌, ℕ, zero, suc, ◌+◌, ◌-◌, ◌<◌, ◌≤◌, Bool, true, false, cond, not, nat_eq, nat_lt, ltb-true, ltb-false, List, [], ◌∷◌, length, map, take, drop, Option, Some, None, position, refl, sym, ◌∙◌, ap, arith}
+use Rattle.std.proofs.Common.{◌≡◌, ℕ, suc, ◌+◌, ◌-◌, ◌<◌, ◌≤◌, Bool, true, false, cond, not, nat_eq, nat_lt, ltb-true, ltb-false, List, [], ◌∷◌, length, map, take, drop, Option, Some, None, position, refl, ◌∙◌, ap, arith}
 use Rattle.std.specs.List.{position_or_len}
 use Rattle.std.proofs.lemmas.List.{length-drop}
 use Rattle.std.proofs.Math.Seq.{drop-length, take-length}
-use Rattle.proof_cert.specs.Lines.{Line}
 use Rattle.proof_cert.specs.Stage.{version_one}
 use Rattle.proof_cert.specs.Source.{lines_read}
-use Rattle.proof_cert.specs.Text.{with_byte, pieces, line_of_piece, lines, line_of}
+use Rattle.proof_cert.specs.Text.{with_byte, pieces, line_of_piece, line_of}
 
 abbrev place : List ℕ → ℕ
 place b = position_or_len (λ x. nat_eq x 10) b

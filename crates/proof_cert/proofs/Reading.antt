@@ -1,5 +1,5 @@
 -- What the reader of lines does, against the definitions, over plain bytes.
-use Rattle.std.proofs.Common.{◌≡◌, ℕ, zero, suc, ◌+◌, ◌-◌, ◌*◌, ◌<◌, ◌≤◌, ◌^◌, ◌⊎◌, inl, inr, if◌then◌else◌, Bool, true, false, cond, not, ◌&&◌, nat_eq, nat_le, List, [], ◌∷◌, length, take, drop, get_or, eq-eqb, eqb-true, leb-true, le-leb, ltb-true, ltb-false, nat_lt, Option, Some, None, position, MatchOption, option_map, is_some, Bor, refl, sym, ◌∙◌, ap, ap₂, arith}
+use Rattle.std.proofs.Common.{◌≡◌, ℕ, suc, ◌+◌, ◌-◌, ◌*◌, ◌<◌, ◌≤◌, ◌^◌, ◌⊎◌, inl, inr, if◌then◌else◌, Bool, true, false, cond, not, ◌&&◌, nat_eq, nat_le, List, [], ◌∷◌, length, take, drop, get_or, eq-eqb, eqb-true, le-leb, ltb-true, ltb-false, nat_lt, Option, Some, None, position, MatchOption, option_map, Bor, refl, sym, ◌∙◌, ap, ap₂, arith}
 use Rattle.std.proofs.Math.Nat.{pow-le-pow_right}
 use native.Mathlib.Numerals.{unary_clauses}
 use Rattle.std.specs.Str.{all_ascii_digits}
@@ -9,7 +9,7 @@ use Rattle.std.proofs.Math.Seq.{drop-cons, drop-length}
 use Rattle.std.proofs.lemmas.Bool.{lt-leb}
 use Rattle.proof_cert.proofs.Words.{eq_false}
 use lib.Pointwise.{pointwise}
-use Rattle.proof_cert.specs.Text.{after_word, at_end, at_space, number_of, value_from}
+use Rattle.proof_cert.specs.Text.{after_word, at_space, number_of, value_from}
 
 -- a word at the front
 front_yes : (w b : List ℕ) → pointwise nat_eq (take (length w) b) w ≡ true → after_word w b ≡ Some (drop (length w) b)

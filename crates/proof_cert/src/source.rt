@@ -5,6 +5,7 @@ ghost use Rattle.proof_cert.specs.Stage.{line_value};
 ghost use Rattle.proof_cert.specs.Source.{lines_read, source_of, answer, answer_value, later};
 
 use crate::line::{Line, place_of_byte};
+use crate::node_source::NodeSource;
 use go_points::Size;
 use std::marker::Model;
 
@@ -90,5 +91,29 @@ impl<'a> TextSource<'a> {
         ensures few { result < 2 ^ 63 }
     {
         self.number
+    }
+}
+
+impl<'a> NodeSource for TextSource<'a> {
+    ghost use Rattle.proof_cert.specs.Source.{fault_left, text_gives};
+
+    ghost size = { λ s. s.size };
+
+    ghost number = { λ s. s.number };
+
+    ghost fault = { fault_left };
+
+    ghost gives = { text_gives };
+
+    fn next(&mut self) -> Result<Option<Line>, SourceFault> {
+        TextSource::next(self)
+    }
+
+    fn size(&self) -> Size {
+        self.size
+    }
+
+    fn line_number(&self) -> u64 {
+        TextSource::line_number(self)
     }
 }

@@ -5,9 +5,13 @@ use Rattle.std.specs.Prelude.{find, ◌*◌, ◌-◌}
 use Rattle.go_points.specs.declared.Colour.{Colour}
 use Rattle.go_points.specs.declared.Cell.{Cell}
 use Rattle.go_points.specs.Grid.{opponent_of}
-use Rattle.go_points.specs.Place.{Place, number_of}
+use Rattle.go_points.specs.Place.{Place, number_of, place_of}
 use Rattle.go_points.specs.Ply.{Ply, pass, move}
 use Rattle.go_turns.specs.Record.{Moment, GameRecord, colouring_of}
+use Rattle.go_turns.specs.declared.fault.TurnFault.{TurnFault}
+use Rattle.go_turns.specs.declared.fault.TurnFault.TheVariants as turns
+use Rattle.target_game.specs.declared.state.AtFault.{AtFault}
+use Rattle.target_game.specs.declared.state.AtFault.TheVariants.{NoLiberty, Memory}
 use Rattle.target_game.specs.State.{Game, GameState, GameProblem, Line}
 use Rattle.target_game.specs.Legal.{legal}
 use Rattle.target_game.specs.Problem.{problem_of}
@@ -35,6 +39,16 @@ kept_before g k (m ∷ ms) = kept_state g (opponent_of k) m ∷ kept_before g (o
 
 abbrev pub kept_line : Game → Colour → GameRecord → Line
 kept_line g k r = record { state = kept_state g k r.present; before = kept_before g k r.earlier }
+
+-- Why there is no state, where there is no record.
+abbrev pub at_fault : TurnFault → AtFault
+at_fault (turns.NoLiberty p) = NoLiberty p
+at_fault _ = Memory
+
+-- Why there is no state with a colouring alone: the least point whose stone does not reach empty; where each does, only memory.
+abbrev pub IsAtFault : ℕ → Option ℕ → AtFault → Type 0
+IsAtFault n (Some p) fault = fault ≡ NoLiberty (place_of n p)
+IsAtFault n None fault = fault ≡ Memory
 
 -- The first legal turn at a point of this number or a greater one; the pass, where there is none.
 abbrev pub turn_or_pass : Option ℕ → Ply

@@ -1,25 +1,37 @@
 //! States of the target game, and the play from them.
 
-ghost use Rattle.std.specs.Prelude.{◌≡◌, ◌≤◌, ◌<◌, ◌&&◌, true, [], ◌∷◌, IsTrue, IfOk, OnOk, OnErr, None, is_none, if◌then◌else◌, map, length};
-ghost use Rattle.go_points.specs.Grid.{cell_at, same_cell};
+ghost use Rattle.std.specs.Prelude.{◌≡◌, ◌≤◌, ◌<◌, ◌&&◌, true, [], ◌∷◌, IsTrue, IfOk, IfErr, OnOk, OnErr, None, is_none, if◌then◌else◌, map, length};
+ghost use Rattle.go_points.specs.Grid.{cell_at, same_cell, side_of};
+ghost use Rattle.go_points.specs.Liberty.{first_without_liberty};
 ghost use Rattle.go_points.specs.Move.{after_move};
 ghost use Rattle.go_points.specs.Place.{IsOn, number_of};
 ghost use Rattle.go_points.specs.Ply.{ply_of, move};
 ghost use Rattle.go_points.specs.declared.Cell.TheVariants.{Empty};
 ghost use Rattle.go_turns.specs.History.{place_in};
-ghost use Rattle.target_game.specs.State.{Game, GameState, GameProblem, Line, start};
+ghost use Rattle.target_game.specs.State.{Game, GameState, GameProblem, Line, start, state_alone};
 ghost use Rattle.target_game.specs.Legal.{legal, legal_turns, holds_point};
 ghost use Rattle.target_game.specs.Next.{next};
 ghost use Rattle.target_game.specs.Over.{over, targets_stand};
-ghost use Rattle.target_game.specs.Kept.{turn_from};
+ghost use Rattle.target_game.specs.Kept.{turn_from, at_fault, IsAtFault};
 
 use crate::MAX_TURNS;
 use crate::problem::Problem;
 use arrayvec::ArrayVec;
 use go_points::{Colour, Colouring, Point, PointSet, Size, Turn};
-use go_turns::{Board, Record, Seen};
+use go_turns::{Board, Record, Seen, TurnFault};
 use std::alloc::{AllocError, Global};
 use std::marker::Model;
+use thiserror::Error;
+
+/// Why there is no state with a colouring alone.
+#[derive(Clone, Copy, Debug, PartialEq, Eq, Error)]
+pub enum AtFault {
+    /// The least point whose stone does not reach empty.
+    #[error("no liberty")]
+    NoLiberty { point: Point },
+    #[error("out of memory")]
+    Memory,
+}
 
 /// A state of the game, with the turns that led to it from where it was made.
 #[derive(Drop)]
@@ -44,6 +56,16 @@ impl<B: Board + Copy, S: Seen> Model for State<B, S> {
     ghost invariant = { λ a. All (IsOn a.played.size) a.targets × All (IsOn a.played.size) a.region };
 }
 
+// The same, of a state.
+fn at_fault(fault: TurnFault) -> AtFault
+    ensures { result ≡ at_fault fault }
+{
+    match fault {
+        TurnFault::NoLiberty { point } => AtFault::NoLiberty { point },
+        _ => AtFault::Memory,
+    }
+}
+
 impl<B: Board + Copy, S: Seen> State<B, S> {
     /// The start of the problem.
     pub fn of(alloc: Global, problem: &Problem) -> Result<State<B, S>, AllocError>
@@ -58,6 +80,32 @@ impl<B: Board + Copy, S: Seen> State<B, S> {
                 region: *problem.region(),
             }),
             Err(_) => Err(AllocError),
+        }
+    }
+
+    /// The state of the problem's game with this colouring alone in its history, and so many passes just made. Refused where a stone does not reach empty, by the least such point.
+    pub fn at(
+        alloc: Global,
+        problem: &Problem,
+        colouring: &Colouring,
+        mover: Colour,
+        passes: u64,
+    ) -> Result<State<B, S>, AtFault>
+        requires size { side_of colouring.now ≡ problem.now.game.size }
+        requires few { passes ≤ 1 }
+        ensures ok { IfOk result (λ s. s ≡ record { state = state_alone problem.now.game colouring.now mover passes; before = [] }) }
+        ensures liberties { OnOk result (first_without_liberty problem.now.game.size colouring.now ≡ None) }
+        ensures err { IfErr result (λ e. IsAtFault problem.now.game.size (first_without_liberty problem.now.game.size colouring.now) e) }
+    {
+        match Record::with_history(alloc, &[*colouring], 0, passes) {
+            Ok(played) => Ok(State {
+                played,
+                mover,
+                targets: *problem.targets(),
+                defender: problem.defender(),
+                region: *problem.region(),
+            }),
+            Err(fault) => Err(at_fault(fault)),
         }
     }
 

@@ -1,6 +1,6 @@
 //! Problems and play on small boards, with results worked out by the rules.
 
-use crate::{BadProblem, MAX_HISTORY, Problem, State};
+use crate::{AtFault, BadProblem, MAX_HISTORY, Problem, State};
 use go_points::{Cell, Colour, Colouring, MAX_SIZE, PointSet, Size, Turn, sgf_point};
 use go_turns::{PlayBoard, PlaySeen};
 use std::alloc::Global;
@@ -121,6 +121,46 @@ fn the_past_decides_at_a_ko(rt: HostRuntime) {
     assert_eq!(rt; barred.turns().as_slice(), [Turn::Pass].as_slice());
     assert_eq!(rt; barred.holds(&three(&rt, ".XOXO....")), Some(0));
     assert_eq!(rt; barred.holds(&three(&rt, ".X.XO....")), None);
+}
+
+// The state with this colouring alone, one pass just made, in a problem whose history bars the capture at the upper left.
+fn alone(rt: &impl Abort, alloc: Global, text: &str) -> Result<Play, AtFault> {
+    let problem = Problem::new(
+        history(rt, alloc, &[".XOXO....", "O.OXO...."]),
+        1,
+        Colour::White,
+        0,
+        points(rt, "aa"),
+        points(rt, "ba"),
+    )
+    .expect(rt, "a problem");
+    let colouring = three(rt, text);
+    assert!(rt; colouring.size() == problem.size());
+    State::at(alloc, &problem, &colouring, Colour::Black, 1)
+}
+
+#[test]
+fn a_colouring_alone_forgets_the_past(rt: HostRuntime) {
+    let mut state = alone(&rt, rt.alloc(), "O.OXO....").expect(&rt, "a state");
+    assert_eq!(rt; state.mover(), Colour::Black);
+    assert_eq!(rt; state.passes(), 1);
+    assert_eq!(rt; state.colouring(), three(&rt, "O.OXO...."));
+    assert_eq!(rt; state.holds(&three(&rt, "O.OXO....")), Some(0));
+    assert_eq!(rt; state.holds(&three(&rt, ".XOXO....")), None);
+    assert!(rt; play(&mut state, turn(&rt, "ba")));
+    assert_eq!(rt; state.colouring(), three(&rt, ".XOXO...."));
+    assert_eq!(rt; state.over(), Some(Colour::Black));
+}
+
+#[test]
+fn a_colouring_alone_has_its_liberties(rt: HostRuntime) {
+    let size = Size::new(3).expect(&rt, "a size");
+    let second = sgf_point(size, b"ba").expect(&rt, "a point");
+    // The white stone has black stones at both sides and below it.
+    match alone(&rt, rt.alloc(), "XOX.X....") {
+        Ok(_) => assert!(rt; false),
+        Err(fault) => assert_eq!(rt; fault, AtFault::NoLiberty { point: second }),
+    }
 }
 
 #[test]

@@ -1,4 +1,4 @@
-use Rattle.std.proofs.Common.{◌≡◌, ◌+◌, ◌-◌, ◌∷◌, [], ◌∙◌, sym, ap, length, take, drop, Option, Some, None, option_map}
+use Rattle.std.proofs.Common.{◌+◌, ◌∷◌, ◌∙◌, sym, ap, drop, Option, None, option_map}
 use Rattle.proof_cert.specs.Lines.{Line}
 use Rattle.proof_cert.specs.Stage.{line_value}
 use Rattle.proof_cert.specs.Source.{lines_read}

@@ -1,0 +1,9 @@
+use Rattle.std.proofs.Common.{◌≡◌, None}
+use Rattle.cert_check.specs.Checks.{Took}
+use Rattle.cert_check.proofs.checker.take_lines.Given as goal
+
+abbrev pub invariant-loop : goal.invariant-loop
+invariant-loop g l =
+    g.S.NodeSource.fault l.initial.source ≡ None
+    → (g.S.NodeSource.fault l.source ≡ None) × (g.S.NodeSource.size l.source ≡ g.S.NodeSource.size l.initial.source)
+    × Took g.S.NodeSource.gives (g.S.NodeSource.size l.initial.source) l.initial.source l.lines.items l.source

@@ -1,0 +1,162 @@
+//! What is fixed in a body of a claim: who wins there, the lemmas that it may use, and the results that it may make.
+
+ghost use Rattle.std.specs.Prelude.{◌≡◌, [], Some, not, option_map};
+ghost use Rattle.std.specs.List.{list_all};
+ghost use Rattle.go_turns.specs.History.{has_occurred};
+ghost use Rattle.cert_check.specs.Body.{is_known, is_listed, lemma_at, main_body, same_state};
+ghost use Rattle.cert_check.specs.Parts.{head_of};
+
+use crate::judge::PlayState;
+use go_points::{Colour, Colouring};
+use std::marker::Model;
+
+/// What a lemma says before its tree.
+#[derive(Drop)]
+pub(crate) struct Head {
+    mover: Colour,
+    passes: u8,
+    root: Colouring,
+    absent: Vec<Colouring>,
+}
+
+impl Model for Head {
+    ghost use Rattle.proof_cert.specs.Claim.{Head as SpecHead};
+    ghost use Rattle.cert_check.specs.Parts.{head_of};
+
+    ghost Value = { SpecHead };
+
+    ghost view = { λ a. head_of a.mover a.passes a.root a.absent.items };
+}
+
+impl Head {
+    pub(crate) fn new(mover: Colour, passes: u8, root: Colouring, absent: Vec<Colouring>) -> Head
+        ensures { result ≡ head_of mover passes root absent.items }
+    {
+        Head {
+            mover,
+            passes,
+            root,
+            absent,
+        }
+    }
+
+    /// Whether the lemma's root, mover and passes are those of the state.
+    pub(crate) fn is_at(&self, state: &PlayState) -> bool
+        ensures { result ≡ same_state self.now state.now.state }
+    {
+        self.root == state.colouring()
+            && self.mover == state.mover()
+            && u64::from(self.passes) == state.passes()
+    }
+
+    /// The colourings that may not have occurred; none need have occurred.
+    pub(crate) fn absent(&self) -> &[Colouring]
+        ensures value { result.now ≡ self.now.absent }
+        ensures had { self.now.had ≡ [] }
+    {
+        self.absent.as_slice()
+    }
+}
+
+/// What is fixed in a body. A lemma has a list of the results that its winner may make; main has none, and may make any.
+#[derive(Drop)]
+pub(crate) struct Body<'a> {
+    winner: Colour,
+    earlier: &'a [Head],
+    listed: Option<&'a [Colouring]>,
+}
+
+impl<'a> Model for Body<'a> {
+    ghost use Rattle.std.specs.Prelude.{option_map};
+    ghost use Rattle.cert_check.specs.Body.{Body as SpecBody};
+
+    ghost Value = { SpecBody };
+
+    ghost view = { λ a. record { winner = a.winner; earlier = a.earlier.now; listed = option_map (λ l. l.now) a.listed } };
+}
+
+/// Whether the colouring stands on the list.
+fn is_on_list(list: &[Colouring], colouring: &Colouring) -> bool
+    ensures { result ≡ has_occurred list.now colouring.now }
+{
+    for listed in list {
+        if colouring == listed {
+            return true;
+        }
+    }
+    false
+}
+
+/// Whether none of the colourings is known at the state.
+pub(crate) fn none_known(state: &PlayState, list: &[Colouring]) -> bool
+    ensures { result ≡ list_all (λ c. not (is_known state.now.state c)) list.now }
+{
+    for colouring in list {
+        if state.holds(colouring).is_some() {
+            return false;
+        }
+    }
+    true
+}
+
+impl<'a> Body<'a> {
+    /// The body of a lemma with this list, behind these lemmas.
+    pub(crate) fn of_lemma(winner: Colour, earlier: &'a [Head], listed: &'a [Colouring]) -> Body<'a>
+        ensures { result ≡ record { winner = winner; earlier = earlier.now; listed = Some listed.now } }
+    {
+        Body {
+            winner,
+            earlier,
+            listed: Some(listed),
+        }
+    }
+
+    /// Main, behind these lemmas.
+    pub(crate) fn of_main(winner: Colour, lemmas: &'a [Head]) -> Body<'a>
+        ensures { result ≡ main_body winner lemmas.now }
+    {
+        Body {
+            winner,
+            earlier: lemmas,
+            listed: None,
+        }
+    }
+
+    pub(crate) fn winner(&self) -> Colour
+        ensures { result ≡ self.now.winner }
+    {
+        self.winner
+    }
+
+    /// The lemma of this number, counted from 1.
+    pub(crate) fn lemma(&self, number: u32) -> Option<&'a Head>
+        ensures { option_map (λ h. h.now) result ≡ lemma_at self.now.earlier number }
+    {
+        if number == 0 {
+            return None;
+        }
+        self.earlier.get(number as usize - 1)
+    }
+
+    /// Whether the body may make the colouring.
+    pub(crate) fn lists(&self, colouring: &Colouring) -> bool
+        ensures { result ≡ is_listed self.now.listed colouring.now }
+    {
+        match self.listed {
+            Some(list) => is_on_list(list, colouring),
+            None => true,
+        }
+    }
+
+    /// Whether the body may make each of the colourings.
+    pub(crate) fn lists_all(&self, colourings: &[Colouring]) -> bool
+        ensures { result ≡ list_all (is_listed self.now.listed) colourings.now }
+    {
+        for colouring in colourings {
+            if !self.lists(colouring) {
+                return false;
+            }
+        }
+        true
+    }
+}

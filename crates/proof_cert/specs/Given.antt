@@ -1,0 +1,36 @@
+-- What calls of a source of lines have given.
+--     line_answer l      the answer that gives this line, None for a malformed one
+--     Gave gives s ls t      calls one behind another gave the lines ls, from the source s on, and left t
+--     fault_of r      the fault of an answer
+--     lines_counted r      how many lines an answer counts for: a line and a fault are one, the end is none
+use Rattle.std.specs.Prelude.{◌≡◌, ℕ, List, [], ◌∷◌, ◌++◌, length, Option, Some, None, Result, Ok, Err}
+use Rattle.proof_cert.specs.Lines.{Line}
+use Rattle.proof_cert.specs.Source.{Source, source_of, lines_read, text_gives}
+use Rattle.proof_cert.specs.declared.source.SourceFault.{SourceFault}
+use Rattle.proof_cert.specs.declared.source.SourceFault.TheVariants.{Malformed}
+
+abbrev pub line_answer : Option Line → Result (Option Line) SourceFault
+line_answer None = Err Malformed
+line_answer (Some l) = Ok (Some l)
+
+-- `gives s r t` says that a call at the source s may answer r and leave t
+abbrev pub Gave : {S : Type 0} → (S → Result (Option Line) SourceFault → S → Type 0) → S → List (Option Line) → S → Type 0
+Gave gives s [] t = s ≡ t
+Gave {S} gives s (l ∷ ls) t = (u : S) × gives s (line_answer l) u × Gave gives u ls t
+
+abbrev pub fault_of : {A : Type 0} → Result A SourceFault → Option SourceFault
+fault_of (Ok a) = None
+fault_of (Err e) = Some e
+
+abbrev pub lines_counted : {A : Type 0} → Result (Option A) SourceFault → ℕ
+lines_counted (Ok None) = 0
+lines_counted _ = 1
+
+-- A text gives its lines in their order, and all of them where it has ended.
+pub record IsFrontOfText (n : ℕ) (text : List ℕ) (ls : List (Option Line)) (t : Source) : Type 0 where
+  pub front : lines_read n text ≡ ls ++ t.left
+  pub counted : t.number ≡ length ls
+  pub all : (u : Source) → text_gives t (Ok None) u → lines_read n text ≡ ls
+
+abbrev pub LinesGivenOfText : Type 0
+LinesGivenOfText = (n : ℕ) (text : List ℕ) (ls : List (Option Line)) (t : Source) → Gave text_gives (source_of n text) ls t → IsFrontOfText n text ls t

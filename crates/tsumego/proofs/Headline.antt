@@ -1,5 +1,6 @@
 -- What is answered is so.
-use Rattle.std.proofs.Common.{◌≡◌, ℕ, Bool, true, false, cond, nat_lt, List, inl, inr, refl, sym, ◌∙◌, ap, subst}
+use Rattle.std.proofs.Common.{◌≡◌, ℕ, Bool, true, false, cond, nat_lt, nat_eq, List, inl, inr, refl, sym, ◌∙◌, ap, subst}
+use Rattle.std.specs.Prelude.{slice_index_or}
 use Rattle.go_points.specs.declared.Colour.{Colour}
 use Rattle.go_points.specs.declared.Colour.TheVariants.{Black, White}
 use Rattle.target_game.specs.State.{GameProblem, start}
@@ -9,12 +10,12 @@ use Rattle.target_game.specs.declared.within.Within.{Within}
 use Rattle.target_game.specs.declared.within.Within.TheVariants as within
 use Rattle.sgf_text.specs.Trees.{GameTree}
 use Rattle.tsumego_problem.specs.Walk.{history_limit}
-use Rattle.proof_cert.specs.Text.{lines}
+use Rattle.proof_cert.specs.Source.{lines_read}
 use Rattle.cert_check.specs.Verdict.{Verdict, accepted, rejected}
 use Rattle.cert_check.proofs.ReadingClaims.{accepted_sides_win}
 use Rattle.tsumego.specs.declared.status.Status.TheVariants.{Answered}
 use Rattle.tsumego.specs.Texts.{wins_text, neither_text}
-use Rattle.tsumego.specs.Answers.{Answer, IsRecord, check_answer, within_answer, claim_in, claim_lines, claim_verdict}
+use Rattle.tsumego.specs.Answers.{Answer, IsRecord, check_answer, within_answer, claim_in, claim_verdict}
 use Rattle.tsumego.specs.Laws.{SideWins, CheckIsTrue, WithinIsTrue}
 use Rattle.tsumego.proofs.Records.{placed}
 
@@ -31,14 +32,17 @@ check_is_true bytes written (inr (failed, _)) = absurd cc
 check_is_true bytes written (inl (inl (refusal, r, e, t))) = absurd cc
 check_is_true bytes written (inl (inr (q, tree, n, r, h))) =
     let (x, e, t) = accepts q.game.size (claim_verdict q (claim_in bytes n)) written h in
-    (q, x, t, side_wins bytes tree n q x r (accepted_sides_win q (claim_lines q.game.size (claim_in bytes n)) x (placed history_limit tree q r.problem).place e))
+    (q, x, t, side_wins bytes tree n q x r (accepted_sides_win q (lines_read q.game.size (claim_in bytes n)) x (placed history_limit tree q r.problem).place e))
+
+apart : true ≡ false → ⊥
+apart h = absurd (cc h)
 
 -- the text names one side
 named : (x y : Colour) → wins_text x ≡ wins_text y → x ≡ y
 named Black Black h = refl
 named White White h = refl
-named Black White h = absurd (cc h)
-named White Black h = absurd (cc h)
+named Black White h = absurd (apart (ap (λ t. nat_eq (slice_index_or t 5 0) 66) h))
+named White Black h = absurd (apart (ap (λ t. nat_eq (slice_index_or t 5 0) 87) h))
 
 decides : (q : GameProblem) (turns nodes_most : ℕ) (x : Colour) → decision (start q) turns nodes_most ≡ within.Wins x → wins x (start q) turns ≡ true
 decides q turns most x h = go (nat_lt most (nodes (start q) turns)) (wins Black (start q) turns) refl (wins White (start q) turns) refl h
@@ -62,6 +66,6 @@ within_is_true turns most bytes x (inl (inr (q, tree, n, r, h))) =
     by within.Neither e h = absurd (other x (ap (λ (a : Answer). a.1) h))
       where
         other : (x : Colour) → wins_text x ≡ neither_text → ⊥
-        other Black h = absurd (cc h)
-        other White h = absurd (cc h)
+        other Black h = absurd (apart (ap (λ t. nat_eq (slice_index_or t 0 0) 119) h))
+        other White h = absurd (apart (ap (λ t. nat_eq (slice_index_or t 0 0) 119) h))
     by within.Limit e h = absurd (cc (ap (λ (a : Answer). a.0) h))

@@ -3,3 +3,4 @@ pub mod CommandExamples
 pub mod Records
 pub mod Headline
 pub mod Recording
+pub mod Phrases

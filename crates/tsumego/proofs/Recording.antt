@@ -1,6 +1,6 @@
 -- What a record that is read, or is not, says of the bytes.
 use Rattle.std.proofs.Common.{◌≡◌, ◌≢◌, ℕ, ◌+◌, ◌≤◌, List, ◌++◌, length, Result, Ok, Err, Some, inl, inr, refl, sym, ◌∙◌, ap, subst, arith}
-use Rattle.std.proofs.lemmas.List.{length-append}
+use Rattle.std.proofs.lemmas.List.{length-append, append_assoc}
 use Rattle.target_game.specs.State.{GameProblem}
 use Rattle.sgf_text.specs.Trees.{GameTree}
 use Rattle.sgf_text.specs.Grammar.{Reads}
@@ -19,7 +19,7 @@ use Rattle.tsumego.specs.Replies.{HasNoRecord, IsTold}
 
 pub ends_within : (bytes : List ℕ) (tree : GameTree) (n : ℕ) → Reads bytes tree n → n ≤ length bytes
 ends_within bytes tree n (header, spelling, rest, spelled, whole, place, spells, is, end) =
-    let sum : length bytes ≡ length header + length (spelling ++ rest) = ap length whole ∙ length-append header (spelling ++ rest) in
+    let sum : length bytes ≡ length header + length (spelling ++ rest) = ap length whole ∙ ap length (append_assoc header spelling rest) ∙ length-append header (spelling ++ rest) in
     omega (arith, sum, length-append spelling rest, end)
 
 pub has_no_tree : (bytes : List ℕ) (fault : SgfFault) (r : NoRecord) → (fault ≢ sgf.Memory → outcome_of bytes ≡ Err fault) → IsTold (line (sgf_refusal fault)) r → (fault ≡ sgf.Memory → r ≡ no.Memory) → HasNoRecord bytes r

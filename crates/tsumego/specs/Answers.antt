@@ -1,7 +1,7 @@
 -- What each command answers: the whole text, and the status with it.
 --     check_answer, within_answer      of what the definitions of claims and of winning say
 --     Says command bytes status text      the whole text that the command may have for these bytes
-use Rattle.std.specs.Prelude.{◌≡◌, ℕ, List, map, drop, Option, Some, Ok, ◌⊎◌}
+use Rattle.std.specs.Prelude.{◌≡◌, ℕ, List, drop, Some, Ok, ◌⊎◌}
 use Rattle.target_game.specs.State.{GameProblem, start}
 use Rattle.target_game.specs.Within.{decision}
 use Rattle.target_game.specs.declared.within.Within.{Within}
@@ -12,9 +12,8 @@ use Rattle.sgf_text.specs.Laws.{IsWithin}
 use Rattle.tsumego_problem.specs.Values.{skip_white}
 use Rattle.tsumego_problem.specs.Walk.{problem_within, history_limit}
 use Rattle.tsumego_problem.specs.Refusals.{Refuses}
-use Rattle.proof_cert.specs.Text.{lines}
-use Rattle.proof_cert.specs.Lines.{Line}
-use Rattle.cert_check.specs.Verdict.{Verdict, accepted, rejected, verdict, plain_line}
+use Rattle.proof_cert.specs.Source.{lines_read}
+use Rattle.cert_check.specs.Verdict.{Verdict, accepted, rejected, verdict}
 use Rattle.tsumego.specs.declared.command_line.Command.{Command}
 use Rattle.tsumego.specs.declared.command_line.Command.TheVariants as command
 use Rattle.tsumego.specs.declared.status.Status.{Status}
@@ -43,12 +42,9 @@ RefusedOr Said bytes status text =
 abbrev pub claim_in : List ℕ → ℕ → List ℕ
 claim_in bytes n = skip_white (drop n bytes)
 
--- its lines, of which those of lemmas and of version 2 count as malformed so far; and the verdict on them
-abbrev pub claim_lines : ℕ → List ℕ → List (Option Line)
-claim_lines n claim = map plain_line (lines n claim)
-
+-- the verdict on its lines, of which those of version 2 count as malformed so far
 abbrev pub claim_verdict : GameProblem → List ℕ → Verdict
-claim_verdict q claim = verdict q (claim_lines q.game.size claim)
+claim_verdict q claim = verdict q (lines_read q.game.size claim)
 
 abbrev pub check_answer : ℕ → Verdict → Answer
 check_answer n (accepted x) = (Answered, wins_text x)

@@ -1,6 +1,6 @@
 //! The record at the front of the input.
 
-ghost use Rattle.std.specs.Prelude.{◌≡◌, ◌≤◌, ℕ, List, length, IfOk, IfErr};
+ghost use Rattle.std.specs.Prelude.{◌≡◌, ◌≤◌, ℕ, List, length, IfOk, IfErr, string_bytes};
 ghost use Rattle.sgf_text.specs.Trees.{GameTree};
 ghost use Rattle.tsumego.specs.Answers.{IsRecord};
 ghost use Rattle.tsumego_problem.specs.Refusals.{sgf_refusal, problem_refusal};
@@ -58,7 +58,7 @@ fn no_problem(alloc: Global, fault: ProblemFault) -> NoRecord
 }
 
 fn told(text: Result<String, AllocError>) -> NoRecord
-    ensures { (wanted : List ℕ) → IfOk text (λ t. t ≡ wanted) → IsTold wanted result }
+    ensures { (wanted : List ℕ) → IfOk text (λ t. string_bytes t ≡ wanted) → IsTold wanted result }
 {
     match text {
         Ok(text) => NoRecord::Refused(text),

@@ -1,17 +1,20 @@
 //! What a command answers for its input.
 
-ghost use Rattle.std.specs.Prelude.{◌≡◌, ◌≤◌, IfOk, drop};
+ghost use Rattle.std.specs.Prelude.{◌≡◌, ◌≤◌, IfOk, string_bytes};
 ghost use Rattle.target_game.specs.State.{start};
 ghost use Rattle.target_game.specs.Within.{decision};
 ghost use Rattle.tsumego_problem.specs.Values.{skip_white};
 ghost use Rattle.tsumego.specs.CommandLine.{FitsRanges};
+ghost use Rattle.tsumego.specs.Replies.{IsRejectionOf};
 ghost use Rattle.tsumego.specs.Answers.{Says, check_answer, claim_verdict, within_answer};
 
 use crate::command_line::Command;
 use crate::record::{NoRecord, read_record};
 use crate::status::Status;
 use crate::texts::{reject_text, wins_text};
-use cert_check::{Why, check_main};
+use cert_check::{Reject, Why, check};
+use go_points::Size;
+use proof_cert::TextSource;
 use sgf_text::token::is_white;
 use std::alloc::Global;
 use target_game::{Problem, Within, decide_within};
@@ -37,7 +40,7 @@ pub enum Failure {
 /// What the command answers for these bytes.
 pub fn reply_to(alloc: Global, command: Command, bytes: &[u8]) -> Result<Reply, Failure>
     requires { FitsRanges command }
-    ensures { IfOk result (λ r. Says command bytes.now r.status r.text) }
+    ensures { IfOk result (λ r. Says command bytes.now r.status (string_bytes r.text)) }
 {
     let (problem, end) = match read_record(alloc, bytes) {
         Ok(record) => record,
@@ -50,33 +53,40 @@ pub fn reply_to(alloc: Global, command: Command, bytes: &[u8]) -> Result<Reply, 
         Err(NoRecord::Memory) => return Err(Failure::Memory),
     };
     match command {
-        Command::Check => check(alloc, &problem, &bytes[end..]),
+        Command::Check => judge(alloc, &problem, &bytes[end..]),
         Command::Within { turns, nodes } => within(alloc, &problem, turns, nodes),
     }
 }
 
 /// Judges the claim behind white space.
-fn check(alloc: Global, problem: &Problem, behind: &[u8]) -> Result<Reply, Failure>
-    ensures { IfOk result (λ r. (r.status, r.text) ≡ check_answer problem.now.game.size (claim_verdict problem.now (skip_white behind.now))) }
+fn judge(alloc: Global, problem: &Problem, behind: &[u8]) -> Result<Reply, Failure>
+    ensures { IfOk result (λ r. (r.status, string_bytes r.text) ≡ check_answer problem.now.game.size (claim_verdict problem.now (skip_white behind.now))) }
 {
     let claim = skip_white(behind);
     if behind.len() - claim.len() > MAX_WHITE {
         return Err(Failure::Read);
     }
-    match check_main(alloc, problem, claim) {
+    let mut source = TextSource::new(problem.size(), claim);
+    match check(alloc, problem, &mut source) {
         Ok(winner) => said(alloc, Status::Answered, wins_text(winner)),
-        Err(reject) => {
-            if reject.why == Why::Memory {
-                return Err(Failure::Memory);
-            }
-            match reject_text(alloc, problem.size(), &reject) {
-                Ok(text) => Ok(Reply {
-                    status: Status::Unanswered,
-                    text,
-                }),
-                Err(_) => Err(Failure::Memory),
-            }
-        }
+        Err(reject) => rejected(alloc, problem.size(), &reject),
+    }
+}
+
+/// Why the claim is rejected; or why it was not judged.
+fn rejected(alloc: Global, size: Size, reject: &Reject) -> Result<Reply, Failure>
+    ensures { IfOk result (λ r. IsRejectionOf size reject.now r.status (string_bytes r.text)) }
+{
+    match reject.why {
+        Why::Memory => Err(Failure::Memory),
+        Why::Read => Err(Failure::Read),
+        _ => match reject_text(alloc, size, reject) {
+            Ok(text) => Ok(Reply {
+                status: Status::Unanswered,
+                text,
+            }),
+            Err(_) => Err(Failure::Memory),
+        },
     }
 }
 
@@ -95,7 +105,7 @@ fn skip_white(text: &[u8]) -> &[u8]
 /// Decides by full search who can force a win.
 fn within(alloc: Global, problem: &Problem, turns: u32, nodes: u64) -> Result<Reply, Failure>
     requires { turns ≤ 200 }
-    ensures { IfOk result (λ r. (r.status, r.text) ≡ within_answer (decision (start problem.now) turns nodes)) }
+    ensures { IfOk result (λ r. (r.status, string_bytes r.text) ≡ within_answer (decision (start problem.now) turns nodes)) }
 {
     match decide_within(alloc, problem, turns, nodes) {
         Ok(Within::Wins(winner)) => said(alloc, Status::Answered, wins_text(winner)),
@@ -107,7 +117,7 @@ fn within(alloc: Global, problem: &Problem, turns: u32, nodes: u64) -> Result<Re
 
 /// A text that is not made of parts.
 fn said(alloc: Global, status: Status, text: &str) -> Result<Reply, Failure>
-    ensures { IfOk result (λ r. (r.status ≡ status) × (r.text ≡ text.now)) }
+    ensures { IfOk result (λ r. (r.status ≡ status) × (string_bytes r.text ≡ text.now)) }
 {
     match text.to_string(alloc) {
         Ok(text) => Ok(Reply { status, text }),

@@ -1,6 +1,6 @@
 //! A run of the program: its words and its input to its answer.
 
-ghost use Rattle.std.specs.Prelude.{ℕ, List, map, Some, IfOk};
+ghost use Rattle.std.specs.Prelude.{ℕ, List, map, Some, IfOk, string_bytes};
 ghost use Rattle.tsumego.specs.CommandLine.{command_of, FitsRanges};
 ghost use Rattle.tsumego.specs.Answers.{Says};
 ghost use Rattle.tsumego.specs.Outcome.{Ran, Tells};
@@ -58,7 +58,7 @@ fn obey<R: Read, W: Write>(
 /// What the command answers for the whole input.
 fn answer_of<R: Read>(alloc: Global, command: Command, reader: &mut R) -> Result<Reply, Failure>
     requires { FitsRanges command }
-    ensures { IfOk result (λ r. (bytes : List ℕ) × Tells (R.remaining reader.old) bytes × Says command bytes r.status r.text) }
+    ensures { IfOk result (λ r. (bytes : List ℕ) × Tells (R.remaining reader.old) bytes × Says command bytes r.status (string_bytes r.text)) }
 {
     let mut input = Vec::new(alloc);
     match read_to_limit(reader, &mut input, MAX_INPUT) {

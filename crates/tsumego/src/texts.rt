@@ -1,6 +1,8 @@
 //! What the program prints.
 
-ghost use Rattle.std.specs.Prelude.{◌≡◌, IfOk, Some};
+ghost use Rattle.std.specs.Prelude.{◌≡◌, ◌<◌, IfOk, Some, string_bytes};
+ghost use Rattle.std.specs.List.{All};
+ghost use Rattle.go_points.specs.declared.Turn.TheVariants.{At};
 ghost use Rattle.go_points.specs.Ply.{ply_of};
 ghost use Rattle.proof_cert.specs.Text.{vertex_text};
 ghost use Rattle.cert_check.specs.Body.{Why as SpecWhy};
@@ -9,7 +11,7 @@ ghost use Rattle.tsumego_problem.specs.Refusals.{sgf_refusal, problem_refusal, p
 ghost use Rattle.tsumego.specs.Texts.{line, wins_text, rejected_line_text, claim_fault_text, no_memory_text, no_read_text};
 
 use cert_check::{Reject, Why};
-use go_points::{Colour, Size, Turn, to_sgf};
+use go_points::{Colour, Point, Size, Turn, to_sgf};
 use sgf_text::SgfFault;
 use std::alloc::{AllocError, Global};
 use tsumego_problem::{ProblemFault, SingleProperty, TurnFaultCause};
@@ -32,7 +34,7 @@ pub fn wins_text(winner: Colour) -> &'static str
 
 /// Why no tree was read.
 pub fn sgf_refusal(alloc: Global, fault: SgfFault) -> Result<String, AllocError>
-    ensures { IfOk result (λ text. text ≡ line (sgf_refusal fault)) }
+    ensures { IfOk result (λ text. string_bytes text ≡ line (sgf_refusal fault)) }
 {
     match fault {
         SgfFault::NoTree => format!(in alloc; "refused: sgf 1 no tree\n"),
@@ -55,7 +57,7 @@ fn property_name(property: SingleProperty) -> &'static str
 }
 
 fn cause_text(alloc: Global, cause: TurnFaultCause) -> Result<String, AllocError>
-    ensures { IfOk result (λ text. text ≡ cause_text cause) }
+    ensures { IfOk result (λ text. string_bytes text ≡ cause_text cause) }
 {
     match cause {
         TurnFaultCause::Occupied => format!(in alloc; ": occupied"),
@@ -65,7 +67,7 @@ fn cause_text(alloc: Global, cause: TurnFaultCause) -> Result<String, AllocError
 
 /// Why a tree gives no problem.
 pub fn problem_refusal(alloc: Global, fault: ProblemFault) -> Result<String, AllocError>
-    ensures { IfOk result (λ text. text ≡ line (problem_refusal fault)) }
+    ensures { IfOk result (λ text. string_bytes text ≡ line (problem_refusal fault)) }
 {
     match fault {
         ProblemFault::Game => format!(in alloc; "refused: problem 1 game\n"),
@@ -94,7 +96,7 @@ pub fn problem_refusal(alloc: Global, fault: ProblemFault) -> Result<String, All
 
 /// Why a line of a claim is refused. The cause is not want of memory.
 pub fn reject_text(alloc: Global, size: Size, reject: &Reject) -> Result<String, AllocError>
-    ensures { IfOk result (λ text. (why : SpecWhy) → why_value size reject.now.why ≡ Some why → text ≡ rejected_line_text size reject.now.place why) }
+    ensures { IfOk result (λ text. (why : SpecWhy) → why_value size reject.now.why ≡ Some why → string_bytes text ≡ rejected_line_text size reject.now.place why) }
 {
     let why = why_text(alloc, size, reject.why)?;
     let place = reject.place;
@@ -102,35 +104,58 @@ pub fn reject_text(alloc: Global, size: Size, reject: &Reject) -> Result<String,
 }
 
 fn why_text(alloc: Global, size: Size, why: Why) -> Result<String, AllocError>
-    ensures { IfOk result (λ text. (w : SpecWhy) → why_value size why ≡ Some w → text ≡ claim_fault_text size w) }
+    ensures { IfOk result (λ text. (w : SpecWhy) → why_value size why ≡ Some w → string_bytes text ≡ claim_fault_text size w) }
 {
     match why {
         Why::Malformed => format!(in alloc; "C01 malformed"),
         Why::SizeDiffers => format!(in alloc; "C02 size differs"),
+        Why::RootWithoutLiberty => format!(in alloc; "C03 root without liberty"),
         Why::NotWon => format!(in alloc; "C04 not won"),
         Why::WrongSide => format!(in alloc; "C05 wrong side or after the end"),
         Why::TurnBarred => format!(in alloc; "C06 turn barred"),
         Why::RepeatsKnown => format!(in alloc; "C07 repeats a known position"),
+        Why::NotListed => format!(in alloc; "C08 result not listed"),
         Why::RepliesDiffer { due } => {
             let due = turn_text(alloc, size, due)?;
             format!(in alloc; "C09 replies differ, due {due}")
         }
         Why::LemmaNotLower => format!(in alloc; "C10 lemma number not lower"),
+        Why::StateDiffers => format!(in alloc; "C11 state differs"),
+        Why::ListedOccurred => format!(in alloc; "C12 listed position has occurred"),
+        Why::ListedNotPassedOn => format!(in alloc; "C13 listed position not passed on"),
+        Why::ListOrder => format!(in alloc; "C14 list order"),
         Why::Limit => format!(in alloc; "C15 limit"),
         Why::TextAfterEnd => format!(in alloc; "C16 text after the end"),
         Why::Memory => format!(in alloc; "C17 memory"),
+        Why::Read => format!(in alloc; "C18 read"),
     }
 }
 
 /// Two letters, or `pass`.
 fn turn_text(alloc: Global, size: Size, turn: Turn) -> Result<String, AllocError>
-    ensures { IfOk result (λ text. text ≡ vertex_text size (ply_of size turn)) }
+    ensures { IfOk result (λ text. string_bytes text ≡ vertex_text size (ply_of size turn)) }
 {
     match turn {
         Turn::Pass => format!(in alloc; "pass"),
         Turn::At(point) => {
-            let letters = to_sgf(point);
-            format!(in alloc; "{}{}", char::from(letters[0]), char::from(letters[1]))
+            let letters = letters_of(size, point);
+            let column = char::from(letters[0]);
+            let row = char::from(letters[1]);
+            format!(in alloc; "{column}{row}")
         }
+    }
+}
+
+/// The letters of a point. One that the board does not hold, which no reply that is due is, has those of the place behind
+/// the last point.
+fn letters_of(size: Size, point: Point) -> [u8; 2]
+    ensures value { result ≡ vertex_text size (ply_of size (At point)) }
+    ensures ascii { All (λ letter. letter < 128) result }
+{
+    prove!(size.area() > 0 && point.col() < 19 && point.row() < 19);
+    if size.holds(point) {
+        to_sgf(point)
+    } else {
+        [b'a', b'a' + size.rows()]
     }
 }

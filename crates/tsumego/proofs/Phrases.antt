@@ -1,0 +1,48 @@
+-- Texts that are put together from parts.
+use Rattle.std.proofs.Common.{◌≡◌, ◌≢◌, ℕ, List, [], ◌∷◌, ◌++◌, Some, refl, sym, ◌∙◌, ap}
+use Rattle.std.specs.Prelude.{codes, decimal}
+use Rattle.std.proofs.lemmas.List.{append_assoc}
+use Rattle.go_points.specs.Ply.{ply_of}
+use Rattle.tsumego_problem.specs.Refusals.{problem_refusal, cause_text}
+use Rattle.tsumego_problem.specs.declared.fault.TurnFaultCause.{TurnFaultCause}
+use Rattle.tsumego_problem.specs.declared.fault.ProblemFault.TheVariants as faults
+use Rattle.cert_check.specs.declared.reject.Why as stop
+use Rattle.cert_check.specs.declared.reject.Why.TheVariants as stops
+use Rattle.cert_check.specs.Body.{Why}
+use Rattle.cert_check.specs.Body as claim
+use Rattle.cert_check.specs.Stage.{why_value}
+use Rattle.tsumego.specs.Texts.{line, claim_fault_text, rejected_line_text}
+
+pub illegal_phrase : (k : ℕ) (cause : TurnFaultCause) (said : List ℕ) → said ≡ cause_text cause
+    → codes "refused: problem 9 illegal turn at node " ++ (decimal k ++ (said ++ 10 ∷ [])) ≡ line (problem_refusal (faults.IllegalTurn k cause))
+illegal_phrase k cause said e =
+    ap (λ t. codes "refused: problem 9 illegal turn at node " ++ t) (sym (append_assoc (decimal k) said (10 ∷ [])))
+    ∙ ap (λ t. codes "refused: problem 9 illegal turn at node " ++ (decimal k ++ t ++ 10 ∷ [])) e
+
+pub rejected_phrase : (n place : ℕ) (why : Why) (said : List ℕ) → said ≡ claim_fault_text n why
+    → codes "rejected line " ++ (decimal place ++ (codes ": " ++ (said ++ 10 ∷ []))) ≡ rejected_line_text n place why
+rejected_phrase n place why said e =
+    ap (λ t. codes "rejected line " ++ (decimal place ++ (codes ": " ++ (t ++ 10 ∷ [])))) e
+    ∙ ap (λ t. codes "rejected line " ++ t) (sym (append_assoc (decimal place) (codes ": " ++ claim_fault_text n why) (10 ∷ []))
+      ∙ ap (λ t. t ++ 10 ∷ []) (sym (append_assoc (decimal place) (codes ": ") (claim_fault_text n why))))
+
+-- what is no want of memory and no failed read is a fault of the claim
+pub why_given : (n : ℕ) (w : stop.Why) → w ≢ stops.Memory → w ≢ stops.Read → (why : Why) × (why_value n w ≡ Some why)
+why_given n stops.Malformed m r = (claim.malformed, refl)
+why_given n stops.SizeDiffers m r = (claim.size_differs, refl)
+why_given n stops.RootWithoutLiberty m r = (claim.root_without_liberty, refl)
+why_given n stops.NotWon m r = (claim.not_won, refl)
+why_given n stops.WrongSide m r = (claim.wrong_side, refl)
+why_given n stops.TurnBarred m r = (claim.turn_barred, refl)
+why_given n stops.RepeatsKnown m r = (claim.repeats_known, refl)
+why_given n stops.NotListed m r = (claim.not_listed, refl)
+why_given n (stops.RepliesDiffer due) m r = (claim.replies_differ (ply_of n due), refl)
+why_given n stops.LemmaNotLower m r = (claim.lemma_not_lower, refl)
+why_given n stops.StateDiffers m r = (claim.state_differs, refl)
+why_given n stops.ListedOccurred m r = (claim.listed_occurred, refl)
+why_given n stops.ListedNotPassedOn m r = (claim.listed_not_passed_on, refl)
+why_given n stops.ListOrder m r = (claim.list_order, refl)
+why_given n stops.Limit m r = (claim.limit, refl)
+why_given n stops.TextAfterEnd m r = (claim.text_after_end, refl)
+why_given n stops.Memory m r = absurd (m refl)
+why_given n stops.Read m r = absurd (r refl)

@@ -50,7 +50,7 @@ as_malformed m [] h = h
 as_malformed m (None ∷ ls) h = tt
 as_malformed m (Some l ∷ ls) h = as_malformed m ls h
 
-as_long : (m : ℕ) (ls : List (Option code.Line)) → length (line_values m ls) ≡ length ls
+pub as_long : (m : ℕ) (ls : List (Option code.Line)) → length (line_values m ls) ≡ length ls
 as_long m [] = refl
 as_long m (l ∷ ls) = ap suc (as_long m ls)
 

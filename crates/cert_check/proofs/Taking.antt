@@ -50,7 +50,7 @@ as_malformed m [] h = h
 as_malformed m (None ∷ ls) h = tt
 as_malformed m (Some l ∷ ls) h = as_malformed m ls h
 
-as_long : (m : ℕ) (ls : List (Option code.Line)) → length (line_values m ls) ≡ length ls
+pub as_long : (m : ℕ) (ls : List (Option code.Line)) → length (line_values m ls) ≡ length ls
 as_long m [] = refl
 as_long m (l ∷ ls) = ap suc (as_long m ls)
 
@@ -116,11 +116,11 @@ module _ {S : Type 0} (gives : S → Result (Option Line) SourceFault → S → 
       there : Answers gives all.left (Ok None) ⊎ HasMalformed ls → Answers gives all.left (Ok None) ⊎ (p ≤ length ls)
       there (inl a) = inl a
       there (inr h) = inr (
-        let r = malformed_rejected q (line_values q.game.size ls) (as_malformed q.game.size ls h) in
-        let same : p ≡ r.0 = cc (sym e ∙ r.2) in
-        let low = r.3 in
-        let long = as_long q.game.size ls in
-        omega (arith, same, low, long))
+          let r = malformed_rejected q (line_values q.game.size ls) (as_malformed q.game.size ls h) in
+          let same : p ≡ r.0 = cc (sym e ∙ r.2) in
+          let low = r.3 in
+          let long = as_long q.game.size ls in
+          omega (arith, same, low, long))
 
   few_silent : (m : ℕ) (why : stop.Why) (w : Why) → TookFew gives n s ls why → why_value m why ≡ Some w → ⊥
   few_silent m why w few e = side few.stopped

@@ -38,7 +38,8 @@ loop-opening-preserved c =
     let old : length c.loop-opening.reading.left ≤ length c.args.reading.now.left = c.loop-opening.invariant.1 in
     let read = c.in-Ok.ensures.ok ∙ ap (λ (o : Opening). fine (opening_value o) r1) c.in-Lemma.is in
     let good = ap₂ (λ (hs : List Head) (k : ℕ). judged_opened g x hs k mover passes root r1) (sym c.as_slice.ensures.value) (sym c.in-Ok.ensures.kept.number) ∙ c.in-Ok-judge_lemma.ensures.ok in
-    let pushed : c.push.new.self.items ≡ heads ++ h ∷ [] = search rules in
-    (c.in-Ok-judge_lemma.ensures.kept.size ∙ c.in-Ok.ensures.kept.size ∙ c.loop-opening.invariant.0,
-    omega (arith, one, two, old),
-    c.loop-opening.invariant.2 ∙ lemmas_more g x heads r r1 mover passes root h r2 read good ∙ ap (λ (hs : List Head). judged_lemmas g x hs r2) (sym pushed))
+    let pushed : c.push.new.self.items ≡ heads ++ h ∷ [] = search rules in (
+      c.in-Ok-judge_lemma.ensures.kept.size ∙ c.in-Ok.ensures.kept.size ∙ c.loop-opening.invariant.0,
+      omega (arith, one, two, old),
+      c.loop-opening.invariant.2 ∙ lemmas_more g x heads r r1 mover passes root h r2 read good ∙ ap (λ (hs : List Head). judged_lemmas g x hs r2) (sym pushed),
+    )

@@ -4,3 +4,4 @@ pub mod Records
 pub mod Headline
 pub mod Recording
 pub mod Phrases
+pub mod Running

@@ -1,8 +1,15 @@
 -- Texts that are put together from parts.
-use Rattle.std.proofs.Common.{◌≡◌, ◌≢◌, ℕ, List, [], ◌∷◌, ◌++◌, Some, refl, sym, ◌∙◌, ap}
+use Rattle.std.proofs.Common.{◌≡◌, ◌≢◌, ℕ, ◌+◌, ◌*◌, ◌/◌, ◌%◌, ◌≤◌, true, cond, List, [], ◌∷◌, ◌++◌, Some, refl, sym, ◌∙◌, ap, ap₂, arith}
+use Rattle.std.proofs.lemmas.Bool.{false_from_ne_true}
+use Rattle.std.proofs.lemmas.Nat.{div-mul-add, mod-mul-add}
+use Rattle.go_points.specs.declared.Turn.TheVariants.{At}
+use Rattle.go_points.specs.Place.{Place, IsOn, on_board, number_of}
+use Rattle.go_turns.proofs.Turns.{on_from, is_on_from}
+use Rattle.tsumego_problem.proofs.Rectangles.{place_back}
+use Rattle.proof_cert.specs.Text.{vertex_text}
 use Rattle.std.specs.Prelude.{codes, decimal}
 use Rattle.std.proofs.lemmas.List.{append_assoc}
-use Rattle.go_points.specs.Ply.{ply_of}
+use Rattle.go_points.specs.Ply.{ply_of, move}
 use Rattle.tsumego_problem.specs.Refusals.{problem_refusal, cause_text}
 use Rattle.tsumego_problem.specs.declared.fault.TurnFaultCause.{TurnFaultCause}
 use Rattle.tsumego_problem.specs.declared.fault.ProblemFault.TheVariants as faults
@@ -46,3 +53,18 @@ why_given n stops.Limit m r = (claim.limit, refl)
 why_given n stops.TextAfterEnd m r = (claim.text_after_end, refl)
 why_given n stops.Memory m r = absurd (m refl)
 why_given n stops.Read m r = absurd (r refl)
+
+-- the letters of a point of the board, and of one that it does not hold
+pub letters_on : (n : ℕ) (p : Place) → IsOn n p → (97 + p.column) ∷ (97 + p.row) ∷ [] ≡ vertex_text n (ply_of n (At p))
+letters_on n p on =
+    let here : on_board n p ≡ true = on_from n p on in
+    ap (λ q. (97 + q.column) ∷ (97 + q.row) ∷ []) (sym (place_back n p on))
+    ∙ sym (ap (λ b. vertex_text n (move (cond b (number_of n p) (n * n)))) here)
+
+pub letters_off : (n : ℕ) (p : Place) → 1 ≤ n → (IsOn n p → ⊥) → 97 ∷ (97 + n) ∷ [] ≡ vertex_text n (ply_of n (At p))
+letters_off n p some off =
+    let whole : n * n ≡ n * n + 0 = omega arith in
+    let row : n ≡ n * n / n = sym (ap (λ x. x / n) whole ∙ div-mul-add n n 0 (omega (arith, some))) in
+    let column : 0 ≡ n * n % n = sym (ap (λ x. x % n) whole ∙ mod-mul-add n n 0 (omega (arith, some))) in
+    ap₂ (λ a b. (97 + a) ∷ (97 + b) ∷ []) column row
+    ∙ sym (ap (λ b. vertex_text n (move (cond b (number_of n p) (n * n)))) (false_from_ne_true (on_board n p) (λ e. off (is_on_from n p e))))

@@ -1,17 +1,19 @@
 //! What a command answers for its input.
 
-ghost use Rattle.std.specs.Prelude.{◌≡◌, ◌≤◌, IfOk, string_bytes};
+ghost use Rattle.std.specs.Prelude.{◌≡◌, ◌≤◌, ℕ, List, length, IfOk, string_bytes};
 ghost use Rattle.target_game.specs.State.{start};
 ghost use Rattle.target_game.specs.Within.{decision};
 ghost use Rattle.tsumego_problem.specs.Values.{skip_white};
 ghost use Rattle.tsumego.specs.CommandLine.{FitsRanges};
-ghost use Rattle.tsumego.specs.Replies.{IsRejectionOf};
+ghost use Rattle.tsumego.specs.declared.command_line.Command.{Command};
+ghost use Rattle.tsumego.specs.Replies.{HasNoRecord, IsRejectionOf};
 ghost use Rattle.tsumego.specs.Answers.{Says, check_answer, claim_verdict, within_answer};
 
 use crate::command_line::Command;
 use crate::record::{NoRecord, read_record};
 use crate::status::Status;
 use crate::texts::{reject_text, wins_text};
+use cert_check::laws::texts_judged;
 use cert_check::{Reject, Why, check};
 use go_points::Size;
 use proof_cert::TextSource;
@@ -44,17 +46,24 @@ pub fn reply_to(alloc: Global, command: Command, bytes: &[u8]) -> Result<Reply, 
 {
     let (problem, end) = match read_record(alloc, bytes) {
         Ok(record) => record,
-        Err(NoRecord::Refused(text)) => {
-            return Ok(Reply {
-                status: Status::Refused,
-                text,
-            });
-        }
-        Err(NoRecord::Memory) => return Err(Failure::Memory),
+        Err(none) => return refused(none),
     };
     match command {
         Command::Check => judge(alloc, &problem, &bytes[end..]),
         Command::Within { turns, nodes } => within(alloc, &problem, turns, nodes),
+    }
+}
+
+/// What is answered where there is no record, whatever the command.
+fn refused(none: NoRecord) -> Result<Reply, Failure>
+    ensures { (command : Command) (bytes : List ℕ) → HasNoRecord bytes none → IfOk result (λ r. Says command bytes r.status (string_bytes r.text)) }
+{
+    match none {
+        NoRecord::Refused(text) => Ok(Reply {
+            status: Status::Refused,
+            text,
+        }),
+        NoRecord::Memory => Err(Failure::Memory),
     }
 }
 
@@ -66,6 +75,7 @@ fn judge(alloc: Global, problem: &Problem, behind: &[u8]) -> Result<Reply, Failu
     if behind.len() - claim.len() > MAX_WHITE {
         return Err(Failure::Read);
     }
+    texts_judged();
     let mut source = TextSource::new(problem.size(), claim);
     match check(alloc, problem, &mut source) {
         Ok(winner) => said(alloc, Status::Answered, wins_text(winner)),
@@ -92,7 +102,8 @@ fn rejected(alloc: Global, size: Size, reject: &Reject) -> Result<Reply, Failure
 
 /// The text from its first byte on that is no white space.
 fn skip_white(text: &[u8]) -> &[u8]
-    ensures { result.now ≡ skip_white text.now }
+    ensures value { result.now ≡ skip_white text.now }
+    ensures shorter { length result.now ≤ length text.now }
 {
     for start in 0..text.len() {
         if !is_white(text[start]) {

@@ -1,0 +1,78 @@
+-- What is written, and what a run has then left.
+use Rattle.std.proofs.Common.{◌≡◌, ℕ, List, [], ◌++◌, Option, Some, None, Result, Ok, Err, inl, inr, refl, sym, ◌∙◌, ap, ap₂, subst, ◌⊎◌}
+use Rattle.std.specs.Prelude.{IfOk}
+use Rattle.std.specs.Io.KnownBytes.{Appends, Consumes, IsAtEnd}
+use Rattle.std.proofs.lemmas.List.{append-nil}
+use Rattle.cert_check.specs.Body.{Why}
+use Rattle.cert_check.specs.Stage.{why_value}
+use Rattle.cert_check.specs.Verdict.{Verdict, rejected}
+use Rattle.cert_check.specs.declared.reject.Reject.{Reject}
+use Rattle.tsumego_problem.specs.Refusals.{Refuses}
+use Rattle.tsumego.specs.declared.command_line.Command.{Command}
+use Rattle.tsumego.specs.declared.command_line.Command.TheVariants.{Check, Within}
+use Rattle.tsumego.specs.declared.status.Status.{Status}
+use Rattle.tsumego.specs.declared.status.Status.TheVariants.{Refused, BadWords, Failed}
+use Rattle.tsumego.specs.Texts.{line, no_memory_text}
+use Rattle.tsumego.specs.Answers.{Says, SaysFailure, check_answer}
+use Rattle.tsumego.specs.Outcome.{Outcome, Tells, Ran}
+use Rattle.tsumego.specs.Replies.{Writes, IsRejectionOf}
+
+-- the bytes that a reader tells, where it tells them
+pub some_bytes : (told : Option (List ℕ)) → (bytes : List ℕ) × Tells told bytes
+some_bytes None = ([], tt)
+some_bytes (Some bytes) = (bytes, refl)
+
+-- all of them, where it has come to its end
+pub all_told : (old new : Option (List ℕ)) (bytes : List ℕ) → Consumes old new bytes → IsAtEnd new → Tells old bytes
+all_told None new bytes c end = tt
+all_told (Some told) None bytes c end = absurd c
+all_told (Some told) (Some left) bytes c end = sym (c ∙ ap (λ xs. bytes ++ xs) end ∙ append-nil bytes)
+
+module _ (old new : Option (List ℕ)) (text : List ℕ) where
+  pub ran_said : (command : Command) (told : Option (List ℕ)) (bytes : List ℕ) (status result : Status) → Tells told bytes → Says command bytes status text → Writes old new text status result → Ran (Some command) told result old new
+  ran_said command told bytes status result tells says (inl (same, taken)) = (bytes, text, tells, taken, inl (subst (λ s. Says command bytes s text) (sym same) says))
+  ran_said command told bytes status result tells says (inr (failed, (part, rest, whole, taken))) =
+      (bytes, part, tells, taken, inr (failed, inr (rest, inl (status, subst (Says command bytes status) whole says))))
+
+  pub ran_failed : (command : Command) (told : Option (List ℕ)) (result : Status) → SaysFailure text → Writes old new text Failed result → Ran (Some command) told result old new
+  ran_failed command told result says (inl (same, taken)) = let b = some_bytes told in (b.0, text, b.1, taken, inr (same, inl says))
+  ran_failed command told result says (inr (failed, (part, rest, whole, taken))) =
+      let b = some_bytes told in (b.0, part, b.1, taken, inr (failed, inr (rest, inr (subst SaysFailure whole says))))
+
+  pub ran_no_words : (told : Option (List ℕ)) (command : Option Command) (result : Status) → command ≡ None → Writes old new text BadWords result → Ran command told result old new
+  ran_no_words told command result none writes = subst (λ o. Ran o told result old new) (sym none) (go writes)
+    where
+      go : Writes old new text BadWords result → Ran None told result old new
+      go (inl (same, taken)) = let b = some_bytes told in (b.0, text, b.1, taken, inl same)
+      go (inr (failed, (part, rest, whole, taken))) = let b = some_bytes told in (b.0, part, b.1, taken, inr failed)
+
+  pub ran_no_memory : (told : Option (List ℕ)) (command : Option Command) (result : Status) → text ≡ no_memory_text → Writes old new text Failed result → Ran command told result old new
+  ran_no_memory told (Some command) result is writes = ran_failed command told result (inl is) writes
+  ran_no_memory told None result is (inl (same, taken)) = let b = some_bytes told in (b.0, text, b.1, taken, inr same)
+  ran_no_memory told None result is (inr (failed, (part, rest, whole, taken))) = let b = some_bytes told in (b.0, part, b.1, taken, inr failed)
+
+-- what a call that makes a text gives
+pub said_so : {S E : Type 0} (f : S → List ℕ) (r : Result S E) (a b : List ℕ) → IfOk r (λ s. f s ≡ a) → a ≡ b → IfOk r (λ s. f s ≡ b)
+said_so f (Ok s) a b is same = is ∙ same
+said_so f (Err e) a b is same = tt
+
+pub said_for : {S E W : Type 0} (f : S → List ℕ) (P : W → Type 0) (b : W → List ℕ) (r : Result S E) (a : List ℕ) → IfOk r (λ s. f s ≡ a) → ((w : W) → P w → a ≡ b w) → IfOk r (λ s. (w : W) → P w → f s ≡ b w)
+said_for f P b (Ok s) a is same = λ w p. is ∙ same w p
+said_for f P b (Err e) a is same = tt
+
+-- the answer to a claim that is rejected
+pub judged_rejected : {S E : Type 0} (status : S → Status) (text : S → List ℕ) (n : ℕ) (v : Verdict) (e : Reject) (r : Result S E) → IfOk r (λ x. IsRejectionOf n e (status x) (text x))
+    → ((why : Why) → why_value n e.why ≡ Some why → v ≡ rejected e.place why) → IfOk r (λ x. (status x, text x) ≡ check_answer n v)
+judged_rejected status text n v e (Ok x) (why, given, s, t) is = ap₂ (λ a b. (a, b)) s t ∙ sym (ap (check_answer n) (is why given))
+judged_rejected status text n v e (Err f) said is = tt
+
+-- a refusal is said whatever the command
+pub refused_says : (command : Command) (bytes text : List ℕ) → (refusal : List ℕ) × Refuses bytes refusal × (text ≡ line refusal) → Says command bytes Refused text
+refused_says Check bytes text (refusal, refuses, is) = inl (refusal, refuses, refl, is)
+refused_says (Within turns nodes) bytes text (refusal, refuses, is) = inl (refusal, refuses, refl, is)
+
+-- what is answered for all that was read is answered for what the reader told
+pub whole_said : {S E : Type 0} (status : S → Status) (text : S → List ℕ) (command : Command) (told : Option (List ℕ)) (held bytes : List ℕ) (r : Result S E)
+    → IfOk r (λ x. Says command held (status x) (text x)) → held ≡ bytes → Tells told bytes → IfOk r (λ x. (b : List ℕ) × Tells told b × Says command b (status x) (text x))
+whole_said status text command told held bytes (Ok x) says same tells = (bytes, tells, subst (λ b. Says command b (status x) (text x)) same says)
+whole_said status text command told held bytes (Err f) says same tells = tt

@@ -1,0 +1,18 @@
+use Rattle.std.proofs.Common.{◌≡◌, ◌∙◌, ap, sym, subst, refl, map}
+use Rattle.std.specs.Prelude.{string_bytes}
+use Rattle.tsumego.specs.declared.status.Status.TheVariants.{BadWords}
+use Rattle.tsumego.specs.CommandLine.{command_of, IsWordsFault}
+use Rattle.tsumego.specs.Replies.{Writes}
+use Rattle.tsumego.specs.Texts.{no_memory_text}
+use Rattle.tsumego.proofs.Running.{ran_no_words, ran_no_memory}
+use Rattle.tsumego.proofs.run.run.Goals as goal
+
+pub returns-in-Err-Words : goal.returns-in-Err-Words
+returns-in-Err-Words g c =
+    ran_no_words (g.W.Write.contents c.args.writer.now) (g.W.Write.contents c.answer.new.writer) c.as_bytes.result.now (g.R.Read.remaining c.args.reader.now) (command_of (map g.S.AsStr.text c.args.words.now)) c.answer.result
+      (c.in-Err-Words.ensures.err (subst IsWordsFault (sym c.in-Err-Words.field-0-is) tt)) c.answer.ensures
+
+pub returns-in-Err-Memory : goal.returns-in-Err-Memory
+returns-in-Err-Memory g c =
+    ran_no_memory (g.W.Write.contents c.args.writer.now) (g.W.Write.contents c.answer-in-Err-Memory.new.writer) no_memory_text (g.R.Read.remaining c.args.reader.now) (command_of (map g.S.AsStr.text c.args.words.now)) c.answer-in-Err-Memory.result
+      refl c.answer-in-Err-Memory.ensures

@@ -31,7 +31,7 @@ pub rejected_phrase : (n place : ℕ) (why : Why) (said : List ℕ) → said ≡
 rejected_phrase n place why said e =
     ap (λ t. codes "rejected line " ++ (decimal place ++ (codes ": " ++ (t ++ 10 ∷ [])))) e
     ∙ ap (λ t. codes "rejected line " ++ t) (sym (append_assoc (decimal place) (codes ": " ++ claim_fault_text n why) (10 ∷ []))
-      ∙ ap (λ t. t ++ 10 ∷ []) (sym (append_assoc (decimal place) (codes ": ") (claim_fault_text n why))))
+    ∙ ap (λ t. t ++ 10 ∷ []) (sym (append_assoc (decimal place) (codes ": ") (claim_fault_text n why))))
 
 -- what is no want of memory and no failed read is a fault of the claim
 pub why_given : (n : ℕ) (w : stop.Why) → w ≢ stops.Memory → w ≢ stops.Read → (why : Why) × (why_value n w ≡ Some why)

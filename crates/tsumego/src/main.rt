@@ -1,16 +1,24 @@
 //! tsumego: judges claims about problems of Go.
 #![tactic(auto)]
 
+#[cfg(test)]
+mod check_tests;
 mod command_line;
 #[cfg(test)]
 mod command_line_tests;
 mod input;
 pub mod laws;
 mod record;
+#[cfg(test)]
+mod record_tests;
 mod reply;
 mod run;
 mod status;
+#[cfg(test)]
+mod tests;
 mod texts;
+#[cfg(test)]
+mod within_tests;
 
 use run::run;
 use status::Status;

@@ -77,19 +77,37 @@ pub fn problem_refusal(alloc: Global, fault: ProblemFault) -> Result<String, All
             let name = property_name(property);
             format!(in alloc; "refused: problem 4 many values of {name} at node {node}\n")
         }
-        ProblemFault::BadPoint { node } => format!(in alloc; "refused: problem 5 bad point at node {node}\n"),
-        ProblemFault::SharedPoint { node } => format!(in alloc; "refused: problem 6 shared point at node {node}\n"),
-        ProblemFault::MixedNode { node } => format!(in alloc; "refused: problem 7 mixed at node {node}\n"),
-        ProblemFault::BothColours { node } => format!(in alloc; "refused: problem 8 both colours at node {node}\n"),
+        ProblemFault::BadPoint { node } => format!(in alloc;
+            "refused: problem 5 bad point at node {node}\n"
+        ),
+        ProblemFault::SharedPoint { node } => format!(in alloc;
+            "refused: problem 6 shared point at node {node}\n"
+        ),
+        ProblemFault::MixedNode { node } => format!(in alloc;
+            "refused: problem 7 mixed at node {node}\n"
+        ),
+        ProblemFault::BothColours { node } => format!(in alloc;
+            "refused: problem 8 both colours at node {node}\n"
+        ),
         ProblemFault::IllegalTurn { node, cause } => {
             let cause = cause_text(alloc, cause)?;
             format!(in alloc; "refused: problem 9 illegal turn at node {node}{cause}\n")
         }
-        ProblemFault::NoLiberty { node } => format!(in alloc; "refused: problem 10 no liberty at node {node}\n"),
-        ProblemFault::BadTargets { node } => format!(in alloc; "refused: problem 11 bad targets at node {node}\n"),
-        ProblemFault::Ended { node } => format!(in alloc; "refused: problem 12 ended at node {node}\n"),
-        ProblemFault::BadColour { node } => format!(in alloc; "refused: problem 13 bad colour at node {node}\n"),
-        ProblemFault::LongHistory { node } => format!(in alloc; "refused: problem 14 long history at node {node}\n"),
+        ProblemFault::NoLiberty { node } => format!(in alloc;
+            "refused: problem 10 no liberty at node {node}\n"
+        ),
+        ProblemFault::BadTargets { node } => format!(in alloc;
+            "refused: problem 11 bad targets at node {node}\n"
+        ),
+        ProblemFault::Ended { node } => format!(in alloc;
+            "refused: problem 12 ended at node {node}\n"
+        ),
+        ProblemFault::BadColour { node } => format!(in alloc;
+            "refused: problem 13 bad colour at node {node}\n"
+        ),
+        ProblemFault::LongHistory { node } => format!(in alloc;
+            "refused: problem 14 long history at node {node}\n"
+        ),
         ProblemFault::Memory => format!(in alloc; "failed: memory\n"),
     }
 }

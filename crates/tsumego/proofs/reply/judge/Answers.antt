@@ -14,5 +14,5 @@ returns-in-Err c =
     let given = subst (λ m. IfOk c.rejected.result (λ r. IsRejectionOf m c.in-Err.reject r.status (string_bytes r.text))) c.size-in-Err.ensures c.rejected.ensures in
     let is : c.new-source.result ≡ source_of n claim = c.new-source.ensures ∙ ap (λ m. source_of m claim) c.size.ensures in
     judged_rejected (λ r. r.status) (λ r. string_bytes r.text) n (claim_verdict q (skip_white c.args.behind.now)) c.in-Err.reject c.rejected.result given
-      (λ why w. ap (claim_verdict q) (sym c.skip_white-claim.ensures.value) ∙ c.texts_judged.ensures.rejected q claim c.in-Err.reject.place why
-        (subst (λ s. RejectsAt text_gives s.size q s c.in-Err.reject.place why) is (c.in-Err.ensures.err (ap fault_left is) why w)))
+    (λ why w. ap (claim_verdict q) (sym c.skip_white-claim.ensures.value) ∙ c.texts_judged.ensures.rejected q claim c.in-Err.reject.place why
+    (subst (λ s. RejectsAt text_gives s.size q s c.in-Err.reject.place why) is (c.in-Err.ensures.err (ap fault_left is) why w)))

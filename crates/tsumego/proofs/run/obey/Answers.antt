@@ -12,7 +12,7 @@ returns-in-Ok g c =
     let old = g.W.Write.contents c.args.writer.now in let new = g.W.Write.contents c.answer.new.writer in
     let said = c.in-Ok.ensures in
     ran_said old new (string_bytes c.in-Ok.field-0.text) c.args.command (g.R.Read.remaining c.args.reader.now) said.0 c.in-Ok.field-0.status c.answer.result said.1 said.2
-      (subst (λ t. Writes old new t c.in-Ok.field-0.status c.answer.result) c.as_bytes.ensures.value c.answer.ensures)
+    (subst (λ t. Writes old new t c.in-Ok.field-0.status c.answer.result) c.as_bytes.ensures.value c.answer.ensures)
 
 pub returns-in-Err-Memory : goal.returns-in-Err-Memory
 returns-in-Err-Memory g c =

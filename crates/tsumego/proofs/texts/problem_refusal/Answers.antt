@@ -9,6 +9,6 @@ use Rattle.tsumego.proofs.texts.problem_refusal.Goals as goal
 pub returns-in_ok-cause-in-IllegalTurn : goal.returns-in_ok-cause-in-IllegalTurn
 returns-in_ok-cause-in-IllegalTurn c =
     said_so string_bytes c.format-in-IllegalTurn.result
-      (codes "refused: problem 9 illegal turn at node " ++ (decimal c.in-IllegalTurn.node ++ (string_bytes c.in_ok-cause-in-IllegalTurn.cause ++ 10 ∷ []))) (line (problem_refusal c.args.fault))
-      c.format-in-IllegalTurn.ensures.ok
-      (illegal_phrase c.in-IllegalTurn.node c.in-IllegalTurn.cause (string_bytes c.in_ok-cause-in-IllegalTurn.cause) c.in_ok-cause-in-IllegalTurn.ensures ∙ ap (λ f. line (problem_refusal f)) (sym c.in-IllegalTurn.is))
+    (codes "refused: problem 9 illegal turn at node " ++ (decimal c.in-IllegalTurn.node ++ (string_bytes c.in_ok-cause-in-IllegalTurn.cause ++ 10 ∷ []))) (line (problem_refusal c.args.fault))
+    c.format-in-IllegalTurn.ensures.ok
+    (illegal_phrase c.in-IllegalTurn.node c.in-IllegalTurn.cause (string_bytes c.in_ok-cause-in-IllegalTurn.cause) c.in_ok-cause-in-IllegalTurn.ensures ∙ ap (λ f. line (problem_refusal f)) (sym c.in-IllegalTurn.is))

@@ -42,7 +42,7 @@ const CAPTURE_CLAIM: &str = "tsucert 1 3 B\nmain\nplay ba\nwon\nend\n";
 fn each_cut_of_a_claim_is_malformed(rt: HostRuntime) {
     let alloc = rt.alloc();
     let claim = CAPTURE_CLAIM.as_bytes();
-    let mut line = 1;
+    let mut line: u32 = 1;
     for cut in 0..claim.len() {
         let mut input = Vec::new(alloc);
         input
@@ -58,7 +58,7 @@ fn each_cut_of_a_claim_is_malformed(rt: HostRuntime) {
         );
         assert_eq!(rt; writer.as_slice(), wanted.as_bytes());
         if claim[cut] == b'\n' {
-            line += 1;
+            line = line.saturating_add(1);
         }
     }
 }

@@ -23,8 +23,9 @@ pub enum Within {
 /// Who can force a win within so many turns: `Limit` exactly where the tree of all legal play of at most so many turns
 /// has more states than `nodes`, the start included; else the side that can; else `Neither`.
 ///
-/// Every state of the tree is visited, up to the first past the limit; memory is that of one path. An error says that
-/// memory was refused, and nothing of the problem.
+/// Winning, turns and states are those of the target game, which is this project's own. Every state of the tree is
+/// visited, up to the first past the limit; memory is that of one path. An error says that memory was refused, and
+/// nothing of the problem.
 pub fn decide_within(
     alloc: Global,
     problem: &Problem,

@@ -1,5 +1,5 @@
 -- The command that the words give, by what a parse of them found.
-use Rattle.std.proofs.Common.{◌≡◌, ℕ, ◌^◌, ◌<◌, ◌≤◌, Bool, true, false, cond, nat_le, leb-true, le-leb, List, [], ◌∷◌, Option, Some, None, option_and_then, Result, Ok, Err, inl, inr, refl, sym, ◌∙◌, ap, subst, arith}
+use Rattle.std.proofs.Common.{◌≡◌, ℕ, ◌^◌, ◌<◌, ◌≤◌, Bool, true, false, cond, nat_le, leb-true, le-leb, List, [], ◌∷◌, Option, Some, None, is_some, option_and_then, Result, Ok, Err, inl, inr, refl, sym, ◌∙◌, ap, subst, arith}
 use Rattle.std.specs.Str.Parse.{IsNumeral, ParsesUnsigned, digits_value, without_leading_plus}
 use Rattle.clap.specs.Words.{App, HasKind, HasMatchesOf, Text, ReadsOne, fault_of, is_simple, is_simple_and_free, kind_of, subcommand_of, subcommand_rows_of}
 use Rattle.clap.specs.ValueTests.{is_unsigned_in}
@@ -9,7 +9,8 @@ use Rattle.clap.specs.declared.error.Error.{Error}
 use Rattle.clap.specs.declared.error.kind.ErrorKind.TheVariants.{OutOfMemory}
 use Rattle.clap.specs.declared.parser.matches.ArgMatches.{ArgMatches}
 use Rattle.clap.proofs.ValueTestLemmas.{accepts-Accepts, Accepts-accepts}
-use Rattle.tsumego.specs.CommandLine.{command_named, command_of, grammar, number_in, unless_faulty}
+use Rattle.tsumego.specs.CommandLine.{HasFault, command_named, command_of, grammar, number_in, unless_faulty}
+use Rattle.tsumego.proofs.SubcommandNames.{parse_gives}
 
 -- a number that was read, where it is at most so much
 abbrev pub up_to : ℕ → Option ℕ → Option ℕ
@@ -79,3 +80,14 @@ command_faulty a ws e is faults whole =
     some : (k : Kinds) → IsAmong (kind_of e) k → unless_faulty k (option_and_then (λ p. command_named p.0 p.1) (subcommand_of grammar ws)) ≡ None
     some [] h = absurd h
     some (x ∷ xs) h = refl
+
+-- the words are at fault where they give no command, or an error that is not of the memory
+pub no_command_faulty : (ws : List Text) → command_of ws ≡ None → HasFault ws
+no_command_faulty ws is none = absurd (cc (parse_gives ws none, ap is_some is))
+
+pub error_faulty : (a : App) (ws : List Text) (e : Error) → a ≡ grammar → (is_simple_and_free a ≡ true → HasKind (fault_of a ws) e) → (kind_of e ≡ OutOfMemory → ⊥) → HasFault ws
+error_faulty a ws e is faults whole none =
+    elim (subst (λ b. HasKind (fault_of b ws) e) is (faults (ap is_simple_and_free is))) [
+      | inl short ↦ absurd (whole short)
+      | inr among ↦ absurd (subst (IsAmong (kind_of e)) none among)
+    ]

@@ -5,3 +5,6 @@ pub mod Headline
 pub mod Recording
 pub mod Phrases
 pub mod Running
+pub mod SubcommandWalks
+pub mod SubcommandRows
+pub mod SubcommandNames

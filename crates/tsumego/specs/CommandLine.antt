@@ -1,5 +1,5 @@
 -- The command line: what the words ask for, by the grammar that `clap` is given.
-use Rattle.std.specs.Prelude.{◌≤◌, ℕ, true, false, List, [], ◌∷◌, codes, Option, Some, None, option_and_then, if◌then◌else◌}
+use Rattle.std.specs.Prelude.{◌≡◌, ◌≤◌, ℕ, true, false, List, [], ◌∷◌, codes, Option, Some, None, option_and_then, if◌then◌else◌}
 use Rattle.std.specs.Str.{bytes_eq}
 use Rattle.std.specs.Str.Parse.{digits_value, without_leading_plus}
 use Rattle.clap.specs.Words.{App, Kinds, Row, Rule, Shape, Text, fault_of, new_rule, one_of, subcommand_of}
@@ -69,6 +69,10 @@ unless_faulty (_ ∷ _) command = None
 -- The command that the words give, the first of which is the program's name: that of the subcommand which `clap` finds in them, where it finds no fault.
 unfoldable pub command_of : List Text → Option Command
 command_of words = unless_faulty (fault_of grammar words) (option_and_then (λ p. command_named p.0 p.1) (subcommand_of grammar words))
+
+-- `clap` finds a fault in the words, or a call for help.
+abbrev pub HasFault : List Text → Type 0
+HasFault words = fault_of grammar words ≡ [] → ⊥
 
 -- The numbers of a command are within their ranges.
 abbrev pub FitsRanges : Command → Type 0

@@ -6,7 +6,7 @@
 ghost use Rattle.std.specs.Prelude.{◌≡◌, ◌≤◌, false, Some, None, codes, IfOk, IfErr, IfSome, option_and_then, map};
 ghost use Rattle.clap.specs.Words.{app_of, found_of, kind_of, new_app, one_of, rows_of, rule_of, subcommand_rows_of, with_rule};
 ghost use Rattle.clap.specs.declared.builder.command.Command.TheViews.{out-Command as fields_of};
-ghost use Rattle.tsumego.specs.CommandLine.{FitsRanges, IsWordsFault, command_named, command_of, grammar, most_nodes, most_turns, nodes_rule, number_of, turns_rule};
+ghost use Rattle.tsumego.specs.CommandLine.{FitsRanges, HasFault, IsWordsFault, command_named, command_of, grammar, most_nodes, most_turns, nodes_rule, number_of, turns_rule};
 
 use clap::builder::ValueParser;
 use clap::error::ErrorKind;
@@ -37,11 +37,13 @@ pub enum NoCommand {
     Memory,
 }
 
-/// The command that the words give, the first of which is the program's name.
+/// The command that the words give, the first of which is the program's name: just where `clap` finds no fault in
+/// them, want of memory aside.
 pub fn read_command<'a, S: AsStr>(alloc: Global, words: &'a [S]) -> Result<Command, NoCommand>
     ensures ok { IfOk result (λ c. command_of (map S.text words.now) ≡ Some c) }
     ensures ranges { IfOk result FitsRanges }
-    ensures err { IfErr result (λ e. IsWordsFault e → command_of (map S.text words.now) ≡ None) }
+    ensures refused { IfErr result (λ e. IsWordsFault e → command_of (map S.text words.now) ≡ None) }
+    ensures fault { IfErr result (λ e. IsWordsFault e → HasFault (map S.text words.now)) }
 {
     let Ok(command) = program(alloc) else {
         return Err(NoCommand::Memory);
@@ -49,6 +51,7 @@ pub fn read_command<'a, S: AsStr>(alloc: Global, words: &'a [S]) -> Result<Comma
     match command.try_get_matches_from(words) {
         Ok(matches) => match chosen(&matches) {
             Some(command) => Ok(command),
+            // No parse without a fault comes here, as is proved of the grammar.
             None => Err(NoCommand::Words(String::new(alloc))),
         },
         Err(error) => Err(fault(alloc, &error)),

@@ -1,0 +1,80 @@
+//! Measures the exact decision within a number of turns against making and taking back the same turns.
+#![tactic(auto)]
+
+mod samples;
+mod speed;
+mod tape;
+mod timing;
+
+use samples::{Sample, samples};
+use speed::{per_second, tenths};
+use std::convert::AsStr;
+use std::rt::Clock;
+use std::{env, io};
+use tape::{Step, record, states_of};
+use target_game::{Problem, Within, decide_within};
+use timing::{time_deciding, time_replaying};
+
+/// How many turns are looked ahead where nothing is measured.
+const FEW_TURNS: u32 = 2;
+
+fn main(rt: HostRuntime) -> io::Result<()> {
+    let words = env::args(&rt)?.collect::<Vec<String>>(rt.alloc())?;
+    let is_measuring = words.len() == 2 && words[1].as_str() == "measure";
+    for sample in samples() {
+        let problem = sample.problem(rt.alloc())?;
+        if is_measuring {
+            measure(&rt, &sample, &problem)?;
+        } else {
+            try_once(&rt, &sample, &problem)?;
+        }
+    }
+    Ok(())
+}
+
+/// Says what is decided within few turns, and by how many states.
+fn try_once<R: Print + AllocGlobal>(rt: &R, sample: &Sample, problem: &Problem) -> io::Result<()> {
+    let tape = record(rt.alloc(), problem, FEW_TURNS)?;
+    let states = states_of(tape.as_slice());
+    let decision = decision_text(decide_within(rt.alloc(), problem, FEW_TURNS, states)?);
+    let short = decision_text(decide_within(
+        rt.alloc(),
+        problem,
+        FEW_TURNS,
+        states.saturating_sub(1),
+    )?);
+    let rows = sample.rows;
+    println!(rt;
+        "{rows} by {rows}: within {FEW_TURNS} turns {decision}, {states} states, with one fewer {short}"
+    )
+}
+
+fn decision_text(decision: Within) -> &'static str {
+    match decision {
+        Within::Wins(_) => "a win",
+        Within::Neither => "neither",
+        Within::Limit => "limit",
+    }
+}
+
+/// Prints how many states a second are decided, and how many turns a second are made and taken back.
+fn measure<R: Print + Clock + AllocGlobal>(
+    rt: &R,
+    sample: &Sample,
+    problem: &Problem,
+) -> io::Result<()> {
+    let tape: Vec<Step> = record(rt.alloc(), problem, sample.turns)?;
+    let states = states_of(tape.as_slice());
+    let deciding = time_deciding(rt, problem, sample.turns)?;
+    let replaying = time_replaying(rt, problem, tape.as_slice())?;
+    let rows = sample.rows;
+    let turns = sample.turns;
+    let decided = per_second(states, deciding);
+    let replayed = per_second(states, replaying);
+    let ratio = tenths(deciding, replaying);
+    let whole = ratio / 10;
+    let part = ratio % 10;
+    println!(rt;
+        "{rows} by {rows}, {turns} turns, {states} states: decided {decided} a second, replayed {replayed} a second, {whole}.{part} times as long"
+    )
+}

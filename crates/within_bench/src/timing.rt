@@ -1,0 +1,55 @@
+//! How long deciding and replaying take.
+
+ghost use Rattle.std.specs.Prelude.{◌≤◌};
+
+use crate::tape::Step;
+use go_turns::{PlayBoard, PlaySeen, Record};
+use std::io;
+use std::io::ErrorKind;
+use std::rt::Clock;
+use std::time::{Duration, Instant};
+use target_game::{Problem, decide_within};
+
+/// How long it takes to decide who wins within so many turns.
+pub fn time_deciding<R: Clock + AllocGlobal>(
+    rt: &R,
+    problem: &Problem,
+    turns: u32,
+) -> io::Result<Duration>
+    requires { turns ≤ 200 }
+{
+    let start = Instant::now(rt)?;
+    let _decision = decide_within(rt.alloc(), problem, turns, u64::MAX)?;
+    start.elapsed(rt)
+}
+
+/// How long it takes to make the turns of the tape, and to take them back, on a record that asks nothing of the game.
+pub fn time_replaying<R: Clock + AllocGlobal>(
+    rt: &R,
+    problem: &Problem,
+    tape: &[Step],
+) -> io::Result<Duration> {
+    let Ok(mut record) = Record::new(rt.alloc(), problem.colouring()) else {
+        return Err(io::Error::from(ErrorKind::OutOfMemory));
+    };
+    let start = Instant::now(rt)?;
+    if !replay(&mut record, tape) {
+        return Err(io::Error::from(ErrorKind::InvalidData));
+    }
+    start.elapsed(rt)
+}
+
+/// Makes the turns of the tape and takes them back; whether each was made.
+fn replay(record: &mut Record<PlayBoard, PlaySeen>, tape: &[Step]) -> bool {
+    for step in tape {
+        let done = if step.is_made {
+            record.play(step.colour, step.turn).is_ok()
+        } else {
+            record.undo().is_ok()
+        };
+        if !done {
+            return false;
+        }
+    }
+    true
+}

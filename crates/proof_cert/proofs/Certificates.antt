@@ -1,6 +1,8 @@
 -- The equations of what a certificate says.
-use Rattle.std.proofs.Common.{◌≡◌, ℕ, ◌+◌, ◌<◌, ◌≤◌, map, length, drop, get_or, List, [], ◌∷◌, Vec, Box, Global, sym, ap, ◌∙◌, refl, arith}
+use Rattle.std.proofs.Common.{◌≡◌, ℕ, ◌+◌, ◌<◌, ◌≤◌, map, length, drop, get_or, List, [], ◌∷◌, ◌++◌, Bool, ◌&&◌, Vec, Box, Global, sym, ap, ◌∙◌, refl, arith}
 use Rattle.std.proofs.lemmas.List.{at_drop_more, at_drop_all}
+use Rattle.std.specs.List.{list_all}
+use Rattle.std.proofs.lemmas.List.Folds.{list_all-append}
 use Rattle.go_points.specs.declared.Turn.{Turn}
 use Rattle.go_points.specs.Ply.{ply_of}
 use Rattle.proof_cert.specs.Claim.{won, by_lemma, play, all, branch, no_branch, branch_turns}
@@ -37,3 +39,6 @@ replies_done n rs i past = at_drop_all (replies_of n) rs i past
 pub replies_counted : (n : ℕ) (rs : List (Turn × Node)) → length (branch_turns (replies_of n rs)) ≡ length rs
 replies_counted n [] = refl
 replies_counted n (r ∷ rs) = omega (arith, replies_counted n rs)
+
+pub list_all_joined : {A : Type 0} (f : A → Bool) (xs ys : List A) → list_all f (xs ++ ys) ≡ (list_all f xs && list_all f ys)
+list_all_joined f xs ys = list_all-append f xs ys

@@ -88,3 +88,49 @@ fn are_spelled_replies(size: Size, replies: &[(Turn, Node)]) -> bool
     }
     true
 }
+
+/// Whether the lines of the listed colourings have a spelling.
+fn are_spelled_colourings(size: Size, listed: &[Colouring]) -> bool
+    ensures { result ≡ list_all (is_spelled size) (map (λ c. Some (not_line c)) listed.now) }
+{
+    for colouring in listed {
+        if !is_of_size(size, colouring) {
+            return false;
+        }
+    }
+    true
+}
+
+/// Whether the lines of the lemma have a spelling.
+#[tactic(auto, using(crate::proofs::Certificates::list_all_joined))]
+fn is_spelled_lemma(size: Size, lemma: &Lemma) -> bool
+    ensures { result ≡ list_all (is_spelled size) (lemma_lines 1 (lemma_of size lemma.now)) }
+{
+    lemma.passes <= 1
+        && is_of_size(size, &lemma.root)
+        && are_spelled_colourings(size, lemma.absent.as_slice())
+        && is_spelled_node(size, &lemma.body)
+}
+
+/// Whether the lines of the lemmas have a spelling.
+fn are_spelled_lemmas(size: Size, lemmas: &[Lemma]) -> bool
+    ensures { result ≡ list_all (is_spelled size) (lemmas_lines 1 (map (lemma_of size) lemmas.now)) }
+{
+    for lemma in lemmas {
+        if !is_spelled_lemma(size, lemma) {
+            return false;
+        }
+    }
+    true
+}
+
+/// Whether the claim has a spelling.
+#[tactic(auto, using(crate::proofs::Certificates::list_all_joined))]
+pub(crate) fn is_spelled_claim(certificate: &Certificate) -> bool
+    ensures { result ≡ list_all (is_spelled certificate.now.size) (lines_of (claim_of certificate.now)) }
+{
+    let rows = certificate.size.rows() as usize;
+    is_spelled_number(rows)
+        && are_spelled_lemmas(certificate.size, certificate.lemmas.as_slice())
+        && is_spelled_node(certificate.size, &certificate.main)
+}

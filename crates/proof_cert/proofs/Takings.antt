@@ -64,6 +64,32 @@ module _ {E : Type 0} (r : Result (Unit {0}) E) (a b c : Option (List ℕ)) (h m
     Appends-trans a b c p.0 w.0 p.2 w.3,
   )) q
 
+-- ---- what is held is written, and then a text
+
+pub front_cut : (a b : Option (List ℕ)) (h s t : List ℕ) → s ≡ h → TakesPart a b s → TakesPart a b (h ++ t)
+front_cut a b h s t e q = (q.0, q.1 ++ t, ap (λ x. x ++ t) (sym e ∙ q.2) ∙ append_assoc q.0 q.1 t, q.3)
+
+-- ---- a text of two parts
+
+pub first_cut : {T E : Type 0} (r : Result T E) (a c : Option (List ℕ)) (h whole t u : List ℕ) → whole ≡ t ++ u → TakesPart a c (h ++ t) → OnErr r (TakesPart a c (h ++ whole))
+first_cut r a c h whole t u is q = on_err r _ (subst (λ x. TakesPart a c (h ++ x)) (sym is) (more_cut a c h t u q))
+
+module _ (a b c : Option (List ℕ)) (h m n whole t u : List ℕ) (is : whole ≡ t ++ u) where
+  pub both_put : {E : Type 0} (r : Result (Unit {0}) E) → Puts a b h m t → OnOk r (Puts b c m n u) → OnOk r (Puts a c h n whole)
+  both_put r p q = on_ok_map r _ _ (λ w. subst (Puts a c h n) (sym is) (puts_then a b c h m n t u p w)) q
+
+  pub second_cut : {E : Type 0} (r : Result (Unit {0}) E) → Puts a b h m t → OnErr r (TakesPart b c (m ++ u)) → OnErr r (TakesPart a c (h ++ whole))
+  second_cut r p q = on_err_map r _ _ (λ w. subst (λ x. TakesPart a c (h ++ x)) (sym is) (puts_cut a b c h m n t u p w)) q
+
+-- ---- a text under another name
+
+module _ {E : Type 0} (r : Result (Unit {0}) E) (a c : Option (List ℕ)) (h n whole t : List ℕ) (is : whole ≡ t) where
+  pub same_put : OnOk r (Puts a c h n t) → OnOk r (Puts a c h n whole)
+  same_put q = subst (λ x. OnOk r (Puts a c h n x)) (sym is) q
+
+  pub same_cut : OnErr r (TakesPart a c (h ++ t)) → OnErr r (TakesPart a c (h ++ whole))
+  same_cut q = subst (λ x. OnErr r (TakesPart a c (h ++ x))) (sym is) q
+
 -- ---- a text of parts, of which some are put and some are left
 
 abbrev pub SoFar : Option (List ℕ) → Option (List ℕ) → List ℕ → List ℕ → List ℕ → List ℕ → Type 0
@@ -76,10 +102,25 @@ module _ (a b : Option (List ℕ)) (h m whole t left : List ℕ) (p : SoFar a b 
   pub part_put : (c : Option (List ℕ)) (n : List ℕ) → Puts b c m n t → SoFar a c h n whole left
   part_put c n q = (p.0 ++ t, puts_then a b c h m n p.0 t p.1 q, append_assoc p.0 t left ∙ p.2)
 
-  pub part_cut : (c : Option (List ℕ)) → TakesPart b c (m ++ t) → TakesPart a c (h ++ whole)
-  part_cut c q =
-      subst (λ x. TakesPart a c (h ++ x)) (append_assoc p.0 t left ∙ p.2)
-      (more_cut a c h (p.0 ++ t) left (puts_cut a b c h m m p.0 t p.1 q))
+  pub part_cut : {T E : Type 0} (r : Result T E) (c : Option (List ℕ)) → TakesPart b c (m ++ t) → OnErr r (TakesPart a c (h ++ whole))
+  part_cut r c q =
+      on_err r _ (subst (λ x. TakesPart a c (h ++ x)) (append_assoc p.0 t left ∙ p.2)
+          (more_cut a c h (p.0 ++ t) left (puts_cut a b c h m m p.0 t p.1 q)))
+
+-- the last part
+module _ {E : Type 0} (r : Result (Unit {0}) E) (a b c : Option (List ℕ)) (h m n whole t : List ℕ) (p : SoFar a b h m whole t) where
+  rest : whole ≡ p.0 ++ t
+  rest = sym p.2
+
+  pub last_put : OnOk r (Puts b c m n t) → OnOk r (Puts a c h n whole)
+  last_put q = both_put a b c h m n whole p.0 t rest r p.1 q
+
+  pub end_cut : OnErr r (TakesPart b c (m ++ t)) → OnErr r (TakesPart a c (h ++ whole))
+  end_cut q = second_cut a b c h m n whole p.0 t rest r p.1 q
+
+-- what is left, under another name
+pub renamed : (a b : Option (List ℕ)) (h m whole left t : List ℕ) → left ≡ t → SoFar a b h m whole left → SoFar a b h m whole t
+renamed a b h m whole left t is p = subst (SoFar a b h m whole) is p
 
 pub all_put : (a b : Option (List ℕ)) (h m whole : List ℕ) → SoFar a b h m whole [] → Puts a b h m whole
 all_put a b h m whole p = subst (Puts a b h m) (sym (append-nil p.0) ∙ p.2) p.1
@@ -91,3 +132,15 @@ held_more a b h m n t u p e = (p.0, sym (append_assoc h t u) ∙ ap (λ x. x ++ 
 -- all that was held is written
 pub held_written : (a b : Option (List ℕ)) (h s n : List ℕ) → s ≡ h → n ≡ [] → Appends a b s → Puts a b h n []
 held_written a b h s n same none p = (s, append-nil h ∙ sym same ∙ sym (append-nil s) ∙ ap (λ x. s ++ x) (sym none), p)
+
+-- ---- what is held at the end is written
+
+module _ {E : Type 0} (r : Result (Unit {0}) E) (a b c : Option (List ℕ)) (h m s t : List ℕ) (p : Puts a b h m t) (none : h ≡ []) (same : s ≡ m) where
+  whole_is : t ≡ p.0 ++ s
+  whole_is = ap (λ x. x ++ t) (sym none) ∙ p.1 ∙ ap (λ x. p.0 ++ x) (sym same)
+
+  pub last_written : OnOk r (Appends b c s) → OnOk r (Appends a c t)
+  last_written q = on_ok_map r _ _ (λ w. subst (Appends a c) (sym whole_is) (Appends-trans a b c p.0 s p.2 w)) q
+
+pub nothing_held : (a b : Option (List ℕ)) (h t : List ℕ) → h ≡ [] → TakesPart a b (h ++ t) → TakesPart a b t
+nothing_held a b h t none q = subst (λ x. TakesPart a b (x ++ t)) none q

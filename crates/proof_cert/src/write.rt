@@ -2,7 +2,7 @@
 //!
 //! Lines are gathered on the stack, so that a writer without a buffer of its own is called once for some thousand bytes.
 
-ghost use Rattle.std.specs.Prelude.{◌≡◌, ◌+◌, ◌≤◌, ◌++◌, [], OnOk, OnErr, length};
+ghost use Rattle.std.specs.Prelude.{◌≡◌, ◌+◌, ◌≤◌, ◌++◌, [], ℕ, List, OnOk, OnErr, length};
 ghost use Rattle.std.specs.Io.KnownBytes.{Appends};
 ghost use Rattle.arrayvec.specs.ArrayVec.{array_vec_len};
 ghost use Rattle.proof_cert.specs.Taken.{TakesPart, Puts};
@@ -30,8 +30,8 @@ pub(crate) struct WriteFault;
 /// How many bytes are gathered before they are written.
 pub(crate) const MOST_HELD: usize = 4096;
 
-/// The longest line, with its line feed.
-pub(crate) const LONGEST_LINE: usize = 372;
+/// Room for any line: the longest has 372 bytes, and a number is given room for all digits that it could have.
+pub(crate) const LINE_ROOM: usize = 400;
 
 /// Bytes that are still to be written.
 pub(crate) type Held = ArrayVec<u8, MOST_HELD>;
@@ -52,13 +52,13 @@ pub(crate) fn write_bytes<W: Write>(bytes: &[u8], writer: &mut W) -> Result<(), 
     Ok(())
 }
 
-/// Writes what is held, unless there is room for one more line.
+/// Writes what is held, unless there is room for one more line. After a failure the writer has taken a front of it, and so of whatever text it begins.
 pub(crate) fn make_room<W: Write>(held: &mut Held, writer: &mut W) -> Result<(), WriteFault>
-    ensures room { OnOk result (array_vec_len held.new + LONGEST_LINE ≤ MOST_HELD) }
+    ensures room { OnOk result (array_vec_len held.new + LINE_ROOM ≤ MOST_HELD) }
     ensures put { OnOk result (Puts (W.contents writer.old) (W.contents writer.new) held.old.items held.new.items []) }
-    ensures cut { OnErr result (TakesPart (W.contents writer.old) (W.contents writer.new) held.old.items) }
+    ensures cut { OnErr result ((text : List ℕ) → TakesPart (W.contents writer.old) (W.contents writer.new) (held.old.items ++ text)) }
 {
-    if held.len() > MOST_HELD - LONGEST_LINE {
+    if held.len() > MOST_HELD - LINE_ROOM {
         write_bytes(held.as_slice(), writer)?;
         held.clear();
     }

@@ -105,7 +105,7 @@ module _ (a b : Option (List ℕ)) (h m whole t left : List ℕ) (p : SoFar a b 
   pub part_cut : {T E : Type 0} (r : Result T E) (c : Option (List ℕ)) → TakesPart b c (m ++ t) → OnErr r (TakesPart a c (h ++ whole))
   part_cut r c q =
       on_err r _ (subst (λ x. TakesPart a c (h ++ x)) (append_assoc p.0 t left ∙ p.2)
-          (more_cut a c h (p.0 ++ t) left (puts_cut a b c h m m p.0 t p.1 q)))
+      (more_cut a c h (p.0 ++ t) left (puts_cut a b c h m m p.0 t p.1 q)))
 
 -- the last part
 module _ {E : Type 0} (r : Result (Unit {0}) E) (a b c : Option (List ℕ)) (h m n whole t : List ℕ) (p : SoFar a b h m whole t) where

@@ -4,12 +4,15 @@
 --     held_source_of z      before the first call
 --     held_gives s r t      a call at s, which has not failed, answers r and leaves t
 use Rattle.std.specs.Prelude.{◌≡◌, ℕ, ◌-◌, ◌^◌, List, [], ◌∷◌, ◌++◌, map, Option, Some, None, Result, Ok, Err, if◌then◌else◌, ⊤}
+use Rattle.go_points.specs.declared.Turn.{Turn}
+use Rattle.go_points.specs.Ply.{ply_of}
 use Rattle.proof_cert.specs.Claim.{Claim}
-use Rattle.proof_cert.specs.Lines.{Line, node_lines, branch_lines, lemmas_lines, lines_of, not_line, main_line, end_line}
+use Rattle.proof_cert.specs.Lines.{Line, node_lines, branch_lines, lemmas_lines, lines_of, not_line, main_line, reply_line, end_line}
 use Rattle.proof_cert.specs.Text.{is_spelled}
 use Rattle.proof_cert.specs.Certificate.{node_of, replies_of, lemma_of}
 use Rattle.proof_cert.specs.declared.source.SourceFault.{SourceFault}
 use Rattle.proof_cert.specs.declared.source.SourceFault.TheVariants.{Malformed, Memory, Read}
+use Rattle.proof_cert.specs.declared.certificate.Node.{Node}
 use Rattle.proof_cert.specs.declared.task.Task.{Task}
 use Rattle.proof_cert.specs.declared.task.Task.TheVariants.{Lemmas, Listed, Main, Tree, Replies, End}
 
@@ -36,6 +39,10 @@ held_answer s (Err Read) t = s.number ≡ 2 ^ 64 - 2
 
 abbrev pub held_gives : Held → Result (Option Line) SourceFault → Held → Type 0
 held_gives s r t = (s.fault ≡ None) × held_answer s r t
+
+-- the line of an answer to the other side's turn, and those of the tree below it
+abbrev pub reply_lines : ℕ → Turn × Node → List (Option Line)
+reply_lines n r = Some (reply_line (ply_of n r.0)) ∷ node_lines (node_of n r.1)
 
 -- the lines of what is still to be given; the last is given first
 abbrev pub task_lines : ℕ → Task → List (Option Line)

@@ -1,10 +1,10 @@
 //! What a certificate has still to give, line by line.
 
-ghost use Rattle.std.specs.Prelude.{◌≡◌, ◌∷◌, ◌++◌, [], IfOk, MatchOption, Some, map, option_map};
-ghost use Rattle.proof_cert.specs.Lines.{node_lines, branch_lines, lemmas_lines, not_line, end_line};
+ghost use Rattle.std.specs.Prelude.{◌≡◌, ◌∷◌, ◌++◌, [], IfOk, IfSome, IfNone, Some, map, option_map};
+ghost use Rattle.proof_cert.specs.Lines.{node_lines, lemma_lines};
 ghost use Rattle.proof_cert.specs.Stage.{line_value};
-ghost use Rattle.proof_cert.specs.Certificate.{node_of, replies_of, lemma_of};
-ghost use Rattle.proof_cert.specs.Held.{spelled_line, task_lines, lines_left};
+ghost use Rattle.proof_cert.specs.Certificate.{node_of, lemma_of};
+ghost use Rattle.proof_cert.specs.Held.{spelled_line, reply_lines, task_lines, lines_left};
 
 use crate::certificate::{Lemma, Node};
 use crate::line::Line;
@@ -58,5 +58,81 @@ fn open_node<'a>(
                 Ok(None)
             }
         }
+    }
+}
+
+/// The first line of the lemma; the rest becomes tasks.
+#[tactic(auto, using(crate::proofs::Tasks::left_pushed, crate::proofs::Tasks::lemma_left))]
+fn open_lemma<'a>(
+    size: Size,
+    lemma: &'a Lemma,
+    tasks: &mut Vec<Task<'a>>,
+) -> Result<Option<Line>, AllocError>
+    ensures { IfOk result (λ line. map (spelled_line size) (lemma_lines 1 (lemma_of size lemma.now) ++ lines_left size tasks.old.items) ≡ option_map (line_value size) line ∷ map (spelled_line size) (lines_left size tasks.new.items)) }
+{
+    tasks.push(Task::End)?;
+    tasks.push(Task::Tree(&lemma.body))?;
+    tasks.push(Task::Listed(lemma.absent.as_slice()))?;
+    Ok(if_spelled(
+        size,
+        Line::Lemma {
+            mover: lemma.mover,
+            passes: lemma.passes,
+            root: lemma.root,
+        },
+    ))
+}
+
+/// The line of the reply; the tree below it becomes a task.
+#[tactic(auto, using(crate::proofs::Tasks::left_pushed))]
+fn open_reply<'a>(
+    size: Size,
+    reply: &'a (Turn, Node),
+    tasks: &mut Vec<Task<'a>>,
+) -> Result<Option<Line>, AllocError>
+    ensures { IfOk result (λ line. map (spelled_line size) (reply_lines size reply.now ++ lines_left size tasks.old.items) ≡ option_map (line_value size) line ∷ map (spelled_line size) (lines_left size tasks.new.items)) }
+{
+    tasks.push(Task::Tree(&reply.1))?;
+    Ok(if_spelled(size, Line::Reply(reply.0)))
+}
+
+/// The first line of the task, if it has one; the rest becomes tasks.
+#[tactic(auto, using(crate::proofs::Tasks::left_pushed, crate::proofs::Tasks::lemmas_first, crate::proofs::Tasks::listed_first, crate::proofs::Tasks::reply_first, crate::proofs::Tasks::lemmas_none, crate::proofs::Tasks::listed_none, crate::proofs::Tasks::replies_none))]
+pub(crate) fn open<'a>(
+    size: Size,
+    task: Task<'a>,
+    tasks: &mut Vec<Task<'a>>,
+) -> Result<Option<Option<Line>>, AllocError>
+    ensures none { IfOk result (λ first. IfNone first ((task_lines size task.entry ≡ []) × (tasks.new.items ≡ tasks.old.items))) }
+    ensures first { IfOk result (λ first. IfSome first (λ line. map (spelled_line size) (task_lines size task.entry ++ lines_left size tasks.old.items) ≡ option_map (line_value size) line ∷ map (spelled_line size) (lines_left size tasks.new.items))) }
+{
+    match task {
+        Task::Lemmas(lemmas) => {
+            let Some((lemma, others)) = lemmas.split_first() else {
+                return Ok(None);
+            };
+            tasks.push(Task::Lemmas(others))?;
+            Ok(Some(open_lemma(size, lemma, tasks)?))
+        }
+        Task::Listed(listed) => {
+            let Some((colouring, others)) = listed.split_first() else {
+                return Ok(None);
+            };
+            tasks.push(Task::Listed(others))?;
+            Ok(Some(if_spelled(size, Line::Not(*colouring))))
+        }
+        Task::Main(tree) => {
+            tasks.push(Task::Tree(tree))?;
+            Ok(Some(Some(Line::Main)))
+        }
+        Task::Tree(tree) => Ok(Some(open_node(size, tree, tasks)?)),
+        Task::Replies(replies) => {
+            let Some((reply, others)) = replies.split_first() else {
+                return Ok(None);
+            };
+            tasks.push(Task::Replies(others))?;
+            Ok(Some(open_reply(size, reply, tasks)?))
+        }
+        Task::End => Ok(Some(Some(Line::End))),
     }
 }

@@ -88,7 +88,7 @@ put_replies-returns-in_err-put_turn-clause-cut g t c = λ spelled.
     let so_far = c.loop-turn.invariant spelled in
     let text = reply_text n rs i r (omega arith) c.loop-turn-item.is in
     part_cut _ _ c.args.held.now.items c.loop-turn.held.items (lines_text n (branch_lines (replies_of n rs))) (line_text n (Some (reply_line (ply_of n r.0)))) (lines_text n (node_lines (node_of n r.1)) ++ lines_text n (branch_lines (replies_of n (drop (i + 1) rs))))
-        (renamed _ _ c.args.held.now.items c.loop-turn.held.items (lines_text n (branch_lines (replies_of n rs))) _ _ text so_far.1) c.from_residual.result _ c.in_err-put_turn.ensures.cut
+    (renamed _ _ c.args.held.now.items c.loop-turn.held.items (lines_text n (branch_lines (replies_of n rs))) _ _ text so_far.1) c.from_residual.result _ c.in_err-put_turn.ensures.cut
 
 pub put_replies-returns-in_err-put_node-clause-cut : goal.put_replies-returns-in_err-put_node-clause-cut
 put_replies-returns-in_err-put_node-clause-cut g t c = λ spelled.
@@ -99,7 +99,7 @@ put_replies-returns-in_err-put_node-clause-cut g t c = λ spelled.
     let so_far = c.loop-turn.invariant spelled in
     let text = reply_text n rs i r (omega arith) c.loop-turn-item.is in
     let one = part_put _ _ c.args.held.now.items c.loop-turn.held.items (lines_text n (branch_lines (replies_of n rs))) (line_text n (Some (reply_line (ply_of n r.0)))) (lines_text n (node_lines (node_of n r.1)) ++ lines_text n (branch_lines (replies_of n (drop (i + 1) rs))))
-        (renamed _ _ c.args.held.now.items c.loop-turn.held.items (lines_text n (branch_lines (replies_of n rs))) _ _ text so_far.1) _ c.put_turn.new.held.items (c.in_ok-put_turn.ensures.put (reply_is_spelled n rs i r (omega arith) c.loop-turn-item.is so_far.0)) in
+    (renamed _ _ c.args.held.now.items c.loop-turn.held.items (lines_text n (branch_lines (replies_of n rs))) _ _ text so_far.1) _ c.put_turn.new.held.items (c.in_ok-put_turn.ensures.put (reply_is_spelled n rs i r (omega arith) c.loop-turn-item.is so_far.0)) in
     part_cut _ _ c.args.held.now.items c.put_turn.new.held.items (lines_text n (branch_lines (replies_of n rs))) (lines_text n (node_lines (node_of n r.1))) (lines_text n (branch_lines (replies_of n (drop (i + 1) rs)))) one c.from_residual-in_err-put_node.result _ (c.in_err-put_node.ensures.cut (below_is_spelled n rs i r (omega arith) c.loop-turn-item.is so_far.0))
 
 pub put_replies-loop-turn-preserved : goal.put_replies-loop-turn-preserved
@@ -111,6 +111,6 @@ put_replies-loop-turn-preserved g t c = λ spelled.
     let so_far = c.loop-turn.invariant spelled in
     let text = reply_text n rs i r (omega arith) c.loop-turn-item.is in
     let one = part_put _ _ c.args.held.now.items c.loop-turn.held.items (lines_text n (branch_lines (replies_of n rs))) (line_text n (Some (reply_line (ply_of n r.0)))) (lines_text n (node_lines (node_of n r.1)) ++ lines_text n (branch_lines (replies_of n (drop (i + 1) rs))))
-        (renamed _ _ c.args.held.now.items c.loop-turn.held.items (lines_text n (branch_lines (replies_of n rs))) _ _ text so_far.1) _ c.put_turn.new.held.items (c.in_ok-put_turn.ensures.put (reply_is_spelled n rs i r (omega arith) c.loop-turn-item.is so_far.0)) in
+    (renamed _ _ c.args.held.now.items c.loop-turn.held.items (lines_text n (branch_lines (replies_of n rs))) _ _ text so_far.1) _ c.put_turn.new.held.items (c.in_ok-put_turn.ensures.put (reply_is_spelled n rs i r (omega arith) c.loop-turn-item.is so_far.0)) in
     let two = part_put _ _ c.args.held.now.items c.put_turn.new.held.items (lines_text n (branch_lines (replies_of n rs))) (lines_text n (node_lines (node_of n r.1))) (lines_text n (branch_lines (replies_of n (drop (i + 1) rs)))) one _ c.put_node.new.held.items (c.in_ok-put_node.ensures.put (below_is_spelled n rs i r (omega arith) c.loop-turn-item.is so_far.0)) in
     (others_are_spelled n rs i r (omega arith) c.loop-turn-item.is so_far.0, two)

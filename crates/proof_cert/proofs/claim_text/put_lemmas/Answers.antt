@@ -13,7 +13,7 @@ returns-in_err-put_lemma-clause-cut g c =
     let i = c.loop-lemma.lemma-index in
     let whole = lines_text n (lemmas_lines 1 (map (lemma_of n) ls)) in
     part_cut _ _ c.args.held.now.items c.loop-lemma.held.items whole (lines_text n (lemma_lines 1 (lemma_of n c.lemma-item.result))) (lines_text n (lemmas_lines 1 (map (lemma_of n) (drop (i + 1) ls))))
-        (renamed _ _ c.args.held.now.items c.loop-lemma.held.items whole _ _ (lemmas_text n ls i c.lemma-item.result (omega arith) c.lemma-item.is) c.loop-lemma.invariant.so_far) c.from_residual.result _ c.in_err-put_lemma.ensures.cut
+    (renamed _ _ c.args.held.now.items c.loop-lemma.held.items whole _ _ (lemmas_text n ls i c.lemma-item.result (omega arith) c.lemma-item.is) c.loop-lemma.invariant.so_far) c.from_residual.result _ c.in_err-put_lemma.ensures.cut
 
 pub loop-lemma-preserved : goal.loop-lemma-preserved
 loop-lemma-preserved g c =

@@ -1,5 +1,5 @@
 -- The equations of what a certificate says.
-use Rattle.std.proofs.Common.{◌≡◌, ℕ, ◌+◌, ◌<◌, ◌≤◌, map, length, drop, get_or, List, [], ◌∷◌, ◌++◌, Bool, ◌&&◌, Vec, Box, Global, sym, ap, ◌∙◌, refl, arith}
+use Rattle.std.proofs.Common.{◌≡◌, ℕ, ◌+◌, ◌<◌, ◌≤◌, length, drop, get_or, List, [], ◌∷◌, ◌++◌, Bool, ◌&&◌, Vec, Box, Global, sym, ap, ◌∙◌, refl, arith}
 use Rattle.std.proofs.lemmas.List.{at_drop_more, at_drop_all}
 use Rattle.std.specs.List.{list_all}
 use Rattle.std.proofs.lemmas.List.Folds.{list_all-append}

@@ -1,6 +1,5 @@
 -- What the parts of a tree have, where the tree has a spelling, and what its text is made of.
 use Rattle.std.proofs.Common.{◌≡◌, ℕ, ◌+◌, ◌<◌, ◌≤◌, Bool, true, false, ◌&&◌, List, [], ◌∷◌, ◌++◌, map, length, drop, get_or, Option, Some, None, IsTrue, Vec, Box, Global, sym, ap, ◌∙◌, subst, refl, cond, append_assoc}
-use Rattle.std.specs.Prelude.{flat_map}
 use Rattle.std.specs.List.{list_all}
 use Rattle.std.proofs.lemmas.Grind.{flat_map-append}
 use Rattle.std.proofs.lemmas.List.{at_drop_more}
@@ -17,7 +16,7 @@ use Rattle.proof_cert.specs.declared.certificate.Node.TheVariants.{Won, Use, Pla
 use Rattle.proof_cert.specs.declared.certificate.Lemma.{Lemma}
 use Rattle.proof_cert.specs.declared.certificate.Certificate.{Certificate}
 use Rattle.proof_cert.proofs.Certificates.{node_of_won, node_of_use, node_of_play, node_of_all, replies_more, replies_done, replies_counted, list_all_joined}
-use Rattle.proof_cert.proofs.Words.{and_first, and_second, and_both}
+use Rattle.proof_cert.proofs.Words.{and_first, and_second}
 
 abbrev pub AreSpelled : ℕ → List (Option Line) → Type 0
 AreSpelled n ls = IsTrue (list_all (is_spelled n) ls)

@@ -1,8 +1,7 @@
 -- What a writer took, piece by piece.
-use Rattle.std.proofs.Common.{◌≡◌, ℕ, ◌+◌, ◌-◌, ◌<◌, List, [], ◌∷◌, ◌++◌, take, drop, get_or, sym, subst, ap, ◌∙◌, length, refl}
-use Rattle.std.specs.Prelude.{Option, Result, Ok, Err, OnOk, OnErr, flat_map}
-use Rattle.std.proofs.lemmas.List.{take-append-drop, append-nil, append_assoc, length-drop, take_more}
-use Rattle.std.proofs.lemmas.Grind.{flat_map-append}
+use Rattle.std.proofs.Common.{◌≡◌, ℕ, ◌+◌, ◌-◌, List, [], ◌++◌, take, drop, sym, subst, ap, ◌∙◌, length, refl}
+use Rattle.std.specs.Prelude.{Option, Result, Ok, Err, OnOk, OnErr}
+use Rattle.std.proofs.lemmas.List.{take-append-drop, append-nil, append_assoc, length-drop}
 use Rattle.std.proofs.Math.Seq.{take-add, take-length}
 use Rattle.std.proofs.KnownBytes.{Appends-trans, Appends-nil}
 use Rattle.std.specs.Io.KnownBytes.{Appends}

@@ -1,12 +1,11 @@
-use Rattle.std.proofs.Common.{◌≡◌, ◌+◌, ◌++◌, ◌∷◌, [], Some, IsTrue, true, ap, ◌∙◌, sym, subst, rules, arith, drop, append-nil, length, List, ℕ}
+use Rattle.std.proofs.Common.{◌≡◌, ◌+◌, ◌++◌, Some, true, ap, ◌∙◌, rules, arith, drop, append-nil, length}
 use Rattle.go_points.specs.Ply.{ply_of}
 use Rattle.proof_cert.specs.Lines.{turn_fits, won_line, use_line, play_line, all_line, reply_line, node_lines, branch_lines}
 use Rattle.proof_cert.specs.Certificate.{node_of, replies_of}
 use Rattle.proof_cert.specs.Taken.{line_text, lines_text}
-use Rattle.proof_cert.proofs.Takings.{first_cut, both_put, second_cut, same_put, same_cut, part_put, part_cut, all_put, renamed, SoFar}
-use Rattle.proof_cert.proofs.Spellings.{AreSpelled, won_lines, use_lines, play_lines, all_lines, replies_lines, first_is_spelled, rest_is_spelled, reply_text, replies_text_done, reply_is_spelled, below_is_spelled, others_are_spelled}
+use Rattle.proof_cert.proofs.Takings.{first_cut, both_put, second_cut, same_put, same_cut, part_put, part_cut, renamed}
+use Rattle.proof_cert.proofs.Spellings.{AreSpelled, won_lines, use_lines, play_lines, all_lines, first_is_spelled, rest_is_spelled, reply_text, reply_is_spelled, below_is_spelled, others_are_spelled}
 use Rattle.proof_cert.proofs.Words.{and_first}
-use Rattle.proof_cert.proofs.claim_text.+put.Given as given
 use Rattle.proof_cert.proofs.claim_text.+put.Goals as goal
 
 pub put_node-returns-in_err-put_turn-in-Play-clause-cut : goal.put_node-returns-in_err-put_turn-in-Play-clause-cut

@@ -1,4 +1,4 @@
-use Rattle.std.proofs.Common.{◌≡◌, drop, map, Some}
+use Rattle.std.proofs.Common.{◌≡◌, drop, map}
 use Rattle.std.specs.List.{list_all}
 use Rattle.proof_cert.specs.Lines.{lemmas_lines}
 use Rattle.proof_cert.specs.Text.{is_spelled}

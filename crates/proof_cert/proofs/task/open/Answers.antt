@@ -2,7 +2,6 @@ use Rattle.std.proofs.Common.{◌≡◌, ◌++◌, ◌∷◌, [], Option, List, 
 use Rattle.proof_cert.specs.Lines.{Line, lemma_lines}
 use Rattle.proof_cert.specs.Certificate.{lemma_of}
 use Rattle.proof_cert.specs.Held.{spelled_line, reply_lines, task_lines, lines_left}
-use Rattle.proof_cert.specs.declared.task.Task.{Task}
 use Rattle.proof_cert.specs.declared.task.Task.TheVariants.{Lemmas, Replies}
 use Rattle.proof_cert.proofs.Tasks.{left_pushed, lemmas_first, reply_first}
 use Rattle.proof_cert.proofs.task.open.Goals as goal

@@ -7,11 +7,14 @@ use std::io;
 use std::process::Abort;
 use std::test::Fail;
 
-const SHARED: &str = "tsucert 1 3 B\nlemma B 0 O.OXO....\nnot .XOXO....\nplay ba\nwon\nend\nmain\nuse 1\nend\n";
+const SHARED: &str =
+    "tsucert 1 3 B\nlemma B 0 O.OXO....\nnot .XOXO....\nplay ba\nwon\nend\nmain\nuse 1\nend\n";
 
-const ANSWERED: &str = "tsucert 1 3 W\nlemma B 0 O.OXO....\nall 1\nreply pass\nplay pass\nwon\nend\nmain\nuse 1\nend\n";
+const ANSWERED: &str =
+    "tsucert 1 3 W\nlemma B 0 O.OXO....\nall 1\nreply pass\nplay pass\nwon\nend\nmain\nuse 1\nend\n";
 
-const MEETING: &str = "tsucert 1 3 W\nlemma W 0 O......XX\nplay pass\nall 1\nreply pass\nwon\nend\nmain\nall 3\nreply bc\nplay pass\nall 2\nreply cc\nuse 1\nreply pass\nwon\nreply cc\nplay pass\nall 2\nreply bc\nuse 1\nreply pass\nwon\nreply pass\nplay pass\nwon\nend\n";
+const MEETING: &str =
+    "tsucert 1 3 W\nlemma W 0 O......XX\nplay pass\nall 1\nreply pass\nwon\nend\nmain\nall 3\nreply bc\nplay pass\nall 2\nreply cc\nuse 1\nreply pass\nwon\nreply cc\nplay pass\nall 2\nreply bc\nuse 1\nreply pass\nwon\nreply pass\nplay pass\nwon\nend\n";
 
 fn size_of(rt: &impl Abort, rows: u8) -> Size {
     Size::new(rows).expect(rt, "a size")
@@ -46,15 +49,13 @@ fn one_lemma(
     listed: &[Colouring],
 ) -> Result<Certificate, Fail> {
     let mut lemmas = Vec::new(alloc);
-    lemmas.push(
-        Lemma {
-            mover: Colour::Black,
-            passes,
-            root: colouring(rt, 3, "O.OXO...."),
-            absent: listed.to_vec(alloc)?,
-            body: play(alloc, at(rt, 1, 0), Node::Won)?,
-        },
-    )?;
+    lemmas.push(Lemma {
+        mover: Colour::Black,
+        passes,
+        root: colouring(rt, 3, "O.OXO...."),
+        absent: listed.to_vec(alloc)?,
+        body: play(alloc, at(rt, 1, 0), Node::Won)?,
+    })?;
     Ok(claim(rt, Colour::Black, lemmas, Node::Use(1)))
 }
 
@@ -66,15 +67,13 @@ fn answered(alloc: Global, rt: &impl Abort) -> Result<Certificate, Fail> {
     let mut replies = Vec::new(alloc);
     replies.push((Turn::Pass, play(alloc, Turn::Pass, Node::Won)?))?;
     let mut lemmas = Vec::new(alloc);
-    lemmas.push(
-        Lemma {
-            mover: Colour::Black,
-            passes: 0,
-            root: colouring(rt, 3, "O.OXO...."),
-            absent: Vec::new(alloc),
-            body: Node::All(replies),
-        },
-    )?;
+    lemmas.push(Lemma {
+        mover: Colour::Black,
+        passes: 0,
+        root: colouring(rt, 3, "O.OXO...."),
+        absent: Vec::new(alloc),
+        body: Node::All(replies),
+    })?;
     Ok(claim(rt, Colour::White, lemmas, Node::Use(1)))
 }
 
@@ -90,15 +89,13 @@ fn meeting(alloc: Global, rt: &impl Abort) -> Result<Certificate, Fail> {
     let mut passed = Vec::new(alloc);
     passed.push((Turn::Pass, Node::Won))?;
     let mut lemmas = Vec::new(alloc);
-    lemmas.push(
-        Lemma {
-            mover: Colour::White,
-            passes: 0,
-            root: colouring(rt, 3, "O......XX"),
-            absent: Vec::new(alloc),
-            body: play(alloc, Turn::Pass, Node::All(passed))?,
-        },
-    )?;
+    lemmas.push(Lemma {
+        mover: Colour::White,
+        passes: 0,
+        root: colouring(rt, 3, "O......XX"),
+        absent: Vec::new(alloc),
+        body: play(alloc, Turn::Pass, Node::All(passed))?,
+    })?;
     let (left, right) = (at(rt, 1, 2), at(rt, 2, 2));
     let mut replies = Vec::new(alloc);
     replies.push((left, one_point(alloc, right)?))?;
@@ -129,16 +126,28 @@ fn taken<S: NodeSource>(alloc: Global, source: &mut S) -> Result<(Vec<Line>, boo
 #[test]
 fn writes_the_worked_claims(rt: HostRuntime) -> Result<(), Fail> {
     let alloc = rt.alloc();
-    assert_eq!(rt; written(alloc, &shared(alloc, &rt)?)?.as_slice(), SHARED.as_bytes());
-    assert_eq!(rt; written(alloc, &answered(alloc, &rt)?)?.as_slice(), ANSWERED.as_bytes());
-    assert_eq!(rt; written(alloc, &meeting(alloc, &rt)?)?.as_slice(), MEETING.as_bytes());
+    assert_eq!(rt;
+        written(alloc, &shared(alloc, &rt)?)?.as_slice(),
+        SHARED.as_bytes()
+    );
+    assert_eq!(rt;
+        written(alloc, &answered(alloc, &rt)?)?.as_slice(),
+        ANSWERED.as_bytes()
+    );
+    assert_eq!(rt;
+        written(alloc, &meeting(alloc, &rt)?)?.as_slice(),
+        MEETING.as_bytes()
+    );
     let plain = claim(
         &rt,
         Colour::Black,
         Vec::new(alloc),
         play(alloc, at(&rt, 1, 0), Node::Won)?,
     );
-    assert_eq!(rt; written(alloc, &plain)?.as_slice(), b"tsucert 1 3 B\nmain\nplay ba\nwon\nend\n".as_slice());
+    assert_eq!(rt;
+        written(alloc, &plain)?.as_slice(),
+        b"tsucert 1 3 B\nmain\nplay ba\nwon\nend\n".as_slice()
+    );
     Ok(())
 }
 
@@ -168,14 +177,27 @@ fn walks_the_lines_of_the_text(rt: HostRuntime) -> Result<(), Fail> {
 fn refuses_what_has_no_spelling(rt: HostRuntime) -> Result<(), Fail> {
     let alloc = rt.alloc();
     let unspelled = [
-        claim(&rt, Colour::Black, Vec::new(alloc), play(alloc, at(&rt, 3, 0), Node::Won)?),
+        claim(
+            &rt,
+            Colour::Black,
+            Vec::new(alloc),
+            play(alloc, at(&rt, 3, 0), Node::Won)?,
+        ),
         claim(&rt, Colour::Black, Vec::new(alloc), Node::Use(0)),
         claim(&rt, Colour::Black, Vec::new(alloc), Node::Use(100_000_000)),
-        claim(&rt, Colour::Black, Vec::new(alloc), Node::All(Vec::new(alloc))),
+        claim(
+            &rt,
+            Colour::Black,
+            Vec::new(alloc),
+            Node::All(Vec::new(alloc)),
+        ),
     ];
     for certificate in &unspelled {
         let mut out = Vec::new(alloc);
-        assert_eq!(rt; write_cert(certificate, &mut out), Err(CertWrite::NoSpelling));
+        assert_eq!(rt;
+            write_cert(certificate, &mut out),
+            Err(CertWrite::NoSpelling)
+        );
         assert!(rt; out.is_empty());
         // The header and `main` have a spelling, the third line has none.
         let mut held = HeldSource::new(alloc, certificate);
@@ -193,11 +215,17 @@ fn lemmas_may_have_no_spelling(rt: HostRuntime) -> Result<(), Fail> {
     let alloc = rt.alloc();
     let listed = [colouring(&rt, 3, ".XOXO...."), colouring(&rt, 2, "....")];
     let wide = one_lemma(alloc, &rt, 0, &listed)?;
-    assert_eq!(rt; write_cert(&wide, &mut Vec::new(alloc)), Err(CertWrite::NoSpelling));
+    assert_eq!(rt;
+        write_cert(&wide, &mut Vec::new(alloc)),
+        Err(CertWrite::NoSpelling)
+    );
     let (lines, failed) = taken(alloc, &mut HeldSource::new(alloc, &wide))?;
     assert!(rt; failed && lines.len() == 3);
     let passes = one_lemma(alloc, &rt, 2, &[])?;
-    assert_eq!(rt; write_cert(&passes, &mut Vec::new(alloc)), Err(CertWrite::NoSpelling));
+    assert_eq!(rt;
+        write_cert(&passes, &mut Vec::new(alloc)),
+        Err(CertWrite::NoSpelling)
+    );
     let (lines, failed) = taken(alloc, &mut HeldSource::new(alloc, &passes))?;
     assert!(rt; failed && lines.len() == 1);
     Ok(())
@@ -271,7 +299,13 @@ fn trees_may_be_deep(rt: HostRuntime) -> Result<(), Fail> {
 #[test]
 fn faults_say_what_they_are(rt: HostRuntime) -> Result<(), Fail> {
     let alloc = rt.alloc();
-    assert_eq!(rt; format!(in alloc; "{}", CertWrite::Write)?.as_str(), "write");
-    assert_eq!(rt; format!(in alloc; "{}", CertWrite::NoSpelling)?.as_str(), "no spelling");
+    assert_eq!(rt;
+        format!(in alloc; "{}", CertWrite::Write)?.as_str(),
+        "write"
+    );
+    assert_eq!(rt;
+        format!(in alloc; "{}", CertWrite::NoSpelling)?.as_str(),
+        "no spelling"
+    );
     Ok(())
 }

@@ -96,6 +96,27 @@ judged_said m stops.ListOrder j e = (_, refl)
 judged_said m stops.Limit j e = (_, refl)
 judged_said m stops.TextAfterEnd j e = (_, refl)
 
+-- every refusal is for memory, for a failed read, or says why
+pub each_why : (m : ℕ) (why : stop.Why) → (why ≡ stops.Memory) ⊎ ((why ≡ stops.Read) ⊎ ((w : Why) × (why_value m why ≡ Some w)))
+each_why m stops.Memory = inl refl
+each_why m stops.Read = inr (inl refl)
+each_why m stops.Malformed = inr (inr (_, refl))
+each_why m stops.SizeDiffers = inr (inr (_, refl))
+each_why m stops.RootWithoutLiberty = inr (inr (_, refl))
+each_why m stops.NotWon = inr (inr (_, refl))
+each_why m stops.WrongSide = inr (inr (_, refl))
+each_why m stops.TurnBarred = inr (inr (_, refl))
+each_why m stops.RepeatsKnown = inr (inr (_, refl))
+each_why m stops.NotListed = inr (inr (_, refl))
+each_why m (stops.RepliesDiffer due) = inr (inr (_, refl))
+each_why m stops.LemmaNotLower = inr (inr (_, refl))
+each_why m stops.StateDiffers = inr (inr (_, refl))
+each_why m stops.ListedOccurred = inr (inr (_, refl))
+each_why m stops.ListedNotPassedOn = inr (inr (_, refl))
+each_why m stops.ListOrder = inr (inr (_, refl))
+each_why m stops.Limit = inr (inr (_, refl))
+each_why m stops.TextAfterEnd = inr (inr (_, refl))
+
 pub not_read : (why : stop.Why) → IsJudged why → why ≡ stops.Read → ⊥
 not_read why j e = subst (λ (w : stop.Why). IsJudged w) e j
 

@@ -81,6 +81,10 @@ pub if_err_map : {A E : Type 0} (r : Result A E) (P Q : E → Type 0) → ((e : 
 if_err_map (Ok a) P Q f h = tt
 if_err_map (Err e) P Q f h = f e h
 
+pub if_err_both : {A E : Type 0} (r : Result A E) (P Q : E → Type 0) → IfErr r P → IfErr r Q → IfErr r (λ e. P e × Q e)
+if_err_both (Ok a) P Q h k = tt
+if_err_both (Err e) P Q h k = (h, k)
+
 pub refuses_size : {A : Type 0} (n m : ℕ) (j : Judged A) (e : Reject) → n ≡ m → Refuses n j e → Refuses m j e
 refuses_size n m j e same h = subst (λ k. Refuses k j e) same h
 

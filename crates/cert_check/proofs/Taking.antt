@@ -1,5 +1,5 @@
 -- What is taken of a source of lines, and what is answered of it.
-use Rattle.std.proofs.Common.{◌≡◌, ℕ, zero, suc, ◌<◌, ◌≤◌, ◌⊎◌, inl, inr, Bool, true, false, nat_le, ◌||◌, List, [], ◌∷◌, ◌++◌, length, map, Option, Some, None, option_map, Result, Ok, Err, IfOk, IfErr, refl, sym, ap, ◌∙◌, subst, arith, leb-true, leb-false, if◌then◌else◌}
+use Rattle.std.proofs.Common.{◌≡◌, ℕ, zero, suc, ◌+◌, ◌^◌, ◌<◌, ◌≤◌, ◌⊎◌, inl, inr, Bool, true, false, nat_le, ◌||◌, List, [], ◌∷◌, ◌++◌, length, map, Option, Some, None, option_map, Result, Ok, Err, IfOk, IfErr, refl, sym, ap, ◌∙◌, subst, arith, length-append, leb-true, leb-false, if◌then◌else◌}
 use Rattle.std.proofs.lemmas.List.{map-append}
 use Rattle.go_points.specs.declared.Colour.{Colour}
 use Rattle.target_game.specs.State.{GameProblem}
@@ -37,11 +37,8 @@ module _ {S : Type 0} (gives : S → Result (Option Line) SourceFault → S → 
   pub took_malformed : (ls : List (Option code.Line)) (t u : S) → Took gives n s ls t → gives t (Err fault.Malformed) u → TookAll gives n s (ls ++ None ∷ [])
   took_malformed ls t u took one = record { left = u; took = took_more ls t u None took one; there = inr (ends_malformed ls) }
 
-  pub took_short : (ls : List (Option code.Line)) (t : S) → Took gives n s ls t → TookFew gives n s ls stops.Memory
-  took_short ls t took = record { left = t; took = took; stopped = inl refl }
-
-  pub took_unread : (ls : List (Option code.Line)) (t u : S) → Took gives n s ls t → gives t (Err fault.Read) u → TookFew gives n s ls stops.Read
-  took_unread ls t u took one = record { left = t; took = took; stopped = inr (refl, (u, one)) }
+  pub one_more : (ls : List (Option code.Line)) (l : Option code.Line) → length (ls ++ l ∷ []) ≡ length ls + 1
+  one_more ls l = length-append ls (l ∷ [])
 
 -- ANSWERING
 
@@ -99,10 +96,31 @@ judged_said m stops.ListOrder j e = (_, refl)
 judged_said m stops.Limit j e = (_, refl)
 judged_said m stops.TextAfterEnd j e = (_, refl)
 
+-- every refusal is for memory, for a failed read, or says why
+pub each_why : (m : ℕ) (why : stop.Why) → (why ≡ stops.Memory) ⊎ ((why ≡ stops.Read) ⊎ ((w : Why) × (why_value m why ≡ Some w)))
+each_why m stops.Memory = inl refl
+each_why m stops.Read = inr (inl refl)
+each_why m stops.Malformed = inr (inr (_, refl))
+each_why m stops.SizeDiffers = inr (inr (_, refl))
+each_why m stops.RootWithoutLiberty = inr (inr (_, refl))
+each_why m stops.NotWon = inr (inr (_, refl))
+each_why m stops.WrongSide = inr (inr (_, refl))
+each_why m stops.TurnBarred = inr (inr (_, refl))
+each_why m stops.RepeatsKnown = inr (inr (_, refl))
+each_why m stops.NotListed = inr (inr (_, refl))
+each_why m (stops.RepliesDiffer due) = inr (inr (_, refl))
+each_why m stops.LemmaNotLower = inr (inr (_, refl))
+each_why m stops.StateDiffers = inr (inr (_, refl))
+each_why m stops.ListedOccurred = inr (inr (_, refl))
+each_why m stops.ListedNotPassedOn = inr (inr (_, refl))
+each_why m stops.ListOrder = inr (inr (_, refl))
+each_why m stops.Limit = inr (inr (_, refl))
+each_why m stops.TextAfterEnd = inr (inr (_, refl))
+
 pub not_read : (why : stop.Why) → IsJudged why → why ≡ stops.Read → ⊥
 not_read why j e = subst (λ (w : stop.Why). IsJudged w) e j
 
-module _ {S : Type 0} (gives : S → Result (Option Line) SourceFault → S → Type 0) (n : ℕ) (q : GameProblem) (s : S) (ls : List (Option code.Line)) where
+module _ {S : Type 0} (gives : S → Result (Option Line) SourceFault → S → Type 0) (number : S → ℕ) (n : ℕ) (q : GameProblem) (s : S) (ls : List (Option code.Line)) where
   pub all_accepts : TookAll gives n s ls → (x : Colour) → verdict q (line_values q.game.size ls) ≡ accepted x → Accepts gives n q s x
   all_accepts all x e = record { taken = ls; left = all.left; took = all.took; ended = ended all.there; accepted = e }
     where
@@ -122,14 +140,14 @@ module _ {S : Type 0} (gives : S → Result (Option Line) SourceFault → S → 
           let long = as_long q.game.size ls in
           omega (arith, same, low, long))
 
-  few_silent : (m : ℕ) (why : stop.Why) (w : Why) → TookFew gives n s ls why → why_value m why ≡ Some w → ⊥
+  few_silent : (m : ℕ) (why : stop.Why) (w : Why) → TookFew gives number n s ls why → why_value m why ≡ Some w → ⊥
   few_silent m why w few e = side few.stopped
     where
       side : (why ≡ stops.Memory) ⊎ ((why ≡ stops.Read) × Answers gives few.left (Err fault.Read)) → ⊥
       side (inl a) = absurd (cc (ap (why_value m) (sym a) ∙ e))
       side (inr b) = absurd (cc (ap (why_value m) (sym b.0) ∙ e))
 
-  pub few_rejects : (judged : Result Colour Reject) (why : stop.Why) (r : Reject) (w : Why) → TookFew gives n s ls why
+  pub few_rejects : (judged : Result Colour Reject) (why : stop.Why) (r : Reject) (w : Why) → TookFew gives number n s ls why
       → IfErr judged (λ e. Rejects q.game.size (verdict q (line_values q.game.size ls)) e) → r ≡ stop_of judged (length ls) why → why_value q.game.size r.why ≡ Some w → RejectsAt gives n q s r.place w
   few_rejects (Ok x) why r w few h is said = absurd (few_silent q.game.size why w few (ap (λ (e : Reject). why_value q.game.size e.why) (sym is) ∙ said))
   few_rejects (Err e) why r w few h is said = go (nat_le e.place (length ls)) refl (is_memory e.why) refl is
@@ -142,27 +160,27 @@ module _ {S : Type 0} (gives : S → Result (Option Line) SourceFault → S → 
       go false low true memory same = absurd (cc (sym (memory_silent q.game.size e.why memory) ∙ ap (λ (d : Reject). why_value q.game.size d.why) (sym same) ∙ said))
       go false low false memory same = absurd (few_silent q.game.size why w few (ap (λ (d : Reject). why_value q.game.size d.why) (sym same) ∙ said))
 
-  unread : (why : stop.Why) (few : TookFew gives n s ls why) → why ≡ stops.Read → Answers gives few.left (Err fault.Read)
+  unread : (why : stop.Why) (few : TookFew gives number n s ls why) → why ≡ stops.Read → Answers gives few.left (Err fault.Read)
   unread why few read = side few.stopped
     where
       side : (why ≡ stops.Memory) ⊎ ((why ≡ stops.Read) × Answers gives few.left (Err fault.Read)) → Answers gives few.left (Err fault.Read)
       side (inl a) = absurd (cc (sym a ∙ read))
       side (inr b) = b.1
 
-  pub few_fails : (judged : Result Colour Reject) (why : stop.Why) (r : Reject) → TookFew gives n s ls why
+  pub few_fails : (judged : Result Colour Reject) (why : stop.Why) (r : Reject) → TookFew gives number n s ls why
       → IfOk judged (λ x. verdict q (line_values q.game.size ls) ≡ accepted x) → IfErr judged (λ e. Rejects q.game.size (verdict q (line_values q.game.size ls)) e) → IfErr judged (λ e. IsJudged e.why)
-      → r ≡ stop_of judged (length ls) why → r.why ≡ stops.Read → FailsAt gives n q s r.place
-  few_fails (Ok x) why r few ok h j is read =
+      → r ≡ stop_of judged (length ls) why → length ls < 2 ^ 63 → r.why ≡ stops.Read → FailsAt gives number n q s r.place
+  few_fails (Ok x) why r few ok h j is small read =
       let stopped : why ≡ stops.Read = ap (λ (d : Reject). d.why) (sym is) ∙ read in
-      record { taken = ls; left = few.left; took = few.took; failed = unread why few stopped; behind = ap (λ (d : Reject). d.place) is; faultless = λ p w e. absurd (cc (sym ok ∙ e)) }
-  few_fails (Err e) why r few ok h j is read = go (nat_le e.place (length ls)) refl (is_memory e.why) refl is
+      record { taken = ls; left = few.left; took = few.took; counted = few.counted; few = small; failed = unread why few stopped; behind = ap (λ (d : Reject). d.place) is; faultless = λ p w e. absurd (cc (sym ok ∙ e)) }
+  few_fails (Err e) why r few ok h j is small read = go (nat_le e.place (length ls)) refl (is_memory e.why) refl is
     where
-      go : (a : Bool) → nat_le e.place (length ls) ≡ a → (b : Bool) → is_memory e.why ≡ b → r ≡ (if a || b then e else record { place = suc (length ls); why = why }) → FailsAt gives n q s r.place
+      go : (a : Bool) → nat_le e.place (length ls) ≡ a → (b : Bool) → is_memory e.why ≡ b → r ≡ (if a || b then e else record { place = suc (length ls); why = why }) → FailsAt gives number n q s r.place
       go true low b memory same = absurd (not_read e.why j (ap (λ (d : Reject). d.why) (sym same) ∙ read))
       go false low true memory same = absurd (not_read e.why j (ap (λ (d : Reject). d.why) (sym same) ∙ read))
       go false low false memory same =
           let stopped : why ≡ stops.Read = ap (λ (d : Reject). d.why) (sym same) ∙ read in
-          record { taken = ls; left = few.left; took = few.took; failed = unread why few stopped; behind = ap (λ (d : Reject). d.place) same; faultless = faultless }
+          record { taken = ls; left = few.left; took = few.took; counted = few.counted; few = small; failed = unread why few stopped; behind = ap (λ (d : Reject). d.place) same; faultless = faultless }
         where
           faultless : (p : ℕ) (w : Why) → verdict q (line_values q.game.size ls) ≡ rejected p w → length ls < p
           faultless p w f =

@@ -4,7 +4,7 @@
 --     TookAll, TookFew      what was taken of a source, until it ended or a line was malformed, or until no more could be taken
 --     stop_of r k why      what is answered where k lines were taken, and no more could be
 --     Accepts, RejectsAt, FailsAt      the answers, by the lines taken
-use Rattle.std.specs.Prelude.{◌≡◌, ℕ, suc, ◌<◌, ◌≤◌, ◌⊎◌, Bool, true, false, nat_le, ◌||◌, if◌then◌else◌, List, [], ◌∷◌, length, Option, Some, None, Result, Ok, Err}
+use Rattle.std.specs.Prelude.{◌≡◌, ℕ, suc, ◌+◌, ◌^◌, ◌<◌, ◌≤◌, ◌⊎◌, Bool, true, false, nat_le, ◌||◌, if◌then◌else◌, List, [], ◌∷◌, length, Option, Some, None, Result, Ok, Err}
 use Rattle.go_points.specs.declared.Colour.{Colour}
 use Rattle.target_game.specs.State.{GameProblem}
 use Rattle.proof_cert.specs.Lines.{Line}
@@ -38,9 +38,10 @@ pub record TookAll {S : Type 0} (gives : S → Result (Option Line) SourceFault 
   pub took : Took gives n s taken left
   pub there : Answers gives left (Ok None) ⊎ HasMalformed taken
 
-pub record TookFew {S : Type 0} (gives : S → Result (Option Line) SourceFault → S → Type 0) (n : ℕ) (s : S) (taken : List (Option code.Line)) (why : stop.Why) : Type 0 where
+pub record TookFew {S : Type 0} (gives : S → Result (Option Line) SourceFault → S → Type 0) (number : S → ℕ) (n : ℕ) (s : S) (taken : List (Option code.Line)) (why : stop.Why) : Type 0 where
   pub left : S
   pub took : Took gives n s taken left
+  pub counted : number left ≡ number s + length taken
   pub stopped : (why ≡ stops.Memory) ⊎ ((why ≡ stops.Read) × Answers gives left (Err Read))
 
 -- The fault of a line that was taken, or else why no more were; where memory was refused to the judge, that.
@@ -69,10 +70,12 @@ pub record RejectsAt {S : Type 0} (gives : S → Result (Option Line) SourceFaul
   pub rejected : verdict q (line_values q.game.size taken) ≡ rejected place why
 
 -- The line of this number could not be read, and those before it have no fault.
-pub record FailsAt {S : Type 0} (gives : S → Result (Option Line) SourceFault → S → Type 0) (n : ℕ) (q : GameProblem) (s : S) (place : ℕ) : Type 0 where
+pub record FailsAt {S : Type 0} (gives : S → Result (Option Line) SourceFault → S → Type 0) (number : S → ℕ) (n : ℕ) (q : GameProblem) (s : S) (place : ℕ) : Type 0 where
   pub taken : List (Option code.Line)
   pub left : S
   pub took : Took gives n s taken left
+  pub counted : number left ≡ number s + length taken
+  pub few : length taken < 2 ^ 63
   pub failed : Answers gives left (Err Read)
   pub behind : place ≡ suc (length taken)
   pub faultless : (p : ℕ) (w : Why) → verdict q (line_values q.game.size taken) ≡ rejected p w → length taken < p
@@ -81,4 +84,4 @@ pub record FailsAt {S : Type 0} (gives : S → Result (Option Line) SourceFault 
 pub record TextsJudged : Type 0 where
   pub accepted : (q : GameProblem) (text : List ℕ) (x : Colour) → Accepts text_gives q.game.size q (source_of q.game.size text) x → verdict q (lines_read q.game.size text) ≡ accepted x
   pub rejected : (q : GameProblem) (text : List ℕ) (place : ℕ) (why : Why) → RejectsAt text_gives q.game.size q (source_of q.game.size text) place why → verdict q (lines_read q.game.size text) ≡ rejected place why
-  pub unfailed : (q : GameProblem) (text : List ℕ) (place : ℕ) → FailsAt text_gives q.game.size q (source_of q.game.size text) place → ⊥
+  pub unfailed : (q : GameProblem) (text : List ℕ) (place : ℕ) → FailsAt text_gives (λ (s : Source). s.number) q.game.size q (source_of q.game.size text) place → ⊥

@@ -19,7 +19,7 @@ use target_game::Problem;
 fn take_lines<S: NodeSource>(source: &mut S, lines: &mut Vec<Option<Line>>) -> Result<(), Why>
     requires { lines.old.items ≡ [] }
     ensures ok { S.fault source.old ≡ None → OnOk result (TookAll S.gives (S.size source.old) source.old lines.new.items) }
-    ensures err { S.fault source.old ≡ None → IfErr result (λ why. TookFew S.gives (S.size source.old) source.old lines.new.items why) }
+    ensures err { S.fault source.old ≡ None → IfErr result (λ why. TookFew S.gives S.number (S.size source.old) source.old lines.new.items why) }
 {
     for _ in 0..u64::MAX {
         match source.next() {
@@ -76,7 +76,7 @@ pub fn check<S: NodeSource>(
     ensures ok { S.fault source.old ≡ None → IfOk result (λ x. Accepts S.gives (S.size source.old) problem.now source.old x) }
     ensures wins { IfOk result (λ x. Wins x (start problem.now)) }
     ensures err { S.fault source.old ≡ None → IfErr result (λ e. (why : SpecWhy) → why_value problem.now.game.size e.why ≡ Some why → RejectsAt S.gives (S.size source.old) problem.now source.old e.place why) }
-    ensures read { S.fault source.old ≡ None → IfErr result (λ e. e.why ≡ Read → FailsAt S.gives (S.size source.old) problem.now source.old e.place) }
+    ensures read { S.fault source.old ≡ None → IfErr result (λ e. e.why ≡ Read → FailsAt S.gives S.number (S.size source.old) problem.now source.old e.place) }
 {
     let mut lines = Vec::new(alloc);
     let taken = take_lines(source, &mut lines);

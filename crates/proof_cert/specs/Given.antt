@@ -3,8 +3,11 @@
 --     Gave gives s ls t      calls one behind another gave the lines ls, from the source s on, and left t
 --     fault_of r      the fault of an answer
 --     lines_counted r      how many lines an answer counts for: a line and a fault are one, the end is none
-use Rattle.std.specs.Prelude.{◌≡◌, ℕ, List, [], ◌∷◌, ◌++◌, length, Option, Some, None, Result, Ok, Err}
-use Rattle.proof_cert.specs.Lines.{Line}
+use Rattle.std.specs.Prelude.{◌≡◌, ℕ, List, [], ◌∷◌, ◌++◌, length, map, Option, Some, None, Result, Ok, Err}
+use Rattle.proof_cert.specs.Claim.{Claim}
+use Rattle.proof_cert.specs.Lines.{Line, lines_of}
+use Rattle.proof_cert.specs.Text.{text, lines}
+use Rattle.proof_cert.specs.Held.{Held, held_source_of, held_gives, spelled_line}
 use Rattle.proof_cert.specs.Source.{Source, source_of, lines_read, text_gives}
 use Rattle.proof_cert.specs.declared.source.SourceFault.{SourceFault}
 use Rattle.proof_cert.specs.declared.source.SourceFault.TheVariants.{Malformed}
@@ -34,3 +37,15 @@ pub record IsFrontOfText (n : ℕ) (text : List ℕ) (ls : List (Option Line)) (
 
 abbrev pub LinesGivenOfText : Type 0
 LinesGivenOfText = (n : ℕ) (text : List ℕ) (ls : List (Option Line)) (t : Source) → Gave text_gives (source_of n text) ls t → IsFrontOfText n text ls t
+
+-- A certificate gives the lines of its claim in their order, None for one that has no spelling, and all of them where it has ended.
+pub record IsFrontOfClaim (z : Claim) (ls : List (Option Line)) (t : Held) : Type 0 where
+  pub front : map (spelled_line z.size) (lines_of z) ≡ ls ++ t.left
+  pub all : (u : Held) → held_gives t (Ok None) u → map (spelled_line z.size) (lines_of z) ≡ ls
+
+abbrev pub LinesGivenOfClaim : Type 0
+LinesGivenOfClaim = (z : Claim) (ls : List (Option Line)) (t : Held) → Gave held_gives (held_source_of z) ls t → IsFrontOfClaim z ls t
+
+-- Where the claim has a text, these are the lines of the text.
+abbrev pub HeldLinesAreTheText : Type 0
+HeldLinesAreTheText = (z : Claim) (bytes : List ℕ) → text z ≡ Some bytes → map (spelled_line z.size) (lines_of z) ≡ lines z.size bytes

@@ -9,7 +9,7 @@ ghost use Rattle.proof_cert.specs.Stage.{line_value, version_one};
 use go_points::{Colour, Colouring, Size, Turn, sgf_point};
 
 /// One line of a claim.
-#[derive(Clone, Copy, Debug)]
+#[derive(Clone, Copy, Debug, PartialEq, Eq)]
 pub enum Line {
     Header {
         size: u32,

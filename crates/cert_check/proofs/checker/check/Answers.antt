@@ -1,4 +1,4 @@
-use Rattle.std.proofs.Common.{◌≡◌, ℕ, List, Option, IfOk, IfErr, length, sym, ap, ◌∙◌, subst}
+use Rattle.std.proofs.Common.{arith, ◌≡◌, ◌^◌, ◌<◌, ℕ, List, Option, IfOk, IfErr, length, sym, ap, ◌∙◌, subst}
 use Rattle.proof_cert.specs.declared.line.Line as code
 use Rattle.cert_check.specs.Verdict.{verdict, accepted}
 use Rattle.cert_check.specs.Stage.{Rejects}
@@ -16,7 +16,7 @@ returns-in-Ok-clause-ok g c = λ fresh.
     let n : ℕ = g.S.NodeSource.size s in
     let ls = c.take_lines-taken.new.lines.items in
     let judged = c.judge_lines-judged in
-    if_ok_map judged.result _ _ (λ x h. all_accepts gives n q s ls (c.in-Ok.ensures.ok fresh) x (ap (λ (ks : List (Option code.Line)). verdict q (line_values q.game.size ks)) (sym c.as_slice.ensures.value) ∙ h)) judged.ensures.ok
+    if_ok_map judged.result _ _ (λ x h. all_accepts gives g.S.NodeSource.number n q s ls (c.in-Ok.ensures.ok fresh) x (ap (λ (ks : List (Option code.Line)). verdict q (line_values q.game.size ks)) (sym c.as_slice.ensures.value) ∙ h)) judged.ensures.ok
 
 pub returns-in-Ok-clause-err : goal.returns-in-Ok-clause-err
 returns-in-Ok-clause-err g c = λ fresh.
@@ -27,7 +27,7 @@ returns-in-Ok-clause-err g c = λ fresh.
     let ls = c.take_lines-taken.new.lines.items in
     let judged = c.judge_lines-judged in
     if_err_map judged.result _ _
-    (λ e h why said. all_rejects gives n q s ls (c.in-Ok.ensures.ok fresh) e.place why
+    (λ e h why said. all_rejects gives g.S.NodeSource.number n q s ls (c.in-Ok.ensures.ok fresh) e.place why
     (ap (λ (ks : List (Option code.Line)). verdict q (line_values q.game.size ks)) (sym c.as_slice.ensures.value) ∙ rejected_as q.game.size (verdict q (line_values q.game.size c.as_slice.result.now)) e why h said))
     judged.ensures.err
 
@@ -40,7 +40,7 @@ returns-clause-err g c = λ fresh why said.
     let ls = c.take_lines-taken.new.lines.items in
     let judged = c.judge_lines-judged in
     let count = c.len-count.ensures ∙ sym c.as_slice.ensures.len ∙ ap (λ (ks : List (Option code.Line)). length ks) c.as_slice.ensures.value in
-    few_rejects gives n q s ls judged.result c.in-Err.why c.stopped.result why (c.in-Err.ensures.err fresh)
+    few_rejects gives g.S.NodeSource.number n q s ls judged.result c.in-Err.why c.stopped.result why (c.in-Err.ensures.err fresh)
     (subst (λ (ks : List (Option code.Line)). IfErr judged.result (λ e. Rejects q.game.size (verdict q (line_values q.game.size ks)) e)) c.as_slice.ensures.value judged.ensures.err)
     (c.stopped.ensures ∙ ap (λ (k : ℕ). stop_of judged.result k c.in-Err.why) count) said
 
@@ -53,8 +53,9 @@ returns-clause-read g c = λ fresh read.
     let ls = c.take_lines-taken.new.lines.items in
     let judged = c.judge_lines-judged in
     let count = c.len-count.ensures ∙ sym c.as_slice.ensures.len ∙ ap (λ (ks : List (Option code.Line)). length ks) c.as_slice.ensures.value in
-    few_fails gives n q s ls judged.result c.in-Err.why c.stopped.result (c.in-Err.ensures.err fresh)
+    let small : length ls < 2 ^ 63 = let low = c.if-prove.false in omega (arith, count, low) in
+    few_fails gives g.S.NodeSource.number n q s ls judged.result c.in-Err.why c.stopped.result (c.in-Err.ensures.err fresh)
     (subst (λ (ks : List (Option code.Line)). IfOk judged.result (λ x. verdict q (line_values q.game.size ks) ≡ accepted x)) c.as_slice.ensures.value judged.ensures.ok)
     (subst (λ (ks : List (Option code.Line)). IfErr judged.result (λ e. Rejects q.game.size (verdict q (line_values q.game.size ks)) e)) c.as_slice.ensures.value judged.ensures.err)
     judged.ensures.judged
-    (c.stopped.ensures ∙ ap (λ (k : ℕ). stop_of judged.result k c.in-Err.why) count) read
+    (c.stopped.ensures ∙ ap (λ (k : ℕ). stop_of judged.result k c.in-Err.why) count) small read

@@ -1,9 +1,10 @@
-use Rattle.std.proofs.Common.{rules, ◌≡◌, ◌++◌, [], ◌∷◌, ℕ, List, Option, Some, Ok, Err, option_map, sym, ◌∙◌, subst}
+use Rattle.std.proofs.Common.{rules, arith, ◌≡◌, ◌+◌, ◌++◌, [], ◌∷◌, ℕ, List, Option, Some, Ok, Err, option_map, length, sym, ap, ◌∙◌, subst}
 use Rattle.proof_cert.specs.Stage.{line_value}
 use Rattle.proof_cert.specs.declared.line.Line as code
 use Rattle.proof_cert.specs.declared.source.SourceFault.{SourceFault}
+use Rattle.proof_cert.specs.Given.{lines_counted}
 use Rattle.cert_check.specs.Checks.{Took, TookAll}
-use Rattle.cert_check.proofs.Taking.{took_more, took_end, took_malformed}
+use Rattle.cert_check.proofs.Taking.{took_more, took_end, took_malformed, one_more}
 use Rattle.cert_check.proofs.checker.take_lines.Goals as goal
 
 pub returns-in-Ok-None-clause-ok : goal.returns-in-Ok-None-clause-ok
@@ -40,4 +41,7 @@ loop-preserved g c = λ fresh.
     let pushed : c.push.new.self.items ≡ c.loop.lines.items ++ Some line ∷ [] = search rules in
     let here = subst (λ (o : Option code.Line). gives t (Ok (option_map (line_value (g.S.NodeSource.size t)) o)) u) c.in-Ok-Some.field-0-is (c.in-Ok-Some.ensures.gives inv.0) in
     let one = subst (λ (m : ℕ). gives t (Ok (Some (line_value m line))) u) inv.1 here in
-    (c.in-Ok-Some.ensures.fault, c.in-Ok-Some.ensures.size ∙ inv.1, subst (λ (ls : List (Option code.Line)). Took gives n s ls u) (sym pushed) (took_more gives n s c.loop.lines.items t u (Some line) inv.2 one))
+    let counted : g.S.NodeSource.number u ≡ g.S.NodeSource.number t + 1 = c.in-Ok-Some.ensures.counted inv.0 ∙ ap (λ (o : Option code.Line). g.S.NodeSource.number t + lines_counted {A = code.Line} (Ok o)) c.in-Ok-Some.field-0-is in
+    let had : g.S.NodeSource.number t ≡ g.S.NodeSource.number s + length c.loop.lines.items = inv.3 in
+    let long : length c.push.new.self.items ≡ length c.loop.lines.items + 1 = ap (λ (ls : List (Option code.Line)). length ls) pushed ∙ one_more gives n s c.loop.lines.items (Some line) in
+    (c.in-Ok-Some.ensures.fault, c.in-Ok-Some.ensures.size ∙ inv.1, subst (λ (ls : List (Option code.Line)). Took gives n s ls u) (sym pushed) (took_more gives n s c.loop.lines.items t u (Some line) inv.2 one), omega (arith, counted, had, long))

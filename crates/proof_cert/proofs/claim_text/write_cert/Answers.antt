@@ -1,0 +1,44 @@
+use Rattle.std.proofs.Common.{◌≡◌, false, Option, Some, List, ℕ, refl, sym, subst, rules}
+use Rattle.std.specs.Prelude.{IsSomeAnd}
+use Rattle.std.specs.List.{list_all}
+use Rattle.std.specs.Io.KnownBytes.{Appends}
+use Rattle.proof_cert.specs.Lines.{lines_of}
+use Rattle.proof_cert.specs.Text.{is_spelled, text}
+use Rattle.proof_cert.specs.Certificate.{claim_of}
+use Rattle.proof_cert.specs.Taken.{TakesPart, lines_text}
+use Rattle.proof_cert.proofs.Spellings.{AreSpelled, text_is, no_text}
+use Rattle.proof_cert.proofs.claim_text.write_cert.Goals as goal
+
+pub returns-then-not-is_spelled_claim-clause-unspelled : goal.returns-then-not-is_spelled_claim-clause-unspelled
+returns-then-not-is_spelled_claim-clause-unspelled g c =
+    let z = claim_of c.args.certificate.now in
+    let none : list_all (is_spelled z.size) (lines_of z) ≡ false = search rules in
+    (λ e. no_text z.size (lines_of z) none, λ e. refl)
+
+pub returns-in-Ok-clause-unspelled : goal.returns-in-Ok-clause-unspelled
+returns-in-Ok-clause-unspelled g c =
+    let z = claim_of c.args.certificate.now in
+    let spelled : AreSpelled z.size (lines_of z) = search rules in
+    let some : text z ≡ Some (lines_text z.size (lines_of z)) = text_is z.size (lines_of z) spelled in
+    (λ e. cc, λ e. cc)
+
+pub returns-in-Ok-clause-written : goal.returns-in-Ok-clause-written
+returns-in-Ok-clause-written g c =
+    let z = claim_of c.args.certificate.now in
+    let spelled : AreSpelled z.size (lines_of z) = search rules in
+    let some : text z ≡ Some (lines_text z.size (lines_of z)) = text_is z.size (lines_of z) spelled in
+    subst (λ (o : Option (List ℕ)). IsSomeAnd o (λ bytes. Appends (g.W.Write.contents c.args.writer.now) (g.W.Write.contents c.write_spelled.new.writer) bytes)) (sym some) c.in-Ok.ensures.written
+
+pub returns-in-Err-clause-unspelled : goal.returns-in-Err-clause-unspelled
+returns-in-Err-clause-unspelled g c =
+    let z = claim_of c.args.certificate.now in
+    let spelled : AreSpelled z.size (lines_of z) = search rules in
+    let some : text z ≡ Some (lines_text z.size (lines_of z)) = text_is z.size (lines_of z) spelled in
+    (λ e. cc, λ e. cc)
+
+pub returns-in-Err-clause-cut : goal.returns-in-Err-clause-cut
+returns-in-Err-clause-cut g c = λ e.
+    let z = claim_of c.args.certificate.now in
+    let spelled : AreSpelled z.size (lines_of z) = search rules in
+    let some : text z ≡ Some (lines_text z.size (lines_of z)) = text_is z.size (lines_of z) spelled in
+    subst (λ (o : Option (List ℕ)). IsSomeAnd o (λ bytes. TakesPart (g.W.Write.contents c.args.writer.now) (g.W.Write.contents c.write_spelled.new.writer) bytes)) (sym some) c.in-Err.ensures.cut

@@ -1,0 +1,38 @@
+//! Claims that are held: who wins, with the trees that show it.
+
+use go_points::{Colour, Colouring, Size, Turn};
+
+/// A proof tree: at a state it says why the winner wins there.
+#[derive(Debug, Drop)]
+pub enum Node {
+    /// The winner has won.
+    Won,
+
+    /// The lemma of this number says so, counted from 1.
+    Use(u32),
+
+    /// The winner makes the turn, and then the tree below it holds.
+    Play(Turn, Box<Node>),
+
+    /// The other side moves: each of its turns, with the tree below it.
+    All(Vec<(Turn, Node)>),
+}
+
+/// A position that is won under every past which holds the root and none of the colourings of `absent`.
+#[derive(Debug, Drop)]
+pub struct Lemma {
+    pub mover: Colour,
+    pub passes: u8,
+    pub root: Colouring,
+    pub absent: Vec<Colouring>,
+    pub body: Node,
+}
+
+/// A claim: the winner of a problem on a board of this size, with the lemmas and the tree that show it.
+#[derive(Debug, Drop)]
+pub struct Certificate {
+    pub size: Size,
+    pub winner: Colour,
+    pub lemmas: Vec<Lemma>,
+    pub main: Node,
+}

@@ -1,0 +1,150 @@
+//! The text of a claim.
+
+ghost use Rattle.std.specs.Prelude.{◌≡◌, ◌++◌, ◌↔◌, IsTrue, IsSomeAnd, OnOk, OnErr, Err, None, Some, map};
+ghost use Rattle.std.specs.List.{list_all};
+ghost use Rattle.std.specs.Io.KnownBytes.{Appends};
+ghost use Rattle.proof_cert.specs.Lines.{node_lines, branch_lines, lemma_lines, lemmas_lines, lines_of, not_line};
+ghost use Rattle.proof_cert.specs.Text.{is_spelled, text};
+ghost use Rattle.proof_cert.specs.Certificate.{node_of, replies_of, lemma_of, claim_of};
+ghost use Rattle.proof_cert.specs.Taken.{TakesPart, Puts, lines_text};
+
+use crate::certificate::{Certificate, Lemma, Node};
+use crate::line_text::{put_header, put_lemma_line, put_not, put_number, put_turn, put_word};
+use crate::spelled::is_spelled_claim;
+use crate::write::{CertWrite, Held, WriteFault, write_bytes};
+use arrayvec::ArrayVec;
+use go_points::{Colouring, Size, Turn};
+use std::io::Write;
+
+/// Writes the claim's text.
+///
+/// It takes no memory. A claim that has no spelling is refused before the first byte. After a failed write the writer has taken a front of the text and nothing else.
+pub fn write_cert<W: Write>(certificate: &Certificate, writer: &mut W) -> Result<(), CertWrite>
+    ensures unspelled { (result ≡ Err CertWrite.NoSpelling) ↔ (text (claim_of certificate.now) ≡ None) }
+    ensures untouched { result ≡ Err CertWrite.NoSpelling → W.contents writer.new ≡ W.contents writer.old }
+    ensures written { OnOk result (IsSomeAnd (text (claim_of certificate.now)) (λ bytes. Appends (W.contents writer.old) (W.contents writer.new) bytes)) }
+    ensures cut { result ≡ Err CertWrite.Write → IsSomeAnd (text (claim_of certificate.now)) (λ bytes. TakesPart (W.contents writer.old) (W.contents writer.new) bytes) }
+{
+    if !is_spelled_claim(certificate) {
+        return Err(CertWrite::NoSpelling);
+    }
+    match write_spelled(certificate, writer) {
+        Ok(()) => Ok(()),
+        Err(WriteFault) => Err(CertWrite::Write),
+    }
+}
+
+fn write_spelled<W: Write>(certificate: &Certificate, writer: &mut W) -> Result<(), WriteFault>
+    requires { IsTrue (list_all (is_spelled certificate.now.size) (lines_of (claim_of certificate.now))) }
+    ensures written { OnOk result (Appends (W.contents writer.old) (W.contents writer.new) (lines_text certificate.now.size (lines_of (claim_of certificate.now)))) }
+    ensures cut { OnErr result (TakesPart (W.contents writer.old) (W.contents writer.new) (lines_text certificate.now.size (lines_of (claim_of certificate.now)))) }
+{
+    let mut held: Held = ArrayVec::new();
+    put_claim(certificate, &mut held, writer)?;
+    write_bytes(held.as_slice(), writer)
+}
+
+fn put_claim<W: Write>(
+    certificate: &Certificate,
+    held: &mut Held,
+    writer: &mut W,
+) -> Result<(), WriteFault>
+    requires { IsTrue (list_all (is_spelled certificate.now.size) (lines_of (claim_of certificate.now))) }
+    ensures put { OnOk result (Puts (W.contents writer.old) (W.contents writer.new) held.old.items held.new.items (lines_text certificate.now.size (lines_of (claim_of certificate.now)))) }
+    ensures cut { OnErr result (TakesPart (W.contents writer.old) (W.contents writer.new) (held.old.items ++ lines_text certificate.now.size (lines_of (claim_of certificate.now)))) }
+{
+    let size = certificate.size;
+    put_header(size, certificate.winner, held, writer)?;
+    put_lemmas(size, certificate.lemmas.as_slice(), held, writer)?;
+    put_word(b"main", held, writer)?;
+    put_node(size, &certificate.main, held, writer)?;
+    put_word(b"end", held, writer)
+}
+
+fn put_lemmas<W: Write>(
+    size: Size,
+    lemmas: &[Lemma],
+    held: &mut Held,
+    writer: &mut W,
+) -> Result<(), WriteFault>
+    requires { IsTrue (list_all (is_spelled size) (lemmas_lines 1 (map (lemma_of size) lemmas.now))) }
+    ensures put { OnOk result (Puts (W.contents writer.old) (W.contents writer.new) held.old.items held.new.items (lines_text size (lemmas_lines 1 (map (lemma_of size) lemmas.now)))) }
+    ensures cut { OnErr result (TakesPart (W.contents writer.old) (W.contents writer.new) (held.old.items ++ lines_text size (lemmas_lines 1 (map (lemma_of size) lemmas.now)))) }
+{
+    for lemma in lemmas {
+        put_lemma(size, lemma, held, writer)?;
+    }
+    Ok(())
+}
+
+fn put_lemma<W: Write>(
+    size: Size,
+    lemma: &Lemma,
+    held: &mut Held,
+    writer: &mut W,
+) -> Result<(), WriteFault>
+    requires { IsTrue (list_all (is_spelled size) (lemma_lines 1 (lemma_of size lemma.now))) }
+    ensures put { OnOk result (Puts (W.contents writer.old) (W.contents writer.new) held.old.items held.new.items (lines_text size (lemma_lines 1 (lemma_of size lemma.now)))) }
+    ensures cut { OnErr result (TakesPart (W.contents writer.old) (W.contents writer.new) (held.old.items ++ lines_text size (lemma_lines 1 (lemma_of size lemma.now)))) }
+{
+    put_lemma_line(size, lemma, held, writer)?;
+    put_listed(size, lemma.absent.as_slice(), held, writer)?;
+    put_node(size, &lemma.body, held, writer)?;
+    put_word(b"end", held, writer)
+}
+
+fn put_listed<W: Write>(
+    size: Size,
+    listed: &[Colouring],
+    held: &mut Held,
+    writer: &mut W,
+) -> Result<(), WriteFault>
+    ensures put { OnOk result (Puts (W.contents writer.old) (W.contents writer.new) held.old.items held.new.items (lines_text size (map (λ c. Some (not_line c)) listed.now))) }
+    ensures cut { OnErr result (TakesPart (W.contents writer.old) (W.contents writer.new) (held.old.items ++ lines_text size (map (λ c. Some (not_line c)) listed.now))) }
+{
+    for colouring in listed {
+        put_not(size, colouring, held, writer)?;
+    }
+    Ok(())
+}
+
+#[cycle(put)]
+fn put_node<W: Write>(
+    size: Size,
+    node: &Node,
+    held: &mut Held,
+    writer: &mut W,
+) -> Result<(), WriteFault>
+    ensures put { IsTrue (list_all (is_spelled size) (node_lines (node_of size node.now))) → OnOk result (Puts (W.contents writer.old) (W.contents writer.new) held.old.items held.new.items (lines_text size (node_lines (node_of size node.now)))) }
+    ensures cut { IsTrue (list_all (is_spelled size) (node_lines (node_of size node.now))) → OnErr result (TakesPart (W.contents writer.old) (W.contents writer.new) (held.old.items ++ lines_text size (node_lines (node_of size node.now)))) }
+{
+    match node {
+        Node::Won => put_word(b"won", held, writer),
+        Node::Use(lemma) => put_number(b"use ", *lemma as usize, held, writer),
+        Node::Play(turn, below) => {
+            put_turn(b"play ", size, *turn, held, writer)?;
+            put_node(size, below, held, writer)
+        }
+        Node::All(replies) => {
+            put_number(b"all ", replies.len(), held, writer)?;
+            put_replies(size, replies.as_slice(), held, writer)
+        }
+    }
+}
+
+#[cycle(put)]
+fn put_replies<W: Write>(
+    size: Size,
+    replies: &[(Turn, Node)],
+    held: &mut Held,
+    writer: &mut W,
+) -> Result<(), WriteFault>
+    ensures put { IsTrue (list_all (is_spelled size) (branch_lines (replies_of size replies.now))) → OnOk result (Puts (W.contents writer.old) (W.contents writer.new) held.old.items held.new.items (lines_text size (branch_lines (replies_of size replies.now)))) }
+    ensures cut { IsTrue (list_all (is_spelled size) (branch_lines (replies_of size replies.now))) → OnErr result (TakesPart (W.contents writer.old) (W.contents writer.new) (held.old.items ++ lines_text size (branch_lines (replies_of size replies.now)))) }
+{
+    for (turn, below) in replies {
+        put_turn(b"reply ", size, *turn, held, writer)?;
+        put_node(size, below, held, writer)?;
+    }
+    Ok(())
+}

@@ -1,0 +1,166 @@
+//! The lines of a certificate that is held, one at a time.
+
+ghost use Rattle.std.specs.Prelude.{◌≡◌, ◌+◌, ◌-◌, ◌^◌, ◌<◌, ◌∷◌, [], None, Some, Err, IfOk, IfSome, IfNone, map, option_map};
+ghost use Rattle.proof_cert.specs.Lines.{lines_of};
+ghost use Rattle.proof_cert.specs.Stage.{line_value};
+ghost use Rattle.proof_cert.specs.Certificate.{claim_of};
+ghost use Rattle.proof_cert.specs.Held.{spelled_line, lines_left, held_source_of};
+
+use crate::certificate::Certificate;
+use crate::line::Line;
+use crate::node_source::NodeSource;
+use crate::source::SourceFault;
+use crate::task::{Task, open};
+use go_points::Size;
+use std::alloc::{AllocError, Global};
+use std::marker::Model;
+
+/// The most lines that a source gives.
+const MOST_LINES: u64 = 18_446_744_073_709_551_614;
+
+/// The lines of a certificate's text.
+///
+/// A certificate without a spelling answers `Malformed` at its first line that has none. What is still to be given is kept in memory, one part for each reply and tree that is open.
+#[derive(Drop)]
+pub struct HeldSource<'a> {
+    certificate: &'a Certificate,
+    tasks: Vec<Task<'a>>,
+    has_begun: bool,
+    number: u64,
+    fault: Option<SourceFault>,
+}
+
+impl<'a> Model for HeldSource<'a> {
+    ghost use Rattle.std.specs.Prelude.{◌≡◌, ◌<◌, ◌-◌, ◌^◌, None, false, [], map, if◌then◌else◌};
+    ghost use Rattle.proof_cert.specs.Lines.{lines_of};
+    ghost use Rattle.proof_cert.specs.Certificate.{claim_of};
+    ghost use Rattle.proof_cert.specs.Held.{Held, spelled_line, lines_left};
+
+    ghost Value = { Held };
+
+    ghost view = { λ a. record {
+      size = a.certificate.now.size;
+      left = map (spelled_line a.certificate.now.size) (if a.has_begun then lines_left a.certificate.now.size a.tasks.items else lines_of (claim_of a.certificate.now));
+      number = a.number;
+      fault = a.fault;
+    } };
+
+    ghost invariant = { λ a. (a.fault ≡ None → a.number < 2 ^ 64 - 1) × (a.has_begun ≡ false → a.tasks.items ≡ []) };
+}
+
+/// The first line of the claim; the rest becomes tasks.
+#[tactic(auto, using(crate::proofs::Tasks::left_pushed, crate::proofs::Tasks::lemma_left))]
+fn begin<'a>(certificate: &'a Certificate, tasks: &mut Vec<Task<'a>>) -> Result<Line, AllocError>
+    requires { tasks.old.items ≡ [] }
+    ensures { IfOk result (λ line. map (spelled_line certificate.now.size) (lines_of (claim_of certificate.now)) ≡ Some (line_value certificate.now.size line) ∷ map (spelled_line certificate.now.size) (lines_left certificate.now.size tasks.new.items)) }
+{
+    let rows = certificate.size.rows();
+    tasks.push(Task::End)?;
+    tasks.push(Task::Main(&certificate.main))?;
+    tasks.push(Task::Lemmas(certificate.lemmas.as_slice()))?;
+    Ok(Line::Header {
+        size: u32::from(rows),
+        winner: certificate.winner,
+    })
+}
+
+/// The next line of the tasks, which may have no spelling; `None` where no line is left.
+#[tactic(auto, using(crate::proofs::Tasks::left_pushed))]
+fn next_line<'a>(size: Size, tasks: &mut Vec<Task<'a>>) -> Result<Option<Option<Line>>, AllocError>
+    ensures none { IfOk result (λ next. IfNone next (lines_left size tasks.old.items ≡ [])) }
+    ensures line { IfOk result (λ next. IfSome next (λ line. map (spelled_line size) (lines_left size tasks.old.items) ≡ option_map (line_value size) line ∷ map (spelled_line size) (lines_left size tasks.new.items))) }
+{
+    while let Some(task) = tasks.pop() {
+        let line = open(size, task, tasks)?;
+        if line.is_some() {
+            return Ok(line);
+        }
+    }
+    Ok(None)
+}
+
+impl<'a> HeldSource<'a> {
+    /// The lines of the certificate's text.
+    pub fn new(alloc: Global, certificate: &'a Certificate) -> HeldSource<'a>
+        ensures { result ≡ held_source_of (claim_of certificate.now) }
+    {
+        HeldSource {
+            certificate,
+            tasks: Vec::new(alloc),
+            has_begun: false,
+            number: 0,
+            fault: None,
+        }
+    }
+
+    /// The next line, which may have no spelling; `None` where no line is left.
+    fn walk(&mut self) -> Result<Option<Option<Line>>, AllocError>
+        ensures none { IfOk result (λ next. IfNone next (self.old.left ≡ [])) }
+        ensures line { IfOk result (λ next. IfSome next (λ line. self.old.left ≡ option_map (line_value self.old.size) line ∷ self.new.left)) }
+        ensures size { self.new.size ≡ self.old.size }
+        ensures number { self.new.number ≡ self.old.number }
+        ensures fault { self.new.fault ≡ self.old.fault }
+        ensures counted { self.old.fault ≡ None → self.old.number < 2 ^ 64 - 1 }
+    {
+        if self.has_begun {
+            return next_line(self.certificate.size, &mut self.tasks);
+        }
+        self.has_begun = true;
+        let line = begin(self.certificate, &mut self.tasks)?;
+        Ok(Some(Some(line)))
+    }
+
+    /// Answers the fault from now on.
+    fn fail(&mut self, fault: SourceFault) -> Result<Option<Line>, SourceFault>
+        requires { self.old.number < 2 ^ 64 - 1 }
+        ensures answer { result ≡ Err fault }
+        ensures size { self.new.size ≡ self.old.size }
+        ensures left { self.new.left ≡ self.old.left }
+        ensures number { self.new.number ≡ self.old.number + 1 }
+        ensures fault { self.new.fault ≡ Some fault }
+    {
+        self.number += 1;
+        self.fault = Some(fault);
+        Err(fault)
+    }
+}
+
+impl<'a> NodeSource for HeldSource<'a> {
+    ghost use Rattle.proof_cert.specs.Held.{held_gives};
+
+    ghost size = { λ s. s.size };
+
+    ghost number = { λ s. s.number };
+
+    ghost fault = { λ s. s.fault };
+
+    ghost gives = { held_gives };
+
+    fn next(&mut self) -> Result<Option<Line>, SourceFault> {
+        if let Some(fault) = self.fault {
+            return Err(fault);
+        }
+        let Ok(next) = self.walk() else {
+            return self.fail(SourceFault::Memory);
+        };
+        let Some(line) = next else {
+            return Ok(None);
+        };
+        if self.number == MOST_LINES {
+            return self.fail(SourceFault::Read);
+        }
+        if line.is_none() {
+            return self.fail(SourceFault::Malformed);
+        }
+        self.number += 1;
+        Ok(line)
+    }
+
+    fn size(&self) -> Size {
+        self.certificate.size
+    }
+
+    fn line_number(&self) -> u64 {
+        self.number
+    }
+}

@@ -10,7 +10,7 @@ use Rattle.tsumego.proofs.run.run.Goals as goal
 pub returns-in-Err-Words : goal.returns-in-Err-Words
 returns-in-Err-Words g c =
     ran_no_words (g.W.Write.contents c.args.writer.now) (g.W.Write.contents c.answer.new.writer) c.as_bytes.result.now (g.R.Read.remaining c.args.reader.now) (command_of (map g.S.AsStr.text c.args.words.now)) c.answer.result
-    (c.in-Err-Words.ensures.err (subst IsWordsFault (sym c.in-Err-Words.field-0-is) tt)) c.answer.ensures
+    (c.in-Err-Words.ensures.refused (subst IsWordsFault (sym c.in-Err-Words.field-0-is) tt)) c.answer.ensures
 
 pub returns-in-Err-Memory : goal.returns-in-Err-Memory
 returns-in-Err-Memory g c =

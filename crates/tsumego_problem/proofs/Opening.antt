@@ -1,5 +1,5 @@
 -- The record with which a walk begins.
-use Rattle.std.proofs.Common.{◌≡◌, ℕ, zero, suc, ◌+◌, ◌*◌, ◌<◌, ◌≤◌, Bool, true, false, cond, not, ◌&&◌, ◌||◌, List, [], ◌∷◌, map, length, get_or, Option, Some, None, Result, Ok, Err, is_none, replicate, refl, sym, ◌∙◌, ap, ap₂, subst, arith}
+use Rattle.std.proofs.Common.{◌≡◌, ℕ, zero, suc, ◌+◌, ◌*◌, ◌<◌, ◌≤◌, Bool, true, false, cond, not, ◌&&◌, ◌||◌, List, [], ◌∷◌, map, length, get_or, Option, Some, None, Result, Ok, Err, is_none, replicate, refl, sym, ◌∙◌, ap, ap₂, subst, eq-eqb, arith}
 use Rattle.std.specs.Prelude.{codes, unwrap_or}
 use Rattle.std.specs.List.{list_any, range_with_len}
 use Rattle.tsumego_problem.specs.declared.fault.SingleProperty.TheVariants as single
@@ -19,7 +19,7 @@ use Rattle.sgf_text.specs.Nodes.{values_at}
 use Rattle.sgf_text.specs.Trees.{Node}
 use Rattle.tsumego_problem.specs.Values.{points_of}
 use Rattle.tsumego_problem.specs.Walk.{Walk, has_many, is_bad, is_bad_turn, share_point, has, has_turn, has_setup, is_empty, points_at, assigned, opening, turn_of, turn_at, node_fault, first_fault, when, changed, changed_by, set_to, unless, late_fault, has_no_liberty, walk_node, ◌>>=◌}
-use Rattle.tsumego_problem.specs.Walked.{walk_of}
+use Rattle.tsumego_problem.specs.Walked.{walk_of, IsHistory}
 use Rattle.tsumego_problem.specs.declared.fault.ProblemFault.{ProblemFault}
 use Rattle.tsumego_problem.specs.declared.fault.ProblemFault.TheVariants as faults
 use Rattle.tsumego_problem.proofs.Assigning.{left_at}
@@ -40,6 +40,20 @@ opened_walk n c r opens = go (first_without_liberty n c) opens
     go : (o : Option ℕ) → Opens n (with_liberties n o m) (Ok r) → (walk_of r Black ≡ record { history = c ∷ []; present = c; mover = Black; passes = 0 }) × (r.size ≡ n)
     go None e = (ap (λ x. walk_of x Black) e, ap (λ x. x.size) e)
     go (Some p) e = absurd e
+
+pub opened_history : (n : ℕ) (c : List Cell) (r : GameRecord) → length c ≡ n * n → Opens n (opened n (c ∷ []) 0 0) (Ok r) → IsHistory n r.present.history
+opened_history n c r full opens = go (first_without_liberty n c) refl opens
+  where
+    m : Moment
+    m = record { history = c ∷ []; place = 0; passes = 0; last_colour = None }
+
+    go : (o : Option ℕ) → first_without_liberty n c ≡ o → Opens n (with_liberties n o m) (Ok r) → IsHistory n r.present.history
+    go None e is = subst (λ x. IsHistory n x.present.history) (sym is) (record {
+      full = ap (λ b. b && true) (eq-eqb (length c) (n * n) full);
+      once = refl;
+      free = ap (λ o. is_none o && true) e;
+    })
+    go (Some p) e is = absurd is
 
 pub opened_refused : (n : ℕ) (c : List Cell) (p : Place) → Opens n (opened n (c ∷ []) 0 0) (Err (turns.NoLiberty p)) → is_none (first_without_liberty n c) ≡ false
 opened_refused n c p opens = go (first_without_liberty n c) opens

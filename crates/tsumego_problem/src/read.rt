@@ -6,7 +6,7 @@ ghost use Rattle.go_points.specs.declared.Colour.TheVariants.{Black};
 ghost use Rattle.go_points.specs.Place.{IsOn, number_of};
 ghost use Rattle.tsumego_problem.specs.declared.fault.ProblemFault.TheVariants.{Memory};
 ghost use Rattle.tsumego_problem.specs.Walk.{is_go, board_size, problem_node, region_at, problem_at, problem_within, walk_node, opening, history_limit};
-ghost use Rattle.tsumego_problem.specs.Walked.{walk_of, IsRefusal};
+ghost use Rattle.tsumego_problem.specs.Walked.{walk_of, IsHistory, HasReached, IsRefusal};
 
 use crate::fault::ProblemFault;
 use crate::main_line::{first_marked, has, values_at};
@@ -64,6 +64,7 @@ fn has_problem_node(tree: &Tree) -> bool
 fn open(alloc: Global, size: Size, root: &SgfNode) -> Result<PlayRecord, ProblemFault>
     ensures ok { IfOk result (λ r. walk_of r Black ≡ opening size root.now) }
     ensures size { IfOk result (λ r. r.size ≡ size) }
+    ensures history { IfOk result (λ r. IsHistory size r.present.history) }
     ensures refused { IfErr result (λ e. IsRefusal (walk_node (Some history_limit) size 0 root.now (opening size root.now)) e) }
 {
     let board = PlayBoard::new(size);
@@ -101,7 +102,7 @@ fn history_of<S: Seen>(alloc: Global, seen: &S) -> Result<Vec<Colouring>, AllocE
     Ok(history)
 }
 
-/// The problem that the walk has led to.
+/// The problem that the walk has led to. It is one, since the walk has asked all that a problem is asked.
 fn problem_at(
     alloc: Global,
     played: &PlayRecord,
@@ -109,10 +110,12 @@ fn problem_at(
     mover: Colour,
     node: &SgfNode,
 ) -> Result<Problem, ProblemFault>
-    requires { played.now.size ≡ size }
+    requires size { played.now.size ≡ size }
+    requires reached { HasReached (Some history_limit) size node.now (walk_of played.now mover) }
     ensures ok { IfOk result (λ q. q ≡ problem_at size node.now (walk_of played.now mover)) }
     ensures err { IfErr result (λ e. e ≡ Memory) }
 {
+    prove!(size.area() > 0);
     let Ok(history) = history_of(alloc, played.seen()) else {
         return Err(ProblemFault::Memory);
     };
@@ -121,7 +124,7 @@ fn problem_at(
     let region = region_at(size, node);
     match Problem::new(history, place, mover, played.passes(), targets, region) {
         Ok(problem) => Ok(problem),
-        Err(_) => Err(ProblemFault::Memory),
+        Err(_) => unreachable!(),
     }
 }
 

@@ -1,4 +1,4 @@
-use Rattle.std.proofs.Common.{◌≡◌, ◌∷◌, [], ◌*◌, Ok, Err, Result, None, Some, is_none, map, replicate, sym, ◌∙◌, ap, subst}
+use Rattle.std.proofs.Common.{◌≡◌, ◌∷◌, [], ◌*◌, Ok, Err, Result, None, Some, is_none, map, length, replicate, sym, ◌∙◌, ap, subst}
 use Rattle.go_points.specs.declared.Colour.TheVariants.{Black}
 use Rattle.go_points.specs.declared.Cell.TheVariants.{Empty}
 use Rattle.go_points.specs.Grid.{points, side_of}
@@ -6,7 +6,8 @@ use Rattle.go_points.specs.Liberty.{first_without_liberty}
 use Rattle.go_turns.specs.Record.{opened, Opens}
 use Rattle.tsumego_problem.specs.Walk.{Walk, assigned, history_limit}
 use Rattle.tsumego_problem.specs.Walked.{walk_of}
-use Rattle.tsumego_problem.proofs.Opening.{no_stones, opened_walk, opened_refused, first_refused}
+use Rattle.tsumego_problem.proofs.Opening.{no_stones, opened_walk, opened_history, opened_refused, first_refused}
+use Rattle.tsumego_problem.proofs.Assigning.{length_assigned}
 use Rattle.tsumego_problem.proofs.read.open.Goals as goal
 
 pub returns-in-Ok-clause-ok : goal.returns-in-Ok-clause-ok
@@ -28,3 +29,9 @@ returns-in-None-clause-refused c other =
       (ap (first_without_liberty n) (sym bare) ∙ ap (first_without_liberty n) c.colouring.ensures.value ∙ free)
       (opened_refused n made c.in-Err-NoLiberty.field-0-0 (subst (λ r. Opens n (opened n (made ∷ []) 0 0) r) (c.in-Err-NoLiberty.is ∙ ap Err c.in-Err-NoLiberty.field-0-is) opens))
       (sym c.node_fault.ensures ∙ c.in-None.is)
+
+pub returns-in-Ok-clause-history : goal.returns-in-Ok-clause-history
+returns-in-Ok-clause-history c =
+    let n = c.args.size in let made = c.assigned-colouring.result in
+    let opens : Opens n (opened n (made ∷ []) 0 0) (Ok c.in-Ok.played) = subst (λ r. Opens n (opened n (made ∷ []) 0 0) r) c.in-Ok.is (subst (λ m. Opens m (opened m (made ∷ []) 0 0) c.new.result) c.assigned-colouring.ensures.size c.new.ensures) in
+    opened_history n made c.in-Ok.played (ap length c.assigned-colouring.ensures.value ∙ length_assigned n c.args.root.now c.colouring.result) opens

@@ -4,6 +4,8 @@ use Rattle.target_game.specs.State.{GameProblem}
 use Rattle.tsumego_problem.specs.Walk.{history_limit, root_of, is_go, board_size, problem_within, opening, main_line, walk_node, problem_at}
 use Rattle.tsumego_problem.specs.Walked.{walk_of, walk_to_mark}
 use Rattle.tsumego_problem.proofs.Problems.{some_node, root_is, walk_leads, walk_refuses, root_refuses, led_to}
+use Rattle.go_points.specs.declared.Colour.TheVariants.{Black}
+use Rattle.tsumego_problem.proofs.Keeping.{has_reached}
 use Rattle.tsumego_problem.proofs.read.read_problem.Goals as goal
 
 pub returns-in-Err-clause-refused : goal.returns-in-Err-clause-refused
@@ -33,3 +35,7 @@ returns-clause-refused c other =
     walk_refuses (Some history_limit) t n c.in-Err-walk_line.fault
       (ap is_go (sym root) ∙ sym c.is_go.ensures ∙ c.if-not-is_go.false) (ap board_size (sym root) ∙ sym c.board_size.ensures ∙ c.in-Some.is) (sym c.has_problem_node.ensures ∙ c.if-not-has_problem_node.false)
       (ap (walk_to_mark (Some history_limit) n 0 (main_line t)) (ap (opening n) (sym root) ∙ sym c.in-Ok.ensures.ok) ∙ c.in-Err-walk_line.ensures.refused other)
+
+pub problem_at-requires-clause-reached : goal.problem_at-requires-clause-reached
+problem_at-requires-clause-reached c =
+    has_reached (Some history_limit) c.in-Some.size 0 (main_line c.args.tree.now) (walk_of c.in-Ok.played Black) (walk_of c.walk_line.new.played c.in-Ok-walk_line.mover) c.in-Ok-walk_line.node.now c.in-Ok.ensures.history c.in-Ok-walk_line.ensures.ok

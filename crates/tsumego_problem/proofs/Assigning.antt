@@ -26,7 +26,7 @@ use Rattle.target_game.specs.Legal.{holds_point}
 use Rattle.target_game.proofs.Playing.{holds_numbered}
 use Rattle.sgf_text.specs.Trees.{Node}
 use Rattle.tsumego_problem.specs.Walk.{Walk, points_at, assigned, set_to, player_at, has_no_liberty, joined_by}
-use Rattle.tsumego_problem.specs.Walked.{walk_of}
+use Rattle.tsumego_problem.specs.Walked.{walk_of, IsSetupFault, IsNoLiberty}
 use Rattle.tsumego_problem.specs.declared.fault.ProblemFault.{ProblemFault}
 use Rattle.tsumego_problem.specs.declared.fault.ProblemFault.TheVariants as faults
 use Rattle.tsumego_problem.proofs.Points.{range_below}
@@ -152,13 +152,17 @@ module _ (n k : ℕ) (node : Node) (r : GameRecord) (mover : Colour) (d : List C
            ∙ sym (ap (λ x. Ok (walk_of x (unwrap_or (player_at node) mover))) is),
            ap (λ x. x.size) is ∙ size)
 
-  pub set_up_refused : (p : Place) (new : GameRecord) → Did (setup_of r cells) r (Err (turns.NoLiberty p)) new → set_to k node d (walk_of r mover) (has_no_liberty n d) ≡ Err (faults.NoLiberty k)
-  set_up_refused p new did = go (first_without_liberty n d) refl (subst (λ x. Did x r (Err (turns.NoLiberty p)) new) due did)
+  pub set_up_refused : (fault : TurnFault) (new : GameRecord) → Did (setup_of r cells) r (Err fault) new → IsSetupFault fault × (IsNoLiberty fault → set_to k node d (walk_of r mover) (has_no_liberty n d) ≡ Err (faults.NoLiberty k))
+  set_up_refused fault new did = go (first_without_liberty n d) refl (subst (λ x. Did x r (Err fault) new) due did)
     where
-      go : (o : Option ℕ) → first_without_liberty n d ≡ o → Did (stepped r (with_liberties n (first_without_liberty n d) (moment_set_to r.present d (place_in r.present.history d)))) r (Err (turns.NoLiberty p)) new
-          → set_to k node d (walk_of r mover) (has_no_liberty n d) ≡ Err (faults.NoLiberty k)
-      go (Some q) e h = ap (λ o. set_to k node d (walk_of r mover) (not (is_none o))) e
-      go None e h = absurd (let g = subst (λ o. Did (stepped r (with_liberties n o (moment_set_to r.present d (place_in r.present.history d)))) r (Err (turns.NoLiberty p)) new) e h in cc (g.0))
+      go : (o : Option ℕ) → first_without_liberty n d ≡ o → Did (stepped r (with_liberties n (first_without_liberty n d) (moment_set_to r.present d (place_in r.present.history d)))) r (Err fault) new
+          → IsSetupFault fault × (IsNoLiberty fault → set_to k node d (walk_of r mover) (has_no_liberty n d) ≡ Err (faults.NoLiberty k))
+      go (Some q) e h =
+          let g = subst (λ o. Did (stepped r (with_liberties n o (moment_set_to r.present d (place_in r.present.history d)))) r (Err fault) new) e h in
+          (subst IsSetupFault (sym g.0) tt, λ is. ap (λ o. set_to k node d (walk_of r mover) (not (is_none o))) e)
+      go None e h =
+          let g = subst (λ o. Did (stepped r (with_liberties n o (moment_set_to r.present d (place_in r.present.history d)))) r (Err fault) new) e h in
+          (subst IsSetupFault (sym g.0) tt, λ is. absurd (subst IsNoLiberty g.0 is))
 
 pub length_assigned : (n : ℕ) (node : Node) (c : List Cell) → length (assigned n node c) ≡ n * n
 length_assigned n node c = length-map-range_with_len (left_at n node c) 0 (n * n)
@@ -171,3 +175,13 @@ handed m n node present seen d slice items size same listed is here =
 
 pub length_of : (m n : ℕ) (present seen : List Cell) → m ≡ n → seen ≡ present → length seen ≡ m * m → length present ≡ n * n
 length_of m n present seen size here full = ap length (sym here) ∙ full ∙ ap (λ k. k * k) size
+
+-- what the fault of a setup says
+pub setup_refusal : (fault : TurnFault) (said : ProblemFault) (wanted : Result Walk ProblemFault) (k : ℕ) → IsSetupFault fault → (IsNoLiberty fault → wanted ≡ Err (faults.NoLiberty k))
+    → (IsNoLiberty fault → said ≡ faults.NoLiberty k) → (fault ≡ turns.Memory → said ≡ faults.Memory) → (said ≡ faults.Memory → ⊥) → wanted ≡ Err said
+setup_refusal (turns.NoLiberty p) said wanted k is stuck liberty memory other = stuck tt ∙ ap Err (sym (liberty tt))
+setup_refusal turns.Memory said wanted k is stuck liberty memory other = absurd (other (memory refl))
+setup_refusal turns.OffBoard said wanted k is stuck liberty memory other = absurd is
+setup_refusal turns.Occupied said wanted k is stuck liberty memory other = absurd is
+setup_refusal (turns.Repeats e) said wanted k is stuck liberty memory other = absurd is
+setup_refusal turns.CannotUndo said wanted k is stuck liberty memory other = absurd is

@@ -18,6 +18,7 @@ use Rattle.go_points.specs.Grid.{same_cells}
 use Rattle.std.proofs.lemmas.List.Quantifiers.{position-Some}
 use Rattle.std.proofs.lemmas.List.{length-map}
 use Rattle.go_points.proofs.Lists.{and_left, and_right}
+use Rattle.go_points.specs.Ply.{Ply, pass, move}
 use Rattle.go_turns.specs.History.{place_in, repeats}
 use Rattle.go_turns.proofs.Turns.{on_from}
 use Rattle.target_game.specs.Legal.{holds_point}
@@ -33,9 +34,9 @@ use Rattle.target_game.proofs.Loops.{on_first}
 use Rattle.sgf_text.specs.Bytes.{is_lower}
 use Rattle.sgf_text.specs.Nodes.{values_at}
 use Rattle.sgf_text.specs.Trees.{Node}
-use Rattle.tsumego_problem.specs.Values.{trim, point_at, inside, rectangle, points_named, points_of_each, points_of}
+use Rattle.tsumego_problem.specs.Values.{turn_in, turn_named, trim, point_at, inside, rectangle, points_named, points_of_each, points_of}
 use Rattle.tsumego_problem.specs.Walk.{has, has_many, has_turn, has_setup, is_empty, is_marked, is_bad, is_bad_turn, share_point, when, first_fault, node_fault, player_at, points_at, targets_at, region_at, are_targets, history_limit}
-use Rattle.tsumego_problem.specs.Walked.{walk_of, HasReached}
+use Rattle.tsumego_problem.specs.Walked.{walk_of, HasReached, StandsOn}
 use Rattle.tsumego_problem.specs.declared.fault.ProblemFault.{ProblemFault}
 use Rattle.tsumego_problem.specs.declared.fault.ProblemFault.TheVariants as faults
 use Rattle.tsumego_problem.specs.declared.fault.SingleProperty.TheVariants as single
@@ -48,7 +49,7 @@ less_true : (a b : ℕ) → nat_lt a b ≡ true → a < b
 less_true a b h = ltb-true a b h
 
 -- a point by its letters is on the board
-point_low : (n c r p : ℕ) → point_at n c r ≡ Some p → p < n * n
+pub point_low : (n c r p : ℕ) → point_at n c r ≡ Some p → p < n * n
 point_low n c r p h = go (is_lower c && is_lower r && nat_lt (c - 97) n && nat_lt (r - 97) n) refl h
   where
     go : (b : Bool) → (is_lower c && is_lower r && nat_lt (c - 97) n && nat_lt (r - 97) n) ≡ b → cond b (Some ((r - 97) * n + (c - 97))) None ≡ Some p → p < n * n
@@ -270,3 +271,21 @@ module _ (n : ℕ) (least : 1 ≤ n) (node : Node) (r : GameRecord) (mover : Col
 
 pub not_refused : (q : GameProblem) (e : BadProblem) → ◌≡◌ {A = Result GameProblem BadProblem} (Ok q) (Err e) → ⊥
 not_refused q e h = absurd (cc h)
+
+-- a turn by its value stands on the board
+pub turn_low : (n : ℕ) (value : List ℕ) (t : Ply) → turn_in n value ≡ Some t → StandsOn n t
+turn_low n value t h = named (trim value) h
+  where
+    named : (text : List ℕ) → turn_named n text ≡ Some t → StandsOn n t
+    named [] e = let same : pass ≡ t = cc e in subst (StandsOn n) same tt
+    named (c ∷ r ∷ []) e = go (point_at n c r) refl e
+      where
+        go : (o : Option ℕ) → point_at n c r ≡ o → elim o [ Some p ↦ Some (move p) | None ↦ cond (nat_eq c 116 && nat_eq r 116) (Some pass) None ] ≡ Some t → StandsOn n t
+        go (Some p) f g = let same : move p ≡ t = cc g in subst (StandsOn n) same (point_low n c r p f)
+        go None f g = by (nat_eq c 116 && nat_eq r 116) g
+          where
+            by : (b : Bool) → ◌≡◌ {A = Option Ply} (cond b (Some pass) None) (Some t) → StandsOn n t
+            by true k = let same : pass ≡ t = cc k in subst (StandsOn n) same tt
+            by false k = absurd (cc k)
+    named (c ∷ []) e = absurd (cc e)
+    named (c ∷ r ∷ a ∷ rest) e = absurd (cc e)

@@ -3,11 +3,14 @@
 --     walk_of r k      where a record stands in the walk, with the colour k to move
 --     walk_to_mark      the walk up to the first marked node, and that node
 --     IsHistory n h, HasReached      what the walk keeps of its history, and what it has asked at the marked node
-use Rattle.std.specs.Prelude.{◌≡◌, ◌≢◌, ℕ, ◌+◌, ◌*◌, true, false, nat_eq, List, [], ◌∷◌, length, Option, None, Result, Ok, Err, if◌then◌else◌}
+use Rattle.std.specs.Prelude.{◌≡◌, ◌≢◌, ℕ, ◌+◌, ◌*◌, ◌<◌, true, false, nat_eq, List, [], ◌∷◌, length, Option, None, Result, Ok, Err, if◌then◌else◌}
 use Rattle.std.specs.List.{list_all}
 use Rattle.go_points.specs.declared.Cell.{Cell}
 use Rattle.go_points.specs.Liberty.{all_reach_empty}
+use Rattle.go_points.specs.Ply.{Ply, pass, move}
 use Rattle.go_turns.specs.History.{repeats}
+use Rattle.go_turns.specs.declared.fault.TurnFault.{TurnFault}
+use Rattle.go_turns.specs.declared.fault.TurnFault.TheVariants as turns
 use Rattle.go_points.specs.declared.Colour.{Colour}
 use Rattle.go_turns.specs.Record.{GameRecord, colouring_of}
 use Rattle.sgf_text.specs.Trees.{Node}
@@ -39,3 +42,17 @@ pub record HasReached (limit : Option ℕ) (n : ℕ) (node : Node) (w : Walk) : 
   pub marked : is_marked node ≡ true
   pub fine : node_fault n number node ≡ None
   pub late : late_fault limit n number node w ≡ None
+
+-- a move at a point of the board, or a pass
+abbrev pub StandsOn : ℕ → Ply → Type 0
+StandsOn n pass = Unit {0}
+StandsOn n (move p) = p < n * n
+
+-- the faults that a setup on the board may have
+abbrev pub IsNoLiberty : TurnFault → Type 0
+IsNoLiberty (turns.NoLiberty point) = Unit {0}
+IsNoLiberty _ = ⊥
+
+abbrev pub IsSetupFault : TurnFault → Type 0
+IsSetupFault turns.Memory = Unit {0}
+IsSetupFault fault = IsNoLiberty fault

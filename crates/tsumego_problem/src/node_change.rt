@@ -1,6 +1,6 @@
 //! What the turn or the setup of a node does to a record.
 
-ghost use Rattle.std.specs.Prelude.{◌≡◌, map, option_map, if◌then◌else◌, IfOk, IfErr, OnOk, Ok};
+ghost use Rattle.std.specs.Prelude.{◌≡◌, map, option_map, if◌then◌else◌, IfOk, IfErr, IfSome, OnOk, Ok};
 ghost use Rattle.go_points.specs.Grid.{points, cell_at, side_of};
 ghost use Rattle.go_points.specs.Points.{holds_place};
 ghost use Rattle.go_points.specs.declared.Cell.TheVariants.{Empty, Stone};
@@ -8,7 +8,7 @@ ghost use Rattle.go_points.specs.declared.Colour.TheVariants.{Black, White};
 ghost use Rattle.go_points.specs.Ply.{ply_of};
 ghost use Rattle.go_turns.specs.Record.{numbered};
 ghost use Rattle.tsumego_problem.specs.Walk.{assigned, turn_at, player_at, turned, set_to, changed, has_no_liberty};
-ghost use Rattle.tsumego_problem.specs.Walked.{walk_of, IsRefusal};
+ghost use Rattle.tsumego_problem.specs.Walked.{walk_of, StandsOn, IsSetupFault, IsNoLiberty, IsRefusal};
 
 use crate::fault::{ProblemFault, TurnFaultCause};
 use crate::main_line::{has_setup, values_at};
@@ -23,7 +23,8 @@ pub(crate) type PlayRecord = Record<PlayBoard, PlaySeen>;
 
 /// The turn of a node, and whose it is.
 pub(crate) fn turn_at(size: Size, node: &SgfNode) -> Option<(Colour, Turn)>
-    ensures { option_map (λ t. (t.0, ply_of size t.1)) result ≡ turn_at size node.now }
+    ensures value { option_map (λ t. (t.0, ply_of size t.1)) result ≡ turn_at size node.now }
+    ensures on_board { IfSome result (λ t. StandsOn size (ply_of size t.1)) }
 {
     if let Some(value) = values_at(b"B", node).first() {
         return match read_turn(size, value.as_slice()) {
@@ -105,7 +106,8 @@ fn play(
     colour: Colour,
     turn: Turn,
 ) -> Result<Colour, ProblemFault>
-    requires { played.old.size ≡ size }
+    requires size { played.old.size ≡ size }
+    requires on_board { StandsOn size (ply_of size turn) }
     ensures ok { IfOk result (λ m. turned size number colour (ply_of size turn) (walk_of played.old mover) ≡ Ok (walk_of played.new m)) }
     ensures size { OnOk result (played.new.size ≡ size) }
     ensures refused { IfErr result (λ e. IsRefusal (turned size number colour (ply_of size turn) (walk_of played.old mover)) e) }
@@ -120,7 +122,21 @@ fn play(
             node: number,
             cause: TurnFaultCause::Repeats { earlier },
         }),
-        Err(_) => Err(ProblemFault::Memory),
+        Err(TurnFault::Memory) => Err(ProblemFault::Memory),
+        Err(_) => unreachable!(),
+    }
+}
+
+/// What the fault of a setup says of the node with this number.
+fn setup_fault(number: usize, fault: TurnFault) -> ProblemFault
+    requires { IsSetupFault fault }
+    ensures liberty { IsNoLiberty fault → result ≡ ProblemFault.NoLiberty number }
+    ensures memory { fault ≡ TurnFault.Memory → result ≡ ProblemFault.Memory }
+{
+    match fault {
+        TurnFault::NoLiberty { .. } => ProblemFault::NoLiberty { node: number },
+        TurnFault::Memory => ProblemFault::Memory,
+        _ => unreachable!(),
     }
 }
 
@@ -144,8 +160,7 @@ fn set_up(
     };
     match played.setup(cells.as_slice()) {
         Ok(()) => Ok(player_at(node).unwrap_or(mover)),
-        Err(TurnFault::NoLiberty { .. }) => Err(ProblemFault::NoLiberty { node: number }),
-        Err(_) => Err(ProblemFault::Memory),
+        Err(fault) => Err(setup_fault(number, fault)),
     }
 }
 

@@ -75,7 +75,8 @@ fn open(alloc: Global, size: Size, root: &SgfNode) -> Result<PlayRecord, Problem
             Some(fault) => Err(fault),
             None => Err(ProblemFault::NoLiberty { node: 0 }),
         },
-        Err(_) => Err(ProblemFault::Memory),
+        Err(TurnFault::Memory) => Err(ProblemFault::Memory),
+        Err(_) => unreachable!(),
     }
 }
 

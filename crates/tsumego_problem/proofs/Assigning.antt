@@ -138,19 +138,21 @@ module _ (n k : ℕ) (node : Node) (r : GameRecord) (mover : Colour) (d : List C
           → (set_to k node d (walk_of r mover) (has_no_liberty n d) ≡ Ok (walk_of new (unwrap_or (player_at node) mover))) × (new.size ≡ n)
       go (Some p) e at f h = absurd (subst (λ o. Did (stepped r (with_liberties n o (moment_set_to r.present d (place_in r.present.history d)))) r (Ok u) new) e h)
       go None e (Some at) f h =
-          let is : new ≡ record r { present = record r.present { place = at; passes = 0 }; earlier = r.present ∷ r.earlier } = subst (λ o. Did (stepped r (with_liberties n o (moment_set_to r.present d (Some at)))) r (Ok u) new) e (subst (λ o. Did (stepped r (with_liberties n (first_without_liberty n d) (moment_set_to r.present d o))) r (Ok u) new) f h) in
-          (ap (λ o. set_to k node d (walk_of r mover) (not (is_none o))) e
-           ∙ ap (λ b. Ok (record { history = cond b r.present.history (r.present.history ++ d ∷ []); present = d; mover = unwrap_or (player_at node) mover; passes = 0 })) (occurred_by_place r.present.history d (Some at) f)
-           ∙ ap (λ x. Ok (record { history = r.present.history; present = x; mover = unwrap_or (player_at node) mover; passes = 0 })) (sym (at_its_place r.present.history d at f))
-           ∙ sym (ap (λ x. Ok (walk_of x (unwrap_or (player_at node) mover))) is),
-           ap (λ x. x.size) is ∙ size)
+          let is : new ≡ record r { present = record r.present { place = at; passes = 0 }; earlier = r.present ∷ r.earlier } = subst (λ o. Did (stepped r (with_liberties n o (moment_set_to r.present d (Some at)))) r (Ok u) new) e (subst (λ o. Did (stepped r (with_liberties n (first_without_liberty n d) (moment_set_to r.present d o))) r (Ok u) new) f h) in (
+            ap (λ o. set_to k node d (walk_of r mover) (not (is_none o))) e
+                ∙ ap (λ b. Ok (record { history = cond b r.present.history (r.present.history ++ d ∷ []); present = d; mover = unwrap_or (player_at node) mover; passes = 0 })) (occurred_by_place r.present.history d (Some at) f)
+                ∙ ap (λ x. Ok (record { history = r.present.history; present = x; mover = unwrap_or (player_at node) mover; passes = 0 })) (sym (at_its_place r.present.history d at f))
+                ∙ sym (ap (λ x. Ok (walk_of x (unwrap_or (player_at node) mover))) is),
+            ap (λ x. x.size) is ∙ size,
+          )
       go None e None f h =
-          let is : new ≡ record r { present = record r.present { history = r.present.history ++ d ∷ []; place = length r.present.history; passes = 0 }; earlier = r.present ∷ r.earlier } = subst (λ o. Did (stepped r (with_liberties n o (moment_set_to r.present d None))) r (Ok u) new) e (subst (λ o. Did (stepped r (with_liberties n (first_without_liberty n d) (moment_set_to r.present d o))) r (Ok u) new) f h) in
-          (ap (λ o. set_to k node d (walk_of r mover) (not (is_none o))) e
-           ∙ ap (λ b. Ok (record { history = cond b r.present.history (r.present.history ++ d ∷ []); present = d; mover = unwrap_or (player_at node) mover; passes = 0 })) (occurred_by_place r.present.history d None f)
-           ∙ ap (λ x. Ok (record { history = r.present.history ++ d ∷ []; present = x; mover = unwrap_or (player_at node) mover; passes = 0 })) (sym (get_or-append_seam r.present.history d [] []))
-           ∙ sym (ap (λ x. Ok (walk_of x (unwrap_or (player_at node) mover))) is),
-           ap (λ x. x.size) is ∙ size)
+          let is : new ≡ record r { present = record r.present { history = r.present.history ++ d ∷ []; place = length r.present.history; passes = 0 }; earlier = r.present ∷ r.earlier } = subst (λ o. Did (stepped r (with_liberties n o (moment_set_to r.present d None))) r (Ok u) new) e (subst (λ o. Did (stepped r (with_liberties n (first_without_liberty n d) (moment_set_to r.present d o))) r (Ok u) new) f h) in (
+            ap (λ o. set_to k node d (walk_of r mover) (not (is_none o))) e
+                ∙ ap (λ b. Ok (record { history = cond b r.present.history (r.present.history ++ d ∷ []); present = d; mover = unwrap_or (player_at node) mover; passes = 0 })) (occurred_by_place r.present.history d None f)
+                ∙ ap (λ x. Ok (record { history = r.present.history ++ d ∷ []; present = x; mover = unwrap_or (player_at node) mover; passes = 0 })) (sym (get_or-append_seam r.present.history d [] []))
+                ∙ sym (ap (λ x. Ok (walk_of x (unwrap_or (player_at node) mover))) is),
+            ap (λ x. x.size) is ∙ size,
+          )
 
   pub set_up_refused : (fault : TurnFault) (new : GameRecord) → Did (setup_of r cells) r (Err fault) new → IsSetupFault fault × (IsNoLiberty fault → set_to k node d (walk_of r mover) (has_no_liberty n d) ≡ Err (faults.NoLiberty k))
   set_up_refused fault new did = go (first_without_liberty n d) refl (subst (λ x. Did x r (Err fault) new) due did)

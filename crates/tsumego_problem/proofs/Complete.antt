@@ -157,8 +157,8 @@ targets_colour n c (t ∷ ts) h = go (cell_at c (number_of n t)) refl h
     go Empty e f = absurd (cc (ap (λ a. not (same_cell a Empty) && list_all (λ q. same_cell (cell_at c q) a) (map (number_of n) ts)) (sym e) ∙ f))
     go (Stone x) e f =
         let others : list_all (λ q. same_cell (cell_at c q) (Stone x)) (map (number_of n) ts) ≡ true =
-            ap (λ a. list_all (λ q. same_cell (cell_at c q) a) (map (number_of n) ts)) (sym e)
-            ∙ and_right (not (same_cell (cell_at c (number_of n t)) Empty)) (list_all (λ q. same_cell (cell_at c q) (cell_at c (number_of n t))) (map (number_of n) ts)) f in
+        ap (λ a. list_all (λ q. same_cell (cell_at c q) a) (map (number_of n) ts)) (sym e)
+        ∙ and_right (not (same_cell (cell_at c (number_of n t)) Empty)) (list_all (λ q. same_cell (cell_at c q) (cell_at c (number_of n t))) (map (number_of n) ts)) f in
         (x, ap (λ a. one_colour (a ∷ map (λ p. cell_at c (number_of n p)) ts)) e ∙ ap (λ b. cond b (Some x) None) (turned ts others))
       where
         turned : (ps : List Place) → list_all (λ q. same_cell (cell_at c q) (Stone x)) (map (number_of n) ps) ≡ true → list_all (same_cell (Stone x)) (map (λ p. cell_at c (number_of n p)) ps) ≡ true
@@ -248,12 +248,12 @@ module _ (n : ℕ) (least : 1 ≤ n) (node : Node) (r : GameRecord) (mover : Col
       let few : nat_le 2 r.present.passes ≡ false = ap (λ b. b && nat_le 2 r.present.passes) (sym reached.marked) ∙ late.1 in
       let some : 0 < length region = omega (arith, sym (length-map region (number_of n)) ∙ ap length area, some_region n node least (region_is_good n reached.number node reached.fine)) in
       let none : first_refusal (refusals n h place r.present.passes targets region) ≡ None = eight
-          (not (list_all (λ c. nat_eq (length c) (n * n)) h && list_all (on_board n) targets && list_all (on_board n) region)) (not (nat_lt place (length h)))
-          (is_none (one_colour (map (λ p. cell_at (get_or h place []) (number_of n p)) targets))) (nat_le 2 r.present.passes) (nat_eq (length region) 0)
-          (nat_lt MAX_HISTORY (length h)) (not (list_all (all_reach_empty n) h)) (repeats h)
-          bad.OtherSize bad.BadPlace bad.BadTargets bad.Ended bad.EmptyRegion bad.LongHistory bad.NoLiberty bad.Repeated
-          (ap not (ap₂ (λ a b. a && b) (ap₂ (λ a b. a && b) reached.history.full (all_on_board n targets on_targets)) (all_on_board n region on_region)))
-          (ap not (lt-ltb place (length h) placed)) (ap is_none colour.1) few (not_zero (length region) some) late.2 (ap not reached.history.free) reached.history.once in
+      (not (list_all (λ c. nat_eq (length c) (n * n)) h && list_all (on_board n) targets && list_all (on_board n) region)) (not (nat_lt place (length h)))
+      (is_none (one_colour (map (λ p. cell_at (get_or h place []) (number_of n p)) targets))) (nat_le 2 r.present.passes) (nat_eq (length region) 0)
+      (nat_lt MAX_HISTORY (length h)) (not (list_all (all_reach_empty n) h)) (repeats h)
+      bad.OtherSize bad.BadPlace bad.BadTargets bad.Ended bad.EmptyRegion bad.LongHistory bad.NoLiberty bad.Repeated
+      (ap not (ap₂ (λ a b. a && b) (ap₂ (λ a b. a && b) reached.history.full (all_on_board n targets on_targets)) (all_on_board n region on_region)))
+      (ap not (lt-ltb place (length h) placed)) (ap is_none colour.1) few (not_zero (length region) some) late.2 (ap not reached.history.free) reached.history.once in
       first h refl none (colour.0, colour.1)
     where
       not_zero : (k : ℕ) → 0 < k → nat_eq k 0 ≡ false
@@ -263,11 +263,12 @@ module _ (n : ℕ) (least : 1 ≤ n) (node : Node) (r : GameRecord) (mover : Col
           → (q : GameProblem) × (problem_of_parts h place mover r.present.passes targets region ≡ Ok q)
       first [] e none colour = absurd (omega (arith, within, ap length e))
       first (c ∷ cs) e none (x, colour) =
-          let whole : nat_eq (length c) (n * n) ≡ true = and_left (nat_eq (length c) (n * n)) (list_all (λ d. nat_eq (length d) (n * n)) cs) (ap (list_all (λ d. nat_eq (length d) (n * n))) (sym e) ∙ reached.history.full) in
-          (kept_problem n h place mover r.present.passes targets x region,
-           on_first h c place mover r.present.passes targets region (ap (λ xs. slice_get xs 0) e)
-           ∙ ap (λ m. problem_on m h place mover r.present.passes targets region) (side_of-whole c n (eqb-true (length c) (n * n) whole))
-           ∙ made_of n h place mover r.present.passes targets region x none colour)
+          let whole : nat_eq (length c) (n * n) ≡ true = and_left (nat_eq (length c) (n * n)) (list_all (λ d. nat_eq (length d) (n * n)) cs) (ap (list_all (λ d. nat_eq (length d) (n * n))) (sym e) ∙ reached.history.full) in (
+            kept_problem n h place mover r.present.passes targets x region,
+            on_first h c place mover r.present.passes targets region (ap (λ xs. slice_get xs 0) e)
+                ∙ ap (λ m. problem_on m h place mover r.present.passes targets region) (side_of-whole c n (eqb-true (length c) (n * n) whole))
+                ∙ made_of n h place mover r.present.passes targets region x none colour,
+          )
 
 pub not_refused : (q : GameProblem) (e : BadProblem) → ◌≡◌ {A = Result GameProblem BadProblem} (Ok q) (Err e) → ⊥
 not_refused q e h = absurd (cc h)

@@ -80,7 +80,7 @@ module _ (n : ℕ) (node : Node) (r : GameRecord) (mover : Colour) (place : ℕ)
       let targets_are : q.game.targets ≡ targets_at n node = p.targets_are ∙ ap (λ m. map (number_of m) targets) size ∙ marked in
       let region_is : q.game.region ≡ region_at n node = p.region_is ∙ ap (λ m. map (number_of m) region) size ∙ area in
       let defender : q.game.defender ≡ colour_of (colouring_of r.present) (targets_at n node) =
-          sym (colour_standing (get_or q.history q.place []) q.game.defender q.game.targets f.problem.some_target f.problem.stones) ∙ ap₂ colour_of here targets_are in
+      sym (colour_standing (get_or q.history q.place []) q.game.defender q.game.targets f.problem.some_target f.problem.stones) ∙ ap₂ colour_of here targets_are in
       λ i. record {
         game = record { size = size i; targets = targets_are i; defender = defender i; region = region_is i };
         history = p.history_is i;

@@ -96,7 +96,7 @@ again n node c = same 0 (n * n) (omega arith)
     twice : (p : ℕ) → p < n * n → left_at n node (assigned n node c) p ≡ left_at n node c p
     twice p low =
         ap (λ x. cond (holds_point (points_at n (codes "AB") node) p) (Stone Black) (cond (holds_point (points_at n (codes "AW") node) p) (Stone White) (cond (holds_point (points_at n (codes "AE") node) p) Empty x)))
-          (get_or-map-range_with_len (left_at n node c) 0 (n * n) p p Empty low (omega arith))
+        (get_or-map-range_with_len (left_at n node c) 0 (n * n) p p Empty low (omega arith))
         ∙ settle (holds_point (points_at n (codes "AB") node) p) (holds_point (points_at n (codes "AW") node) p) (holds_point (points_at n (codes "AE") node) p) (cell_at c p)
       where
         settle : (a b d : Bool) (x : Cell) → cond a (Stone Black) (cond b (Stone White) (cond d Empty (cond a (Stone Black) (cond b (Stone White) (cond d Empty x))))) ≡ cond a (Stone Black) (cond b (Stone White) (cond d Empty x))
@@ -151,5 +151,5 @@ first_refused limit n root c is free stuck fine = go (has_setup root) refl (has_
     go true e false f =
         ap (λ o. unless o (opening n root) >>= changed n 0 root >>= (λ v. unless (late_fault limit n 0 root v) v)) fine
         ∙ ap (λ r. r >>= (λ v. unless (late_fault limit n 0 root v) v))
-          (ap₂ (changed_by n 0 root (opening n root)) (no_turn_at n root f) e
-           ∙ ap (λ b. set_to 0 root (assigned n root (assigned n root base)) (opening n root) (not b)) (ap (λ x. is_none (first_without_liberty n x)) (again n root base ∙ sym is) ∙ stuck))
+        (ap₂ (changed_by n 0 root (opening n root)) (no_turn_at n root f) e
+        ∙ ap (λ b. set_to 0 root (assigned n root (assigned n root base)) (opening n root) (not b)) (ap (λ x. is_none (first_without_liberty n x)) (again n root base ∙ sym is) ∙ stuck))

@@ -20,9 +20,10 @@ root_is (node ∷ nodes) t d e h = ap (λ xs. get_or (xs ++ line_below t.childre
 
 root_first : (nodes : List Node) (t : GameTree) → nodes ≡ t.nodes → 0 < length nodes → (rest : List Node) × (main_line t ≡ root_of t ∷ rest)
 root_first [] t e h = absurd (omega arith)
-root_first (node ∷ nodes) t e h =
-    (nodes ++ line_below t.children,
-     ap (λ xs. xs ++ line_below t.children) (sym e) ∙ ap (λ x. x ∷ (nodes ++ line_below t.children)) (ap (λ xs. get_or (xs ++ line_below t.children) 0 []) e))
+root_first (node ∷ nodes) t e h = (
+  nodes ++ line_below t.children,
+  ap (λ xs. xs ++ line_below t.children) (sym e) ∙ ap (λ x. x ∷ (nodes ++ line_below t.children)) (ap (λ xs. get_or (xs ++ line_below t.children) 0 []) e),
+)
 
 module _ (limit : Option ℕ) (t : GameTree) where
   within_by : (g : Bool) (s o : Option ℕ) → is_go (root_of t) ≡ g → board_size (root_of t) ≡ s → problem_node t ≡ o → problem_within limit t ≡ problem_on limit t g s o
@@ -63,8 +64,8 @@ module _ (limit : Option ℕ) (t : GameTree) where
   root_refuses n nodes fault same some e f h refuses =
       let line = root_first nodes t same some in
       walk_refuses n fault e f h
-        (ap (λ xs. walk_to_mark limit n 0 xs (opening n (root_of t))) line.1
-         ∙ ap (λ r. r >>= (λ v. if is_marked (root_of t) then Ok (root_of t, v) else walk_to_mark limit n (0 + 1) line.0 v)) refuses)
+      (ap (λ xs. walk_to_mark limit n 0 xs (opening n (root_of t))) line.1
+      ∙ ap (λ r. r >>= (λ v. if is_marked (root_of t) then Ok (root_of t, v) else walk_to_mark limit n (0 + 1) line.0 v)) refuses)
 
 -- what a call that makes the problem gives
 pub led_to : (r : Result GameProblem ProblemFault) (due : Result GameProblem ProblemFault) (q : GameProblem) → IfOk r (λ p. p ≡ q) → due ≡ Ok q → IfOk r (λ p. due ≡ Ok p)

@@ -8,8 +8,8 @@ ghost use Rattle.tsumego_problem.specs.Values.{trim, inside, rectangle, points_n
 ghost use Rattle.tsumego_problem.specs.Named.{Gains, Adds};
 ghost use Rattle.tsumego_problem.specs.Walk.{points_at};
 
-use crate::values::trim;
 use crate::main_line::values_at;
+use crate::values::trim;
 use go_points::{Point, PointSet, Size, sgf_point};
 use sgf_text::{Bytes, SgfNode};
 

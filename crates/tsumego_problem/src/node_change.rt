@@ -52,7 +52,13 @@ pub(crate) fn player_at(node: &SgfNode) -> Option<Colour>
 }
 
 /// What a point holds after these points were assigned.
-fn cell_after(black: &PointSet, white: &PointSet, empty: &PointSet, point: Point, cell: Cell) -> Cell
+fn cell_after(
+    black: &PointSet,
+    white: &PointSet,
+    empty: &PointSet,
+    point: Point,
+    cell: Cell,
+) -> Cell
     ensures { result ≡ if holds_place black.now point then Stone Black else (if holds_place white.now point then Stone White else (if holds_place empty.now point then Empty else cell)) }
 {
     if black.has(point) {
@@ -79,13 +85,20 @@ pub(crate) fn assigned(size: Size, node: &SgfNode, colouring: &Colouring) -> Col
     let mut after = *colouring;
     for number in 0..size.area() {
         let point = size.point_at(number);
-        after.set(point, cell_after(&black, &white, &empty, point, colouring.get(point)));
+        after.set(
+            point,
+            cell_after(&black, &white, &empty, point, colouring.get(point)),
+        );
     }
     after
 }
 
 /// Every point of the colouring with what it holds.
-fn cells_of(alloc: Global, size: Size, colouring: &Colouring) -> Result<Vec<(Point, Cell)>, AllocError>
+fn cells_of(
+    alloc: Global,
+    size: Size,
+    colouring: &Colouring,
+) -> Result<Vec<(Point, Cell)>, AllocError>
     requires { side_of colouring.now ≡ size }
     ensures { IfOk result (λ cells. map (numbered size) cells.items ≡ map (λ p. (p, cell_at colouring.now p)) (points size)) }
 {

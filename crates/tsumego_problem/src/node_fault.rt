@@ -105,7 +105,10 @@ pub(crate) fn node_fault(size: Size, number: usize, node: &SgfNode) -> Option<Pr
             node: number,
         });
     }
-    if has_bad_points(size, node) || is_bad_turn(size, b"B", node) || is_bad_turn(size, b"W", node) {
+    if has_bad_points(size, node)
+        || is_bad_turn(size, b"B", node)
+        || is_bad_turn(size, b"W", node)
+    {
         return Some(ProblemFault::BadPoint { node: number });
     }
     if setup_overlaps(size, node) {

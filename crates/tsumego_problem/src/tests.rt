@@ -4,7 +4,7 @@ use crate::main_line::values_at;
 use crate::named_points::read_points;
 use crate::sizes::read_size;
 use crate::values::read_colour;
-use crate::{problem_node, read_turn};
+use crate::{problem_node, read_problem, read_turn};
 use go_points::{Colour, Size, Turn, sgf_point};
 use sgf_text::read_tree;
 use std::alloc::Global;
@@ -134,6 +134,52 @@ fn finds_the_problem_node(rt: HostRuntime) -> Result<(), Fail> {
     for (text, number) in rows {
         let (tree, _end) = read_tree(alloc, text)?;
         assert_eq!(rt; problem_node(&tree), number);
+    }
+    Ok(())
+}
+
+// What is left of a record: how many colourings have occurred, which of them is present, who is to move, and the passes.
+#[test]
+fn walks_along_the_main_line(rt: HostRuntime) -> Result<(), Fail> {
+    let alloc = rt.alloc();
+    let rows: [(&[u8], usize, usize, Colour, u64); 5] = [
+        (b"(;SZ[3]AW[aa]TR[aa])", 1, 0, Colour::Black, 0),
+        (
+            b"(;SZ[3]AW[aa];B[bb];W[];PL[B]TR[aa])",
+            2,
+            1,
+            Colour::Black,
+            1,
+        ),
+        (
+            b"(;SZ[3]AW[aa];AB[cc];AE[cc]PL[W]TR[aa])",
+            2,
+            0,
+            Colour::White,
+            0,
+        ),
+        (
+            b"(;SZ[3];B[aa];W[ba];W[ab];PL[W]TR[ba])",
+            4,
+            3,
+            Colour::White,
+            0,
+        ),
+        (
+            b"(;SZ[3]AW[aa];W[tt];AB[cc]PL[b];W[]TR[aa])",
+            2,
+            1,
+            Colour::Black,
+            1,
+        ),
+    ];
+    for (text, colourings, place, mover, passes) in rows {
+        let (tree, _end) = read_tree(alloc, text)?;
+        let problem = read_problem(alloc, &tree)?;
+        assert_eq!(rt; problem.history().len(), colourings);
+        assert_eq!(rt; problem.place(), place);
+        assert_eq!(rt; problem.mover(), mover);
+        assert_eq!(rt; problem.passes(), passes);
     }
     Ok(())
 }

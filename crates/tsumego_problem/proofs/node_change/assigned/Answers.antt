@@ -11,9 +11,9 @@ loop-number-preserved c =
     let low : i < n * n = search rules in
     let held = c.get.ensures.value ∙ ap (λ m. cell_at old (number_of m p)) c.requires in
     let value = c.cell_after.ensures ∙ left_by_sets n node old c.points_at-black.result c.points_at-white.result c.points_at-empty.result p c.get.result
-        c.points_at-black.ensures.value c.points_at-black.ensures.on_board c.points_at-white.ensures.value c.points_at-white.ensures.on_board c.points_at-empty.ensures.value c.points_at-empty.ensures.on_board c.point_at-point.ensures.on_board held in
+    c.points_at-black.ensures.value c.points_at-black.ensures.on_board c.points_at-white.ensures.value c.points_at-white.ensures.on_board c.points_at-empty.ensures.value c.points_at-empty.ensures.on_board c.point_at-point.ensures.on_board held in
     filled_more n (left_at n node old) c.loop-number.after c.set.new.self i (number_of n p) c.cell_after.result low c.point_at-point.ensures.number_back (value ∙ ap (left_at n node old) c.point_at-point.ensures.number_back)
-      (c.set.ensures.value ∙ ap (λ m. slice_set c.loop-number.after (number_of m p) c.cell_after.result) c.loop-number.invariant.size) (c.set.ensures.size ∙ c.loop-number.invariant.size) c.loop-number.invariant
+    (c.set.ensures.value ∙ ap (λ m. slice_set c.loop-number.after (number_of m p) c.cell_after.result) c.loop-number.invariant.size) (c.set.ensures.size ∙ c.loop-number.invariant.size) c.loop-number.invariant
 
 pub returns-clause-value : goal.returns-clause-value
 returns-clause-value c =

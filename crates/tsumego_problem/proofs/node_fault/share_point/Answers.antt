@@ -10,7 +10,9 @@ returns-then-has c =
 
 pub loop-point-preserved : goal.loop-point-preserved
 loop-point-preserved c =
-    let n = c.args.size in let numbers = points_at n c.args.first.now c.args.node.now in let whole = share_point n c.args.first.now c.args.second.now c.args.node.now in
-    (search rules, search rules,
-     on_rest n c.points_at-held.result numbers c.points_at-held.ensures.value c.points_at-held.ensures.on_board c.loop-point.point-iterator c.next.new.self c.in-Some.point c.in-Some.ensures.steps c.loop-point.invariant.2 whole c.loop-point.invariant.3,
-     not_shared_here n c.points_at-held.result numbers c.points_at-held.ensures.value c.points_at-held.ensures.on_board c.loop-point.point-iterator c.next.new.self c.in-Some.point c.in-Some.ensures.steps c.loop-point.invariant.2 whole c.loop-point.invariant.3 c.has.result c.has.ensures c.if-has.false)
+    let n = c.args.size in let numbers = points_at n c.args.first.now c.args.node.now in let whole = share_point n c.args.first.now c.args.second.now c.args.node.now in (
+      search rules,
+      search rules,
+      on_rest n c.points_at-held.result numbers c.points_at-held.ensures.value c.points_at-held.ensures.on_board c.loop-point.point-iterator c.next.new.self c.in-Some.point c.in-Some.ensures.steps c.loop-point.invariant.2 whole c.loop-point.invariant.3,
+      not_shared_here n c.points_at-held.result numbers c.points_at-held.ensures.value c.points_at-held.ensures.on_board c.loop-point.point-iterator c.next.new.self c.in-Some.point c.in-Some.ensures.steps c.loop-point.invariant.2 whole c.loop-point.invariant.3 c.has.result c.has.ensures c.if-has.false,
+    )

@@ -26,9 +26,9 @@ returns-in-None-clause-refused c other =
     let opens : Opens n (opened n (made ∷ []) 0 0) c.new.result = subst (λ m. Opens m (opened m (made ∷ []) 0 0) c.new.result) c.assigned-colouring.ensures.size c.new.ensures in
     let free = subst (λ m. first_without_liberty m c.new-board.result ≡ None) c.new-board.ensures.size c.colouring.ensures.liberties in
     first_refused (Some history_limit) n root made is
-      (ap (first_without_liberty n) (sym bare) ∙ ap (first_without_liberty n) c.colouring.ensures.value ∙ free)
-      (opened_refused n made c.in-Err-NoLiberty.field-0-0 (subst (λ r. Opens n (opened n (made ∷ []) 0 0) r) (c.in-Err-NoLiberty.is ∙ ap Err c.in-Err-NoLiberty.field-0-is) opens))
-      (sym c.node_fault.ensures ∙ c.in-None.is)
+    (ap (first_without_liberty n) (sym bare) ∙ ap (first_without_liberty n) c.colouring.ensures.value ∙ free)
+    (opened_refused n made c.in-Err-NoLiberty.field-0-0 (subst (λ r. Opens n (opened n (made ∷ []) 0 0) r) (c.in-Err-NoLiberty.is ∙ ap Err c.in-Err-NoLiberty.field-0-is) opens))
+    (sym c.node_fault.ensures ∙ c.in-None.is)
 
 pub returns-in-Ok-clause-history : goal.returns-in-Ok-clause-history
 returns-in-Ok-clause-history c =

@@ -35,19 +35,22 @@ fn main(rt: HostRuntime) -> io::Result<()> {
 /// Says how many lines the claim has, and what the checker says of it.
 fn judge_once<R: Print + AllocGlobal>(rt: &R, sample: &Sample) -> io::Result<()> {
     let lines = split(sample)?;
-    let name = sample.name;
-    print!(rt; "{name}: {lines} lines, ")?;
-    print_answer(rt, judge(rt.alloc(), sample))
+    print_answer(rt, sample.name, lines, judge(rt.alloc(), sample))
 }
 
-fn print_answer(rt: &impl Print, answer: Result<Colour, Reject>) -> io::Result<()> {
+fn print_answer(
+    rt: &impl Print,
+    name: &str,
+    lines: u64,
+    answer: Result<Colour, Reject>,
+) -> io::Result<()> {
     match answer {
-        Ok(Colour::Black) => rt.println("Black wins"),
-        Ok(Colour::White) => rt.println("White wins"),
+        Ok(Colour::Black) => println!(rt; "{name}: {lines} lines, Black wins"),
+        Ok(Colour::White) => println!(rt; "{name}: {lines} lines, White wins"),
         Err(reject) => {
             let place = reject.place;
             let why = why_text(reject.why);
-            println!(rt; "rejected at line {place}: {why}")
+            println!(rt; "{name}: {lines} lines, rejected at line {place}: {why}")
         }
     }
 }
@@ -60,18 +63,18 @@ fn why_text(why: Why) -> &'static str {
     }
 }
 
-/// Prints how many lines a second are judged, and how many are split off alone.
+/// Says the same of a large claim, and how many lines a second are judged, and how many are split off alone.
 fn measure<R: Print + Clock + AllocGlobal>(rt: &R, sample: &Sample) -> io::Result<()> {
     let lines = split(sample)?;
-    let judging = time_judging(rt, sample)?;
+    let (answer, judging) = time_judging(rt, sample)?;
     let splitting = time_splitting(rt, sample)?;
-    let name = sample.name;
+    print_answer(rt, sample.name, lines, answer)?;
     let judged = per_second(lines, judging);
     let passed = per_second(lines, splitting);
     let ratio = tenths(judging, splitting);
     let whole = ratio / 10;
     let part = ratio % 10;
     println!(rt;
-        "{name}, {lines} lines: judged {judged} a second, split {passed} a second, {whole}.{part} times as long"
+        "judged {judged} lines a second, split {passed} lines a second, {whole}.{part} times as long"
     )
 }

@@ -29,11 +29,15 @@ pub fn split(sample: &Sample) -> io::Result<u64> {
     Ok(source.line_number())
 }
 
-/// How long it takes to judge the claim.
-pub fn time_judging<R: Clock + AllocGlobal>(rt: &R, sample: &Sample) -> io::Result<Duration> {
+/// What the checker says of the claim, and how long that takes.
+pub fn time_judging<R: Clock + AllocGlobal>(
+    rt: &R,
+    sample: &Sample,
+) -> io::Result<(Result<Colour, Reject>, Duration)> {
     let start = Instant::now(rt)?;
-    let _answer = judge(rt.alloc(), sample);
-    start.elapsed(rt)
+    let answer = judge(rt.alloc(), sample);
+    let time = start.elapsed(rt)?;
+    Ok((answer, time))
 }
 
 /// How long it takes to split the claim into lines.

@@ -1,0 +1,62 @@
+//! A claim that goes down one path, and says at its end that the game is won there, which it is not.
+
+use crate::lines::{add, add_number, add_turn};
+use go_points::Turn;
+use go_turns::{PlayBoard, PlaySeen};
+use std::alloc::{AllocError, Global};
+use target_game::{Problem, State};
+
+/// So many turns of Black, each at the last legal point, and behind each the first of the replies that are due.
+pub fn deep_path(alloc: Global, problem: &Problem, rounds: u32) -> Result<Vec<u8>, AllocError> {
+    let mut state = State::of(alloc, problem)?;
+    let mut text = Vec::new(alloc);
+    add(&mut text, b"tsucert 1 19 B\nmain\n")?;
+    for _ in 0..rounds {
+        let turn = last_move(&state);
+        go_down(&mut state, b"play ", turn, &mut text)?;
+        add_number(&mut text, b"all ", state.turns().len())?;
+        let reply = state.next_turn(0);
+        go_down(&mut state, b"reply ", reply, &mut text)?;
+    }
+    add(&mut text, b"won\n")?;
+    Ok(text)
+}
+
+/// The legal move at the greatest point; the pass, where there is none.
+fn last_move(state: &State<PlayBoard, PlaySeen>) -> Turn {
+    let turns = state.turns();
+    let all = turns.as_slice();
+    if all.len() < 2 {
+        return Turn::Pass;
+    }
+    all[all.len() - 2]
+}
+
+/// Adds the line of the turn, and makes it.
+fn go_down(
+    state: &mut State<PlayBoard, PlaySeen>,
+    word: &[u8],
+    turn: Turn,
+    text: &mut Vec<u8>,
+) -> Result<(), AllocError> {
+    let made = turn;
+    add_turn(text, word, made)?;
+    make(state, turn)
+}
+
+/// Makes the turn, where the game is not over and it is legal.
+fn make(state: &mut State<PlayBoard, PlaySeen>, turn: Turn) -> Result<(), AllocError> {
+    if state.over().is_some() {
+        return Ok(());
+    }
+    match turn {
+        Turn::Pass => state.after(Turn::Pass),
+        Turn::At(point) => {
+            if state.size().holds(point) && state.may_move(point) {
+                state.after(Turn::At(point))
+            } else {
+                Ok(())
+            }
+        }
+    }
+}

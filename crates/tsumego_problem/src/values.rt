@@ -2,17 +2,10 @@
 
 ghost use Rattle.std.specs.Prelude.{◌≡◌, reverse, option_map, option_and_then};
 ghost use Rattle.go_points.specs.Ply.{ply_of};
-ghost use Rattle.sgf_text.specs.Bytes.{is_white};
 ghost use Rattle.tsumego_problem.specs.Values.{skip_white, trim, turn_in, colour_in};
 
 use go_points::{Colour, Size, Turn, sgf_point};
-
-/// Whether the byte is tab, line feed, vertical tab, form feed, carriage return or space.
-fn is_white(byte: u8) -> bool
-    ensures { result ≡ is_white byte }
-{
-    (9 <= byte && byte <= 13) || byte == b' '
-}
+use sgf_text::token::is_white;
 
 /// The text from its first byte on that is no white space.
 fn skip_white(text: &[u8]) -> &[u8]

@@ -1,4 +1,4 @@
-use Rattle.std.proofs.Common.{rules, arith, ◌≡◌, ◌≤◌, ℕ, Some, None, IfOk, IfErr, ◌∙◌, subst, refl}
+use Rattle.std.proofs.Common.{rules, arith, ◌≡◌, ◌≤◌, Some, None, IfOk, IfErr, ◌∙◌, subst, refl}
 use Rattle.proof_cert.specs.Certificate.{claim_of}
 use Rattle.proof_cert.specs.Held.{Held, held_gives}
 use Rattle.cert_check.specs.declared.reject.Why.TheVariants as stops

@@ -1,4 +1,4 @@
-use Rattle.std.proofs.Common.{rules, arith, ◌≡◌, ◌≤◌, ◌<◌, ◌++◌, [], ◌∷◌, ℕ, suc, List, length, sym, ap, ap₂, ◌∙◌}
+use Rattle.std.proofs.Common.{rules, arith, ◌≡◌, ◌≤◌, ◌<◌, ◌++◌, [], ◌∷◌, ℕ, List, length, sym, ap, ap₂, ◌∙◌}
 use Rattle.proof_cert.specs.Claim.{Head}
 use Rattle.cert_check.specs.declared.reading.Opening.{Opening}
 use Rattle.cert_check.specs.Verdict.{fine}

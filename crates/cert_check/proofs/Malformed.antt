@@ -1,5 +1,5 @@
 -- Among lines of which one is malformed, there is a first fault.
-use Rattle.std.proofs.Common.{◌≡◌, ℕ, zero, suc, ◌+◌, ◌<◌, ◌≤◌, ◌⊎◌, Bool, true, false, nat_eq, nat_lt, ◌||◌, List, [], ◌∷◌, ◌++◌, length, map, Option, Some, None, refl, sym, ap, ◌∙◌, arith, if◌then◌else◌}
+use Rattle.std.proofs.Common.{◌≡◌, ℕ, zero, suc, ◌+◌, ◌<◌, ◌≤◌, Bool, true, false, nat_eq, nat_lt, ◌||◌, List, [], ◌∷◌, ◌++◌, length, map, Option, Some, None, refl, ap, arith, if◌then◌else◌}
 use Rattle.go_points.specs.declared.Colour.{Colour}
 use Rattle.go_points.specs.declared.Cell.{Cell}
 use Rattle.go_points.specs.Ply.{Ply}
@@ -7,8 +7,8 @@ use Rattle.target_game.specs.State.{Game, GameState, GameProblem, start}
 use Rattle.target_game.specs.Next.{next}
 use Rattle.proof_cert.specs.Claim.{Head, max_listed}
 use Rattle.proof_cert.specs.Lines.{Line, header_line, lemma_line, had_line, not_line, main_line, won_line, use_line, play_line, all_line, reply_line, end_line, line_fits, fitting}
-use Rattle.cert_check.specs.Body.{Body, Why, malformed, size_differs, limit, list_order, text_after_end, ask, due_replies, won_fault, play_fault, use_fault, all_fault, reply_fault, lemma_body, lemma_start, main_body}
-use Rattle.cert_check.specs.Verdict.{Reading, Judged, fine, faulty, then_judge, read_line, asked, node_asked, judge_line, judge_reply, judge_node, judge_replies, judge_end, judge_end_line, had_of, not_of, is_after, with_first, judge_list, judge_had, judge_not, judge_lemma, lemma_fault, judge_opening, judge_lemmas, rejected, judge_header, judge_claim, at_end, verdict, verdict_of}
+use Rattle.cert_check.specs.Body.{Body, Why, malformed, size_differs, limit, list_order, text_after_end, ask, due_replies, play_fault, all_fault, reply_fault, lemma_body, lemma_start, main_body}
+use Rattle.cert_check.specs.Verdict.{Reading, Judged, fine, faulty, then_judge, asked, node_asked, judge_line, judge_reply, judge_node, judge_replies, judge_end, judge_end_line, had_of, not_of, is_after, with_first, judge_list, judge_had, judge_not, judge_lemma, lemma_fault, judge_opening, judge_lemmas, rejected, judge_header, judge_claim, at_end, verdict, verdict_of}
 use Rattle.cert_check.proofs.Bounds.{reading}
 
 abbrev pub IsMalformedIn : List (Option Line) → Type 0

@@ -1,7 +1,6 @@
 -- The judge line by line: what each part of a claim is, from the line that is next.
-use Rattle.std.proofs.Common.{◌≡◌, ℕ, zero, suc, ◌+◌, ◌-◌, ◌*◌, ◌<◌, ◌≤◌, true, false, cond, List, [], ◌∷◌, ◌++◌, length, map, filter, Option, Some, None, Result, Ok, Err, OnOk, IfOk, IfErr, refl, sym, ap, ◌∙◌, subst, arith, le_refl}
+use Rattle.std.proofs.Common.{◌≡◌, ℕ, suc, ◌+◌, ◌-◌, ◌*◌, ◌<◌, ◌≤◌, true, false, cond, List, [], ◌∷◌, ◌++◌, length, map, filter, Option, Some, None, Result, Ok, Err, OnOk, IfOk, IfErr, refl, sym, ap, ◌∙◌, subst, arith, le_refl}
 use Rattle.std.specs.List.{range_with_len}
-use Rattle.go_points.specs.declared.Colour.{Colour}
 use Rattle.go_points.specs.declared.Turn.TheVariants.{At}
 use Rattle.go_points.specs.Place.{Place, IsOn, number_of}
 use Rattle.go_points.specs.Ply.{Ply, pass, move, ply_of}
@@ -12,7 +11,7 @@ use Rattle.target_game.specs.Next.{next}
 use Rattle.proof_cert.specs.Lines.{Line}
 use Rattle.cert_check.specs.declared.reject.Reject.{Reject}
 use Rattle.cert_check.specs.Body.{Body, Why, due_replies}
-use Rattle.cert_check.specs.Verdict.{Reading, Judged, fine, faulty, then_judge, asked, judge_reply, judge_node, judge_replies}
+use Rattle.cert_check.specs.Verdict.{Reading, Judged, fine, faulty, then_judge, judge_reply, judge_node, judge_replies}
 use Rattle.cert_check.specs.Stage.{why_value}
 use Rattle.cert_check.specs.Parts.{Held, IsReadBehind, IsFault, Refuses, judged_line, judged_node, judged_replies, judged_reply, due_from}
 use Rattle.cert_check.proofs.Bounds.{reading, then_same, Leaves-reply, Leaves-node, same_line, same_node, same_replies}

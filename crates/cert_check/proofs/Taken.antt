@@ -1,15 +1,15 @@
 -- What the checker answers over the lines of a text.
-use Rattle.std.proofs.Common.{◌≡◌, ℕ, ◌≤◌, ◌⊎◌, inl, inr, Bool, true, false, List, [], ◌∷◌, ◌++◌, length, Option, Some, None, Ok, Err, refl, sym, ap, ◌∙◌, arith}
+use Rattle.std.proofs.Common.{◌≡◌, ℕ, ◌≤◌, ◌⊎◌, inl, inr, Bool, true, false, List, [], ◌∷◌, length, Option, Some, None, Ok, Err, ap, ◌∙◌, arith}
 use Rattle.go_points.specs.declared.Colour.{Colour}
 use Rattle.target_game.specs.State.{GameProblem}
 use Rattle.proof_cert.specs.Lines.{Line}
-use Rattle.proof_cert.specs.Source.{Source, source_of, answer_from, lines_read, text_gives}
+use Rattle.proof_cert.specs.Source.{source_of, answer_from, lines_read, text_gives}
 use Rattle.proof_cert.specs.Given.{IsFrontOfText, LinesGivenOfText}
 use Rattle.proof_cert.specs.declared.source.SourceFault.TheVariants.{Read}
 use Rattle.cert_check.specs.Body.{Why}
 use Rattle.cert_check.specs.Verdict.{verdict, accepted, rejected}
 use Rattle.cert_check.specs.Parts.{line_values}
-use Rattle.cert_check.specs.Checks.{Answers, Accepts, RejectsAt, FailsAt, TextsJudged}
+use Rattle.cert_check.specs.Checks.{Answers, Accepts, RejectsAt, TextsJudged}
 use Rattle.cert_check.proofs.Faults.{faults_stay}
 use Rattle.cert_check.proofs.Taking.{as_long}
 

@@ -1,5 +1,5 @@
 -- What is taken of a source of lines, and what is answered of it.
-use Rattle.std.proofs.Common.{◌≡◌, ℕ, zero, suc, ◌+◌, ◌^◌, ◌<◌, ◌≤◌, ◌⊎◌, inl, inr, Bool, true, false, nat_le, ◌||◌, List, [], ◌∷◌, ◌++◌, length, map, Option, Some, None, option_map, Result, Ok, Err, IfOk, IfErr, refl, sym, ap, ◌∙◌, subst, arith, length-append, leb-true, leb-false, if◌then◌else◌}
+use Rattle.std.proofs.Common.{◌≡◌, ℕ, suc, ◌+◌, ◌^◌, ◌<◌, ◌≤◌, ◌⊎◌, inl, inr, Bool, true, false, nat_le, ◌||◌, List, [], ◌∷◌, ◌++◌, length, Option, Some, None, option_map, Result, Ok, Err, IfSome, OnSome, IfOk, IfErr, refl, sym, ap, ◌∙◌, subst, arith, length-append, leb-true, leb-false, if◌then◌else◌}
 use Rattle.std.proofs.lemmas.List.{map-append}
 use Rattle.go_points.specs.declared.Colour.{Colour}
 use Rattle.target_game.specs.State.{GameProblem}
@@ -22,7 +22,7 @@ use Rattle.cert_check.proofs.Malformed.{IsMalformedIn, malformed_rejected}
 
 -- TAKING
 
-ends_malformed : (ls : List (Option code.Line)) → HasMalformed (ls ++ None ∷ [])
+pub ends_malformed : (ls : List (Option code.Line)) → HasMalformed (ls ++ None ∷ [])
 ends_malformed [] = tt
 ends_malformed (None ∷ ls) = tt
 ends_malformed (Some l ∷ ls) = ends_malformed ls
@@ -39,6 +39,15 @@ module _ {S : Type 0} (gives : S → Result (Option Line) SourceFault → S → 
 
   pub one_more : (ls : List (Option code.Line)) (l : Option code.Line) → length (ls ++ l ∷ []) ≡ length ls + 1
   one_more ls l = length-append ls (l ∷ [])
+
+-- a source that had failed gives nothing
+pub never : (o p : Option SourceFault) (r : Result (Option code.Line) SourceFault) (a : Option code.Line) (P : Type 0) → OnSome o (p ≡ o) → IfSome p (λ e. r ≡ Err e) → r ≡ Ok a → OnSome o P
+never None p r a P same stays is = tt
+never (Some e) p r a P same stays is = absurd (let bad : r ≡ Err e = subst (λ (f : Option SourceFault). IfSome f (λ d. r ≡ Err d)) same stays in cc (sym is ∙ bad))
+
+pub on_some_of : (o : Option SourceFault) (P : Type 0) → P → OnSome o P
+on_some_of None P h = tt
+on_some_of (Some e) P h = h
 
 -- ANSWERING
 
@@ -127,6 +136,11 @@ module _ {S : Type 0} (gives : S → Result (Option Line) SourceFault → S → 
       ended : Answers gives all.left (Ok None) ⊎ HasMalformed ls → Answers gives all.left (Ok None)
       ended (inl a) = a
       ended (inr h) = absurd (let r = malformed_rejected q (line_values q.game.size ls) (as_malformed q.game.size ls h) in cc (sym e ∙ r.2))
+
+  -- where a line is malformed, nobody wins
+  pub none_wins : (o : Option SourceFault) → OnSome o (HasMalformed ls) → (o ≡ None → TookAll gives n s ls) → (x : Colour) → verdict q (line_values q.game.size ls) ≡ accepted x → Accepts gives n q s x
+  none_wins None h all x e = all_accepts (all refl) x e
+  none_wins (Some f) h all x e = absurd (let r = malformed_rejected q (line_values q.game.size ls) (as_malformed q.game.size ls h) in cc (sym e ∙ r.2))
 
   pub all_rejects : TookAll gives n s ls → (p : ℕ) (w : Why) → verdict q (line_values q.game.size ls) ≡ rejected p w → RejectsAt gives n q s p w
   all_rejects all p w e = record { taken = ls; left = all.left; took = all.took; there = there all.there; rejected = e }

@@ -9,7 +9,7 @@ use Rattle.std.specs.List.{range_with_len}
 use Rattle.go_points.specs.declared.Colour.{Colour}
 use Rattle.go_points.specs.declared.Cell.{Cell}
 use Rattle.go_points.specs.Ply.{Ply, pass, move, ply_of}
-use Rattle.target_game.specs.State.{Game, GameState, GameProblem}
+use Rattle.target_game.specs.State.{Game, GameState}
 use Rattle.target_game.specs.Legal.{legal}
 use Rattle.target_game.specs.Next.{next}
 use Rattle.proof_cert.specs.Claim.{Head}

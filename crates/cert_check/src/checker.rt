@@ -1,12 +1,12 @@
 //! The checker of claims, over any source of lines.
 
-ghost use Rattle.std.specs.Prelude.{◌≡◌, ◌<◌, ◌^◌, [], Some, None, IfOk, IfErr, OnOk};
+ghost use Rattle.std.specs.Prelude.{◌≡◌, ◌<◌, ◌^◌, [], Some, None, IfOk, IfErr, OnOk, OnSome};
 ghost use Rattle.target_game.specs.State.{start};
 ghost use Rattle.target_game.specs.Wins.{Wins};
 ghost use Rattle.cert_check.specs.declared.reject.Why.TheVariants.{Read};
 ghost use Rattle.cert_check.specs.Body.{Why as SpecWhy};
 ghost use Rattle.cert_check.specs.Stage.{why_value};
-ghost use Rattle.cert_check.specs.Checks.{TookAll, TookFew, Accepts, RejectsAt, FailsAt, stop_of};
+ghost use Rattle.cert_check.specs.Checks.{HasMalformed, TookAll, TookFew, Accepts, RejectsAt, FailsAt, stop_of};
 
 use crate::claim::judge_lines;
 use crate::reject::{Reject, Why};
@@ -19,6 +19,7 @@ use target_game::Problem;
 fn take_lines<S: NodeSource>(source: &mut S, lines: &mut Vec<Option<Line>>) -> Result<(), Why>
     requires { lines.old.items ≡ [] }
     ensures ok { S.fault source.old ≡ None → OnOk result (TookAll S.gives (S.size source.old) source.old lines.new.items) }
+    ensures failed { OnSome (S.fault source.old) (OnOk result (HasMalformed lines.new.items)) }
     ensures err { S.fault source.old ≡ None → IfErr result (λ why. TookFew S.gives S.number (S.size source.old) source.old lines.new.items why) }
 {
     for _ in 0..u64::MAX {
@@ -73,7 +74,7 @@ pub fn check<S: NodeSource>(
     problem: &Problem,
     source: &mut S,
 ) -> Result<Colour, Reject>
-    ensures ok { S.fault source.old ≡ None → IfOk result (λ x. Accepts S.gives (S.size source.old) problem.now source.old x) }
+    ensures ok { IfOk result (λ x. Accepts S.gives (S.size source.old) problem.now source.old x) }
     ensures wins { IfOk result (λ x. Wins x (start problem.now)) }
     ensures err { S.fault source.old ≡ None → IfErr result (λ e. (why : SpecWhy) → why_value problem.now.game.size e.why ≡ Some why → RejectsAt S.gives (S.size source.old) problem.now source.old e.place why) }
     ensures read { S.fault source.old ≡ None → IfErr result (λ e. e.why ≡ Read → FailsAt S.gives S.number (S.size source.old) problem.now source.old e.place) }

@@ -29,7 +29,6 @@ impl Model for Checked {
     ghost use Rattle.std.specs.Prelude.{◌≡◌};
     ghost use Rattle.proof_cert.specs.Certificate.{claim_of};
     ghost use Rattle.cert_check.specs.Checked.{CheckedClaim, IsChecked};
-
     ghost use Rattle.proof_cert.specs.contracts.certificate.Node as node;
     ghost use Rattle.std.specs.Coded.{codes};
 
@@ -68,11 +67,7 @@ impl Checked {
 }
 
 /// Who wins by the certificate, or its first fault.
-fn judge_held(
-    alloc: Global,
-    problem: &Problem,
-    certificate: &Certificate,
-) -> Result<Colour, Reject>
+fn judge_held(alloc: Global, problem: &Problem, certificate: &Certificate) -> Result<Colour, Reject>
     ensures ok { IfOk result (λ x. IsChecked problem.now (claim_of certificate.now) × ((claim_of certificate.now).winner ≡ x)) }
     ensures err { IfErr result (λ e. (e.why ≡ Memory) ⊎ (IsChecked problem.now (claim_of certificate.now) → ⊥)) }
 {

@@ -5,7 +5,6 @@ use crate::{Reject, Why};
 use go_points::{Colour, Turn};
 use std::alloc::Global;
 use std::process::Abort;
-use std::test::Fail;
 use target_game::Problem;
 
 // White has one stone in the corner, with black below it: black captures it at its right.
@@ -135,15 +134,8 @@ fn lemmas_that_nothing_uses_are_judged(rt: HostRuntime) {
 }
 
 #[test]
-fn a_lemma_begins_with_its_root_known(rt: HostRuntime) -> Result<(), Fail> {
-    // White takes back at the corner, which makes the root again.
-    let open = open_ko(rt.alloc(), &rt);
-    let again = "tsucert 1 3 W\nlemma B 0 O.OXO....\nall 2\nreply ba\nplay aa\n";
-    assert_eq!(rt;
-        judged(rt.alloc(), &open, again.as_bytes()),
-        refused(5, Why::WrongSide)
-    );
-    let wide = problem(
+fn a_lemma_begins_with_its_root_known(rt: HostRuntime) {
+    let standing = problem(
         rt.alloc(),
         &rt,
         3,
@@ -151,28 +143,31 @@ fn a_lemma_begins_with_its_root_known(rt: HostRuntime) -> Result<(), Fail> {
         Colour::Black,
         &[(1, 0), (0, 1)],
     );
-    let suicide = "tsucert 1 3 W\nlemma W 0 X.XXX....\nplay ba\n";
+    // White takes itself off again, which leaves the root.
+    let suicide = b"tsucert 1 3 W\nlemma W 0 X.XXX....\nplay ba\n";
     assert_eq!(rt;
-        judged(rt.alloc(), &wide, suicide.as_bytes()),
+        judged(rt.alloc(), &standing, suicide),
         refused(3, Why::RepeatsKnown)
     );
-    Ok(())
+}
+
+// The answer to the lemma in which black takes the ko, and these lines.
+fn behind_the_ko(rt: &impl Abort, alloc: Global, rest: &str) -> Result<Colour, Reject> {
+    let mut claim = Vec::new(alloc);
+    claim
+        .extend_from_slice(
+            b"tsucert 1 3 B\nlemma B 0 O.OXO....\nnot .XOXO....\nplay ba\nwon\nend\n",
+        )
+        .expect(rt, "memory");
+    claim
+        .extend_from_slice(rest.as_bytes())
+        .expect(rt, "memory");
+    judged(alloc, &open_ko(alloc, rt), claim.as_slice())
 }
 
 #[test]
 fn uses_of_lemmas(rt: HostRuntime) {
-    let open = open_ko(rt.alloc(), &rt);
-    let front = "tsucert 1 3 B\nlemma B 0 O.OXO....\nnot .XOXO....\nplay ba\nwon\nend\n";
-    let check = |rest: &str| {
-        let mut claim = Vec::new(rt.alloc());
-        claim
-            .extend_from_slice(front.as_bytes())
-            .expect(&rt, "memory");
-        claim
-            .extend_from_slice(rest.as_bytes())
-            .expect(&rt, "memory");
-        judged(rt.alloc(), &open, claim.as_slice())
-    };
+    let check = |rest: &str| behind_the_ko(&rt, rt.alloc(), rest);
     assert_eq!(rt; check("main\nuse 1\nend\n"), Ok(Colour::Black));
     assert_eq!(rt; check("main\nuse 2\nend\n"), refused(8, Why::LemmaNotLower));
     assert_eq!(rt;
@@ -187,6 +182,11 @@ fn uses_of_lemmas(rt: HostRuntime) {
         check("lemma B 0 O.OXO....\nnot .XOXO....\nuse 1\nend\nmain\nuse 2\nend\n"),
         Ok(Colour::Black)
     );
+}
+
+#[test]
+fn uses_at_other_states(rt: HostRuntime) {
+    let check = |rest: &str| behind_the_ko(&rt, rt.alloc(), rest);
     assert_eq!(rt;
         check("lemma B 1 O.OXO....\nnot .XOXO....\nuse 1\n"),
         refused(9, Why::StateDiffers)
@@ -201,7 +201,7 @@ fn uses_of_lemmas(rt: HostRuntime) {
     );
     let passed =
         b"tsucert 1 3 B\nlemma B 1 O.OXO....\nnot .XOXO....\nplay ba\nwon\nend\nmain\nuse 1\nend\n";
-    let passes = judged(rt.alloc(), &open, passed);
+    let passes = judged(rt.alloc(), &open_ko(rt.alloc(), &rt), passed);
     assert_eq!(rt; passes, refused(8, Why::StateDiffers));
 }
 

@@ -123,16 +123,11 @@ pub(crate) fn judge_lemmas(
             } => (mover, passes, root),
             Opening::Main => return Ok(heads),
         };
-        let head = match judge_lemma(
-            alloc,
-            problem,
-            reading,
-            winner,
-            heads.as_slice(),
-            mover,
-            passes,
-            root,
-        ) {
+        let earlier = heads.as_slice();
+        let judged = judge_lemma(
+            alloc, problem, reading, winner, earlier, mover, passes, root,
+        );
+        let head = match judged {
             Ok(head) => head,
             Err(reject) => return Err(reject),
         };

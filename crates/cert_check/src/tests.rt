@@ -90,6 +90,25 @@ fn lines_that_are_malformed(rt: HostRuntime) {
     assert_eq!(rt; check(b""), refused(1, Why::Malformed));
     assert_eq!(rt; check(b"tsucert 2 2 B\n"), refused(1, Why::Malformed));
     assert_eq!(rt; check(b"tsucert 1 02 B\n"), refused(1, Why::Malformed));
+    assert_eq!(rt; check(b"tsucert 1 2 B\nmain\n"), refused(3, Why::Malformed));
+    assert_eq!(rt;
+        check(b"tsucert 1 2 B\nmain\nend\n"),
+        refused(3, Why::Malformed)
+    );
+    assert_eq!(rt;
+        check(b"tsucert 1 2 B\nmain\nall 2\nreply ab\nplay pass"),
+        refused(5, Why::Malformed)
+    );
+    assert_eq!(rt;
+        check(b"tsucert 1 3 B\nmain\n"),
+        refused(1, Why::SizeDiffers)
+    );
+}
+
+#[test]
+fn lines_of_lemmas_that_are_malformed(rt: HostRuntime) {
+    let quiet = quiet(rt.alloc(), &rt);
+    let check = |claim: &[u8]| judged(rt.alloc(), &quiet, claim);
     assert_eq!(rt;
         check(b"tsucert 1 2 B\nlemma B 0 X...\n"),
         refused(3, Why::Malformed)
@@ -109,19 +128,6 @@ fn lines_that_are_malformed(rt: HostRuntime) {
     assert_eq!(rt;
         check(b"tsucert 1 2 B\nmain\nnot X...\n"),
         refused(3, Why::Malformed)
-    );
-    assert_eq!(rt; check(b"tsucert 1 2 B\nmain\n"), refused(3, Why::Malformed));
-    assert_eq!(rt;
-        check(b"tsucert 1 2 B\nmain\nend\n"),
-        refused(3, Why::Malformed)
-    );
-    assert_eq!(rt;
-        check(b"tsucert 1 2 B\nmain\nall 2\nreply ab\nplay pass"),
-        refused(5, Why::Malformed)
-    );
-    assert_eq!(rt;
-        check(b"tsucert 1 3 B\nmain\n"),
-        refused(1, Why::SizeDiffers)
     );
 }
 

@@ -1,5 +1,3 @@
-use Rattle.std.proofs.Common.{List}
-use Rattle.go_points.specs.declared.Cell.{Cell}
 use Rattle.go_points.specs.Grid.{same_cells}
 use Rattle.target_game.proofs.Loops.{AnyAfter}
 use Rattle.cert_check.proofs.body.is_on_list.Given as goal

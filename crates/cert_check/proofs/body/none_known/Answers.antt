@@ -1,4 +1,4 @@
-use Rattle.std.proofs.Common.{rules, ◌≡◌, ◌∙◌, sym, ap, not, List, true, false, refl}
+use Rattle.std.proofs.Common.{rules, ◌∙◌, sym, not, List, true, false, refl}
 use Rattle.go_points.specs.declared.Cell.{Cell}
 use Rattle.target_game.proofs.Loops.{all_more, all_no, all_yes}
 use Rattle.cert_check.specs.Body.{is_known}

@@ -5,18 +5,18 @@ use Rattle.cert_check.specs.Stage.{Rejects}
 use Rattle.cert_check.specs.Parts.{line_values}
 use Rattle.cert_check.specs.Checks.{stop_of}
 use Rattle.cert_check.proofs.Steps.{if_ok_map, if_err_map}
-use Rattle.cert_check.proofs.Taking.{rejected_as, all_accepts, all_rejects, few_rejects, few_fails}
+use Rattle.cert_check.proofs.Taking.{rejected_as, none_wins, all_rejects, few_rejects, few_fails}
 use Rattle.cert_check.proofs.checker.check.Goals as goal
 
 pub returns-in-Ok-clause-ok : goal.returns-in-Ok-clause-ok
-returns-in-Ok-clause-ok g c = λ fresh.
+returns-in-Ok-clause-ok g c =
     let q = c.args.problem.now in
     let gives = g.S.NodeSource.gives in
     let s = c.args.source.now in
     let n : ℕ = g.S.NodeSource.size s in
     let ls = c.take_lines-taken.new.lines.items in
     let judged = c.judge_lines-judged in
-    if_ok_map judged.result _ _ (λ x h. all_accepts gives g.S.NodeSource.number n q s ls (c.in-Ok.ensures.ok fresh) x (ap (λ (ks : List (Option code.Line)). verdict q (line_values q.game.size ks)) (sym c.as_slice.ensures.value) ∙ h)) judged.ensures.ok
+    if_ok_map judged.result _ _ (λ x h. none_wins gives g.S.NodeSource.number n q s ls (g.S.NodeSource.fault s) c.in-Ok.ensures.failed c.in-Ok.ensures.ok x (ap (λ (ks : List (Option code.Line)). verdict q (line_values q.game.size ks)) (sym c.as_slice.ensures.value) ∙ h)) judged.ensures.ok
 
 pub returns-in-Ok-clause-err : goal.returns-in-Ok-clause-err
 returns-in-Ok-clause-err g c = λ fresh.

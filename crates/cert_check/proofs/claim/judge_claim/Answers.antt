@@ -1,6 +1,5 @@
-use Rattle.std.proofs.Common.{arith, ◌≡◌, ◌≤◌, ◌<◌, length, List, sym, ap, ap₂, ◌∙◌, subst}
+use Rattle.std.proofs.Common.{arith, ◌≡◌, ◌≤◌, ◌<◌, length, sym, ap, ap₂, ◌∙◌, subst}
 use Rattle.target_game.specs.State.{GameState, Line, start}
-use Rattle.proof_cert.specs.Claim.{Head}
 use Rattle.cert_check.specs.Body.{Body, main_body}
 use Rattle.cert_check.specs.Parts.{Refuses, reading_of, judged_body}
 use Rattle.cert_check.proofs.Steps.{refuses_size}

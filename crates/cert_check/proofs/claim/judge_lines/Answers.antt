@@ -1,4 +1,4 @@
-use Rattle.std.proofs.Common.{◌≡◌, ℕ, sym, ap, ◌∙◌, subst}
+use Rattle.std.proofs.Common.{◌≡◌, ℕ, ap, ◌∙◌, subst}
 use Rattle.cert_check.specs.Verdict.{accepted, at_end, verdict, verdict_of}
 use Rattle.cert_check.specs.Stage.{Rejects}
 use Rattle.cert_check.specs.Parts.{Held, reading_of, line_values}

@@ -1,4 +1,4 @@
-use Rattle.std.proofs.Common.{rules, arith, ◌≡◌, ◌≤◌, ℕ, Some, None, IfOk, IfErr, ◌∙◌, subst, refl}
+use Rattle.std.proofs.Common.{rules, arith, ◌≡◌, ◌≤◌, Some, None, IfOk, IfErr, ◌∙◌, subst, refl}
 use Rattle.proof_cert.specs.Certificate.{claim_of}
 use Rattle.proof_cert.specs.Held.{Held, held_gives}
 use Rattle.cert_check.specs.declared.reject.Why.TheVariants as stops
@@ -20,7 +20,7 @@ returns-clause-ok c =
     let high : q.game.size ≤ 25 = omega (arith, rows, most) in
     let named : z.size ≡ c.size-2.result = search rules in
     let size : z.size ≡ q.game.size = named ∙ c.size-2.ensures in
-    let checked = subst (λ (h : Held). h.fault ≡ None → IfOk c.check.result (λ x. Accepts held_gives h.size q h x)) c.new.ensures c.check.ensures.ok refl in
+    let checked = subst (λ (h : Held). IfOk c.check.result (λ x. Accepts held_gives h.size q h x)) c.new.ensures c.check.ensures.ok in
     if_ok_map c.check.result _ _ (λ x h. held_accepted q z low high size c.lines_given_of_claim.ensures c.one_claim_of_text.ensures x h) checked
 
 pub returns-clause-err : goal.returns-clause-err

@@ -1,12 +1,11 @@
-use Rattle.std.proofs.Common.{◌≡◌, ℕ, List, Some, sym, ap, ap₂, ◌∙◌, subst}
+use Rattle.std.proofs.Common.{◌≡◌, List, Some, sym, ap, ap₂, ◌∙◌, subst}
 use Rattle.go_points.specs.declared.Cell.{Cell}
 use Rattle.target_game.specs.State.{GameState, state_alone}
 use Rattle.proof_cert.specs.Claim.{Head}
 use Rattle.cert_check.specs.Body.{Body, lemma_body}
 use Rattle.cert_check.specs.Verdict.{fine}
 use Rattle.cert_check.specs.Parts.{Refuses, head_of, reading_of, judged_body}
-use Rattle.cert_check.proofs.Steps.{refuses_same, refuses_size}
-use Rattle.cert_check.proofs.LemmaParts.{lemma_fine, begin_refused, list_refused, body_refused}
+use Rattle.cert_check.proofs.LemmaParts.{lemma_fine, begin_refused, body_refused}
 use Rattle.cert_check.proofs.lemmas.judge_lemma.Goals as goal
 
 pub returns-in-Err-clause-err : goal.returns-in-Err-clause-err

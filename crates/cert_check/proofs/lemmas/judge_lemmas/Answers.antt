@@ -1,4 +1,4 @@
-use Rattle.std.proofs.Common.{rules, arith, ◌≡◌, ◌≤◌, ◌<◌, ◌++◌, [], ◌∷◌, ℕ, suc, List, length, sym, ap, ap₂, ◌∙◌}
+use Rattle.std.proofs.Common.{rules, arith, ◌≡◌, ◌≤◌, ◌<◌, ◌++◌, [], ◌∷◌, ℕ, List, length, sym, ap, ap₂, ◌∙◌}
 use Rattle.proof_cert.specs.Claim.{Head}
 use Rattle.cert_check.specs.declared.reading.Opening.{Opening}
 use Rattle.cert_check.specs.Verdict.{fine}
@@ -17,8 +17,8 @@ returns-in-Err-clause-err c =
     refuses_same g.size _ _ e c.loop-opening.invariant.2
     (opening_refused g x heads r r g.size e (refuses_size c.loop-opening.reading.size g.size _ e (c.loop-opening.invariant.0 ∙ c.requires.size) (c.in-Err.ensures.err g heads (judged_on g x heads))))
 
-pub judge_lemma-requires-clause-root : goal.judge_lemma-requires-clause-root
-judge_lemma-requires-clause-root c =
+pub judge_lemma-judged-requires-clause-root : goal.judge_lemma-judged-requires-clause-root
+judge_lemma-judged-requires-clause-root c =
     root_fits c.loop-opening.reading.size c.in-Ok.opening c.in-Lemma.mover c.in-Lemma.passes c.in-Lemma.root c.in-Lemma.is c.in-Ok.ensures.fits ∙ c.loop-opening.invariant.0 ∙ c.requires.size
 
 pub loop-opening-preserved : goal.loop-opening-preserved
@@ -28,18 +28,18 @@ loop-opening-preserved c =
     let heads = c.loop-opening.heads.items in
     let r = reading_of c.loop-opening.reading in
     let r1 = reading_of c.opening.new.self in
-    let r2 = reading_of c.judge_lemma.new.reading in
+    let r2 = reading_of c.judge_lemma-judged.new.reading in
     let mover = c.in-Lemma.mover in
     let passes = c.in-Lemma.passes in
     let root = c.in-Lemma.root in
-    let h = c.in-Ok-judge_lemma.head in
+    let h = c.in-Ok-judged.head in
     let one : length c.opening.new.self.left < length c.loop-opening.reading.left = c.in-Ok.ensures.kept.shorter in
-    let two : length c.judge_lemma.new.reading.left ≤ length c.opening.new.self.left = c.in-Ok-judge_lemma.ensures.kept.shorter in
+    let two : length c.judge_lemma-judged.new.reading.left ≤ length c.opening.new.self.left = c.in-Ok-judged.ensures.kept.shorter in
     let old : length c.loop-opening.reading.left ≤ length c.args.reading.now.left = c.loop-opening.invariant.1 in
     let read = c.in-Ok.ensures.ok ∙ ap (λ (o : Opening). fine (opening_value o) r1) c.in-Lemma.is in
-    let good = ap₂ (λ (hs : List Head) (k : ℕ). judged_opened g x hs k mover passes root r1) (sym c.as_slice.ensures.value) (sym c.in-Ok.ensures.kept.number) ∙ c.in-Ok-judge_lemma.ensures.ok in
+    let good = ap₂ (λ (hs : List Head) (k : ℕ). judged_opened g x hs k mover passes root r1) (sym c.as_slice-earlier.ensures.value) (sym c.in-Ok.ensures.kept.number) ∙ c.in-Ok-judged.ensures.ok in
     let pushed : c.push.new.self.items ≡ heads ++ h ∷ [] = search rules in (
-      c.in-Ok-judge_lemma.ensures.kept.size ∙ c.in-Ok.ensures.kept.size ∙ c.loop-opening.invariant.0,
+      c.in-Ok-judged.ensures.kept.size ∙ c.in-Ok.ensures.kept.size ∙ c.loop-opening.invariant.0,
       omega (arith, one, two, old),
       c.loop-opening.invariant.2 ∙ lemmas_more g x heads r r1 mover passes root h r2 read good ∙ ap (λ (hs : List Head). judged_lemmas g x hs r2) (sym pushed),
     )

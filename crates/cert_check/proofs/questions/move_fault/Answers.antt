@@ -1,4 +1,4 @@
-use Rattle.std.proofs.Common.{rules, Bool, true, false, Some, option_map, ℕ, sym, ap, ◌∙◌, subst, refl}
+use Rattle.std.proofs.Common.{rules, Some, option_map, ℕ, sym, ap, ◌∙◌, subst, refl}
 use Rattle.go_points.specs.Place.{IsOn}
 use Rattle.go_turns.specs.History.{place_in}
 use Rattle.cert_check.specs.Body.{is_listed}

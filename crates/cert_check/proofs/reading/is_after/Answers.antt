@@ -1,4 +1,4 @@
-use Rattle.std.proofs.Common.{◌≡◌, ◌∙◌, sym, ap, subst, ℕ, Option, IfSome, length, List}
+use Rattle.std.proofs.Common.{◌≡◌, ◌∙◌, sym, ap, subst, Option, IfSome, length, List}
 use Rattle.std.specs.Ordering.{is_lt}
 use Rattle.go_points.specs.declared.Cell.{Cell}
 use Rattle.cert_check.specs.Verdict.{is_after}

@@ -1,5 +1,3 @@
-use Rattle.std.proofs.Common.{List}
-use Rattle.go_points.specs.declared.Cell.{Cell}
 use Rattle.cert_check.specs.Body.{is_listed}
 use Rattle.target_game.proofs.Loops.{AllAfter}
 use Rattle.cert_check.proofs.body.Body.lists_all.Given as goal

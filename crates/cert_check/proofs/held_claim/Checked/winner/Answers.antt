@@ -1,6 +1,6 @@
-use Rattle.std.proofs.Common.{rules, ◌≡◌, ◌∙◌, sym, ap, subst}
+use Rattle.std.proofs.Common.{sym, subst}
 use Rattle.go_points.specs.declared.Colour.{Colour}
-use Rattle.target_game.specs.State.{GameProblem, start}
+use Rattle.target_game.specs.State.{start}
 use Rattle.target_game.specs.Wins.{Wins}
 use Rattle.proof_cert.specs.Certificate.{claim_of}
 use Rattle.cert_check.specs.Meaning.{KeepsPromises, height_of}

@@ -131,12 +131,6 @@ module _ (s t : Left) (few : s.listed ≤ 1000000) (same : t.listed ≡ s.listed
       ap (listed_front cs) (next_listed ∙ ap (option_and_then (λ (p : Line × Left). listed_more (listed_read (1000001 - (s.listed + 1))) (as_not p.0) p.0 p.1)) e ∙ ap (λ o. listed_more (listed_read (1000001 - (s.listed + 1))) o l t) is)
       ∙ ap (λ x. Some ((x, l), t)) (append-nil cs)
 
-  pub listed_is_missing : (cs : List (List Cell)) → line_read s ≡ None → listed_front cs (listed_read (1000001 - s.listed) s) ≡ None
-  listed_is_missing cs e = ap (listed_front cs) (next_listed ∙ ap (option_and_then (λ (p : Line × Left). listed_more (listed_read (1000001 - (s.listed + 1))) (as_not p.0) p.0 p.1)) e)
-
-pub listed_too_many : (s : Left) (cs : List (List Cell)) → 1000000 < s.listed → listed_front cs (listed_read (1000001 - s.listed) s) ≡ None
-listed_too_many s cs many = let none : 1000001 - s.listed ≡ 0 = omega arith in ap (λ k. listed_front cs (listed_read k s)) none
-
 -- ---- lemmas one by one
 
 abbrev pub lemmas_front : List Lemma → Option (List Lemma × Left) → Option (List Lemma × Left)
@@ -158,26 +152,12 @@ module _ (s t : Left) (k : ℕ) (few : k ≤ 65535) where
   behind_line ls l b e is =
       ap (lemmas_front ls) (next_lemma ∙ ap (option_and_then (λ (p : Line × Left). lemmas_more (lemmas_read (65536 - (k + 1))) (main_test p.0) p.0 p.1)) e ∙ ap (λ x. lemmas_more (lemmas_read (65536 - (k + 1))) x l t) is)
 
-  pub lemmas_are_done : (ls : List Lemma) (l : Line) → line_read s ≡ Some (l, t) → main_test l ≡ true → lemmas_front ls (lemmas_read (65536 - k) s) ≡ Some (ls, t)
-  lemmas_are_done ls l e is = behind_line ls l true e is ∙ ap (λ x. Some (x, t)) (append-nil ls)
-
   pub lemma_is_read : (ls : List Lemma) (l : Line) (z : Lemma) (u : Left) → line_read s ≡ Some (l, t) → main_test l ≡ false → lemma_of_line l t ≡ Some (z, u)
       → lemmas_front ls (lemmas_read (65536 - k) s) ≡ lemmas_front (ls ++ z ∷ []) (lemmas_read (65536 - (k + 1)) u)
   lemma_is_read ls l z u e is there =
       behind_line ls l false e is
       ∙ ap (λ o. lemmas_front ls (option_and_then (λ (q : Lemma × Left). option_map (λ (r : List Lemma × Left). (q.0 ∷ r.0, r.1)) (lemmas_read (65536 - (k + 1)) q.1)) o)) there
       ∙ lemmas_front_more ls z (lemmas_read (65536 - (k + 1)) u)
-
-  pub lemma_is_bad : (ls : List Lemma) (l : Line) → line_read s ≡ Some (l, t) → main_test l ≡ false → lemma_of_line l t ≡ None → lemmas_front ls (lemmas_read (65536 - k) s) ≡ None
-  lemma_is_bad ls l e is there =
-      behind_line ls l false e is
-      ∙ ap (λ o. lemmas_front ls (option_and_then (λ (q : Lemma × Left). option_map (λ (r : List Lemma × Left). (q.0 ∷ r.0, r.1)) (lemmas_read (65536 - (k + 1)) q.1)) o)) there
-
-  pub lemma_is_missing : (ls : List Lemma) → line_read s ≡ None → lemmas_front ls (lemmas_read (65536 - k) s) ≡ None
-  lemma_is_missing ls e = ap (lemmas_front ls) (next_lemma ∙ ap (option_and_then (λ (p : Line × Left). lemmas_more (lemmas_read (65536 - (k + 1))) (main_test p.0) p.0 p.1)) e)
-
-pub lemmas_too_many : (s : Left) (k : ℕ) (ls : List Lemma) → 65535 < k → lemmas_front ls (lemmas_read (65536 - k) s) ≡ None
-lemmas_too_many s k ls many = let none : 65536 - k ≡ 0 = omega arith in ap (λ r. lemmas_front ls (lemmas_read r s)) none
 
 pub lemmas_pushed : (n : ℕ) (ls : List code_lemma.Lemma) (l : code_lemma.Lemma) → map (lemma_of n) (ls ++ l ∷ []) ≡ map (lemma_of n) ls ++ lemma_of n l ∷ []
 lemmas_pushed n [] l = refl

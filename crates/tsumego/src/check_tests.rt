@@ -2,6 +2,8 @@
 
 use crate::status::Status;
 use crate::tests::checks;
+use std::alloc::Global;
+use std::process::Abort;
 
 #[test]
 fn claims_without_lemmas(rt: HostRuntime) {
@@ -204,4 +206,92 @@ fn claims_with_lemmas(rt: HostRuntime) {
     for (input, status, text) in rows {
         checks(&rt, rt.alloc(), input, status, text);
     }
+}
+
+// A claim of so many lemmas, all alike, of which main uses the last that it may.
+fn many_lemmas(alloc: Global, rt: &impl Abort, count: usize) -> String {
+    let mut input = String::new(alloc);
+    input
+        .push_str("(;FF[4]GM[1]SZ[3]AB[ab]AW[aa]PL[B]TR[aa]SQ[ba])\ntsucert 1 3 B\n")
+        .expect(rt, "memory");
+    for _ in 0..count {
+        input
+            .push_str("lemma W 0 .X.X.....\nwon\nend\n")
+            .expect(rt, "memory");
+    }
+    input
+        .push_str("main\nplay ba\nuse 65535\nend\n")
+        .expect(rt, "memory");
+    input
+}
+
+#[test]
+fn a_claim_has_at_most_65535_lemmas(rt: HostRuntime) {
+    let most = many_lemmas(rt.alloc(), &rt, 65_535);
+    checks(
+        &rt,
+        rt.alloc(),
+        most.as_str(),
+        Status::Answered,
+        "wins Black\n",
+    );
+    let more = many_lemmas(rt.alloc(), &rt, 65_536);
+    checks(
+        &rt,
+        rt.alloc(),
+        more.as_str(),
+        Status::Unanswered,
+        "rejected line 196607: C15 limit\n",
+    );
+}
+
+// The points of a board of 19 rows: these hold black stones, this one a white one, the others nothing.
+fn add_cells(rt: &impl Abort, text: &mut String, black: &[usize], white: Option<usize>) {
+    for number in 0..361 {
+        let cell = if black.contains(&number) {
+            'X'
+        } else if white == Some(number) {
+            'O'
+        } else {
+            '.'
+        };
+        text.push(cell).expect(rt, "memory");
+    }
+}
+
+// A capture in the lower right corner of the greatest board, as a lemma. The stones are at sr (341), rs (359) and ss (360).
+fn widest_lines(alloc: Global, rt: &impl Abort, behind: &str) -> String {
+    let mut input = String::new(alloc);
+    input
+        .push_str("(;AB[sr]AW[ss]PL[B]TR[ss]SQ[rs])\ntsucert 1 19 B\nlemma B 0 ")
+        .expect(rt, "memory");
+    add_cells(rt, &mut input, &[341], Some(360));
+    input.push_str(behind).expect(rt, "memory");
+    input.push_str("\nnot ").expect(rt, "memory");
+    add_cells(rt, &mut input, &[341, 359], None);
+    input
+        .push_str("\nplay rs\nwon\nend\nmain\nuse 1\nend\n")
+        .expect(rt, "memory");
+    input
+}
+
+// The longest line has 371 bytes.
+#[test]
+fn a_line_has_at_most_371_bytes(rt: HostRuntime) {
+    let widest = widest_lines(rt.alloc(), &rt, "");
+    checks(
+        &rt,
+        rt.alloc(),
+        widest.as_str(),
+        Status::Answered,
+        "wins Black\n",
+    );
+    let wider = widest_lines(rt.alloc(), &rt, ".");
+    checks(
+        &rt,
+        rt.alloc(),
+        wider.as_str(),
+        Status::Unanswered,
+        "rejected line 2: C01 malformed\n",
+    );
 }

@@ -1,5 +1,5 @@
 -- What the parts of a tree have, where the tree has a spelling, and what its text is made of.
-use Rattle.std.proofs.Common.{◌≡◌, ℕ, ◌+◌, ◌<◌, ◌≤◌, Bool, true, false, ◌&&◌, List, [], ◌∷◌, ◌++◌, map, length, drop, get_or, Option, Some, None, IsTrue, Vec, Box, Global, sym, ap, ◌∙◌, subst, refl, cond, append_assoc}
+use Rattle.std.proofs.Common.{◌≡◌, ℕ, ◌+◌, ◌<◌, Bool, true, false, ◌&&◌, List, [], ◌∷◌, ◌++◌, map, length, drop, get_or, Option, Some, None, IsTrue, Vec, Box, Global, sym, ap, ◌∙◌, subst, refl, cond, append_assoc}
 use Rattle.std.specs.List.{list_all}
 use Rattle.std.proofs.lemmas.Grind.{flat_map-append}
 use Rattle.std.proofs.lemmas.List.{at_drop_more}
@@ -15,7 +15,7 @@ use Rattle.proof_cert.specs.declared.certificate.Node.{Node}
 use Rattle.proof_cert.specs.declared.certificate.Node.TheVariants.{Won, Use, Play, All}
 use Rattle.proof_cert.specs.declared.certificate.Lemma.{Lemma}
 use Rattle.proof_cert.specs.declared.certificate.Certificate.{Certificate}
-use Rattle.proof_cert.proofs.Certificates.{node_of_won, node_of_use, node_of_play, node_of_all, replies_more, replies_done, replies_counted, list_all_joined}
+use Rattle.proof_cert.proofs.Certificates.{node_of_won, node_of_use, node_of_play, node_of_all, replies_more, replies_counted, list_all_joined}
 use Rattle.proof_cert.proofs.Words.{and_first, and_second}
 
 abbrev pub AreSpelled : ℕ → List (Option Line) → Type 0
@@ -66,9 +66,6 @@ pub reply_text : (n : ℕ) (rs : List (Turn × Node)) (i : ℕ) (r : Turn × Nod
 reply_text n rs i r within is =
     ap (lines_text n) (replies_lines n rs i r within is)
     ∙ ap (λ x. line_text n (Some (reply_line (ply_of n r.0))) ++ x) (lines_text_joined n (node_lines (node_of n r.1)) (branch_lines (replies_of n (drop (i + 1) rs))))
-
-pub replies_text_done : (n : ℕ) (rs : List (Turn × Node)) (i : ℕ) → length rs ≤ i → lines_text n (branch_lines (replies_of n (drop i rs))) ≡ []
-replies_text_done n rs i past = ap (λ bs. lines_text n (branch_lines bs)) (replies_done n rs i past)
 
 module _ (n : ℕ) (rs : List (Turn × Node)) (i : ℕ) (r : Turn × Node) (within : i < length rs) (is : r ≡ get_or rs i r) (spelled : AreSpelled n (branch_lines (replies_of n (drop i rs)))) where
   tail_spelled : AreSpelled n (node_lines (node_of n r.1) ++ branch_lines (replies_of n (drop (i + 1) rs)))

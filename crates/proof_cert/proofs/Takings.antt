@@ -121,17 +121,6 @@ module _ {E : Type 0} (r : Result (Unit {0}) E) (a b c : Option (List ℕ)) (h m
 pub renamed : (a b : Option (List ℕ)) (h m whole left t : List ℕ) → left ≡ t → SoFar a b h m whole left → SoFar a b h m whole t
 renamed a b h m whole left t is p = subst (SoFar a b h m whole) is p
 
-pub all_put : (a b : Option (List ℕ)) (h m whole : List ℕ) → SoFar a b h m whole [] → Puts a b h m whole
-all_put a b h m whole p = subst (Puts a b h m) (sym (append-nil p.0) ∙ p.2) p.1
-
--- what is held grows
-pub held_more : (a b : Option (List ℕ)) (h m n t u : List ℕ) → Puts a b h m t → n ≡ m ++ u → Puts a b h n (t ++ u)
-held_more a b h m n t u p e = (p.0, sym (append_assoc h t u) ∙ ap (λ x. x ++ u) p.1 ∙ append_assoc p.0 m u ∙ ap (λ x. p.0 ++ x) (sym e), p.2)
-
--- all that was held is written
-pub held_written : (a b : Option (List ℕ)) (h s n : List ℕ) → s ≡ h → n ≡ [] → Appends a b s → Puts a b h n []
-held_written a b h s n same none p = (s, append-nil h ∙ sym same ∙ sym (append-nil s) ∙ ap (λ x. s ++ x) (sym none), p)
-
 -- ---- what is held at the end is written
 
 module _ {E : Type 0} (r : Result (Unit {0}) E) (a b c : Option (List ℕ)) (h m s t : List ℕ) (p : Puts a b h m t) (none : h ≡ []) (same : s ≡ m) where

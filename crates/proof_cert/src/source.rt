@@ -8,13 +8,19 @@ use crate::line::{Line, place_of_byte};
 use crate::node_source::NodeSource;
 use go_points::Size;
 use std::marker::Model;
+use thiserror::Error;
 
 /// Why a source gives no line.
-#[derive(Clone, Copy, Debug, PartialEq, Eq)]
+#[derive(Clone, Copy, Debug, PartialEq, Eq, Error)]
 pub enum SourceFault {
     /// The bytes spell no line, or are not ended by a line feed.
+    #[error("malformed")]
     Malformed = 1,
+
+    #[error("memory")]
     Memory = 2,
+
+    #[error("read")]
     Read = 3,
 }
 

@@ -309,3 +309,102 @@ fn faults_say_what_they_are(rt: HostRuntime) -> Result<(), Fail> {
     );
     Ok(())
 }
+
+#[test]
+fn reads_back_what_is_written(rt: HostRuntime) -> Result<(), Fail> {
+    let alloc = rt.alloc();
+    let texts = [
+        SHARED,
+        ANSWERED,
+        MEETING,
+        "tsucert 1 3 B\nlemma B 0 O.OXO....\nplay ba\nwon\nend\nmain\nuse 1\nend\n",
+        "tsucert 1 3 B\nmain\nplay ba\nwon\nend\n",
+        "tsucert 1 3 B\nmain\nplay pass\nwon\nend\n",
+        "tsucert 1 3 W\nmain\nall 1\nreply pass\nplay pass\nwon\nend\n",
+        "tsucert 1 3 W\nmain\nuse 99999999\nend\n",
+    ];
+    for text in &texts {
+        let certificate = read_cert(alloc, size_of(&rt, 3), text.as_bytes())?;
+        assert_eq!(rt; written(alloc, &certificate)?.as_slice(), text.as_bytes());
+    }
+    Ok(())
+}
+
+#[test]
+fn reads_no_other_bytes(rt: HostRuntime) -> Result<(), Fail> {
+    let alloc = rt.alloc();
+    let texts = [
+        "",
+        "tsucert 1 3 B\nmain\nplay ba\nwon\nend",
+        "tsucert 1 3 B\nmain\nplay ba\nwon\nend\n\n",
+        "tsucert 1 3 B\nmain\nplay ba\nwon\n",
+        "tsucert 1 3 B\nmain\nplay ba\nend\n",
+        "tsucert 1 3 B\nplay ba\nwon\nend\n",
+        "tsucert 1 4 B\nmain\nplay ba\nwon\nend\n",
+        "tsucert 2 3 B\nmain\nplay ba\nwon\nend\n",
+        "tsucert 1 03 B\nmain\nplay ba\nwon\nend\n",
+        "tsucert 1 3 B \nmain\nplay ba\nwon\nend\n",
+        "tsucert 1 3 B\r\nmain\r\nwon\r\nend\r\n",
+        "tsucert 1 3 B\nmain\nplay da\nwon\nend\n",
+        "tsucert 1 3 B\nmain\nuse 0\nend\n",
+        "tsucert 1 3 B\nmain\nuse 01\nend\n",
+        "tsucert 1 3 B\nmain\nuse 100000000\nend\n",
+        "tsucert 1 3 W\nmain\nall 0\nend\n",
+        "tsucert 1 3 W\nmain\nall 2\nreply pass\nwon\nend\n",
+        "tsucert 1 3 W\nmain\nall 1\nreply pass\nwon\nreply pass\nwon\nend\n",
+        "tsucert 1 3 B\nlemma B 2 O.OXO....\nwon\nend\nmain\nuse 1\nend\n",
+        "tsucert 1 3 B\nlemma B 0 O.OXO...\nwon\nend\nmain\nuse 1\nend\n",
+        "tsucert 1 3 B\nlemma B 0 O.OXO....\nhad .XOXO....\nwon\nend\nmain\nuse 1\nend\n",
+        "tsucert 1 3 B\nlemma B 0 O.OXO....\nwon\nnot .XOXO....\nend\nmain\nuse 1\nend\n",
+        "tsucert 1 3 B\nlemma B 0 O.OXO....\nwon\nmain\nuse 1\nend\n",
+    ];
+    for text in &texts {
+        let read = read_cert(alloc, size_of(&rt, 3), text.as_bytes());
+        assert!(rt; matches!(read, Err(SourceFault::Malformed)));
+    }
+    Ok(())
+}
+
+/// A claim of so many turns one behind another.
+fn line_of_play(alloc: Global, turns: usize) -> Result<Vec<u8>, Fail> {
+    let mut text = b"tsucert 1 3 B\nmain\n".to_vec(alloc)?;
+    for _ in 0..turns {
+        text.extend_from_slice(b"play pass\n")?;
+    }
+    text.extend_from_slice(b"won\nend\n")?;
+    Ok(text)
+}
+
+#[test]
+fn reads_as_deep_as_a_claim_may_be(rt: HostRuntime) -> Result<(), Fail> {
+    let alloc = rt.alloc();
+    let deepest = line_of_play(alloc, 1_999)?;
+    let certificate = read_cert(alloc, size_of(&rt, 3), deepest.as_slice())?;
+    assert!(rt; written(alloc, &certificate)?.as_slice() == deepest.as_slice());
+    let deeper = line_of_play(alloc, 2_000)?;
+    let read = read_cert(alloc, size_of(&rt, 3), deeper.as_slice());
+    assert!(rt; matches!(read, Err(SourceFault::Malformed)));
+    Ok(())
+}
+
+/// A claim of so many lemmas.
+fn many_lemmas(alloc: Global, lemmas: usize) -> Result<Vec<u8>, Fail> {
+    let mut text = b"tsucert 1 1 B\n".to_vec(alloc)?;
+    for _ in 0..lemmas {
+        text.extend_from_slice(b"lemma B 0 .\nwon\nend\n")?;
+    }
+    text.extend_from_slice(b"main\nwon\nend\n")?;
+    Ok(text)
+}
+
+#[test]
+fn reads_as_many_lemmas_as_a_claim_may_have(rt: HostRuntime) -> Result<(), Fail> {
+    let alloc = rt.alloc();
+    let most = many_lemmas(alloc, 65_535)?;
+    let certificate = read_cert(alloc, size_of(&rt, 1), most.as_slice())?;
+    assert!(rt; written(alloc, &certificate)?.as_slice() == most.as_slice());
+    let more = many_lemmas(alloc, 65_536)?;
+    let read = read_cert(alloc, size_of(&rt, 1), more.as_slice());
+    assert!(rt; matches!(read, Err(SourceFault::Malformed)));
+    Ok(())
+}

@@ -1,0 +1,192 @@
+-- What reading trees from lines comes to.
+use Rattle.std.proofs.Common.{◌≡◌, ℕ, suc, zero, ◌+◌, ◌-◌, ◌<◌, ◌≤◌, Bool, true, false, cond, nat_lt, List, [], ◌∷◌, ◌++◌, map, Option, Some, None, Ok, Err, refl, sym, ap, ◌∙◌, append_assoc, append-nil, arith, rules, tests}
+use Rattle.std.specs.Prelude.{option_map, option_and_then}
+use Rattle.proof_cert.specs.Lines.{Line}
+use Rattle.go_points.specs.declared.Cell.{Cell}
+use Rattle.go_points.specs.declared.Turn.{Turn}
+use Rattle.go_points.specs.Ply.{Ply, ply_of}
+use Rattle.proof_cert.specs.declared.certificate.Node as code
+use Rattle.proof_cert.specs.declared.certificate.Lemma as code_lemma
+use Rattle.proof_cert.specs.Certificate.{node_of, replies_of, lemma_of}
+use Rattle.proof_cert.specs.Claim.{Node, Branches, no_branch, branch, Lemma, max_nodes}
+use Rattle.proof_cert.specs.declared.source.SourceFault.{SourceFault}
+use Rattle.proof_cert.specs.Source.{Source, answer, answer_from, later, later_from}
+use Rattle.proof_cert.specs.Reading.{Left, left_of, first_of, line_read, opened, counted, reply_read, replies_read, below_read, tree_read, as_not, listed_more, listed_read, is_ended, main_test, lemma_of_line, lemmas_more, lemmas_read}
+
+line_given : (s : Source) (nodes listed : ℕ) (failed : Bool) (left : List (Option Line)) (l : Line) → s.has_failed ≡ failed → Ok (Some l) ≡ answer_from failed left
+    → first_of (record { lines = cond failed (None ∷ []) left; nodes = nodes; listed = listed }) (cond failed (None ∷ []) left)
+    ≡ Some (l, record { lines = cond (later_from s failed left).has_failed (None ∷ []) (later_from s failed left).left; nodes = nodes; listed = listed })
+line_given s nodes listed true left l f e = cc
+line_given s nodes listed false [] l f e = cc
+line_given s nodes listed false (None ∷ ls) l f e = cc
+line_given s nodes listed false (Some k ∷ ls) l f e =
+    let same : k ≡ l = cc in
+    let rest : ls ≡ cond s.has_failed (None ∷ []) ls = ap (λ b. cond b (None ∷ []) ls) (sym f) in
+    ap (λ x. Some (x, record { lines = ls; nodes = nodes; listed = listed })) same ∙ ap (λ x. Some (l, record { lines = x; nodes = nodes; listed = listed })) rest
+
+pub line_there : (s t : Source) (nodes listed : ℕ) (l : Line) → Ok (Some l) ≡ answer s → t ≡ later s → line_read (left_of s nodes listed) ≡ Some (l, left_of t nodes listed)
+unfolding line_read
+line_there s t nodes listed l e is = line_given s nodes listed s.has_failed s.left l refl e ∙ ap (λ x. Some (l, left_of x nodes listed)) (sym is)
+
+none_ended : (s : Left) (failed : Bool) (left : List (Option Line)) → Ok None ≡ answer_from failed left → first_of s (cond failed (None ∷ []) left) ≡ None
+none_ended s true left e = refl
+none_ended s false [] e = refl
+none_ended s false (None ∷ ls) e = refl
+none_ended s false (Some k ∷ ls) e = cc
+
+pub line_ended : (s : Source) (nodes listed : ℕ) → Ok None ≡ answer s → line_read (left_of s nodes listed) ≡ None
+unfolding line_read
+line_ended s nodes listed e = none_ended (left_of s nodes listed) s.has_failed s.left e
+
+none_bad : (s : Left) (failed : Bool) (left : List (Option Line)) (x : SourceFault) → Err x ≡ answer_from failed left → first_of s (cond failed (None ∷ []) left) ≡ None
+none_bad s true left x e = refl
+none_bad s false [] x e = refl
+none_bad s false (None ∷ ls) x e = refl
+none_bad s false (Some k ∷ ls) x e = cc
+
+pub line_bad : (s : Source) (nodes listed : ℕ) (x : SourceFault) → Err x ≡ answer s → line_read (left_of s nodes listed) ≡ None
+unfolding line_read
+line_bad s nodes listed x e = none_bad (left_of s nodes listed) s.has_failed s.left x e
+
+-- a tree of at least one level, while nodes are left
+pub tree_opened : (room : ℕ) (l : Line) (s : Left) → 0 < room → s.nodes < max_nodes → tree_read room l s ≡ opened (below_read (tree_read (room - 1))) l (counted s)
+tree_opened zero l s some few = absurd (omega arith)
+tree_opened (suc room) l s some few =
+    let one : suc room - 1 ≡ room = omega arith in
+    let few' : nat_lt s.nodes max_nodes ≡ true = search (rules, tests) in
+    ap (λ b. cond b (opened (below_read (tree_read room)) l (counted s)) None) few'
+    ∙ ap (λ r. opened (below_read (tree_read r)) l (counted s)) (sym one)
+
+-- ---- replies one by one
+
+abbrev pub joined : Branches → Branches → Branches
+joined no_branch cs = cs
+joined (branch t z bs) cs = branch t z (joined bs cs)
+
+abbrev pub prepended : Branches → Option (Branches × Left) → Option (Branches × Left)
+prepended bs o = option_map (λ q. (joined bs q.0, q.1)) o
+
+pub joined_none : (bs : Branches) → joined bs no_branch ≡ bs
+joined_none no_branch = refl
+joined_none (branch t z bs) = ap (branch t z) (joined_none bs)
+
+joined_one : (bs : Branches) (t : Ply) (z : Node) (cs : Branches) → joined bs (branch t z cs) ≡ joined (joined bs (branch t z no_branch)) cs
+joined_one no_branch t z cs = refl
+joined_one (branch u y bs) t z cs = ap (branch u y) (joined_one bs t z cs)
+
+pub replies_pushed : (n : ℕ) (rs : List (Turn × code.Node)) (r : Turn × code.Node) → replies_of n (rs ++ r ∷ []) ≡ joined (replies_of n rs) (branch (ply_of n r.0) (node_of n r.1) no_branch)
+replies_pushed n [] r = refl
+replies_pushed n (q ∷ rs) r = ap (branch (ply_of n q.0) (node_of n q.1)) (replies_pushed n rs r)
+
+pub nothing_prepended : (o : Option (Branches × Left)) → prepended no_branch o ≡ o
+nothing_prepended None = refl
+nothing_prepended (Some q) = refl
+
+more_prepended : (bs : Branches) (t : Ply) (z : Node) (o : Option (Branches × Left)) → prepended bs (option_map (λ q. (branch t z q.0, q.1)) o) ≡ prepended (joined bs (branch t z no_branch)) o
+more_prepended bs t z None = refl
+more_prepended bs t z (Some q) = ap (λ x. Some (x, q.1)) (joined_one bs t z q.0)
+
+module _ (below : Left → Option (Node × Left)) (m i : ℕ) (s : Left) (within : i < m) where
+  next_read : replies_read below (m - i) s ≡ option_and_then (λ (p : (Ply × Node) × Left). option_map (λ (q : Branches × Left). (branch p.0.0 p.0.1 q.0, q.1)) (replies_read below (m - (i + 1)) p.1)) (reply_read below s)
+  next_read = let one : m - i ≡ suc (m - (i + 1)) = omega arith in ap (λ k. replies_read below k s) one
+
+  pub reply_is_read : (bs : Branches) (r : Ply × Node) (t : Left) → reply_read below s ≡ Some (r, t) → prepended bs (replies_read below (m - i) s) ≡ prepended (joined bs (branch r.0 r.1 no_branch)) (replies_read below (m - (i + 1)) t)
+  reply_is_read bs r t e =
+      ap (prepended bs) (next_read ∙ ap (option_and_then (λ (p : (Ply × Node) × Left). option_map (λ (q : Branches × Left). (branch p.0.0 p.0.1 q.0, q.1)) (replies_read below (m - (i + 1)) p.1))) e)
+      ∙ more_prepended bs r.0 r.1 (replies_read below (m - (i + 1)) t)
+
+  pub reply_is_missing : (bs : Branches) → reply_read below s ≡ None → prepended bs (replies_read below (m - i) s) ≡ None
+  reply_is_missing bs e = ap (prepended bs) (next_read ∙ ap (option_and_then (λ (p : (Ply × Node) × Left). option_map (λ (q : Branches × Left). (branch p.0.0 p.0.1 q.0, q.1)) (replies_read below (m - (i + 1)) p.1))) e)
+
+pub replies_are_read : (below : Left → Option (Node × Left)) (m i : ℕ) (s : Left) (bs : Branches) → m ≤ i → prepended bs (replies_read below (m - i) s) ≡ Some (bs, s)
+replies_are_read below m i s bs past =
+    let none : m - i ≡ 0 = omega arith in
+    ap (λ k. prepended bs (replies_read below k s)) none ∙ ap (λ x. Some (x, s)) (joined_none bs)
+
+-- ---- listed colourings one by one
+
+abbrev pub listed_front : List (List Cell) → Option ((List (List Cell) × Line) × Left) → Option ((List (List Cell) × Line) × Left)
+listed_front cs o = option_map (λ q. ((cs ++ q.0.0, q.0.1), q.1)) o
+
+pub no_front : (o : Option ((List (List Cell) × Line) × Left)) → listed_front [] o ≡ o
+no_front None = refl
+no_front (Some q) = refl
+
+front_more : (cs : List (List Cell)) (c : List Cell) (o : Option ((List (List Cell) × Line) × Left)) → listed_front cs (option_map (λ q. ((c ∷ q.0.0, q.0.1), q.1)) o) ≡ listed_front (cs ++ c ∷ []) o
+front_more cs c None = refl
+front_more cs c (Some q) = ap (λ x. Some ((x, q.0.1), q.1)) (sym (append_assoc cs (c ∷ []) q.0.0))
+
+module _ (s t : Left) (few : s.listed ≤ 1000000) (same : t.listed ≡ s.listed) where
+  next_listed : listed_read (1000001 - s.listed) s ≡ option_and_then (λ (p : Line × Left). listed_more (listed_read (1000001 - (s.listed + 1))) (as_not p.0) p.0 p.1) (line_read s)
+  next_listed = let one : 1000001 - s.listed ≡ suc (1000001 - (s.listed + 1)) = omega arith in ap (λ k. listed_read k s) one
+
+  pub listed_is_read : (cs : List (List Cell)) (l : Line) (c : List Cell) → line_read s ≡ Some (l, t) → as_not l ≡ Some c
+      → listed_front cs (listed_read (1000001 - s.listed) s) ≡ listed_front (cs ++ c ∷ []) (listed_read (1000001 - (s.listed + 1)) (record t { listed = t.listed + 1 }))
+  listed_is_read cs l c e is =
+      ap (listed_front cs) (next_listed ∙ ap (option_and_then (λ (p : Line × Left). listed_more (listed_read (1000001 - (s.listed + 1))) (as_not p.0) p.0 p.1)) e ∙ ap (λ o. listed_more (listed_read (1000001 - (s.listed + 1))) o l t) is)
+      ∙ front_more cs c (listed_read (1000001 - (s.listed + 1)) (record t { listed = t.listed + 1 }))
+
+  pub listed_is_done : (cs : List (List Cell)) (l : Line) → line_read s ≡ Some (l, t) → as_not l ≡ None → listed_front cs (listed_read (1000001 - s.listed) s) ≡ Some ((cs, l), t)
+  listed_is_done cs l e is =
+      ap (listed_front cs) (next_listed ∙ ap (option_and_then (λ (p : Line × Left). listed_more (listed_read (1000001 - (s.listed + 1))) (as_not p.0) p.0 p.1)) e ∙ ap (λ o. listed_more (listed_read (1000001 - (s.listed + 1))) o l t) is)
+      ∙ ap (λ x. Some ((x, l), t)) (append-nil cs)
+
+-- ---- lemmas one by one
+
+abbrev pub lemmas_front : List Lemma → Option (List Lemma × Left) → Option (List Lemma × Left)
+lemmas_front ls o = option_map (λ q. (ls ++ q.0, q.1)) o
+
+pub no_lemmas_front : (o : Option (List Lemma × Left)) → lemmas_front [] o ≡ o
+no_lemmas_front None = refl
+no_lemmas_front (Some q) = refl
+
+lemmas_front_more : (ls : List Lemma) (l : Lemma) (o : Option (List Lemma × Left)) → lemmas_front ls (option_map (λ q. (l ∷ q.0, q.1)) o) ≡ lemmas_front (ls ++ l ∷ []) o
+lemmas_front_more ls l None = refl
+lemmas_front_more ls l (Some q) = ap (λ x. Some (x, q.1)) (sym (append_assoc ls (l ∷ []) q.0))
+
+module _ (s t : Left) (k : ℕ) (few : k ≤ 65535) where
+  next_lemma : lemmas_read (65536 - k) s ≡ option_and_then (λ (p : Line × Left). lemmas_more (lemmas_read (65536 - (k + 1))) (main_test p.0) p.0 p.1) (line_read s)
+  next_lemma = let one : 65536 - k ≡ suc (65536 - (k + 1)) = omega arith in ap (λ r. lemmas_read r s) one
+
+  behind_line : (ls : List Lemma) (l : Line) (b : Bool) → line_read s ≡ Some (l, t) → main_test l ≡ b → lemmas_front ls (lemmas_read (65536 - k) s) ≡ lemmas_front ls (lemmas_more (lemmas_read (65536 - (k + 1))) b l t)
+  behind_line ls l b e is =
+      ap (lemmas_front ls) (next_lemma ∙ ap (option_and_then (λ (p : Line × Left). lemmas_more (lemmas_read (65536 - (k + 1))) (main_test p.0) p.0 p.1)) e ∙ ap (λ x. lemmas_more (lemmas_read (65536 - (k + 1))) x l t) is)
+
+  pub lemma_is_read : (ls : List Lemma) (l : Line) (z : Lemma) (u : Left) → line_read s ≡ Some (l, t) → main_test l ≡ false → lemma_of_line l t ≡ Some (z, u)
+      → lemmas_front ls (lemmas_read (65536 - k) s) ≡ lemmas_front (ls ++ z ∷ []) (lemmas_read (65536 - (k + 1)) u)
+  lemma_is_read ls l z u e is there =
+      behind_line ls l false e is
+      ∙ ap (λ o. lemmas_front ls (option_and_then (λ (q : Lemma × Left). option_map (λ (r : List Lemma × Left). (q.0 ∷ r.0, r.1)) (lemmas_read (65536 - (k + 1)) q.1)) o)) there
+      ∙ lemmas_front_more ls z (lemmas_read (65536 - (k + 1)) u)
+
+pub lemmas_pushed : (n : ℕ) (ls : List code_lemma.Lemma) (l : code_lemma.Lemma) → map (lemma_of n) (ls ++ l ∷ []) ≡ map (lemma_of n) ls ++ lemma_of n l ∷ []
+lemmas_pushed n [] l = refl
+lemmas_pushed n (k ∷ ls) l = ap (λ xs. lemma_of n k ∷ xs) (lemmas_pushed n ls l)
+
+-- ---- the end
+
+ends_some : (failed : Bool) (left : List (Option Line)) (l : Line) → Ok (Some l) ≡ answer_from failed left → is_ended (cond failed (None ∷ []) left) ≡ false
+ends_some true left l e = cc
+ends_some false [] l e = cc
+ends_some false (x ∷ ls) l e = refl
+
+pub some_left : (s : Source) (nodes listed : ℕ) (l : Line) → Ok (Some l) ≡ answer s → is_ended (left_of s nodes listed).lines ≡ false
+some_left s nodes listed l e = ends_some s.has_failed s.left l e
+
+ends_none : (failed : Bool) (left : List (Option Line)) → Ok None ≡ answer_from failed left → is_ended (cond failed (None ∷ []) left) ≡ true
+ends_none true left e = cc
+ends_none false [] e = refl
+ends_none false (None ∷ ls) e = cc
+ends_none false (Some k ∷ ls) e = cc
+
+pub none_left : (s : Source) (nodes listed : ℕ) → Ok None ≡ answer s → is_ended (left_of s nodes listed).lines ≡ true
+none_left s nodes listed e = ends_none s.has_failed s.left e
+
+ends_bad : (failed : Bool) (left : List (Option Line)) (x : SourceFault) → Err x ≡ answer_from failed left → is_ended (cond failed (None ∷ []) left) ≡ false
+ends_bad true left x e = refl
+ends_bad false [] x e = cc
+ends_bad false (None ∷ ls) x e = refl
+ends_bad false (Some k ∷ ls) x e = cc
+
+pub bad_left : (s : Source) (nodes listed : ℕ) (x : SourceFault) → Err x ≡ answer s → is_ended (left_of s nodes listed).lines ≡ false
+bad_left s nodes listed x e = ends_bad s.has_failed s.left x e

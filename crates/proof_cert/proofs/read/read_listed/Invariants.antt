@@ -1,0 +1,13 @@
+use Rattle.std.proofs.Common.{◌≡◌, ◌-◌}
+use Rattle.proof_cert.specs.Reading.{left_of, listed_read, lists_read}
+use Rattle.proof_cert.proofs.ReadTrees.{listed_front}
+use Rattle.proof_cert.proofs.read.read_listed.Given as goal
+
+abbrev pub invariant-loop-reading : goal.invariant-loop-reading
+invariant-loop-reading l = record {
+  read : lists_read (left_of l.fn.reading.source l.fn.reading.nodes l.fn.reading.listed) ≡ listed_front l.listed.items (listed_read (1000001 - l.reading.listed) (left_of l.reading.source l.reading.nodes l.reading.listed));
+  size : l.reading.source.size ≡ l.fn.reading.source.size;
+}
+
+abbrev pub decreases-loop-reading : goal.decreases-loop-reading
+decreases-loop-reading l = 1000001 - l.reading.listed

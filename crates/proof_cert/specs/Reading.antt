@@ -1,0 +1,169 @@
+-- How the program reads whole claims of version 1, line by line, within the limits. Nothing here gives a public contract its meaning:
+-- that this is reading the claim with the text is proved.
+--     Left      the lines that are left, the nodes and the listed colourings so far
+--     tree_read room l s      the tree of at most so many levels whose first line is l, and what is left behind it
+--     lemmas_read room s      at most so many lemmas, up to the line `main`
+--     claim_read n s      a whole claim for a board of n rows, with nothing behind it
+--     with_rest f o t      what the program read, if anything, and what it leaves
+use Rattle.std.specs.Prelude.{ℕ, zero, suc, ◌+◌, ◌-◌, ◌&&◌, Vec, Bool, true, false, nat_eq, nat_lt, List, [], ◌∷◌, Option, Some, None, option_map, option_and_then, if◌then◌else◌}
+use Rattle.go_points.specs.declared.Colour.{Colour}
+use Rattle.go_points.specs.declared.Cell.{Cell}
+use Rattle.go_points.specs.Ply.{Ply, ply_of}
+use Rattle.proof_cert.specs.Claim.{Node, won, by_lemma, play, all, Branches, no_branch, branch, Lemma, Claim, max_nodes, max_depth}
+use Rattle.proof_cert.specs.Lines.{Line, header_line, lemma_line, not_line, main_line, won_line, use_line, play_line, all_line, reply_line, end_line}
+use Rattle.std.specs.declared.alloc.Global.{Global}
+use Rattle.proof_cert.specs.Source.{Source}
+use Rattle.proof_cert.specs.Stage.{line_value}
+use Rattle.proof_cert.specs.declared.line.Line as code_line
+use Rattle.proof_cert.specs.Certificate.{node_of}
+use Rattle.go_points.specs.declared.Turn.{Turn}
+use Rattle.proof_cert.specs.declared.certificate.Node as code
+use Rattle.proof_cert.specs.declared.read.Step.{Step}
+use Rattle.proof_cert.specs.declared.read.Step.TheVariants.{Won, Use, Play, All}
+
+pub record Left : Type 0 where
+  pub lines : List (Option Line)
+  pub nodes : ℕ
+  pub listed : ℕ
+
+-- what a source of the program has left; one that has failed has a malformed line
+abbrev pub left_of : Source → ℕ → ℕ → Left
+left_of s nodes listed = record { lines = (if s.has_failed then None ∷ [] else s.left); nodes = nodes; listed = listed }
+
+-- what the program read, if anything, and what it leaves
+abbrev pub with_rest : {A B : Type 0} → (A → B) → Option A → Left → Option (B × Left)
+with_rest f o t = option_map (λ a. (f a, t)) o
+
+-- the first line
+abbrev pub first_of : Left → List (Option Line) → Option (Line × Left)
+first_of s [] = None
+first_of s (None ∷ ls) = None
+first_of s (Some l ∷ ls) = Some (l, record s { lines = ls })
+
+unfoldable pub line_read : Left → Option (Line × Left)
+line_read s = first_of s s.lines
+
+-- the first line, where it is of a kind
+unfoldable pub line_as : {A : Type 0} → (Line → Option A) → Left → Option (A × Left)
+line_as pick s = option_and_then (λ p. option_map (λ a. (a, p.1)) (pick p.0)) (line_read s)
+
+abbrev pub as_reply : Line → Option Ply
+as_reply (reply_line t) = Some t
+as_reply _ = None
+
+-- a reply, and the tree below it
+abbrev pub reply_read : (Left → Option (Node × Left)) → Left → Option ((Ply × Node) × Left)
+reply_read below s = option_and_then (λ p. option_map (λ q. ((p.0, q.0), q.1)) (below p.1)) (line_as as_reply s)
+
+-- so many replies
+abbrev pub replies_read : (Left → Option (Node × Left)) → ℕ → Left → Option (Branches × Left)
+replies_read below zero s = Some (no_branch, s)
+replies_read below (suc m) s = option_and_then (λ p. option_map (λ q. (branch p.0.0 p.0.1 q.0, q.1)) (replies_read below m p.1)) (reply_read below s)
+
+-- a tree, of which the first line is given; its node is counted first
+abbrev pub opened : (Left → Option (Node × Left)) → Line → Left → Option (Node × Left)
+opened below won_line s = Some (won, s)
+opened below (use_line j) s = Some (by_lemma j, s)
+opened below (play_line t) s = option_map (λ p. (play t p.0, p.1)) (below s)
+opened below (all_line m) s = option_map (λ p. (all p.0, p.1)) (replies_read below m s)
+opened below _ s = None
+
+abbrev pub counted : Left → Left
+counted s = record s { nodes = s.nodes + 1 }
+
+-- the line, where it is a node's
+abbrev pub as_step : Line → Option Line
+as_step won_line = Some won_line
+as_step (use_line j) = Some (use_line j)
+as_step (play_line t) = Some (play_line t)
+as_step (all_line m) = Some (all_line m)
+as_step _ = None
+
+abbrev pub below_read : (Line → Left → Option (Node × Left)) → Left → Option (Node × Left)
+below_read tree s = option_and_then (λ p. tree p.0 p.1) (line_as as_step s)
+
+abbrev pub tree_read : ℕ → Line → Left → Option (Node × Left)
+tree_read zero l s = None
+tree_read (suc room) l s = (if nat_lt s.nodes max_nodes then opened (below_read (tree_read room)) l (counted s) else None)
+
+-- the line of a node of the program
+abbrev pub step_line : ℕ → Step → Line
+step_line n Won = won_line
+step_line n (Use j) = use_line j
+step_line n (Play t) = play_line (ply_of n t)
+step_line n (All m) = all_line m
+
+abbrev pub reply_value : ℕ → Turn × code.Node → Ply × Node
+reply_value n r = (ply_of n r.0, node_of n r.1)
+
+-- the listed colourings, of which at most so many may follow, and the line behind them
+abbrev pub as_not : Line → Option (List Cell)
+as_not (not_line c) = Some c
+as_not _ = None
+
+abbrev pub listed_more : (Left → Option ((List (List Cell) × Line) × Left)) → Option (List Cell) → Line → Left → Option ((List (List Cell) × Line) × Left)
+listed_more others None l s = Some (([], l), s)
+listed_more others (Some c) l s = option_map (λ q. ((c ∷ q.0.0, q.0.1), q.1)) (others (record s { listed = s.listed + 1 }))
+
+abbrev pub listed_read : ℕ → Left → Option ((List (List Cell) × Line) × Left)
+listed_read zero s = None
+listed_read (suc room) s = option_and_then (λ p. listed_more (listed_read room) (as_not p.0) p.0 p.1) (line_read s)
+
+unfoldable pub lists_read : Left → Option ((List (List Cell) × Line) × Left)
+lists_read s = listed_read (1000001 - s.listed) s
+
+abbrev pub listed_value : ℕ → Vec (List Cell) Global × code_line.Line → List (List Cell) × Line
+listed_value n r = (r.0.items, line_value n r.1)
+
+-- a tree with its first line, and the line `end`
+abbrev pub as_end : Line → Option (Unit {0})
+as_end end_line = Some tt
+as_end _ = None
+
+unfoldable pub body_read : Line → Left → Option (Node × Left)
+body_read l s = option_and_then (λ p. option_map (λ q. (p.0, q.1)) (line_as as_end p.1)) (option_and_then (λ k. tree_read max_depth k s) (as_step l))
+
+-- a lemma behind its first line
+abbrev pub lemma_made : Colour → ℕ → List Cell → List (List Cell) → Node → Lemma
+lemma_made k p root absent body = record { head = record { mover = k; passes = p; root = root; had = []; absent = absent }; body = body }
+
+unfoldable pub lemma_read : Colour → ℕ → List Cell → Left → Option (Lemma × Left)
+lemma_read k p root s = option_and_then (λ q. option_map (λ r. (lemma_made k p root q.0.0 r.0, r.1)) (body_read q.0.1 q.1)) (lists_read s)
+
+abbrev pub lemma_of_line : Line → Left → Option (Lemma × Left)
+lemma_of_line (lemma_line k p root) s = lemma_read k p root s
+lemma_of_line _ s = None
+
+-- the lemmas up to `main`, fewer than so many
+abbrev pub main_test : Line → Bool
+main_test main_line = true
+main_test _ = false
+
+abbrev pub lemmas_more : (Left → Option (List Lemma × Left)) → Bool → Line → Left → Option (List Lemma × Left)
+lemmas_more others true l s = Some ([], s)
+lemmas_more others false l s = option_and_then (λ q. option_map (λ r. (q.0 ∷ r.0, r.1)) (others q.1)) (lemma_of_line l s)
+
+abbrev pub lemmas_read : ℕ → Left → Option (List Lemma × Left)
+lemmas_read zero s = None
+lemmas_read (suc room) s = option_and_then (λ p. lemmas_more (lemmas_read room) (main_test p.0) p.0 p.1) (line_read s)
+
+unfoldable pub all_lemmas_read : Left → Option (List Lemma × Left)
+all_lemmas_read s = lemmas_read 65536 s
+
+-- the winner, where the first line is that of a claim of version 1 for this size
+abbrev pub as_header : ℕ → Line → Option Colour
+as_header n (header_line version size winner) = (if nat_eq version 1 && nat_eq size n then Some winner else None)
+as_header n _ = None
+
+abbrev pub is_ended : List (Option Line) → Bool
+is_ended [] = true
+is_ended (l ∷ ls) = false
+
+abbrev pub claim_made : ℕ → Colour → List Lemma → Node → Claim
+claim_made n winner lemmas main = record { version = 1; size = n; winner = winner; lemmas = lemmas; main = main }
+
+abbrev pub main_read : Left → Option (Node × Left)
+main_read s = option_and_then (λ p. body_read p.0 p.1) (line_read s)
+
+unfoldable pub claim_read : ℕ → Left → Option Claim
+claim_read n s = option_and_then (λ h. option_and_then (λ ls. option_and_then (λ m. if is_ended m.1.lines then Some (claim_made n h.0 ls.0 m.0) else None) (main_read ls.1)) (all_lemmas_read h.1)) (line_as (as_header n) s)

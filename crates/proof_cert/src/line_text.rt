@@ -11,7 +11,6 @@ ghost use Rattle.proof_cert.specs.Taken.{TakesPart, Puts, line_text};
 use crate::certificate::Lemma;
 use crate::write::{Held, MOST_HELD, WriteFault, hold, make_room};
 use go_points::{Cell, Colour, Colouring, Size, Turn, to_sgf};
-use itoa::Buffer;
 use std::io::Write;
 
 /// The version of claims.
@@ -20,13 +19,16 @@ const VERSION: usize = 1;
 /// The most digits of a number.
 const MOST_DIGITS: usize = 20;
 
+/// Holds the digits of the number, the highest first.
 fn hold_number(number: usize, held: &mut Held)
     requires { array_vec_len held.old + MOST_DIGITS ≤ MOST_HELD }
     ensures items { held.new.items ≡ held.old.items ++ decimal number }
     ensures len { array_vec_len held.new ≤ array_vec_len held.old + MOST_DIGITS }
 {
-    let mut buffer = Buffer::new();
-    hold(buffer.format(number).as_bytes(), held);
+    if number >= 10 {
+        hold_number(number / 10, held);
+    }
+    held.push(b'0' + (number % 10) as u8);
 }
 
 fn hold_letter(colour: Colour, held: &mut Held)

@@ -1,7 +1,7 @@
 -- What is written, and what a run has then left.
-use Rattle.std.proofs.Common.{◌≡◌, ℕ, List, [], ◌++◌, Option, Some, None, Result, Ok, Err, inl, inr, refl, sym, ◌∙◌, ap, ap₂, subst, ◌⊎◌}
+use Rattle.std.proofs.Common.{◌≡◌, ℕ, List, [], ◌++◌, Option, Some, None, Result, Ok, Err, inl, inr, refl, sym, ◌∙◌, ap, ap₂, subst}
 use Rattle.std.specs.Prelude.{IfOk}
-use Rattle.std.specs.Io.KnownBytes.{Appends, Consumes, IsAtEnd}
+use Rattle.std.specs.Io.KnownBytes.{Consumes, IsAtEnd}
 use Rattle.std.proofs.lemmas.List.{append-nil}
 use Rattle.cert_check.specs.Body.{Why}
 use Rattle.cert_check.specs.Stage.{why_value}
@@ -14,7 +14,7 @@ use Rattle.tsumego.specs.declared.status.Status.{Status}
 use Rattle.tsumego.specs.declared.status.Status.TheVariants.{Refused, BadWords, Failed}
 use Rattle.tsumego.specs.Texts.{line, no_memory_text}
 use Rattle.tsumego.specs.Answers.{Says, SaysFailure, check_answer}
-use Rattle.tsumego.specs.Outcome.{Outcome, Tells, Ran}
+use Rattle.tsumego.specs.Outcome.{Tells, Ran}
 use Rattle.tsumego.specs.Replies.{Writes, IsRejectionOf}
 
 -- the bytes that a reader tells, where it tells them

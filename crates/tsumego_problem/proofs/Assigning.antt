@@ -17,7 +17,7 @@ use Rattle.go_points.specs.Liberty.{first_without_liberty}
 use Rattle.go_points.specs.Place.{Place, IsOn, number_of}
 use Rattle.go_points.specs.Points.{holds_place}
 use Rattle.go_turns.specs.History.{place_in, has_occurred}
-use Rattle.go_turns.specs.Record.{GameRecord, Moment, colouring_of, numbered, assigned as put_in_order, setup_of, after_setup, with_liberties, set_to as moment_set_to, stepped, Did}
+use Rattle.go_turns.specs.Record.{GameRecord, colouring_of, numbered, assigned as put_in_order, setup_of, after_setup, with_liberties, set_to as moment_set_to, stepped, Did}
 use Rattle.go_turns.specs.declared.fault.TurnFault.{TurnFault}
 use Rattle.go_turns.specs.declared.fault.TurnFault.TheVariants as turns
 use Rattle.go_turns.proofs.Setups.{number_on}
@@ -25,11 +25,10 @@ use Rattle.go_turns.proofs.Repeats.{no_position, no_element}
 use Rattle.target_game.specs.Legal.{holds_point}
 use Rattle.target_game.proofs.Playing.{holds_numbered}
 use Rattle.sgf_text.specs.Trees.{Node}
-use Rattle.tsumego_problem.specs.Walk.{Walk, points_at, assigned, set_to, player_at, has_no_liberty, joined_by}
+use Rattle.tsumego_problem.specs.Walk.{Walk, points_at, assigned, set_to, player_at, has_no_liberty}
 use Rattle.tsumego_problem.specs.Walked.{walk_of, IsSetupFault, IsNoLiberty}
 use Rattle.tsumego_problem.specs.declared.fault.ProblemFault.{ProblemFault}
 use Rattle.tsumego_problem.specs.declared.fault.ProblemFault.TheVariants as faults
-use Rattle.tsumego_problem.proofs.Points.{range_below}
 
 -- ---- a colouring that is filled point by point
 

@@ -1,7 +1,7 @@
 -- A walk that has come to a marked node has asked all that a problem is asked.
-use Rattle.std.proofs.Common.{◌≡◌, ◌≢◌, ℕ, zero, suc, ◌+◌, ◌-◌, ◌*◌, ◌<◌, ◌≤◌, Bool, true, false, cond, not, ◌&&◌, ◌||◌, nat_eq, nat_lt, nat_le, eqb-true, ltb-true, lt-ltb, List, [], ◌∷◌, ◌++◌, map, filter, length, get_or, slice_get, Option, Some, None, option_map, option_and_then, is_none, Result, Ok, Err, refl, sym, ◌∙◌, ap, ap₂, subst, mul-le-mul, arith}
+use Rattle.std.proofs.Common.{◌≡◌, ℕ, suc, ◌+◌, ◌-◌, ◌*◌, ◌<◌, ◌≤◌, Bool, true, false, cond, not, ◌&&◌, ◌||◌, nat_eq, nat_lt, nat_le, eqb-true, ltb-true, lt-ltb, List, [], ◌∷◌, ◌++◌, map, filter, length, get_or, slice_get, Option, Some, None, option_map, option_and_then, is_none, Result, Ok, Err, refl, sym, ◌∙◌, ap, ap₂, subst, mul-le-mul, arith}
 use Rattle.std.specs.Prelude.{unwrap_or, codes}
-use Rattle.std.specs.List.{All, list_any, list_all, range_with_len}
+use Rattle.std.specs.List.{All, list_any, list_all}
 use Rattle.std.proofs.lemmas.List.Folds.{list_any-append}
 use Rattle.std.proofs.lemmas.List.FromFn.{length-range_with_len}
 use Rattle.std.proofs.lemmas.Bool.Decides.{nat_tests}
@@ -29,19 +29,19 @@ use Rattle.target_game.specs.declared.bad_problem.BadProblem.{BadProblem}
 use Rattle.target_game.specs.declared.bad_problem.BadProblem.TheVariants as bad
 use Rattle.go_turns.specs.Record.{GameRecord, colouring_of}
 use Rattle.target_game.specs.Problem.{first_refusal, refusals, one_colour, problem_on, problem_of as problem_of_parts}
-use Rattle.target_game.proofs.Facts.{made_of, map_all}
+use Rattle.target_game.proofs.Facts.{made_of}
 use Rattle.target_game.proofs.Loops.{on_first}
 use Rattle.sgf_text.specs.Bytes.{is_lower}
 use Rattle.sgf_text.specs.Nodes.{values_at}
 use Rattle.sgf_text.specs.Trees.{Node}
 use Rattle.tsumego_problem.specs.Values.{turn_in, turn_named, trim, point_at, inside, rectangle, points_named, points_of_each, points_of}
-use Rattle.tsumego_problem.specs.Walk.{has, has_many, has_turn, has_setup, is_empty, is_marked, is_bad, is_bad_turn, share_point, when, first_fault, node_fault, player_at, points_at, targets_at, region_at, are_targets, history_limit}
+use Rattle.tsumego_problem.specs.Walk.{has, has_many, has_turn, has_setup, is_empty, is_marked, is_bad, is_bad_turn, share_point, when, first_fault, node_fault, player_at, targets_at, region_at, are_targets, history_limit}
 use Rattle.tsumego_problem.specs.Walked.{walk_of, HasReached, StandsOn}
 use Rattle.tsumego_problem.specs.declared.fault.ProblemFault.{ProblemFault}
 use Rattle.tsumego_problem.specs.declared.fault.ProblemFault.TheVariants as faults
 use Rattle.tsumego_problem.specs.declared.fault.SingleProperty.TheVariants as single
 use Rattle.tsumego_problem.proofs.Making.{stands_at}
-use Rattle.tsumego_problem.proofs.Points.{both_true, held}
+use Rattle.tsumego_problem.proofs.Points.{held}
 
 -- ---- a property that has good values has a point
 

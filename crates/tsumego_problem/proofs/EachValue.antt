@@ -4,7 +4,7 @@ use Rattle.std.proofs.lemmas.List.FromFn.{map-range_with_len_more}
 use Rattle.go_points.specs.Points.{with_place}
 use Rattle.tsumego_problem.proofs.Rectangles.{put}
 use Rattle.tsumego_problem.proofs.Points.{picked_below, picked_again, both_true, row_small, column_small}
-use Rattle.std.proofs.Common.{◌≡◌, ℕ, zero, suc, ◌*◌, nat_lt, ltb-true, ◌+◌, ◌≤◌, ◌<◌, Bool, true, false, List, [], ◌∷◌, ◌++◌, drop, length, get_or, map, filter, append-nil, append_assoc, Option, Some, None, option_map, option_and_then, refl, sym, ◌∙◌, ap, ap₂, subst, arith, map-id}
+use Rattle.std.proofs.Common.{◌≡◌, ℕ, zero, suc, ◌*◌, nat_lt, ltb-true, ◌+◌, ◌≤◌, ◌<◌, true, false, List, [], ◌∷◌, ◌++◌, drop, length, get_or, map, filter, append-nil, append_assoc, Option, Some, None, option_map, option_and_then, refl, sym, ◌∙◌, ap, ap₂, subst, arith, map-id}
 use Rattle.std.proofs.Math.Seq.{drop-cons, drop-length}
 use Rattle.std.proofs.lemmas.Nat.{div-add-mod'}
 use Rattle.go_points.specs.Grid.{points}

@@ -2,7 +2,7 @@
 use Rattle.std.proofs.Common.{◌≡◌, ℕ, suc, ◌+◌, ◌≤◌, ◌<◌, Bool, true, false, not, cond, nat_lt, ltb-true, ltb-false, List, [], ◌∷◌, ◌++◌, length, Option, Some, None, position, option_map, option_and_then, slice_get, ◌^◌, SomeIff, refl, sym, ◌∙◌, ap, arith}
 use Rattle.std.specs.List.{position_or_len}
 use Rattle.std.proofs.lemmas.Bool.{lt-ltb, le-ltb}
-use Rattle.sgf_text.specs.Trees.{GameTree, Forest, forest_of}
+use Rattle.sgf_text.specs.Trees.{GameTree, forest_of}
 use Rattle.tsumego_problem.specs.Walk.{usize_of, line_below, main_line}
 
 module _ {X : Type 0} (f : X → Bool) where

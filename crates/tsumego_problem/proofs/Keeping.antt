@@ -1,6 +1,6 @@
 -- What the walk keeps of its history, and what it has asked when it comes to a marked node.
-use Rattle.std.proofs.Common.{◌≡◌, ℕ, ◌+◌, ◌*◌, Bool, true, false, not, ◌&&◌, nat_eq, List, [], ◌∷◌, ◌++◌, length, Option, Some, None, Result, Ok, Err, is_none, refl, sym, ◌∙◌, ap, subst, eq-eqb}
-use Rattle.std.specs.Prelude.{unwrap_or, if◌then◌else◌}
+use Rattle.std.proofs.Common.{◌≡◌, ℕ, ◌+◌, ◌*◌, Bool, true, false, not, ◌&&◌, nat_eq, List, [], ◌∷◌, ◌++◌, length, Option, Some, None, Result, Ok, Err, refl, ap, subst, eq-eqb}
+use Rattle.std.specs.Prelude.{if◌then◌else◌}
 use Rattle.std.specs.List.{list_all}
 use Rattle.go_points.specs.declared.Colour.{Colour}
 use Rattle.go_points.specs.declared.Cell.{Cell}
@@ -10,12 +10,12 @@ use Rattle.go_points.specs.Liberty.{all_reach_empty}
 use Rattle.go_points.specs.Move.{after_move}
 use Rattle.go_points.specs.Ply.{Ply, pass, move}
 use Rattle.go_points.proofs.Clearing.{moves_leave_liberties}
-use Rattle.go_turns.specs.History.{has_occurred, place_in, repeats}
+use Rattle.go_turns.specs.History.{has_occurred, place_in}
 use Rattle.go_turns.proofs.Repeats.{once_more, no_position}
 use Rattle.go_points.specs.Grid.{same_cells}
 use Rattle.target_game.proofs.States.{length-after_move}
 use Rattle.sgf_text.specs.Trees.{Node}
-use Rattle.tsumego_problem.specs.Walk.{Walk, is_marked, ◌>>=◌, unless, late_fault, node_fault, joined_by, moved_to, turned, set_to, changed_by, changed, turn_at, player_at, has_setup, has_no_liberty, assigned, walk_node}
+use Rattle.tsumego_problem.specs.Walk.{Walk, is_marked, ◌>>=◌, unless, late_fault, node_fault, joined_by, moved_to, turned, set_to, changed_by, changed, turn_at, has_setup, has_no_liberty, assigned, walk_node}
 use Rattle.tsumego_problem.specs.Walked.{IsHistory, HasReached, walk_to_mark}
 use Rattle.tsumego_problem.specs.declared.fault.ProblemFault.{ProblemFault}
 use Rattle.tsumego_problem.proofs.Assigning.{length_assigned}

@@ -1,23 +1,20 @@
 -- The problem that is made at the end of a walk.
-use Rattle.std.proofs.Common.{◌≡◌, ℕ, zero, suc, ◌+◌, ◌*◌, ◌<◌, ◌≤◌, Bool, true, false, cond, not, ◌&&◌, ◌||◌, List, [], ◌∷◌, map, length, get_or, Option, Some, None, Result, Ok, Err, is_some, refl, sym, ◌∙◌, ap, ap₂, subst, arith}
+use Rattle.std.proofs.Common.{◌≡◌, ℕ, zero, suc, ◌<◌, Bool, true, false, ◌&&◌, ◌||◌, List, [], ◌∷◌, map, length, get_or, Option, Some, None, Ok, refl, sym, ◌∙◌, ap, ap₂, subst, arith}
 use Rattle.std.specs.Prelude.{unwrap_or}
-use Rattle.std.specs.List.{All, list_any, list_all}
+use Rattle.std.specs.List.{list_any, list_all}
 use Rattle.go_points.specs.declared.Colour.{Colour}
-use Rattle.go_points.specs.declared.Colour.TheVariants.{Black, White}
+use Rattle.go_points.specs.declared.Colour.TheVariants.{Black}
 use Rattle.go_points.specs.declared.Cell.{Cell}
 use Rattle.go_points.specs.declared.Cell.TheVariants.{Empty, Stone}
-use Rattle.go_points.specs.Equal.{same_cells_eq}
-use Rattle.go_points.specs.Grid.{points, cell_at, same_cell, same_cells, side_of}
+use Rattle.go_points.specs.Grid.{cell_at, same_cell, same_cells, side_of}
 use Rattle.go_points.specs.Place.{Place, number_of}
 use Rattle.go_points.proofs.Cells.{same_cell_eq, same_cell_refl}
 use Rattle.go_points.proofs.Lists.{and_left}
 use Rattle.go_turns.specs.History.{place_in}
 use Rattle.go_turns.specs.Record.{GameRecord, colouring_of}
 use Rattle.go_turns.proofs.Repeats.{no_element}
-use Rattle.go_turns.proofs.Anywhere.{any_yes}
-use Rattle.target_game.specs.State.{Game, GameProblem, start}
-use Rattle.target_game.specs.Kept.{kept_problem}
-use Rattle.target_game.specs.Problem.{first_refusal, refusals, one_colour, the_colour, unless_refused, problem_of as problem_of_parts}
+use Rattle.target_game.specs.State.{GameProblem}
+use Rattle.target_game.specs.Problem.{first_refusal, refusals, problem_of as problem_of_parts}
 use Rattle.target_game.proofs.Facts.{facts, unrefused}
 use Rattle.sgf_text.specs.Trees.{Node}
 use Rattle.tsumego_problem.specs.Walk.{targets_at, region_at, colour_of, problem_at}

@@ -1,11 +1,10 @@
 -- The record with which a walk begins.
-use Rattle.std.proofs.Common.{◌≡◌, ℕ, zero, suc, ◌+◌, ◌*◌, ◌<◌, ◌≤◌, Bool, true, false, cond, not, ◌&&◌, ◌||◌, List, [], ◌∷◌, map, length, get_or, Option, Some, None, Result, Ok, Err, is_none, replicate, refl, sym, ◌∙◌, ap, ap₂, subst, eq-eqb, arith}
+use Rattle.std.proofs.Common.{◌≡◌, ℕ, zero, suc, ◌+◌, ◌*◌, ◌<◌, ◌≤◌, Bool, true, false, cond, not, ◌&&◌, ◌||◌, List, [], ◌∷◌, map, length, Option, Some, None, Ok, Err, is_none, replicate, refl, sym, ◌∙◌, ap, ap₂, subst, eq-eqb, arith}
 use Rattle.std.specs.Prelude.{codes, unwrap_or}
 use Rattle.std.specs.List.{list_any, range_with_len}
 use Rattle.tsumego_problem.specs.declared.fault.SingleProperty.TheVariants as single
 use Rattle.std.proofs.lemmas.List.{get_or-replicate, length-replicate}
 use Rattle.std.proofs.lemmas.List.FromFn.{fill_by_all, get_or-map-range_with_len}
-use Rattle.go_points.specs.declared.Colour.{Colour}
 use Rattle.go_points.specs.declared.Colour.TheVariants.{Black, White}
 use Rattle.go_points.specs.declared.Cell.{Cell}
 use Rattle.go_points.specs.declared.Cell.TheVariants.{Empty, Stone}
@@ -18,12 +17,11 @@ use Rattle.target_game.specs.Legal.{holds_point}
 use Rattle.sgf_text.specs.Nodes.{values_at}
 use Rattle.sgf_text.specs.Trees.{Node}
 use Rattle.tsumego_problem.specs.Values.{points_of}
-use Rattle.tsumego_problem.specs.Walk.{Walk, has_many, is_bad, is_bad_turn, share_point, has, has_turn, has_setup, is_empty, points_at, assigned, opening, turn_of, turn_at, node_fault, first_fault, when, changed, changed_by, set_to, unless, late_fault, has_no_liberty, walk_node, ◌>>=◌}
+use Rattle.tsumego_problem.specs.Walk.{has_many, is_bad, is_bad_turn, share_point, has, has_turn, has_setup, is_empty, points_at, assigned, opening, turn_of, turn_at, node_fault, first_fault, when, changed, changed_by, set_to, unless, late_fault, walk_node, ◌>>=◌}
 use Rattle.tsumego_problem.specs.Walked.{walk_of, IsHistory}
 use Rattle.tsumego_problem.specs.declared.fault.ProblemFault.{ProblemFault}
 use Rattle.tsumego_problem.specs.declared.fault.ProblemFault.TheVariants as faults
 use Rattle.tsumego_problem.proofs.Assigning.{left_at}
-use Rattle.tsumego_problem.proofs.Points.{held}
 use Rattle.tsumego_problem.proofs.Steps.{filter_none}
 
 -- the board without stones, as a map

@@ -1,13 +1,13 @@
 -- Points put into sets, one by one.
-use Rattle.std.proofs.Common.{◌≡◌, ◌≢◌, ℕ, zero, suc, ◌⊎◌, inl, inr, ◌+◌, ◌-◌, ◌*◌, ◌/◌, ◌%◌, ◌≤◌, ◌<◌, Bool, true, false, cond, ◌&&◌, ◌||◌, nat_le, nat_eq, eq-eqb, eqb-true, List, [], ◌∷◌, ◌++◌, map, map-id, append-nil, append_assoc, filter, length, nat_lt, ltb-true, option_and_then, Option, Some, None, option_map, refl, sym, ◌∙◌, ap, ap₂, subst, arith}
-use Rattle.std.specs.List.{list_any, range_with_len}
+use Rattle.std.proofs.Common.{◌≡◌, ◌≢◌, ℕ, ◌⊎◌, inl, inr, ◌+◌, ◌-◌, ◌*◌, ◌/◌, ◌%◌, ◌≤◌, ◌<◌, Bool, true, false, cond, ◌&&◌, ◌||◌, nat_le, nat_eq, eq-eqb, eqb-true, List, [], ◌∷◌, ◌++◌, map-id, append-nil, append_assoc, filter, length, nat_lt, ltb-true, option_and_then, Option, Some, None, option_map, refl, sym, ◌∙◌, ap, ap₂, subst, arith}
+use Rattle.std.specs.List.{range_with_len}
 use Rattle.std.proofs.lemmas.Bool.{false_from_ne_true}
 use Rattle.std.proofs.lemmas.Nat.{div-mul-add, mod-mul-add, mul-add-lt}
 use Rattle.std.proofs.lemmas.List.FromFn.{filter_of_map_range_with_len_more}
 use Rattle.std.proofs.lemmas.List.Folds.{list_any-append}
-use Rattle.go_points.specs.Grid.{points, row_of, column_of}
+use Rattle.go_points.specs.Grid.{points}
 use Rattle.go_points.specs.Place.{Place, IsOn, place_of, number_of}
-use Rattle.go_points.specs.Points.{with_place, places_that}
+use Rattle.go_points.specs.Points.{with_place}
 use Rattle.go_points.proofs.PlaceSets.{places_with}
 use Rattle.target_game.specs.Legal.{holds_point}
 use Rattle.go_points.specs.Sgf.{sgf_place, is_letter}

@@ -1,5 +1,5 @@
 -- Points that two sets share, one point after another.
-use Rattle.std.proofs.Common.{◌≡◌, ℕ, zero, suc, ◌<◌, Bool, true, false, ◌||◌, List, [], ◌∷◌, map, refl, sym, ◌∙◌, ap, subst, arith}
+use Rattle.std.proofs.Common.{◌≡◌, ℕ, Bool, true, false, ◌||◌, List, ◌∷◌, map, sym, ◌∙◌, ap, subst, arith}
 use Rattle.std.specs.List.{All, list_any}
 use Rattle.go_points.specs.Place.{Place, IsOn, number_of}
 use Rattle.go_points.specs.Points.{holds_place}

@@ -1,7 +1,3 @@
-use Rattle.std.proofs.Common.{◌≡◌, ◌≢◌, Some, Err, subst}
-use Rattle.sgf_text.specs.Trees.{GameTree}
-use Rattle.tsumego_problem.specs.Walk.{problem_within, history_limit}
-use Rattle.tsumego_problem.specs.declared.fault.ProblemFault.TheVariants.{Memory}
 use Rattle.tsumego.proofs.Recording.{has_no_problem}
 use Rattle.tsumego.proofs.record.read_record.Goals as goal
 

@@ -1,9 +1,9 @@
-use Rattle.std.proofs.Common.{◌≡◌, ◌∙◌, ap, sym, subst, refl, None, Some}
+use Rattle.std.proofs.Common.{◌≡◌, ◌∙◌, ap, sym, subst}
 use Rattle.std.specs.Prelude.{string_bytes, IfOk}
-use Rattle.proof_cert.specs.Source.{Source, source_of, text_gives, fault_left}
+use Rattle.proof_cert.specs.Source.{source_of, text_gives, fault_left}
 use Rattle.cert_check.specs.Checks.{RejectsAt}
 use Rattle.tsumego_problem.specs.Values.{skip_white}
-use Rattle.tsumego.specs.Answers.{check_answer, claim_verdict}
+use Rattle.tsumego.specs.Answers.{claim_verdict}
 use Rattle.tsumego.specs.Replies.{IsRejectionOf}
 use Rattle.tsumego.proofs.Running.{judged_rejected}
 use Rattle.tsumego.proofs.reply.judge.Goals as goal

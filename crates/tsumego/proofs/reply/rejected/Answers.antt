@@ -1,5 +1,4 @@
-use Rattle.std.proofs.Common.{◌≡◌, refl}
-use Rattle.tsumego.specs.Texts.{rejected_line_text}
+use Rattle.std.proofs.Common.{refl}
 use Rattle.tsumego.proofs.Phrases.{why_given}
 use Rattle.tsumego.proofs.reply.rejected.Goals as goal
 

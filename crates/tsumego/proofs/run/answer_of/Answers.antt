@@ -1,4 +1,4 @@
-use Rattle.std.proofs.Common.{◌≡◌, ◌∙◌, ap, sym, ◌++◌, refl}
+use Rattle.std.proofs.Common.{◌∙◌, ap, ◌++◌}
 use Rattle.std.specs.Prelude.{string_bytes}
 use Rattle.tsumego.proofs.Running.{whole_said, all_told}
 use Rattle.tsumego.proofs.run.answer_of.Goals as goal

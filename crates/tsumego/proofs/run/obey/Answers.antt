@@ -1,8 +1,6 @@
-use Rattle.std.proofs.Common.{◌≡◌, ◌∙◌, ap, sym, subst, refl, inl, inr}
+use Rattle.std.proofs.Common.{subst, refl, inl, inr}
 use Rattle.std.specs.Prelude.{string_bytes}
-use Rattle.tsumego.specs.declared.status.Status.TheVariants.{Failed}
 use Rattle.tsumego.specs.Replies.{Writes}
-use Rattle.tsumego.specs.Answers.{Says}
 use Rattle.tsumego.specs.Texts.{no_memory_text, no_read_text}
 use Rattle.tsumego.proofs.Running.{ran_said, ran_failed}
 use Rattle.tsumego.proofs.run.obey.Goals as goal

@@ -1,8 +1,5 @@
-use Rattle.std.proofs.Common.{◌≡◌, ◌∙◌, ap, sym, subst, refl, map}
-use Rattle.std.specs.Prelude.{string_bytes}
-use Rattle.tsumego.specs.declared.status.Status.TheVariants.{BadWords}
+use Rattle.std.proofs.Common.{sym, subst, refl, map}
 use Rattle.tsumego.specs.CommandLine.{command_of, IsWordsFault}
-use Rattle.tsumego.specs.Replies.{Writes}
 use Rattle.tsumego.specs.Texts.{no_memory_text}
 use Rattle.tsumego.proofs.Running.{ran_no_words, ran_no_memory}
 use Rattle.tsumego.proofs.run.run.Goals as goal

@@ -1,4 +1,4 @@
-use Rattle.std.proofs.Common.{◌≡◌, ◌∙◌, ap, List, ℕ, [], ◌∷◌, ◌+◌, rules, sym}
+use Rattle.std.proofs.Common.{◌∙◌, ap, ℕ, [], ◌∷◌, ◌+◌, rules}
 use Rattle.tsumego.proofs.Phrases.{letters_on, letters_off}
 use Rattle.tsumego.proofs.texts.letters_of.Goals as goal
 

@@ -1,4 +1,4 @@
-use Rattle.std.proofs.Common.{◌≡◌, ◌∙◌, ◌++◌, ◌∷◌, [], sym, ap}
+use Rattle.std.proofs.Common.{◌∙◌, ◌++◌, ◌∷◌, [], sym, ap}
 use Rattle.std.specs.Prelude.{codes, decimal, string_bytes}
 use Rattle.tsumego_problem.specs.Refusals.{problem_refusal}
 use Rattle.tsumego.specs.Texts.{line}

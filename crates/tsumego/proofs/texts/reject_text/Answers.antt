@@ -1,4 +1,4 @@
-use Rattle.std.proofs.Common.{◌≡◌, ◌∙◌, ◌++◌, ◌∷◌, [], Some, sym, ap}
+use Rattle.std.proofs.Common.{◌≡◌, ◌++◌, ◌∷◌, [], Some}
 use Rattle.std.specs.Prelude.{codes, decimal, string_bytes}
 use Rattle.cert_check.specs.Body.{Why}
 use Rattle.cert_check.specs.Stage.{why_value}

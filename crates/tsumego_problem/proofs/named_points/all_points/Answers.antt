@@ -1,4 +1,4 @@
-use Rattle.std.proofs.Common.{◌≡◌, ◌∙◌, ◌*◌, ◌<◌, ap, subst, sym, arith, rules}
+use Rattle.std.proofs.Common.{◌≡◌, ◌∙◌, ◌*◌, ◌<◌, ap, subst, sym, arith}
 use Rattle.std.specs.List.{range_with_len, All}
 use Rattle.go_points.specs.Grid.{points}
 use Rattle.go_points.specs.Place.{IsOn}

@@ -1,5 +1,4 @@
 use Rattle.std.proofs.Common.{true, sym, subst, arith}
-use Rattle.go_points.proofs.Lists.{not_false}
 use Rattle.tsumego_problem.specs.Values.{trim, points_named}
 use Rattle.tsumego_problem.specs.Named.{Adds}
 use Rattle.tsumego_problem.proofs.EachValue.{each_start, each_more, each_end, each_on}

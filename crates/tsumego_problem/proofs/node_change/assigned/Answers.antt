@@ -1,6 +1,6 @@
-use Rattle.std.proofs.Common.{◌≡◌, ◌∙◌, ◌*◌, ◌<◌, ap, sym, subst, rules}
+use Rattle.std.proofs.Common.{◌≡◌, ◌∙◌, ◌*◌, ◌<◌, ap, subst, rules}
 use Rattle.std.specs.Prelude.{slice_set}
-use Rattle.go_points.specs.Grid.{cell_at, side_of}
+use Rattle.go_points.specs.Grid.{cell_at}
 use Rattle.go_points.specs.Place.{number_of}
 use Rattle.tsumego_problem.proofs.Assigning.{FilledTo, left_at, filled_more, assigned_all, left_by_sets}
 use Rattle.tsumego_problem.proofs.node_change.assigned.Goals as goal

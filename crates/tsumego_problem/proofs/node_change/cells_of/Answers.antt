@@ -1,6 +1,5 @@
-use Rattle.std.proofs.Common.{◌≡◌, ◌∙◌, ap, sym, subst, map, ◌∷◌, ◌++◌}
-use Rattle.std.specs.List.{range_with_len}
-use Rattle.go_points.specs.Grid.{cell_at, side_of}
+use Rattle.std.proofs.Common.{◌∙◌, ap, map}
+use Rattle.go_points.specs.Grid.{cell_at}
 use Rattle.go_points.specs.Place.{number_of}
 use Rattle.go_turns.specs.Record.{numbered}
 use Rattle.tsumego_problem.proofs.Assigning.{cells_more}

@@ -1,4 +1,4 @@
-use Rattle.std.proofs.Common.{◌≡◌, ◌∙◌, ap, sym, subst, map, Ok, Err}
+use Rattle.std.proofs.Common.{◌≡◌, ◌∙◌, ap, sym, subst, map, Ok}
 use Rattle.std.specs.Prelude.{IfOk, unwrap_or}
 use Rattle.go_points.specs.Grid.{cell_at, points}
 use Rattle.go_turns.specs.Record.{numbered, colouring_of, setup_of, Did}

@@ -1,5 +1,4 @@
-use Rattle.std.proofs.Common.{rules, ◌≡◌, ◌<◌, ◌∷◌, [], ◌++◌, length, take, Some, slice_get, sym, ◌∙◌, ap, ap₂}
-use Rattle.std.proofs.lemmas.List.{take_more}
+use Rattle.std.proofs.Common.{◌∙◌}
 use Rattle.tsumego_problem.proofs.Taking.{taken_more}
 use Rattle.tsumego_problem.proofs.read.history_of.Goals as goal
 

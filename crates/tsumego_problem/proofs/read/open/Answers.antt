@@ -1,11 +1,10 @@
-use Rattle.std.proofs.Common.{◌≡◌, ◌∷◌, [], ◌*◌, Ok, Err, Result, None, Some, is_none, map, length, replicate, sym, ◌∙◌, ap, subst}
+use Rattle.std.proofs.Common.{◌≡◌, ◌∷◌, [], Ok, Err, None, Some, map, length, sym, ◌∙◌, ap, subst}
 use Rattle.go_points.specs.declared.Colour.TheVariants.{Black}
 use Rattle.go_points.specs.declared.Cell.TheVariants.{Empty}
-use Rattle.go_points.specs.Grid.{points, side_of}
+use Rattle.go_points.specs.Grid.{points}
 use Rattle.go_points.specs.Liberty.{first_without_liberty}
 use Rattle.go_turns.specs.Record.{opened, Opens}
-use Rattle.tsumego_problem.specs.Walk.{Walk, assigned, history_limit}
-use Rattle.tsumego_problem.specs.Walked.{walk_of}
+use Rattle.tsumego_problem.specs.Walk.{assigned, history_limit}
 use Rattle.tsumego_problem.proofs.Opening.{no_stones, opened_walk, opened_history, opened_refused, first_refused}
 use Rattle.tsumego_problem.proofs.Assigning.{length_assigned}
 use Rattle.tsumego_problem.proofs.read.open.Goals as goal

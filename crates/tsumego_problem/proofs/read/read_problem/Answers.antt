@@ -1,6 +1,4 @@
-use Rattle.std.proofs.Common.{◌≡◌, Some, Ok, sym, ◌∙◌, ap, subst}
-use Rattle.std.specs.Prelude.{IfOk}
-use Rattle.target_game.specs.State.{GameProblem}
+use Rattle.std.proofs.Common.{◌≡◌, Some, sym, ◌∙◌, ap}
 use Rattle.tsumego_problem.specs.Walk.{history_limit, root_of, is_go, board_size, problem_within, opening, main_line, walk_node, problem_at}
 use Rattle.tsumego_problem.specs.Walked.{walk_of, walk_to_mark}
 use Rattle.tsumego_problem.proofs.Problems.{some_node, root_is, walk_leads, walk_refuses, root_refuses, led_to}

@@ -1,4 +1,4 @@
-use Rattle.std.proofs.Common.{Some, None, sym, ◌∙◌}
+use Rattle.std.proofs.Common.{Some, sym, ◌∙◌}
 use Rattle.tsumego_problem.specs.Walk.{history_limit}
 use Rattle.tsumego_problem.specs.Walked.{walk_of}
 use Rattle.tsumego_problem.proofs.Walking.{walked_on, walked_to}

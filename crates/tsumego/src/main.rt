@@ -11,6 +11,8 @@ pub mod laws;
 mod record;
 #[cfg(test)]
 mod record_tests;
+#[cfg(test)]
+mod region_tests;
 mod reply;
 mod run;
 mod status;

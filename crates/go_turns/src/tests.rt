@@ -1,7 +1,7 @@
 //! Games on small boards and on the widest, with results worked out by the rules.
 
 use crate::*;
-use go_points::{Cell, Colour, Colouring, Point, Size, Turn};
+use go_points::{Cell, Colour, Colouring, Point, Size, Turn, sgf_point};
 use std::alloc::{AllocError, Global};
 use std::test::Fail;
 
@@ -279,5 +279,22 @@ fn each_colouring_has_its_place(rt: HostRuntime) -> Result<(), Fail> {
     let size = Size::new(2).ok_or("size")?;
     let are_found = are_found::<PlaySeen>(rt.alloc(), painted(size, "X..."), painted(size, "O..."));
     assert_eq!(rt; are_found.ok(), Some(true));
+    Ok(())
+}
+
+#[test]
+fn faults_have_texts(rt: HostRuntime) -> Result<(), Fail> {
+    let point = sgf_point(Size::new(3).expect(&rt, "a size"), b"aa").expect(&rt, "a point");
+    let rows: [(TurnFault, &str); 6] = [
+        (TurnFault::OffBoard, "off the board"),
+        (TurnFault::Occupied, "occupied"),
+        (TurnFault::Repeats { earlier: 12 }, "repeats 12"),
+        (TurnFault::NoLiberty { point }, "no liberty"),
+        (TurnFault::CannotUndo, "cannot undo"),
+        (TurnFault::Memory, "out of memory"),
+    ];
+    for (fault, text) in rows {
+        assert_eq!(rt; format!(in rt.alloc(); "{fault}")?.as_str(), text);
+    }
     Ok(())
 }

@@ -393,3 +393,21 @@ fn a_problem_tells_its_parts(rt: HostRuntime) {
     assert_eq!(rt; *problem.targets(), points(&rt, "aa"));
     assert_eq!(rt; *problem.region(), points(&rt, "bacc"));
 }
+
+#[test]
+fn refusals_have_texts(rt: HostRuntime) {
+    let rows: [(BadProblem, &str); 8] = [
+        (BadProblem::OtherSize, "other size"),
+        (BadProblem::BadPlace, "bad place"),
+        (BadProblem::BadTargets, "bad targets"),
+        (BadProblem::Ended, "ended"),
+        (BadProblem::EmptyRegion, "empty region"),
+        (BadProblem::LongHistory, "long history"),
+        (BadProblem::NoLiberty, "no liberty"),
+        (BadProblem::Repeated, "repeated"),
+    ];
+    for (fault, text) in rows {
+        let shown = format!(in rt.alloc(); "{fault}").expect(&rt, "memory");
+        assert_eq!(rt; shown.as_str(), text);
+    }
+}

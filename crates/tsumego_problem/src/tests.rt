@@ -4,7 +4,7 @@ use crate::main_line::values_at;
 use crate::named_points::read_points;
 use crate::sizes::read_size;
 use crate::values::read_colour;
-use crate::{problem_node, read_problem, read_turn};
+use crate::{ProblemFault, SingleProperty, TurnFaultCause, problem_node, read_problem, read_turn};
 use go_points::{Colour, Size, Turn, sgf_point};
 use sgf_text::read_tree;
 use std::alloc::Global;
@@ -180,6 +180,31 @@ fn walks_along_the_main_line(rt: HostRuntime) -> Result<(), Fail> {
         assert_eq!(rt; problem.place(), place);
         assert_eq!(rt; problem.mover(), mover);
         assert_eq!(rt; problem.passes(), passes);
+    }
+    Ok(())
+}
+
+#[test]
+fn faults_have_texts(rt: HostRuntime) -> Result<(), Fail> {
+    let property = SingleProperty::PL;
+    let cause = TurnFaultCause::Repeats { earlier: 3 };
+    let rows: [(ProblemFault, &str); 7] = [
+        (ProblemFault::Game, "game"),
+        (ProblemFault::NoProblemNode, "no problem node"),
+        (
+            ProblemFault::ManyValues { property, node: 2 },
+            "many values of PL",
+        ),
+        (
+            ProblemFault::IllegalTurn { node: 2, cause },
+            "illegal turn: repeats 3",
+        ),
+        (ProblemFault::NoLiberty { node: 0 }, "no liberty"),
+        (ProblemFault::LongHistory { node: 0 }, "long history"),
+        (ProblemFault::Memory, "out of memory"),
+    ];
+    for (fault, text) in rows {
+        assert_eq!(rt; format!(in rt.alloc(); "{fault}")?.as_str(), text);
     }
     Ok(())
 }

@@ -1,0 +1,5 @@
+pub mod Below
+pub mod Audit
+pub mod Laws
+pub mod Answer
+pub mod Faults

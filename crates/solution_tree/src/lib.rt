@@ -1,0 +1,9 @@
+//! Answer trees: expanded from a checked claim, written as a record, and audited in anyone's record.
+#![tactic(auto)]
+
+mod answer;
+mod fault;
+pub mod laws;
+
+pub use answer::Answer;
+pub use fault::{AuditFault, AuditWhy, Expand};

@@ -2,8 +2,12 @@
 #![tactic(auto)]
 
 mod answer;
+mod expansion;
 mod fault;
 pub mod laws;
+mod opened;
 
 pub use answer::Answer;
+pub use expansion::expand;
 pub use fault::{AuditFault, AuditWhy, Expand};
+

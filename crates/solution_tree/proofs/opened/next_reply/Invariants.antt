@@ -1,0 +1,16 @@
+use Rattle.std.proofs.Common.{◌≡◌, ℕ, List, length, IsTrue}
+use Rattle.target_game.specs.State.{GameState}
+use Rattle.target_game.specs.Answers.{AnswerTree}
+use Rattle.proof_cert.specs.Certificate.{replies_of}
+use Rattle.cert_check.specs.Expand.{expand_branches}
+use Rattle.solution_tree.specs.Opened.{all_below}
+use Rattle.solution_tree.proofs.opened.next_reply.Given as goal
+
+-- The replies that are left are expanded as all of them.
+abbrev pub invariant-loop-reply : goal.invariant-loop-reply
+invariant-loop-reply l =
+    ((es : List (GameState → AnswerTree)) → expand_branches es (replies_of l.state.state.game.size l.rest) l.state.state ≡ expand_branches es (replies_of l.state.state.game.size l.replies) l.state.state)
+    × ((m : ℕ) → IsTrue (all_below m (replies_of l.state.state.game.size l.replies)) → IsTrue (all_below m (replies_of l.state.state.game.size l.rest)))
+
+abbrev pub decreases-loop-reply : goal.decreases-loop-reply
+decreases-loop-reply l = length l.rest

@@ -1,5 +1,6 @@
 -- The equations of what an answer tree of the program says.
 use Rattle.std.proofs.Common.{arith, ◌≡◌, ℕ, ◌+◌, ◌<◌, ◌≤◌, length, drop, get_or, List, [], ◌∷◌, ◌++◌, Vec, Box, Global, sym, ap, ◌∙◌, refl}
+use Rattle.std.specs.List.{IsLastAndRest}
 use Rattle.std.proofs.lemmas.List.{at_drop_more, at_drop_all}
 use Rattle.go_points.specs.declared.Turn.{Turn}
 use Rattle.go_points.specs.Ply.{ply_of}
@@ -59,3 +60,30 @@ sizes_done n rs i past = ap reply_sizes (answers_done n rs i past)
 pub no_sizes : (n : ℕ) → reply_sizes (replies_of n []) ≡ 0
 unfolding answer_size
 no_sizes n = refl
+
+-- ---- sizes of a part that is of some form
+pub part_won : (n : ℕ) (part : Answer) → part ≡ code.Won → answer_size (answer_of n part) ≡ 0
+part_won n part is = ap (λ (a : Answer). answer_size (answer_of n a)) is ∙ size_won n
+
+pub part_turn : (n : ℕ) (part : Answer) (t : Turn) (below : Box Answer Global) → part ≡ code.Turn t below → answer_size (answer_of n part) ≡ 1 + answer_size (answer_of n below.value)
+part_turn n part t below is = ap (λ (a : Answer). answer_size (answer_of n a)) is ∙ size_turn n t below
+
+pub part_replies : (n : ℕ) (part : Answer) (all : Vec (Turn × Answer) Global) (rs : List (Turn × Answer)) → part ≡ code.Replies all → rs ≡ all.items → answer_size (answer_of n part) ≡ reply_sizes (replies_of n rs)
+part_replies n part all rs is same = ap (λ (a : Answer). answer_size (answer_of n a)) is ∙ size_replies n all ∙ ap (λ xs. reply_sizes (replies_of n xs)) (sym same)
+
+-- ---- counting on, below a part: what is counted and what is left stay the same in all
+
+pub below_turn : (count next before : ℕ) (answer part value : Answer) (t : Turn) (below : Box Answer Global) → part ≡ code.Turn t below → value ≡ below.value → next ≡ count + 1
+    → ((n : ℕ) → count + answer_size (answer_of n part) ≡ before + answer_size (answer_of n answer)) → (n : ℕ) → next + answer_size (answer_of n value) ≡ before + answer_size (answer_of n answer)
+below_turn count next before answer part value t below is same more all n =
+    omega (arith, more, all n, part_turn n part t below is, ap (λ (a : Answer). answer_size (answer_of n a)) same)
+
+pub below_replies : (count got next before : ℕ) (answer part : Answer) (whole : Vec (Turn × Answer) Global) (items others : List (Turn × Answer)) (r : Turn × Answer) → part ≡ code.Replies whole → items ≡ whole.items
+    → IsLastAndRest items r others → ((n : ℕ) → count + reply_sizes (replies_of n others) ≡ got) → next ≡ got + 1
+    → ((n : ℕ) → count + answer_size (answer_of n part) ≡ before + answer_size (answer_of n answer)) → (n : ℕ) → next + answer_size (answer_of n r.1) ≡ before + answer_size (answer_of n answer)
+below_replies count got next before answer part whole items others r is same rest some more all n =
+    omega (arith, more, some n, all n, part_replies n part whole items is same, ap (λ (xs : List (Turn × Answer)). reply_sizes (replies_of n xs)) rest.0, sizes_last n others r)
+
+pub empty_sizes : (n : ℕ) (rs : List (Turn × Answer)) → length rs ≡ 0 → reply_sizes (replies_of n rs) ≡ 0
+empty_sizes n [] h = no_sizes n
+empty_sizes n (r ∷ rs) h = absurd (omega (arith, h))

@@ -1,5 +1,9 @@
 //! Answer trees.
 
+ghost use Rattle.std.specs.Prelude.{◌≡◌, ◌+◌, ◌≤◌, ◌^◌, ℕ, IfSome, IfNone};
+ghost use Rattle.target_game.specs.Answers.{answer_size, reply_sizes};
+ghost use Rattle.solution_tree.specs.Answer.{answer_of, replies_of};
+
 use go_points::Turn;
 
 /// An answer tree: the turns of the side that wins, and a reply to each legal turn of the other side.
@@ -29,4 +33,53 @@ impl Drop for Answer {
             }
         }
     }
+}
+
+impl Answer {
+    /// The number of its turns; `None` where it is past the greatest `usize`. Whatever the board, it is the same.
+    pub fn size(&self) -> Option<usize>
+        ensures some { IfSome result (λ size. (n : ℕ) → answer_size (answer_of n self.now) ≡ size) }
+        ensures none { IfNone result ((n : ℕ) → 2 ^ 64 ≤ answer_size (answer_of n self.now)) }
+    {
+        size_with(self, 0)
+    }
+}
+
+/// So many turns and those of the answer. Goes along the last replies in a loop.
+#[cycle(size)]
+fn size_with(answer: &Answer, before: usize) -> Option<usize>
+    ensures some { IfSome result (λ size. (n : ℕ) → before + answer_size (answer_of n answer.now) ≡ size) }
+    ensures none { IfNone result ((n : ℕ) → 2 ^ 64 ≤ before + answer_size (answer_of n answer.now)) }
+{
+    let mut part = answer;
+    let mut count = before;
+    loop {
+        match part {
+            Answer::Won => return Some(count),
+            Answer::Turn(_, below) => {
+                count = count.checked_add(1)?;
+                part = below;
+            }
+            Answer::Replies(replies) => {
+                let Some((last, others)) = replies.split_last() else {
+                    return Some(count);
+                };
+                count = sizes_with(others, count)?.checked_add(1)?;
+                part = &last.1;
+            }
+        }
+    }
+}
+
+/// So many turns, these, and those below them.
+#[cycle(size)]
+fn sizes_with(replies: &[(Turn, Answer)], before: usize) -> Option<usize>
+    ensures some { IfSome result (λ size. (n : ℕ) → before + reply_sizes (replies_of n replies.now) ≡ size) }
+    ensures none { IfNone result ((n : ℕ) → 2 ^ 64 ≤ before + reply_sizes (replies_of n replies.now)) }
+{
+    let mut count = before;
+    for reply in replies {
+        count = size_with(&reply.1, count.checked_add(1)?)?;
+    }
+    Some(count)
 }

@@ -11,3 +11,6 @@ pub use answer::Answer;
 pub use expansion::expand;
 pub use fault::{AuditFault, AuditWhy, Expand};
 
+
+#[cfg(test)]
+mod expand_tests;

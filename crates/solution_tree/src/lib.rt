@@ -3,7 +3,12 @@
 
 mod answer;
 mod fault;
+mod first_line;
+mod given;
 pub mod laws;
+mod questions;
+mod tree_audit;
 
 pub use answer::Answer;
 pub use fault::{AuditFault, AuditWhy, Expand};
+pub use tree_audit::audit;

@@ -2,6 +2,10 @@
 #![tactic(auto)]
 
 mod answer;
+#[cfg(test)]
+mod audit_tests;
+#[cfg(test)]
+mod deep_tests;
 mod fault;
 mod first_line;
 mod given;

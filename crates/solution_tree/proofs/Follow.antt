@@ -1,9 +1,9 @@
 -- What follows a node: the rest of its sequence, or the child trees behind it.
-use Rattle.std.proofs.Common.{◌≡◌, ℕ, zero, suc, ◌+◌, ◌<◌, ◌≤◌, Bool, true, false, not, ◌&&◌, ◌||◌, nat_eq, nat_lt, eqb-true, ltb-true, lt-ltb, List, [], ◌∷◌, length, refl, sym, ◌∙◌, ap, arith, IsTrue}
-use Rattle.go_points.proofs.Lists.{and_left, and_right}
-use Rattle.sgf_text.specs.Trees.{Node, GameTree, Forest, no_tree, tree_then, forest_of}
+use Rattle.std.proofs.Common.{◌≡◌, ℕ, ◌<◌, ◌≤◌, Bool, true, false, not, ◌&&◌, nat_eq, nat_lt, eqb-true, ltb-true, lt-ltb, List, [], ◌∷◌, length, refl, ◌∙◌, ap, arith}
+use Rattle.go_points.proofs.Lists.{and_right}
+use Rattle.sgf_text.specs.Trees.{Node, GameTree, no_tree, tree_then, forest_of}
 use Rattle.sgf_text.specs.Text.{are_nodes, is_forest}
-use Rattle.solution_tree.specs.Below.{Nodes, no_node, node_then, sequence, nodes_of, tree_nodes_then}
+use Rattle.solution_tree.specs.Below.{nodes_of}
 use Rattle.solution_tree.specs.Audit.{has_children, has_several}
 use Rattle.solution_tree.specs.Asked.{follows}
 

@@ -1,5 +1,5 @@
 -- Turns made, and taken back.
-use Rattle.std.proofs.Common.{◌≡◌, ℕ, zero, suc, ◌+◌, ◌-◌, ◌<◌, ◌≤◌, List, [], ◌∷◌, length, refl, sym, ◌∙◌, ap, subst, arith}
+use Rattle.std.proofs.Common.{◌≡◌, ℕ, zero, suc, ◌-◌, ◌<◌, ◌≤◌, [], ◌∷◌, length, refl, sym, ◌∙◌, ap, arith}
 use Rattle.go_points.specs.Ply.{Ply, pass, move}
 use Rattle.target_game.specs.State.{GameState, Line}
 use Rattle.target_game.specs.Next.{next}
@@ -14,6 +14,7 @@ leads_more k first l m s e had = (go, ap (back k) here ∙ had.1)
   where
     here : one_back m ≡ l
     here = ap (λ ss. elim ss [ [] ↦ m | t ∷ ts ↦ record { state = t; before = ts } ]) e
+
     go : suc k ≤ length m.before
     go = let n : length m.before ≡ suc (length l.before) = ap length e in let most : k ≤ length l.before = had.0 in omega (arith, n, most)
 

@@ -1,11 +1,11 @@
 -- What follows the first marked node of the main line.
-use Rattle.std.proofs.Common.{◌≡◌, ℕ, zero, suc, ◌+◌, ◌-◌, ◌<◌, ◌≤◌, ◌^◌, Bool, true, false, cond, if◌then◌else◌, List, [], ◌∷◌, ◌++◌, length, take, drop, Option, Some, None, position, option_map, slice_get, IsSome, refl, sym, ◌∙◌, ap, subst, arith}
+use Rattle.std.proofs.Common.{◌≡◌, ℕ, suc, ◌+◌, ◌-◌, Bool, true, false, cond, if◌then◌else◌, List, [], ◌∷◌, length, take, drop, Option, Some, None, position, option_map, slice_get, refl, sym, ◌∙◌, ap, arith}
 use Rattle.std.proofs.lemmas.List.{take_all, length-drop}
-use Rattle.sgf_text.specs.Trees.{Node, GameTree, Forest, no_tree, tree_then, forest_of}
-use Rattle.tsumego_problem.specs.Walk.{is_marked, line_below, main_line, problem_node}
+use Rattle.sgf_text.specs.Trees.{Node, GameTree, Forest, forest_of}
+use Rattle.tsumego_problem.specs.Walk.{is_marked, line_below, problem_node}
 use Rattle.tsumego_problem.specs.Below.{children_of, below_in, below_line, below_problem}
 use Rattle.tsumego_problem.proofs.FirstPlace.{first_place, behind, place_in_both, first_child}
-use Rattle.solution_tree.specs.Below.{Nodes, sequence, nodes_of, nodes_in, nodes_below}
+use Rattle.solution_tree.specs.Below.{sequence, nodes_of, nodes_in, nodes_below}
 use Rattle.solution_tree.specs.Asked.{follows}
 
 nodes_of_children : (nodes : List Node) (inner : Forest) → nodes_of (children_of nodes inner) ≡ sequence nodes (nodes_of inner)

@@ -1,14 +1,12 @@
 -- A set of turns, and the list that it stands for.
-use Rattle.std.proofs.Common.{◌≡◌, ℕ, ◌+◌, ◌*◌, ◌/◌, ◌%◌, ◌<◌, ◌≤◌, Bool, true, false, not, ◌&&◌, ◌||◌, if◌then◌else◌, nat_eq, nat_lt, eqb-true, eq-eqb, ltb-true, List, [], ◌∷◌, ◌++◌, Option, Some, None, option_map, refl, sym, ◌∙◌, ap, ap₂, subst, arith}
-use Rattle.std.specs.List.{list_any, range_with_len}
+use Rattle.std.proofs.Common.{◌≡◌, ℕ, ◌+◌, ◌*◌, ◌/◌, ◌%◌, ◌<◌, ◌≤◌, Bool, true, false, ◌||◌, if◌then◌else◌, nat_eq, nat_lt, eqb-true, eq-eqb, ltb-true, List, [], ◌∷◌, ◌++◌, Some, None, refl, sym, ◌∙◌, ap, ap₂, subst, arith}
 use Rattle.std.proofs.lemmas.List.Folds.{list_any-append}
 use Rattle.std.proofs.lemmas.Nat.{div-mul-add, mod-mul-add}
-use Rattle.go_points.specs.declared.Colour.{Colour}
 use Rattle.go_points.specs.declared.Turn.{Turn}
 use Rattle.go_points.specs.declared.Turn.TheVariants.{Pass, At}
 use Rattle.go_points.specs.Place.{Place, IsOn, on_board, number_of}
 use Rattle.go_points.specs.Ply.{Ply, pass, move, same_ply, holds_ply, ply_of}
-use Rattle.go_points.specs.Points.{same_place, holds_place, with_place}
+use Rattle.go_points.specs.Points.{same_place, with_place}
 use Rattle.go_points.specs.Equal.{same_place_decides}
 use Rattle.go_points.proofs.Lists.{and_left, and_right}
 use Rattle.go_points.proofs.Membership.{sets_gain}
@@ -19,7 +17,7 @@ use Rattle.target_game.proofs.Tallies.{turns_left, left_begun, left_here, left_l
 use Rattle.tsumego_problem.specs.Walked.{StandsOn}
 use Rattle.solution_tree.specs.declared.given.Given.{Given}
 use Rattle.solution_tree.specs.Asked.{given_has, Tells}
-use Rattle.solution_tree.specs.Audit.{Why, unless_given, missing, reply_missing}
+use Rattle.solution_tree.specs.Audit.{unless_given, missing, reply_missing}
 
 -- a turn that stands on the board is at a point of it
 pub point_on : (n : ℕ) (p : Place) → StandsOn n (ply_of n (At p)) → IsOn n p

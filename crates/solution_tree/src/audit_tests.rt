@@ -21,7 +21,12 @@ pub(crate) fn audited(
 }
 
 // The text with a front and n copies of a piece behind it.
-pub(crate) fn repeated(alloc: Global, front: &[u8], piece: &[u8], n: usize) -> Result<Vec<u8>, Fail> {
+pub(crate) fn repeated(
+    alloc: Global,
+    front: &[u8],
+    piece: &[u8],
+    n: usize,
+) -> Result<Vec<u8>, Fail> {
     let mut text = front.to_vec(alloc)?;
     for _ in 0..n {
         text.extend_from_slice(piece)?;
@@ -102,10 +107,7 @@ fn asks_every_branch(rt: HostRuntime) -> Result<(), Fail> {
             b"(;B[](;W[])(;W[]))(;B[ba]))",
             at(2, AuditWhy::SeveralAnswers),
         ),
-        (
-            b"(;B[];W[];B[])(;B[ba]))",
-            at(4, AuditWhy::AfterTheEnd),
-        ),
+        (b"(;B[];W[];B[])(;B[ba]))", at(4, AuditWhy::AfterTheEnd)),
     ];
     for (nodes, answer) in rows {
         assert_eq!(rt; behind(alloc, &rt, CAPTURE, nodes)?, answer);
@@ -118,23 +120,14 @@ fn numbers_nodes_across_branches(rt: HostRuntime) -> Result<(), Fail> {
     let alloc = rt.alloc();
     let rows: [(&[u8], Result<Colour, AuditFault>); 9] = [
         // Replies may stand in any order.
-        (
-            b"(;B[cc];W[ba];B[];W[])(;B[];W[]))",
-            Ok(Colour::White),
-        ),
-        (
-            b"(;B[];W[])(;B[cc];W[ba];B[];W[]))",
-            Ok(Colour::White),
-        ),
+        (b"(;B[cc];W[ba];B[];W[])(;B[];W[]))", Ok(Colour::White)),
+        (b"(;B[];W[])(;B[cc];W[ba];B[];W[]))", Ok(Colour::White)),
         (
             b"(;B[cc];W[ba];B[];W[]))",
             at(2, AuditWhy::ReplyMissing { due: Turn::Pass }),
         ),
         (b";B[];W[])", at(2, due(&rt, b"cc"))),
-        (
-            b"(;B[cc];W[];B[])(;B[];W[]))",
-            at(4, due(&rt, b"ba")),
-        ),
+        (b"(;B[cc];W[];B[])(;B[];W[]))", at(4, due(&rt, b"ba"))),
         (
             b"(;B[cc];W[ba];B[];W[])(;B[];W[])(;B[];W[]))",
             at(9, AuditWhy::ReplyTwice),
@@ -143,10 +136,7 @@ fn numbers_nodes_across_branches(rt: HostRuntime) -> Result<(), Fail> {
             b"(;B[cc];W[ba];B[];W[])(;B[];W[])(;B[ba];W[]))",
             at(9, AuditWhy::TurnBarred),
         ),
-        (
-            b"(;B[];W[])(;W[cc]))",
-            at(5, AuditWhy::WrongColour),
-        ),
+        (b"(;B[];W[])(;W[cc]))", at(5, AuditWhy::WrongColour)),
         (
             b"(;B[cc](;W[ba];B[];W[])(;W[]))(;B[];W[]))",
             at(3, AuditWhy::SeveralAnswers),

@@ -147,13 +147,7 @@ fn record_of(alloc: Global, rt: &impl Abort, problem: &Problem) -> Result<Vec<u8
     for turns in TURNS {
         for code in turns.as_bytes() {
             if ends.len() < MADE {
-                ends.push(go_down(
-                    alloc,
-                    rt,
-                    &mut text,
-                    &mut state,
-                    turn_of(size, *code),
-                )?)?;
+                ends.push(go_down(alloc, rt, &mut text, &mut state, turn_of(size, *code))?)?;
             }
         }
     }

@@ -1,4 +1,4 @@
-use Rattle.std.proofs.Common.{◌≡◌, ◌∙◌, sym, ap}
+use Rattle.std.proofs.Common.{◌∙◌, sym}
 use Rattle.solution_tree.proofs.Follow.{several_behind, one_in_sequence}
 use Rattle.solution_tree.proofs.questions.has_several.Goals as goal
 

@@ -1,8 +1,5 @@
-use Rattle.std.proofs.Common.{arith, ◌≡◌, ◌<◌, ◌≤◌, ◌*◌, ℕ, true, false, Some, None, sym, ap, ◌∙◌, subst}
-use Rattle.go_points.specs.declared.Turn.TheVariants.{At}
+use Rattle.std.proofs.Common.{arith, ◌≡◌, ◌<◌, ◌≤◌, ◌*◌, ℕ, true, false, sym, ap, ◌∙◌, subst}
 use Rattle.go_points.specs.Place.{IsOn, number_of}
-use Rattle.go_points.specs.Ply.{pass, ply_of}
-use Rattle.solution_tree.specs.Audit.{unless_given, reply_missing}
 use Rattle.solution_tree.proofs.Turns.{missing_begun, missing_here, missing_given, missing_later, missing_pass, point_told, pass_is_told}
 use Rattle.solution_tree.proofs.questions.missing_reply.Goals as goal
 use Rattle.solution_tree.proofs.questions.missing_reply.Goals.{else-may_move-via-then-may_move+else-not-has, else-may_move-via-else-may_move}

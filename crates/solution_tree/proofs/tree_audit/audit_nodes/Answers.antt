@@ -27,11 +27,12 @@ loop-node-preserved c =
     let went : c.take_turn.new.state ≡ record { state = next s t; before = s ∷ c.loop-node.state.before } = c.in_default-take_turn.ensures.state in
     let fine : rest_fault w s (node_then node (follows rest trees) no_node) ≡ None = subst (λ ns. rest_fault w s (follows ns trees) ≡ None) first c.in_default-ask_rest.ensures.ok in
     let on : faults_of w s k (follows c.loop-node.left.now trees) ≡ faults_of w (next s t) (k + 1) (follows rest trees) =
-        ap (λ ns. faults_of w s k (follows ns trees)) first ∙ went_on w s k node (follows rest trees) t fine c.in_default-take_turn.ensures.asked c.in_default-take_turn.ensures.carried in
-    let shorter : length c.loop-node.left.now ≡ suc (length rest) = ap length first in
-    (suc made,
-     omega (arith, count, shorter),
-     omega (arith, number, next_is),
-     leads_more made c.args.state.now c.loop-node.state c.take_turn.new.state s (ap (λ (l : Line). l.before) went) leads,
-     ap (λ (l : Line). l.state.game.size) went ∙ went_size s t ∙ size,
-     ap (λ (l : Line). faults_of w l.state c.in-Some-checked_add.next (follows rest trees)) went ∙ ap (λ j. faults_of w (next s t) j (follows rest trees)) next_is ∙ sym on ∙ same)
+    ap (λ ns. faults_of w s k (follows ns trees)) first ∙ went_on w s k node (follows rest trees) t fine c.in_default-take_turn.ensures.asked c.in_default-take_turn.ensures.carried in
+    let shorter : length c.loop-node.left.now ≡ suc (length rest) = ap length first in (
+      suc made,
+      omega (arith, count, shorter),
+      omega (arith, number, next_is),
+      leads_more made c.args.state.now c.loop-node.state c.take_turn.new.state s (ap (λ (l : Line). l.before) went) leads,
+      ap (λ (l : Line). l.state.game.size) went ∙ went_size s t ∙ size,
+      ap (λ (l : Line). faults_of w l.state c.in-Some-checked_add.next (follows rest trees)) went ∙ ap (λ j. faults_of w (next s t) j (follows rest trees)) next_is ∙ sym on ∙ same,
+    )

@@ -26,6 +26,7 @@ loop-at-preserved c =
     let trees = c.children-in-loop-at.result.now in
     let none = sym c.first_marked.ensures ∙ c.in_default.is in
     let first : slice_get trees 0 ≡ Some child = sym c.first.ensures.value ∙ ap option_copied c.in-Some-first.is in
-    let sum : c.in-Some-checked_add-2.count ≡ b + length nodes = (subst (λ r. SomeIff r (b + length nodes < 2 ^ 64) (b + length nodes)) c.in-Some-checked_add-2.is c.checked_add-in-loop-at.ensures).1 in
-    (numbers_add b c.in-Some-checked_add-2.count (length nodes) _ (problem_node t) (problem_node child) c.loop-at.invariant.0 (deeper_number t child nodes trees c.nodes-nodes.ensures.nodes c.children-in-loop-at.ensures none first) sum,
-     c.loop-at.invariant.1 ∙ deeper_below t child nodes trees c.nodes-nodes.ensures.nodes c.children-in-loop-at.ensures none first)
+    let sum : c.in-Some-checked_add-2.count ≡ b + length nodes = (subst (λ r. SomeIff r (b + length nodes < 2 ^ 64) (b + length nodes)) c.in-Some-checked_add-2.is c.checked_add-in-loop-at.ensures).1 in (
+      numbers_add b c.in-Some-checked_add-2.count (length nodes) _ (problem_node t) (problem_node child) c.loop-at.invariant.0 (deeper_number t child nodes trees c.nodes-nodes.ensures.nodes c.children-in-loop-at.ensures none first) sum,
+      c.loop-at.invariant.1 ∙ deeper_below t child nodes trees c.nodes-nodes.ensures.nodes c.children-in-loop-at.ensures none first,
+    )

@@ -4,3 +4,4 @@ pub mod Laws
 pub mod Answer
 pub mod Faults
 pub mod Opened
+pub mod Asked

@@ -2,15 +2,22 @@
 #![tactic(auto)]
 
 mod answer;
+#[cfg(test)]
+mod audit_tests;
+#[cfg(test)]
+mod deep_tests;
+#[cfg(test)]
+mod expand_tests;
 mod expansion;
 mod fault;
+mod first_line;
+mod given;
 pub mod laws;
 mod opened;
+mod questions;
+mod tree_audit;
 
 pub use answer::Answer;
 pub use expansion::expand;
 pub use fault::{AuditFault, AuditWhy, Expand};
-
-
-#[cfg(test)]
-mod expand_tests;
+pub use tree_audit::audit;

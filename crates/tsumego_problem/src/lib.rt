@@ -15,6 +15,7 @@ mod values;
 mod walk;
 
 pub use fault::{ProblemFault, SingleProperty, TurnFaultCause};
-pub use main_line::problem_node;
+pub use main_line::{first_marked, has_setup, problem_node, values_at};
+pub use node_change::turn_at;
 pub use read::read_problem;
 pub use values::read_turn;

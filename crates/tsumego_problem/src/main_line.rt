@@ -7,7 +7,7 @@ ghost use Rattle.tsumego_problem.specs.Walk.{has, has_setup, has_turn, is_marked
 use sgf_text::{Bytes, SgfNode, Tree};
 
 /// The values of the property with this name, none where the node does not have it.
-pub(crate) fn values_at<'a>(name: &[u8], node: &'a SgfNode) -> &'a [Bytes]
+pub fn values_at<'a>(name: &[u8], node: &'a SgfNode) -> &'a [Bytes]
     ensures { result.now ≡ values_at name.now node.now }
 {
     for property in node.as_slice() {
@@ -32,8 +32,8 @@ pub(crate) fn is_marked(node: &SgfNode) -> bool
     has(b"TR", node) || has(b"SQ", node)
 }
 
-/// Whether the node has AB, AW or AE.
-pub(crate) fn has_setup(node: &SgfNode) -> bool
+/// Whether the node has AB, AW or AE (SGF FF[4], "Setup properties").
+pub fn has_setup(node: &SgfNode) -> bool
     ensures { result ≡ has_setup node.now }
 {
     has(b"AB", node) || has(b"AW", node) || has(b"AE", node)
@@ -46,8 +46,8 @@ pub(crate) fn has_turn(node: &SgfNode) -> bool
     has(b"B", node) || has(b"W", node)
 }
 
-/// The first marked node.
-pub(crate) fn first_marked(nodes: &[SgfNode]) -> Option<usize>
+/// The place of the first of these nodes that has TR or SQ; `None` where none has. On the main line that is the problem node (this project's own).
+pub fn first_marked(nodes: &[SgfNode]) -> Option<usize>
     ensures { result ≡ position is_marked nodes.now }
 {
     nodes.iter().position(|node| is_marked(node))

@@ -21,8 +21,8 @@ use std::alloc::{AllocError, Global};
 
 pub(crate) type PlayRecord = Record<PlayBoard, PlaySeen>;
 
-/// The turn of a node, and whose it is.
-pub(crate) fn turn_at(size: Size, node: &SgfNode) -> Option<(Colour, Turn)>
+/// The turn of a node, and whose it is: the first value of B, else of W (SGF FF[4], "Move properties"). `None` where the node has neither, or the value is no turn of a board of this size.
+pub fn turn_at(size: Size, node: &SgfNode) -> Option<(Colour, Turn)>
     ensures value { option_map (λ t. (t.0, ply_of size t.1)) result ≡ turn_at size node.now }
     ensures on_board { IfSome result (λ t. StandsOn size (ply_of size t.1)) }
 {

@@ -1,0 +1,119 @@
+-- A set of turns, and the list that it stands for.
+use Rattle.std.proofs.Common.{◌≡◌, ℕ, ◌+◌, ◌*◌, ◌/◌, ◌%◌, ◌<◌, ◌≤◌, Bool, true, false, ◌||◌, if◌then◌else◌, nat_eq, nat_lt, eqb-true, eq-eqb, ltb-true, List, [], ◌∷◌, ◌++◌, Some, None, refl, sym, ◌∙◌, ap, ap₂, subst, arith}
+use Rattle.std.proofs.lemmas.List.Folds.{list_any-append}
+use Rattle.std.proofs.lemmas.Nat.{div-mul-add, mod-mul-add}
+use Rattle.go_points.specs.declared.Turn.{Turn}
+use Rattle.go_points.specs.declared.Turn.TheVariants.{Pass, At}
+use Rattle.go_points.specs.Place.{Place, IsOn, on_board, number_of}
+use Rattle.go_points.specs.Ply.{Ply, pass, move, same_ply, holds_ply, ply_of}
+use Rattle.go_points.specs.Points.{same_place, with_place}
+use Rattle.go_points.specs.Equal.{same_place_decides}
+use Rattle.go_points.proofs.Lists.{and_left, and_right}
+use Rattle.go_points.proofs.Membership.{sets_gain}
+use Rattle.target_game.specs.State.{GameState}
+use Rattle.target_game.specs.Legal.{legal, legal_turns}
+use Rattle.target_game.proofs.Playing.{ply_at}
+use Rattle.target_game.proofs.Tallies.{turns_left, left_begun, left_here, left_later, left_last}
+use Rattle.tsumego_problem.specs.Walked.{StandsOn}
+use Rattle.solution_tree.specs.declared.given.Given.{Given}
+use Rattle.solution_tree.specs.Asked.{given_has, Tells}
+use Rattle.solution_tree.specs.Audit.{unless_given, missing, reply_missing}
+
+-- a turn that stands on the board is at a point of it
+pub point_on : (n : ℕ) (p : Place) → StandsOn n (ply_of n (At p)) → IsOn n p
+point_on n p h = go (on_board n p) refl h
+  where
+    go : (b : Bool) → on_board n p ≡ b → StandsOn n (move (if b then number_of n p else n * n)) → IsOn n p
+    go true e h = record { row_within = ltb-true p.row n (and_left (nat_lt p.row n) (nat_lt p.column n) e); column_within = ltb-true p.column n (and_right (nat_lt p.row n) (nat_lt p.column n) e) }
+    go false e h = absurd (omega (arith, h))
+
+same_number : (n : ℕ) (p q : Place) → IsOn n p → IsOn n q → number_of n p ≡ number_of n q → p ≡ q
+same_number n p q on other e =
+    let r : p.row ≡ q.row = sym (div-mul-add p.row n p.column on.column_within) ∙ ap (λ k. k / n) e ∙ div-mul-add q.row n q.column other.column_within in
+    let k : p.column ≡ q.column = sym (mod-mul-add p.row n p.column on.column_within) ∙ ap (λ k. k % n) e ∙ mod-mul-add q.row n q.column other.column_within in
+    λ i. record { row = r i; column = k i }
+
+both_ways : (a b : Bool) → (a ≡ true → b ≡ true) → (b ≡ true → a ≡ true) → a ≡ b
+both_ways true b f g = sym (f refl)
+both_ways false true f g = g refl
+both_ways false false f g = refl
+
+-- two points of the board have one number where they are the same
+same_point : (n : ℕ) (p q : Place) → IsOn n p → IsOn n q → same_place q p ≡ nat_eq (number_of n q) (number_of n p)
+same_point n p q on other =
+    both_ways (same_place q p) (nat_eq (number_of n q) (number_of n p))
+    (λ h. eq-eqb (number_of n q) (number_of n p) (ap (number_of n) ((same_place_decides q p).0 h)))
+    (λ h. (same_place_decides q p).1 (same_number n q p other on (eqb-true (number_of n q) (number_of n p) h)))
+
+or_none : (a : Bool) → a ≡ (a || (false || false))
+or_none true = refl
+or_none false = refl
+
+or_last : (a b : Bool) → (b || a) ≡ (a || (b || false))
+or_last true true = refl
+or_last true false = refl
+or_last false true = refl
+or_last false false = refl
+
+or_yes : (a : Bool) → true ≡ (a || (true || false))
+or_yes true = refl
+or_yes false = refl
+
+-- the set without turns, with the pass, and with a move
+pub nothing_told : (n : ℕ) → Tells n (record { points = []; pass = false }) []
+nothing_told n Pass h = refl
+nothing_told n (At p) h = refl
+
+pub pass_told : (n : ℕ) (points : List Place) (b : Bool) (ts : List Ply) → Tells n (record { points = points; pass = b }) ts → Tells n (record { points = points; pass = true }) (ts ++ pass ∷ [])
+pass_told n points b ts had Pass h = or_yes (holds_ply ts pass) ∙ sym (list_any-append (same_ply pass) ts (pass ∷ []))
+pass_told n points b ts had (At q) h =
+    let t = ply_of n (At q) in
+    had (At q) h ∙ or_none (holds_ply ts t) ∙ sym (list_any-append (same_ply t) ts (pass ∷ []))
+
+pub move_told : (n : ℕ) (points : List Place) (b : Bool) (p : Place) (ts : List Ply) → StandsOn n (ply_of n (At p)) → Tells n (record { points = points; pass = b }) ts
+    → Tells n (record { points = with_place points p; pass = b }) (ts ++ ply_of n (At p) ∷ [])
+move_told n points b p ts on had Pass h = had Pass h ∙ or_none (holds_ply ts pass) ∙ sym (list_any-append (same_ply pass) ts (ply_of n (At p) ∷ []))
+move_told n points b p ts on had (At q) h =
+    let t = ply_of n (At q) in
+    let here : IsOn n p = point_on n p on in
+    let there : IsOn n q = point_on n q h in
+    let test : same_place q p ≡ same_ply t (ply_of n (At p)) = same_point n p q here there ∙ sym (ap₂ same_ply (ply_at n q there) (ply_at n p here)) in
+    sets_gain points p q
+    ∙ ap₂ (λ a c. a || c) test (had (At q) h)
+    ∙ or_last (holds_ply ts t) (same_ply t (ply_of n (At p)))
+    ∙ sym (list_any-append (same_ply t) ts (ply_of n (At p) ∷ []))
+
+-- the replies that are missing, from the point of this number on
+pub missing_begun : (s : GameState) (ts : List Ply) → missing ts (turns_left s 0) ≡ missing ts (legal_turns s)
+missing_begun s ts = ap (missing ts) (left_begun s)
+
+pub missing_here : (s : GameState) (ts : List Ply) (i : ℕ) (p : Place) → i < s.game.size * s.game.size → number_of s.game.size p ≡ i → IsOn s.game.size p → legal s (move (number_of s.game.size p)) ≡ true
+    → holds_ply ts (ply_of s.game.size (At p)) ≡ false → missing ts (turns_left s i) ≡ Some (reply_missing (ply_of s.game.size (At p)))
+missing_here s ts i p low at on free new =
+    ap (missing ts) (left_here s i p low at on free) ∙ ap (λ b. unless_given b (ply_of s.game.size (At p)) (missing ts (turns_left s (i + 1)))) new
+
+pub missing_given : (s : GameState) (ts : List Ply) (i : ℕ) (p : Place) → i < s.game.size * s.game.size → number_of s.game.size p ≡ i → IsOn s.game.size p → legal s (move (number_of s.game.size p)) ≡ true
+    → holds_ply ts (ply_of s.game.size (At p)) ≡ true → missing ts (turns_left s i) ≡ missing ts (turns_left s (i + 1))
+missing_given s ts i p low at on free had =
+    ap (missing ts) (left_here s i p low at on free) ∙ ap (λ b. unless_given b (ply_of s.game.size (At p)) (missing ts (turns_left s (i + 1)))) had
+
+pub missing_later : (s : GameState) (ts : List Ply) (i : ℕ) (p : Place) → i < s.game.size * s.game.size → number_of s.game.size p ≡ i → legal s (move (number_of s.game.size p)) ≡ false
+    → missing ts (turns_left s i) ≡ missing ts (turns_left s (i + 1))
+missing_later s ts i p low at barred = ap (missing ts) (left_later s i p low at barred)
+
+pub missing_pass : (s : GameState) (ts : List Ply) (i : ℕ) (b : Bool) → s.game.size * s.game.size ≤ i → holds_ply ts pass ≡ b → missing ts (turns_left s i) ≡ unless_given b pass None
+missing_pass s ts i b past e = ap (missing ts) (left_last s i past) ∙ ap (λ b. unless_given b pass None) e
+
+pub move_put : (n : ℕ) (g : Given) (t : Turn) (p : Place) (points : List Place) (ts : List Ply) → t ≡ At p → points ≡ with_place g.points p → StandsOn n (ply_of n t) → Tells n g ts
+    → Tells n (record { points = points; pass = g.pass }) (ts ++ ply_of n t ∷ [])
+move_put n g t p points ts is put on had =
+    subst (λ (u : Turn). Tells n (record { points = points; pass = g.pass }) (ts ++ ply_of n u ∷ [])) (sym is)
+    (subst (λ ps. Tells n (record { points = ps; pass = g.pass }) (ts ++ ply_of n (At p) ∷ [])) (sym put)
+    (move_told n g.points g.pass p ts (subst (λ (u : Turn). StandsOn n (ply_of n u)) is on) had))
+
+-- whether a turn at a point of the board is given
+pub point_told : (n : ℕ) (g : Given) (p : Place) (ts : List Ply) (b : Bool) → number_of n p < n * n → IsOn n p → Tells n g ts → b ≡ given_has g (At p) → holds_ply ts (ply_of n (At p)) ≡ b
+point_told n g p ts b low on had e = sym (had (At p) (subst (StandsOn n) (sym (ply_at n p on)) low)) ∙ sym e
+
+pub pass_is_told : (n : ℕ) (g : Given) (ts : List Ply) (b : Bool) → Tells n g ts → b ≡ given_has g Pass → holds_ply ts pass ≡ b
+pass_is_told n g ts b had e = sym (had Pass tt) ∙ sym e

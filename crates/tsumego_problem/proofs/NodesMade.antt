@@ -17,7 +17,7 @@ use Rattle.target_game.specs.Legal.{holds_point}
 use Rattle.target_game.specs.State.{GameProblem}
 use Rattle.sgf_text.specs.Nodes.{is_value, is_ident, is_property, is_node, is_named, are_distinct}
 use Rattle.sgf_text.specs.Trees.{Node}
-use Rattle.tsumego_problem.specs.Canonical.{point_value, point_values, property, changed_to, changes, root_node, colour_name, turn_value, turn_node, marks, verdict_text}
+use Rattle.tsumego_problem.specs.Canonical.{point_value, point_values, property, changed_to, changes, root_node, colour_name, turn_node, marks, verdict_text}
 use Rattle.tsumego_problem.proofs.Points.{both_true}
 use Rattle.tsumego_problem.proofs.Setup.{in_order}
 

@@ -1,14 +1,12 @@
 -- The loops and steps by which a canonical record is made.
-use Rattle.std.proofs.Common.{◌≡◌, ◌≢◌, ℕ, suc, ◌+◌, ◌-◌, ◌*◌, ◌/◌, ◌%◌, ◌<◌, ◌≤◌, ltb-true, refl, sym, ◌∙◌, ap, ap₂, subst, arith, length, drop, get_or}
-use Rattle.std.specs.Prelude.{Bool, true, false, not, ◌&&◌, cond, codes, List, [], ◌∷◌, ◌++◌, map, filter, nat_lt}
+use Rattle.std.proofs.Common.{◌≡◌, ℕ, suc, ◌+◌, ◌-◌, ◌*◌, ◌/◌, ◌%◌, ◌<◌, ◌≤◌, ltb-true, refl, sym, ◌∙◌, ap, ap₂, subst, arith, drop, get_or}
+use Rattle.std.specs.Prelude.{Bool, true, false, not, ◌&&◌, cond, List, [], ◌∷◌, ◌++◌, map, filter, nat_lt}
 use Rattle.std.specs.List.{list_all, range_with_len, All}
-use Rattle.std.proofs.lemmas.List.{append_assoc, append-nil, map-append, drop_more, drop_all, get_or_default}
+use Rattle.std.proofs.lemmas.List.{append_assoc, append-nil, map-append}
 use Rattle.std.proofs.lemmas.Bool.{lt-ltb}
 use Rattle.std.proofs.lemmas.Nat.{div-mul-add, mod-mul-add}
 use Rattle.go_points.specs.declared.Cell.{Cell}
-use Rattle.go_points.specs.declared.Cell.TheVariants.{Empty, Stone}
-use Rattle.go_points.specs.declared.Colour.TheVariants.{Black, White}
-use Rattle.go_points.specs.Grid.{points, cell_at, same_cell}
+use Rattle.go_points.specs.Grid.{cell_at, same_cell}
 use Rattle.go_points.specs.declared.Turn.TheVariants.{At}
 use Rattle.go_points.specs.Ply.{ply_of}
 use Rattle.go_points.specs.Place.{Place, IsOn, on_board, number_of, place_of}
@@ -17,7 +15,7 @@ use Rattle.go_points.specs.Sgf.{sgf_text}
 use Rattle.target_game.specs.Legal.{holds_point}
 use Rattle.target_game.proofs.Playing.{passing_more, holds_numbered}
 use Rattle.sgf_text.specs.Trees.{Node}
-use Rattle.tsumego_problem.specs.Canonical.{point_value, point_values, property, changed_to, changes, changes_along, root_node, history_nodes, turn_value}
+use Rattle.tsumego_problem.specs.Canonical.{point_value, point_values, changes_along, history_nodes, turn_value}
 use Rattle.tsumego_problem.proofs.Points.{both_true, and_true}
 use Rattle.tsumego_problem.proofs.Rectangles.{place_back}
 

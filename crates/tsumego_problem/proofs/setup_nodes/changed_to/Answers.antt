@@ -1,4 +1,4 @@
-use Rattle.std.proofs.Common.{◌≡◌, ℕ, ◌+◌, Bool, true, not, ◌&&◌, ◌∙◌, sym, ap, subst}
+use Rattle.std.proofs.Common.{◌≡◌, ℕ, ◌+◌, Bool, not, ◌&&◌, ◌∙◌, sym, ap, subst}
 use Rattle.go_points.specs.Grid.{same_cell, cell_at, side_of}
 use Rattle.tsumego_problem.proofs.Recording.{ValuesBelow, value_hit, value_miss, cell_is, comes_is}
 use Rattle.tsumego_problem.proofs.setup_nodes.changed_to.Goals as goal

@@ -3,3 +3,4 @@ pub mod Audit
 pub mod Laws
 pub mod Answer
 pub mod Faults
+pub mod Written

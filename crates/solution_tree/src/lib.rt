@@ -4,6 +4,10 @@
 mod answer;
 mod fault;
 pub mod laws;
+mod solution;
+#[cfg(test)]
+mod solution_tests;
 
 pub use answer::Answer;
 pub use fault::{AuditFault, AuditWhy, Expand};
+pub use solution::to_sgf;

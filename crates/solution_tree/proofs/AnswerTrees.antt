@@ -1,0 +1,61 @@
+-- The equations of what an answer tree of the program says.
+use Rattle.std.proofs.Common.{arith, ◌≡◌, ℕ, ◌+◌, ◌<◌, ◌≤◌, length, drop, get_or, List, [], ◌∷◌, ◌++◌, Vec, Box, Global, sym, ap, ◌∙◌, refl}
+use Rattle.std.proofs.lemmas.List.{at_drop_more, at_drop_all}
+use Rattle.go_points.specs.declared.Turn.{Turn}
+use Rattle.go_points.specs.Ply.{ply_of}
+use Rattle.target_game.specs.Answers.{AnswerTree, leaf, turn, replies, ReplyTrees, none, reply, answer_size, reply_sizes}
+use Rattle.solution_tree.specs.Answer.{answer_step, answer_of, replies_of}
+use Rattle.solution_tree.specs.declared.answer.Answer.{Answer, Answer-F, fold-roll-Answer}
+use Rattle.solution_tree.specs.declared.answer.Answer.TheVariants as code
+
+pub answer_of_won : (n : ℕ) → answer_of n code.Won ≡ leaf
+unfolding answer_of
+answer_of_won n = ap (answer_of n) (sym code.rolls-Won) ∙ fold-roll-Answer AnswerTree (answer_step n) Answer-F.Won
+
+pub answer_of_turn : (n : ℕ) (t : Turn) (below : Box Answer Global) → answer_of n (code.Turn t below) ≡ turn (ply_of n t) (answer_of n below.value)
+unfolding answer_of
+answer_of_turn n t below = ap (answer_of n) (sym (code.rolls-Turn t below)) ∙ fold-roll-Answer AnswerTree (answer_step n) (Answer-F.Turn t below)
+
+pub answer_of_replies : (n : ℕ) (all : Vec (Turn × Answer) Global) → answer_of n (code.Replies all) ≡ replies (replies_of n all.items)
+unfolding answer_of
+answer_of_replies n all = ap (answer_of n) (sym (code.rolls-Replies all)) ∙ fold-roll-Answer AnswerTree (answer_step n) (Answer-F.Replies all)
+
+-- what is left of the replies, one by one
+pub answers_more : (n : ℕ) (rs : List (Turn × Answer)) (i : ℕ) (r : Turn × Answer) → i < length rs → r ≡ get_or rs i r → replies_of n (drop i rs) ≡ reply (ply_of n r.0) (answer_of n r.1) (replies_of n (drop (i + 1) rs))
+answers_more n rs i r within is =
+    at_drop_more (replies_of n) rs i r within
+    ∙ ap (λ (x : Turn × Answer). reply (ply_of n x.0) (answer_of n x.1) (replies_of n (drop (i + 1) rs))) (sym is)
+
+pub answers_done : (n : ℕ) (rs : List (Turn × Answer)) (i : ℕ) → length rs ≤ i → replies_of n (drop i rs) ≡ none
+answers_done n rs i past = at_drop_all (replies_of n) rs i past
+
+-- ---- sizes
+
+pub size_won : (n : ℕ) → answer_size (answer_of n code.Won) ≡ 0
+unfolding answer_size
+size_won n = ap answer_size (answer_of_won n)
+
+pub size_turn : (n : ℕ) (t : Turn) (below : Box Answer Global) → answer_size (answer_of n (code.Turn t below)) ≡ 1 + answer_size (answer_of n below.value)
+unfolding answer_size
+size_turn n t below = ap answer_size (answer_of_turn n t below)
+
+pub size_replies : (n : ℕ) (all : Vec (Turn × Answer) Global) → answer_size (answer_of n (code.Replies all)) ≡ reply_sizes (replies_of n all.items)
+unfolding answer_size
+size_replies n all = ap answer_size (answer_of_replies n all)
+
+pub sizes_last : (n : ℕ) (rs : List (Turn × Answer)) (r : Turn × Answer) → reply_sizes (replies_of n (rs ++ r ∷ [])) ≡ reply_sizes (replies_of n rs) + 1 + answer_size (answer_of n r.1)
+unfolding answer_size
+sizes_last n [] r = omega arith
+sizes_last n (s ∷ rs) r = omega (arith, sizes_last n rs r)
+
+pub sizes_more : (n : ℕ) (rs : List (Turn × Answer)) (i : ℕ) (r : Turn × Answer) → i < length rs → r ≡ get_or rs i r → reply_sizes (replies_of n (drop i rs)) ≡ 1 + answer_size (answer_of n r.1) + reply_sizes (replies_of n (drop (i + 1) rs))
+unfolding answer_size
+sizes_more n rs i r within is = ap reply_sizes (answers_more n rs i r within is)
+
+pub sizes_done : (n : ℕ) (rs : List (Turn × Answer)) (i : ℕ) → length rs ≤ i → reply_sizes (replies_of n (drop i rs)) ≡ 0
+unfolding answer_size
+sizes_done n rs i past = ap reply_sizes (answers_done n rs i past)
+
+pub no_sizes : (n : ℕ) → reply_sizes (replies_of n []) ≡ 0
+unfolding answer_size
+no_sizes n = refl

@@ -87,3 +87,18 @@ fn writes_any_answers(rt: HostRuntime) -> Result<(), Fail> {
     assert_eq!(rt; written.as_slice(), b";B[ad])".as_slice());
     Ok(())
 }
+
+// Each of the levels is 22 bytes: `(;B[aa];W[])` and `(;B[];W[]` with the next level and `)`.
+#[test]
+fn writes_branches_within_branches(rt: HostRuntime) -> Result<(), Fail> {
+    let alloc = rt.alloc();
+    let mut tree = Answer::Won;
+    for _ in 0..2_000 {
+        let first = turn(alloc, Turn::Pass, Answer::Won)?;
+        let mut all = replies(alloc, Turn::At(point(&rt, b"aa")), first)?;
+        all.push((Turn::Pass, turn(alloc, Turn::Pass, tree)?))?;
+        tree = Answer::Replies(all);
+    }
+    assert_eq!(rt; below(alloc, &rt, &tree)?.len(), 44_001);
+    Ok(())
+}

@@ -5,3 +5,4 @@ pub mod Answer
 pub mod Faults
 pub mod Opened
 pub mod Asked
+pub mod Written

@@ -15,9 +15,13 @@ mod given;
 pub mod laws;
 mod opened;
 mod questions;
+mod solution;
+#[cfg(test)]
+mod solution_tests;
 mod tree_audit;
 
 pub use answer::Answer;
 pub use expansion::expand;
 pub use fault::{AuditFault, AuditWhy, Expand};
+pub use solution::to_sgf;
 pub use tree_audit::audit;

@@ -43,7 +43,7 @@ stands_at h c i low at = go (place_in h c) refl
     go None e = absurd (cc (no_element (same_cells c) h e, any_at (same_cells c) h i low (ap (same_cells c) at ∙ same_cells_refl c)))
 
 -- the colour of stones that stand
-colour_standing : (c : List Cell) (k : Colour) (ps : List ℕ) → 0 < length ps → list_all (λ p. same_cell (cell_at c p) (Stone k)) ps ≡ true → colour_of c ps ≡ k
+pub colour_standing : (c : List Cell) (k : Colour) (ps : List ℕ) → 0 < length ps → list_all (λ p. same_cell (cell_at c p) (Stone k)) ps ≡ true → colour_of c ps ≡ k
 colour_standing c k [] some all = absurd (omega arith)
 colour_standing c k (p ∷ ps) some all = ap (λ x. elim x [ Stone k ↦ k | Empty ↦ Black ]) (same_cell_eq (cell_at c p) (Stone k) (and_left (same_cell (cell_at c p) (Stone k)) (list_all (λ p. same_cell (cell_at c p) (Stone k)) ps) all))
 

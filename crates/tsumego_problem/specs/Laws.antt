@@ -11,8 +11,8 @@ use Rattle.target_game.specs.Legal.{holds_point}
 use Rattle.target_game.specs.Answers.{AnswerTree, answers}
 use Rattle.tsumego_problem.specs.Walk.{problem_of, has_no_liberty, are_targets, colour_of}
 use Rattle.tsumego_problem.specs.Canonical.{canonical, solution, present}
-use Rattle.tsumego_problem.specs.Below.{Below}
-use Rattle.sgf_text.specs.Trees.{GameTree}
+use Rattle.tsumego_problem.specs.Below.{below_problem, Shows, Below}
+use Rattle.sgf_text.specs.Trees.{Forest, GameTree}
 
 -- Is each colouring new after the ones before it?
 abbrev pub each_new : List (List Cell) → List (List Cell) → Bool
@@ -46,3 +46,8 @@ ProblemsAreRead = (tree : GameTree) (q : GameProblem) → problem_of tree ≡ Ok
 abbrev pub SolutionReads : Type 0
 SolutionReads = (q : GameProblem) (x : Colour) (a : AnswerTree) → IsProblem q → IsTrue (answers x (start q) a) →
     (problem_of (solution q x a) ≡ Ok q) × Below (solution q x a) x (start q)
+
+-- the same with that very answer tree: it is what the children of the problem node show
+abbrev pub SolutionShows : Type 0
+SolutionShows = (q : GameProblem) (x : Colour) (a : AnswerTree) → IsProblem q → IsTrue (answers x (start q) a) →
+    (problem_of (solution q x a) ≡ Ok q) × (children : Forest) × (below_problem (solution q x a) ≡ Some children) × Shows q.game.size q.mover a children

@@ -1,6 +1,9 @@
 //! Problems from SGF trees, and back.
 #![tactic(auto)]
 
+mod canonical;
+#[cfg(test)]
+mod canonical_tests;
 pub mod fault;
 pub mod laws;
 mod main_line;
@@ -8,12 +11,14 @@ mod named_points;
 mod node_change;
 mod node_fault;
 mod read;
+mod setup_nodes;
 mod sizes;
 #[cfg(test)]
 mod tests;
 mod values;
 mod walk;
 
+pub use canonical::{marks_node, marks_with_winner, past_nodes, problem_tree, turn_node};
 pub use fault::{ProblemFault, SingleProperty, TurnFaultCause};
 pub use main_line::{first_marked, has_setup, problem_node, values_at};
 pub use node_change::turn_at;

@@ -1,0 +1,13 @@
+-- A word of the private calls that write a solution record.
+use Rattle.std.specs.Prelude.{Bool, true, false}
+use Rattle.target_game.specs.Answers.{AnswerTree, leaf, turn, replies, ReplyTrees, none, reply}
+
+-- Does one turn alone come first?
+abbrev pub is_one : ReplyTrees → Bool
+is_one (reply t a none) = true
+is_one _ = false
+
+abbrev pub is_single : AnswerTree → Bool
+is_single leaf = false
+is_single (turn t a) = true
+is_single (replies rs) = is_one rs

@@ -21,7 +21,7 @@ use Rattle.solution_tree.proofs.Exact.{audit_is_exact}
 use Rattle.tsumego.specs.declared.status.Status.TheVariants.{Answered}
 use Rattle.tsumego.specs.Texts.{wins_text, neither_text}
 use Rattle.tsumego.specs.Answers.{Answer, IsRecord, check_answer, within_answer, audit_answer, claim_in, claim_verdict}
-use Rattle.tsumego.specs.Laws.{SideWins, HasAnswers, CheckIsTrue, WithinIsTrue, AuditIsTrue}
+use Rattle.tsumego.specs.Laws.{SideWins, CheckIsTrue, WithinIsTrue, AuditIsTrue}
 use Rattle.tsumego.proofs.Records.{placed, has_problem_node}
 
 side_wins : (bytes : List ℕ) (tree : GameTree) (n : ℕ) (q : GameProblem) (x : Colour) → IsRecord bytes tree n q → Wins x (start q) → SideWins bytes q x

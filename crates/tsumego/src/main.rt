@@ -1,4 +1,4 @@
-//! tsumego: judges claims about problems of Go.
+//! tsumego: judges claims and answer trees, and decides problems of Go.
 #![tactic(auto)]
 
 #[cfg(test)]

@@ -1,6 +1,6 @@
 -- What is answered is so.
 use Rattle.std.proofs.Common.{◌≡◌, ℕ, Bool, true, false, cond, nat_lt, nat_eq, List, inl, inr, refl, sym, ◌∙◌, ap, subst}
-use Rattle.std.specs.Prelude.{slice_index_or}
+use Rattle.std.specs.Prelude.{slice_index_or, Result, Ok, Err}
 use Rattle.go_points.specs.declared.Colour.{Colour}
 use Rattle.go_points.specs.declared.Colour.TheVariants.{Black, White}
 use Rattle.target_game.specs.State.{GameProblem, start}
@@ -13,11 +13,16 @@ use Rattle.tsumego_problem.specs.Walk.{history_limit}
 use Rattle.proof_cert.specs.Source.{lines_read}
 use Rattle.cert_check.specs.Verdict.{Verdict, accepted, rejected}
 use Rattle.cert_check.proofs.ReadingClaims.{accepted_sides_win}
+use Rattle.sgf_text.proofs.Written.{trees_are_read}
+use Rattle.tsumego_problem.specs.Below.{Below}
+use Rattle.solution_tree.specs.Audit.{Fault, audit}
+use Rattle.solution_tree.proofs.Sound.{below_wins}
+use Rattle.solution_tree.proofs.Exact.{audit_is_exact}
 use Rattle.tsumego.specs.declared.status.Status.TheVariants.{Answered}
 use Rattle.tsumego.specs.Texts.{wins_text, neither_text}
-use Rattle.tsumego.specs.Answers.{Answer, IsRecord, check_answer, within_answer, claim_in, claim_verdict}
-use Rattle.tsumego.specs.Laws.{SideWins, CheckIsTrue, WithinIsTrue}
-use Rattle.tsumego.proofs.Records.{placed}
+use Rattle.tsumego.specs.Answers.{Answer, IsRecord, check_answer, within_answer, audit_answer, claim_in, claim_verdict}
+use Rattle.tsumego.specs.Laws.{SideWins, CheckIsTrue, WithinIsTrue, AuditIsTrue}
+use Rattle.tsumego.proofs.Records.{placed, has_problem_node}
 
 side_wins : (bytes : List ℕ) (tree : GameTree) (n : ℕ) (q : GameProblem) (x : Colour) → IsRecord bytes tree n q → Wins x (start q) → SideWins bytes q x
 side_wins bytes tree n q x r w = record { tree = tree; end = n; reads = r.reads; problem = (placed history_limit tree q r.problem).free; wins = w }
@@ -69,3 +74,21 @@ within_is_true turns most bytes x (inl (inr (q, tree, n, r, h))) =
         other Black h = absurd (apart (ap (λ t. nat_eq (slice_index_or t 0 0) 119) h))
         other White h = absurd (apart (ap (λ t. nat_eq (slice_index_or t 0 0) 119) h))
     by within.Limit e h = absurd (cc (ap (λ (a : Answer). a.0) h))
+
+-- an answer names a side only where the audit does
+audited : (n : ℕ) (r : Result Colour Fault) (text : List ℕ) → (Answered, text) ≡ audit_answer n r → (x : Colour) × (r ≡ Ok x) × (text ≡ wins_text x)
+audited n (Ok x) text h = (x, refl, ap (λ (a : Answer). a.1) h)
+audited n (Err fault) text h = absurd (cc (ap (λ (a : Answer). a.0) h))
+
+pub audit_is_true : AuditIsTrue
+audit_is_true bytes written (inr (failed, _)) = absurd cc
+audit_is_true bytes written (inl (inl (refusal, r, e, t))) = absurd cc
+audit_is_true bytes written (inl (inr (q, tree, n, r, h))) =
+    let (x, e, t) = audited q.game.size (audit q tree) written h in
+    let below : Below tree x (start q) = (audit_is_exact q tree x (trees_are_read bytes tree n r.reads) (has_problem_node history_limit tree q r.problem)).0 e in (
+      q,
+      x,
+      t,
+      side_wins bytes tree n q x r (below_wins tree x (start q) below),
+      record { tree = tree; end = n; reads = r.reads; problem = (placed history_limit tree q r.problem).free; below = below },
+    )

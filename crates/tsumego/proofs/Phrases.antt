@@ -18,7 +18,11 @@ use Rattle.cert_check.specs.declared.reject.Why.TheVariants as stops
 use Rattle.cert_check.specs.Body.{Why}
 use Rattle.cert_check.specs.Body as claim
 use Rattle.cert_check.specs.Stage.{why_value}
-use Rattle.tsumego.specs.Texts.{line, claim_fault_text, rejected_line_text}
+use Rattle.solution_tree.specs.declared.fault.AuditWhy as fault
+use Rattle.solution_tree.specs.declared.fault.AuditWhy.TheVariants as node_faults
+use Rattle.solution_tree.specs.Audit as tree
+use Rattle.solution_tree.specs.Faults as node
+use Rattle.tsumego.specs.Texts.{line, claim_fault_text, rejected_line_text, audit_fault_text, rejected_node_text}
 
 pub illegal_phrase : (k : ℕ) (cause : TurnFaultCause) (said : List ℕ) → said ≡ cause_text cause
     → codes "refused: problem 9 illegal turn at node " ++ (decimal k ++ (said ++ 10 ∷ [])) ≡ line (problem_refusal (faults.IllegalTurn k cause))
@@ -32,6 +36,25 @@ rejected_phrase n place why said e =
     ap (λ t. codes "rejected line " ++ (decimal place ++ (codes ": " ++ (t ++ 10 ∷ [])))) e
     ∙ ap (λ t. codes "rejected line " ++ t) (sym (append_assoc (decimal place) (codes ": " ++ claim_fault_text n why) (10 ∷ []))
     ∙ ap (λ t. t ++ 10 ∷ []) (sym (append_assoc (decimal place) (codes ": ") (claim_fault_text n why))))
+
+pub rejected_node_phrase : (n number : ℕ) (why : tree.Why) (said : List ℕ) → said ≡ audit_fault_text n why
+    → codes "rejected node " ++ (decimal number ++ (codes ": " ++ (said ++ 10 ∷ []))) ≡ rejected_node_text n (record { node = number; why = why })
+rejected_node_phrase n number why said e =
+    ap (λ t. codes "rejected node " ++ (decimal number ++ (codes ": " ++ (t ++ 10 ∷ [])))) e
+    ∙ ap (λ t. codes "rejected node " ++ t) (sym (append_assoc (decimal number) (codes ": " ++ audit_fault_text n why) (10 ∷ []))
+    ∙ ap (λ t. t ++ 10 ∷ []) (sym (append_assoc (decimal number) (codes ": ") (audit_fault_text n why))))
+
+-- what is no want of memory is a fault of the tree
+pub node_why_given : (n : ℕ) (w : fault.AuditWhy) → w ≢ node_faults.Memory → (why : tree.Why) × (node.why_value n w ≡ Some why)
+node_why_given n node_faults.NoTurn m = (tree.no_turn, refl)
+node_why_given n node_faults.WrongColour m = (tree.wrong_colour, refl)
+node_why_given n node_faults.TurnBarred m = (tree.turn_barred, refl)
+node_why_given n (node_faults.ReplyMissing due) m = (tree.reply_missing (ply_of n due), refl)
+node_why_given n node_faults.ReplyTwice m = (tree.reply_twice, refl)
+node_why_given n node_faults.NotWon m = (tree.not_won, refl)
+node_why_given n node_faults.AfterTheEnd m = (tree.after_the_end, refl)
+node_why_given n node_faults.SeveralAnswers m = (tree.several_answers, refl)
+node_why_given n node_faults.Memory m = absurd (m refl)
 
 -- what is no want of memory and no failed read is a fault of the claim
 pub why_given : (n : ℕ) (w : stop.Why) → w ≢ stops.Memory → w ≢ stops.Read → (why : Why) × (why_value n w ≡ Some why)

@@ -1,6 +1,6 @@
 -- What a record that is read, or is not, says of the bytes.
-use Rattle.std.proofs.Common.{◌≡◌, ◌≢◌, ℕ, ◌+◌, ◌≤◌, List, ◌++◌, length, Err, Some, inl, inr, refl, ◌∙◌, ap, arith}
-use Rattle.std.proofs.lemmas.List.{length-append, append_assoc}
+use Rattle.std.proofs.Common.{◌≡◌, ◌≢◌, ℕ, ◌+◌, ◌-◌, ◌≤◌, List, ◌++◌, length, take, drop, Err, Some, inl, inr, refl, ◌∙◌, ap, arith}
+use Rattle.std.proofs.lemmas.List.{length-append, length-drop, append_assoc, take_all}
 use Rattle.sgf_text.specs.Trees.{GameTree}
 use Rattle.sgf_text.specs.Grammar.{Reads}
 use Rattle.sgf_text.specs.Laws.{IsWithin}
@@ -20,6 +20,10 @@ pub ends_within : (bytes : List ℕ) (tree : GameTree) (n : ℕ) → Reads bytes
 ends_within bytes tree n (header, spelling, rest, spelled, whole, place, spells, is, end) =
     let sum : length bytes ≡ length header + length (spelling ++ rest) = ap length whole ∙ ap length (append_assoc header spelling rest) ∙ length-append header (spelling ++ rest) in
     omega (arith, sum, length-append spelling rest, end)
+
+-- all that stands behind a place
+pub all_behind : (n : ℕ) (bytes : List ℕ) → take (length bytes - n) (drop n bytes) ≡ drop n bytes
+all_behind n bytes = take_all (length bytes - n) (drop n bytes) (omega (arith, length-drop n bytes))
 
 pub has_no_tree : (bytes : List ℕ) (fault : SgfFault) (r : NoRecord) → (fault ≢ sgf.Memory → outcome_of bytes ≡ Err fault) → IsTold (line (sgf_refusal fault)) r → (fault ≡ sgf.Memory → r ≡ no.Memory) → HasNoRecord bytes r
 has_no_tree bytes fault (no.Refused text) h told memory = (sgf_refusal fault, inl (fault, h (λ e. absurd (cc (memory e))), refl), told)

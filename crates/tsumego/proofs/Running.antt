@@ -1,21 +1,27 @@
 -- What is written, and what a run has then left.
 use Rattle.std.proofs.Common.{◌≡◌, ℕ, List, [], ◌++◌, Option, Some, None, Result, Ok, Err, inl, inr, refl, sym, ◌∙◌, ap, ap₂, subst}
 use Rattle.std.specs.Prelude.{IfOk}
+use Rattle.go_points.specs.declared.Colour.{Colour}
 use Rattle.std.specs.Io.KnownBytes.{Consumes, IsAtEnd}
 use Rattle.std.proofs.lemmas.List.{append-nil}
+use Rattle.target_game.specs.State.{GameProblem}
+use Rattle.sgf_text.specs.Trees.{GameTree}
 use Rattle.cert_check.specs.Body.{Why}
 use Rattle.cert_check.specs.Stage.{why_value}
 use Rattle.cert_check.specs.Verdict.{Verdict, rejected}
 use Rattle.cert_check.specs.declared.reject.Reject.{Reject}
+use Rattle.solution_tree.specs.Audit.{Fault}
+use Rattle.solution_tree.specs.Faults.{IsFaultOf, IsFault}
+use Rattle.solution_tree.specs.declared.fault.AuditFault.{AuditFault}
 use Rattle.tsumego_problem.specs.Refusals.{Refuses}
 use Rattle.tsumego.specs.declared.command_line.Command.{Command}
-use Rattle.tsumego.specs.declared.command_line.Command.TheVariants.{Check, Within}
+use Rattle.tsumego.specs.declared.command_line.Command.TheVariants.{Check, Within, Audit}
 use Rattle.tsumego.specs.declared.status.Status.{Status}
 use Rattle.tsumego.specs.declared.status.Status.TheVariants.{Refused, BadWords, Failed}
 use Rattle.tsumego.specs.Texts.{line, no_memory_text}
-use Rattle.tsumego.specs.Answers.{Says, SaysFailure, check_answer}
+use Rattle.tsumego.specs.Answers.{IsRecord, RefusedOr, Says, SaysFailure, check_answer, audit_answer}
 use Rattle.tsumego.specs.Outcome.{Tells, Ran}
-use Rattle.tsumego.specs.Replies.{Writes, IsRejectionOf}
+use Rattle.tsumego.specs.Replies.{Writes, IsRejectionOf, IsNodeRejectionOf}
 
 -- the bytes that a reader tells, where it tells them
 pub some_bytes : (told : Option (List ℕ)) → (bytes : List ℕ) × Tells told bytes
@@ -66,10 +72,23 @@ pub judged_rejected : {S E : Type 0} (status : S → Status) (text : S → List 
 judged_rejected status text n v e (Ok x) (why, given, s, t) is = ap₂ (λ a b. (a, b)) s t ∙ sym (ap (check_answer n) (is why given))
 judged_rejected status text n v e (Err f) said is = tt
 
+-- the answer to a tree that is rejected
+pub audited_rejected : {S E : Type 0} (status : S → Status) (text : S → List ℕ) (n : ℕ) (r : Result Colour Fault) (e : AuditFault) (s : Result S E) → IfOk s (λ x. IsNodeRejectionOf n e (status x) (text x))
+    → IsFault n r e → IfOk s (λ x. (status x, text x) ≡ audit_answer n r)
+audited_rejected status text n r e (Ok x) (why, given, s, t) fault = ap₂ (λ a b. (a, b)) s t ∙ sym (ap (audit_answer n) (subst (IsFaultOf r e.node) given fault))
+audited_rejected status text n r e (Err f) said fault = tt
+
+-- what is said of a record is said of the bytes
+pub said_of_record : {S E : Type 0} (status : S → Status) (text : S → List ℕ) (Said : GameProblem → GameTree → ℕ → Status → List ℕ → Type 0) (bytes : List ℕ) (tree : GameTree) (n : ℕ) (q : GameProblem) (r : Result S E)
+    → IsRecord bytes tree n q → IfOk r (λ x. Said q tree n (status x) (text x)) → IfOk r (λ x. RefusedOr Said bytes (status x) (text x))
+said_of_record status text Said bytes tree n q (Ok x) is said = inr (q, tree, n, is, said)
+said_of_record status text Said bytes tree n q (Err f) is said = tt
+
 -- a refusal is said whatever the command
 pub refused_says : (command : Command) (bytes text : List ℕ) → (refusal : List ℕ) × Refuses bytes refusal × (text ≡ line refusal) → Says command bytes Refused text
 refused_says Check bytes text (refusal, refuses, is) = inl (refusal, refuses, refl, is)
 refused_says (Within turns nodes) bytes text (refusal, refuses, is) = inl (refusal, refuses, refl, is)
+refused_says Audit bytes text (refusal, refuses, is) = inl (refusal, refuses, refl, is)
 
 -- what is answered for all that was read is answered for what the reader told
 pub whole_said : {S E : Type 0} (status : S → Status) (text : S → List ℕ) (command : Command) (told : Option (List ℕ)) (held bytes : List ℕ) (r : Result S E)

@@ -18,11 +18,11 @@ use Rattle.tsumego.proofs.SubcommandRows.{check_none, numbers_found}
 
 -- the names of the subcommands, `help` among them
 abbrev names : Names
-names = (codes "check", []) ∷ (codes "within", []) ∷ (codes "help", []) ∷ []
+names = (codes "check", []) ∷ (codes "within", []) ∷ (codes "audit", []) ∷ (codes "help", []) ∷ []
 
 -- a subcommand that is no call for help
 abbrev IsAskedName : Text → Type 0
-IsAskedName name = (name ≡ codes "check") ⊎ (name ≡ codes "within")
+IsAskedName name = (name ≡ codes "check") ⊎ ((name ≡ codes "within") ⊎ (name ≡ codes "audit"))
 
 abbrev IsAsked : Option (Text × List Text) → Type 0
 IsAsked None = Unit {0}
@@ -33,13 +33,15 @@ IsAskedStep (subcommand name) = IsAskedName name
 IsAskedStep _ = Unit {0}
 
 known : (waiting : Waiting) (word name : Text) → subcommand_met names waiting word ≡ Some name → IsAskedName name ⊎ (name ≡ codes "help")
-known idle word name h = go (answers_to word (codes "check", [])) (answers_to word (codes "within", [])) (answers_to word (codes "help", [])) h
+known idle word name h = go (answers_to word (codes "check", [])) (answers_to word (codes "within", [])) (answers_to word (codes "audit", [])) (answers_to word (codes "help", [])) h
   where
-    go : (a b c : Bool) → option_map (λ (s : Text × List Text). s.0) (cond a (Some (codes "check", [])) (cond b (Some (codes "within", [])) (cond c (Some (codes "help", [])) None))) ≡ Some name → IsAskedName name ⊎ (name ≡ codes "help")
-    go true b c e = inl (inl (cc e))
-    go false true c e = inl (inr (cc e))
-    go false false true e = inr (cc e)
-    go false false false e = absurd (cc)
+    go : (a b c d : Bool) → option_map (λ (s : Text × List Text). s.0) (cond a (Some (codes "check", [])) (cond b (Some (codes "within", [])) (cond c (Some (codes "audit", [])) (cond d (Some (codes "help", [])) None)))) ≡ Some name
+        → IsAskedName name ⊎ (name ≡ codes "help")
+    go true b c d e = inl (inl (cc e))
+    go false true c d e = inl (inr (inl (cc e)))
+    go false false true d e = inl (inr (inr (cc e)))
+    go false false false true e = inr (cc e)
+    go false false false false e = absurd (cc)
 known (option id) word name h = absurd (cc)
 known positional word name h = absurd (cc)
 
@@ -128,7 +130,8 @@ stop_gives : (stop : Option (Text × List Text)) → IsAsked stop → is_some (e
     → is_some (option_and_then (λ p. command_named p.0 p.1) (entered (built grammar) stop)) ≡ true
 stop_gives None asked some none = absurd (cc)
 stop_gives (Some (name, rest)) (inl e) some none = subst (λ n. is_some (option_and_then (λ p. command_named p.0 p.1) (entered (built grammar) (Some (n, rest)))) ≡ true) (sym e) refl
-stop_gives (Some (name, rest)) (inr e) some none =
+stop_gives (Some (name, rest)) (inr (inr e)) some none = subst (λ n. is_some (option_and_then (λ p. command_named p.0 p.1) (entered (built grammar) (Some (n, rest)))) ≡ true) (sym e) refl
+stop_gives (Some (name, rest)) (inr (inl e)) some none =
     let fault : entered_fault (built grammar) (Some (codes "within", rest)) ≡ [] = subst (λ n. entered_fault (built grammar) (Some (n, rest)) ≡ []) e none in
     let found = numbers_found _ refl rest fault in
     subst (λ n. is_some (option_and_then (λ p. command_named p.0 p.1) (entered (built grammar) (Some (n, rest)))) ≡ true) (sym e) (within_some _ _ found.0 found.1)

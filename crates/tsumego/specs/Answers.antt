@@ -1,7 +1,8 @@
 -- What each command answers: the whole text, and the status with it.
---     check_answer, within_answer      of what the definitions of claims and of winning say
+--     check_answer, within_answer, audit_answer      of what the definitions of claims, of winning and of answer trees say
 --     Says command bytes status text      the whole text that the command may have for these bytes
-use Rattle.std.specs.Prelude.{◌≡◌, ℕ, List, drop, Some, Ok, ◌⊎◌}
+use Rattle.std.specs.Prelude.{◌≡◌, ℕ, List, drop, Some, Result, Ok, Err, ◌⊎◌}
+use Rattle.go_points.specs.declared.Colour.{Colour}
 use Rattle.target_game.specs.State.{GameProblem, start}
 use Rattle.target_game.specs.Within.{decision}
 use Rattle.target_game.specs.declared.within.Within.{Within}
@@ -14,11 +15,12 @@ use Rattle.tsumego_problem.specs.Walk.{problem_within, history_limit}
 use Rattle.tsumego_problem.specs.Refusals.{Refuses}
 use Rattle.proof_cert.specs.Source.{lines_read}
 use Rattle.cert_check.specs.Verdict.{Verdict, accepted, rejected, verdict}
+use Rattle.solution_tree.specs.Audit.{Fault, audit}
 use Rattle.tsumego.specs.declared.command_line.Command.{Command}
 use Rattle.tsumego.specs.declared.command_line.Command.TheVariants as command
 use Rattle.tsumego.specs.declared.status.Status.{Status}
 use Rattle.tsumego.specs.declared.status.Status.TheVariants.{Answered, Unanswered, Refused}
-use Rattle.tsumego.specs.Texts.{line, wins_text, rejected_line_text, neither_text, limit_text, no_memory_text, no_read_text}
+use Rattle.tsumego.specs.Texts.{line, wins_text, rejected_line_text, rejected_node_text, neither_text, limit_text, no_memory_text, no_read_text}
 
 -- a status and the whole text with it
 abbrev pub Answer : Type 0
@@ -31,10 +33,10 @@ pub record IsRecord (bytes : List ℕ) (tree : GameTree) (n : ℕ) (q : GameProb
   pub problem : problem_within (Some history_limit) tree ≡ Ok q
 
 -- The bytes are refused; or they begin with a record, and what is said of its problem is said.
-abbrev pub RefusedOr : (GameProblem → ℕ → Status → List ℕ → Type 0) → List ℕ → Status → List ℕ → Type 0
+abbrev pub RefusedOr : (GameProblem → GameTree → ℕ → Status → List ℕ → Type 0) → List ℕ → Status → List ℕ → Type 0
 RefusedOr Said bytes status text =
     ((refusal : List ℕ) × Refuses bytes refusal × (status ≡ Refused) × (text ≡ line refusal))
-    ⊎ ((q : GameProblem) × (tree : GameTree) × (n : ℕ) × IsRecord bytes tree n q × Said q n status text)
+    ⊎ ((q : GameProblem) × (tree : GameTree) × (n : ℕ) × IsRecord bytes tree n q × Said q tree n status text)
 
 -- ---- check
 
@@ -57,11 +59,18 @@ within_answer (within.Wins x) = (Answered, wins_text x)
 within_answer within.Neither = (Answered, neither_text)
 within_answer within.Limit = (Unanswered, limit_text)
 
+-- ---- audit
+
+abbrev pub audit_answer : ℕ → Result Colour Fault → Answer
+audit_answer n (Ok x) = (Answered, wins_text x)
+audit_answer n (Err fault) = (Unanswered, rejected_node_text n fault)
+
 -- ---- all commands
 
 abbrev pub Says : Command → List ℕ → Status → List ℕ → Type 0
-Says command.Check bytes = RefusedOr (λ q n status text. (status, text) ≡ check_answer q.game.size (claim_verdict q (claim_in bytes n))) bytes
-Says (command.Within turns nodes) bytes = RefusedOr (λ q n status text. (status, text) ≡ within_answer (decision (start q) turns nodes)) bytes
+Says command.Check bytes = RefusedOr (λ q tree n status text. (status, text) ≡ check_answer q.game.size (claim_verdict q (claim_in bytes n))) bytes
+Says (command.Within turns nodes) bytes = RefusedOr (λ q tree n status text. (status, text) ≡ within_answer (decision (start q) turns nodes)) bytes
+Says command.Audit bytes = RefusedOr (λ q tree n status text. (status, text) ≡ audit_answer q.game.size (audit q tree)) bytes
 
 -- Memory was refused, or a read failed, or the input has no end in sight.
 abbrev pub SaysFailure : List ℕ → Type 0

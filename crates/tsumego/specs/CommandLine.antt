@@ -7,7 +7,7 @@ use Rattle.clap.specs.Simple.{new_shape}
 use Rattle.clap.specs.ValueTests.{is_unsigned_in}
 use Rattle.clap.specs.declared.builder.value_parser.ValueParser.TheVariants.{Unsigned}
 use Rattle.tsumego.specs.declared.command_line.Command.{Command}
-use Rattle.tsumego.specs.declared.command_line.Command.TheVariants.{Check, Within}
+use Rattle.tsumego.specs.declared.command_line.Command.TheVariants.{Check, Within, Audit}
 use Rattle.tsumego.specs.declared.command_line.NoCommand.{NoCommand}
 use Rattle.tsumego.specs.declared.command_line.NoCommand.TheVariants.{Words, Memory}
 
@@ -36,11 +36,14 @@ check_shape = new_shape (codes "check")
 abbrev pub within_shape : Shape
 within_shape = record (new_shape (codes "within")) { rules = turns_rule ∷ nodes_rule ∷ [] }
 
+abbrev pub audit_shape : Shape
+audit_shape = new_shape (codes "audit")
+
 -- The program, one of whose subcommands has to be named.
 abbrev pub grammar : App
 grammar = record {
   top = record (new_shape (codes "tsumego")) { is_leaf = false; subcommand_required = true };
-  subs = check_shape ∷ within_shape ∷ [];
+  subs = check_shape ∷ within_shape ∷ audit_shape ∷ [];
 }
 
 -- The number that the first value of an argument writes, where it is at most so much.
@@ -59,7 +62,8 @@ abbrev pub command_named : Text → List Row → Option Command
 command_named name rows =
     (if bytes_eq name (codes "check") then Some Check
     else (if bytes_eq name (codes "within") then within_of (number_of (codes "K") most_turns rows) (number_of (codes "nodes") most_nodes rows)
-    else None))
+    else (if bytes_eq name (codes "audit") then Some Audit
+    else None)))
 
 -- No command at a fault.
 abbrev pub unless_faulty : Kinds → Option Command → Option Command
@@ -78,6 +82,7 @@ HasFault words = fault_of grammar words ≡ [] → ⊥
 abbrev pub FitsRanges : Command → Type 0
 FitsRanges Check = Unit {0}
 FitsRanges (Within turns nodes) = (turns ≤ most_turns) × (nodes ≤ most_nodes)
+FitsRanges Audit = Unit {0}
 
 -- The words are at fault, and not the memory.
 abbrev pub IsWordsFault : NoCommand → Type 0

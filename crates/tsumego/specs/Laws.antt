@@ -6,6 +6,7 @@ use Rattle.target_game.specs.Wins.{Wins, wins}
 use Rattle.sgf_text.specs.Trees.{GameTree}
 use Rattle.sgf_text.specs.Grammar.{Reads}
 use Rattle.tsumego_problem.specs.Walk.{problem_of}
+use Rattle.tsumego_problem.specs.Below.{Below}
 use Rattle.tsumego.specs.declared.command_line.Command.TheVariants as command
 use Rattle.tsumego.specs.declared.status.Status.TheVariants.{Answered}
 use Rattle.tsumego.specs.Texts.{wins_text}
@@ -28,3 +29,16 @@ CheckIsTrue = (bytes written : List ℕ) → Outcome (Some command.Check) bytes 
 abbrev pub WithinIsTrue : Type 0
 WithinIsTrue = (turns nodes : ℕ) (bytes : List ℕ) (x : Colour) → Outcome (Some (command.Within turns nodes)) bytes Answered (wins_text x) →
     (q : GameProblem) × SideWins bytes q x × IsTrue (wins x (start q) turns)
+
+-- The bytes begin with a record, and the nodes below its problem node are an answer tree of this side.
+pub record HasAnswers (bytes : List ℕ) (q : GameProblem) (x : Colour) : Type 0 where
+  pub tree : GameTree
+  pub end : ℕ
+  pub reads : Reads bytes tree end
+  pub problem : problem_of tree ≡ Ok q
+  pub below : Below tree x (start q)
+
+-- Where `audit` answers, it names a side, that side wins the problem of the record that was read, and the record shows how.
+abbrev pub AuditIsTrue : Type 0
+AuditIsTrue = (bytes written : List ℕ) → Outcome (Some command.Audit) bytes Answered written →
+    (q : GameProblem) × (x : Colour) × (written ≡ wins_text x) × SideWins bytes q x × HasAnswers bytes q x

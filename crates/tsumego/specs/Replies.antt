@@ -10,7 +10,10 @@ use Rattle.tsumego.specs.declared.status.Status.TheVariants.{Unanswered, Failed}
 use Rattle.cert_check.specs.Body.{Why}
 use Rattle.cert_check.specs.Stage.{why_value}
 use Rattle.cert_check.specs.declared.reject.Reject.{Reject}
-use Rattle.tsumego.specs.Texts.{line, rejected_line_text}
+use Rattle.solution_tree.specs.Audit as audit
+use Rattle.solution_tree.specs.Faults as fault
+use Rattle.solution_tree.specs.declared.fault.AuditFault.{AuditFault}
+use Rattle.tsumego.specs.Texts.{line, rejected_line_text, rejected_node_text}
 
 -- The bytes have no record with this text; where memory was refused, nothing is said.
 abbrev pub HasNoRecord : List ℕ → NoRecord → Type 0
@@ -29,3 +32,8 @@ Writes old new text status result = ((result ≡ status) × Appends old new text
 -- the rejection is that of a verdict on a claim for a board of n rows, and this is said of it
 abbrev pub IsRejectionOf : ℕ → Reject → Status → List ℕ → Type 0
 IsRejectionOf n e status text = (why : Why) × (why_value n e.why ≡ Some why) × (status ≡ Unanswered) × (text ≡ rejected_line_text n e.place why)
+
+-- the same of an audit's fault
+abbrev pub IsNodeRejectionOf : ℕ → AuditFault → Status → List ℕ → Type 0
+IsNodeRejectionOf n e status text =
+    (why : audit.Why) × (fault.why_value n e.why ≡ Some why) × (status ≡ Unanswered) × (text ≡ rejected_node_text n (record { node = e.node; why = why }))

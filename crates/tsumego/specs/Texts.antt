@@ -4,6 +4,7 @@ use Rattle.go_points.specs.declared.Colour.{Colour}
 use Rattle.go_points.specs.declared.Colour.TheVariants.{Black, White}
 use Rattle.proof_cert.specs.Text.{vertex_text}
 use Rattle.cert_check.specs.Body as claim
+use Rattle.solution_tree.specs.Audit as audit
 
 abbrev pub line : List ℕ → List ℕ
 line text = text ++ 10 ∷ []
@@ -34,6 +35,20 @@ claim_fault_text n claim.needed_not_occurred = codes "C19 needed position has no
 
 abbrev pub rejected_line_text : ℕ → ℕ → claim.Why → List ℕ
 rejected_line_text n place why = line (codes "rejected line " ++ decimal place ++ codes ": " ++ claim_fault_text n why)
+
+-- why a node of a tree on a board of n rows is refused
+abbrev pub audit_fault_text : ℕ → audit.Why → List ℕ
+audit_fault_text n audit.no_turn = codes "A01 no turn"
+audit_fault_text n audit.wrong_colour = codes "A02 wrong colour"
+audit_fault_text n audit.turn_barred = codes "A03 turn barred"
+audit_fault_text n (audit.reply_missing due) = codes "A04 reply missing " ++ vertex_text n due
+audit_fault_text n audit.reply_twice = codes "A05 reply twice"
+audit_fault_text n audit.not_won = codes "A06 not won"
+audit_fault_text n audit.after_the_end = codes "A07 after the end"
+audit_fault_text n audit.several_answers = codes "A08 several answers"
+
+abbrev pub rejected_node_text : ℕ → audit.Fault → List ℕ
+rejected_node_text n fault = line (codes "rejected node " ++ decimal fault.node ++ codes ": " ++ audit_fault_text n fault.why)
 
 abbrev pub neither_text : List ℕ
 neither_text = line (codes "neither")

@@ -27,6 +27,8 @@ pub enum Command {
     Check,
     /// Decide who wins the problem of a record within so many turns, where the tree has at most so many states.
     Within { turns: u32, nodes: u64 },
+    /// Judge the answer tree below a record's problem node.
+    Audit,
 }
 
 /// Why there is no command.
@@ -88,6 +90,9 @@ fn chosen(matches: &ArgMatches<'_>) -> Option<Command>
             nodes,
         });
     }
+    if name == "audit" {
+        return Some(Command::Audit);
+    }
     None
 }
 
@@ -110,7 +115,8 @@ fn program<'a>(alloc: Global) -> Result<clap::Command<'a>, AllocError>
         .about("Judges and decides problems of life and death in Go, read from standard input.")
         .subcommand_required(true);
     let program = program.subcommand(check_command(alloc))?;
-    program.subcommand(within_command(alloc)?)
+    let program = program.subcommand(within_command(alloc)?)?;
+    program.subcommand(audit_command(alloc))
 }
 
 fn check_command<'a>(alloc: Global) -> clap::Command<'a>
@@ -129,6 +135,15 @@ fn within_command<'a>(alloc: Global) -> Result<clap::Command<'a>, AllocError>
     );
     let within = within.arg(turns_argument(alloc))?;
     within.arg(nodes_argument(alloc))
+}
+
+fn audit_command<'a>(alloc: Global) -> clap::Command<'a>
+    ensures app { app_of result ≡ new_app (codes "audit") }
+    ensures local { (fields_of result).has_globals ≡ false }
+{
+    clap::Command::new(alloc, "audit").about(
+        "Judges the answer tree that stands below a record's problem node.",
+    )
 }
 
 fn turns_argument<'a>(alloc: Global) -> Arg<'a>

@@ -24,6 +24,7 @@ fn refuses(rt: &impl Abort, alloc: Global, words: &[&str], part: &str) {
 fn a_subcommand_gives_the_command(rt: HostRuntime) {
     let alloc = rt.alloc();
     gives(&rt, alloc, &["tsumego", "check"], Command::Check);
+    gives(&rt, alloc, &["tsumego", "audit"], Command::Audit);
     let within = |turns: u32, nodes: u64| Command::Within { turns, nodes };
     gives(
         &rt,
@@ -133,6 +134,12 @@ fn words_too_many_or_too_few_are_refused(rt: HostRuntime) {
     refuses(
         &rt,
         alloc,
+        &["tsumego", "audit", "3"],
+        "unexpected argument",
+    );
+    refuses(
+        &rt,
+        alloc,
         &["tsumego", "within", "3", "--nodes", "5", "--nodes", "5"],
         "cannot be used multiple times",
     );
@@ -156,6 +163,14 @@ fn help_is_a_text_and_no_command(rt: HostRuntime) {
         "Usage: tsumego <COMMAND>",
     );
     refuses(&rt, alloc, &["tsumego", "help"], "Usage: tsumego <COMMAND>");
+    refuses(&rt, alloc, &["tsumego", "help"], "the claim that stands");
+    refuses(&rt, alloc, &["tsumego", "help"], "within K turns");
+    refuses(
+        &rt,
+        alloc,
+        &["tsumego", "help"],
+        "the answer tree that stands",
+    );
     refuses(&rt, alloc, &["tsumego", "within", "--help"], "--nodes <N>");
     refuses(&rt, alloc, &["tsumego", "help", "within"], "--nodes <N>");
 }

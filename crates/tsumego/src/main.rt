@@ -1,6 +1,8 @@
-//! tsumego: judges claims about problems of Go.
+//! tsumego: judges claims and answer trees, and decides problems of Go.
 #![tactic(auto)]
 
+#[cfg(test)]
+mod audit_tests;
 #[cfg(test)]
 mod check_tests;
 mod command_line;

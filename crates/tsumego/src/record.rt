@@ -1,14 +1,13 @@
 //! The record at the front of the input.
 
 ghost use Rattle.std.specs.Prelude.{◌≡◌, ◌≤◌, ℕ, List, length, IfOk, IfErr, string_bytes};
-ghost use Rattle.sgf_text.specs.Trees.{GameTree};
 ghost use Rattle.tsumego.specs.Answers.{IsRecord};
 ghost use Rattle.tsumego_problem.specs.Refusals.{sgf_refusal, problem_refusal};
 ghost use Rattle.tsumego.specs.Texts.{line};
 ghost use Rattle.tsumego.specs.Replies.{HasNoRecord, IsTold};
 
 use crate::texts::{problem_refusal, sgf_refusal};
-use sgf_text::{SgfFault, read_tree};
+use sgf_text::{SgfFault, Tree, read_tree};
 use std::alloc::{AllocError, Global};
 use target_game::Problem;
 use tsumego_problem::{ProblemFault, read_problem};
@@ -21,10 +20,19 @@ pub enum NoRecord {
     Memory,
 }
 
-/// The problem of the record at the front of the bytes, and the place after the record.
-pub fn read_record(alloc: Global, bytes: &[u8]) -> Result<(Problem, usize), NoRecord>
-    ensures ok { IfOk result (λ r. (tree : GameTree) × IsRecord bytes.now tree r.1 r.0) }
-    ensures within { IfOk result (λ r. r.1 ≤ length bytes.now) }
+/// A record that was read.
+#[derive(Drop)]
+pub struct Record {
+    pub problem: Problem,
+    pub tree: Tree,
+    /// The place after the record.
+    pub end: usize,
+}
+
+/// The record at the front of the bytes.
+pub fn read_record(alloc: Global, bytes: &[u8]) -> Result<Record, NoRecord>
+    ensures ok { IfOk result (λ r. IsRecord bytes.now r.tree r.end r.problem) }
+    ensures within { IfOk result (λ r. r.end ≤ length bytes.now) }
     ensures err { IfErr result (λ e. HasNoRecord bytes.now e) }
 {
     let (tree, end) = match read_tree(alloc, bytes) {
@@ -32,7 +40,7 @@ pub fn read_record(alloc: Global, bytes: &[u8]) -> Result<(Problem, usize), NoRe
         Err(fault) => return Err(no_tree(alloc, fault)),
     };
     match read_problem(alloc, &tree) {
-        Ok(problem) => Ok((problem, end)),
+        Ok(problem) => Ok(Record { problem, tree, end }),
         Err(fault) => Err(no_problem(alloc, fault)),
     }
 }

@@ -1,23 +1,27 @@
 //! What a command answers for its input.
 
-ghost use Rattle.std.specs.Prelude.{◌≡◌, ◌≤◌, ℕ, List, length, IfOk, string_bytes};
+ghost use Rattle.std.specs.Prelude.{◌≡◌, ◌≤◌, ℕ, List, length, IfOk, IsSome, string_bytes};
 ghost use Rattle.target_game.specs.State.{start};
 ghost use Rattle.target_game.specs.Within.{decision};
 ghost use Rattle.tsumego_problem.specs.Values.{skip_white};
+ghost use Rattle.tsumego_problem.specs.Walk.{problem_node};
+ghost use Rattle.solution_tree.specs.Audit.{audit};
 ghost use Rattle.tsumego.specs.CommandLine.{FitsRanges};
 ghost use Rattle.tsumego.specs.declared.command_line.Command.{Command};
-ghost use Rattle.tsumego.specs.Replies.{HasNoRecord, IsRejectionOf};
-ghost use Rattle.tsumego.specs.Answers.{Says, check_answer, claim_verdict, within_answer};
+ghost use Rattle.tsumego.specs.Replies.{HasNoRecord, IsNodeRejectionOf, IsRejectionOf};
+ghost use Rattle.tsumego.specs.Answers.{Says, audit_answer, check_answer, claim_verdict, within_answer};
 
 use crate::command_line::Command;
 use crate::record::{NoRecord, read_record};
 use crate::status::Status;
-use crate::texts::{reject_text, wins_text};
+use crate::texts::{node_reject_text, reject_text, wins_text};
 use cert_check::laws::texts_judged;
 use cert_check::{Reject, Why, check};
 use go_points::Size;
 use proof_cert::TextSource;
+use sgf_text::Tree;
 use sgf_text::token::is_white;
+use solution_tree::{AuditFault, AuditWhy, audit};
 use std::alloc::Global;
 use target_game::{Problem, Within, decide_within};
 
@@ -44,13 +48,14 @@ pub fn reply_to(alloc: Global, command: Command, bytes: &[u8]) -> Result<Reply, 
     requires { FitsRanges command }
     ensures { IfOk result (λ r. Says command bytes.now r.status (string_bytes r.text)) }
 {
-    let (problem, end) = match read_record(alloc, bytes) {
+    let record = match read_record(alloc, bytes) {
         Ok(record) => record,
         Err(none) => return refused(none),
     };
     match command {
-        Command::Check => judge(alloc, &problem, &bytes[end..]),
-        Command::Within { turns, nodes } => within(alloc, &problem, turns, nodes),
+        Command::Check => judge(alloc, &record.problem, &bytes[record.end..]),
+        Command::Within { turns, nodes } => within(alloc, &record.problem, turns, nodes),
+        Command::Audit => audited(alloc, &record.problem, &record.tree),
     }
 }
 
@@ -123,6 +128,33 @@ fn within(alloc: Global, problem: &Problem, turns: u32, nodes: u64) -> Result<Re
         Ok(Within::Neither) => said(alloc, Status::Answered, "neither\n"),
         Ok(Within::Limit) => said(alloc, Status::Unanswered, "limit\n"),
         Err(_) => Err(Failure::Memory),
+    }
+}
+
+/// Audits the tree below the problem node.
+fn audited(alloc: Global, problem: &Problem, tree: &Tree) -> Result<Reply, Failure>
+    requires { IsSome (problem_node tree.now) }
+    ensures { IfOk result (λ r. (r.status, string_bytes r.text) ≡ audit_answer problem.now.game.size (audit problem.now tree.now)) }
+{
+    match audit(alloc, problem, tree) {
+        Ok(winner) => said(alloc, Status::Answered, wins_text(winner)),
+        Err(fault) => node_rejected(alloc, problem.size(), &fault),
+    }
+}
+
+/// Why the tree is rejected; or why it was not judged.
+fn node_rejected(alloc: Global, size: Size, fault: &AuditFault) -> Result<Reply, Failure>
+    ensures { IfOk result (λ r. IsNodeRejectionOf size fault.now r.status (string_bytes r.text)) }
+{
+    match fault.why {
+        AuditWhy::Memory => Err(Failure::Memory),
+        _ => match node_reject_text(alloc, size, fault) {
+            Ok(text) => Ok(Reply {
+                status: Status::Unanswered,
+                text,
+            }),
+            Err(_) => Err(Failure::Memory),
+        },
     }
 }
 

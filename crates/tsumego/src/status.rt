@@ -5,7 +5,7 @@
 pub enum Status {
     /// The answer was written.
     Answered = 0,
-    /// A limit was met, or the claim was rejected.
+    /// A limit was met, or the claim or the answer tree was rejected.
     Unanswered = 1,
     /// The input was refused.
     Refused = 2,

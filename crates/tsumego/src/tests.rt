@@ -66,10 +66,11 @@ fn each_cut_of_a_claim_is_malformed(rt: HostRuntime) {
 #[test]
 fn other_words_have_clap_s_text(rt: HostRuntime) {
     let alloc = rt.alloc();
-    let asked: [&[&str]; 6] = [
+    let asked: [&[&str]; 7] = [
         &["tsumego"],
         &["tsumego", "chek"],
         &["tsumego", "check", "x"],
+        &["tsumego", "audit", "x"],
         &["tsumego", "solve"],
         &["tsumego", "within", "201"],
         &["tsumego", "--help"],

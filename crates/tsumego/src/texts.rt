@@ -7,12 +7,15 @@ ghost use Rattle.go_points.specs.Ply.{ply_of};
 ghost use Rattle.proof_cert.specs.Text.{vertex_text};
 ghost use Rattle.cert_check.specs.Body.{Why as SpecWhy};
 ghost use Rattle.cert_check.specs.Stage.{why_value};
+ghost use Rattle.solution_tree.specs.Audit.{Why as NodeWhy};
+ghost use Rattle.solution_tree.specs.Faults.{why_value as node_why};
 ghost use Rattle.tsumego_problem.specs.Refusals.{sgf_refusal, problem_refusal, property_name, cause_text};
-ghost use Rattle.tsumego.specs.Texts.{line, wins_text, rejected_line_text, claim_fault_text, no_memory_text, no_read_text};
+ghost use Rattle.tsumego.specs.Texts.{line, wins_text, rejected_line_text, claim_fault_text, rejected_node_text, audit_fault_text, no_memory_text, no_read_text};
 
 use cert_check::{Reject, Why};
 use go_points::{Colour, Point, Size, Turn, to_sgf};
 use sgf_text::SgfFault;
+use solution_tree::{AuditFault, AuditWhy};
 use std::alloc::{AllocError, Global};
 use tsumego_problem::{ProblemFault, SingleProperty, TurnFaultCause};
 
@@ -146,6 +149,34 @@ fn why_text(alloc: Global, size: Size, why: Why) -> Result<String, AllocError>
         Why::TextAfterEnd => format!(in alloc; "C16 text after the end"),
         Why::Memory => format!(in alloc; "C17 memory"),
         Why::Read => format!(in alloc; "C18 read"),
+    }
+}
+
+/// Why a node of an answer tree is refused. The cause is not want of memory.
+pub fn node_reject_text(alloc: Global, size: Size, fault: &AuditFault) -> Result<String, AllocError>
+    ensures { IfOk result (λ text. (why : NodeWhy) → node_why size fault.now.why ≡ Some why → string_bytes text ≡ rejected_node_text size (record { node = fault.now.node; why = why })) }
+{
+    let why = node_why_text(alloc, size, fault.why)?;
+    let node = fault.node;
+    format!(in alloc; "rejected node {node}: {why}\n")
+}
+
+fn node_why_text(alloc: Global, size: Size, why: AuditWhy) -> Result<String, AllocError>
+    ensures { IfOk result (λ text. (w : NodeWhy) → node_why size why ≡ Some w → string_bytes text ≡ audit_fault_text size w) }
+{
+    match why {
+        AuditWhy::NoTurn => format!(in alloc; "A01 no turn"),
+        AuditWhy::WrongColour => format!(in alloc; "A02 wrong colour"),
+        AuditWhy::TurnBarred => format!(in alloc; "A03 turn barred"),
+        AuditWhy::ReplyMissing { due } => {
+            let due = turn_text(alloc, size, due)?;
+            format!(in alloc; "A04 reply missing {due}")
+        }
+        AuditWhy::ReplyTwice => format!(in alloc; "A05 reply twice"),
+        AuditWhy::NotWon => format!(in alloc; "A06 not won"),
+        AuditWhy::AfterTheEnd => format!(in alloc; "A07 after the end"),
+        AuditWhy::SeveralAnswers => format!(in alloc; "A08 several answers"),
+        AuditWhy::Memory => format!(in alloc; "memory"),
     }
 }
 

@@ -1,12 +1,11 @@
 //! The record of a solution: a problem with its winner, and the answer tree below it.
 
-ghost use Rattle.std.specs.Prelude.{◌≡◌, ◌≢◌, ◌+◌, ◌≤◌, ◌++◌, ◌∷◌, ℕ, [], IfOk, IfSome, IsFalse, is_some};
+ghost use Rattle.std.specs.Prelude.{◌≡◌, ◌≢◌, ◌+◌, ◌≤◌, ◌++◌, ℕ, [], IfOk, IfSome, IsFalse, is_some};
 ghost use Rattle.go_points.specs.declared.Colour.{Colour as Side};
-ghost use Rattle.go_points.specs.Grid.{opponent_of};
 ghost use Rattle.go_points.specs.Ply.{ply_of};
 ghost use Rattle.target_game.specs.Answers.{turn, answer_size, reply_sizes};
 ghost use Rattle.sgf_text.specs.Trees.{forest_of, tree_of};
-ghost use Rattle.tsumego_problem.specs.Canonical.{turn_node, rest_of, forest_of_replies, solution};
+ghost use Rattle.tsumego_problem.specs.Canonical.{rest_of, forest_of_replies, solution};
 ghost use Rattle.proof_cert.specs.Certificate.{claim_of};
 ghost use Rattle.solution_tree.specs.Answer.{answer_of, replies_of};
 ghost use Rattle.solution_tree.specs.Written.{is_single};

@@ -1,6 +1,6 @@
 //! The canonical record of a problem.
 
-ghost use Rattle.std.specs.Prelude.{◌≡◌, ◌≢◌, ◌++◌, ◌∷◌, ◌<◌, ◌/◌, ◌%◌, ◌*◌, [], IfOk, OnOk, codes, map, length, if◌then◌else◌};
+ghost use Rattle.std.specs.Prelude.{◌≡◌, ◌++◌, ◌∷◌, ◌<◌, [], IfOk, OnOk, codes, map, length};
 ghost use Rattle.std.specs.List.{All, list_all};
 ghost use Rattle.go_points.specs.Grid.{points, side_of};
 ghost use Rattle.go_points.specs.Place.{IsOn, number_of};

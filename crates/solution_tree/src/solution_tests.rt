@@ -1,6 +1,6 @@
 //! Solutions as they are written.
 
-use crate::{Answer, to_sgf};
+use crate::{Answer, Expand, expand, to_sgf};
 use cert_check::{Checked, check_held};
 use go_points::{Point, Size, Turn, sgf_point};
 use proof_cert::read_cert;
@@ -18,10 +18,19 @@ const CLAIM: &[u8] =
     b"tsucert 1 3 W\nmain\nall 2\nreply cc\nplay ba\nall 1\nreply pass\nplay pass\nwon\nreply pass\nplay pass\nwon\nend\n";
 
 fn checked(alloc: Global, rt: &impl Abort) -> Result<Checked, Fail> {
-    let (tree, _end) = read_tree(alloc, RECORD)?;
+    checked_claim(alloc, rt, RECORD, CLAIM)
+}
+
+fn checked_claim(
+    alloc: Global,
+    rt: &impl Abort,
+    record: &[u8],
+    claim: &[u8],
+) -> Result<Checked, Fail> {
+    let (tree, _end) = read_tree(alloc, record)?;
     let problem = read_problem(alloc, &tree)?;
     let size = problem.size();
-    let Ok(certificate) = read_cert(alloc, size, CLAIM) else {
+    let Ok(certificate) = read_cert(alloc, size, claim) else {
         panic!(rt; "a claim");
     };
     match check_held(alloc, problem, certificate) {
@@ -100,5 +109,46 @@ fn writes_branches_within_branches(rt: HostRuntime) -> Result<(), Fail> {
         tree = Answer::Replies(all);
     }
     assert_eq!(rt; below(alloc, &rt, &tree)?.len(), 44_001);
+    Ok(())
+}
+
+// `;B[];W[]` fifty thousand times, and the bracket that ends the record.
+#[test]
+fn writes_a_long_line(rt: HostRuntime) -> Result<(), Fail> {
+    let alloc = rt.alloc();
+    let mut line = Answer::Won;
+    for _ in 0..50_000 {
+        line = turn(
+            alloc,
+            Turn::Pass,
+            Answer::Replies(replies(alloc, Turn::Pass, line)?),
+        )?;
+    }
+    assert_eq!(rt; line.size(), Some(100_000));
+    assert_eq!(rt; below(alloc, &rt, &line)?.len(), 400_001);
+    Ok(())
+}
+
+// The lemma answers a move at bc too, which repeats what stood there before: the tree leaves it out.
+#[test]
+fn leaves_out_a_barred_reply(rt: HostRuntime) -> Result<(), Fail> {
+    let alloc = rt.alloc();
+    let claim = b"tsucert 1 3 W\nlemma B 0 O........\nall 2\nreply bc\nplay pass\nall 1\nreply pass\nwon\nreply pass\nplay pass\nwon\nend\nmain\nuse 1\nend\n";
+    let checked = checked_claim(
+        alloc,
+        &rt,
+        b"(;SZ[3]AB[bc]AW[aa];AE[bc]PL[B]TR[aa]SQ[bc])",
+        claim,
+    )?;
+    let Ok(answer) = expand(alloc, &checked, 2) else {
+        panic!(rt; "a tree of two turns");
+    };
+    let mut text = Vec::new(alloc);
+    write_tree(&to_sgf(alloc, &checked, &answer)?, &mut text)?;
+    assert_eq!(rt;
+        text.as_slice(),
+        b"(;FF[4]GM[1]SZ[3]AB[bc]AW[aa];AE[bc];PL[B]TR[aa]SQ[bc]C[White wins];B[];W[])".as_slice()
+    );
+    assert_eq!(rt; expand(alloc, &checked, 1).err(), Some(Expand::TooLarge));
     Ok(())
 }

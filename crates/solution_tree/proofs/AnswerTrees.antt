@@ -4,7 +4,7 @@ use Rattle.std.specs.List.{IsLastAndRest}
 use Rattle.std.proofs.lemmas.List.{at_drop_more, at_drop_all}
 use Rattle.go_points.specs.declared.Turn.{Turn}
 use Rattle.go_points.specs.Ply.{ply_of}
-use Rattle.target_game.specs.Answers.{AnswerTree, leaf, turn, replies, ReplyTrees, none, reply, answer_size, reply_sizes}
+use Rattle.target_game.specs.Answers.{AnswerTree, leaf, turn, replies, none, reply, answer_size, reply_sizes}
 use Rattle.solution_tree.specs.Answer.{answer_step, answer_of, replies_of}
 use Rattle.solution_tree.specs.declared.answer.Answer.{Answer, Answer-F, fold-roll-Answer}
 use Rattle.solution_tree.specs.declared.answer.Answer.TheVariants as code

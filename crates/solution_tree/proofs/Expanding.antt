@@ -1,21 +1,21 @@
 -- The open turns of an expansion: one more of them, one less, and what the whole tree says of the tree below them.
-use Rattle.std.proofs.Common.{◌≡◌, ℕ, ◌+◌, ◌≤◌, Bool, true, false, ◌&&◌, IsTrue, List, [], ◌∷◌, ◌++◌, Option, Some, None, refl, sym, ap, ◌∙◌, subst, arith}
+use Rattle.std.proofs.Common.{◌≡◌, ℕ, ◌+◌, ◌≤◌, Bool, true, false, ◌&&◌, List, [], ◌∷◌, ◌++◌, refl, ap, ◌∙◌, arith}
 use Rattle.std.specs.Prelude.{is_none, not}
 use Rattle.go_points.specs.declared.Colour.{Colour}
 use Rattle.go_points.specs.Grid.{same_colour}
 use Rattle.go_points.specs.Ply.{Ply, ply_of, pass, move}
-use Rattle.go_points.proofs.Lists.{and_left, and_right, and_both}
-use Rattle.target_game.specs.State.{Game, GameState, Line, start}
+use Rattle.go_points.proofs.Lists.{and_left, and_right}
+use Rattle.target_game.specs.State.{GameState, Line}
 use Rattle.target_game.specs.Legal.{legal, legal_turns}
 use Rattle.target_game.specs.Next.{next}
 use Rattle.target_game.specs.Over.{over}
-use Rattle.target_game.specs.Answers.{AnswerTree, leaf, turn, replies, ReplyTrees, none, reply, answer_size, reply_sizes, answers, all_answer, each_once, same_plies, turns_of}
+use Rattle.target_game.specs.Answers.{AnswerTree, turn, replies, ReplyTrees, none, reply, answer_size, reply_sizes, answers, all_answer, each_once, same_plies, turns_of}
 use Rattle.proof_cert.specs.Certificate as claim
 use Rattle.cert_check.specs.Checked.{CheckedClaim}
 use Rattle.solution_tree.specs.Answer.{replies_of}
 use Rattle.solution_tree.specs.declared.opened.Open.{Open}
 use Rattle.solution_tree.specs.declared.opened.Open.TheVariants.{Made, Reply}
-use Rattle.solution_tree.specs.Opened.{branches_at, closed, finish, lemma_count, all_below, open_below, open_size, open_sizes, played, replies_then, turn_of, whole}
+use Rattle.solution_tree.specs.Opened.{branches_at, closed, finish, lemma_count, all_below, open_below, open_size, open_sizes, played, replies_then, turn_of}
 
 -- ---- play
 
@@ -61,19 +61,21 @@ module _ (x : Colour) where
   unfolding answers
   turn_answers s t a h =
       let three = and_left (is_none (over s) && same_colour s.mover x && legal s t) (answers x (next s t) a) h in
-      let two = and_left (is_none (over s) && same_colour s.mover x) (legal s t) three in
-      (and_left (is_none (over s)) (same_colour s.mover x) two,
-       and_right (is_none (over s) && same_colour s.mover x) (legal s t) three,
-       and_right (is_none (over s) && same_colour s.mover x && legal s t) (answers x (next s t) a) h)
+      let two = and_left (is_none (over s) && same_colour s.mover x) (legal s t) three in (
+        and_left (is_none (over s)) (same_colour s.mover x) two,
+        and_right (is_none (over s) && same_colour s.mover x) (legal s t) three,
+        and_right (is_none (over s) && same_colour s.mover x && legal s t) (answers x (next s t) a) h,
+      )
 
   pub replies_answer : (s : GameState) (rs : ReplyTrees) → answers x s (replies rs) ≡ true → (is_none (over s) ≡ true) × (all_answer x s rs ≡ true)
   unfolding answers
   replies_answer s rs h =
       let four = and_left (is_none (over s) && not (same_colour s.mover x) && each_once (turns_of rs) && same_plies (turns_of rs) (legal_turns s)) (all_answer x s rs) h in
       let three = and_left (is_none (over s) && not (same_colour s.mover x) && each_once (turns_of rs)) (same_plies (turns_of rs) (legal_turns s)) four in
-      let two = and_left (is_none (over s) && not (same_colour s.mover x)) (each_once (turns_of rs)) three in
-      (and_left (is_none (over s)) (not (same_colour s.mover x)) two,
-       and_right (is_none (over s) && not (same_colour s.mover x) && each_once (turns_of rs) && same_plies (turns_of rs) (legal_turns s)) (all_answer x s rs) h)
+      let two = and_left (is_none (over s) && not (same_colour s.mover x)) (each_once (turns_of rs)) three in (
+        and_left (is_none (over s)) (not (same_colour s.mover x)) two,
+        and_right (is_none (over s) && not (same_colour s.mover x) && each_once (turns_of rs) && same_plies (turns_of rs) (legal_turns s)) (all_answer x s rs) h,
+      )
 
   behind_answers : (s : GameState) (done rs : ReplyTrees) → all_answer x s (replies_then done rs) ≡ true → all_answer x s rs ≡ true
   unfolding answers

@@ -1,6 +1,5 @@
 -- The lemmas that a checked claim uses are lower ones, so the answers of all its lemmas serve each body.
-use Rattle.std.proofs.Common.{◌≡◌, ℕ, zero, suc, ◌+◌, ◌-◌, ◌<◌, ◌≤◌, Bool, true, false, ◌&&◌, nat_le, IsTrue, List, [], ◌∷◌, ◌++◌, length, map, Option, Some, None, get_or, refl, sym, ap, ◌∙◌, subst, arith}
-use Rattle.std.specs.Prelude.{slice_get}
+use Rattle.std.proofs.Common.{◌≡◌, ℕ, zero, suc, ◌+◌, ◌-◌, ◌<◌, ◌≤◌, Bool, true, false, ◌&&◌, nat_le, IsTrue, List, [], ◌∷◌, ◌++◌, length, get_or, refl, sym, ap, ◌∙◌, subst, arith}
 use Rattle.std.proofs.lemmas.List.{get_or_append_left, get_or-append-add, get_or-map, length-append, length-map}
 use Rattle.std.proofs.lemmas.Option.{slice_get_within}
 use Rattle.std.proofs.lemmas.Bool.{leb-true, le-leb}
@@ -9,14 +8,14 @@ use Rattle.go_points.proofs.Lists.{and_left, and_right, and_both}
 use Rattle.target_game.specs.State.{Game, GameState, start}
 use Rattle.target_game.specs.Next.{next}
 use Rattle.target_game.specs.Legal.{legal}
-use Rattle.target_game.specs.Answers.{AnswerTree, leaf, turn, replies, ReplyTrees, none, reply}
+use Rattle.target_game.specs.Answers.{AnswerTree, leaf, turn, replies, ReplyTrees, reply}
 use Rattle.proof_cert.specs.Claim.{Node, won, by_lemma, play, all, Branches, no_branch, branch, Head, Lemma, heads_of}
 use Rattle.proof_cert.specs.Certificate.{claim_of, node_of, lemma_of}
 use Rattle.proof_cert.specs.declared.certificate.Lemma as code
 use Rattle.proof_cert.specs.declared.certificate.Node as claim
 use Rattle.proof_cert.specs.declared.certificate.Node.TheVariants.{Use}
 use Rattle.proof_cert.proofs.Certificates.{node_of_use}
-use Rattle.cert_check.specs.Body.{Body, lemma_body, lemma_at, main_body}
+use Rattle.cert_check.specs.Body.{Body, lemma_body, main_body}
 use Rattle.cert_check.specs.Validity.{FitsNode, FitsBranches, IsValidLemma, AreValidLemmas}
 use Rattle.cert_check.specs.Checked.{CheckedClaim, IsChecked}
 use Rattle.cert_check.specs.Expand.{answer_at, expand_node, expand_branches, answers_behind}
@@ -97,11 +96,11 @@ answer_of_lemma es (l ∷ ls) good zero d within s =
     let long : length (es ++ f ∷ []) ≡ length es + 1 = length-append es (f ∷ []) in
     let more : Answers = answers_behind (es ++ f ∷ []) ls in
     let here : get_or more (length es + 0) (λ _. leaf) ≡ f =
-      longer (es ++ f ∷ []) ls (length es + 0) (omega (arith, long)) ∙ get_or-append-add es (f ∷ []) 0 (λ _. leaf) in
+    longer (es ++ f ∷ []) ls (length es + 0) (omega (arith, long)) ∙ get_or-append-add es (f ∷ []) 0 (λ _. leaf) in
     ap (λ (g : GameState → AnswerTree). g s) here
     ∙ same_node (length es) es more
-      (λ i le u. ap (λ (g : GameState → AnswerTree). g u) (sym (longer (es ++ f ∷ []) ls i (omega (arith, le, long)) ∙ get_or_append_left es (f ∷ []) (λ _. leaf) i (omega (arith, le)))))
-      l.body (and_left (uses_below (length es) l.body) (lemmas_below (length es + 1) ls) good) s
+    (λ i le u. ap (λ (g : GameState → AnswerTree). g u) (sym (longer (es ++ f ∷ []) ls i (omega (arith, le, long)) ∙ get_or_append_left es (f ∷ []) (λ _. leaf) i (omega (arith, le)))))
+    l.body (and_left (uses_below (length es) l.body) (lemmas_below (length es + 1) ls) good) s
 answer_of_lemma es (l ∷ ls) good (suc j) d within s =
     let f : GameState → AnswerTree = expand_node es l.body in
     let long : length (es ++ f ∷ []) ≡ length es + 1 = length-append es (f ∷ []) in
@@ -199,6 +198,8 @@ module _ (k : CheckedClaim) (it : IsChecked k.problem (claim_of k.certificate)) 
       let next : number ≡ suc (number - 1) = omega (arith, from) in
       let within : number - 1 < lemma_count k = omega (arith, from, to, most) in
       let there : l ≡ get_or k.certificate.lemmas.items (number - 1) l = at ∙ ap (λ xs. get_or xs (number - 1) l) same in
-      subst (IsBody part (number - 1)) at
-      ((λ s. body_is number (number - 1) next l within there s ∙ ap (λ x. tree_at k x s) (sym (use_is k.certificate.size part number is))),
-       body_is_below number (number - 1) next l within there, omega (arith, within))
+      subst (IsBody part (number - 1)) at (
+        (λ s. body_is number (number - 1) next l within there s ∙ ap (λ x. tree_at k x s) (sym (use_is k.certificate.size part number is))),
+        body_is_below number (number - 1) next l within there,
+        omega (arith, within),
+      )

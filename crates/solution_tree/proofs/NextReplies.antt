@@ -6,13 +6,12 @@ use Rattle.go_points.proofs.Lists.{and_left, and_right}
 use Rattle.target_game.specs.State.{GameState}
 use Rattle.target_game.specs.Next.{next}
 use Rattle.target_game.specs.Legal.{legal}
-use Rattle.target_game.specs.Answers.{AnswerTree, ReplyTrees, none, reply}
+use Rattle.target_game.specs.Answers.{AnswerTree, ReplyTrees, reply}
 use Rattle.proof_cert.specs.Claim.{Node, Branches, branch}
 use Rattle.proof_cert.specs.Certificate.{node_of, replies_of}
 use Rattle.proof_cert.specs.declared.certificate.Node as claim
 use Rattle.cert_check.specs.Expand.{expand_node, expand_branches}
 use Rattle.solution_tree.specs.Opened.{uses_below, all_below}
-
 
 kept : (es : List (GameState → AnswerTree)) (t : Ply) (n : Node) (bs : Branches) (s : GameState) → legal s t ≡ true → expand_branches es (branch t n bs) s ≡ reply t (expand_node es n (next s t)) (expand_branches es bs s)
 kept es t n bs s h = ap (λ b. pick b) h
@@ -38,6 +37,7 @@ module _ (s : GameState) (all rs : List (Turn × claim.Node)) (r : Turn × claim
 
   pub reply_below : (m : ℕ) → IsTrue (all_below m (replies_of n all)) → IsTrue (uses_below m (node_of n r.1)) × IsTrue (all_below m (replies_of n rs))
   reply_below m h =
-      let both : IsTrue (uses_below m (node_of n r.1) && all_below m (replies_of n rs)) = subst (λ xs. IsTrue (all_below m (replies_of n xs))) is h in
-      (and_left (uses_below m (node_of n r.1)) (all_below m (replies_of n rs)) both,
-       and_right (uses_below m (node_of n r.1)) (all_below m (replies_of n rs)) both)
+      let both : IsTrue (uses_below m (node_of n r.1) && all_below m (replies_of n rs)) = subst (λ xs. IsTrue (all_below m (replies_of n xs))) is h in (
+        and_left (uses_below m (node_of n r.1)) (all_below m (replies_of n rs)) both,
+        and_right (uses_below m (node_of n r.1)) (all_below m (replies_of n rs)) both,
+      )

@@ -1,5 +1,5 @@
 -- Where an expansion stands, before and after each of its steps.
-use Rattle.std.proofs.Common.{◌≡◌, ℕ, suc, length, ◌+◌, ◌≤◌, ◌<◌, Bool, true, false, ◌&&◌, IsTrue, List, [], ◌∷◌, ◌++◌, Vec, Box, Global, Bor, Option, Some, None, refl, sym, ap, ◌∙◌, subst, arith}
+use Rattle.std.proofs.Common.{◌≡◌, ℕ, suc, length, ◌<◌, true, ◌&&◌, IsTrue, List, [], ◌∷◌, ◌++◌, Vec, Box, Global, Bor, Option, Some, None, refl, sym, ap, ◌∙◌, subst, arith}
 use Rattle.std.specs.Prelude.{is_none, IfOk, Result, Ok, Err}
 use Rattle.go_points.specs.declared.Turn.{Turn}
 use Rattle.go_points.specs.Ply.{Ply, ply_of}
@@ -8,7 +8,7 @@ use Rattle.target_game.specs.State.{GameState, Line, start}
 use Rattle.target_game.specs.Legal.{legal}
 use Rattle.target_game.specs.Next.{next}
 use Rattle.target_game.specs.Over.{over}
-use Rattle.target_game.specs.Answers.{AnswerTree, leaf, turn, replies, ReplyTrees, none, reply, answers, answer_size, reply_sizes}
+use Rattle.target_game.specs.Answers.{AnswerTree, turn, replies, ReplyTrees, none, reply, answers}
 use Rattle.proof_cert.specs.Certificate as claim
 use Rattle.proof_cert.specs.Claim.{play}
 use Rattle.proof_cert.specs.declared.certificate.Node as node_type
@@ -22,9 +22,9 @@ use Rattle.solution_tree.specs.declared.answer.Answer.{Answer}
 use Rattle.solution_tree.specs.declared.answer.Answer.TheVariants as code
 use Rattle.solution_tree.specs.declared.opened.Open.{Open}
 use Rattle.solution_tree.specs.declared.opened.Open.TheVariants.{Made, Reply}
-use Rattle.solution_tree.specs.Opened.{Expands, all_below, branches_at, closed, expanded, finish, lemma_answers, lemma_count, open_below, open_size, open_sizes, played, replies_then, tree_at, turn_of, uses_below, whole}
+use Rattle.solution_tree.specs.Opened.{Expands, all_below, branches_at, closed, expanded, finish, lemma_answers, lemma_count, open_below, played, replies_then, tree_at, turn_of, uses_below}
 use Rattle.solution_tree.proofs.AnswerTrees.{answer_of_replies, answer_of_turn}
-use Rattle.solution_tree.proofs.Expanding.{reached, reached_game, played_state, played_push, finish_push, then_none, then_then, turn_answers, replies_answer, inner_answers, sizes_push, whole_size, below_push}
+use Rattle.solution_tree.proofs.Expanding.{reached, reached_game, played_state, played_push, finish_push, then_none, then_then, turn_answers, replies_answer, inner_answers, below_push}
 
 open_state : (s : GameState) → is_none (over s) ≡ true → over s ≡ None
 open_state s h = go (over s) h
@@ -88,12 +88,12 @@ module _ (k : CheckedClaim) (os : List Open) (line : Line) where
   reply_opened done later r others some low it =
       let size : line.state.game.size ≡ n = size_is (replies (replies_then (replies_of n done.items) (branches_at k (claim.replies_of n later) line.state))) it in
       let first : branches_at k (claim.replies_of n later) line.state ≡ reply (ply_of n r.0) (tree_at k (claim.node_of n r.1) (next line.state (ply_of n r.0))) (branches_at k (claim.replies_of n others.now) line.state) =
-        subst (λ m. branches_at k (claim.replies_of m later) line.state ≡ reply (ply_of m r.0) (tree_at k (claim.node_of m r.1) (next line.state (ply_of m r.0))) (branches_at k (claim.replies_of m others.now) line.state)) size some in
+      subst (λ m. branches_at k (claim.replies_of m later) line.state ≡ reply (ply_of m r.0) (tree_at k (claim.node_of m r.1) (next line.state (ply_of m r.0))) (branches_at k (claim.replies_of m others.now) line.state)) size some in
       let o : Open = Reply done r.0 others in
       let a : AnswerTree = tree_at k (claim.node_of n r.1) (next line.state (ply_of n r.0)) in
       let before : Expands k os line (closed k o line.state a) =
-        same_tree (replies (replies_then (replies_of n done.items) (branches_at k (claim.replies_of n later) line.state))) (closed k o line.state a)
-        (ap (λ rs. replies (replies_then (replies_of n done.items) rs)) first) it in
+      same_tree (replies (replies_then (replies_of n done.items) (branches_at k (claim.replies_of n later) line.state))) (closed k o line.state a)
+      (ap (λ rs. replies (replies_then (replies_of n done.items) rs)) first) it in
       subst (λ m. Expands k (os ++ o ∷ []) (record { state = next line.state (ply_of m r.0); before = line.state ∷ line.before }) (tree_at k (claim.node_of n r.1) (next line.state (ply_of m r.0)))) (sym size)
       (pushed o a before (low_alone low))
     where
@@ -120,14 +120,16 @@ module _ (k : CheckedClaim) (os : List Open) (line : Line) where
       let state : now.state ≡ (played n os first).state = ap (head_or now.state) parts in
       let before : now.before ≡ (played n os first).before = ap tail_of parts in
       let there : now.state ≡ reached n os (start k.problem) = state ∙ played_state n os first in
-      let both : IsTrue (open_below k os && open_below k (o ∷ [])) = sym (below_push k os o) ∙ it.lemmas in
-      (record {
-        play = λ i. record { state = state i; before = before i };
-        tree = ap (λ s. finish k os (start k.problem) (closed k o s a)) there ∙ sym (finish_push k os o (start k.problem) a) ∙ it.tree;
-        lemmas = and_left (open_below k os) (open_below k (o ∷ [])) both;
-        size = it.size;
-        stands = it.stands;
-      }, and_right (open_below k os) (open_below k (o ∷ [])) both)
+      let both : IsTrue (open_below k os && open_below k (o ∷ [])) = sym (below_push k os o) ∙ it.lemmas in (
+        record {
+          play = λ i. record { state = state i; before = before i };
+          tree = ap (λ s. finish k os (start k.problem) (closed k o s a)) there ∙ sym (finish_push k os o (start k.problem) a) ∙ it.tree;
+          lemmas = and_left (open_below k os) (open_below k (o ∷ [])) both;
+          size = it.size;
+          stands = it.stands;
+        },
+        and_right (open_below k os) (open_below k (o ∷ [])) both,
+      )
     where
       head_or : GameState → List GameState → GameState
       head_or d [] = d
@@ -158,14 +160,14 @@ module _ (k : CheckedClaim) (os : List Open) (line : Line) where
   pub turn_opened : (t : Turn) (below : Box node_type.Node Global) (whole_node : node_type.Node) → whole_node ≡ node_of_claim.Play t below
       → Expands k os line (tree_at k (claim.node_of n whole_node) line.state)
       → (over line.state ≡ None) × (legal line.state (ply_of line.state.game.size t) ≡ true)
-        × Expands k (os ++ Made t ∷ []) (record { state = next line.state (ply_of line.state.game.size t); before = line.state ∷ line.before }) (tree_at k (claim.node_of n below.value) (next line.state (ply_of line.state.game.size t)))
+      × Expands k (os ++ Made t ∷ []) (record { state = next line.state (ply_of line.state.game.size t); before = line.state ∷ line.before }) (tree_at k (claim.node_of n below.value) (next line.state (ply_of line.state.game.size t)))
   turn_opened t below whole_node is it =
       let spelled : claim.node_of n whole_node ≡ play (ply_of n t) (claim.node_of n below.value) = ap (claim.node_of n) is ∙ node_of_play n t below in
       let a : AnswerTree = tree_at k (claim.node_of n below.value) (next line.state (ply_of n t)) in
       let turned : Expands k os line (turn (ply_of n t) a) = subst (λ x. Expands k os line (tree_at k x line.state)) spelled it in
       let size : line.state.game.size ≡ n = size_is (turn (ply_of n t) a) turned in
       subst (λ m. (over line.state ≡ None) × (legal line.state (ply_of m t) ≡ true)
-        × Expands k (os ++ Made t ∷ []) (record { state = next line.state (ply_of m t); before = line.state ∷ line.before }) (tree_at k (claim.node_of n below.value) (next line.state (ply_of m t)))) (sym size)
+      × Expands k (os ++ Made t ∷ []) (record { state = next line.state (ply_of m t); before = line.state ∷ line.before }) (tree_at k (claim.node_of n below.value) (next line.state (ply_of m t)))) (sym size)
       (open_at_turn (ply_of n t) a turned, legal_at_turn (ply_of n t) a turned, pushed (Made t) a turned refl)
 
 pub play_below : (n m : ℕ) (t : Turn) (below : Box node_type.Node Global) (whole_node : node_type.Node) → whole_node ≡ node_of_claim.Play t below → IsTrue (uses_below m (claim.node_of n whole_node)) → IsTrue (uses_below m (claim.node_of n below.value))
@@ -181,7 +183,7 @@ made_before k os all line o a is it =
     let n = k.certificate.size in
     let first : Line = record { state = start k.problem; before = [] } in
     let here : line ≡ record { state = next (played n os first).state (turn_of n o); before = (played n os first).state ∷ (played n os first).before } =
-      it.play ∙ ap (λ (xs : List Open). played n xs first) is ∙ played_push n os o first in
+    it.play ∙ ap (λ (xs : List Open). played n xs first) is ∙ played_push n os o first in
     let long : length line.before ≡ suc (length (played n os first).before) = ap (λ (l : Line). length l.before) here in
     omega (arith, long)
 
@@ -190,7 +192,7 @@ pub begins : (k : CheckedClaim) (os : List Open) (line : Line) (certificate : ce
     → Expands k os line (tree_at k (claim.node_of k.certificate.size certificate.main) line.state)
 begins k os line certificate same none_open now valid answered =
     let it : Expands k [] (record { state = start k.problem; before = [] }) (tree_at k (claim.node_of k.certificate.size k.certificate.main) (start k.problem)) =
-      record { play = refl; tree = refl; lemmas = refl; size = sym valid.valid.size; stands = answered } in
+    record { play = refl; tree = refl; lemmas = refl; size = sym valid.valid.size; stands = answered } in
     subst (λ (c : certificate_type.Certificate). Expands k os line (tree_at k (claim.node_of k.certificate.size c.main) line.state)) (sym same)
     (subst (λ (xs : List Open). Expands k xs line (tree_at k (claim.node_of k.certificate.size k.certificate.main) line.state)) (sym none_open)
     (subst (λ (l : Line). Expands k [] l (tree_at k (claim.node_of k.certificate.size k.certificate.main) l.state)) (sym now) it))

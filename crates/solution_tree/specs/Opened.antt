@@ -3,11 +3,11 @@
 --     whole k turns a      the same tree, where a stands below the last of the open turns
 --     Expands k turns line a      the expansion stands at this line of play, and a is what belongs there
 --     uses_below m n      each lemma that the tree n uses has a number from 1 to m
-use Rattle.std.specs.Prelude.{◌≡◌, ℕ, ◌+◌, Bool, true, false, ◌&&◌, nat_le, List, [], ◌∷◌, IsTrue, length, map}
+use Rattle.std.specs.Prelude.{◌≡◌, ℕ, ◌+◌, Bool, true, false, ◌&&◌, nat_le, List, [], ◌∷◌, IsTrue, length}
 use Rattle.go_points.specs.Ply.{Ply, ply_of}
 use Rattle.target_game.specs.State.{GameState, Line, start}
 use Rattle.target_game.specs.Next.{next}
-use Rattle.target_game.specs.Answers.{AnswerTree, leaf, turn, replies, ReplyTrees, none, reply, answer_size, reply_sizes, answers}
+use Rattle.target_game.specs.Answers.{AnswerTree, turn, replies, ReplyTrees, none, reply, answer_size, reply_sizes, answers}
 use Rattle.proof_cert.specs.Claim.{Node, won, by_lemma, play, all, Branches, no_branch, branch, Lemma}
 use Rattle.proof_cert.specs.Certificate as claim
 use Rattle.cert_check.specs.Checked.{CheckedClaim}

@@ -135,7 +135,10 @@ fn four_places_of_the_last_row(rt: HostRuntime) -> Result<(), Fail> {
     let checked = a_lemma_for_each_set(rt.alloc(), &rt, 4)?;
     let answer = expand(rt.alloc(), &checked, 194).expect(&rt, "a tree");
     assert_eq!(rt; answer.size(), Some(194));
-    assert_eq!(rt; expand(rt.alloc(), &checked, 193).err(), Some(Expand::TooLarge));
+    assert_eq!(rt;
+        expand(rt.alloc(), &checked, 193).err(),
+        Some(Expand::TooLarge)
+    );
     Ok(())
 }
 
@@ -148,8 +151,14 @@ fn the_whole_last_row(rt: HostRuntime) -> Result<(), Fail> {
     assert_eq!(rt; answer.size(), Some(41_099));
     let eight = a_lemma_for_each_set(rt.alloc(), &rt, 8)?;
     assert_eq!(rt; eight.certificate().lemmas.len(), 255);
-    assert_eq!(rt; expand(rt.alloc(), &eight, 90_000).err(), Some(Expand::TooLarge));
-    assert_eq!(rt; expand(rt.alloc(), &eight, 328_801).err(), Some(Expand::TooLarge));
+    assert_eq!(rt;
+        expand(rt.alloc(), &eight, 90_000).err(),
+        Some(Expand::TooLarge)
+    );
+    assert_eq!(rt;
+        expand(rt.alloc(), &eight, 328_801).err(),
+        Some(Expand::TooLarge)
+    );
     let answer = expand(rt.alloc(), &eight, 328_802).expect(&rt, "a tree");
     assert_eq!(rt; answer.size(), Some(328_802));
     Ok(())

@@ -179,7 +179,11 @@ fn put_below<'a>(
 {
     match last {
         Open::Made(turn) => Ok(Part::Finished(Answer::Turn(turn, Box::new(alloc, tree)?))),
-        Open::Reply { mut done, turn, later } => {
+        Open::Reply {
+            mut done,
+            turn,
+            later,
+        } => {
             done.push((turn, tree))?;
             go_on(checked, state, opened, done, later)
         }

@@ -133,7 +133,8 @@ fn writes_a_long_line(rt: HostRuntime) -> Result<(), Fail> {
 #[test]
 fn leaves_out_a_barred_reply(rt: HostRuntime) -> Result<(), Fail> {
     let alloc = rt.alloc();
-    let claim = b"tsucert 1 3 W\nlemma B 0 O........\nall 2\nreply bc\nplay pass\nall 1\nreply pass\nwon\nreply pass\nplay pass\nwon\nend\nmain\nuse 1\nend\n";
+    let claim =
+        b"tsucert 1 3 W\nlemma B 0 O........\nall 2\nreply bc\nplay pass\nall 1\nreply pass\nwon\nreply pass\nplay pass\nwon\nend\nmain\nuse 1\nend\n";
     let checked = checked_claim(
         alloc,
         &rt,

@@ -1,10 +1,9 @@
-use Rattle.std.proofs.Common.{rules, ◌≡◌, ◌+◌, ◌*◌, ℕ, ◌<◌, ◌≤◌, ◌^◌, length, List, ◌++◌, [], ◌∷◌, ap, sym, ◌∙◌, arith, subst, Option, None, Vec, Global}
+use Rattle.std.proofs.Common.{◌≡◌, ◌+◌, ◌*◌, ℕ, ◌≤◌, ◌^◌, List, ◌++◌, [], ◌∷◌, ap, sym, arith, subst, Option}
 use Rattle.std.specs.Prelude.{IfNone}
 use Rattle.go_points.specs.declared.Turn.{Turn}
 use Rattle.target_game.specs.Answers.{answer_size, reply_sizes}
 use Rattle.solution_tree.specs.Answer.{answer_of, replies_of}
 use Rattle.solution_tree.specs.declared.answer.Answer.{Answer}
-use Rattle.solution_tree.specs.declared.answer.Answer.TheVariants.{Replies}
 use Rattle.solution_tree.proofs.AnswerTrees.{below_turn, below_replies, part_won, part_turn, part_replies, sizes_last, sizes_more, sizes_done, empty_sizes}
 use Rattle.solution_tree.proofs.answer.+size.Goals as goal
 
@@ -45,9 +44,10 @@ sizes_with-returns-in_err-count-clause-none t c =
     (λ n. omega (arith, c.in_ok-checked_add.ensures.1, c.in_err-count.ensures.none n, c.loop-reply.invariant.0 n, sizes_more n c.args.replies.now c.loop-reply.reply-index c.reply-item.result c.loop-reply-test.true c.reply-item.is))
 
 pub sizes_with-loop-reply-preserved : goal.sizes_with-loop-reply-preserved
-sizes_with-loop-reply-preserved t c =
-    ((λ n. omega (arith, c.in_ok-checked_add.ensures.1, c.in_ok-count.ensures.some n, c.loop-reply.invariant.0 n, sizes_more n c.args.replies.now c.loop-reply.reply-index c.reply-item.result c.loop-reply-test.true c.reply-item.is)),
-     omega (arith, c.in_ok-checked_add.ensures.1, c.in_ok-count.ensures.some 0, c.loop-reply.invariant.1))
+sizes_with-loop-reply-preserved t c = (
+  (λ n. omega (arith, c.in_ok-checked_add.ensures.1, c.in_ok-count.ensures.some n, c.loop-reply.invariant.0 n, sizes_more n c.args.replies.now c.loop-reply.reply-index c.reply-item.result c.loop-reply-test.true c.reply-item.is)),
+  omega (arith, c.in_ok-checked_add.ensures.1, c.in_ok-count.ensures.some 0, c.loop-reply.invariant.1),
+)
 
 pub sizes_with-returns-clause-some : goal.sizes_with-returns-clause-some
 sizes_with-returns-clause-some t c = λ n. omega (arith, c.loop-reply.invariant.0 n, sizes_done n c.args.replies.now c.loop-reply.reply-index (omega (arith, c.loop-reply-test.false)))
@@ -68,9 +68,10 @@ size_with-loop-part-smaller-in-Turn t c = omega (arith, part_turn 0 c.loop-part.
 
 pub size_with-loop-part-preserved-in-Turn : goal.size_with-loop-part-preserved-in-Turn
 size_with-loop-part-preserved-in-Turn t c =
-    let more : c.in_ok-count-in-Turn.count ≡ c.loop-part.count + 1 = c.in_ok-count-in-Turn.ensures.1 in
-    (below_turn c.loop-part.count c.in_ok-count-in-Turn.count c.args.before c.args.answer.now c.loop-part.part.now c.deref-part.result.now c.in-Turn.field-0 c.in-Turn.below c.in-Turn.is c.deref-part.ensures more c.loop-part.invariant.0,
-     omega (arith, more, c.loop-part.invariant.1))
+    let more : c.in_ok-count-in-Turn.count ≡ c.loop-part.count + 1 = c.in_ok-count-in-Turn.ensures.1 in (
+      below_turn c.loop-part.count c.in_ok-count-in-Turn.count c.args.before c.args.answer.now c.loop-part.part.now c.deref-part.result.now c.in-Turn.field-0 c.in-Turn.below c.in-Turn.is c.deref-part.ensures more c.loop-part.invariant.0,
+      omega (arith, more, c.loop-part.invariant.1),
+    )
 
 pub size_with-loop-part-smaller : goal.size_with-loop-part-smaller
 size_with-loop-part-smaller t c =
@@ -79,6 +80,7 @@ size_with-loop-part-smaller t c =
 
 pub size_with-loop-part-preserved : goal.size_with-loop-part-preserved
 size_with-loop-part-preserved t c =
-    let more : c.in_ok-count-in-Replies.count ≡ c.in_ok-sizes_with-in-Replies.field-0 + 1 = c.in_ok-count-in-Replies.ensures.1 in
-    (below_replies c.loop-part.count c.in_ok-sizes_with-in-Replies.field-0 c.in_ok-count-in-Replies.count c.args.before c.args.answer.now c.loop-part.part.now c.in-Replies.replies c.deref.result.now c.in-Some.others.now c.in-Some.last.now c.in-Replies.is c.deref.ensures.value c.in-Some.ensures.cases c.in_ok-sizes_with-in-Replies.ensures.some more c.loop-part.invariant.0,
-     omega (arith, more, c.in_ok-sizes_with-in-Replies.ensures.some 0, c.loop-part.invariant.1))
+    let more : c.in_ok-count-in-Replies.count ≡ c.in_ok-sizes_with-in-Replies.field-0 + 1 = c.in_ok-count-in-Replies.ensures.1 in (
+      below_replies c.loop-part.count c.in_ok-sizes_with-in-Replies.field-0 c.in_ok-count-in-Replies.count c.args.before c.args.answer.now c.loop-part.part.now c.in-Replies.replies c.deref.result.now c.in-Some.others.now c.in-Some.last.now c.in-Replies.is c.deref.ensures.value c.in-Some.ensures.cases c.in_ok-sizes_with-in-Replies.ensures.some more c.loop-part.invariant.0,
+      omega (arith, more, c.in_ok-sizes_with-in-Replies.ensures.some 0, c.loop-part.invariant.1),
+    )

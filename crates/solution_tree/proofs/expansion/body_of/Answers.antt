@@ -1,10 +1,8 @@
-use Rattle.std.proofs.Common.{◌≡◌, ℕ, suc, ◌+◌, ◌-◌, ◌<◌, ◌≤◌, IsTrue, subst, sym, ap, ◌∙◌, arith, refl}
+use Rattle.std.proofs.Common.{◌≡◌, IsTrue, subst, sym, ap, ◌∙◌, arith, refl}
 use Rattle.std.specs.Prelude.{length}
-use Rattle.target_game.specs.State.{GameState}
-use Rattle.proof_cert.specs.Claim.{by_lemma}
 use Rattle.proof_cert.specs.Certificate.{node_of}
 use Rattle.cert_check.specs.Checked.{CheckedClaim}
-use Rattle.solution_tree.specs.Opened.{lemma_count, tree_at, uses_below}
+use Rattle.solution_tree.specs.Opened.{lemma_count, uses_below}
 use Rattle.solution_tree.proofs.Lower.{used_bounds, next_body, below_more}
 use Rattle.solution_tree.proofs.expansion.body_of.Goals as goal
 
@@ -34,7 +32,7 @@ loop-part-preserved c =
     let same : c.as_slice-lemmas.result.now ≡ k.certificate.lemmas.items = cc in
     let all : length c.as_slice-lemmas.result.now ≡ lemma_count k = ap length same in
     let it = next_body k c.winner-winner.ensures.checked c.as_slice-lemmas.result.now same c.loop-part.below c.in-Use.lemma c.loop-part.part.now c.index-lemmas-below.result
-      c.in-Use.is c.loop-part.invariant.1 c.loop-part.invariant.2 c.index-lemmas-below.is in
+    c.in-Use.is c.loop-part.invariant.1 c.loop-part.invariant.2 c.index-lemmas-below.is in
     ((λ s. it.0 s ∙ c.loop-part.invariant.0 s), it.1, it.2)
 
 pub returns-in-Play-clause-below : goal.returns-in-Play-clause-below

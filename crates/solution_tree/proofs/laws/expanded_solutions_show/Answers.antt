@@ -1,4 +1,4 @@
-use Rattle.std.proofs.Common.{◌≡◌, IsTrue}
+use Rattle.std.proofs.Common.{IsTrue}
 use Rattle.target_game.specs.State.{start}
 use Rattle.target_game.specs.Answers.{answers}
 use Rattle.cert_check.specs.Expand.{expand}

@@ -1,10 +1,8 @@
-use Rattle.std.proofs.Common.{◌≡◌, ℕ, ◌+◌, ◌++◌, List, [], ◌∷◌, subst, ap, arith}
-use Rattle.target_game.specs.State.{Line}
+use Rattle.std.proofs.Common.{◌≡◌, ℕ, ◌+◌, ◌++◌, [], ◌∷◌, subst, ap, arith}
 use Rattle.target_game.specs.Answers.{answer_size}
 use Rattle.cert_check.specs.Checked.{CheckedClaim}
 use Rattle.solution_tree.specs.Answer.{answer_of}
 use Rattle.solution_tree.specs.Opened.{Expands, open_sizes, open_size, part_size, part_tree, part_turns}
-use Rattle.solution_tree.specs.declared.opened.Part.{Part}
 use Rattle.solution_tree.proofs.Expanding.{sizes_push}
 use Rattle.solution_tree.proofs.Standing.{made_before, popped}
 use Rattle.solution_tree.proofs.opened.close.Goals as goal
@@ -27,9 +25,10 @@ loop-last-preserved c =
     let n : ℕ = k.certificate.size in
     let lost : open_sizes n c.loop-last.opened.items ≡ open_sizes n (c.pop.new.self.items ++ c.in-Some.last ∷ []) = ap (open_sizes n) c.in-Some.ensures.items in
     let size : open_sizes n c.put_below.new.opened.items + answer_size (answer_of n c.in-Finished.finished) ≡ open_sizes n c.pop.new.self.items + open_size n c.in-Some.last + answer_size (answer_of n c.loop-last.tree) + 0 =
-      subst (λ p. open_sizes n c.put_below.new.opened.items + part_size n p ≡ open_sizes n c.pop.new.self.items + open_size n c.in-Some.last + answer_size (answer_of n c.loop-last.tree) + part_turns p) c.in-Finished.is c.in_ok-part.ensures.size in
-    (subst (λ p. Expands k c.put_below.new.opened.items c.put_below.new.state (part_tree k p c.put_below.new.state.state)) c.in-Finished.is c.in_ok-part.ensures.stands,
-     omega (arith, lost, size, sizes_push n c.pop.new.self.items c.in-Some.last, c.loop-last.invariant.1))
+    subst (λ p. open_sizes n c.put_below.new.opened.items + part_size n p ≡ open_sizes n c.pop.new.self.items + open_size n c.in-Some.last + answer_size (answer_of n c.loop-last.tree) + part_turns p) c.in-Finished.is c.in_ok-part.ensures.size in (
+      subst (λ p. Expands k c.put_below.new.opened.items c.put_below.new.state (part_tree k p c.put_below.new.state.state)) c.in-Finished.is c.in_ok-part.ensures.stands,
+      omega (arith, lost, size, sizes_push n c.pop.new.self.items c.in-Some.last, c.loop-last.invariant.1),
+    )
 
 pub returns-in_default-2-clause-size : goal.returns-in_default-2-clause-size
 returns-in_default-2-clause-size c =

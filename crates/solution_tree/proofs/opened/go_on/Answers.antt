@@ -1,7 +1,7 @@
-use Rattle.std.proofs.Common.{◌≡◌, ℕ, ◌+◌, ◌++◌, List, [], ◌∷◌, IsTrue, subst, sym, ap, ◌∙◌, arith}
+use Rattle.std.proofs.Common.{◌≡◌, ◌++◌, List, [], ◌∷◌, IsTrue, subst, sym, ap, arith}
 use Rattle.target_game.specs.State.{Line}
 use Rattle.target_game.specs.Next.{next}
-use Rattle.target_game.specs.Answers.{AnswerTree, replies, reply_sizes}
+use Rattle.target_game.specs.Answers.{AnswerTree, replies}
 use Rattle.go_points.specs.Ply.{ply_of}
 use Rattle.proof_cert.specs.Certificate as claim
 use Rattle.cert_check.specs.Checked.{CheckedClaim}
@@ -34,14 +34,14 @@ returns c =
     let all : AnswerTree = replies (replies_then (replies_of k.certificate.size c.args.done.items) (branches_at k (claim.replies_of k.certificate.size c.args.later.now) line.state)) in
     let size : line.state.game.size ≡ k.certificate.size = size_is k c.args.opened.now.items line all c.requires.stands in
     let both = subst (λ m. IsTrue (uses_below (lemma_count k) (claim.node_of m c.in-Some.reply.now.1)) × IsTrue (all_below (lemma_count k) (claim.replies_of m c.in-Some.others.now))) size
-      (c.in-Some.ensures.below (lemma_count k) (subst (λ m. IsTrue (all_below (lemma_count k) (claim.replies_of m c.args.later.now))) (sym size) c.requires.below)) in
+    (c.in-Some.ensures.below (lemma_count k) (subst (λ m. IsTrue (all_below (lemma_count k) (claim.replies_of m c.args.later.now))) (sym size) c.requires.below)) in
     let it = reply_opened k c.args.opened.now.items line c.args.done c.args.later.now c.in-Some.reply.now c.in-Some.others (c.in-Some.ensures.some (lemma_answers k)) both.1 c.requires.stands in
     let items : c.push.new.self.items ≡ c.args.opened.now.items ++ Reply c.args.done c.in-Some.reply.now.0 c.in-Some.others ∷ [] = c.in_ok-push.ensures.items in
     let now : c.after.new.self ≡ record { state = next line.state (ply_of line.state.game.size c.in-Some.reply.now.0); before = line.state ∷ line.before } = c.in_ok-after.ensures.ok in
     record {
       stands =
-        subst (λ (os : List Open). Expands k os c.after.new.self (tree_at k (claim.node_of k.certificate.size c.in-Some.reply.now.1) c.after.new.self.state)) (sym items)
-        (subst (λ (l : Line). Expands k (c.args.opened.now.items ++ Reply c.args.done c.in-Some.reply.now.0 c.in-Some.others ∷ []) l (tree_at k (claim.node_of k.certificate.size c.in-Some.reply.now.1) l.state)) (sym now) it);
+          subst (λ (os : List Open). Expands k os c.after.new.self (tree_at k (claim.node_of k.certificate.size c.in-Some.reply.now.1) c.after.new.self.state)) (sym items)
+          (subst (λ (l : Line). Expands k (c.args.opened.now.items ++ Reply c.args.done c.in-Some.reply.now.0 c.in-Some.others ∷ []) l (tree_at k (claim.node_of k.certificate.size c.in-Some.reply.now.1) l.state)) (sym now) it);
       below = both.0;
       size = omega (arith, ap (open_sizes k.certificate.size) items, sizes_push k.certificate.size c.args.opened.now.items (Reply c.args.done c.in-Some.reply.now.0 c.in-Some.others));
       finished = tt;

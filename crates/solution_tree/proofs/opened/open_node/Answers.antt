@@ -9,7 +9,6 @@ use Rattle.solution_tree.specs.Answer.{replies_of}
 use Rattle.solution_tree.specs.Opened.{Expands, lemma_count, open_sizes, part_size, part_turns, tree_at, uses_below}
 use Rattle.solution_tree.specs.declared.opened.Open.{Open}
 use Rattle.solution_tree.specs.declared.opened.Open.TheVariants.{Made}
-use Rattle.solution_tree.specs.declared.opened.Part.{Part}
 use Rattle.solution_tree.proofs.AnswerTrees.{no_sizes}
 use Rattle.solution_tree.proofs.Expanding.{sizes_push}
 use Rattle.solution_tree.proofs.Standing.{turn_opened, play_below, ok_weaker}
@@ -52,5 +51,5 @@ returns-in-All-clause-size c =
     let n : ℕ = k.certificate.size in
     let empty : reply_sizes (replies_of n c.new.result.items) ≡ 0 = ap (λ rs. reply_sizes (replies_of n rs)) c.new.ensures.items ∙ no_sizes n in
     ok_weaker (λ p. open_sizes n c.go_on.new.opened.items + part_size n p ≡ open_sizes n c.args.opened.now.items + reply_sizes (replies_of n c.new.result.items) + part_turns p)
-      (λ p. open_sizes n c.go_on.new.opened.items + part_size n p ≡ open_sizes n c.args.opened.now.items + part_turns p)
-      (λ p h. omega (arith, h, empty)) c.go_on.result c.go_on.ensures.size
+    (λ p. open_sizes n c.go_on.new.opened.items + part_size n p ≡ open_sizes n c.args.opened.now.items + part_turns p)
+    (λ p h. omega (arith, h, empty)) c.go_on.result c.go_on.ensures.size

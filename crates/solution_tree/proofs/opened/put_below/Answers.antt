@@ -1,4 +1,4 @@
-use Rattle.std.proofs.Common.{◌≡◌, ℕ, subst, sym}
+use Rattle.std.proofs.Common.{◌≡◌, subst}
 use Rattle.proof_cert.specs.Certificate as claim
 use Rattle.cert_check.specs.Checked.{CheckedClaim}
 use Rattle.solution_tree.specs.Answer.{answer_of}

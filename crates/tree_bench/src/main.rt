@@ -15,9 +15,11 @@ use std::convert::AsStr;
 use std::rt::Clock;
 use std::time::Duration;
 use std::{env, io};
-use timing::{audited, expanded, problem_of, read, time_auditing, time_expanding, time_reading, written};
+use timing::{
+    audited, expanded, problem_of, read, time_auditing, time_expanding, time_reading, written,
+};
 
-/// For how many places there is a claim. A place more makes the answer tree some seven times as large.
+/// For how many places there is a claim. A place more makes the answer tree six to eight times as large.
 const PLACES: [u8; 4] = [5, 6, 7, 8];
 
 /// As many turns as a record may have that is read: 100,000 nodes, less two that stand before them.
@@ -75,7 +77,7 @@ fn measure<R: Print + Clock + AllocGlobal>(
     let rounds = (TURNS / turns.max(1)).max(1);
     let done = (turns as u64).saturating_mul(rounds as u64);
     let expanding = time_expanding(rt, checked, LIMIT, rounds)?;
-    println!(rt; "{places} places, {turns} turns, {rounds} rounds")?;
+    println!(rt; "{places} places, {turns} turns, rounds: {rounds}")?;
     print_speed(rt, "expanded", done, expanding)?;
     if turns > MOST_READ {
         return Ok(());

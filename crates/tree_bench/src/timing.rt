@@ -1,8 +1,5 @@
 //! How long expanding a claim takes, reading the record of its tree, and auditing it.
 
-ghost use Rattle.std.specs.Prelude.{IsSome};
-ghost use Rattle.tsumego_problem.specs.Walk.{problem_node};
-
 use cert_check::Checked;
 use go_points::Colour;
 use sgf_text::{Tree, read_tree, write_tree};

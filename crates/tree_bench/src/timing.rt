@@ -1,0 +1,100 @@
+//! How long expanding a claim takes, reading the record of its tree, and auditing it.
+
+use cert_check::Checked;
+use go_points::Colour;
+use sgf_text::{Tree, read_tree, write_tree};
+use solution_tree::{Answer, audit, expand, to_sgf};
+use std::alloc::Global;
+use std::io;
+use std::io::ErrorKind;
+use std::rt::Clock;
+use std::time::{Duration, Instant};
+use target_game::Problem;
+use tsumego_problem::{problem_node, read_problem};
+
+/// The claim's answer tree, where it has no more turns than the limit.
+pub fn expanded(alloc: Global, checked: &Checked, limit: usize) -> io::Result<Answer> {
+    match expand(alloc, checked, limit) {
+        Ok(answer) => Ok(answer),
+        Err(_) => Err(io::Error::from(ErrorKind::InvalidData)),
+    }
+}
+
+/// The text of the answer tree's record.
+pub fn written(alloc: Global, checked: &Checked, answer: &Answer) -> io::Result<Vec<u8>> {
+    let tree = to_sgf(alloc, checked, answer)?;
+    let mut text = Vec::new(alloc);
+    match write_tree(&tree, &mut text) {
+        Ok(()) => Ok(text),
+        Err(_) => Err(io::Error::from(ErrorKind::OutOfMemory)),
+    }
+}
+
+/// The record of the text.
+pub fn read(alloc: Global, text: &[u8]) -> io::Result<Tree> {
+    match read_tree(alloc, text) {
+        Ok((tree, _place)) => Ok(tree),
+        Err(_) => Err(io::Error::from(ErrorKind::InvalidData)),
+    }
+}
+
+/// The problem of the record.
+pub fn problem_of(alloc: Global, tree: &Tree) -> io::Result<Problem> {
+    match read_problem(alloc, tree) {
+        Ok(problem) => Ok(problem),
+        Err(_) => Err(io::Error::from(ErrorKind::InvalidData)),
+    }
+}
+
+/// Who wins by the record's tree.
+pub fn audited(alloc: Global, problem: &Problem, tree: &Tree) -> io::Result<Colour> {
+    if problem_node(tree).is_none() {
+        return Err(io::Error::from(ErrorKind::InvalidData));
+    }
+    match audit(alloc, problem, tree) {
+        Ok(winner) => Ok(winner),
+        Err(_) => Err(io::Error::from(ErrorKind::InvalidData)),
+    }
+}
+
+/// How long it takes to expand the claim so often, and to give the trees' memory back.
+pub fn time_expanding<R: Clock + AllocGlobal>(
+    rt: &R,
+    checked: &Checked,
+    limit: usize,
+    rounds: usize,
+) -> io::Result<Duration> {
+    let start = Instant::now(rt)?;
+    for _ in 0..rounds {
+        let _answer = expanded(rt.alloc(), checked, limit)?;
+    }
+    start.elapsed(rt)
+}
+
+/// How long it takes to read the text so often, and to give the trees' memory back.
+pub fn time_reading<R: Clock + AllocGlobal>(
+    rt: &R,
+    text: &[u8],
+    rounds: usize,
+) -> io::Result<Duration> {
+    let start = Instant::now(rt)?;
+    for _ in 0..rounds {
+        let _tree = read(rt.alloc(), text)?;
+    }
+    start.elapsed(rt)
+}
+
+/// How long it takes to audit the text's tree so often.
+pub fn time_auditing<R: Clock + AllocGlobal>(
+    rt: &R,
+    text: &[u8],
+    rounds: usize,
+) -> io::Result<Duration> {
+    let tree = read(rt.alloc(), text)?;
+    let problem = problem_of(rt.alloc(), &tree)?;
+    let start = Instant::now(rt)?;
+    for _ in 0..rounds {
+        let _winner = audited(rt.alloc(), &problem, &tree)?;
+    }
+    start.elapsed(rt)
+}

@@ -9,7 +9,7 @@ mod timing;
 use cert_check::Checked;
 use claim::checked_claim;
 use go_points::Colour;
-use solution_tree::expand;
+use solution_tree::{Expand, expand};
 use speed::{per_second, tenths};
 use std::convert::AsStr;
 use std::rt::Clock;
@@ -53,7 +53,8 @@ fn try_once<R: Print + AllocGlobal>(rt: &R, places: u8, checked: &Checked) -> io
     let turns = answer.size().unwrap_or(0);
     let short = match expand(alloc, checked, turns.saturating_sub(1)) {
         Ok(_) => "expanded",
-        Err(_) => "refused",
+        Err(Expand::TooLarge) => "refused",
+        Err(Expand::Memory) => return Err(io::Error::from(io::ErrorKind::OutOfMemory)),
     };
     print!(rt; "{places} places: {lemmas} lemmas, {turns} turns, with one fewer {short}, ")?;
     if turns > MOST_READ {

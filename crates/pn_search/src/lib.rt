@@ -1,0 +1,11 @@
+//! The search for a proof: full search within few turns first, then proof numbers; every claim is put to the checker.
+#![tactic(auto)]
+
+mod full_search;
+mod number_search;
+mod search;
+mod shared_states;
+mod verdict;
+
+pub use search::solve;
+pub use verdict::{Budget, Cause, Verdict};

@@ -20,7 +20,8 @@ use Rattle.solution_tree.proofs.Sound.{below_wins}
 use Rattle.solution_tree.proofs.Exact.{audit_is_exact}
 use Rattle.tsumego.specs.declared.status.Status.TheVariants.{Answered}
 use Rattle.tsumego.specs.Texts.{wins_text, neither_text}
-use Rattle.tsumego.specs.Answers.{Answer, IsRecord, check_answer, within_answer, audit_answer, claim_in, claim_verdict}
+use Rattle.tsumego.specs.Answers.{Answer, IsRecord, check_answer, within_answer, audit_answer, claim_in}
+use Rattle.tsumego.specs.Solutions.{claim_verdict}
 use Rattle.tsumego.specs.Laws.{SideWins, CheckIsTrue, WithinIsTrue, AuditIsTrue}
 use Rattle.tsumego.proofs.Records.{placed, has_problem_node}
 

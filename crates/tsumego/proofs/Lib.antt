@@ -5,6 +5,7 @@ pub mod Headline
 pub mod Recording
 pub mod Phrases
 pub mod Running
+pub mod Answering
 pub mod SubcommandWalks
 pub mod SubcommandRows
 pub mod SubcommandNames

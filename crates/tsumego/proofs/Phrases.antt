@@ -22,7 +22,8 @@ use Rattle.solution_tree.specs.declared.fault.AuditWhy as fault
 use Rattle.solution_tree.specs.declared.fault.AuditWhy.TheVariants as node_faults
 use Rattle.solution_tree.specs.Audit as tree
 use Rattle.solution_tree.specs.Faults as node
-use Rattle.tsumego.specs.Texts.{line, claim_fault_text, rejected_line_text, audit_fault_text, rejected_node_text}
+use Rattle.pn_search.specs.declared.verdict.Cause.{Cause}
+use Rattle.tsumego.specs.Texts.{line, claim_fault_text, rejected_line_text, audit_fault_text, rejected_node_text, search_cause_text, unknown_text}
 
 pub illegal_phrase : (k : ℕ) (cause : TurnFaultCause) (said : List ℕ) → said ≡ cause_text cause
     → codes "refused: problem 9 illegal turn at node " ++ (decimal k ++ (said ++ 10 ∷ [])) ≡ line (problem_refusal (faults.IllegalTurn k cause))
@@ -91,3 +92,11 @@ letters_off n p some off =
     let column : 0 ≡ n * n % n = sym (ap (λ x. x % n) whole ∙ mod-mul-add n n 0 (omega (arith, some))) in
     ap₂ (λ a b. (97 + a) ∷ (97 + b) ∷ []) column row
     ∙ sym (ap (λ b. vertex_text n (move (cond b (number_of n p) (n * n)))) (false_from_ne_true (on_board n p) (λ e. off (is_on_from n p e))))
+
+pub unknown_phrase : (cause : Cause) (steps : ℕ) (said : List ℕ) → said ≡ search_cause_text cause
+    → codes "unknown: " ++ (said ++ (codes ", " ++ (decimal steps ++ (codes " steps" ++ 10 ∷ [])))) ≡ unknown_text cause steps
+unknown_phrase cause steps said e =
+    ap (λ t. codes "unknown: " ++ (t ++ (codes ", " ++ (decimal steps ++ (codes " steps" ++ 10 ∷ []))))) e
+    ∙ ap (λ t. codes "unknown: " ++ t) (sym (append_assoc (search_cause_text cause ++ codes ", " ++ decimal steps) (codes " steps") (10 ∷ [])
+    ∙ append_assoc (search_cause_text cause ++ codes ", ") (decimal steps) (codes " steps" ++ 10 ∷ [])
+    ∙ append_assoc (search_cause_text cause) (codes ", ") (decimal steps ++ (codes " steps" ++ 10 ∷ []))))

@@ -15,7 +15,7 @@ use Rattle.solution_tree.specs.Faults.{IsFaultOf, IsFault}
 use Rattle.solution_tree.specs.declared.fault.AuditFault.{AuditFault}
 use Rattle.tsumego_problem.specs.Refusals.{Refuses}
 use Rattle.tsumego.specs.declared.command_line.Command.{Command}
-use Rattle.tsumego.specs.declared.command_line.Command.TheVariants.{Check, Within, Audit}
+use Rattle.tsumego.specs.declared.command_line.Command.TheVariants.{Check, Within, Audit, Solve}
 use Rattle.tsumego.specs.declared.status.Status.{Status}
 use Rattle.tsumego.specs.declared.status.Status.TheVariants.{Refused, BadWords, Failed}
 use Rattle.tsumego.specs.Texts.{line, no_memory_text}
@@ -89,9 +89,4 @@ pub refused_says : (command : Command) (bytes text : List ℕ) → (refusal : Li
 refused_says Check bytes text (refusal, refuses, is) = inl (refusal, refuses, refl, is)
 refused_says (Within turns nodes) bytes text (refusal, refuses, is) = inl (refusal, refuses, refl, is)
 refused_says Audit bytes text (refusal, refuses, is) = inl (refusal, refuses, refl, is)
-
--- what is answered for all that was read is answered for what the reader told
-pub whole_said : {S E : Type 0} (status : S → Status) (text : S → List ℕ) (command : Command) (told : Option (List ℕ)) (held bytes : List ℕ) (r : Result S E)
-    → IfOk r (λ x. Says command held (status x) (text x)) → held ≡ bytes → Tells told bytes → IfOk r (λ x. (b : List ℕ) × Tells told b × Says command b (status x) (text x))
-whole_said status text command told held bytes (Ok x) says same tells = (bytes, tells, subst (λ b. Says command b (status x) (text x)) same says)
-whole_said status text command told held bytes (Err f) says same tells = tt
+refused_says (Solve steps table proof) bytes text (refusal, refuses, is) = inl (refusal, refuses, refl, is)

@@ -13,13 +13,13 @@ use Rattle.sgf_text.specs.Laws.{IsWithin}
 use Rattle.tsumego_problem.specs.Values.{skip_white}
 use Rattle.tsumego_problem.specs.Walk.{problem_within, history_limit}
 use Rattle.tsumego_problem.specs.Refusals.{Refuses}
-use Rattle.proof_cert.specs.Source.{lines_read}
-use Rattle.cert_check.specs.Verdict.{Verdict, accepted, rejected, verdict}
+use Rattle.cert_check.specs.Verdict.{Verdict, accepted, rejected}
 use Rattle.solution_tree.specs.Audit.{Fault, audit}
 use Rattle.tsumego.specs.declared.command_line.Command.{Command}
 use Rattle.tsumego.specs.declared.command_line.Command.TheVariants as command
 use Rattle.tsumego.specs.declared.status.Status.{Status}
 use Rattle.tsumego.specs.declared.status.Status.TheVariants.{Answered, Unanswered, Refused}
+use Rattle.tsumego.specs.Solutions.{claim_verdict, Solved, Unsolved}
 use Rattle.tsumego.specs.Texts.{line, wins_text, rejected_line_text, rejected_node_text, neither_text, limit_text, no_memory_text, no_read_text}
 
 -- a status and the whole text with it
@@ -44,10 +44,6 @@ RefusedOr Said bytes status text =
 abbrev pub claim_in : List ℕ → ℕ → List ℕ
 claim_in bytes n = skip_white (drop n bytes)
 
--- the verdict on its lines, of which those of version 2 count as malformed so far
-abbrev pub claim_verdict : GameProblem → List ℕ → Verdict
-claim_verdict q claim = verdict q (lines_read q.game.size claim)
-
 abbrev pub check_answer : ℕ → Verdict → Answer
 check_answer n (accepted x) = (Answered, wins_text x)
 check_answer n (rejected place why) = (Unanswered, rejected_line_text n place why)
@@ -71,6 +67,8 @@ abbrev pub Says : Command → List ℕ → Status → List ℕ → Type 0
 Says command.Check bytes = RefusedOr (λ q tree n status text. (status, text) ≡ check_answer q.game.size (claim_verdict q (claim_in bytes n))) bytes
 Says (command.Within turns nodes) bytes = RefusedOr (λ q tree n status text. (status, text) ≡ within_answer (decision (start q) turns nodes)) bytes
 Says command.Audit bytes = RefusedOr (λ q tree n status text. (status, text) ≡ audit_answer q.game.size (audit q tree)) bytes
+Says (command.Solve steps table proof) bytes =
+    RefusedOr (λ q tree n status text. ((status ≡ Answered) × Solved proof q text) ⊎ ((status ≡ Unanswered) × Unsolved steps proof q text)) bytes
 
 -- Memory was refused, or a read failed, or the input has no end in sight.
 abbrev pub SaysFailure : List ℕ → Type 0

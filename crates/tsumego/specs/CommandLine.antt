@@ -7,7 +7,7 @@ use Rattle.clap.specs.Simple.{new_shape}
 use Rattle.clap.specs.ValueTests.{is_unsigned_in}
 use Rattle.clap.specs.declared.builder.value_parser.ValueParser.TheVariants.{Unsigned}
 use Rattle.tsumego.specs.declared.command_line.Command.{Command}
-use Rattle.tsumego.specs.declared.command_line.Command.TheVariants.{Check, Within, Audit}
+use Rattle.tsumego.specs.declared.command_line.Command.TheVariants.{Check, Within, Audit, Solve}
 use Rattle.tsumego.specs.declared.command_line.NoCommand.{NoCommand}
 use Rattle.tsumego.specs.declared.command_line.NoCommand.TheVariants.{Words, Memory}
 
@@ -78,11 +78,19 @@ command_of words = unless_faulty (fault_of grammar words) (option_and_then (λ p
 abbrev pub HasFault : List Text → Type 0
 HasFault words = fault_of grammar words ≡ [] → ⊥
 
+-- The most steps, and the most entries of the table, that may be asked for; at least one of each is.
+abbrev pub most_steps : ℕ
+most_steps = 10000000
+
+abbrev pub most_entries : ℕ
+most_entries = 1000000
+
 -- The numbers of a command are within their ranges.
 abbrev pub FitsRanges : Command → Type 0
 FitsRanges Check = Unit {0}
 FitsRanges (Within turns nodes) = (turns ≤ most_turns) × (nodes ≤ most_nodes)
 FitsRanges Audit = Unit {0}
+FitsRanges (Solve steps table proof) = (1 ≤ steps) × (steps ≤ most_steps) × (1 ≤ table) × (table ≤ most_entries)
 
 -- The words are at fault, and not the memory.
 abbrev pub IsWordsFault : NoCommand → Type 0

@@ -1,5 +1,6 @@
 pub mod CommandLine
 pub mod Texts
+pub mod Solutions
 pub mod Answers
 pub mod Outcome
 pub mod Replies

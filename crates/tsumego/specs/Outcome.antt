@@ -1,4 +1,6 @@
 -- What a run may leave: its whole text; or a failure, and then nothing is claimed.
+--     Leaves Said status written      where this may be said
+--     HasLeft Said status old new      the same between the writer before and after
 --     Outcome command bytes status written      `command` is what the words ask for, where they ask for something
 --     Ran      the same between the devices before a run and after it
 use Rattle.std.specs.Prelude.{◌≡◌, ℕ, List, ◌++◌, Option, Some, None, ◌⊎◌}
@@ -8,14 +10,26 @@ use Rattle.tsumego.specs.declared.status.Status.{Status}
 use Rattle.tsumego.specs.declared.status.Status.TheVariants.{BadWords, Failed}
 use Rattle.tsumego.specs.Answers.{Says, SaysFailure}
 
+-- What a run may have said in full: a status and a text.
+abbrev pub Saying : Type 1
+Saying = Status → List ℕ → Type 0
+
 -- A write failed: what was taken is a part from the front of something that the run may say.
-abbrev pub IsCut : Command → List ℕ → List ℕ → Type 0
-IsCut command bytes written = (rest : List ℕ) × (((status : Status) × Says command bytes status (written ++ rest)) ⊎ SaysFailure (written ++ rest))
+abbrev pub IsCut : Saying → List ℕ → Type 0
+IsCut Said written = (rest : List ℕ) × (((status : Status) × Said status (written ++ rest)) ⊎ SaysFailure (written ++ rest))
+
+-- The whole text was written; or there was a failure, and then a part may be.
+abbrev pub Leaves : Saying → Status → List ℕ → Type 0
+Leaves Said status written = Said status written ⊎ ((status ≡ Failed) × (SaysFailure written ⊎ IsCut Said written))
+
+-- The writer has taken what is left so.
+abbrev pub HasLeft : Saying → Status → Option (List ℕ) → Option (List ℕ) → Type 0
+HasLeft Said status old new = (written : List ℕ) × Appends old new written × Leaves Said status written
 
 -- Of the text of words that ask for nothing, nothing is said.
 abbrev pub Outcome : Option Command → List ℕ → Status → List ℕ → Type 0
 Outcome None bytes status written = (status ≡ BadWords) ⊎ (status ≡ Failed)
-Outcome (Some command) bytes status written = Says command bytes status written ⊎ ((status ≡ Failed) × (SaysFailure written ⊎ IsCut command bytes written))
+Outcome (Some command) bytes status written = Leaves (Says command bytes) status written
 
 -- The bytes are those that the reader tells, where it tells them.
 abbrev pub Tells : Option (List ℕ) → List ℕ → Type 0

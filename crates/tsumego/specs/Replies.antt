@@ -1,7 +1,14 @@
 -- What the private calls of the program give. No public clause rests on these words.
-use Rattle.std.specs.Prelude.{◌≡◌, ℕ, List, Option, Some, ◌⊎◌, string_bytes}
+use Rattle.std.specs.Prelude.{◌≡◌, ℕ, ◌<◌, Bool, List, Option, Some, None, ◌⊎◌, string_bytes}
 use Rattle.std.specs.Io.KnownBytes.{Appends}
+use Rattle.target_game.specs.State.{GameProblem, start}
+use Rattle.target_game.specs.Answers.{answer_size}
 use Rattle.sgf_text.specs.Taken.{TakesPart}
+use Rattle.sgf_text.specs.Trees.{GameTree}
+use Rattle.tsumego_problem.specs.Canonical.{solution}
+use Rattle.proof_cert.specs.Certificate.{claim_of}
+use Rattle.cert_check.specs.Checked.{CheckedClaim}
+use Rattle.cert_check.specs.Expand.{expand}
 use Rattle.tsumego_problem.specs.Refusals.{Refuses}
 use Rattle.tsumego.specs.declared.record.NoRecord.{NoRecord}
 use Rattle.tsumego.specs.declared.record.NoRecord.TheVariants.{Refused, Memory}
@@ -13,6 +20,11 @@ use Rattle.cert_check.specs.declared.reject.Reject.{Reject}
 use Rattle.solution_tree.specs.Audit as audit
 use Rattle.solution_tree.specs.Faults as fault
 use Rattle.solution_tree.specs.declared.fault.AuditFault.{AuditFault}
+use Rattle.tsumego.specs.declared.command_line.Command.{Command}
+use Rattle.tsumego.specs.declared.reply.Response.{Response}
+use Rattle.tsumego.specs.declared.reply.Response.TheVariants.{Text, Solution}
+use Rattle.tsumego.specs.Solutions.{MayAnswer, Unsolved, tree_limit}
+use Rattle.tsumego.specs.Answers.{Says}
 use Rattle.tsumego.specs.Texts.{line, rejected_line_text, rejected_node_text}
 
 -- The bytes have no record with this text; where memory was refused, nothing is said.
@@ -37,3 +49,18 @@ IsRejectionOf n e status text = (why : Why) × (why_value n e.why ≡ Some why) 
 abbrev pub IsNodeRejectionOf : ℕ → AuditFault → Status → List ℕ → Type 0
 IsNodeRejectionOf n e status text =
     (why : audit.Why) × (fault.why_value n e.why ≡ Some why) × (status ≡ Unanswered) × (text ≡ rejected_node_text n (record { node = e.node; why = why }))
+
+-- the solution record of a claim's expansion; or that has more turns than are written
+abbrev pub IsSolutionOf : CheckedClaim → Option GameTree → Type 0
+IsSolutionOf k (Some tree) = tree ≡ solution k.problem (claim_of k.certificate).winner (expand (claim_of k.certificate) (start k.problem))
+IsSolutionOf k None = tree_limit < answer_size (expand (claim_of k.certificate) (start k.problem))
+
+-- a reply is a text that may be said; or a claim, and then what may be said for its problem
+abbrev pub IsReply : Command → List ℕ → Response → Type 0
+IsReply command bytes (Text reply) = Says command bytes reply.status (string_bytes reply.text)
+IsReply command bytes (Solution checked proof) = (status : Status) (text : List ℕ) → MayAnswer proof checked.problem status text → Says command bytes status text
+
+-- a search of the problem has this reply
+abbrev pub IsSearched : ℕ → Bool → GameProblem → Response → Type 0
+IsSearched budget proof q (Text reply) = (reply.status ≡ Unanswered) × Unsolved budget proof q (string_bytes reply.text)
+IsSearched budget proof q (Solution checked as_proof) = (checked.problem ≡ q) × (as_proof ≡ proof)

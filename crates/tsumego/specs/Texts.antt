@@ -5,6 +5,8 @@ use Rattle.go_points.specs.declared.Colour.TheVariants.{Black, White}
 use Rattle.proof_cert.specs.Text.{vertex_text}
 use Rattle.cert_check.specs.Body as claim
 use Rattle.solution_tree.specs.Audit as audit
+use Rattle.pn_search.specs.declared.verdict.Cause.{Cause}
+use Rattle.pn_search.specs.declared.verdict.Cause.TheVariants as cause
 
 abbrev pub line : List ℕ → List ℕ
 line text = text ++ 10 ∷ []
@@ -55,6 +57,19 @@ neither_text = line (codes "neither")
 
 abbrev pub limit_text : List ℕ
 limit_text = line (codes "limit")
+
+-- why a search ended without an answer, and after how many steps
+abbrev pub search_cause_text : Cause → List ℕ
+search_cause_text cause.Steps = codes "step budget"
+search_cause_text cause.Memory = codes "memory"
+search_cause_text cause.NotConfirmed = codes "not confirmed"
+search_cause_text cause.Limit = codes "limit"
+
+abbrev pub unknown_text : Cause → ℕ → List ℕ
+unknown_text cause count = line (codes "unknown: " ++ search_cause_text cause ++ codes ", " ++ decimal count ++ codes " steps")
+
+abbrev pub too_large_text : List ℕ
+too_large_text = line (codes "unknown: tree too large")
 
 abbrev pub no_memory_text : List ℕ
 no_memory_text = line (codes "failed: memory")

@@ -26,9 +26,18 @@ pub enum Command {
     /// Judge the claim behind a record.
     Check,
     /// Decide who wins the problem of a record within so many turns, where the tree has at most so many states.
-    Within { turns: u32, nodes: u64 },
+    Within {
+        turns: u32,
+        nodes: u64,
+    },
     /// Judge the answer tree below a record's problem node.
     Audit,
+    /// Search for a solution by at most so many steps, with a table of so many entries; and write it as a claim, or as a tree.
+    Solve {
+        steps: u64,
+        table: usize,
+        proof: bool,
+    },
 }
 
 /// Why there is no command.

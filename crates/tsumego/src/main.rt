@@ -1,6 +1,7 @@
 //! tsumego: judges claims and answer trees, and decides problems of Go.
 #![tactic(auto)]
 
+mod answer;
 #[cfg(test)]
 mod audit_tests;
 #[cfg(test)]

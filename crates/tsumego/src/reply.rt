@@ -8,21 +8,24 @@ ghost use Rattle.tsumego_problem.specs.Walk.{problem_node};
 ghost use Rattle.solution_tree.specs.Audit.{audit};
 ghost use Rattle.tsumego.specs.CommandLine.{FitsRanges};
 ghost use Rattle.tsumego.specs.declared.command_line.Command.{Command};
-ghost use Rattle.tsumego.specs.Replies.{HasNoRecord, IsNodeRejectionOf, IsRejectionOf};
-ghost use Rattle.tsumego.specs.Answers.{Says, audit_answer, check_answer, claim_verdict, within_answer};
+ghost use Rattle.tsumego.specs.Replies.{HasNoRecord, IsNodeRejectionOf, IsRejectionOf, IsReply, IsSearched};
+ghost use Rattle.tsumego.specs.Answers.{Says, audit_answer, check_answer, within_answer};
+ghost use Rattle.tsumego.specs.Solutions.{claim_verdict};
 
 use crate::command_line::Command;
 use crate::record::{NoRecord, read_record};
 use crate::status::Status;
-use crate::texts::{node_reject_text, reject_text, wins_text};
+use crate::texts::{node_reject_text, reject_text, unknown_text, wins_text};
 use cert_check::laws::texts_judged;
-use cert_check::{Reject, Why, check};
+use cert_check::{Checked, Reject, Why, check};
 use go_points::Size;
+use pn_search::{Budget, Verdict, solve};
 use proof_cert::TextSource;
 use sgf_text::Tree;
 use sgf_text::token::is_white;
 use solution_tree::{AuditFault, AuditWhy, audit};
 use std::alloc::Global;
+use std::num::NonZeroUsize;
 use target_game::{Problem, Within, decide_within};
 
 /// The most white space between a record and a claim, in bytes.
@@ -35,6 +38,15 @@ pub struct Reply {
     pub text: String,
 }
 
+/// What a command answers.
+#[derive(Drop)]
+pub enum Response {
+    /// This text.
+    Text(Reply),
+    /// What is written of this claim, as a proof or as a tree.
+    Solution { checked: Checked, proof: bool },
+}
+
 /// Why there is no answer.
 #[derive(Clone, Copy, Debug, PartialEq, Eq)]
 pub enum Failure {
@@ -44,18 +56,32 @@ pub enum Failure {
 }
 
 /// What the command answers for these bytes.
-pub fn reply_to(alloc: Global, command: Command, bytes: &[u8]) -> Result<Reply, Failure>
+pub fn reply_to(alloc: Global, command: Command, bytes: &[u8]) -> Result<Response, Failure>
     requires { FitsRanges command }
-    ensures { IfOk result (λ r. Says command bytes.now r.status (string_bytes r.text)) }
+    ensures { IfOk result (λ r. IsReply command bytes.now r) }
 {
     let record = match read_record(alloc, bytes) {
         Ok(record) => record,
-        Err(none) => return refused(none),
+        Err(none) => return as_text(refused(none)),
     };
     match command {
-        Command::Check => judge(alloc, &record.problem, &bytes[record.end..]),
-        Command::Within { turns, nodes } => within(alloc, &record.problem, turns, nodes),
-        Command::Audit => audited(alloc, &record.problem, &record.tree),
+        Command::Check => as_text(judge(alloc, &record.problem, &bytes[record.end..])),
+        Command::Within { turns, nodes } => as_text(within(alloc, &record.problem, turns, nodes)),
+        Command::Audit => as_text(audited(alloc, &record.problem, &record.tree)),
+        Command::Solve {
+            steps,
+            table,
+            proof,
+        } => searched(alloc, record.problem, steps, table, proof),
+    }
+}
+
+fn as_text(reply: Result<Reply, Failure>) -> Result<Response, Failure>
+    ensures { (command : Command) (bytes : List ℕ) → IfOk reply (λ r. Says command bytes r.status (string_bytes r.text)) → IfOk result (λ r. IsReply command bytes r) }
+{
+    match reply {
+        Ok(reply) => Ok(Response::Text(reply)),
+        Err(failure) => Err(failure),
     }
 }
 
@@ -153,6 +179,32 @@ fn node_rejected(alloc: Global, size: Size, fault: &AuditFault) -> Result<Reply,
                 status: Status::Unanswered,
                 text,
             }),
+            Err(_) => Err(Failure::Memory),
+        },
+    }
+}
+
+/// Searches for a claim.
+fn searched(
+    alloc: Global,
+    problem: Problem,
+    steps: u64,
+    table: usize,
+    proof: bool,
+) -> Result<Response, Failure>
+    requires { 1 ≤ table }
+    ensures { IfOk result (λ r. IsSearched steps proof problem r) }
+{
+    let Some(table) = NonZeroUsize::new(table) else {
+        unreachable!()
+    };
+    match solve(alloc, problem, Budget { steps, table }) {
+        Verdict::Wins(checked) => Ok(Response::Solution { checked, proof }),
+        Verdict::Unknown { cause, steps, .. } => match unknown_text(alloc, cause, steps) {
+            Ok(text) => Ok(Response::Text(Reply {
+                status: Status::Unanswered,
+                text,
+            })),
             Err(_) => Err(Failure::Memory),
         },
     }

@@ -1,17 +1,16 @@
 //! A run of the program: its words and its input to its answer.
 
-ghost use Rattle.std.specs.Prelude.{ℕ, List, map, Some, IfOk, string_bytes};
+ghost use Rattle.std.specs.Prelude.{ℕ, List, map, Some, IfOk};
 ghost use Rattle.tsumego.specs.CommandLine.{command_of, FitsRanges};
-ghost use Rattle.tsumego.specs.Answers.{Says};
 ghost use Rattle.tsumego.specs.Outcome.{Ran, Tells};
-ghost use Rattle.tsumego.specs.Replies.{Writes};
+ghost use Rattle.tsumego.specs.Replies.{IsReply};
 
+use crate::answer::{answer, write_text};
 use crate::command_line::{Command, NoCommand, read_command};
 use crate::input::{Reading, read_to_limit};
-use crate::reply::{Failure, Reply, reply_to};
+use crate::reply::{Failure, Response, reply_to};
 use crate::status::Status;
 use crate::texts::{NO_MEMORY, NO_READ};
-use sgf_text::write_bytes;
 use std::alloc::Global;
 use std::convert::AsStr;
 use std::io::{Read, Write};
@@ -33,8 +32,8 @@ pub fn run<S: AsStr, R: Read, W: Write>(
 {
     match read_command(alloc, words) {
         Ok(command) => obey(alloc, command, reader, writer),
-        Err(NoCommand::Words(text)) => answer(writer, text.as_bytes(), Status::BadWords),
-        Err(NoCommand::Memory) => answer(writer, NO_MEMORY, Status::Failed),
+        Err(NoCommand::Words(text)) => write_text(writer, text.as_bytes(), Status::BadWords),
+        Err(NoCommand::Memory) => write_text(writer, NO_MEMORY, Status::Failed),
     }
 }
 
@@ -49,31 +48,22 @@ fn obey<R: Read, W: Write>(
     ensures { Ran (Some command) (R.remaining reader.old) result (W.contents writer.old) (W.contents writer.new) }
 {
     match answer_of(alloc, command, reader) {
-        Ok(Reply { status, text }) => answer(writer, text.as_bytes(), status),
-        Err(Failure::Memory) => answer(writer, NO_MEMORY, Status::Failed),
-        Err(Failure::Read) => answer(writer, NO_READ, Status::Failed),
+        Ok(Response::Text(reply)) => write_text(writer, reply.text.as_bytes(), reply.status),
+        Ok(Response::Solution { checked, proof }) => answer(alloc, &checked, proof, writer),
+        Err(Failure::Memory) => write_text(writer, NO_MEMORY, Status::Failed),
+        Err(Failure::Read) => write_text(writer, NO_READ, Status::Failed),
     }
 }
 
 /// What the command answers for the whole input.
-fn answer_of<R: Read>(alloc: Global, command: Command, reader: &mut R) -> Result<Reply, Failure>
+fn answer_of<R: Read>(alloc: Global, command: Command, reader: &mut R) -> Result<Response, Failure>
     requires { FitsRanges command }
-    ensures { IfOk result (λ r. (bytes : List ℕ) × Tells (R.remaining reader.old) bytes × Says command bytes r.status (string_bytes r.text)) }
+    ensures { IfOk result (λ r. (bytes : List ℕ) × Tells (R.remaining reader.old) bytes × IsReply command bytes r) }
 {
     let mut input = Vec::new(alloc);
     match read_to_limit(reader, &mut input, MAX_INPUT) {
         Ok(Reading::Whole) => reply_to(alloc, command, input.as_slice()),
         Ok(Reading::Failed) | Ok(Reading::TooLong) => Err(Failure::Read),
         Err(_) => Err(Failure::Memory),
-    }
-}
-
-/// Writes the whole text; a failed write has a status of its own.
-fn answer<W: Write>(writer: &mut W, text: &[u8], status: Status) -> Status
-    ensures { Writes (W.contents writer.old) (W.contents writer.new) text.now status result }
-{
-    match write_bytes(text, writer) {
-        Ok(()) => status,
-        Err(_) => Status::Failed,
     }
 }

@@ -10,10 +10,11 @@ ghost use Rattle.cert_check.specs.Stage.{why_value};
 ghost use Rattle.solution_tree.specs.Audit.{Why as NodeWhy};
 ghost use Rattle.solution_tree.specs.Faults.{why_value as node_why};
 ghost use Rattle.tsumego_problem.specs.Refusals.{sgf_refusal, problem_refusal, property_name, cause_text};
-ghost use Rattle.tsumego.specs.Texts.{line, wins_text, rejected_line_text, claim_fault_text, rejected_node_text, audit_fault_text, no_memory_text, no_read_text};
+ghost use Rattle.tsumego.specs.Texts.{line, wins_text, rejected_line_text, claim_fault_text, rejected_node_text, audit_fault_text, no_memory_text, no_read_text, search_cause_text, unknown_text};
 
 use cert_check::{Reject, Why};
 use go_points::{Colour, Point, Size, Turn, to_sgf};
+use pn_search::Cause;
 use sgf_text::SgfFault;
 use solution_tree::{AuditFault, AuditWhy};
 use std::alloc::{AllocError, Global};
@@ -24,6 +25,9 @@ pub const NO_MEMORY: &[u8] = b"failed: memory\n";
 
 /// A read failed, or what is read has no end in sight.
 pub const NO_READ: &[u8] = b"failed: read\n";
+
+/// The answer tree has more turns than are written.
+pub const TOO_LARGE: &[u8] = b"unknown: tree too large\n";
 
 /// This side wins.
 pub fn wins_text(winner: Colour) -> &'static str
@@ -207,4 +211,24 @@ fn letters_of(size: Size, point: Point) -> [u8; 2]
     } else {
         [b'a', b'a' + size.rows()]
     }
+}
+
+/// Why a search ended without an answer.
+fn search_cause(cause: Cause) -> &'static str
+    ensures { result.now ≡ search_cause_text cause }
+{
+    match cause {
+        Cause::Steps => "step budget",
+        Cause::Memory => "memory",
+        Cause::NotConfirmed => "not confirmed",
+        Cause::Limit => "limit",
+    }
+}
+
+/// Why a search ended without an answer, and after how many steps.
+pub fn unknown_text(alloc: Global, cause: Cause, steps: u64) -> Result<String, AllocError>
+    ensures { IfOk result (λ text. string_bytes text ≡ unknown_text cause steps) }
+{
+    let cause = search_cause(cause);
+    format!(in alloc; "unknown: {cause}, {steps} steps\n")
 }

@@ -3,7 +3,7 @@ use Rattle.std.specs.Prelude.{string_bytes, IfOk}
 use Rattle.proof_cert.specs.Source.{source_of, text_gives, fault_left}
 use Rattle.cert_check.specs.Checks.{RejectsAt}
 use Rattle.tsumego_problem.specs.Values.{skip_white}
-use Rattle.tsumego.specs.Answers.{claim_verdict}
+use Rattle.tsumego.specs.Solutions.{claim_verdict}
 use Rattle.tsumego.specs.Replies.{IsRejectionOf}
 use Rattle.tsumego.proofs.Running.{judged_rejected}
 use Rattle.tsumego.proofs.reply.judge.Goals as goal

@@ -6,10 +6,10 @@ use Rattle.tsumego.proofs.run.run.Goals as goal
 
 pub returns-in-Err-Words : goal.returns-in-Err-Words
 returns-in-Err-Words g c =
-    ran_no_words (g.W.Write.contents c.args.writer.now) (g.W.Write.contents c.answer.new.writer) c.as_bytes.result.now (g.R.Read.remaining c.args.reader.now) (command_of (map g.S.AsStr.text c.args.words.now)) c.answer.result
-    (c.in-Err-Words.ensures.refused (subst IsWordsFault (sym c.in-Err-Words.field-0-is) tt)) c.answer.ensures
+    ran_no_words (g.W.Write.contents c.args.writer.now) (g.W.Write.contents c.write_text.new.writer) c.as_bytes.result.now (g.R.Read.remaining c.args.reader.now) (command_of (map g.S.AsStr.text c.args.words.now)) c.write_text.result
+    (c.in-Err-Words.ensures.refused (subst IsWordsFault (sym c.in-Err-Words.field-0-is) tt)) c.write_text.ensures
 
 pub returns-in-Err-Memory : goal.returns-in-Err-Memory
 returns-in-Err-Memory g c =
-    ran_no_memory (g.W.Write.contents c.args.writer.now) (g.W.Write.contents c.answer-in-Err-Memory.new.writer) no_memory_text (g.R.Read.remaining c.args.reader.now) (command_of (map g.S.AsStr.text c.args.words.now)) c.answer-in-Err-Memory.result
-    refl c.answer-in-Err-Memory.ensures
+    ran_no_memory (g.W.Write.contents c.args.writer.now) (g.W.Write.contents c.write_text-in-Err-Memory.new.writer) no_memory_text (g.R.Read.remaining c.args.reader.now) (command_of (map g.S.AsStr.text c.args.words.now)) c.write_text-in-Err-Memory.result
+    refl c.write_text-in-Err-Memory.ensures

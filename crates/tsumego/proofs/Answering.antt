@@ -1,16 +1,15 @@
 -- What is left of a text that was written in parts, and what a claim that was found lets be said.
-use Rattle.std.proofs.Common.{◌≡◌, ℕ, ◌<◌, ◌≤◌, Bool, true, false, List, [], ◌∷◌, ◌++◌, length, Option, Some, None, Result, Ok, Err, IsTrue, inl, inr, refl, sym, ◌∙◌, ap, subst, append_assoc, ◌⊎◌}
+use Rattle.std.proofs.Common.{◌≡◌, ℕ, ◌<◌, ◌≤◌, Bool, true, false, List, ◌++◌, length, Option, Some, None, Result, Ok, Err, IsTrue, inl, inr, refl, sym, ◌∙◌, ap, subst, append_assoc, ◌⊎◌}
 use Rattle.std.proofs.KnownBytes.{Appends-trans}
 use Rattle.std.specs.Prelude.{IsSomeAnd, IsSome, ◌↔◌, is_err, IfOk, OnOk, OnErr}
 use Rattle.std.specs.Io.KnownBytes.{Appends}
-use Rattle.go_points.specs.declared.Colour.{Colour}
 use Rattle.target_game.specs.State.{GameProblem, start}
-use Rattle.target_game.specs.Answers.{AnswerTree, answer_size}
 use Rattle.sgf_text.specs.Taken.{TakesPart}
 use Rattle.sgf_text.proofs.TakenLemmas.{front_cut}
 use Rattle.sgf_text.specs.Trees.{GameTree}
-use Rattle.sgf_text.specs.Text.{tree_text}
-use Rattle.tsumego_problem.specs.Canonical.{canonical, solution}
+use Rattle.sgf_text.specs.Text.{is_tree, tree_text}
+use Rattle.tsumego_problem.specs.Laws.{IsProblem, CanonicalReads, SolutionReads}
+use Rattle.tsumego_problem.specs.Canonical.{canonical}
 use Rattle.proof_cert.specs.Certificate.{claim_of}
 use Rattle.proof_cert.specs.declared.write.CertWrite.{CertWrite}
 use Rattle.proof_cert.specs.declared.write.CertWrite.TheVariants.{NoSpelling, Write}
@@ -25,7 +24,7 @@ use Rattle.tsumego.specs.declared.reply.Response.{Response}
 use Rattle.tsumego.specs.declared.reply.Response.TheVariants.{Text, Solution}
 use Rattle.tsumego.specs.declared.status.Status.{Status}
 use Rattle.tsumego.specs.declared.status.Status.TheVariants.{Answered, Unanswered, Failed}
-use Rattle.tsumego.specs.Texts.{line, no_memory_text, too_large_text}
+use Rattle.tsumego.specs.Texts.{line, too_large_text}
 use Rattle.tsumego.specs.Solutions.{Solved, MayAnswer, Unsolved}
 use Rattle.tsumego.specs.Answers.{IsRecord, Says, SaysFailure}
 use Rattle.tsumego.specs.Outcome.{Saying, HasLeft, Tells, Ran}
@@ -54,19 +53,28 @@ abbrev claim_text : CheckedClaim → Option (List ℕ)
 claim_text k = text (claim_of k.certificate)
 
 module _ (k : CheckedClaim) (checked : IsChecked k.problem (claim_of k.certificate)) where
-  pub tree_solves : ExpansionsAscend → ValidClaimsAnswer → k.problem.place < length k.problem.history → (tree : GameTree) → IsSolutionOf k (Some tree) → Solved false k.problem (line (tree_text tree))
-  tree_solves ascend answer place tree is =
+  pub tree_solves : ExpansionsAscend → ValidClaimsAnswer → SolutionReads → IsProblem k.problem → k.problem.place < length k.problem.history → (tree : GameTree) → IsTrue (is_tree tree) → IsSolutionOf k (Some tree) → Solved false k.problem (line (tree_text tree))
+  tree_solves ascend answer read kept place tree whole is =
+      let q = k.problem in
       let z = claim_of k.certificate in
-      (z.winner, expand z (start k.problem), answer k.problem z place checked.valid, ascend k.problem z checked.valid, ap (λ t. line (tree_text t)) is)
+      let wins = answer q z place checked.valid in
+      let again = read q z.winner (expand z (start q)) kept wins in
+      (z.winner, expand z (start q), wins, ascend q z checked.valid, record { whole = subst (λ t. IsTrue (is_tree t)) is whole; problem = again.0 }, again.1, ap (λ t. line (tree_text t)) is)
 
   pub too_large : IsSolutionOf k None → MayAnswer false k.problem Unanswered too_large_text
   too_large large = inr (refl, refl, (claim_of k.certificate, checked.valid, large), refl)
 
-  pub claim_solves : AcceptsVersionOneTexts → 1 ≤ k.problem.game.size → k.problem.game.size ≤ 25 → (tree : GameTree) → tree ≡ canonical k.problem → (bytes : List ℕ) → claim_text k ≡ Some bytes
-      → Solved true k.problem (line (tree_text tree) ++ bytes)
-  claim_solves accepts low high tree is bytes spelled =
-      let z = claim_of k.certificate in
-      (z.winner, bytes, (accepts k.problem bytes z.winner low high).1 (z, spelled, refl, checked.limits, checked.valid, refl), ap (λ t. line (tree_text t) ++ bytes) is)
+  pub claim_solves : AcceptsVersionOneTexts → CanonicalReads → IsProblem k.problem → 1 ≤ k.problem.game.size → k.problem.game.size ≤ 25 → (tree : GameTree) → IsTrue (is_tree tree) → tree ≡ canonical k.problem
+      → (bytes : List ℕ) → claim_text k ≡ Some bytes → Solved true k.problem (line (tree_text tree) ++ bytes)
+  claim_solves accepts read kept low high tree whole is bytes spelled =
+      let q = k.problem in
+      let z = claim_of k.certificate in (
+        z.winner,
+        bytes,
+        (accepts q bytes z.winner low high).1 (z, spelled, refl, checked.limits, checked.valid, refl),
+        record { whole = subst (λ t. IsTrue (is_tree t)) is whole; problem = read q kept },
+        ap (λ t. line (tree_text t) ++ bytes) is,
+      )
 
 -- A search that found a claim, or did not, answers the command.
 pub searched_says : (budget table : ℕ) (proof : Bool) (bytes : List ℕ) (tree : GameTree) (n : ℕ) (q : GameProblem) (r : Response) → IsRecord bytes tree n q → IsSearched budget proof q r → IsReply (Solve budget table proof) bytes r

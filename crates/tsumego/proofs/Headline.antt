@@ -1,5 +1,5 @@
 -- What is answered is so.
-use Rattle.std.proofs.Common.{◌≡◌, ℕ, Bool, true, false, cond, nat_lt, nat_eq, List, inl, inr, refl, sym, ◌∙◌, ap, subst}
+use Rattle.std.proofs.Common.{◌≡◌, ℕ, Bool, true, false, cond, nat_lt, nat_eq, List, [], ◌∷◌, ◌++◌, length, drop, append_assoc, inl, inr, refl, sym, ◌∙◌, ap, subst}
 use Rattle.std.specs.Prelude.{slice_index_or, Result, Ok, Err}
 use Rattle.go_points.specs.declared.Colour.{Colour}
 use Rattle.go_points.specs.declared.Colour.TheVariants.{Black, White}
@@ -13,7 +13,11 @@ use Rattle.tsumego_problem.specs.Walk.{history_limit}
 use Rattle.proof_cert.specs.Source.{lines_read}
 use Rattle.cert_check.specs.Verdict.{Verdict, accepted, rejected}
 use Rattle.cert_check.proofs.ReadingClaims.{accepted_sides_win}
-use Rattle.sgf_text.proofs.Written.{trees_are_read}
+use Rattle.sgf_text.specs.Text.{tree_text}
+use Rattle.sgf_text.specs.Grammar.{Reads}
+use Rattle.sgf_text.proofs.Written.{trees_are_read, written_reads}
+use Rattle.tsumego_problem.specs.Canonical.{canonical, solution}
+use Rattle.target_game.proofs.Winning.{answers_win_law}
 use Rattle.tsumego_problem.specs.Below.{Below}
 use Rattle.solution_tree.specs.Audit.{Fault, audit}
 use Rattle.solution_tree.proofs.Sound.{below_wins}
@@ -22,7 +26,7 @@ use Rattle.tsumego.specs.declared.status.Status.TheVariants.{Answered}
 use Rattle.tsumego.specs.Texts.{wins_text, neither_text}
 use Rattle.tsumego.specs.Answers.{Answer, IsRecord, check_answer, within_answer, audit_answer, claim_in}
 use Rattle.tsumego.specs.Solutions.{claim_verdict}
-use Rattle.tsumego.specs.Laws.{SideWins, CheckIsTrue, WithinIsTrue, AuditIsTrue}
+use Rattle.tsumego.specs.Laws.{SideWins, CheckIsTrue, WithinIsTrue, AuditIsTrue, SolveIsTrue, ProofIsTrue}
 use Rattle.tsumego.proofs.Records.{placed, has_problem_node}
 
 side_wins : (bytes : List ℕ) (tree : GameTree) (n : ℕ) (q : GameProblem) (x : Colour) → IsRecord bytes tree n q → Wins x (start q) → SideWins bytes q x
@@ -92,4 +96,44 @@ audit_is_true bytes written (inl (inr (q, tree, n, r, h))) =
       t,
       side_wins bytes tree n q x r (below_wins tree x (start q) below),
       record { tree = tree; end = n; reads = r.reads; problem = (placed history_limit tree q r.problem).free; below = below },
+    )
+
+-- what the search has written, as the outcome has it
+pub solve_is_true : SolveIsTrue
+solve_is_true steps table bytes written (inr (failed, _)) = absurd cc
+solve_is_true steps table bytes written (inl (inl (refusal, r, e, t))) = absurd cc
+solve_is_true steps table bytes written (inl (inr (q, tree, n, r, inr (e, unsolved)))) = absurd cc
+solve_is_true steps table bytes written (inl (inr (q, tree, n, r, inl (e, (x, a, answer, ascend, is, below, text))))) =
+    let s = solution q x a in
+    let read = written_reads s (10 ∷ []) is.whole in (
+      q,
+      x,
+      side_wins bytes tree n q x r (answers_win_law x (start q) a answer),
+      record { tree = s; end = length (tree_text s); reads = subst (λ w. Reads w s (length (tree_text s))) (sym text) read; problem = is.problem; below = below },
+    )
+
+-- what is behind the first of two texts
+behind_front : (front rest : List ℕ) → drop (length front) (front ++ rest) ≡ rest
+behind_front [] rest = refl
+behind_front (b ∷ front) rest = behind_front front rest
+
+pub proof_is_true : ProofIsTrue
+proof_is_true steps table bytes written (inr (failed, _)) = absurd cc
+proof_is_true steps table bytes written (inl (inl (refusal, r, e, t))) = absurd cc
+proof_is_true steps table bytes written (inl (inr (q, tree, n, r, inr (e, unsolved)))) = absurd cc
+proof_is_true steps table bytes written (inl (inr (q, tree, n, r, inl (e, (x, claim, judged, is, text))))) =
+    let front = tree_text (canonical q) in
+    let whole : written ≡ front ++ 10 ∷ claim = text ∙ append_assoc front (10 ∷ []) claim in (
+      q,
+      x,
+      side_wins bytes tree n q x r (accepted_sides_win q (lines_read q.game.size claim) x (placed history_limit tree q r.problem).place judged),
+      record {
+        tree = canonical q;
+        end = length front;
+        claim = claim;
+        reads = subst (λ w. Reads w (canonical q) (length front)) (sym whole) (written_reads (canonical q) (10 ∷ claim) is.whole);
+        problem = is.problem;
+        behind = ap (drop (length front)) whole ∙ behind_front front (10 ∷ claim);
+        judged = judged;
+      },
     )

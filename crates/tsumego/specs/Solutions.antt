@@ -2,11 +2,14 @@
 --     Solved proof q text      a solution record; or, as a proof, the canonical record and a claim
 --     MayAnswer proof q status text      what is said where the search has found a claim
 --     Unsolved budget proof q text      the search has found none, or its answer tree is not written
-use Rattle.std.specs.Prelude.{◌≡◌, ◌≢◌, ℕ, ◌<◌, ◌≤◌, Bool, true, false, List, ◌++◌, IsTrue, ◌⊎◌}
+use Rattle.std.specs.Prelude.{◌≡◌, ◌≢◌, ℕ, ◌<◌, ◌≤◌, Bool, true, false, List, ◌++◌, IsTrue, Ok, ◌⊎◌}
 use Rattle.go_points.specs.declared.Colour.{Colour}
 use Rattle.target_game.specs.State.{GameProblem, start}
 use Rattle.target_game.specs.Answers.{AnswerTree, answers, answer_size}
-use Rattle.sgf_text.specs.Text.{tree_text}
+use Rattle.sgf_text.specs.Trees.{GameTree}
+use Rattle.sgf_text.specs.Text.{is_tree, tree_text}
+use Rattle.tsumego_problem.specs.Walk.{problem_of}
+use Rattle.tsumego_problem.specs.Below.{Below}
 use Rattle.tsumego_problem.specs.Canonical.{canonical, solution, ascends}
 use Rattle.proof_cert.specs.Claim.{Claim}
 use Rattle.proof_cert.specs.Source.{lines_read}
@@ -24,10 +27,19 @@ use Rattle.tsumego.specs.Texts.{line, unknown_text, too_large_text}
 abbrev pub claim_verdict : GameProblem → List ℕ → Verdict
 claim_verdict q claim = verdict q (lines_read q.game.size claim)
 
--- The record of the problem with an answer tree of a side below the problem node, where the replies ascend; or, as a proof, the canonical record and a claim that is accepted.
+-- A tree as records have it, of this same problem, the order of the history included.
+pub record IsRecordOf (q : GameProblem) (tree : GameTree) : Type 0 where
+  pub whole : IsTrue (is_tree tree)
+  pub problem : problem_of tree ≡ Ok q
+
+-- The record of the same problem with an answer tree of a side below the problem node, where the replies ascend; or, as a proof, the canonical record and a claim that is accepted.
 abbrev pub Solved : Bool → GameProblem → List ℕ → Type 0
-Solved false q text = (x : Colour) × (a : AnswerTree) × IsTrue (answers x (start q) a) × IsTrue (ascends a) × (text ≡ line (tree_text (solution q x a)))
-Solved true q text = (x : Colour) × (claim : List ℕ) × (claim_verdict q claim ≡ accepted x) × (text ≡ line (tree_text (canonical q)) ++ claim)
+Solved false q text =
+    (x : Colour) × (a : AnswerTree) × IsTrue (answers x (start q) a) × IsTrue (ascends a)
+    × IsRecordOf q (solution q x a) × Below (solution q x a) x (start q) × (text ≡ line (tree_text (solution q x a)))
+Solved true q text =
+    (x : Colour) × (claim : List ℕ) × (claim_verdict q claim ≡ accepted x)
+    × IsRecordOf q (canonical q) × (text ≡ line (tree_text (canonical q)) ++ claim)
 
 -- the most turns of an answer tree that is written
 abbrev pub tree_limit : ℕ

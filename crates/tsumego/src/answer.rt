@@ -19,6 +19,7 @@ use solution_tree::laws::expansions_ascend;
 use solution_tree::{Expand, expand, to_sgf};
 use std::alloc::{AllocError, Global};
 use std::io::Write;
+use tsumego_problem::laws::{canonical_reads, problems_are_kept, solution_reads};
 use tsumego_problem::problem_tree;
 
 /// The most turns of an answer tree that is written.
@@ -55,6 +56,8 @@ fn answer_with_tree<W: Write>(alloc: Global, checked: &Checked, writer: &mut W) 
 {
     valid_claims_answer();
     expansions_ascend();
+    solution_reads();
+    problems_are_kept(checked.problem());
     let _winner = checked.winner();
     prove!(checked.problem().place() < checked.problem().history().len());
     match solution_of(alloc, checked) {
@@ -72,6 +75,8 @@ fn answer_with_claim<W: Write>(alloc: Global, checked: &Checked, writer: &mut W)
     ensures { HasLeft (MayAnswer true checked.now.problem) result (W.contents writer.old) (W.contents writer.new) }
 {
     accepts_version_one_texts();
+    canonical_reads();
+    problems_are_kept(checked.problem());
     let _winner = checked.winner();
     let _rows = checked.problem().size().rows();
     let Ok(tree) = problem_tree(alloc, checked.problem()) else {

@@ -1,6 +1,6 @@
 //! What the outcome of a run says of the game, over the definitions alone.
 
-ghost use Rattle.tsumego.specs.Laws.{AuditIsTrue, CheckIsTrue, WithinIsTrue};
+ghost use Rattle.tsumego.specs.Laws.{AuditIsTrue, CheckIsTrue, ProofIsTrue, SolveIsTrue, WithinIsTrue};
 
 /// Where `check` answers, it names a side, and that side wins the problem of the record that was read.
 pub fn check_is_true()
@@ -16,4 +16,16 @@ pub fn within_is_true()
 /// record's problem node are an answer tree of that side.
 pub fn audit_is_true()
     ensures { AuditIsTrue }
+{}
+
+/// Where `solve` writes a record, some side wins the problem of the record that was read; what is written holds the same
+/// problem, the order of its history included, with a legal answer of that side to every legal reply.
+pub fn solve_is_true()
+    ensures { SolveIsTrue }
+{}
+
+/// Where `solve --proof` writes a claim, some side wins the problem of the record that was read; what is written holds the
+/// same problem, a line feed, and a claim that names that side and is accepted.
+pub fn proof_is_true()
+    ensures { ProofIsTrue }
 {}

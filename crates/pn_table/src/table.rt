@@ -41,6 +41,7 @@ impl Table {
         ensures value { result ≡ lookup (same_key key) self.old.entries }
         ensures content { self.new ≡ looked self.old key }
     {
+        // Each cache keeps this, and that its keys differ: the clauses on the content rest on both.
         prove!(self.entries.len() <= self.entries.cap().get());
         self.entries.get(&key).copied()
     }
@@ -51,6 +52,7 @@ impl Table {
         ensures kept { result ≡ false → self.new ≡ self.old }
         ensures present { IsSome (lookup (same_key key) self.old.entries) → result ≡ true }
     {
+        // Each cache keeps this, and that its keys differ: the clauses on the content rest on both.
         prove!(self.entries.len() <= self.entries.cap().get());
         self.entries.put(key, numbers).is_ok()
     }

@@ -1,11 +1,17 @@
 -- Full search depth by depth, and what it means that a claim of its is refused.
-use Rattle.std.proofs.Common.{◌≡◌, ℕ, zero, suc, ◌+◌, ◌*◌, ◌<◌, ◌≤◌, ◌⊎◌, inl, inr, true, false, IsTrue, List, [], ◌∷◌, ◌++◌, refl, sym, ◌∙◌, ap, subst, arith, add-one}
-use Rattle.std.proofs.Math.Nat.{mul-le-mul, mul-le-mul_left}
+use Rattle.std.proofs.Common.{◌≡◌, ℕ, zero, suc, ◌+◌, ◌*◌, ◌/◌, ◌<◌, ◌≤◌, ◌⊎◌, inl, inr, true, false, IsTrue, List, [], ◌∷◌, ◌++◌, refl, sym, ◌∙◌, ap, subst, arith, add-one}
+use Rattle.std.proofs.Math.Nat.{min-le_right, mul-le-mul, mul-le-mul_left}
 use Rattle.go_points.specs.declared.Colour.{Colour}
-use Rattle.target_game.specs.State.{GameState, start}
+use Rattle.target_game.specs.State.{GameState, GameProblem, start}
 use Rattle.target_game.specs.Wins.{wins, nodes}
 use Rattle.proof_cert.specs.Claim.{Node, node_count, depth_of, max_nodes}
-use Rattle.pn_search.specs.Shown.{Shows, NeitherWins, NoneWithin, IsFirst}
+use Rattle.proof_cert.specs.Certificate.{node_of}
+use Rattle.proof_cert.specs.declared.certificate.Node as code
+use Rattle.pn_search.specs.declared.verdict.Cause.{Cause}
+use Rattle.pn_search.specs.declared.verdict.Verdict.{Verdict}
+use Rattle.pn_search.specs.declared.verdict.Verdict.TheVariants.{Wins, Unknown}
+use Rattle.pn_search.specs.Search.{full_steps, IsHard, IfUnknown}
+use Rattle.pn_search.specs.Shown.{Shows, NeitherWins, NoneWithin, IsFirst, IsConfirmable}
 use Rattle.pn_search.proofs.Showing.{nodes_within}
 
 -- neither side wins within less than k turns, and each depth had no more steps than its tree has states
@@ -58,3 +64,21 @@ none_within_large x s n steps h few large y j low w =
     let b = nodes_within s h.turns j le in
     let c : 1 * nodes s j ≤ (j + 1) * nodes s j = mul-le-mul (omega arith) (omega arith) in
     omega arith
+
+-- the tree was not confirmed, though for no want of memory
+pub none_within_refused : (q : GameProblem) (x : Colour) (tree : code.Node) (budget : ℕ) → IsFirst x (start q) (node_of q.game.size tree) → (IsConfirmable q x tree → ⊥) → IsHard q budget
+none_within_refused q x tree budget h refused =
+    let n = node_of q.game.size tree in
+    let few : full_steps budget ≤ max_nodes = min-le_right (budget / 10) 10000000 in
+    let split : (node_count n ≤ max_nodes) ⊎ (max_nodes < node_count n) = grind arith in
+    elim split [
+      | inl small ↦
+          let a = h.few in
+          let b = h.shows.depth in
+          absurd (refused (record { fits = h.shows.fits; count = small; depth = omega arith }))
+      | inr large ↦ none_within_large x (start q) n (full_steps budget) h few large
+    ]
+
+pub if_unknown_map : (v : Verdict) (P Q : GameProblem → Cause → ℕ → Type 0) → ((q : GameProblem) (cause : Cause) (steps : ℕ) → P q cause steps → Q q cause steps) → IfUnknown v P → IfUnknown v Q
+if_unknown_map (Wins k) P Q f h = tt
+if_unknown_map (Unknown q cause steps) P Q f h = f q cause steps h

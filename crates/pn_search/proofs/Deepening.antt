@@ -1,10 +1,10 @@
 -- Full search depth by depth, and what it means that a claim of its is refused.
-use Rattle.std.proofs.Common.{◌≡◌, ℕ, zero, suc, ◌+◌, ◌*◌, ◌/◌, ◌<◌, ◌≤◌, ◌⊎◌, inl, inr, true, false, IsTrue, List, [], ◌∷◌, ◌++◌, refl, sym, ◌∙◌, ap, subst, arith, add-one}
+use Rattle.std.proofs.Common.{◌≡◌, ℕ, ◌+◌, ◌*◌, ◌/◌, ◌<◌, ◌≤◌, ◌⊎◌, inl, inr, false, IsTrue, arith}
 use Rattle.std.proofs.Math.Nat.{min-le_right, mul-le-mul, mul-le-mul_left}
 use Rattle.go_points.specs.declared.Colour.{Colour}
 use Rattle.target_game.specs.State.{GameState, GameProblem, start}
 use Rattle.target_game.specs.Wins.{wins, nodes}
-use Rattle.proof_cert.specs.Claim.{Node, node_count, depth_of, max_nodes}
+use Rattle.proof_cert.specs.Claim.{Node, node_count, max_nodes}
 use Rattle.proof_cert.specs.Certificate.{node_of}
 use Rattle.proof_cert.specs.declared.certificate.Node as code
 use Rattle.pn_search.specs.declared.verdict.Cause.{Cause}

@@ -1,5 +1,5 @@
 -- What full search finds, turn by turn and depth by depth.
-use Rattle.std.proofs.Common.{◌≡◌, ℕ, zero, suc, ◌+◌, ◌*◌, ◌<◌, ◌≤◌, max, ◌⊎◌, inl, inr, Bool, true, false, not, ◌&&◌, ◌||◌, IsTrue, List, [], ◌∷◌, ◌++◌, Option, Some, None, is_none, refl, sym, ◌∙◌, ap, subst, arith, sum_by, add-one, zero-le, append_assoc, nat_eq, Result, Ok, Err, OnOk}
+use Rattle.std.proofs.Common.{◌≡◌, ℕ, zero, suc, ◌+◌, ◌<◌, ◌≤◌, ◌⊎◌, inl, inr, Bool, true, false, not, ◌&&◌, ◌||◌, IsTrue, List, [], ◌∷◌, ◌++◌, Option, Some, None, is_none, refl, sym, ◌∙◌, ap, subst, arith, sum_by, add-one, zero-le, append_assoc, nat_eq, Result, Ok, Err, OnOk}
 use Rattle.std.specs.List.{list_any, list_all}
 use Rattle.std.proofs.lemmas.List.Sums.{sum_by-cons, sum_by-append}
 use Rattle.std.proofs.lemmas.List.Folds.{list_any-append, list_all-append}
@@ -7,7 +7,7 @@ use Rattle.go_points.specs.declared.Colour.{Colour}
 use Rattle.go_points.specs.declared.Colour.TheVariants.{Black, White}
 use Rattle.go_points.specs.declared.Turn.{Turn}
 use Rattle.go_points.specs.declared.Turn.TheVariants.{Pass}
-use Rattle.go_points.specs.Grid.{opponent_of, same_colour, same_cell, cell_at}
+use Rattle.go_points.specs.Grid.{opponent_of, same_colour}
 use Rattle.go_points.specs.Ply.{Ply, pass, move, ply_of}
 use Rattle.go_points.proofs.Lists.{Member}
 use Rattle.go_turns.specs.History.{has_occurred}
@@ -16,7 +16,7 @@ use Rattle.target_game.specs.Legal.{legal, legal_turns}
 use Rattle.target_game.specs.Next.{next}
 use Rattle.target_game.specs.Over.{over}
 use Rattle.target_game.specs.Wins.{is_winner, some_or_each, wins, nodes}
-use Rattle.target_game.proofs.Winning.{over_cases, wins_over, wins_none, wins_next, wins_within, wins_by_turn, not_both, legal_member}
+use Rattle.target_game.proofs.Winning.{over_cases, wins_over, wins_none, wins_next, wins_by_turn, not_both, legal_member}
 use Rattle.target_game.proofs.Tallies.{turns_left, left_begun}
 use Rattle.proof_cert.specs.Claim.{Node, won, play, all, Branches, no_branch, branch, branch_turns, node_count, node_count_below, depth_of, depth_below}
 use Rattle.proof_cert.specs.Certificate.{node_of, replies_of}

@@ -71,13 +71,7 @@ fn solved_by_numbers(alloc: Global, problem: Problem, budget: Budget, made: u64)
 }
 
 /// The verdict by a tree that was found in so many steps: its claim with lemmas, or the one without.
-fn confirmed(
-    alloc: Global,
-    problem: Problem,
-    winner: Colour,
-    main: Node,
-    made: u64,
-) -> Verdict
+fn confirmed(alloc: Global, problem: Problem, winner: Colour, main: Node, made: u64) -> Verdict
     ensures problem { IfWins result (λ c. c.problem ≡ problem) }
     ensures kept { IfUnknown result (λ rest cause steps. rest ≡ problem) }
     ensures made { IfUnknown result (λ rest cause steps. steps ≡ made) }

@@ -1,5 +1,4 @@
-use Rattle.std.proofs.Common.{◌≡◌, ◌<◌, ◌≤◌, ◌+◌, ◌-◌, ◌*◌, ℕ, true, false, Some, None, IfOk, OnOk, refl, [], ◌∷◌, sym, ap, ◌∙◌, subst, arith}
-use Rattle.go_points.specs.declared.Colour.{Colour}
+use Rattle.std.proofs.Common.{◌≡◌, ◌<◌, ◌≤◌, ◌+◌, ◌-◌, ◌*◌, ℕ, true, false, None, IfOk, OnOk, refl, [], ◌∷◌, sym, ap, ◌∙◌, subst, arith}
 use Rattle.go_points.specs.declared.Turn.TheVariants.{At, Pass}
 use Rattle.go_points.specs.Place.{IsOn, number_of}
 use Rattle.go_points.specs.Ply.{pass, move, ply_of}
@@ -12,7 +11,7 @@ use Rattle.target_game.proofs.Tallies.{turns_left, left_here, left_later, left_l
 use Rattle.proof_cert.proofs.Certificates.{node_of_won}
 use Rattle.proof_cert.specs.Claim.{Node}
 use Rattle.pn_search.specs.Shown.{Shows, IsFound, IsTurnSeen, nodes_behind}
-use Rattle.pn_search.proofs.Showing.{nodes_some, nodes_then, open_last, shows_won, pass_won, on_ok_any, on_ok_map, turns_begun, turns_same, turns_more, turns_steps, turns_found, turns_done}
+use Rattle.pn_search.proofs.Showing.{nodes_some, nodes_then, open_last, shows_won, pass_won, on_ok_any, on_ok_map, turns_begun, turns_same, turns_more, turns_steps, turns_found}
 use Rattle.pn_search.proofs.full_search.+full.Goals as goal
 use Rattle.pn_search.proofs.full_search.+full.Goals.{search_turns-then-may_move+in_ok-found+in_default, search_turns-else-may_move}
 
@@ -132,7 +131,7 @@ search_turns-loop-number-preserved t c =
           rw (w.state-is, w.left-is, w.seen-is) (
             w.in_ok-found.ensures.state ∙ kept,
             turns_more s c.args.turns i (i + 1) c.args.left.now c.loop-number.left w.search_turn.new.left (ply_of n (At p)) c.loop-number.seen w.search_turn.new.seen here c.loop-number.invariant.1 w.in_ok-found.ensures.fewer steps
-            (subst (λ r. IsTurnSeen s c.args.turns (ply_of n (At p)) c.loop-number.left c.loop-number.seen w.search_turn.new.seen r) w.in_default.is seen),
+                (subst (λ r. IsTurnSeen s c.args.turns (ply_of n (At p)) c.loop-number.left c.loop-number.seen w.search_turn.new.seen r) w.in_default.is seen),
           )
       | search_turns-else-may_move w ↦
           let barred : legal s (move (number_of n p)) ≡ false = subst (λ (v : Line). legal v.state (move (number_of v.state.game.size p)) ≡ false) kept (sym c.may_move.ensures ∙ w.if-may_move.false) in

@@ -17,8 +17,7 @@ loop-turns-preserved c =
     let s = start c.args.problem.now in
     let k = c.loop-turns.turns in
     let found = subst (λ (v : Line). IsFound v.state k c.loop-turns.left c.in_ok-winner.field-0) c.loop-turns.invariant.0 c.in_ok-winner.ensures.found in
-    let steps = subst (λ (v : Line). c.loop-turns.left ≤ c.search_state.new.left + nodes v.state k) c.loop-turns.invariant.0 c.in_ok-winner.ensures.steps in
-    (
+    let steps = subst (λ (v : Line). c.loop-turns.left ≤ c.search_state.new.left + nodes v.state k) c.loop-turns.invariant.0 c.in_ok-winner.ensures.steps in (
       c.in_ok-winner.ensures.state ∙ c.loop-turns.invariant.0,
       undecided_more s k c.args.left.now c.loop-turns.left c.search_state.new.left c.loop-turns.invariant.1 (subst (λ f. IsFound s k c.loop-turns.left f) c.in-Open.is found) c.in_ok-winner.ensures.fewer steps,
     )

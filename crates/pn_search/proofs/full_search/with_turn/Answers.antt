@@ -1,6 +1,6 @@
-use Rattle.std.proofs.Common.{◌≡◌, false, sym, ap, ◌∙◌, subst}
+use Rattle.std.proofs.Common.{◌≡◌, sym, ap, ◌∙◌, subst}
 use Rattle.go_points.specs.declared.Colour.{Colour}
-use Rattle.go_points.specs.Grid.{opponent_of, same_colour}
+use Rattle.go_points.specs.Grid.{opponent_of}
 use Rattle.go_points.specs.Ply.{ply_of}
 use Rattle.target_game.specs.Next.{next}
 use Rattle.proof_cert.specs.Certificate.{node_of}

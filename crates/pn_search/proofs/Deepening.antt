@@ -11,7 +11,7 @@ use Rattle.pn_search.specs.declared.verdict.Cause.{Cause}
 use Rattle.pn_search.specs.declared.verdict.Verdict.{Verdict}
 use Rattle.pn_search.specs.declared.verdict.Verdict.TheVariants.{Wins, Unknown}
 use Rattle.pn_search.specs.Search.{full_steps, IsHard, IfUnknown}
-use Rattle.pn_search.specs.Shown.{Shows, NeitherWins, NoneWithin, IsFirst, IsConfirmable}
+use Rattle.pn_search.specs.Shown.{NeitherWins, NoneWithin, IsFirst, IsConfirmable}
 use Rattle.pn_search.proofs.Showing.{nodes_within}
 
 -- neither side wins within less than k turns, and each depth had no more steps than its tree has states
@@ -19,9 +19,6 @@ pub record Undecided (s : GameState) (k steps left : ℕ) : Type 0 where
   pub before : (x : Colour) (j : ℕ) → j < k → wins x s j ≡ false
   pub fewer : left ≤ steps
   pub made : steps ≤ left + k * nodes s k
-
-pub undecided_first : (s : GameState) (steps : ℕ) → Undecided s 0 steps steps
-undecided_first s steps = record { before = λ x j low. absurd (omega arith); fewer = omega arith; made = omega arith }
 
 pub undecided_more : (s : GameState) (k steps left now : ℕ) → Undecided s k steps left → NeitherWins s k → now ≤ left → left ≤ now + nodes s k → Undecided s (k + 1) steps now
 undecided_more s k steps left now h neither fewer made = record {
@@ -49,12 +46,6 @@ undecided_out s k steps left h out x j low w =
     let b : (k + 1) * nodes s k ≤ (j + 1) * nodes s j = mul-le-mul (omega arith) (nodes_within s k j le) in
     let c : (k + 1) * nodes s k ≡ k * nodes s k + nodes s k = omega arith in
     omega arith
-
-pub undecided_last : (s : GameState) (k steps left : ℕ) → Undecided s k steps left → 200 < k → NoneWithin s steps
-undecided_last s k steps left h past x j low w = let le = later s k steps left h x j w in absurd (omega arith)
-
-pub first_found : (x : Colour) (s : GameState) (k steps left : ℕ) (n : Node) → Undecided s k steps left → k ≤ 200 → Shows x s k n → IsFirst x s n
-first_found x s k steps left n h few shown = record { turns = k; few = few; shows = shown; before = h.before }
 
 -- a tree that is larger than a claim may be
 pub none_within_large : (x : Colour) (s : GameState) (n : Node) (steps : ℕ) → IsFirst x s n → steps ≤ max_nodes → max_nodes < node_count n → NoneWithin s steps

@@ -318,10 +318,6 @@ turns_found s k i before left t us old new OutOfSteps e here h seen =
     let c = nodes_then s k e in
     omega arith
 
--- behind the last turn all were seen
-pub turns_done : (s : GameState) (k i before left : ℕ) (t : Ply) (old new : Seen) → turns_left s i ≡ t ∷ [] → TurnsSeen s k i before left old → IsTurnSeen s k t left old new None → AreSeen s k (legal_turns s) new
-turns_done s k i before left t old new here h seen = subst (λ ts. AreSeen s k ts new) (ap (λ us. h.turns ++ us) (sym here) ∙ h.all_turns) (seen h.turns h.known)
-
 -- WHAT HOLDS OF AN ANSWER
 
 pub on_ok_any : {A E : Type 0} (r : Result A E) (P : Type 0) → P → OnOk r P

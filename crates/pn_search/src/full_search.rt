@@ -1,1 +1,231 @@
-//! Full search: all legal play within 0, 1, 2 and so on turns.
+//! Full search: all legal play within 0, 1, 2 and so on turns, each depth anew.
+//!
+//! One pass over the states answers who wins and keeps the tree that shows it. It holds one path of play with the
+//! replies that were answered on it. A win within a few turns, in a small tree of play, is found whatever the search
+//! by proof numbers would do.
+
+ghost use Rattle.std.specs.Prelude.{◌≡◌, ◌+◌, ◌≤◌, ◌&&◌, ℕ, nat_eq, IsTrue, OnOk, IfOk, None};
+ghost use Rattle.go_points.specs.Grid.{same_colour};
+ghost use Rattle.go_points.specs.Ply.{ply_of, pass};
+ghost use Rattle.target_game.specs.State.{GameState, start};
+ghost use Rattle.target_game.specs.Legal.{legal, legal_turns};
+ghost use Rattle.target_game.specs.Next.{next};
+ghost use Rattle.target_game.specs.Over.{over};
+ghost use Rattle.target_game.specs.Wins.{is_winner, nodes};
+ghost use Rattle.pn_search.specs.Shown.{nodes_behind, IsFound, AreSeen, IsTurnSeen, IsWonBy, IsDecided};
+
+use go_points::{Colour, Turn};
+use go_turns::{PlayBoard, PlaySeen};
+use proof_cert::Node;
+use std::alloc::{AllocError, Global};
+use target_game::{Problem, State};
+
+/// A state of the problem.
+type PlayState = State<PlayBoard, PlaySeen>;
+
+/// What full search of a state found.
+#[derive(Drop)]
+pub(crate) enum Found {
+    /// This side wins, by this tree.
+    Wins(Colour, Node),
+    /// Neither side wins within the turns that were searched.
+    Open,
+    /// There was no step left for a state that was to be expanded.
+    OutOfSteps,
+}
+
+/// What is known of the turns that were searched, none of which the mover wins.
+#[derive(Drop)]
+pub(crate) struct Seen {
+    /// Whether neither side wins by one of them.
+    is_open: bool,
+    /// The turns with the other side's trees, where it wins by all of them.
+    replies: Vec<(Turn, Node)>,
+}
+
+/// The side that wins the problem within the fewest turns, up to 200, with a tree that shows it; none, where neither
+/// side does or the steps ran out.
+///
+/// All legal play is searched within 0, 1, 2 and so on turns, each number anew. A step is one expansion.
+pub(crate) fn full_search(
+    alloc: Global,
+    problem: &Problem,
+    left: &mut u64,
+) -> Result<Option<(Colour, Node)>, AllocError>
+    ensures fewer { left.new ≤ left.old }
+    ensures decided { IfOk result (λ r. IsDecided (start problem.now) left.old r) }
+{
+    let mut state = PlayState::of(alloc, problem)?;
+    for turns in 0..201u32 {
+        match search_state(alloc, &mut state, turns, left)? {
+            Found::Wins(winner, tree) => return Ok(Some((winner, tree))),
+            Found::Open => {}
+            Found::OutOfSteps => return Ok(None),
+        }
+    }
+    Ok(None)
+}
+
+/// What full search of the state within so many turns finds; the state is then as it was.
+#[cycle(full)]
+fn search_state(
+    alloc: Global,
+    state: &mut PlayState,
+    turns: u32,
+    left: &mut u64,
+) -> Result<Found, AllocError>
+    ensures state { OnOk result (state.new ≡ state.old) }
+    ensures fewer { left.new ≤ left.old }
+    ensures steps { OnOk result (left.old ≤ left.new + nodes state.old.state turns) }
+    ensures found { IfOk result (λ f. IsFound state.old.state turns left.old f) }
+{
+    if let Some(winner) = state.over() {
+        return Ok(Found::Wins(winner, Node::Won));
+    }
+    if turns == 0 {
+        return Ok(Found::Open);
+    }
+    if *left == 0 {
+        return Ok(Found::OutOfSteps);
+    }
+    *left -= 1;
+    if pass_wins(state)? {
+        return won_by(alloc, state.mover(), Turn::Pass, Node::Won);
+    }
+    search_turns(alloc, state, turns - 1, left)
+}
+
+/// Whether one pass stands and the mover wins by a second one.
+fn pass_wins(state: &mut PlayState) -> Result<bool, AllocError>
+    requires nobody { over state.old.state ≡ None }
+    ensures state { OnOk result (state.new ≡ state.old) }
+    ensures wins { IfOk result (λ b. b ≡ nat_eq state.old.state.passes 1 && is_winner state.old.state.mover (over (next state.old.state pass))) }
+{
+    if state.passes() != 1 {
+        return Ok(false);
+    }
+    let mover = state.mover();
+    state.after(Turn::Pass)?;
+    let winner = state.over();
+    state.back();
+    match winner {
+        Some(winner) => Ok(is_side(winner, mover)),
+        None => Ok(false),
+    }
+}
+
+/// Whether the winner is this side.
+fn is_side(winner: Colour, side: Colour) -> bool
+    ensures { result ≡ same_colour winner side }
+{
+    winner == side
+}
+
+/// The side wins by this turn and the tree behind it.
+#[tactic(auto, using(proof_cert::proofs::Certificates::node_of_play))]
+fn won_by(alloc: Global, winner: Colour, turn: Turn, below: Node) -> Result<Found, AllocError>
+    ensures { IfOk result (λ f. IsWonBy winner turn below f) }
+{
+    Ok(Found::Wins(winner, Node::Play(turn, Box::new(alloc, below)?)))
+}
+
+/// The same of a state where nobody has won and that is counted already, with so many turns after the first.
+#[cycle(full)]
+fn search_turns(
+    alloc: Global,
+    state: &mut PlayState,
+    turns: u32,
+    left: &mut u64,
+) -> Result<Found, AllocError>
+    requires nobody { over state.old.state ≡ None }
+    ensures state { OnOk result (state.new ≡ state.old) }
+    ensures fewer { left.new ≤ left.old }
+    ensures steps { OnOk result (left.old ≤ left.new + nodes_behind state.old.state turns (legal_turns state.old.state)) }
+    ensures found { IfOk result (λ f. IsFound state.old.state (turns + 1) (left.old + 1) f) }
+{
+    let mut seen = Seen {
+        is_open: false,
+        replies: Vec::new(alloc),
+    };
+    let size = state.size();
+    for number in 0..size.area() {
+        let point = size.point_at(number);
+        if state.may_move(point) {
+            let turn = Turn::At(point);
+            if let Some(found) = search_turn(alloc, state, turns, turn, &mut seen, left)? {
+                return Ok(found);
+            }
+        }
+    }
+    match search_turn(alloc, state, turns, Turn::Pass, &mut seen, left)? {
+        Some(found) => Ok(found),
+        None => Ok(decided(state, turns, seen)),
+    }
+}
+
+/// What is found where all turns were searched and the mover wins by none.
+fn decided(state: &PlayState, turns: u32, seen: Seen) -> Found
+    requires nobody { over state.now.state ≡ None }
+    requires seen { AreSeen state.now.state turns (legal_turns state.now.state) seen }
+    ensures { (left : ℕ) → IsFound state.now.state (turns + 1) left result }
+{
+    if seen.is_open {
+        Found::Open
+    } else {
+        Found::Wins(state.mover().opponent(), Node::All(seen.replies))
+    }
+}
+
+/// Searches one turn more: nothing, where it is seen as well; what is found, where it decides the search of the state.
+#[cycle(full)]
+fn search_turn(
+    alloc: Global,
+    state: &mut PlayState,
+    turns: u32,
+    turn: Turn,
+    seen: &mut Seen,
+    left: &mut u64,
+) -> Result<Option<Found>, AllocError>
+    requires nobody { over state.old.state ≡ None }
+    requires legal { IsTrue (legal state.old.state (ply_of state.old.state.game.size turn)) }
+    ensures state { OnOk result (state.new ≡ state.old) }
+    ensures fewer { left.new ≤ left.old }
+    ensures steps { OnOk result (left.old ≤ left.new + nodes (next state.old.state (ply_of state.old.state.game.size turn)) turns) }
+    ensures seen { IfOk result (λ r. IsTurnSeen state.old.state turns (ply_of state.old.state.game.size turn) left.old seen.old seen.new r) }
+{
+    let made = turn;
+    state.after(made)?;
+    let below = search_state(alloc, state, turns, left)?;
+    state.back();
+    let mover = state.mover();
+    with_turn(alloc, mover, turn, below, seen)
+}
+
+/// The same, where this was found behind the turn.
+fn with_turn(
+    alloc: Global,
+    mover: Colour,
+    turn: Turn,
+    below: Found,
+    seen: &mut Seen,
+) -> Result<Option<Found>, AllocError>
+    ensures { IfOk result (λ r. (s : GameState) (k left : ℕ) → s.mover ≡ mover → over s ≡ None → IsTrue (legal s (ply_of s.game.size turn)) → IsFound (next s (ply_of s.game.size turn)) k left below → IsTurnSeen s k (ply_of s.game.size turn) left seen.old seen.new r) }
+{
+    match below {
+        Found::Wins(winner, tree) => {
+            if is_side(winner, mover) {
+                return Ok(Some(won_by(alloc, mover, turn, tree)?));
+            }
+            if seen.is_open {
+                return Ok(None);
+            }
+            seen.replies.push((turn, tree))?;
+            Ok(None)
+        }
+        Found::Open => {
+            seen.is_open = true;
+            Ok(None)
+        }
+        Found::OutOfSteps => Ok(Some(Found::OutOfSteps)),
+    }
+}

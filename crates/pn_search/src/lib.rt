@@ -2,6 +2,8 @@
 #![tactic(auto)]
 
 mod full_search;
+#[cfg(test)]
+mod full_tests;
 mod number_search;
 mod search;
 mod shared_states;

@@ -1,0 +1,75 @@
+-- Full search depth by depth, and what it means that a claim of its is refused.
+use Rattle.std.proofs.Common.{◌≡◌, ℕ, ◌+◌, ◌*◌, ◌/◌, ◌<◌, ◌≤◌, ◌⊎◌, inl, inr, false, IsTrue, arith}
+use Rattle.std.proofs.Math.Nat.{min-le_right, mul-le-mul, mul-le-mul_left}
+use Rattle.go_points.specs.declared.Colour.{Colour}
+use Rattle.target_game.specs.State.{GameState, GameProblem, start}
+use Rattle.target_game.specs.Wins.{wins, nodes}
+use Rattle.proof_cert.specs.Claim.{Node, node_count, max_nodes}
+use Rattle.proof_cert.specs.Certificate.{node_of}
+use Rattle.proof_cert.specs.declared.certificate.Node as code
+use Rattle.pn_search.specs.declared.verdict.Cause.{Cause}
+use Rattle.pn_search.specs.declared.verdict.Verdict.{Verdict}
+use Rattle.pn_search.specs.declared.verdict.Verdict.TheVariants.{Wins, Unknown}
+use Rattle.pn_search.specs.Search.{full_steps, IsHard, IfUnknown}
+use Rattle.pn_search.specs.Shown.{NeitherWins, NoneWithin, IsFirst, IsConfirmable}
+use Rattle.pn_search.proofs.Showing.{nodes_within}
+
+-- neither side wins within less than k turns, and each depth had no more steps than its tree has states
+pub record Undecided (s : GameState) (k steps left : ℕ) : Type 0 where
+  pub before : (x : Colour) (j : ℕ) → j < k → wins x s j ≡ false
+  pub fewer : left ≤ steps
+  pub made : steps ≤ left + k * nodes s k
+
+pub undecided_more : (s : GameState) (k steps left now : ℕ) → Undecided s k steps left → NeitherWins s k → now ≤ left → left ≤ now + nodes s k → Undecided s (k + 1) steps now
+undecided_more s k steps left now h neither fewer made = record {
+  before = λ x j low.
+      let split : (j ≡ k) ⊎ (j < k) = grind arith in
+      elim split [ inl e ↦ rw e (neither x) | inr less ↦ h.before x j less ];
+  fewer = let a = h.fewer in omega arith;
+  made =
+      let a = h.made in
+      let b : (k + 1) * nodes s k ≤ (k + 1) * nodes s (k + 1) = mul-le-mul_left (k + 1) (nodes_within s k (k + 1) (omega arith)) in
+      let c : (k + 1) * nodes s k ≡ k * nodes s k + nodes s k = omega arith in
+      omega arith;
+}
+
+-- a win within j turns is no win within less than k
+later : (s : GameState) (k steps left : ℕ) → Undecided s k steps left → (x : Colour) (j : ℕ) → IsTrue (wins x s j) → k ≤ j
+later s k steps left h x j w =
+    let split : (j < k) ⊎ (k ≤ j) = grind arith in
+    elim split [ inl less ↦ absurd (cc (h.before x j less, w)) | inr le ↦ le ]
+
+pub undecided_out : (s : GameState) (k steps left : ℕ) → Undecided s k steps left → left < nodes s k → NoneWithin s steps
+undecided_out s k steps left h out x j low w =
+    let le = later s k steps left h x j w in
+    let a = h.made in
+    let b : (k + 1) * nodes s k ≤ (j + 1) * nodes s j = mul-le-mul (omega arith) (nodes_within s k j le) in
+    let c : (k + 1) * nodes s k ≡ k * nodes s k + nodes s k = omega arith in
+    omega arith
+
+-- a tree that is larger than a claim may be
+pub none_within_large : (x : Colour) (s : GameState) (n : Node) (steps : ℕ) → IsFirst x s n → steps ≤ max_nodes → max_nodes < node_count n → NoneWithin s steps
+none_within_large x s n steps h few large y j low w =
+    let le : h.turns ≤ j = later s h.turns 0 0 (record { before = h.before; fewer = omega arith; made = omega arith }) y j w in
+    let a = h.shows.count in
+    let b = nodes_within s h.turns j le in
+    let c : 1 * nodes s j ≤ (j + 1) * nodes s j = mul-le-mul (omega arith) (omega arith) in
+    omega arith
+
+-- the tree was not confirmed, though for no want of memory
+pub none_within_refused : (q : GameProblem) (x : Colour) (tree : code.Node) (budget : ℕ) → IsFirst x (start q) (node_of q.game.size tree) → (IsConfirmable q x tree → ⊥) → IsHard q budget
+none_within_refused q x tree budget h refused =
+    let n = node_of q.game.size tree in
+    let few : full_steps budget ≤ max_nodes = min-le_right (budget / 10) 10000000 in
+    let split : (node_count n ≤ max_nodes) ⊎ (max_nodes < node_count n) = grind arith in
+    elim split [
+      | inl small ↦
+          let a = h.few in
+          let b = h.shows.depth in
+          absurd (refused (record { fits = h.shows.fits; count = small; depth = omega arith }))
+      | inr large ↦ none_within_large x (start q) n (full_steps budget) h few large
+    ]
+
+pub if_unknown_map : (v : Verdict) (P Q : GameProblem → Cause → ℕ → Type 0) → ((q : GameProblem) (cause : Cause) (steps : ℕ) → P q cause steps → Q q cause steps) → IfUnknown v P → IfUnknown v Q
+if_unknown_map (Wins k) P Q f h = tt
+if_unknown_map (Unknown q cause steps) P Q f h = f q cause steps h

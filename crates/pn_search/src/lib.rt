@@ -1,8 +1,14 @@
 //! The search for a proof: full search within few turns first, then proof numbers; every claim is put to the checker.
 #![tactic(auto)]
 
+mod estimates;
+mod expansion;
 mod full_search;
 mod number_search;
+#[cfg(test)]
+mod number_tests;
+mod play;
+mod proof_tree;
 mod search;
 mod shared_states;
 mod verdict;

@@ -1,0 +1,53 @@
+//! Play on the problem's states, as the search needs it.
+
+ghost use Rattle.std.specs.Prelude.{◌≡◌, IsTrue, None};
+ghost use Rattle.go_points.specs.Ply.{ply_of};
+ghost use Rattle.target_game.specs.Legal.{legal};
+ghost use Rattle.target_game.specs.Over.{over};
+
+use go_points::Turn;
+use go_turns::{PlayBoard, PlaySeen};
+use pn_table::Key;
+use target_game::State;
+
+/// A state of the problem.
+pub(crate) type PlayState = State<PlayBoard, PlaySeen>;
+
+/// Whether nobody has won and the turn is legal.
+pub(crate) fn is_open_to(state: &PlayState, turn: Turn) -> bool
+    ensures open { IsTrue result → over state.now.state ≡ None }
+    ensures legal { IsTrue result → IsTrue (legal state.now.state (ply_of state.now.state.game.size turn)) }
+{
+    if state.over().is_some() {
+        return false;
+    }
+    match turn {
+        Turn::Pass => true,
+        Turn::At(point) => state.size().holds(point) && state.may_move(point),
+    }
+}
+
+/// What the table knows a state by where nobody has won: at most one pass stands there.
+pub(crate) fn key_of(state: &PlayState) -> Key {
+    Key {
+        position: position_key(state),
+        mover: state.mover(),
+        passes: if state.passes() == 0 { 0 } else { 1 },
+    }
+}
+
+// STAND-IN until the board's own key is there.
+fn position_key(state: &PlayState) -> u64 {
+    let size = state.size();
+    let colouring = state.colouring();
+    let mut key: u64 = 1;
+    for number in 0..size.area() {
+        let value = match colouring.get(size.point_at(number)) {
+            go_points::Cell::Empty => 1,
+            go_points::Cell::Stone(go_points::Colour::Black) => 2,
+            go_points::Cell::Stone(go_points::Colour::White) => 3,
+        };
+        key = key.wrapping_mul(1_099_511_628_211).wrapping_add(value);
+    }
+    key
+}

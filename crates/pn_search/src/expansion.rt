@@ -8,7 +8,7 @@ ghost use Rattle.pn_search.specs.declared.verdict.Cause.TheVariants.{Steps};
 
 use crate::estimates::{open, too_deep, unknown, won};
 use crate::play::{PlayState, key_of};
-use crate::proof_tree::SearchNode;
+use crate::proof_tree::{SearchNode, leaf};
 use crate::verdict::Cause;
 use go_points::{Colour, Turn};
 use pn_table::{Numbers, Table};
@@ -43,14 +43,11 @@ fn child_by(
     requires legal { IsTrue (legal state.old.state (ply_of state.old.state.game.size turn)) }
     ensures state { OnOk result (state.new ≡ state.old) }
 {
-    state.after(turn)?;
+    let made = turn;
+    state.after(made)?;
     let numbers = first_numbers(state, table, prover, is_last);
     state.back();
-    Ok(SearchNode {
-        turn,
-        numbers,
-        children: Vec::new(alloc),
-    })
+    Ok(leaf(alloc, turn, numbers))
 }
 
 /// The nodes after the mover's moves, points ascending.

@@ -6,12 +6,13 @@
 
 ghost use Rattle.std.specs.Prelude.{◌≡◌, ◌≢◌, ◌+◌, ◌≤◌, ◌<◌, length, OnOk, IfErr};
 ghost use Rattle.std.specs.Vec.{vec_len};
+ghost use Rattle.pn_search.specs.declared.proof_tree.SearchNode.{out-SearchNode};
 ghost use Rattle.pn_search.specs.declared.verdict.Cause.TheVariants.{Steps};
 
 use crate::estimates::{bounds_below, is_decided, is_within, seen_by_mover, unknown};
 use crate::expansion::expand;
 use crate::play::{PlayState, is_open_to, key_of};
-use crate::proof_tree::{SearchNode, best_child, claim_tree, recount};
+use crate::proof_tree::{Choice, SearchNode, best_child, claim_tree, leaf, recount};
 use crate::verdict::Cause;
 use cert_check::MAX_DEPTH;
 use go_points::{Colour, Turn};
@@ -34,9 +35,10 @@ fn step_down(
     state: &mut PlayState,
     above: &mut Vec<Open>,
     from: Open,
-    prover: Colour,
+    choice: Choice,
+    is_prover: bool,
 ) -> Result<Open, Cause>
-    requires inner { 0 < vec_len from.node.children }
+    requires choice { choice.place < vec_len (out-SearchNode from.node).children }
     requires path { vec_len above.old ≤ length state.old.before }
     ensures path { OnOk result (vec_len above.new ≤ length state.new.before) }
     ensures deeper { OnOk result (vec_len above.new ≡ vec_len above.old + 1) }
@@ -47,8 +49,6 @@ fn step_down(
         bounds,
         ..
     } = from;
-    let is_prover = state.mover() == prover;
-    let choice = best_child(node.children.as_slice(), is_prover);
     let child = node.children.swap_remove(choice.place);
     let below = bounds_below(
         seen_by_mover(bounds, is_prover),
@@ -90,17 +90,20 @@ fn go_down(
     ensures cause { IfErr result (λ cause. cause ≢ Steps) }
 {
     let mut open = from;
-    while !open.node.children.is_empty() {
+    loop {
+        let is_prover = state.mover() == prover;
+        let Some(choice) = best_child(open.node.children.as_slice(), is_prover) else {
+            return Ok(open);
+        };
         // Nothing so deep is expanded, so this is never so.
         if above.len() >= MAX_DEPTH as usize {
             return Err(Cause::Limit);
         }
-        match step_down(state, above, open, prover) {
+        match step_down(state, above, open, choice, is_prover) {
             Ok(below) => open = below,
             Err(cause) => return Err(cause),
         }
     }
-    Ok(open)
 }
 
 /// The node above, with the child put back in its place and counted anew.
@@ -149,6 +152,22 @@ fn go_up(
     }
 }
 
+/// The node with these children, counted from them.
+fn with_children(leaf: Open, children: Vec<SearchNode>, is_prover: bool) -> Open {
+    let Open {
+        mut node,
+        bounds,
+        ..
+    } = leaf;
+    node.children = children;
+    recount(&mut node, is_prover);
+    Open {
+        node,
+        bounds,
+        place: 0,
+    }
+}
+
 /// One step: goes down to a leaf, expands it, and goes up as far as its numbers call for.
 fn work(
     alloc: Global,
@@ -166,7 +185,7 @@ fn work(
     ensures most { left.new ≤ left.old }
     ensures cause { IfErr result (λ cause. cause ≢ Steps) }
 {
-    let mut open = match go_down(state, above, from, prover) {
+    let open = match go_down(state, above, from, prover) {
         Ok(open) => open,
         Err(cause) => return Err(cause),
     };
@@ -177,12 +196,12 @@ fn work(
         return Err(Cause::Limit);
     }
     let is_last = depth + 1 == MAX_DEPTH as usize;
-    match expand(alloc, state, table, prover, is_last, left) {
-        Ok(children) => open.node.children = children,
+    let children = match expand(alloc, state, table, prover, is_last, left) {
+        Ok(children) => children,
         Err(cause) => return Err(cause),
-    }
-    recount(&mut open.node, state.mover() == prover);
-    match go_up(state, above, table, open, prover) {
+    };
+    let expanded = with_children(open, children, state.mover() == prover);
+    match go_up(state, above, table, expanded, prover) {
         Ok(open) => Ok(open),
         Err(_) => Err(Cause::Memory),
     }
@@ -224,11 +243,7 @@ fn decided_root(
 /// The root before the first step, with bounds that only a decided node passes.
 fn start(alloc: Global) -> Open {
     Open {
-        node: SearchNode {
-            turn: Turn::Pass,
-            numbers: unknown(),
-            children: Vec::new(alloc),
-        },
+        node: leaf(alloc, Turn::Pass, unknown()),
         bounds: Numbers {
             proof: INFINITY,
             disproof: INFINITY,

@@ -39,14 +39,10 @@ pub(crate) fn key_of(state: &PlayState) -> Key {
 // STAND-IN until the board's own key is there.
 fn position_key(state: &PlayState) -> u64 {
     let size = state.size();
-    let colouring = state.colouring();
     let mut key: u64 = 1;
     for number in 0..size.area() {
-        let value = match colouring.get(size.point_at(number)) {
-            go_points::Cell::Empty => 1,
-            go_points::Cell::Stone(go_points::Colour::Black) => 2,
-            go_points::Cell::Stone(go_points::Colour::White) => 3,
-        };
+        let point = size.point_at(number);
+        let value = if state.is_open(point) { 1 } else { 2 };
         key = key.wrapping_mul(1_099_511_628_211).wrapping_add(value);
     }
     key

@@ -1,6 +1,6 @@
 //! The tree that the search by proof numbers keeps.
 
-ghost use Rattle.std.specs.Prelude.{◌<◌, length};
+ghost use Rattle.std.specs.Prelude.{◌<◌, length, IfSome};
 
 use crate::estimates::{is_decided, open, seen_by_mover};
 use go_points::Turn;
@@ -17,6 +17,15 @@ pub(crate) struct SearchNode {
     pub(crate) children: Vec<SearchNode>,
 }
 
+/// A node that is not expanded.
+pub(crate) fn leaf(alloc: Global, turn: Turn, numbers: Numbers) -> SearchNode {
+    SearchNode {
+        turn,
+        numbers,
+        children: Vec::new(alloc),
+    }
+}
+
 /// The child to work on, and what it stands against. Numbers are as the mover sees them.
 #[derive(Clone, Copy)]
 pub(crate) struct Choice {
@@ -26,25 +35,27 @@ pub(crate) struct Choice {
     pub(crate) second: u32,
 }
 
-/// The child to work on.
-pub(crate) fn best_child(children: &[SearchNode], is_prover: bool) -> Choice
-    requires { 0 < length children.now }
-    ensures { result.place < length children.now }
+/// The child to work on; none, where there is no child.
+pub(crate) fn best_child(children: &[SearchNode], is_prover: bool) -> Option<Choice>
+    ensures { IfSome result (λ choice. choice.place < length children.now) }
 {
-    let mut place = 0;
+    let mut best: Option<Choice> = None;
     let mut least = INFINITY;
-    let mut second = INFINITY;
-    for number in 0..children.len() {
-        let proof = seen_by_mover(children[number].numbers, is_prover).proof;
-        if proof < least {
-            second = least;
-            least = proof;
-            place = number;
-        } else if proof < second {
-            second = proof;
-        }
+    for place in 0..children.len() {
+        let number = seen_by_mover(children[place].numbers, is_prover).proof;
+        best = match best {
+            Some(choice) if number >= least => Some(Choice {
+                place: choice.place,
+                second: choice.second.min(number),
+            }),
+            _ => {
+                let second = least;
+                least = number;
+                Some(Choice { place, second })
+            }
+        };
     }
-    Choice { place, second }
+    best
 }
 
 /// The numbers that the children give to their node.
@@ -72,9 +83,11 @@ fn numbers_from(children: &[SearchNode], is_prover: bool) -> Numbers {
 /// go; where its mover loses, the proof needs them all.
 pub(crate) fn recount(node: &mut SearchNode, is_prover: bool) {
     node.numbers = numbers_from(node.children.as_slice(), is_prover);
-    if !node.children.is_empty() && seen_by_mover(node.numbers, is_prover).proof == 0 {
-        let place = best_child(node.children.as_slice(), is_prover).place;
-        node.children.swap(0, place);
+    if seen_by_mover(node.numbers, is_prover).proof > 0 {
+        return;
+    }
+    if let Some(choice) = best_child(node.children.as_slice(), is_prover) {
+        node.children.swap(0, choice.place);
         node.children.truncate(1);
         node.children.shrink_to_fit();
     }

@@ -4,6 +4,7 @@
 mod estimates;
 mod expansion;
 mod full_search;
+mod lemma_tree;
 mod number_search;
 #[cfg(test)]
 mod number_tests;
@@ -11,6 +12,8 @@ mod play;
 mod proof_tree;
 mod search;
 mod shared_states;
+#[cfg(test)]
+mod shared_tests;
 mod verdict;
 
 pub use search::solve;

@@ -11,7 +11,7 @@ ghost use Rattle.pn_search.specs.declared.verdict.Cause.TheVariants.{Steps};
 
 use crate::estimates::{bounds_below, is_decided, is_within, seen_by_mover, unknown};
 use crate::expansion::expand;
-use crate::play::{PlayState, is_open_to, key_of};
+use crate::play::{PlayState, key_of, make_again};
 use crate::proof_tree::{Choice, SearchNode, best_child, claim_tree, leaf, recount};
 use crate::verdict::Cause;
 use cert_check::MAX_DEPTH;
@@ -56,12 +56,9 @@ fn step_down(
         seen_by_mover(child.numbers, is_prover),
         choice.second,
     );
-    // The turn was legal when the node was expanded, and the state is the same, so this is never so.
-    if !is_open_to(state, child.turn) {
-        return Err(Cause::NotConfirmed);
-    }
-    if state.after(child.turn).is_err() {
-        return Err(Cause::Memory);
+    match make_again(state, child.turn) {
+        Ok(()) => (),
+        Err(cause) => return Err(cause),
     }
     let open = Open {
         node,

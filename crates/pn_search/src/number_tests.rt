@@ -111,7 +111,7 @@ fn a_liberty_filled_takes_three_steps(rt: HostRuntime) {
 #[test]
 fn suicides_of_one_stone_are_barred(rt: HostRuntime) {
     let alloc = rt.alloc();
-    let eyes = problem(&rt, alloc, 3, &[".XXX.XXX."], Colour::White, "bb", "aacc");
+    let eyes = problem(&rt, alloc, 3, &[".XXXXXXX."], Colour::White, "bb", "aacc");
     check(&rt, alloc, eyes, Colour::Black, 2);
 }
 
@@ -153,4 +153,24 @@ fn moves_far_away_take_nothing(rt: HostRuntime) {
     accepts(&rt, alloc, far, answer, Colour::White);
 }
 
-// White's aa and ba have the liberties ca and ab, and bb would be a third. Black's stones around leave White no eye.
+// White's eye space is aa, ba and ca. With ba White makes two eyes, and the wall around has no other liberty.
+#[test]
+fn three_points_make_two_eyes(rt: HostRuntime) {
+    let alloc = rt.alloc();
+    let texts = ["...OXOOOOXXXXXX.........."];
+    let corner = problem(&rt, alloc, 5, &texts, Colour::White, "ab", "aabaca");
+    let (answer, left) = found(&rt, alloc, &corner, 100, 10_000);
+    assert_eq!(&rt; left, 1);
+    accepts(&rt, alloc, corner, answer, Colour::White);
+}
+
+// Black takes ba first.
+#[test]
+fn three_points_without_the_middle_make_one_eye(rt: HostRuntime) {
+    let alloc = rt.alloc();
+    let texts = ["...OXOOOOXXXXXX.........."];
+    let corner = problem(&rt, alloc, 5, &texts, Colour::Black, "ab", "aabaca");
+    let (answer, left) = found(&rt, alloc, &corner, 100, 10_000);
+    assert_eq!(&rt; left, 1);
+    accepts(&rt, alloc, corner, answer, Colour::Black);
+}

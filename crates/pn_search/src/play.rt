@@ -1,10 +1,12 @@
 //! Play on the problem's states, as the search needs it.
 
-ghost use Rattle.std.specs.Prelude.{◌≡◌, IsTrue, None};
+ghost use Rattle.std.specs.Prelude.{◌≡◌, ◌≢◌, ◌∷◌, IsTrue, OnOk, IfErr, None};
 ghost use Rattle.go_points.specs.Ply.{ply_of};
 ghost use Rattle.target_game.specs.Legal.{legal};
 ghost use Rattle.target_game.specs.Over.{over};
+ghost use Rattle.pn_search.specs.declared.verdict.Cause.TheVariants.{Steps};
 
+use crate::verdict::Cause;
 use go_points::Turn;
 use go_turns::{PlayBoard, PlaySeen};
 use pn_table::Key;
@@ -14,7 +16,7 @@ use target_game::State;
 pub(crate) type PlayState = State<PlayBoard, PlaySeen>;
 
 /// Whether nobody has won and the turn is legal.
-pub(crate) fn is_open_to(state: &PlayState, turn: Turn) -> bool
+fn is_open_to(state: &PlayState, turn: Turn) -> bool
     ensures open { IsTrue result → over state.now.state ≡ None }
     ensures legal { IsTrue result → IsTrue (legal state.now.state (ply_of state.now.state.game.size turn)) }
 {
@@ -24,6 +26,21 @@ pub(crate) fn is_open_to(state: &PlayState, turn: Turn) -> bool
     match turn {
         Turn::Pass => true,
         Turn::At(point) => state.size().holds(point) && state.may_move(point),
+    }
+}
+
+/// Makes a turn of a tree, which was legal when the tree was made: an end where it is not, which never comes.
+pub(crate) fn make_again(state: &mut PlayState, turn: Turn) -> Result<(), Cause>
+    ensures before { OnOk result (state.new.before ≡ state.old.state ∷ state.old.before) }
+    ensures cause { IfErr result (λ cause. cause ≢ Steps) }
+{
+    let asked = turn;
+    if !is_open_to(state, asked) {
+        return Err(Cause::NotConfirmed);
+    }
+    match state.after(turn) {
+        Ok(()) => Ok(()),
+        Err(_) => Err(Cause::Memory),
     }
 }
 
@@ -38,11 +55,15 @@ pub(crate) fn key_of(state: &PlayState) -> Key {
 
 // STAND-IN until the board's own key is there.
 fn position_key(state: &PlayState) -> u64 {
-    let size = state.size();
+    let colouring = state.colouring();
+    let size = colouring.size();
     let mut key: u64 = 1;
     for number in 0..size.area() {
-        let point = size.point_at(number);
-        let value = if state.is_open(point) { 1 } else { 2 };
+        let value = match colouring.get(size.point_at(number)) {
+            go_points::Cell::Empty => 1,
+            go_points::Cell::Stone(go_points::Colour::Black) => 2,
+            go_points::Cell::Stone(go_points::Colour::White) => 3,
+        };
         key = key.wrapping_mul(1_099_511_628_211).wrapping_add(value);
     }
     key

@@ -132,15 +132,17 @@ fn a_ko_without_a_past_is_taken(rt: HostRuntime) {
     check(&rt, alloc, ko, Colour::Black, 1);
 }
 
-// After Black's cc the ko would no longer repeat, so White fills ba and two passes follow: four steps. After Black's
-// pass White's pass ends the game: one more. The root is the sixth.
+// After Black's cc the ko would no longer repeat, so White fills ba and two passes follow; after Black's pass White's
+// pass ends the game. So the start has to be expanded, three states behind cc, and one behind the pass.
 #[test]
 fn a_move_elsewhere_opens_the_ko(rt: HostRuntime) {
     let alloc = rt.alloc();
     let texts = [".XOXO....", "O.OXO...."];
     let ko = problem(&rt, alloc, 3, &texts, Colour::Black, "aa", "bacc");
-    let (answer, left) = found(&rt, alloc, &ko, 100, 1000);
-    assert!(&rt; left <= 1000 - 5);
+    let (refused, none_left) = found(&rt, alloc, &ko, 100, 4);
+    assert!(&rt; refused.is_err_and(|cause| cause == Cause::Steps));
+    assert_eq!(&rt; none_left, 0);
+    let (answer, _) = found(&rt, alloc, &ko, 100, 100);
     accepts(&rt, alloc, ko, answer, Colour::White);
 }
 
@@ -153,24 +155,50 @@ fn moves_far_away_take_nothing(rt: HostRuntime) {
     accepts(&rt, alloc, far, answer, Colour::White);
 }
 
-// White's eye space is aa, ba and ca. With ba White makes two eyes, and the wall around has no other liberty.
-#[test]
-fn three_points_make_two_eyes(rt: HostRuntime) {
-    let alloc = rt.alloc();
+// White's eye space in the corner is aa, ba and ca, and all other liberties are taken.
+fn three_points(rt: &impl Abort, alloc: Global, mover: Colour) -> Problem {
     let texts = ["...OXOOOOXXXXXX.........."];
-    let corner = problem(&rt, alloc, 5, &texts, Colour::White, "ab", "aabaca");
-    let (answer, left) = found(&rt, alloc, &corner, 100, 10_000);
-    assert_eq!(&rt; left, 1);
-    accepts(&rt, alloc, corner, answer, Colour::White);
+    problem(rt, alloc, 5, &texts, mover, "ab", "aabaca")
 }
 
-// Black takes ba first.
+// The mover takes the middle of them: White has two eyes then, and else one.
+fn takes_the_middle(rt: &impl Abort, alloc: Global, mover: Colour, capacity: usize) {
+    let corner = three_points(rt, alloc, mover);
+    let (answer, _) = found(rt, alloc, &corner, capacity, 1_000);
+    accepts(rt, alloc, corner, answer, mover);
+}
+
 #[test]
-fn three_points_without_the_middle_make_one_eye(rt: HostRuntime) {
+fn three_points_are_decided_by_their_middle(rt: HostRuntime) {
     let alloc = rt.alloc();
-    let texts = ["...OXOOOOXXXXXX.........."];
-    let corner = problem(&rt, alloc, 5, &texts, Colour::Black, "ab", "aabaca");
-    let (answer, left) = found(&rt, alloc, &corner, 100, 10_000);
-    assert_eq!(&rt; left, 1);
-    accepts(&rt, alloc, corner, answer, Colour::Black);
+    takes_the_middle(&rt, alloc, Colour::White, 100_000);
+    takes_the_middle(&rt, alloc, Colour::Black, 100_000);
+}
+
+#[test]
+fn a_table_of_one_state_finds_the_same_winner(rt: HostRuntime) {
+    let alloc = rt.alloc();
+    takes_the_middle(&rt, alloc, Colour::White, 1);
+    takes_the_middle(&rt, alloc, Colour::Black, 1);
+}
+
+#[test]
+fn no_steps_find_nothing(rt: HostRuntime) {
+    let alloc = rt.alloc();
+    let corner = three_points(&rt, alloc, Colour::White);
+    let (refused, left) = found(&rt, alloc, &corner, 100, 0);
+    assert!(&rt; refused.is_err_and(|cause| cause == Cause::Steps));
+    assert_eq!(&rt; left, 0);
+}
+
+// White's eye space in the corner has three points by two, and all other liberties are taken.
+#[test]
+fn six_points_in_a_corner_are_the_movers(rt: HostRuntime) {
+    let alloc = rt.alloc();
+    let texts = ["...OX.....OX..OOOOX..XXXXX......................."];
+    for mover in [Colour::Black, Colour::White] {
+        let corner = problem(&rt, alloc, 7, &texts, mover, "ac", "aabacaabbbcb");
+        let (answer, _) = found(&rt, alloc, &corner, 1_000, 100_000);
+        accepts(&rt, alloc, corner, answer, mover);
+    }
 }

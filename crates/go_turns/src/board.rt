@@ -7,6 +7,7 @@ ghost use Rattle.go_points.specs.Grid.{cell_at, same_cell, side_of, IsColouring}
 ghost use Rattle.go_points.specs.Place.{IsOn, number_of};
 ghost use Rattle.go_points.specs.Liberty.{first_without_liberty};
 ghost use Rattle.go_points.specs.Move.{after_move, taken_by_move};
+ghost use Rattle.go_turns.specs.Key.{key_of};
 
 use go_points::{Cell, Colour, Colouring, Point, Size};
 
@@ -43,6 +44,10 @@ pub trait Board: Drop {
         ensures value { result ≡ content self.now }
         ensures colouring { IsColouring (side_of (content self.now)) (content self.now) }
         ensures liberties { first_without_liberty (side_of (content self.now)) (content self.now) ≡ None };
+
+    /// The exclusive or of one word for each stone, the same wherever the colouring comes from. Colourings may share a key.
+    fn key(&self) -> u64
+        ensures { result ≡ key_of (content self.now) };
 
     /// A move with both clearings, whether or not it repeats. The answer is the number of points that held a stone, the new one included, and are empty afterwards.
     fn play(&mut self, colour: Colour, point: Point) -> Result<u16, Occupied>

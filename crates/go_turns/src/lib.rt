@@ -4,6 +4,7 @@
 mod board;
 mod clearing;
 mod fault;
+mod key;
 pub mod laws;
 mod plain_board;
 mod record;
@@ -21,5 +22,7 @@ pub type PlayBoard = PlainBoard;
 /// The list of colourings that play uses, named so for the same reason.
 pub type PlaySeen = ListSeen;
 
+#[cfg(test)]
+mod key_tests;
 #[cfg(test)]
 mod tests;

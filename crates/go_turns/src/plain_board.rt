@@ -2,6 +2,7 @@
 
 use crate::board::{Board, NoLiberty, Occupied};
 use crate::clearing::{are_same, clear_colour, find_without_liberty};
+use crate::key::key_of;
 use go_points::{Cell, Colour, Colouring, MAX_SIZE, Point, Size};
 use std::marker::Model;
 
@@ -46,6 +47,10 @@ impl Board for PlainBoard {
     fn colouring(&self) -> Colouring {
         prove!(self.colouring.size().rows() <= MAX_SIZE);
         self.colouring
+    }
+
+    fn key(&self) -> u64 {
+        key_of(&self.colouring)
     }
 
     fn play(&mut self, colour: Colour, point: Point) -> Result<u16, Occupied> {

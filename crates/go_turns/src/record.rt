@@ -7,6 +7,7 @@ ghost use Rattle.go_points.specs.Place.{IsOn, number_of};
 ghost use Rattle.go_points.specs.Liberty.{first_without_liberty};
 ghost use Rattle.go_points.specs.Ply.{ply_of, pass as a_pass, move as a_move};
 ghost use Rattle.go_turns.specs.History.{place_in, repeats};
+ghost use Rattle.go_turns.specs.Key.{key_of};
 ghost use Rattle.go_turns.specs.Record.{colouring_of, numbered, assigned, play_of, setup_of, undo_of, opened, Did, DidWithoutMemory, Opens};
 ghost use Rattle.go_turns.specs.Steps.{IsNotAdded, Joins};
 
@@ -316,6 +317,13 @@ impl<B: Board, S: Seen> Record<B, S> {
         ensures within { self.now.present.place < length self.now.present.history }
     {
         self.board.colouring()
+    }
+
+    /// The key of the present colouring.
+    pub fn key(&self) -> u64
+        ensures { result ≡ key_of (colouring_of self.now.present) }
+    {
+        self.board.key()
     }
 
     /// The colourings that have occurred.

@@ -1,6 +1,12 @@
 //! A table of proof numbers that forgets what was not used for longest. What it holds guides a search and proves nothing.
 #![tactic(auto)]
 
+mod key;
+mod numbers;
 mod table;
+#[cfg(test)]
+mod tests;
 
-pub use table::{INFINITY, Key, Numbers, Table};
+pub use key::Key;
+pub use numbers::{INFINITY, Numbers};
+pub use table::Table;

@@ -1,46 +1,57 @@
 //! The table.
 
-use go_points::Colour;
+ghost use Rattle.std.specs.Prelude.{◌≡◌, [], true, false, IfOk, IsSome};
+ghost use Rattle.std.specs.NonZero.{non_zero_usize_get};
+ghost use Rattle.std.specs.Map.{lookup};
+ghost use Rattle.pn_table.specs.Table.{same_key, looked, stored};
+
+use crate::key::Key;
+use crate::numbers::Numbers;
 use lru::LruCache;
 use std::alloc::{AllocError, Global};
+use std::marker::Model;
 use std::num::NonZeroUsize;
 
-/// The number of what can never be proved.
-pub const INFINITY: u32 = 4_294_967_295;
-
-/// A state, by the key of its colouring.
-#[derive(Clone, Copy, Debug, PartialEq, Eq, Hash)]
-pub struct Key {
-    pub position: u64,
-    pub mover: Colour,
-    pub passes: u8,
-}
-
-/// How many leaves at least have to be proved, or disproved.
-#[derive(Clone, Copy, Debug, PartialEq, Eq)]
-pub struct Numbers {
-    pub proof: u32,
-    pub disproof: u32,
-}
-
-/// Numbers by key, at most as many as it was made for.
+/// Numbers by key, the latest used first, at most as many as the table was made for.
 #[derive(Drop)]
 pub struct Table {
     entries: LruCache<Key, Numbers>,
 }
 
+impl Model for Table {
+    ghost use Rattle.pn_table.specs.Table.{TableContent};
+
+    ghost Value = { TableContent };
+
+    ghost view = { λ t. record { entries = t.entries.entries; capacity = t.entries.cap } };
+}
+
 impl Table {
-    pub fn with_capacity(alloc: Global, capacity: NonZeroUsize) -> Result<Table, AllocError> {
+    /// An empty table for so many keys. It begins small and grows.
+    pub fn with_capacity(alloc: Global, capacity: NonZeroUsize) -> Result<Table, AllocError>
+        ensures { IfOk result (λ t. t ≡ record { entries = []; capacity = non_zero_usize_get capacity }) }
+    {
         Ok(Table {
             entries: LruCache::sparse(alloc, capacity)?,
         })
     }
 
-    pub fn look(&mut self, key: Key) -> Option<Numbers> {
+    /// The numbers of the key, which then counts as the latest used. It takes no memory.
+    pub fn look(&mut self, key: Key) -> Option<Numbers>
+        ensures value { result ≡ lookup (same_key key) self.old.entries }
+        ensures content { self.new ≡ looked self.old key }
+    {
+        prove!(self.entries.len() <= self.entries.cap().get());
         self.entries.get(&key).copied()
     }
 
-    pub fn store(&mut self, key: Key, numbers: Numbers) -> bool {
+    /// Stores the numbers, in place of older ones of the key, which then counts as the latest used. In a full table a new key takes the place of the one that was not used for longest. False, where memory was refused; nothing has changed then.
+    pub fn store(&mut self, key: Key, numbers: Numbers) -> bool
+        ensures stored { result ≡ true → self.new ≡ stored self.old key numbers }
+        ensures kept { result ≡ false → self.new ≡ self.old }
+        ensures present { IsSome (lookup (same_key key) self.old.entries) → result ≡ true }
+    {
+        prove!(self.entries.len() <= self.entries.cap().get());
         self.entries.put(key, numbers).is_ok()
     }
 }

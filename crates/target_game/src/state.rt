@@ -8,6 +8,7 @@ ghost use Rattle.go_points.specs.Place.{IsOn, number_of};
 ghost use Rattle.go_points.specs.Ply.{ply_of, move};
 ghost use Rattle.go_points.specs.declared.Cell.TheVariants.{Empty};
 ghost use Rattle.go_turns.specs.History.{place_in};
+ghost use Rattle.go_turns.specs.Key.{key_of};
 ghost use Rattle.target_game.specs.State.{Game, GameState, GameProblem, Line, start, state_alone};
 ghost use Rattle.target_game.specs.Legal.{legal, legal_turns, holds_point};
 ghost use Rattle.target_game.specs.Next.{next};
@@ -227,6 +228,13 @@ impl<B: Board + Copy, S: Seen> State<B, S> {
         ensures { result ≡ self.now.state.colouring }
     {
         self.played.colouring()
+    }
+
+    /// The key of the colouring.
+    pub fn key(&self) -> u64
+        ensures { result ≡ key_of self.now.state.colouring }
+    {
+        self.played.key()
     }
 
     pub fn mover(&self) -> Colour

@@ -91,6 +91,17 @@ fn a_capture_wins_for_the_attacker(rt: HostRuntime) {
     assert!(rt; state.turns().is_empty());
 }
 
+// The keys are exclusive ors of words that another program drew, from its own PCG64 made by the number 1.
+#[test]
+fn a_state_has_the_key_of_its_colouring(rt: HostRuntime) {
+    let mut state = start(&rt, rt.alloc(), &["O..X....."], Colour::Black, "aa", "ba");
+    assert_eq!(rt; state.key(), 3_778_989_091_018_136_610);
+    assert!(rt; play(&mut state, turn(&rt, "ba")));
+    assert_eq!(rt; state.key(), 3_257_418_155_030_562_517);
+    let other_mover = start(&rt, rt.alloc(), &["O..X....."], Colour::White, "aa", "ba");
+    assert_eq!(rt; other_mover.key(), 3_778_989_091_018_136_610);
+}
+
 #[test]
 fn two_passes_win_for_the_defender(rt: HostRuntime) {
     let mut state = start(&rt, rt.alloc(), &["O..X....."], Colour::White, "aa", "ba");

@@ -47,24 +47,8 @@ pub(crate) fn make_again(state: &mut PlayState, turn: Turn) -> Result<(), Cause>
 /// What the table knows a state by where nobody has won: at most one pass stands there.
 pub(crate) fn key_of(state: &PlayState) -> Key {
     Key {
-        position: position_key(state),
+        position: state.key(),
         mover: state.mover(),
         passes: if state.passes() == 0 { 0 } else { 1 },
     }
-}
-
-// STAND-IN until the board's own key is there.
-fn position_key(state: &PlayState) -> u64 {
-    let colouring = state.colouring();
-    let size = colouring.size();
-    let mut key: u64 = 1;
-    for number in 0..size.area() {
-        let value = match colouring.get(size.point_at(number)) {
-            go_points::Cell::Empty => 1,
-            go_points::Cell::Stone(go_points::Colour::Black) => 2,
-            go_points::Cell::Stone(go_points::Colour::White) => 3,
-        };
-        key = key.wrapping_mul(1_099_511_628_211).wrapping_add(value);
-    }
-    key
 }

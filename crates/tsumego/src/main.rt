@@ -3,6 +3,8 @@
 
 mod answer;
 #[cfg(test)]
+mod answer_tests;
+#[cfg(test)]
 mod audit_tests;
 #[cfg(test)]
 mod check_tests;
@@ -18,6 +20,8 @@ mod record_tests;
 mod region_tests;
 mod reply;
 mod run;
+#[cfg(test)]
+mod solve_tests;
 mod status;
 #[cfg(test)]
 mod tests;

@@ -19,8 +19,15 @@ fn points(rt: &impl Abort, letters: &str) -> PointSet {
     found
 }
 
-// The problem on 3 by 3 whose target is aa and whose present colouring is the last of its history.
-fn problem(rt: &impl Abort, alloc: Global, texts: &[&str], mover: Colour, region: &str) -> Problem {
+// The problem on 3 by 3 whose present colouring is the last of its history.
+fn problem(
+    rt: &impl Abort,
+    alloc: Global,
+    texts: &[&str],
+    mover: Colour,
+    target: &str,
+    region: &str,
+) -> Problem {
     let size = Size::new(3).expect(rt, "a size");
     let mut history = Vec::new(alloc);
     for text in texts {
@@ -33,7 +40,7 @@ fn problem(rt: &impl Abort, alloc: Global, texts: &[&str], mover: Colour, region
         place,
         mover,
         0,
-        points(rt, "aa"),
+        points(rt, target),
         points(rt, region),
     );
     made.expect(rt, "a problem")
@@ -94,7 +101,7 @@ fn solves(
 fn a_capture_of_one_turn(rt: HostRuntime) -> Result<(), Fail> {
     let alloc = rt.alloc();
     let text = "tsucert 1 3 B\nmain\nplay ba\nwon\nend\n";
-    let corner = problem(&rt, alloc, &["O..X....."], Colour::Black, "ba");
+    let corner = problem(&rt, alloc, &["O..X....."], Colour::Black, "aa", "ba");
     assert!(rt; finds(alloc, &corner, 1, text)?);
     assert!(rt; solves(&rt, alloc, corner, Colour::Black, text)?);
     Ok(())
@@ -106,7 +113,7 @@ fn a_capture_of_one_turn(rt: HostRuntime) -> Result<(), Fail> {
 fn a_liberty_filled(rt: HostRuntime) -> Result<(), Fail> {
     let alloc = rt.alloc();
     let text = "tsucert 1 3 W\nmain\nplay ba\nall 1\nreply pass\nplay pass\nwon\nend\n";
-    let corner = problem(&rt, alloc, &["O..X....."], Colour::White, "ba");
+    let corner = problem(&rt, alloc, &["O..X....."], Colour::White, "aa", "ba");
     assert!(rt; finds(alloc, &corner, 7, text)?);
     assert!(rt; solves(&rt, alloc, corner, Colour::White, text)?);
     Ok(())
@@ -118,10 +125,10 @@ fn a_ko_that_is_barred(rt: HostRuntime) -> Result<(), Fail> {
     let alloc = rt.alloc();
     let text = "tsucert 1 3 W\nmain\nall 1\nreply pass\nplay pass\nwon\nend\n";
     let texts = [".XOXO....", "O.OXO...."];
-    let barred = problem(&rt, alloc, &texts, Colour::Black, "ba");
+    let barred = problem(&rt, alloc, &texts, Colour::Black, "aa", "ba");
     assert!(rt; finds(alloc, &barred, 3, text)?);
     assert!(rt; solves(&rt, alloc, barred, Colour::White, text)?);
-    let open = problem(&rt, alloc, &["O.OXO...."], Colour::Black, "ba");
+    let open = problem(&rt, alloc, &["O.OXO...."], Colour::Black, "aa", "ba");
     let taken = "tsucert 1 3 B\nmain\nplay ba\nwon\nend\n";
     assert!(rt; solves(&rt, alloc, open, Colour::Black, taken)?);
     Ok(())
@@ -135,8 +142,30 @@ fn a_second_pass_comes_first(rt: HostRuntime) -> Result<(), Fail> {
     let text =
         "tsucert 1 3 W\nmain\nall 2\nreply cc\nplay ba\nall 1\nreply pass\nplay pass\nwon\nreply pass\nplay pass\nwon\nend\n";
     let texts = [".XOXO....", "O.OXO...."];
-    let threat = problem(&rt, alloc, &texts, Colour::Black, "bacc");
+    let threat = problem(&rt, alloc, &texts, Colour::Black, "aa", "bacc");
     assert!(rt; solves(&rt, alloc, threat, Colour::White, text)?);
+    Ok(())
+}
+
+// White answers each of Black's moves by the other, which leaves only passes.
+#[test]
+fn an_answer_to_each_reply(rt: HostRuntime) -> Result<(), Fail> {
+    let alloc = rt.alloc();
+    let text =
+        "tsucert 1 3 W\nmain\nall 3\nreply bc\nplay cc\nall 1\nreply pass\nplay pass\nwon\nreply cc\nplay bc\nall 1\nreply pass\nplay pass\nwon\nreply pass\nplay pass\nwon\nend\n";
+    let two = problem(&rt, alloc, &["O........"], Colour::Black, "aa", "bccc");
+    assert!(rt; solves(&rt, alloc, two, Colour::White, text)?);
+    Ok(())
+}
+
+// Both of White's moves are suicides of one stone, so White may only pass.
+#[test]
+fn no_move_is_legal(rt: HostRuntime) -> Result<(), Fail> {
+    let alloc = rt.alloc();
+    let text = "tsucert 1 3 B\nmain\nall 1\nreply pass\nplay pass\nwon\nend\n";
+    let eyes = problem(&rt, alloc, &[".XXXXXXX."], Colour::White, "bb", "aacc");
+    assert!(rt; finds(alloc, &eyes, 3, text)?);
+    assert!(rt; solves(&rt, alloc, eyes, Colour::Black, text)?);
     Ok(())
 }
 
@@ -145,7 +174,7 @@ fn a_second_pass_comes_first(rt: HostRuntime) -> Result<(), Fail> {
 fn a_problem_is_handed_back(rt: HostRuntime) {
     let alloc = rt.alloc();
     let texts = [".XOXO....", "O.OXO...."];
-    let barred = problem(&rt, alloc, &texts, Colour::Black, "ba");
+    let barred = problem(&rt, alloc, &texts, Colour::Black, "aa", "ba");
     match solve(alloc, barred, budget(&rt, 0)) {
         Verdict::Wins(_) => assert!(rt; false, "no claim"),
         Verdict::Unknown {

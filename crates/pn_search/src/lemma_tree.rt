@@ -3,6 +3,8 @@
 //! The tree at the first place of such a state becomes the body of its lemma, and each place a use of it. What stands
 //! inside is built first, so that a body uses lower lemmas alone. Whether a lemma holds under every past that it allows
 //! is asked by the checker.
+//!
+//! The recursion is as deep as the tree. What holds a colouring on the stack is kept out of it by `inline(never)`.
 
 ghost use Rattle.std.specs.Prelude.{◌≡◌, OnOk};
 
@@ -73,6 +75,7 @@ impl Lemmas {
     }
 
     /// Whether the lemma of this number is of the state. Two states may have one key.
+    #[inline(never)]
     fn is_of(&self, number: u32, state: &PlayState) -> bool {
         match self.get(number) {
             Some(lemma) => lemma.root == state.colouring(),
@@ -81,6 +84,7 @@ impl Lemmas {
     }
 
     /// Adds the lemma of the state: its number. Refused past the limits of claims.
+    #[inline(never)]
     fn add(&mut self, state: &PlayState, absent: Vec<Colouring>, tree: Node) -> Result<u32, Cause> {
         let listed = self.listed.saturating_add(absent.len());
         if self.made.len() >= MAX_LEMMAS || listed > MAX_LISTED as usize {
@@ -120,6 +124,7 @@ fn use_lemma(lemmas: &Lemmas, body: &mut Body, number: u32) -> Result<Node, Caus
 }
 
 /// Lists the present colouring in a lemma, where a move of the winner's has led to it.
+#[inline(never)]
 fn list_result(body: &mut Body, state: &PlayState, turn: Turn) -> Result<(), Cause> {
     if body.is_lemma && turn != Turn::Pass && state.mover() != body.winner {
         if body.absent.push(state.colouring()).is_err() {

@@ -1,6 +1,8 @@
 //! The search for a proof: full search within few turns first, then proof numbers; every claim is put to the checker.
 #![tactic(auto)]
 
+#[cfg(test)]
+mod deep_tests;
 mod estimates;
 mod expansion;
 mod full_search;

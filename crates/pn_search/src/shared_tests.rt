@@ -23,23 +23,14 @@ fn claim(rt: &impl Abort, alloc: Global, problem: &Problem, winner: Colour) -> O
     }
 }
 
-// The checker accepts the claim with lemmas of the tree that is found; how many lemmas it has.
-fn accepted(rt: &impl Abort, alloc: Global, problem: Problem, winner: Colour) -> usize {
-    match claim(rt, alloc, &problem, winner) {
-        None => {
-            assert!(rt; false, "lemmas");
+// How many lemmas a claim has that the checker accepts.
+fn lemmas_of(rt: &impl Abort, alloc: Global, problem: Problem, claim: Certificate) -> usize {
+    match check_held(alloc, problem, claim) {
+        Ok(checked) => checked.certificate().lemmas.len(),
+        Err(_) => {
+            assert!(rt; false, "a valid claim");
             0
         }
-        Some(certificate) => match check_held(alloc, problem, certificate) {
-            Ok(checked) => {
-                assert_eq!(rt; checked.winner(), winner);
-                checked.certificate().lemmas.len()
-            }
-            Err((reject, _, _)) => {
-                assert_eq!(rt; reject.place, 0);
-                0
-            }
-        },
     }
 }
 
@@ -50,7 +41,9 @@ fn two_orders_of_moves_meet(rt: HostRuntime) {
     let alloc = rt.alloc();
     let texts = [".X.X.XXXX...............O"];
     let two_eyes = problem(&rt, alloc, 5, &texts, Colour::Black, "ee", "aaca");
-    assert_eq!(&rt; accepted(&rt, alloc, two_eyes, Colour::White), 2);
+    let claim = claim(&rt, alloc, &two_eyes, Colour::White).expect(&rt, "lemmas");
+    assert_eq!(&rt; claim.winner, Colour::White);
+    assert_eq!(&rt; lemmas_of(&rt, alloc, two_eyes, claim), 2);
 }
 
 #[test]

@@ -2,6 +2,9 @@
 --     Shows x s k n      x wins s within k turns, and the tree n, which is no larger than the tree of all play, shows it
 --     IsFound s k left f      what full search of s within k turns answers, with so many steps left
 --     AreSeen s k ts seen      what is known where the turns ts were searched and the mover wins by none of them
+--     IsTurnSeen s k t left old new r      what the search of one turn more, t, makes of what is known
+--     NoneWithin s steps      no side can force a win in so small a tree that these steps are enough
+--     IsFirst x s n      the tree n shows that x wins s, within the fewest turns
 --     IsDecided s steps f      what full search of a problem's start answers
 --     IsConfirmable q x tree      the checker has no cause but memory to refuse the claim of the tree
 use Rattle.std.specs.Prelude.{◌≡◌, ℕ, ◌+◌, ◌*◌, ◌<◌, ◌≤◌, true, false, List, [], ◌∷◌, ◌++◌, sum_by, Option, Some, None, IsTrue}

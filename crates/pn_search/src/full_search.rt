@@ -89,6 +89,7 @@ fn search_state(
         return Ok(Found::OutOfSteps);
     }
     *left -= 1;
+    // A second pass ends the game at once, so no other turn is tried where it wins.
     if pass_wins(state)? {
         return won_by(alloc, state.mover(), Turn::Pass, Node::Won);
     }
@@ -129,7 +130,8 @@ fn won_by(alloc: Global, winner: Colour, turn: Turn, below: Node) -> Result<Foun
     Ok(Found::Wins(winner, Node::Play(turn, Box::new(alloc, below)?)))
 }
 
-/// The same of a state where nobody has won and that is counted already, with so many turns after the first.
+/// What full search finds of a state where nobody has won, whose step is made already, with so many turns after the
+/// first; the state is then as it was.
 #[cycle(full)]
 fn search_turns(
     alloc: Global,

@@ -4,7 +4,7 @@ use crate::number_search::search_by_numbers;
 use crate::verdict::Cause;
 use cert_check::check_held;
 use go_points::{Colour, Colouring, PointSet, Size, sgf_point};
-use proof_cert::{Certificate, Node};
+use proof_cert::{Certificate, Node, write_cert};
 use std::alloc::Global;
 use std::num::NonZeroUsize;
 use std::process::Abort;
@@ -146,6 +146,29 @@ fn a_move_elsewhere_opens_the_ko(rt: HostRuntime) {
     accepts(&rt, alloc, ko, answer, Colour::White);
 }
 
+// There White has no other answer to cc, and behind a pass it is to pass.
+#[test]
+fn the_ko_is_filled_where_it_opens(rt: HostRuntime) {
+    let alloc = rt.alloc();
+    let texts = [".XOXO....", "O.OXO...."];
+    let ko = problem(&rt, alloc, 3, &texts, Colour::Black, "aa", "bacc");
+    let (answer, _) = found(&rt, alloc, &ko, 100, 100);
+    let mut text = Vec::new(alloc);
+    if let Ok((winner, main)) = answer {
+        let certificate = Certificate {
+            size: ko.size(),
+            winner,
+            lemmas: Vec::new(alloc),
+            main,
+        };
+        assert!(&rt; write_cert(&certificate, &mut text).is_ok());
+    }
+    let expected =
+        "tsucert 1 3 W\nmain\nall 2\nreply cc\nplay ba\nall 1\nreply pass\nplay pass\nwon\n\
+        reply pass\nplay pass\nwon\nend\n";
+    assert_eq!(&rt; text.as_slice(), expected.as_bytes());
+}
+
 // White's stone has two liberties that no move of Black's can take.
 #[test]
 fn moves_far_away_take_nothing(rt: HostRuntime) {
@@ -192,12 +215,16 @@ fn no_steps_find_nothing(rt: HostRuntime) {
 }
 
 // White's eye space in the corner has three points by two, and all other liberties are taken.
+pub(crate) fn six_points(rt: &impl Abort, alloc: Global, mover: Colour) -> Problem {
+    let texts = ["...OX.....OX..OOOOX..XXXXX......................."];
+    problem(rt, alloc, 7, &texts, mover, "ac", "aabacaabbbcb")
+}
+
 #[test]
 fn six_points_in_a_corner_are_the_movers(rt: HostRuntime) {
     let alloc = rt.alloc();
-    let texts = ["...OX.....OX..OOOOX..XXXXX......................."];
     for mover in [Colour::Black, Colour::White] {
-        let corner = problem(&rt, alloc, 7, &texts, mover, "ac", "aabacaabbbcb");
+        let corner = six_points(&rt, alloc, mover);
         let (answer, _) = found(&rt, alloc, &corner, 1_000, 100_000);
         accepts(&rt, alloc, corner, answer, mover);
     }

@@ -1,6 +1,6 @@
 //! Lemmas for the shared states of proofs, put to the checker.
 
-use crate::number_tests::{found, problem};
+use crate::number_tests::{found, problem, six_points};
 use crate::shared_states::with_lemmas;
 use cert_check::check_held;
 use go_points::Colour;
@@ -104,4 +104,16 @@ fn a_lemma_lists_the_results_of_the_winners_moves(rt: HostRuntime) {
         reply cc\nplay pass\nall 2\nreply bc\nuse 3\nreply pass\nwon\n\
         reply pass\nplay pass\nwon\nend\n";
     becomes(&rt, alloc, eye, tree.as_bytes(), expected.as_bytes());
+}
+
+// The mover decides White's six points in the corner, with moves that meet in many orders.
+#[test]
+fn lemmas_of_six_points_in_a_corner(rt: HostRuntime) {
+    let alloc = rt.alloc();
+    for mover in [Colour::Black, Colour::White] {
+        let corner = six_points(&rt, alloc, mover);
+        let claim = claim(&rt, alloc, &corner, mover).expect(&rt, "lemmas");
+        assert_eq!(&rt; claim.winner, mover);
+        assert!(&rt; lemmas_of(&rt, alloc, corner, claim) > 0);
+    }
 }

@@ -71,7 +71,7 @@ fn other_words_have_clap_s_text(rt: HostRuntime) {
         &["tsumego", "chek"],
         &["tsumego", "check", "x"],
         &["tsumego", "audit", "x"],
-        &["tsumego", "solve"],
+        &["tsumego", "solve", "x"],
         &["tsumego", "within", "201"],
         &["tsumego", "--help"],
     ];

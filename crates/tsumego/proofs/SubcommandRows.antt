@@ -9,7 +9,7 @@ use Rattle.clap.specs.Words.{Kinds, Row, Rule, Shape, Text, new_rule, read_as}
 use Rattle.clap.specs.Kinds.{check_kinds, or_else, range_kinds, value_kinds}
 use Rattle.clap.specs.Walk.{Held, at_row, default_rows, finished, has_row, more_values, nothing_held, reading_by, row_text, rows_after, settled, used, values_or_missing, walk, walk_from, with_default, with_values, without}
 use Rattle.clap.specs.Faults.{check_fault, defaults_fault, level_fault, repeat_fault, set_fault, settle_fault, use_fault, values_fault, walk_fault}
-use Rattle.clap.specs.Simple.{filled, filled_from, help_rule}
+use Rattle.clap.specs.Simple.{filled, help_rule}
 use Rattle.clap.specs.Takes.{is_given}
 use Rattle.clap.specs.Facts.{explicit_source}
 use Rattle.clap.specs.ValueTests.{is_unsigned_in}

@@ -136,6 +136,7 @@ fn number(given: &ArgMatches<'_>, id: &str, least: u64, most: u64) -> Option<u64
 fn flag(given: &ArgMatches<'_>, id: &str) -> bool
     ensures { result ≡ flag_of id.now (rows_of (found_of given.now)) }
 {
+    // `get_flag` promises nothing of a text that is neither `true` nor `false`.
     match given.get_one::<bool>(id) {
         Some(on) => on,
         None => false,

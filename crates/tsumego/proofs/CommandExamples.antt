@@ -1,7 +1,7 @@
 -- Worked examples of the command line, computed by the definitions.
-use Rattle.std.proofs.Common.{◌≡◌, [], ◌∷◌, Some, None, codes, refl}
+use Rattle.std.proofs.Common.{◌≡◌, true, false, [], ◌∷◌, Some, None, codes, refl}
 use Rattle.clap.proofs.OnLiterals.{clap_on_literals}
-use Rattle.tsumego.specs.declared.command_line.Command.TheVariants.{Check, Within, Audit}
+use Rattle.tsumego.specs.declared.command_line.Command.TheVariants.{Check, Within, Audit, Solve}
 use Rattle.tsumego.specs.CommandLine.{command_of}
 
 check_asked : command_of (codes "tsumego" ∷ codes "check" ∷ []) ≡ Some Check
@@ -59,3 +59,43 @@ audit_asked = refl
 word_behind_audit : command_of (codes "tsumego" ∷ codes "audit" ∷ codes "3" ∷ []) ≡ None
 unfolding clap_on_literals command_of
 word_behind_audit = refl
+
+solve_asked : command_of (codes "tsumego" ∷ codes "solve" ∷ []) ≡ Some (Solve 1000000 100000 false)
+unfolding clap_on_literals command_of
+solve_asked = refl
+
+solve_with_all : command_of (codes "tsumego" ∷ codes "solve" ∷ codes "--proof" ∷ codes "--steps" ∷ codes "10000000" ∷ codes "--table=1" ∷ []) ≡ Some (Solve 10000000 1 true)
+unfolding clap_on_literals command_of
+solve_with_all = refl
+
+no_steps : command_of (codes "tsumego" ∷ codes "solve" ∷ codes "--steps" ∷ codes "0" ∷ []) ≡ None
+unfolding clap_on_literals command_of
+no_steps = refl
+
+too_many_steps : command_of (codes "tsumego" ∷ codes "solve" ∷ codes "--steps" ∷ codes "10000001" ∷ []) ≡ None
+unfolding clap_on_literals command_of
+too_many_steps = refl
+
+no_table : command_of (codes "tsumego" ∷ codes "solve" ∷ codes "--table" ∷ codes "0" ∷ []) ≡ None
+unfolding clap_on_literals command_of
+no_table = refl
+
+too_large_table : command_of (codes "tsumego" ∷ codes "solve" ∷ codes "--table" ∷ codes "1000001" ∷ []) ≡ None
+unfolding clap_on_literals command_of
+too_large_table = refl
+
+flag_given_twice : command_of (codes "tsumego" ∷ codes "solve" ∷ codes "--proof" ∷ codes "--proof" ∷ []) ≡ None
+unfolding clap_on_literals command_of
+flag_given_twice = refl
+
+flag_with_a_value : command_of (codes "tsumego" ∷ codes "solve" ∷ codes "--proof=true" ∷ []) ≡ None
+unfolding clap_on_literals command_of
+flag_with_a_value = refl
+
+steps_given_twice : command_of (codes "tsumego" ∷ codes "solve" ∷ codes "--steps" ∷ codes "1" ∷ codes "--steps" ∷ codes "1" ∷ []) ≡ None
+unfolding clap_on_literals command_of
+steps_given_twice = refl
+
+word_behind_solve : command_of (codes "tsumego" ∷ codes "solve" ∷ codes "3" ∷ []) ≡ None
+unfolding clap_on_literals command_of
+word_behind_solve = refl

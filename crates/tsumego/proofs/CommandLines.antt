@@ -1,6 +1,8 @@
 -- The command that the words give, by what a parse of them found.
-use Rattle.std.proofs.Common.{◌≡◌, ℕ, ◌^◌, ◌<◌, ◌≤◌, Bool, true, false, cond, nat_le, leb-true, le-leb, List, [], ◌∷◌, Option, Some, None, is_some, option_and_then, Result, Ok, Err, inl, inr, refl, sym, ◌∙◌, ap, subst, arith}
-use Rattle.std.specs.Str.Parse.{IsNumeral, ParsesUnsigned, digits_value, without_leading_plus}
+use Rattle.std.proofs.Common.{◌≡◌, ℕ, ◌^◌, ◌<◌, ◌≤◌, Bool, true, false, cond, ◌&&◌, nat_le, leb-true, le-leb, List, [], ◌∷◌, codes, Option, Some, None, is_some, option_and_then, Result, Ok, Err, inl, inr, refl, sym, ◌∙◌, ap, subst}
+use Rattle.std.specs.Option.{option_map_or}
+use Rattle.std.specs.Str.{bytes_eq}
+use Rattle.std.specs.Str.Parse.{IsNumeral, ParsesBool, ParsesUnsigned, digits_value, without_leading_plus}
 use Rattle.clap.specs.Words.{App, HasKind, HasMatchesOf, Text, ReadsOne, fault_of, is_simple, is_simple_and_free, kind_of, subcommand_of, subcommand_rows_of}
 use Rattle.clap.specs.ValueTests.{is_unsigned_in}
 use Rattle.clap.specs.Kinds.{Kinds, IsAmong}
@@ -9,55 +11,75 @@ use Rattle.clap.specs.declared.error.Error.{Error}
 use Rattle.clap.specs.declared.error.kind.ErrorKind.TheVariants.{OutOfMemory}
 use Rattle.clap.specs.declared.parser.matches.ArgMatches.{ArgMatches}
 use Rattle.clap.proofs.ValueTestLemmas.{accepts-Accepts, Accepts-accepts}
+use Rattle.go_points.proofs.Lists.{and_left, and_right, and_both}
+use Rattle.sgf_text.proofs.AddedLemmas.{same_name}
 use Rattle.tsumego.specs.CommandLine.{HasFault, command_named, command_of, grammar, number_in, unless_faulty}
 use Rattle.tsumego.proofs.SubcommandNames.{parse_gives}
 
--- a number that was read, where it is at most so much
-abbrev pub up_to : ℕ → Option ℕ → Option ℕ
-up_to most None = None
-up_to most (Some n) = cond (nat_le n most) (Some n) None
+-- a number that was read, where it is at least so much and at most so much
+abbrev pub between : ℕ → ℕ → Option ℕ → Option ℕ
+between least most None = None
+between least most (Some n) = cond (nat_le least n && nat_le n most) (Some n) None
 
-pub fits_up_to : (most n : ℕ) → n ≤ most → Some n ≡ up_to most (Some n)
-fits_up_to most n low = sym (ap (λ b. cond b (Some n) None) (le-leb n most low))
+pub fits_between : (least most n : ℕ) → least ≤ n → n ≤ most → Some n ≡ between least most (Some n)
+fits_between least most n low high = sym (ap (λ b. cond b (Some n) None) (and_both (nat_le least n) (nat_le n most) (le-leb least n low) (le-leb n most high)))
 
-pub past_up_to : (most n : ℕ) → most < n → None ≡ up_to most (Some n)
-past_up_to most n high = go (nat_le n most) refl
+pub not_between : (least most n : ℕ) → (least ≤ n → n ≤ most → ⊥) → None ≡ between least most (Some n)
+not_between least most n not = go (nat_le least n && nat_le n most) refl
   where
-    go : (b : Bool) → nat_le n most ≡ b → None ≡ cond b (Some n) None
-    go true e = let low = leb-true n most e in absurd (omega arith)
+    go : (b : Bool) → (nat_le least n && nat_le n most) ≡ b → None ≡ cond b (Some n) None
+    go true e = absurd (not (leb-true least n (and_left (nat_le least n) (nat_le n most) e)) (leb-true n most (and_right (nat_le least n) (nat_le n most) e)))
     go false e = refl
 
 -- the number of a text that `u64` reads, and of one that it does not
-number_right : (most n : ℕ) (t : Text) → IsNumeral 10 (without_leading_plus t) → digits_value 10 (without_leading_plus t) < 2 ^ 64 → n ≡ digits_value 10 (without_leading_plus t) → number_in most t ≡ up_to most (Some n)
-number_right most n t numeral fits is = go (nat_le n most) refl (is_unsigned_in 0 most t) refl
+number_right : (least most n : ℕ) (t : Text) → IsNumeral 10 (without_leading_plus t) → digits_value 10 (without_leading_plus t) < 2 ^ 64 → n ≡ digits_value 10 (without_leading_plus t)
+    → number_in least most t ≡ between least most (Some n)
+number_right least most n t numeral fits is = go (nat_le least n && nat_le n most) refl (is_unsigned_in least most t) refl
   where
-    go : (b : Bool) → nat_le n most ≡ b → (c : Bool) → is_unsigned_in 0 most t ≡ c → cond c (Some (digits_value 10 (without_leading_plus t))) None ≡ cond b (Some n) None
+    go : (b : Bool) → (nat_le least n && nat_le n most) ≡ b → (c : Bool) → is_unsigned_in least most t ≡ c → cond c (Some (digits_value 10 (without_leading_plus t))) None ≡ cond b (Some n) None
     go true e true f = ap Some (sym is)
     go false e false f = refl
     go true e false f =
-        let low = leb-true n most e in
-        absurd (cc (f, Accepts-accepts false (Unsigned 0 most) t (numeral, fits, omega arith, subst (λ m. m ≤ most) is low)))
+        let low = leb-true least n (and_left (nat_le least n) (nat_le n most) e) in
+        let high = leb-true n most (and_right (nat_le least n) (nat_le n most) e) in
+        absurd (cc (f, Accepts-accepts false (Unsigned least most) t (numeral, fits, subst (λ m. least ≤ m) is low, subst (λ m. m ≤ most) is high)))
     go false e true f =
-        let h = accepts-Accepts false (Unsigned 0 most) t f in
-        absurd (cc (e, le-leb n most (subst (λ m. m ≤ most) (sym is) h.3)))
+        let h = accepts-Accepts false (Unsigned least most) t f in
+        absurd (cc (e, and_both (nat_le least n) (nat_le n most) (le-leb least n (subst (λ m. least ≤ m) (sym is) h.2)) (le-leb n most (subst (λ m. m ≤ most) (sym is) h.3))))
 
-number_wrong : (most : ℕ) (t : Text) → (IsNumeral 10 (without_leading_plus t) × (digits_value 10 (without_leading_plus t) < 2 ^ 64) → ⊥) → number_in most t ≡ None
-number_wrong most t wrong = go (is_unsigned_in 0 most t) refl
+number_wrong : (least most : ℕ) (t : Text) → (IsNumeral 10 (without_leading_plus t) × (digits_value 10 (without_leading_plus t) < 2 ^ 64) → ⊥) → number_in least most t ≡ None
+number_wrong least most t wrong = go (is_unsigned_in least most t) refl
   where
-    go : (b : Bool) → is_unsigned_in 0 most t ≡ b → cond b (Some (digits_value 10 (without_leading_plus t))) None ≡ None
-    go true e = let h = accepts-Accepts false (Unsigned 0 most) t e in absurd (wrong (h.0, h.1))
+    go : (b : Bool) → is_unsigned_in least most t ≡ b → cond b (Some (digits_value 10 (without_leading_plus t))) None ≡ None
+    go true e = let h = accepts-Accepts false (Unsigned least most) t e in absurd (wrong (h.0, h.1))
     go false e = refl
 
 pub reads_number : {E : Type 0} (G : List ℕ → Result ℕ E → Type 0) → ((u : List ℕ) (x : Result ℕ E) → G u x → ParsesUnsigned 64 10 u x)
-    → (most : ℕ) (o : Option Text) (r : Option ℕ) → (o ≡ None → r ≡ None) → ((t : Text) → o ≡ Some t → ReadsOne G t r)
-    → option_and_then (number_in most) o ≡ up_to most r
-reads_number G only most None r none some = sym (ap (up_to most) (none refl))
-reads_number G only most (Some t) None none some =
+    → (least most : ℕ) (o : Option Text) (r : Option ℕ) → (o ≡ None → r ≡ None) → ((t : Text) → o ≡ Some t → ReadsOne G t r)
+    → option_and_then (number_in least most) o ≡ between least most r
+reads_number G only least most None r none some = sym (ap (between least most) (none refl))
+reads_number G only least most (Some t) None none some =
     let got = some t refl in
-    number_wrong most t (only t (Err got.0) got.1)
-reads_number G only most (Some t) (Some n) none some =
+    number_wrong least most t (only t (Err got.0) got.1)
+reads_number G only least most (Some t) (Some n) none some =
     let right = only t (Ok n) (some t refl) in
-    number_right most n t right.0.0 right.0.1 right.1
+    number_right least most n t right.0.0 right.0.1 right.1
+
+-- whether a text that `bool` reads, or does not, is `true`
+abbrev pub or_false : Option Bool → Bool
+or_false None = false
+or_false (Some b) = b
+
+pub reads_flag : (E : Type 0) (o : Option Text) (r : Option Bool) → (o ≡ None → r ≡ None) → ((t : Text) → o ≡ Some t → ReadsOne {E = E} ParsesBool t r)
+    → or_false r ≡ option_map_or (λ text. bytes_eq text (codes "true")) o false
+reads_flag E None r none some = ap or_false (none refl)
+reads_flag E (Some t) (Some true) none some = sym (ap (λ u. bytes_eq u (codes "true")) (some t refl))
+reads_flag E (Some t) (Some false) none some = sym (ap (λ u. bytes_eq u (codes "true")) (some t refl))
+reads_flag E (Some t) None none some = go (bytes_eq t (codes "true")) refl
+  where
+    go : (b : Bool) → bytes_eq t (codes "true") ≡ b → false ≡ b
+    go true e = absurd ((some t refl).1.0 (same_name t (codes "true") e))
+    go false e = refl
 
 -- the command that a parse gives, and none at a fault of the words
 pub command_found : (a : App) (ws : List Text) (m : ArgMatches) → a ≡ grammar → HasMatchesOf a ws m → (is_simple_and_free a ≡ true → fault_of a ws ≡ [])

@@ -12,17 +12,17 @@ use Rattle.clap.specs.Takes.{is_given}
 use Rattle.clap.specs.Facts.{explicit_source}
 use Rattle.clap.specs.Simple.{argument_words, entered}
 use Rattle.clap.specs.declared.error.kind.ErrorKind.TheVariants.{DisplayHelp, InvalidSubcommand}
-use Rattle.tsumego.specs.CommandLine.{command_named, command_of, grammar, unless_faulty, within_of}
+use Rattle.tsumego.specs.CommandLine.{command_named, command_of, grammar, solve_of, unless_faulty, within_of}
 use Rattle.tsumego.proofs.SubcommandWalks.{first_none, then_none}
-use Rattle.tsumego.proofs.SubcommandRows.{check_none, numbers_found}
+use Rattle.tsumego.proofs.SubcommandRows.{check_none, solve_found, within_found}
 
 -- the names of the subcommands, `help` among them
 abbrev names : Names
-names = (codes "check", []) ∷ (codes "within", []) ∷ (codes "audit", []) ∷ (codes "help", []) ∷ []
+names = (codes "check", []) ∷ (codes "within", []) ∷ (codes "audit", []) ∷ (codes "solve", []) ∷ (codes "help", []) ∷ []
 
 -- a subcommand that is no call for help
 abbrev IsAskedName : Text → Type 0
-IsAskedName name = (name ≡ codes "check") ⊎ ((name ≡ codes "within") ⊎ (name ≡ codes "audit"))
+IsAskedName name = (name ≡ codes "check") ⊎ ((name ≡ codes "within") ⊎ ((name ≡ codes "audit") ⊎ (name ≡ codes "solve")))
 
 abbrev IsAsked : Option (Text × List Text) → Type 0
 IsAsked None = Unit {0}
@@ -33,15 +33,16 @@ IsAskedStep (subcommand name) = IsAskedName name
 IsAskedStep _ = Unit {0}
 
 known : (waiting : Waiting) (word name : Text) → subcommand_met names waiting word ≡ Some name → IsAskedName name ⊎ (name ≡ codes "help")
-known idle word name h = go (answers_to word (codes "check", [])) (answers_to word (codes "within", [])) (answers_to word (codes "audit", [])) (answers_to word (codes "help", [])) h
+known idle word name h = go (answers_to word (codes "check", [])) (answers_to word (codes "within", [])) (answers_to word (codes "audit", [])) (answers_to word (codes "solve", [])) (answers_to word (codes "help", [])) h
   where
-    go : (a b c d : Bool) → option_map (λ (s : Text × List Text). s.0) (cond a (Some (codes "check", [])) (cond b (Some (codes "within", [])) (cond c (Some (codes "audit", [])) (cond d (Some (codes "help", [])) None)))) ≡ Some name
+    go : (a b c d e : Bool) → option_map (λ (s : Text × List Text). s.0) (cond a (Some (codes "check", [])) (cond b (Some (codes "within", [])) (cond c (Some (codes "audit", [])) (cond d (Some (codes "solve", [])) (cond e (Some (codes "help", [])) None))))) ≡ Some name
         → IsAskedName name ⊎ (name ≡ codes "help")
-    go true b c d e = inl (inl (cc e))
-    go false true c d e = inl (inr (inl (cc e)))
-    go false false true d e = inl (inr (inr (cc e)))
-    go false false false true e = inr (cc e)
-    go false false false false e = absurd (cc)
+    go true b c d e f = inl (inl (cc f))
+    go false true c d e f = inl (inr (inl (cc f)))
+    go false false true d e f = inl (inr (inr (inl (cc f))))
+    go false false false true e f = inl (inr (inr (inr (cc f))))
+    go false false false false true f = inr (cc f)
+    go false false false false false f = absurd (cc)
 known (option id) word name h = absurd (cc)
 known positional word name h = absurd (cc)
 
@@ -117,6 +118,11 @@ within_some (Some t) (Some n) h k = refl
 within_some (Some t) None h k = absurd (cc)
 within_some None n h k = absurd (cc)
 
+solve_some : (s t : Option ℕ) (proof : Bool) → is_some s ≡ true → is_some t ≡ true → is_some (solve_of s t proof) ≡ true
+solve_some (Some s) (Some t) proof h k = refl
+solve_some (Some s) None proof h k = absurd (cc)
+solve_some None t proof h k = absurd (cc)
+
 -- a subcommand that is required was named
 named : (s : Shape) (rows : List Row) (has : Bool) → s.subcommand_required ≡ true → check_fault s rows has ≡ [] → has ≡ true
 named s rows true required none = refl
@@ -129,12 +135,23 @@ named s rows false required none =
 stop_gives : (stop : Option (Text × List Text)) → IsAsked stop → is_some (entered (built grammar) stop) ≡ true → entered_fault (built grammar) stop ≡ []
     → is_some (option_and_then (λ p. command_named p.0 p.1) (entered (built grammar) stop)) ≡ true
 stop_gives None asked some none = absurd (cc)
-stop_gives (Some (name, rest)) (inl e) some none = subst (λ n. is_some (option_and_then (λ p. command_named p.0 p.1) (entered (built grammar) (Some (n, rest)))) ≡ true) (sym e) refl
-stop_gives (Some (name, rest)) (inr (inr e)) some none = subst (λ n. is_some (option_and_then (λ p. command_named p.0 p.1) (entered (built grammar) (Some (n, rest)))) ≡ true) (sym e) refl
-stop_gives (Some (name, rest)) (inr (inl e)) some none =
-    let fault : entered_fault (built grammar) (Some (codes "within", rest)) ≡ [] = subst (λ n. entered_fault (built grammar) (Some (n, rest)) ≡ []) e none in
-    let found = numbers_found _ refl rest fault in
-    subst (λ n. is_some (option_and_then (λ p. command_named p.0 p.1) (entered (built grammar) (Some (n, rest)))) ≡ true) (sym e) (within_some _ _ found.0 found.1)
+stop_gives (Some (name, rest)) asked some none = go asked
+  where
+    Gives : Text → Type 0
+    Gives n = is_some (option_and_then (λ p. command_named p.0 p.1) (entered (built grammar) (Some (n, rest)))) ≡ true
+
+    fault : (n : Text) → name ≡ n → entered_fault (built grammar) (Some (n, rest)) ≡ []
+    fault n e = subst (λ m. entered_fault (built grammar) (Some (m, rest)) ≡ []) e none
+
+    go : IsAskedName name → Gives name
+    go (inl e) = subst Gives (sym e) refl
+    go (inr (inl e)) =
+        let found = within_found _ refl rest (fault (codes "within") e) in
+        subst Gives (sym e) (within_some _ _ found.0 found.1)
+    go (inr (inr (inl e))) = subst Gives (sym e) refl
+    go (inr (inr (inr e))) =
+        let found = solve_found _ refl rest (fault (codes "solve") e) in
+        subst Gives (sym e) (solve_some _ _ _ found.0 found.1)
 
 pub parse_gives : (ws : List Text) → fault_of grammar ws ≡ [] → is_some (command_of ws) ≡ true
 unfolding command_of

@@ -1,5 +1,5 @@
--- What a parse finds for the arguments of `within`: where it finds no fault, a number for each.
-use Rattle.std.proofs.Common.{◌≡◌, ℕ, ◌==◌, Bool, true, false, cond, not, ◌&&◌, ◌||◌, eqb-true, List, [], ◌∷◌, ◌++◌, length, codes, find, slice_get, Option, Some, None, is_some, option_map, option_and_then, inl, inr, refl, sym, ◌∙◌, ap, subst, fold, arith}
+-- What a parse finds for the numbers of `within` and of `solve`: where it finds no fault, one for each.
+use Rattle.std.proofs.Common.{◌≡◌, ℕ, ◌==◌, Bool, true, false, cond, not, ◌&&◌, ◌||◌, eqb-true, List, [], ◌∷◌, ◌++◌, length, codes, find, slice_get, Option, Some, None, is_some, option_map, option_and_then, ◌⊎◌, inl, inr, refl, sym, ◌∙◌, ap, subst, fold, arith}
 use Rattle.std.specs.List.{list_all, list_any}
 use Rattle.std.specs.Option.{option_map_or}
 use Rattle.std.specs.Str.{bytes_eq}
@@ -7,9 +7,9 @@ use Rattle.std.specs.Str.Parse.{digits_value, without_leading_plus}
 use Rattle.std.proofs.lemmas.List.Folds.{list_all-append}
 use Rattle.clap.specs.Words.{Kinds, Row, Rule, Shape, Text, new_rule, read_as}
 use Rattle.clap.specs.Kinds.{check_kinds, or_else, range_kinds, value_kinds}
-use Rattle.clap.specs.Walk.{Held, at_row, finished, has_row, more_values, nothing_held, row_text, rows_after, settled, used, values_or_missing, walk, walk_from, with_default, with_values, without}
+use Rattle.clap.specs.Walk.{Held, at_row, default_rows, finished, has_row, more_values, nothing_held, reading_by, row_text, rows_after, settled, used, values_or_missing, walk, walk_from, with_default, with_values, without}
 use Rattle.clap.specs.Faults.{check_fault, defaults_fault, level_fault, repeat_fault, set_fault, settle_fault, use_fault, values_fault, walk_fault}
-use Rattle.clap.specs.Simple.{filled, filled_from, help_rule}
+use Rattle.clap.specs.Simple.{filled, help_rule}
 use Rattle.clap.specs.Takes.{is_given}
 use Rattle.clap.specs.Facts.{explicit_source}
 use Rattle.clap.specs.ValueTests.{is_unsigned_in}
@@ -21,16 +21,16 @@ use Rattle.clap.specs.declared.builder.value_parser.Reading.TheVariants.{AsWritt
 use Rattle.clap.specs.declared.builder.value_parser.ValueParser.TheVariants.{Unsigned}
 use Rattle.clap.specs.declared.parser.matches.ValueSource.{ValueSource}
 use Rattle.clap.specs.declared.parser.matches.ValueSource.TheVariants.{CommandLine, DefaultValue}
-use Rattle.go_points.proofs.Lists.{Member, and_left, and_right, and_both, or_left, or_right}
-use Rattle.tsumego.specs.CommandLine.{most_nodes, most_turns, nodes_rule, number_in, number_of, turns_rule}
+use Rattle.go_points.proofs.Lists.{Member, and_left, and_right, and_both, or_cases, or_left, or_right}
+use Rattle.tsumego.specs.CommandLine.{most_entries, most_nodes, most_steps, most_turns, number_in, number_of, proof_rule}
 use Rattle.tsumego.proofs.SubcommandWalks.{first_none, then_none, walk_fine, end_fine}
 
 -- a row of this argument has a number that fits first
-abbrev pub fine_row : Text → ℕ → Row → Bool
-fine_row id most r = not (bytes_eq r.id id) || is_some (option_and_then (number_in most) (row_text r))
+abbrev pub fine_row : Text → ℕ → ℕ → Row → Bool
+fine_row id least most r = not (bytes_eq r.id id) || is_some (option_and_then (number_in least most) (row_text r))
 
-abbrev pub all_fine : Text → ℕ → List Row → Bool
-all_fine id most rows = list_all (fine_row id most) rows
+abbrev pub all_fine : Text → ℕ → ℕ → List Row → Bool
+all_fine id least most rows = list_all (fine_row id least most) rows
 
 at_row_keeps : (f : Row → Bool) (id : Text) (change : Row → List Row) (missing : List Row) → ((r : Row) → f r ≡ true → list_all f (change r) ≡ true) → list_all f missing ≡ true
     → (rows : List Row) → list_all f rows ≡ true → list_all f (at_row id change missing rows) ≡ true
@@ -43,21 +43,25 @@ at_row_keeps f id change missing changed new (r ∷ rs) h =
     go false later = and_both (f r) (list_all f (at_row id change missing rs)) (and_left (f r) (list_all f rs) h) later
 
 -- values at the end leave the first as it was
-more_keeps : (b : Bool) (how : Reading) (most : ℕ) (vs more : List Text) → (not b || is_some (option_and_then (number_in most) (option_map (read_as how) (slice_get vs 0)))) ≡ true
-    → (not b || is_some (option_and_then (number_in most) (option_map (read_as how) (slice_get (vs ++ more) 0)))) ≡ true
-more_keeps true how most [] more h = absurd (cc)
-more_keeps false how most [] more h = refl
-more_keeps b how most (v ∷ vs) more h = h
+more_keeps : (b : Bool) (how : Reading) (least most : ℕ) (vs more : List Text) → (not b || is_some (option_and_then (number_in least most) (option_map (read_as how) (slice_get vs 0)))) ≡ true
+    → (not b || is_some (option_and_then (number_in least most) (option_map (read_as how) (slice_get (vs ++ more) 0)))) ≡ true
+more_keeps true how least most [] more h = absurd (cc)
+more_keeps false how least most [] more h = refl
+more_keeps b how least most (v ∷ vs) more h = h
 
-added_fine : (id : Text) (most : ℕ) (s : ValueSource) (values : List Text) (r : Row) → fine_row id most r ≡ true → list_all (fine_row id most) (more_values s values r) ≡ true
-added_fine id most s values r h = and_both _ true (more_keeps (bytes_eq r.id id) r.reading most r.values values h) refl
+added_fine : (id : Text) (least most : ℕ) (s : ValueSource) (values : List Text) (r : Row) → fine_row id least most r ≡ true → list_all (fine_row id least most) (more_values s values r) ≡ true
+added_fine id least most s values r h = and_both _ true (more_keeps (bytes_eq r.id id) r.reading least most r.values values h) refl
 
-with_values_fine : (id : Text) (most : ℕ) (at : Text) (s : ValueSource) (values : List Text) → fine_row id most (record { id = at; values = values; count = None; source = Some s; reading = AsWritten }) ≡ true
-    → (rows : List Row) → all_fine id most rows ≡ true → all_fine id most (with_values at AsWritten s values rows) ≡ true
-with_values_fine id most at s values new rows h = at_row_keeps (fine_row id most) at (more_values s values) _ (added_fine id most s values) (and_both _ true new refl) rows h
+-- a row of these values
+abbrev row_with : Text → ValueSource → List Text → Row
+row_with at s values = record { id = at; values = values; count = None; source = Some s; reading = AsWritten }
 
-without_fine : (id : Text) (most : ℕ) (at : Text) (rows : List Row) → all_fine id most rows ≡ true → all_fine id most (without at rows) ≡ true
-without_fine id most at rows h = at_row_keeps (fine_row id most) at (λ _. []) [] (λ r g. refl) refl rows h
+with_values_fine : (id : Text) (least most : ℕ) (at : Text) (s : ValueSource) (values : List Text) → fine_row id least most (row_with at s values) ≡ true
+    → (rows : List Row) → all_fine id least most rows ≡ true → all_fine id least most (with_values at AsWritten s values rows) ≡ true
+with_values_fine id least most at s values new rows h = at_row_keeps (fine_row id least most) at (more_values s values) _ (added_fine id least most s values) (and_both _ true new refl) rows h
+
+without_fine : (id : Text) (least most : ℕ) (at : Text) (rows : List Row) → all_fine id least most rows ≡ true → all_fine id least most (without at rows) ≡ true
+without_fine id least most at rows h = at_row_keeps (fine_row id least most) at (λ _. []) [] (λ r g. refl) refl rows h
 
 -- a use that has no fault has one value, which the parser takes
 range_one : (n : ℕ) → range_kinds 1 1 n ≡ [] → n ≡ 1
@@ -73,108 +77,232 @@ one_value [] e = absurd (omega arith)
 one_value (v ∷ []) e = (v, refl)
 one_value (v ∷ w ∷ ws) e = absurd (omega arith)
 
--- the rules of `within`, as they are built
-abbrev number_rule : Text → Option Text → Option ℕ → ℕ → List Text → ℕ → Bool → Rule
-number_rule id long index names defaults most required = record (new_rule id) {
+-- an argument with a number, as it is built
+abbrev number_rule : Text → Option Text → Option ℕ → ℕ → List Text → ℕ → ℕ → Bool → Rule
+number_rule id long index names defaults least most required = record (new_rule id) {
   long = long;
   index = index;
   action = Some Set;
   range = Some (record { start_inclusive = 1; end_inclusive = 1 });
   value_names = names;
   defaults = defaults;
-  parser = Some (Unsigned 0 most);
+  parser = Some (Unsigned least most);
   required = required;
 }
 
+-- the rules of `within`, as they are built
 abbrev turns_built : Rule
-turns_built = number_rule (codes "K") None (Some 1) 0 [] most_turns true
+turns_built = number_rule (codes "K") None (Some 1) 0 [] 0 most_turns true
 
 abbrev nodes_built : Rule
-nodes_built = number_rule (codes "nodes") (Some (codes "nodes")) None 1 (codes "1000000" ∷ []) most_nodes false
+nodes_built = number_rule (codes "nodes") (Some (codes "nodes")) None 1 (codes "1000000" ∷ []) 0 most_nodes false
 
-abbrev pub within_rules : List Rule
+abbrev within_rules : List Rule
 within_rules = turns_built ∷ nodes_built ∷ filled help_rule ∷ []
 
-pub rules_are : filled_from 1 (turns_rule ∷ nodes_rule ∷ help_rule ∷ []) ≡ within_rules
-rules_are = refl
+-- and those of `solve`
+abbrev steps_built : Rule
+steps_built = number_rule (codes "steps") (Some (codes "steps")) None 1 (codes "1000000" ∷ []) 1 most_steps false
 
-number_used : (at : Text) (long : Option Text) (index : Option ℕ) (names : ℕ) (defaults : List Text) (m : ℕ) (required again : Bool) (id : Text) (most : ℕ) (values : List Text) (rows : List Row)
-    → ((v : Text) → is_unsigned_in 0 m v ≡ true → fine_row id most (record { id = at; values = v ∷ []; count = None; source = Some CommandLine; reading = AsWritten }) ≡ true)
-    → use_fault again (number_rule at long index names defaults m required) values rows ≡ [] → all_fine id most rows ≡ true
-    → all_fine id most (used (number_rule at long index names defaults m required) values rows) ≡ true
-number_used at long index names defaults m required again id most values rows new none fine =
-    let a : Rule = number_rule at long index names defaults m required in
+abbrev table_built : Rule
+table_built = number_rule (codes "table") (Some (codes "table")) None 1 (codes "100000" ∷ []) 1 most_entries false
+
+abbrev solve_rules : List Rule
+solve_rules = steps_built ∷ table_built ∷ filled proof_rule ∷ filled help_rule ∷ []
+
+-- each use of this argument that has no fault keeps the rows fine, and so does its default
+abbrev UseKeeps : Text → ℕ → ℕ → Rule → Type 0
+UseKeeps id least most a = (again : Bool) (values : List Text) (rows : List Row) → use_fault again a values rows ≡ [] → all_fine id least most rows ≡ true → all_fine id least most (used a values rows) ≡ true
+
+abbrev DefaultKeeps : Text → ℕ → ℕ → Rule → Type 0
+DefaultKeeps id least most a = (rows : List Row) → all_fine id least most rows ≡ true → all_fine id least most (with_default rows a) ≡ true
+
+abbrev pub Keeps : Text → ℕ → ℕ → List Rule → Type 0
+Keeps id least most [] = Unit {0}
+Keeps id least most (a ∷ rest) = UseKeeps id least most a × DefaultKeeps id least most a × Keeps id least most rest
+
+-- a use of an argument with a number, of which each that is taken makes a fine row
+number_used : (at : Text) (long : Option Text) (index : Option ℕ) (names : ℕ) (defaults : List Text) (l m : ℕ) (required : Bool) (id : Text) (least most : ℕ)
+    → ((v : Text) → is_unsigned_in l m v ≡ true → fine_row id least most (row_with at CommandLine (v ∷ [])) ≡ true)
+    → UseKeeps id least most (number_rule at long index names defaults l m required)
+number_used at long index names defaults l m required id least most new again values rows none fine =
+    let a : Rule = number_rule at long index names defaults l m required in
     let one = one_value values (range_one (length values) (first_none (range_kinds 1 1 (length values)) (set_fault again a (values_or_missing a values) rows) none)) in
     let set : set_fault again a (one.0 ∷ []) rows ≡ [] = subst (λ vs. set_fault again a (values_or_missing a vs) rows ≡ []) one.1 (then_none (range_kinds 1 1 (length values)) (set_fault again a (values_or_missing a values) rows) none) in
-    let value : value_kinds false (Unsigned 0 m) one.0 ≡ [] = first_none (value_kinds false (Unsigned 0 m) one.0) [] (then_none (repeat_fault again at rows) (values_fault a (one.0 ∷ [])) set) in
-    subst (λ vs. all_fine id most (with_values at AsWritten CommandLine (values_or_missing a vs) (without at rows)) ≡ true) (sym one.1)
-    (with_values_fine id most at CommandLine (one.0 ∷ []) (new one.0 (taken one.0 (is_unsigned_in 0 m one.0) refl value)) (without at rows) (without_fine id most at rows fine))
+    let value : value_kinds false (Unsigned l m) one.0 ≡ [] = first_none (value_kinds false (Unsigned l m) one.0) [] (then_none (repeat_fault again at rows) (values_fault a (one.0 ∷ [])) set) in
+    subst (λ vs. all_fine id least most (with_values at AsWritten CommandLine (values_or_missing a vs) (without at rows)) ≡ true) (sym one.1)
+    (with_values_fine id least most at CommandLine (one.0 ∷ []) (new one.0 (taken one.0 (is_unsigned_in l m one.0) refl value)) (without at rows) (without_fine id least most at rows fine))
   where
-    taken : (v : Text) (b : Bool) → is_unsigned_in 0 m v ≡ b → cond b [] (refused_kind (Unsigned 0 m) ∷ []) ≡ [] → is_unsigned_in 0 m v ≡ true
+    taken : (v : Text) (b : Bool) → is_unsigned_in l m v ≡ b → cond b [] (refused_kind (Unsigned l m) ∷ []) ≡ [] → is_unsigned_in l m v ≡ true
     taken v true e f = e
     taken v false e f = absurd (cc)
 
--- each use of an argument keeps the rows fine, for the turns and for the states
-turns_fine : (again : Bool) (a : Rule) → Member a within_rules → (values : List Text) (rows : List Row) → use_fault again a values rows ≡ [] → all_fine (codes "K") most_turns rows ≡ true → all_fine (codes "K") most_turns (used a values rows) ≡ true
-turns_fine again a (inl e) values rows none fine =
-    subst (λ b. all_fine (codes "K") most_turns (used b values rows) ≡ true) (sym e)
-    (number_used (codes "K") None (Some 1) 0 [] most_turns true again (codes "K") most_turns values rows (λ v h. ap (λ b. is_some (cond b (Some (digits_value 10 (without_leading_plus v))) None)) h)
-    (subst (λ b. use_fault again b values rows ≡ []) e none) fine)
-turns_fine again a (inr (inl e)) values rows none fine =
-    subst (λ b. all_fine (codes "K") most_turns (used b values rows) ≡ true) (sym e)
-    (number_used (codes "nodes") (Some (codes "nodes")) None 1 (codes "1000000" ∷ []) most_nodes false again (codes "K") most_turns values rows (λ v h. refl)
-    (subst (λ b. use_fault again b values rows ≡ []) e none) fine)
-turns_fine again a (inr (inr (inl e))) values rows none fine = subst (λ b. all_fine (codes "K") most_turns (used b values rows) ≡ true) (sym e) fine
-turns_fine again a (inr (inr (inr m))) values rows none fine = absurd m
+-- an argument of another name makes rows that are fine whatever they hold
+other_row : (id : Text) (least most : ℕ) (at : Text) → bytes_eq at id ≡ false → (s : ValueSource) (values : List Text) → fine_row id least most (row_with at s values) ≡ true
+other_row id least most at other s values = ap (λ b. not b || is_some (option_and_then (number_in least most) (row_text (row_with at s values)))) other
 
-nodes_fine : (again : Bool) (a : Rule) → Member a within_rules → (values : List Text) (rows : List Row) → use_fault again a values rows ≡ [] → all_fine (codes "nodes") most_nodes rows ≡ true → all_fine (codes "nodes") most_nodes (used a values rows) ≡ true
-nodes_fine again a (inl e) values rows none fine =
-    subst (λ b. all_fine (codes "nodes") most_nodes (used b values rows) ≡ true) (sym e)
-    (number_used (codes "K") None (Some 1) 0 [] most_turns true again (codes "nodes") most_nodes values rows (λ v h. refl)
-    (subst (λ b. use_fault again b values rows ≡ []) e none) fine)
-nodes_fine again a (inr (inl e)) values rows none fine =
-    subst (λ b. all_fine (codes "nodes") most_nodes (used b values rows) ≡ true) (sym e)
-    (number_used (codes "nodes") (Some (codes "nodes")) None 1 (codes "1000000" ∷ []) most_nodes false again (codes "nodes") most_nodes values rows (λ v h. ap (λ b. is_some (cond b (Some (digits_value 10 (without_leading_plus v))) None)) h)
-    (subst (λ b. use_fault again b values rows ≡ []) e none) fine)
-nodes_fine again a (inr (inr (inl e))) values rows none fine = subst (λ b. all_fine (codes "nodes") most_nodes (used b values rows) ≡ true) (sym e) fine
-nodes_fine again a (inr (inr (inr m))) values rows none fine = absurd m
+own_row : (id : Text) (least most : ℕ) (v : Text) → is_unsigned_in least most v ≡ true → (s : ValueSource) → fine_row id least most (row_with id s (v ∷ [])) ≡ true
+own_row id least most v taken s = or_right (not (bytes_eq id id)) _ (ap (λ b. is_some (cond b (Some (digits_value 10 (without_leading_plus v))) None)) taken)
 
--- the number of states has a default, and the others have none
-abbrev with_nodes : List Row → List Row
-with_nodes rows = cond (has_row (codes "nodes") rows) rows (with_values (codes "nodes") AsWritten DefaultValue (codes "1000000" ∷ []) rows)
+own_used : (id : Text) (long : Option Text) (index : Option ℕ) (names : ℕ) (defaults : List Text) (least most : ℕ) (required : Bool)
+    → UseKeeps id least most (number_rule id long index names defaults least most required)
+own_used id long index names defaults least most required =
+    number_used id long index names defaults least most required id least most (λ v taken. own_row id least most v taken CommandLine)
+
+other_used : (id : Text) (least most : ℕ) (at : Text) (long : Option Text) (index : Option ℕ) (names : ℕ) (defaults : List Text) (l m : ℕ) (required : Bool) → bytes_eq at id ≡ false
+    → UseKeeps id least most (number_rule at long index names defaults l m required)
+other_used id least most at long index names defaults l m required other =
+    number_used at long index names defaults l m required id least most (λ v taken. other_row id least most at other CommandLine (v ∷ []))
+
+flag_used : (id : Text) (least most : ℕ) → bytes_eq (codes "proof") id ≡ false → UseKeeps id least most (filled proof_rule)
+flag_used id least most other again values rows none fine =
+    with_values_fine id least most (codes "proof") CommandLine (values_or_missing (filled proof_rule) values) (other_row id least most (codes "proof") other CommandLine (values_or_missing (filled proof_rule) values))
+    (without (codes "proof") rows) (without_fine id least most (codes "proof") rows fine)
+
+-- a default of one value
+abbrev with_one_default : Text → Text → List Row → List Row
+with_one_default at v rows = cond (has_row at rows) rows (with_values at AsWritten DefaultValue (v ∷ []) rows)
+
+default_fine : (id : Text) (least most : ℕ) (at v : Text) → fine_row id least most (row_with at DefaultValue (v ∷ [])) ≡ true → (rows : List Row) → all_fine id least most rows ≡ true
+    → all_fine id least most (with_one_default at v rows) ≡ true
+default_fine id least most at v new rows fine = go (has_row at rows)
+  where
+    go : (b : Bool) → all_fine id least most (cond b rows (with_values at AsWritten DefaultValue (v ∷ []) rows)) ≡ true
+    go true = fine
+    go false = with_values_fine id least most at DefaultValue (v ∷ []) new rows fine
 
 either_way : {A : Type 0} (b : Bool) (x : A) → cond b x x ≡ x
 either_way true x = refl
 either_way false x = refl
 
-defaults_are : (rows : List Row) → fold with_default rows within_rules ≡ with_nodes rows
-defaults_are rows = either_way (has_row (codes "help") (with_default (with_default rows turns_built) nodes_built)) (with_default (with_default rows turns_built) nodes_built)
-    ∙ ap (λ rs. with_default rs nodes_built) (either_way (has_row (codes "K") rows) rows)
+no_default : (id : Text) (least most : ℕ) (at : Text) (rows : List Row) → all_fine id least most rows ≡ true → all_fine id least most (cond (has_row at rows) rows rows) ≡ true
+no_default id least most at rows fine = subst (λ rs. all_fine id least most rs ≡ true) (sym (either_way (has_row at rows) rows)) fine
 
-nodes_there : (rows : List Row) → has_row (codes "nodes") (with_nodes rows) ≡ true
-nodes_there rows = go (has_row (codes "nodes") rows) refl
+help_keeps : (id : Text) (least most : ℕ) → Keeps id least most (filled help_rule ∷ [])
+help_keeps id least most = ((λ again values rows none fine. fine), no_default id least most (codes "help"), tt)
+
+turns_kept : Keeps (codes "K") 0 most_turns within_rules
+turns_kept = (
+  own_used (codes "K") None (Some 1) 0 [] 0 most_turns true,
+  no_default (codes "K") 0 most_turns (codes "K"),
+  (
+    other_used (codes "K") 0 most_turns (codes "nodes") (Some (codes "nodes")) None 1 (codes "1000000" ∷ []) 0 most_nodes false refl,
+    default_fine (codes "K") 0 most_turns (codes "nodes") (codes "1000000") refl,
+    help_keeps (codes "K") 0 most_turns,
+  ),
+)
+
+nodes_kept : Keeps (codes "nodes") 0 most_nodes within_rules
+nodes_kept = (
+  other_used (codes "nodes") 0 most_nodes (codes "K") None (Some 1) 0 [] 0 most_turns true refl,
+  no_default (codes "nodes") 0 most_nodes (codes "K"),
+  (
+    own_used (codes "nodes") (Some (codes "nodes")) None 1 (codes "1000000" ∷ []) 0 most_nodes false,
+    default_fine (codes "nodes") 0 most_nodes (codes "nodes") (codes "1000000") refl,
+    help_keeps (codes "nodes") 0 most_nodes,
+  ),
+)
+
+steps_kept : Keeps (codes "steps") 1 most_steps solve_rules
+steps_kept = (
+  own_used (codes "steps") (Some (codes "steps")) None 1 (codes "1000000" ∷ []) 1 most_steps false,
+  default_fine (codes "steps") 1 most_steps (codes "steps") (codes "1000000") refl,
+  (
+    other_used (codes "steps") 1 most_steps (codes "table") (Some (codes "table")) None 1 (codes "100000" ∷ []) 1 most_entries false refl,
+    default_fine (codes "steps") 1 most_steps (codes "table") (codes "100000") refl,
+    (
+      flag_used (codes "steps") 1 most_steps refl,
+      default_fine (codes "steps") 1 most_steps (codes "proof") (codes "false") refl,
+      help_keeps (codes "steps") 1 most_steps,
+    ),
+  ),
+)
+
+table_kept : Keeps (codes "table") 1 most_entries solve_rules
+table_kept = (
+  other_used (codes "table") 1 most_entries (codes "steps") (Some (codes "steps")) None 1 (codes "1000000" ∷ []) 1 most_steps false refl,
+  default_fine (codes "table") 1 most_entries (codes "steps") (codes "1000000") refl,
+  (
+    own_used (codes "table") (Some (codes "table")) None 1 (codes "100000" ∷ []) 1 most_entries false,
+    default_fine (codes "table") 1 most_entries (codes "table") (codes "100000") refl,
+    (
+      flag_used (codes "table") 1 most_entries refl,
+      default_fine (codes "table") 1 most_entries (codes "proof") (codes "false") refl,
+      help_keeps (codes "table") 1 most_entries,
+    ),
+  ),
+)
+
+-- what all arguments keep is kept by each, and by the defaults in turn
+use_kept : (id : Text) (least most : ℕ) (rules : List Rule) → Keeps id least most rules → (a : Rule) → Member a rules → UseKeeps id least most a
+use_kept id least most [] kept a m = absurd m
+use_kept id least most (r ∷ rs) kept a (inl e) = subst (UseKeeps id least most) (sym e) kept.0
+use_kept id least most (r ∷ rs) kept a (inr m) = use_kept id least most rs kept.2 a m
+
+defaults_kept : (id : Text) (least most : ℕ) (rules : List Rule) → Keeps id least most rules → (rows : List Row) → all_fine id least most rows ≡ true
+    → all_fine id least most (fold with_default rows rules) ≡ true
+defaults_kept id least most [] kept rows fine = fine
+defaults_kept id least most (r ∷ rs) kept rows fine = defaults_kept id least most rs kept.2 (with_default rows r) (kept.1 rows fine)
+
+-- an argument that has a row keeps it, and a default makes one
+put_keeps : (id at : Text) (how : Reading) (s : ValueSource) (values : List Text) (rows : List Row) → has_row id rows ≡ true → has_row id (with_values at how s values rows) ≡ true
+put_keeps id at how s values [] there = absurd (cc)
+put_keeps id at how s values (r ∷ rs) there = go (bytes_eq r.id at) (or_cases (bytes_eq r.id id) (has_row id rs) there) (put_keeps id at how s values rs)
   where
-    put : (rs : List Row) → has_row (codes "nodes") (with_values (codes "nodes") AsWritten DefaultValue (codes "1000000" ∷ []) rs) ≡ true
-    put [] = refl
-    put (r ∷ rs) = pick (bytes_eq r.id (codes "nodes")) refl (put rs)
-      where
-        pick : (b : Bool) → bytes_eq r.id (codes "nodes") ≡ b → has_row (codes "nodes") (with_values (codes "nodes") AsWritten DefaultValue (codes "1000000" ∷ []) rs) ≡ true
-            → has_row (codes "nodes") (cond b (more_values DefaultValue (codes "1000000" ∷ []) r ++ rs) (r ∷ with_values (codes "nodes") AsWritten DefaultValue (codes "1000000" ∷ []) rs)) ≡ true
-        pick true e later = or_left (bytes_eq r.id (codes "nodes")) _ e
-        pick false e later = or_right (bytes_eq r.id (codes "nodes")) _ later
+    go : (b : Bool) → (bytes_eq r.id id ≡ true) ⊎ (has_row id rs ≡ true) → (has_row id rs ≡ true → has_row id (with_values at how s values rs) ≡ true)
+        → has_row id (cond b (more_values s values r ++ rs) (r ∷ with_values at how s values rs)) ≡ true
+    go true h later = there
+    go false (inl h) later = or_left (bytes_eq r.id id) _ h
+    go false (inr h) later = or_right (bytes_eq r.id id) _ (later h)
 
-    go : (b : Bool) → has_row (codes "nodes") rows ≡ b → has_row (codes "nodes") (cond b rows (with_values (codes "nodes") AsWritten DefaultValue (codes "1000000" ∷ []) rows)) ≡ true
+default_keeps : (id : Text) (a : Rule) (rows : List Row) → has_row id rows ≡ true → has_row id (with_default rows a) ≡ true
+default_keeps id a rows there = go (has_row a.id rows) a.defaults
+  where
+    go : (b : Bool) (values : List Text) → has_row id (cond b rows (default_rows a.id (reading_by a) values rows)) ≡ true
+    go true values = there
+    go false [] = there
+    go false (v ∷ vs) = put_keeps id a.id (reading_by a) DefaultValue (v ∷ vs) rows there
+
+defaults_keep : (id : Text) (rules : List Rule) (rows : List Row) → has_row id rows ≡ true → has_row id (fold with_default rows rules) ≡ true
+defaults_keep id [] rows there = there
+defaults_keep id (a ∷ rest) rows there = defaults_keep id rest (with_default rows a) (default_keeps id a rows there)
+
+put_there : (id : Text) (how : Reading) (s : ValueSource) (values : List Text) → bytes_eq id id ≡ true → (rows : List Row) → has_row id (with_values id how s values rows) ≡ true
+put_there id how s values same [] = or_left (bytes_eq id id) _ same
+put_there id how s values same (r ∷ rs) = pick (bytes_eq r.id id) refl (put_there id how s values same rs)
+  where
+    pick : (b : Bool) → bytes_eq r.id id ≡ b → has_row id (with_values id how s values rs) ≡ true → has_row id (cond b (more_values s values r ++ rs) (r ∷ with_values id how s values rs)) ≡ true
+    pick true e later = or_left (bytes_eq r.id id) _ e
+    pick false e later = or_right (bytes_eq r.id id) _ later
+
+default_there : (id v : Text) → bytes_eq id id ≡ true → (rows : List Row) → has_row id (with_one_default id v rows) ≡ true
+default_there id v same rows = go (has_row id rows) refl
+  where
+    go : (b : Bool) → has_row id rows ≡ b → has_row id (cond b rows (with_values id AsWritten DefaultValue (v ∷ []) rows)) ≡ true
     go true e = e
-    go false e = put rows
+    go false e = put_there id AsWritten DefaultValue (v ∷ []) same rows
+
+nodes_there : (rows : List Row) → has_row (codes "nodes") (fold with_default rows within_rules) ≡ true
+nodes_there rows =
+    defaults_keep (codes "nodes") (filled help_rule ∷ []) (with_default (with_default rows turns_built) nodes_built) (default_there (codes "nodes") (codes "1000000") refl (with_default rows turns_built))
+
+steps_there : (rows : List Row) → has_row (codes "steps") (fold with_default rows solve_rules) ≡ true
+steps_there rows =
+    defaults_keep (codes "steps") (table_built ∷ filled proof_rule ∷ filled help_rule ∷ []) (with_default rows steps_built) (default_there (codes "steps") (codes "1000000") refl rows)
+
+table_there : (rows : List Row) → has_row (codes "table") (fold with_default rows solve_rules) ≡ true
+table_there rows =
+    defaults_keep (codes "table") (filled proof_rule ∷ filled help_rule ∷ []) (with_default (with_default rows steps_built) table_built)
+    (default_there (codes "table") (codes "100000") refl (with_default rows steps_built))
 
 -- a row that is there is read
-row_read : (id : Text) (most : ℕ) (rows : List Row) → all_fine id most rows ≡ true → has_row id rows ≡ true → is_some (number_of id most rows) ≡ true
-row_read id most [] fine there = absurd (cc)
-row_read id most (r ∷ rs) fine there =
-    go (bytes_eq r.id id) (and_left (fine_row id most r) (all_fine id most rs) fine) there (row_read id most rs (and_right (fine_row id most r) (all_fine id most rs) fine))
+row_read : (id : Text) (least most : ℕ) (rows : List Row) → all_fine id least most rows ≡ true → has_row id rows ≡ true → is_some (number_of id least most rows) ≡ true
+row_read id least most [] fine there = absurd (cc)
+row_read id least most (r ∷ rs) fine there =
+    go (bytes_eq r.id id) (and_left (fine_row id least most r) (all_fine id least most rs) fine) there (row_read id least most rs (and_right (fine_row id least most r) (all_fine id least most rs) fine))
   where
-    go : (b : Bool) → (not b || is_some (option_and_then (number_in most) (row_text r))) ≡ true → (b || has_row id rs) ≡ true → (has_row id rs ≡ true → is_some (number_of id most rs) ≡ true)
-        → is_some (option_and_then (number_in most) (option_and_then row_text (cond b (Some r) (find (λ q. bytes_eq q.id id) rs)))) ≡ true
+    go : (b : Bool) → (not b || is_some (option_and_then (number_in least most) (row_text r))) ≡ true → (b || has_row id rs) ≡ true → (has_row id rs ≡ true → is_some (number_of id least most rs) ≡ true)
+        → is_some (option_and_then (number_in least most) (option_and_then row_text (cond b (Some r) (find (λ q. bytes_eq q.id id) rs)))) ≡ true
     go true f g later = f
     go false f g later = later g
 
@@ -198,41 +326,59 @@ turns_given false true rest h = refl
 turns_given true false rest h = absurd (cc)
 turns_given false false rest h = absurd (cc)
 
--- a parse of the words of `within` that has no fault finds both numbers
-pub numbers_found : (s : Shape) → s.rules ≡ within_rules → (words : List Text) → level_fault s [] nothing_held words false [] ≡ []
-    → (is_some (number_of (codes "K") most_turns (rows_after s.rules [] words)) ≡ true) × (is_some (number_of (codes "nodes") most_nodes (rows_after s.rules [] words)) ≡ true)
-numbers_found s are words none =
-    let end : Held = (walk s.rules [] nothing_held words).held in
-    let rows : List Row = (settled s.rules end).rows in
-    let behind : Kinds = or_else (settle_fault s.rules s.args_override_self end) (or_else (defaults_fault rows s.rules) (check_fault s (finished s.rules end) false)) in
-    let walked_none : walk_fault s [] (walk_from nothing_held) words ≡ [] = first_none (walk_fault s [] (walk_from nothing_held) words) behind none in
-    let behind_none : behind ≡ [] = then_none (walk_fault s [] (walk_from nothing_held) words) behind none in
-    let settle_none = first_none (settle_fault s.rules s.args_override_self end) (or_else (defaults_fault rows s.rules) (check_fault s (finished s.rules end) false)) behind_none in
-    let check = then_none (defaults_fault rows s.rules) (check_fault s (finished s.rules end) false) (then_none (settle_fault s.rules s.args_override_self end) (or_else (defaults_fault rows s.rules) (check_fault s (finished s.rules end) false)) behind_none) in
-    let kept_turns = λ (a : Rule) (m : Member a s.rules). turns_fine s.args_override_self a (subst (Member a) are m) in
-    let kept_nodes = λ (a : Rule) (m : Member a s.rules). nodes_fine s.args_override_self a (subst (Member a) are m) in
-    let fine_turns : all_fine (codes "K") most_turns rows ≡ true = end_fine s (λ rs. all_fine (codes "K") most_turns rs ≡ true) kept_turns end (walk_fine s (λ rs. all_fine (codes "K") most_turns rs ≡ true) kept_turns words (walk_from nothing_held) refl walked_none) settle_none in
-    let fine_nodes : all_fine (codes "nodes") most_nodes rows ≡ true = end_fine s (λ rs. all_fine (codes "nodes") most_nodes rs ≡ true) kept_nodes end (walk_fine s (λ rs. all_fine (codes "nodes") most_nodes rs ≡ true) kept_nodes words (walk_from nothing_held) refl walked_none) settle_none in
-    let done : finished s.rules end ≡ with_nodes rows = ap (fold with_default rows) are ∙ defaults_are rows in
-    let given : is_given (codes "K") (finished s.rules end) ≡ true =
-    turns_given s.subcommand_negates_reqs (is_given (codes "K") (finished s.rules end)) (list_any (λ a. a.required && not (is_given a.id (finished s.rules end))) (nodes_built ∷ filled help_rule ∷ []))
-    (subst (λ rules. (not (s.subcommand_negates_reqs && false) && list_any (λ a. a.required && not (is_given a.id (finished s.rules end))) rules) ≡ false) are (check_none _ _ _ check).1) in (
-      subst (λ rs. is_some (number_of (codes "K") most_turns rs) ≡ true) (sym done)
-          (row_read (codes "K") most_turns (with_nodes rows) (pick_turns rows fine_turns) (given_there (codes "K") (with_nodes rows) (subst (λ rs. is_given (codes "K") rs ≡ true) done given))),
-      subst (λ rs. is_some (number_of (codes "nodes") most_nodes rs) ≡ true) (sym done)
-          (row_read (codes "nodes") most_nodes (with_nodes rows) (pick_nodes rows fine_nodes) (nodes_there rows)),
-    )
-  where
-    pick_turns : (rows : List Row) → all_fine (codes "K") most_turns rows ≡ true → all_fine (codes "K") most_turns (with_nodes rows) ≡ true
-    pick_turns rows fine = go (has_row (codes "nodes") rows)
-      where
-        go : (b : Bool) → all_fine (codes "K") most_turns (cond b rows (with_values (codes "nodes") AsWritten DefaultValue (codes "1000000" ∷ []) rows)) ≡ true
-        go true = fine
-        go false = with_values_fine (codes "K") most_turns (codes "nodes") DefaultValue (codes "1000000" ∷ []) refl rows fine
+module _ (s : Shape) (words : List Text) (none : level_fault s [] nothing_held words false [] ≡ []) where
+  end : Held
+  end = (walk s.rules [] nothing_held words).held
 
-    pick_nodes : (rows : List Row) → all_fine (codes "nodes") most_nodes rows ≡ true → all_fine (codes "nodes") most_nodes (with_nodes rows) ≡ true
-    pick_nodes rows fine = go (has_row (codes "nodes") rows)
-      where
-        go : (b : Bool) → all_fine (codes "nodes") most_nodes (cond b rows (with_values (codes "nodes") AsWritten DefaultValue (codes "1000000" ∷ []) rows)) ≡ true
-        go true = fine
-        go false = with_values_fine (codes "nodes") most_nodes (codes "nodes") DefaultValue (codes "1000000" ∷ []) refl rows fine
+  rows : List Row
+  rows = (settled s.rules end).rows
+
+  check : Kinds
+  check = check_fault s (finished s.rules end) false
+
+  behind : Kinds
+  behind = or_else (settle_fault s.rules s.args_override_self end) (or_else (defaults_fault rows s.rules) check)
+
+  behind_none : behind ≡ []
+  unfolding behind check rows end
+  behind_none = then_none (walk_fault s [] (walk_from nothing_held) words) behind none
+
+  check_passed : check ≡ []
+  unfolding behind check rows end
+  check_passed = then_none (defaults_fault rows s.rules) check (then_none (settle_fault s.rules s.args_override_self end) (or_else (defaults_fault rows s.rules) check) behind_none)
+
+  -- a parse that has no fault finds the number of an argument that has a row at its end
+  number_found : (id : Text) (least most : ℕ) → Keeps id least most s.rules → has_row id (rows_after s.rules [] words) ≡ true → is_some (number_of id least most (rows_after s.rules [] words)) ≡ true
+  unfolding behind check rows end
+  number_found id least most kept there =
+      let Fine = λ (rs : List Row). all_fine id least most rs ≡ true in
+      let each = λ (a : Rule) (m : Member a s.rules). use_kept id least most s.rules kept a m s.args_override_self in
+      let walked_none : walk_fault s [] (walk_from nothing_held) words ≡ [] = first_none (walk_fault s [] (walk_from nothing_held) words) behind none in
+      let settle_none = first_none (settle_fault s.rules s.args_override_self end) (or_else (defaults_fault rows s.rules) check) behind_none in
+      let fine : all_fine id least most rows ≡ true = end_fine s Fine each end (walk_fine s Fine each words (walk_from nothing_held) refl walked_none) settle_none in
+      row_read id least most (rows_after s.rules [] words) (defaults_kept id least most s.rules kept rows fine) there
+
+-- a parse of the words of `within` that has no fault finds both numbers
+pub within_found : (s : Shape) → s.rules ≡ within_rules → (words : List Text) → level_fault s [] nothing_held words false [] ≡ []
+    → (is_some (number_of (codes "K") 0 most_turns (rows_after s.rules [] words)) ≡ true) × (is_some (number_of (codes "nodes") 0 most_nodes (rows_after s.rules [] words)) ≡ true)
+unfolding check rows end
+within_found s are words none =
+    let last : List Row = rows_after s.rules [] words in
+    let given : is_given (codes "K") last ≡ true =
+    turns_given s.subcommand_negates_reqs (is_given (codes "K") last) (list_any (λ a. a.required && not (is_given a.id last)) (nodes_built ∷ filled help_rule ∷ []))
+    (subst (λ rules. (not (s.subcommand_negates_reqs && false) && list_any (λ a. a.required && not (is_given a.id last)) rules) ≡ false) are (check_none _ _ _ (check_passed s words none)).1) in (
+      number_found s words none (codes "K") 0 most_turns (subst (Keeps (codes "K") 0 most_turns) (sym are) turns_kept) (given_there (codes "K") last given),
+      number_found s words none (codes "nodes") 0 most_nodes (subst (Keeps (codes "nodes") 0 most_nodes) (sym are) nodes_kept)
+          (subst (λ rules. has_row (codes "nodes") (fold with_default (rows s words none) rules) ≡ true) (sym are) (nodes_there (rows s words none))),
+    )
+
+-- and so does one of the words of `solve`
+pub solve_found : (s : Shape) → s.rules ≡ solve_rules → (words : List Text) → level_fault s [] nothing_held words false [] ≡ []
+    → (is_some (number_of (codes "steps") 1 most_steps (rows_after s.rules [] words)) ≡ true) × (is_some (number_of (codes "table") 1 most_entries (rows_after s.rules [] words)) ≡ true)
+unfolding rows end
+solve_found s are words none = (
+  number_found s words none (codes "steps") 1 most_steps (subst (Keeps (codes "steps") 1 most_steps) (sym are) steps_kept)
+      (subst (λ rules. has_row (codes "steps") (fold with_default (rows s words none) rules) ≡ true) (sym are) (steps_there (rows s words none))),
+  number_found s words none (codes "table") 1 most_entries (subst (Keeps (codes "table") 1 most_entries) (sym are) table_kept)
+      (subst (λ rules. has_row (codes "table") (fold with_default (rows s words none) rules) ≡ true) (sym are) (table_there (rows s words none))),
+)

@@ -1,10 +1,12 @@
 -- The command line: what the words ask for, by the grammar that `clap` is given.
-use Rattle.std.specs.Prelude.{◌≡◌, ◌≤◌, ℕ, true, false, List, [], ◌∷◌, codes, Option, Some, None, option_and_then, if◌then◌else◌}
+use Rattle.std.specs.Prelude.{◌≡◌, ◌≤◌, ℕ, Bool, true, false, List, [], ◌∷◌, codes, Option, Some, None, option_and_then, if◌then◌else◌}
+use Rattle.std.specs.Option.{option_map_or}
 use Rattle.std.specs.Str.{bytes_eq}
 use Rattle.std.specs.Str.Parse.{digits_value, without_leading_plus}
 use Rattle.clap.specs.Words.{App, Kinds, Row, Rule, Shape, Text, fault_of, new_rule, one_of, subcommand_of}
 use Rattle.clap.specs.Simple.{new_shape}
 use Rattle.clap.specs.ValueTests.{is_unsigned_in}
+use Rattle.clap.specs.declared.builder.action.ArgAction.TheVariants.{SetTrue}
 use Rattle.clap.specs.declared.builder.value_parser.ValueParser.TheVariants.{Unsigned}
 use Rattle.tsumego.specs.declared.command_line.Command.{Command}
 use Rattle.tsumego.specs.declared.command_line.Command.TheVariants.{Check, Within, Audit, Solve}
@@ -18,6 +20,13 @@ most_turns = 200
 abbrev pub most_nodes : ℕ
 most_nodes = 4294967295
 
+-- The most steps, and the most entries of the table, that may be asked for; at least one of each is.
+abbrev pub most_steps : ℕ
+most_steps = 10000000
+
+abbrev pub most_entries : ℕ
+most_entries = 1000000
+
 -- `within` has the number of turns, which is required, and an option for the number of states.
 abbrev pub turns_rule : Rule
 turns_rule = record (new_rule (codes "K")) { required = true; parser = Some (Unsigned 0 most_turns) }
@@ -30,6 +39,26 @@ nodes_rule = record (new_rule (codes "nodes")) {
   parser = Some (Unsigned 0 most_nodes);
 }
 
+-- `solve` has an option for the number of steps, one for the entries of the table, and a flag that asks for the claim.
+abbrev pub steps_rule : Rule
+steps_rule = record (new_rule (codes "steps")) {
+  long = Some (codes "steps");
+  value_names = 1;
+  defaults = codes "1000000" ∷ [];
+  parser = Some (Unsigned 1 most_steps);
+}
+
+abbrev pub table_rule : Rule
+table_rule = record (new_rule (codes "table")) {
+  long = Some (codes "table");
+  value_names = 1;
+  defaults = codes "100000" ∷ [];
+  parser = Some (Unsigned 1 most_entries);
+}
+
+abbrev pub proof_rule : Rule
+proof_rule = record (new_rule (codes "proof")) { long = Some (codes "proof"); action = Some SetTrue }
+
 abbrev pub check_shape : Shape
 check_shape = new_shape (codes "check")
 
@@ -39,31 +68,44 @@ within_shape = record (new_shape (codes "within")) { rules = turns_rule ∷ node
 abbrev pub audit_shape : Shape
 audit_shape = new_shape (codes "audit")
 
+abbrev pub solve_shape : Shape
+solve_shape = record (new_shape (codes "solve")) { rules = steps_rule ∷ table_rule ∷ proof_rule ∷ [] }
+
 -- The program, one of whose subcommands has to be named.
 abbrev pub grammar : App
 grammar = record {
   top = record (new_shape (codes "tsumego")) { is_leaf = false; subcommand_required = true };
-  subs = check_shape ∷ within_shape ∷ audit_shape ∷ [];
+  subs = check_shape ∷ within_shape ∷ audit_shape ∷ solve_shape ∷ [];
 }
 
--- The number that the first value of an argument writes, where it is at most so much.
-abbrev pub number_in : ℕ → Text → Option ℕ
-number_in most text = (if is_unsigned_in 0 most text then Some (digits_value 10 (without_leading_plus text)) else None)
+-- The number that the first value of an argument writes, where it is at least so much and at most so much.
+abbrev pub number_in : ℕ → ℕ → Text → Option ℕ
+number_in least most text =
+    (if is_unsigned_in least most text then Some (digits_value 10 (without_leading_plus text)) else None)
 
-abbrev pub number_of : Text → ℕ → List Row → Option ℕ
-number_of id most rows = option_and_then (number_in most) (one_of id rows)
+abbrev pub number_of : Text → ℕ → ℕ → List Row → Option ℕ
+number_of id least most rows = option_and_then (number_in least most) (one_of id rows)
+
+-- A flag is on where its value is `true`.
+abbrev pub flag_of : Text → List Row → Bool
+flag_of id rows = option_map_or (λ text. bytes_eq text (codes "true")) (one_of id rows) false
 
 abbrev pub within_of : Option ℕ → Option ℕ → Option Command
 within_of (Some turns) (Some nodes) = Some (Within turns nodes)
 within_of _ _ = None
 
+abbrev pub solve_of : Option ℕ → Option ℕ → Bool → Option Command
+solve_of (Some steps) (Some table) proof = Some (Solve steps table proof)
+solve_of _ _ proof = None
+
 -- The command that a subcommand and its matches name.
 abbrev pub command_named : Text → List Row → Option Command
 command_named name rows =
     (if bytes_eq name (codes "check") then Some Check
-    else (if bytes_eq name (codes "within") then within_of (number_of (codes "K") most_turns rows) (number_of (codes "nodes") most_nodes rows)
+    else (if bytes_eq name (codes "within") then within_of (number_of (codes "K") 0 most_turns rows) (number_of (codes "nodes") 0 most_nodes rows)
     else (if bytes_eq name (codes "audit") then Some Audit
-    else None)))
+    else (if bytes_eq name (codes "solve") then solve_of (number_of (codes "steps") 1 most_steps rows) (number_of (codes "table") 1 most_entries rows) (flag_of (codes "proof") rows)
+    else None))))
 
 -- No command at a fault.
 abbrev pub unless_faulty : Kinds → Option Command → Option Command
@@ -77,13 +119,6 @@ command_of words = unless_faulty (fault_of grammar words) (option_and_then (λ p
 -- `clap` finds a fault in the words, or a call for help.
 abbrev pub HasFault : List Text → Type 0
 HasFault words = fault_of grammar words ≡ [] → ⊥
-
--- The most steps, and the most entries of the table, that may be asked for; at least one of each is.
-abbrev pub most_steps : ℕ
-most_steps = 10000000
-
-abbrev pub most_entries : ℕ
-most_entries = 1000000
 
 -- The numbers of a command are within their ranges.
 abbrev pub FitsRanges : Command → Type 0

@@ -4,13 +4,13 @@
 //! each part of the grammar has a function of its own, and nothing else stands here.
 
 ghost use Rattle.std.specs.Prelude.{◌≡◌, ◌≤◌, false, Some, None, codes, IfOk, IfErr, IfSome, option_and_then, map};
-ghost use Rattle.clap.specs.Words.{app_of, found_of, kind_of, new_app, one_of, rows_of, rule_of, subcommand_rows_of, with_rule};
+ghost use Rattle.clap.specs.Words.{app_of, found_of, kind_of, new_app, rows_of, rule_of, subcommand_rows_of, with_rule, with_subcommand};
 ghost use Rattle.clap.specs.declared.builder.command.Command.TheViews.{out-Command as fields_of};
-ghost use Rattle.tsumego.specs.CommandLine.{FitsRanges, HasFault, IsWordsFault, command_named, command_of, grammar, most_nodes, most_turns, nodes_rule, number_of, turns_rule};
+ghost use Rattle.tsumego.specs.CommandLine.{FitsRanges, HasFault, IsWordsFault, command_named, command_of, flag_of, grammar, nodes_rule, number_of, proof_rule, solve_shape, steps_rule, table_rule, turns_rule};
 
 use clap::builder::ValueParser;
 use clap::error::ErrorKind;
-use clap::{Arg, ArgMatches, Error};
+use clap::{Arg, ArgAction, ArgMatches, Error};
 use std::alloc::{AllocError, Global};
 use std::convert::AsStr;
 
@@ -19,6 +19,12 @@ const MOST_TURNS: u64 = 200;
 
 /// The most states that may be asked for.
 const MOST_NODES: u64 = 4_294_967_295;
+
+/// The most steps that may be asked for.
+const MOST_STEPS: u64 = 10_000_000;
+
+/// The most entries of the table that may be asked for.
+const MOST_ENTRIES: u64 = 1_000_000;
 
 /// What the words ask for.
 #[derive(Clone, Copy, Debug, PartialEq, Eq)]
@@ -92,8 +98,8 @@ fn chosen(matches: &ArgMatches<'_>) -> Option<Command>
         return Some(Command::Check);
     }
     if name == "within" {
-        let turns = number(given, "K", MOST_TURNS)?;
-        let nodes = number(given, "nodes", MOST_NODES)?;
+        let turns = number(given, "K", 0, MOST_TURNS)?;
+        let nodes = number(given, "nodes", 0, MOST_NODES)?;
         return Some(Command::Within {
             turns: turns as u32,
             nodes,
@@ -102,17 +108,38 @@ fn chosen(matches: &ArgMatches<'_>) -> Option<Command>
     if name == "audit" {
         return Some(Command::Audit);
     }
+    if name == "solve" {
+        let steps = number(given, "steps", 1, MOST_STEPS)?;
+        let table = number(given, "table", 1, MOST_ENTRIES)?;
+        return Some(Command::Solve {
+            steps,
+            table: table as usize,
+            proof: flag(given, "proof"),
+        });
+    }
     None
 }
 
-/// The number of an argument, where it is at most so much.
-fn number(given: &ArgMatches<'_>, id: &str, most: u64) -> Option<u64>
-    ensures value { result ≡ number_of id.now most (rows_of (found_of given.now)) }
+/// The number of an argument, where it is at least so much and at most so much.
+fn number(given: &ArgMatches<'_>, id: &str, least: u64, most: u64) -> Option<u64>
+    ensures value { result ≡ number_of id.now least most (rows_of (found_of given.now)) }
+    ensures least { IfSome result (λ n. least ≤ n) }
     ensures most { IfSome result (λ n. n ≤ most) }
 {
     match given.get_one::<u64>(id) {
-        Some(number) if number <= most => Some(number),
+        Some(number) if least <= number && number <= most => Some(number),
         _ => None,
+    }
+}
+
+/// Whether a flag is on.
+fn flag(given: &ArgMatches<'_>, id: &str) -> bool
+    ensures { result ≡ flag_of id.now (rows_of (found_of given.now)) }
+{
+    // `get_flag` promises nothing of a text that is neither `true` nor `false`.
+    match given.get_one::<bool>(id) {
+        Some(on) => on,
+        None => false,
     }
 }
 
@@ -120,8 +147,18 @@ fn number(given: &ArgMatches<'_>, id: &str, most: u64) -> Option<u64>
 fn program<'a>(alloc: Global) -> Result<clap::Command<'a>, AllocError>
     ensures { IfOk result (λ c. app_of c ≡ grammar) }
 {
+    let program = judging(alloc)?;
+    program.subcommand(solve_command(alloc)?)
+}
+
+/// The program with the subcommands that judge: all but `solve`.
+fn judging<'a>(alloc: Global) -> Result<clap::Command<'a>, AllocError>
+    ensures { IfOk result (λ c. with_subcommand (app_of c) solve_shape ≡ grammar) }
+{
     let program = clap::Command::new(alloc, "tsumego")
-        .about("Judges and decides problems of life and death in Go, read from standard input.")
+        .about(
+            "Judges, decides and solves problems of life and death in Go, read from standard input.",
+        )
         .subcommand_required(true);
     let program = program.subcommand(check_command(alloc))?;
     let program = program.subcommand(within_command(alloc)?)?;
@@ -155,6 +192,18 @@ fn audit_command<'a>(alloc: Global) -> clap::Command<'a>
     )
 }
 
+fn solve_command<'a>(alloc: Global) -> Result<clap::Command<'a>, AllocError>
+    ensures app { IfOk result (λ c. app_of c ≡ with_rule (with_rule (with_rule (new_app (codes "solve")) steps_rule) table_rule) proof_rule) }
+    ensures local { IfOk result (λ c. (fields_of c).has_globals ≡ false) }
+{
+    let solve = clap::Command::new(alloc, "solve").about(
+        "Searches for a solution, and writes it as an answer tree.",
+    );
+    let solve = solve.arg(steps_argument(alloc))?;
+    let solve = solve.arg(table_argument(alloc))?;
+    solve.arg(proof_argument(alloc))
+}
+
 fn turns_argument<'a>(alloc: Global) -> Arg<'a>
     ensures rule { rule_of result ≡ turns_rule }
     ensures local { result.global ≡ false }
@@ -175,4 +224,38 @@ fn nodes_argument<'a>(alloc: Global) -> Arg<'a>
         .value_name("N")
         .value_parser(ValueParser::unsigned(0, MOST_NODES))
         .default_value("1000000")
+}
+
+fn steps_argument<'a>(alloc: Global) -> Arg<'a>
+    ensures rule { rule_of result ≡ steps_rule }
+    ensures local { result.global ≡ false }
+{
+    Arg::new(alloc, "steps")
+        .help("The most steps of the search, 1 to 10000000")
+        .long("steps")
+        .value_name("N")
+        .value_parser(ValueParser::unsigned(1, MOST_STEPS))
+        .default_value("1000000")
+}
+
+fn table_argument<'a>(alloc: Global) -> Arg<'a>
+    ensures rule { rule_of result ≡ table_rule }
+    ensures local { result.global ≡ false }
+{
+    Arg::new(alloc, "table")
+        .help("The most entries of the table, 1 to 1000000")
+        .long("table")
+        .value_name("N")
+        .value_parser(ValueParser::unsigned(1, MOST_ENTRIES))
+        .default_value("100000")
+}
+
+fn proof_argument<'a>(alloc: Global) -> Arg<'a>
+    ensures rule { rule_of result ≡ proof_rule }
+    ensures local { result.global ≡ false }
+{
+    Arg::new(alloc, "proof")
+        .help("Writes the record and the claim of the solution in place of the tree")
+        .long("proof")
+        .action(ArgAction::SetTrue)
 }

@@ -65,6 +65,76 @@ fn a_subcommand_gives_the_command(rt: HostRuntime) {
 }
 
 #[test]
+fn solve_has_two_numbers_and_a_flag(rt: HostRuntime) {
+    let alloc = rt.alloc();
+    let solve = |steps: u64, table: usize, proof: bool| Command::Solve {
+        steps,
+        table,
+        proof,
+    };
+    gives(
+        &rt,
+        alloc,
+        &["tsumego", "solve"],
+        solve(1_000_000, 100_000, false),
+    );
+    gives(
+        &rt,
+        alloc,
+        &["tsumego", "solve", "--proof"],
+        solve(1_000_000, 100_000, true),
+    );
+    gives(
+        &rt,
+        alloc,
+        &["tsumego", "solve", "--steps", "1", "--table", "2"],
+        solve(1, 2, false),
+    );
+    gives(
+        &rt,
+        alloc,
+        &[
+            "tsumego",
+            "solve",
+            "--table=1000000",
+            "--proof",
+            "--steps=10000000",
+        ],
+        solve(10_000_000, 1_000_000, true),
+    );
+}
+
+#[test]
+fn faulty_words_of_solve_are_refused(rt: HostRuntime) {
+    let alloc = rt.alloc();
+    let faults: [(&[&str], &str); 10] = [
+        (&["--steps", "0"], "0 is not in 1..=10000000"),
+        (&["--steps", "10000001"], "10000001 is not in 1..=10000000"),
+        (&["--table", "0"], "0 is not in 1..=1000000"),
+        (&["--table", "1000001"], "1000001 is not in 1..=1000000"),
+        (
+            &["--steps", "1", "--steps", "1"],
+            "cannot be used multiple times",
+        ),
+        (
+            &["--table", "1", "--table", "1"],
+            "cannot be used multiple times",
+        ),
+        (&["--proof", "--proof"], "cannot be used multiple times"),
+        (&["--proof=true"], "unexpected value"),
+        (&["--steps"], "value is required"),
+        (&["3"], "unexpected argument"),
+    ];
+    for (behind, part) in faults {
+        let mut words = Vec::new(alloc);
+        words.push("tsumego").expect(&rt, "memory");
+        words.push("solve").expect(&rt, "memory");
+        words.extend_from_slice(behind).expect(&rt, "memory");
+        refuses(&rt, alloc, words.as_slice(), part);
+    }
+}
+
+#[test]
 fn numbers_out_of_range_are_refused(rt: HostRuntime) {
     let alloc = rt.alloc();
     refuses(
@@ -149,7 +219,7 @@ fn words_too_many_or_too_few_are_refused(rt: HostRuntime) {
 fn unknown_subcommands_are_refused(rt: HostRuntime) {
     let alloc = rt.alloc();
     refuses(&rt, alloc, &["tsumego", "chek"], "unrecognized subcommand");
-    refuses(&rt, alloc, &["tsumego", "solve"], "unrecognized subcommand");
+    refuses(&rt, alloc, &["tsumego", "Solve"], "unrecognized subcommand");
     refuses(&rt, alloc, &["tsumego", "Check"], "unrecognized subcommand");
 }
 
@@ -171,6 +241,9 @@ fn help_is_a_text_and_no_command(rt: HostRuntime) {
         &["tsumego", "help"],
         "the answer tree that stands",
     );
+    refuses(&rt, alloc, &["tsumego", "help"], "Searches for a solution");
     refuses(&rt, alloc, &["tsumego", "within", "--help"], "--nodes <N>");
+    refuses(&rt, alloc, &["tsumego", "solve", "--help"], "--steps <N>");
+    refuses(&rt, alloc, &["tsumego", "solve", "--help"], "--table <N>");
     refuses(&rt, alloc, &["tsumego", "help", "within"], "--nodes <N>");
 }

@@ -1,4 +1,4 @@
-//! tsumego: judges claims and answer trees, and decides problems of Go.
+//! tsumego: solves problems of Go, decides them, and judges claims and answer trees.
 #![tactic(auto)]
 
 mod answer;

@@ -66,12 +66,13 @@ fn each_cut_of_a_claim_is_malformed(rt: HostRuntime) {
 #[test]
 fn other_words_have_clap_s_text(rt: HostRuntime) {
     let alloc = rt.alloc();
-    let asked: [&[&str]; 7] = [
+    let asked: [&[&str]; 8] = [
         &["tsumego"],
         &["tsumego", "chek"],
         &["tsumego", "check", "x"],
         &["tsumego", "audit", "x"],
         &["tsumego", "solve", "--steps", "0"],
+        &["tsumego", "solve", "x"],
         &["tsumego", "within", "201"],
         &["tsumego", "--help"],
     ];

@@ -23,10 +23,8 @@ fn push(claim: &mut Vec<u8>, text: &str) -> Result<(), AllocError> {
     Ok(())
 }
 
-// These stones with one more on this column: bit k stands for column k.
-fn with(stones: usize, column: usize) -> usize {
-    stones | 1usize.wrapping_shl(column as u32)
-}
+// The stone on each column in a set of stones.
+const STONES: [usize; 8] = [1, 2, 4, 8, 16, 32, 64, 128];
 
 // Black's turns where it has these stones: behind each White passes, and the lemma of the larger set goes on.
 fn push_replies(
@@ -38,7 +36,7 @@ fn push_replies(
     let due = 9u32.saturating_sub(stones.count_ones());
     push(claim, format!(in alloc; "all {due}\n")?.as_str())?;
     for column in 0..8usize {
-        let larger = with(stones, column);
+        let larger = stones | STONES[column];
         if larger != stones && larger < numbers.len() {
             let at = COLUMNS[column];
             let number = numbers[larger];
@@ -56,7 +54,7 @@ fn push_cells(claim: &mut Vec<u8>, stones: usize) -> Result<(), AllocError> {
         push(claim, ".")?;
     }
     for column in 0..8usize {
-        let cell = if with(stones, column) == stones {
+        let cell = if stones | STONES[column] == stones {
             "X"
         } else {
             "."

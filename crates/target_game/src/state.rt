@@ -8,7 +8,7 @@ ghost use Rattle.go_points.specs.Place.{IsOn, number_of};
 ghost use Rattle.go_points.specs.Ply.{ply_of, move};
 ghost use Rattle.go_points.specs.declared.Cell.TheVariants.{Empty};
 ghost use Rattle.go_turns.specs.History.{place_in};
-ghost use Rattle.go_turns.specs.Key.{key_of};
+ghost use Rattle.stone_key.specs.Key.{key_of};
 ghost use Rattle.target_game.specs.State.{Game, GameState, GameProblem, Line, start, state_alone};
 ghost use Rattle.target_game.specs.Legal.{legal, legal_turns, holds_point};
 ghost use Rattle.target_game.specs.Next.{next};

@@ -1,6 +1,6 @@
 //! Problems and play on small boards, with results worked out by the rules.
 
-use crate::{AtFault, BadProblem, MAX_HISTORY, Problem, State};
+use crate::{AtFault, BadProblem, Child, MAX_HISTORY, Problem, State};
 use go_points::{Cell, Colour, Colouring, MAX_SIZE, Point, PointSet, Size, Turn, sgf_point};
 use go_turns::{PlayBoard, PlaySeen};
 use std::alloc::Global;

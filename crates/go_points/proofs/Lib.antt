@@ -12,3 +12,6 @@ pub mod Bits
 pub mod PlaceSets
 pub mod Counting
 pub mod Membership
+pub mod Taken
+pub mod Moves
+pub mod Liberties

@@ -15,6 +15,7 @@ fn empties_at(colouring: &Colouring, number: usize) -> u32
     ensures { result ≡ empties_beside (side_of colouring.now) colouring.now number }
 {
     let size = colouring.size();
+    prove!(size.area() <= MAX_POINTS);
     let neighbours = size.point_at(number).neighbours(size);
     let mut found = 0;
     for neighbour in neighbours.as_slice() {
@@ -106,6 +107,14 @@ pub(crate) fn fill(
     let size = colouring.size();
     let neighbours = size.point_at(number).neighbours(size);
     for neighbour in neighbours.as_slice() {
-        join(colouring, heads, next, counts, colour, number, neighbour.number(size));
+        join(
+            colouring,
+            heads,
+            next,
+            counts,
+            colour,
+            number,
+            neighbour.number(size),
+        );
     }
 }

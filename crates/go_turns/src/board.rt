@@ -9,17 +9,8 @@ ghost use Rattle.go_points.specs.Liberty.{first_without_liberty};
 ghost use Rattle.go_points.specs.Move.{after_move, taken_by_move};
 ghost use Rattle.go_turns.specs.Key.{key_of};
 
+pub use go_chains::{NoLiberty, Occupied};
 use go_points::{Cell, Colour, Colouring, Point, Size};
-
-/// A move at a point that holds a stone.
-#[derive(Clone, Copy, Debug, PartialEq, Eq)]
-pub struct Occupied;
-
-/// A colouring with a stone that does not reach empty: the least such point.
-#[derive(Clone, Copy, Debug, PartialEq, Eq)]
-pub struct NoLiberty {
-    pub point: Point,
-}
 
 /// A colouring in which every stone reaches empty. No call takes memory.
 pub trait Board: Drop {

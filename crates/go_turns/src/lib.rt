@@ -2,6 +2,7 @@
 #![tactic(auto)]
 
 mod board;
+mod chain_board;
 mod clearing;
 mod fault;
 mod key;

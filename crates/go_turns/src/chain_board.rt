@@ -1,0 +1,38 @@
+//! The board of chains, as a board that play may use.
+
+use crate::board::{Board, NoLiberty, Occupied};
+use crate::key::key_of;
+use go_chains::ChainBoard;
+use go_points::{Cell, Colour, Colouring, Point, Size};
+
+impl Board for ChainBoard {
+    ghost content = { λ b. b };
+
+    fn new(size: Size) -> ChainBoard {
+        ChainBoard::new(size)
+    }
+
+    fn size(&self) -> Size {
+        self.size()
+    }
+
+    fn cell(&self, point: Point) -> Cell {
+        self.cell(point)
+    }
+
+    fn colouring(&self) -> Colouring {
+        self.colouring()
+    }
+
+    fn key(&self) -> u64 {
+        key_of(&self.colouring())
+    }
+
+    fn play(&mut self, colour: Colour, point: Point) -> Result<u16, Occupied> {
+        self.play(colour, point)
+    }
+
+    fn assign(&mut self, colouring: &Colouring) -> Result<(), NoLiberty> {
+        self.assign(colouring)
+    }
+}

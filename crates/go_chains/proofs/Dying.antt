@@ -17,7 +17,7 @@ use Rattle.go_chains.proofs.Totals.{total_le_within}
 use Rattle.go_chains.proofs.Counts.{member_in, in_member, touches_same, touches_to, counted_reaches}
 use Rattle.go_chains.proofs.Merging.{off}
 use Rattle.go_chains.proofs.Boards.{heads_joined}
-use Rattle.go_chains.proofs.Captures.{clear_none}
+use Rattle.go_points.proofs.Quiet.{clear_none}
 
 -- a stone has the colour of its head
 pub head_holds : (n : ℕ) (c : List Cell) (heads next : List ℕ) (p h : ℕ) → n * n ≤ MAX_POINTS → HasCircles n c heads next → p < n * n → h < n * n → slice_index heads p ≡ h → cell_at c p ≡ cell_at c h

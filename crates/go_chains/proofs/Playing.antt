@@ -13,7 +13,7 @@ use Rattle.go_points.proofs.Cells.{opponent_ne, adjacent_on_board}
 use Rattle.go_points.proofs.Clearing.{one_or_other, cleared_reaches}
 use Rattle.go_chains.specs.Chains.{nowhere, touches, liberty_count, IsSettled, IsBoard, IsDead, KillsNone, KeepsOthers}
 use Rattle.go_chains.proofs.Counts.{touches_same, touches_to, count_filled, reaches_counted}
-use Rattle.go_chains.proofs.Captures.{clear_none}
+use Rattle.go_points.proofs.Quiet.{clear_none}
 use Rattle.go_chains.proofs.Dying.{head_holds, stone_reaches}
 
 same_stone : (k j : Colour) (a : Cell) → a ≡ Stone k → a ≡ Stone j → k ≡ j

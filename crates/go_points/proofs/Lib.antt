@@ -15,3 +15,5 @@ pub mod Membership
 pub mod Taken
 pub mod Moves
 pub mod Liberties
+pub mod Anywhere
+pub mod Quiet

@@ -12,6 +12,10 @@ impl Board for ChainBoard {
         ChainBoard::new(size)
     }
 
+    fn copy(&self) -> ChainBoard {
+        self.copy()
+    }
+
     fn size(&self) -> Size {
         self.size()
     }
@@ -30,6 +34,10 @@ impl Board for ChainBoard {
 
     fn play(&mut self, colour: Colour, point: Point) -> Result<u16, Occupied> {
         self.play(colour, point)
+    }
+
+    fn quiet(&self, colour: Colour, point: Point) -> bool {
+        self.quiet(colour, point)
     }
 
     fn assign(&mut self, colouring: &Colouring) -> Result<(), NoLiberty> {

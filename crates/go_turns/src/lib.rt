@@ -2,6 +2,7 @@
 #![tactic(auto)]
 
 mod board;
+mod chain_board;
 mod clearing;
 mod fault;
 mod hash_seen;
@@ -14,6 +15,7 @@ mod seen;
 
 pub use board::{Board, NoLiberty, Occupied};
 pub use fault::TurnFault;
+pub use go_chains::ChainBoard;
 pub use hash_seen::HashSeen;
 pub use list_seen::ListSeen;
 pub use plain_board::PlainBoard;
@@ -21,7 +23,7 @@ pub use record::Record;
 pub use seen::Seen;
 
 /// The board that play uses. The layers above name it so, and a faster one takes its place here alone.
-pub type PlayBoard = PlainBoard;
+pub type PlayBoard = ChainBoard;
 
 /// The list of colourings that play uses, named so for the same reason.
 pub type PlaySeen = HashSeen;

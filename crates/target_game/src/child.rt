@@ -18,7 +18,7 @@ pub struct Child {
     pub winner: Option<Colour>,
 }
 
-impl<B: Board + Copy, S: Seen> State<B, S> {
+impl<B: Board, S: Seen> State<B, S> {
     /// What the turn leads to, which is not made; none, where it is not legal. Takes no memory, and the time of at most one move.
     pub fn child(&self, turn: Turn) -> Option<Child>
         ensures { result ≡ child_of self.now.state (ply_of self.now.state.game.size turn) }

@@ -38,7 +38,7 @@ pub enum AtFault {
 
 /// A state of the game, with the turns that led to it from where it was made.
 #[derive(Drop)]
-pub struct State<B: Board + Copy, S: Seen> {
+pub struct State<B: Board, S: Seen> {
     played: Record<B, S>,
     mover: Colour,
     targets: PointSet,
@@ -46,7 +46,7 @@ pub struct State<B: Board + Copy, S: Seen> {
     region: PointSet,
 }
 
-impl<B: Board + Copy, S: Seen> Model for State<B, S> {
+impl<B: Board, S: Seen> Model for State<B, S> {
     ghost use Rattle.std.specs.List.{All};
     ghost use Rattle.go_points.specs.Place.{IsOn};
     ghost use Rattle.target_game.specs.State.{Line};
@@ -69,7 +69,7 @@ fn at_fault(fault: TurnFault) -> AtFault
     }
 }
 
-impl<B: Board + Copy, S: Seen> State<B, S> {
+impl<B: Board, S: Seen> State<B, S> {
     /// The start of the problem.
     pub fn of(alloc: Global, problem: &Problem) -> Result<State<B, S>, AllocError>
         ensures { IfOk result (λ s. s ≡ record { state = start problem.now; before = [] }) }
@@ -158,7 +158,7 @@ impl<B: Board + Copy, S: Seen> State<B, S> {
         ensures value { result.colouring ≡ after_move self.now.state.game.size self.now.state.colouring self.now.state.mover (number_of self.now.state.game.size point) }
         ensures size { side_of result.colouring ≡ self.now.state.game.size }
     {
-        let mut board = *self.played.board();
+        let mut board = self.played.board().copy();
         let _removed = board.play(self.mover, point);
         Position::of(&board)
     }

@@ -1,16 +1,13 @@
 -- The least point whose stone does not reach empty.
 use Rattle.std.proofs.Common.{◌≡◌, ℕ, zero, suc, ◌+◌, ◌*◌, ◌<◌, ◌≤◌, ◌⊎◌, inl, inr, Bool, true, false, not, ◌&&◌, cond, find, is_none, replicate, Option, Some, None, List, refl, ◌∙◌, ap, arith}
 use Rattle.std.specs.List.{range_with_len}
-use Rattle.go_points.specs.declared.Colour.{Colour}
 use Rattle.go_points.specs.declared.Cell.{Cell}
-use Rattle.go_points.specs.declared.Cell.TheVariants.{Empty, Stone}
+use Rattle.go_points.specs.declared.Cell.TheVariants.{Empty}
 use Rattle.go_points.specs.Grid.{same_cell, points, cell_at}
 use Rattle.go_points.specs.Reach.{reaches}
 use Rattle.go_points.specs.Liberty.{lacks_liberty, first_without_liberty}
 use Rattle.go_points.proofs.Lists.{find_none}
 use Rattle.go_points.proofs.Cells.{member_points}
-use Rattle.go_turns.specs.Marks.{AreFree, is_marked}
-use Rattle.go_turns.proofs.Marks.{reaches_marked}
 
 pub none_is : {A : Type 0} (a : Option A) → is_none a ≡ true → a ≡ None
 none_is None e = refl
@@ -34,18 +31,14 @@ module _ (n : ℕ) (c : List Cell) where
   unfolding first_without_liberty
   first_none all = none_is _ (find_none (lacks_liberty n c) (points n) (λ q m. all q (member_points n q m)))
 
-  -- an empty point, and a stone with the marks of its colour
   pub lacks_empty : (p : ℕ) → cell_at c p ≡ Empty → lacks_liberty n c p ≡ false
   lacks_empty p e = ap (λ a. not (same_cell a Empty) && not (reaches n c p Empty)) e
 
-  pub lacks_stone : (k : Colour) (marks : List Bool) (p : ℕ) → AreFree n c k marks → p < n * n → cell_at c p ≡ Stone k → lacks_liberty n c p ≡ not (is_marked marks p)
-  lacks_stone k marks p exact on stone = ap (λ a. not (same_cell a Empty) && not (reaches n c p Empty)) stone ∙ ap not (reaches_marked n c k marks p exact on stone)
-
 -- the colouring without stones
-all_empty : (m p : ℕ) → cell_at (replicate m Empty) p ≡ Empty
-all_empty zero p = refl
-all_empty (suc m) zero = refl
-all_empty (suc m) (suc p) = all_empty m p
+blank : (m p : ℕ) → cell_at (replicate m Empty) p ≡ Empty
+blank zero p = refl
+blank (suc m) zero = refl
+blank (suc m) (suc p) = blank m p
 
 pub no_stones : (n m : ℕ) → first_without_liberty n (replicate m Empty) ≡ None
-no_stones n m = first_none n (replicate m Empty) (λ q on. lacks_empty n (replicate m Empty) q (all_empty m q))
+no_stones n m = first_none n (replicate m Empty) (λ q on. lacks_empty n (replicate m Empty) q (blank m q))

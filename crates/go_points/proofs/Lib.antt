@@ -4,6 +4,8 @@ pub mod Cells
 pub mod Paths
 pub mod Clearing
 pub mod Sides
+pub mod Packing
+pub mod Comparing
 pub mod Adjacency
 pub mod Remaining
 pub mod Texts

@@ -1,42 +1,43 @@
 //! What every point of a board holds.
 
-ghost use Rattle.std.specs.Prelude.{◌≡◌, ◌*◌, ◌≤◌, length, replicate, slice_set};
+ghost use Rattle.std.specs.Prelude.{◌≡◌, ◌*◌, ◌<◌, ◌≤◌, ℕ, length, replicate, slice_set};
 ghost use Rattle.go_points.specs.declared.Cell.TheVariants.{Empty};
 ghost use Rattle.go_points.specs.declared.TheConstants.{MAX_SIZE};
 ghost use Rattle.go_points.specs.Grid.{cell_at, side_of, IsColouring};
 ghost use Rattle.go_points.specs.Place.{IsOn, number_of};
 
 use crate::point::Point;
+use crate::point_bits::{PointBits, alike_words, no_bits, read_bit, write_bit};
 use crate::size::Size;
-use crate::{Cell, MAX_POINTS};
+use crate::{Cell, Colour, MAX_POINTS};
 use std::cmp::Ordering;
 use std::hash::{Hash, Hasher};
 use std::marker::Model;
 
-/// What every point of a board holds, with room for the widest board. Colourings are ordered as their texts are.
+/// What every point of a board holds, in two bits a cell, with room for the widest board. Colourings are ordered as their texts are. No call takes memory.
 #[derive(Clone, Copy, Debug)]
 pub struct Colouring {
     size: Size,
-    cells: [Cell; MAX_POINTS],
+    // One bit for each point: whether there is a stone, and whether it is black.
+    stones: PointBits,
+    blacks: PointBits,
 }
 
 impl Model for Colouring {
-    ghost use Rattle.std.specs.Prelude.{◌≡◌, ◌≤◌, ◌*◌, ◌-◌, ◌++◌, List, length, take, drop, replicate};
-    ghost use Rattle.go_points.specs.declared.Cell.TheVariants.{Empty};
-    ghost use Rattle.go_points.specs.Grid.{side_of};
-    ghost use Rattle.go_points.specs.Sides.{size_back, cells_back};
+    ghost use Rattle.std.specs.Prelude.{List};
     ghost use Rattle.go_points.specs.declared.Cell.{Cell};
-    ghost use Rattle.go_points.specs.declared.TheConstants.{MAX_SIZE, MAX_POINTS};
+    ghost use Rattle.go_points.specs.Grid.{side_of};
+    ghost use Rattle.go_points.specs.Packed.{IsPacked, packed_cells, packed_side, stone_words, black_words, stones_back, blacks_back};
 
     ghost Value = { List Cell };
 
-    ghost view = { λ a. take (a.size * a.size) a.cells };
+    ghost view = { λ a. packed_cells a.size a.stones a.blacks };
 
-    ghost invariant = { λ a. (1 ≤ a.size) × (a.size ≤ MAX_SIZE) × (length a.cells ≡ MAX_POINTS) × (drop (a.size * a.size) a.cells ≡ replicate (MAX_POINTS - a.size * a.size) Empty) };
+    ghost invariant = { λ a. IsPacked a.size a.stones a.blacks };
 
-    ghost inverse = { λ c. record { size = side_of c; cells = c ++ replicate (MAX_POINTS - length c) Empty } };
+    ghost inverse = { λ c. record { size = side_of c; stones = stone_words c; blacks = black_words c } };
 
-    ghost inverse_ok = { λ a h. λ i. record { size = size_back a.size a.cells h.1 h.2 i; cells = cells_back a.size a.cells h.1 h.2 h.3 i } };
+    ghost inverse_ok = { λ a h. λ i. record { size = packed_side a.size a.stones a.blacks i; stones = stones_back a.size a.stones a.blacks h i; blacks = blacks_back a.size a.stones a.blacks h i } };
 }
 
 impl PartialEq for Colouring {
@@ -49,7 +50,13 @@ impl PartialEq for Colouring {
     ghost laws = { partial_equiv_from_equiv same_cells_equiv };
 
     fn eq(&self, other: &Colouring) -> bool {
-        self.size == other.size && self.cells == other.cells
+        if self.size != other.size {
+            return false;
+        }
+        if self.stones != other.stones {
+            return false;
+        }
+        self.blacks == other.blacks
     }
 }
 
@@ -91,21 +98,32 @@ impl Ord for Colouring {
     ghost matches_partial_cmp = { λ c d. refl };
 
     fn cmp(&self, other: &Colouring) -> Ordering {
-        self.cells().cmp(other.cells())
+        let most = self.size().area().min(other.size().area());
+        for number in self.first_difference(other).min(most)..most {
+            match self.cell(number).cmp(&other.cell(number)) {
+                Ordering::Equal => {}
+                Ordering::Less => return Ordering::Less,
+                Ordering::Greater => return Ordering::Greater,
+            }
+        }
+        self.size().area().cmp(&other.size().area())
     }
 }
 
 impl Hash for Colouring {
     ghost use Rattle.std.specs.Hash as fed;
+    ghost use Rattle.std.specs.Prelude.{◌++◌};
     ghost use Rattle.std.proofs.Common.{ap};
     ghost use Rattle.go_points.specs.Equal.{same_cells_eq};
+    ghost use Rattle.go_points.specs.Packed.{stone_words, black_words};
 
-    ghost hash_input = { λ c. fed.slice ⟦<Cell as Hash>⟧.hash_input c };
+    ghost hash_input = { λ c. fed.slice fed.u64 (stone_words c) ++ fed.slice fed.u64 (black_words c) };
 
-    ghost respects_eq = { λ x y e. ap (fed.slice ⟦<Cell as Hash>⟧.hash_input) (same_cells_eq x y e) };
+    ghost respects_eq = { λ x y e. ap (λ c. fed.slice fed.u64 (stone_words c) ++ fed.slice fed.u64 (black_words c)) (same_cells_eq x y e) };
 
     fn hash<H: Hasher>(&self, state: &mut H) {
-        self.cells[..self.size.area()].hash(state);
+        self.stones.hash(state);
+        self.blacks.hash(state);
     }
 }
 
@@ -118,7 +136,8 @@ impl Colouring {
         prove!(size.area() <= MAX_POINTS);
         Colouring {
             size,
-            cells: no_stones(),
+            stones: no_bits(),
+            blacks: no_bits(),
         }
     }
 
@@ -136,7 +155,7 @@ impl Colouring {
         ensures value { result ≡ cell_at self.now (number_of (side_of self.now) point) }
         ensures colouring { IsColouring (side_of self.now) self.now }
     {
-        self.cells[point.number(self.size)]
+        self.cell(point.number(self.size))
     }
 
     /// Lets the point hold `cell`.
@@ -145,21 +164,34 @@ impl Colouring {
         ensures value { self.new ≡ slice_set self.old (number_of (side_of self.old) point) cell }
         ensures size { side_of self.new ≡ side_of self.old }
     {
-        self.cells[point.number(self.size)] = cell;
+        let number = point.number(self.size);
+        write_bit(&mut self.stones, number, !cell.is_empty());
+        write_bit(&mut self.blacks, number, cell.is_stone_of(Colour::Black));
     }
-}
 
-impl Colouring {
-    /// What the points hold, in order.
-    pub fn cells(&self) -> &[Cell]
-        ensures { result.now ≡ self.now }
+    // What the point of this number holds.
+    fn cell(&self, number: usize) -> Cell
+        requires { number < side_of self.now * side_of self.now }
+        ensures { result ≡ cell_at self.now number }
     {
-        &self.cells[..self.size.area()]
+        if !read_bit(&self.stones, number) {
+            Cell::Empty
+        } else if read_bit(&self.blacks, number) {
+            Cell::Stone(Colour::Black)
+        } else {
+            Cell::Stone(Colour::White)
+        }
     }
-}
 
-fn no_stones() -> [Cell; MAX_POINTS]
-    ensures { result ≡ replicate MAX_POINTS Empty }
-{
-    [Cell::Empty; MAX_POINTS]
+    // A number up to which two colourings hold the same at each point: that of the first point of the first words that differ.
+    fn first_difference(&self, other: &Colouring) -> usize
+        ensures { (i : ℕ) → i < result → cell_at self.now i ≡ cell_at other.now i }
+    {
+        if self.size != other.size {
+            return 0;
+        }
+        let stones = alike_words(&self.stones, &other.stones);
+        let blacks = alike_words(&self.blacks, &other.blacks);
+        stones.min(blacks) * 64
+    }
 }

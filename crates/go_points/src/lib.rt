@@ -56,6 +56,7 @@ impl Cell {
 mod colouring;
 pub mod laws;
 mod point;
+mod point_bits;
 mod point_set;
 mod points;
 mod sgf;

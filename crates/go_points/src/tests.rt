@@ -96,7 +96,6 @@ fn texts(rt: HostRuntime) -> Result<(), Fail> {
         Some(colouring)
     );
     assert_eq!(rt; colouring.size(), size);
-    assert_eq!(rt; colouring.cells().len(), 9);
     Ok(())
 }
 

@@ -15,8 +15,9 @@ impl Colouring {
         ensures { IfOk result (λ text. text.items ≡ text_of self.now) }
     {
         let mut text = Vec::new(alloc);
-        for cell in self.cells() {
-            text.push(to_byte(*cell))?;
+        let size = self.size();
+        for number in 0..size.area() {
+            text.push(to_byte(self.get(size.point_at(number))))?;
         }
         Ok(text)
     }

@@ -1,19 +1,20 @@
-use Rattle.std.proofs.Common.{length, drop, ◌∙◌, ◌*◌, ◌≤◌, ap, take, arith, mul-le-mul}
-use Rattle.std.proofs.lemmas.List.{take-replicate, drop-replicate, length-replicate}
-use Rattle.go_points.specs.declared.TheConstants.{MAX_SIZE, MAX_POINTS}
-use Rattle.go_points.specs.declared.Cell.TheVariants.{Empty}
-use Rattle.go_points.specs.Sides.{side_of-whole}
+use Rattle.std.proofs.Common.{◌≤◌, ◌∙◌, ap₂, sym, subst, replicate, arith, List, ℕ}
+use Rattle.go_points.specs.declared.TheConstants.{MAX_SIZE}
+use Rattle.go_points.specs.Packed.{packed_cells, packed_side, IsPacked}
+use Rattle.go_points.specs.Words.{word_count}
+use Rattle.go_points.proofs.Packing.{no_cells, empty_cells}
 use Rattle.go_points.proofs.colouring.Colouring.empty.Goals as goal
-
-pub returns-clause-value : goal.returns-clause-value
-returns-clause-value c =
-    ap (take (c.args.size * c.args.size)) c.no_stones.ensures
-    ∙ take-replicate (c.args.size * c.args.size) MAX_POINTS Empty (let low : c.args.size ≤ MAX_SIZE = omega arith in omega (arith, mul-le-mul low low))
-
-pub returns-clause-size : goal.returns-clause-size
-returns-clause-size c =
-    side_of-whole _ c.args.size (ap length (returns-clause-value c) ∙ length-replicate (c.args.size * c.args.size) Empty)
 
 pub invariant_of-result : goal.invariant_of-result
 invariant_of-result c =
-    (omega arith, omega arith, ap length c.no_stones.ensures ∙ length-replicate MAX_POINTS Empty, ap (drop (c.args.size * c.args.size)) c.no_stones.ensures ∙ drop-replicate (c.args.size * c.args.size) MAX_POINTS Empty)
+    let n = c.args.size in
+    let least : 1 ≤ n = omega arith in
+    let most : n ≤ MAX_SIZE = omega arith in
+    subst (λ (w : List ℕ). IsPacked n w c.no_bits-2.result) (sym c.no_bits.ensures)
+    (subst (λ (w : List ℕ). IsPacked n (replicate word_count 0) w) (sym c.no_bits-2.ensures) (no_cells n least most))
+
+pub returns-clause-value : goal.returns-clause-value
+returns-clause-value c = ap₂ (packed_cells c.args.size) c.no_bits.ensures c.no_bits-2.ensures ∙ empty_cells c.args.size
+
+pub returns-clause-size : goal.returns-clause-size
+returns-clause-size c = packed_side c.args.size c.no_bits.result c.no_bits-2.result

@@ -1,15 +1,19 @@
-use Rattle.std.proofs.Common.{◌∙◌, ap, get_or, ℕ}
-use Rattle.go_points.specs.declared.Cell.TheVariants.{Empty}
-use Rattle.go_points.proofs.Sides.{on_kept, cell_kept, colouring_kept}
+use Rattle.std.proofs.Common.{ℕ, ◌*◌, ◌<◌, ◌∙◌, ap, sym, subst}
+use Rattle.go_points.specs.Grid.{cell_at}
+use Rattle.go_points.proofs.Packing.{side_packed, on_packed, same_number, colouring_packed}
 use Rattle.go_points.proofs.colouring.Colouring.get.Goals as goal
 
 pub number-requires : goal.number-requires
-number-requires c = on_kept c.self.inside.size c.self.inside.cells c.args.self.now c.self.invariant.1 c.self.invariant.2 c.self.view_is c.args.point c.requires
+number-requires c = on_packed c.self.inside.size c.self.inside.stones c.self.inside.blacks c.args.self.now c.self.invariant c.self.view_is c.args.point c.requires
+
+pub cell-requires : goal.cell-requires
+cell-requires c =
+    subst (λ (m : ℕ). c.number.result < m * m) (sym (side_packed c.self.inside.size c.self.inside.stones c.self.inside.blacks c.args.self.now c.self.invariant c.self.view_is)) c.number.ensures.within
 
 pub returns-clause-value : goal.returns-clause-value
 returns-clause-value c =
-    ap (λ (i : ℕ). get_or c.self.inside.cells i Empty) c.number.ensures.value
-    ∙ cell_kept c.self.inside.size c.self.inside.cells c.args.self.now c.self.invariant.1 c.self.invariant.2 c.self.view_is c.args.point c.requires
+    c.cell.ensures
+    ∙ ap (cell_at c.args.self.now) (same_number c.self.inside.size c.self.inside.stones c.self.inside.blacks c.args.self.now c.self.invariant c.self.view_is c.args.point c.number.result c.number.ensures.value)
 
 pub returns-clause-colouring : goal.returns-clause-colouring
-returns-clause-colouring c = colouring_kept c.self.inside.size c.self.inside.cells c.args.self.now c.self.invariant.1 c.self.invariant.2 c.self.view_is c.self.invariant.0
+returns-clause-colouring c = colouring_packed c.self.inside.size c.self.inside.stones c.self.inside.blacks c.args.self.now c.self.invariant c.self.view_is

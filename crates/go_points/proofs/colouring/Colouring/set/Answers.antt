@@ -1,27 +1,39 @@
-use Rattle.std.proofs.Common.{length-set, drop-set-lt, ◌∙◌, sym, ◌*◌, ap, set, take, ℕ}
-use Rattle.go_points.specs.Sides.{size_back}
-use Rattle.go_points.proofs.Sides.{number_below, on_kept, side_kept, set_kept}
+use Rattle.std.proofs.Common.{rules, ◌≡◌, ℕ, ◌*◌, ◌<◌, ◌∙◌, not, List, ap, ap₂, set, sym, subst}
+use Rattle.go_points.specs.declared.Cell.{Cell}
+use Rattle.go_points.specs.Grid.{side_of}
+use Rattle.go_points.specs.Place.{number_of}
+use Rattle.go_points.specs.Packed.{packed_side}
+use Rattle.go_points.proofs.Packing.{side_packed, on_packed, same_number, IsWrittenAt, written_packed, written_cells, stone_test, black_test}
 use Rattle.go_points.proofs.colouring.Colouring.set.Goals as goal
 
-pub number-requires : goal.number-requires
-number-requires c = on_kept c.self.inside.size c.self.inside.cells c.args.self.now c.self.invariant.1 c.self.invariant.2 c.self.view_is c.args.point c.requires
+pub number-number-requires : goal.number-number-requires
+number-number-requires c = on_packed c.self.inside.size c.self.inside.stones c.self.inside.blacks c.args.self.now c.self.invariant c.self.view_is c.args.point c.requires
 
-pub returns-clause-value : goal.returns-clause-value
-returns-clause-value c =
-    ap (λ (i : ℕ). take (c.self.inside.size * c.self.inside.size) (set c.self.inside.cells i c.args.cell)) c.number.ensures.value
-    ∙ set_kept c.self.inside.size c.self.inside.cells c.args.self.now c.self.invariant.1 c.self.invariant.2 c.self.view_is c.args.point c.args.cell c.requires
-
-pub returns-clause-size : goal.returns-clause-size
-returns-clause-size c =
-    size_back c.self.inside.size (set c.self.inside.cells c.number.result c.args.cell) c.self.invariant.1 (length-set c.self.inside.cells c.number.result c.args.cell ∙ c.self.invariant.2)
-    ∙ sym (side_kept c.self.inside.size c.self.inside.cells c.args.self.now c.self.invariant.1 c.self.invariant.2 c.self.view_is)
+module _ (c : goal.After-write_bit-2) where
+  written : IsWrittenAt c.self.inside.size c.number-number.result c.args.cell c.self.inside.stones c.self.inside.blacks c.write_bit.new.bits c.write_bit-2.new.bits
+  written =
+      let n = c.self.inside.size in
+      let on : c.number-number.result < n * n = c.number-number.ensures.within in
+      record {
+        stone = c.write_bit.ensures.same ∙ ap not c.is_empty.ensures ∙ stone_test c.args.cell;
+        black = c.write_bit-2.ensures.same ∙ c.is_stone_of.ensures ∙ black_test c.args.cell;
+        other_stones = c.write_bit.ensures.others;
+        other_blacks = c.write_bit-2.ensures.others;
+        of_stones = c.write_bit.ensures.kept (n * n) on c.self.invariant.of_stones;
+        of_blacks = c.write_bit-2.ensures.kept (n * n) on c.self.invariant.of_blacks;
+      }
 
 pub invariant_of-self : goal.invariant_of-self
 invariant_of-self c =
-    let n = c.self.inside.size in
-    let on = on_kept n c.self.inside.cells c.args.self.now c.self.invariant.1 c.self.invariant.2 c.self.view_is c.args.point c.requires in (
-      c.self.invariant.0,
-      c.self.invariant.1,
-      length-set c.self.inside.cells c.number.result c.args.cell ∙ c.self.invariant.2,
-      drop-set-lt (n * n) c.self.inside.cells c.number.result c.args.cell (rw c.number.ensures.value (number_below n c.args.point on)) ∙ c.self.invariant.3,
-    )
+    written_packed c.self.inside.size c.number-number.result c.args.cell c.self.inside.stones c.self.inside.blacks c.write_bit.new.bits c.write_bit-2.new.bits c.self.invariant (written c)
+
+pub returns-clause-value : goal.returns-clause-value
+returns-clause-value c =
+    written_cells c.self.inside.size c.number-number.result c.args.cell c.self.inside.stones c.self.inside.blacks c.write_bit.new.bits c.write_bit-2.new.bits c.self.invariant (written c) c.number-number.ensures.within
+    ∙ ap₂ (λ (d : List Cell) (k : ℕ). set d k c.args.cell) c.self.view_is
+    (same_number c.self.inside.size c.self.inside.stones c.self.inside.blacks c.args.self.now c.self.invariant c.self.view_is c.args.point c.number-number.result c.number-number.ensures.value)
+
+pub returns-clause-size : goal.returns-clause-size
+returns-clause-size c =
+    packed_side c.self.inside.size c.write_bit.new.bits c.write_bit-2.new.bits
+    ∙ sym (side_packed c.self.inside.size c.self.inside.stones c.self.inside.blacks c.args.self.now c.self.invariant c.self.view_is)

@@ -1,12 +1,13 @@
-use Rattle.std.proofs.Common.{◌≡◌, List, [], ◌∷◌, refl, ◌∙◌, ap₂}
-use Rattle.std.specs.Ordering.{ordering_then, nat_cmp}
-use Rattle.std.specs.Cmp.Lexicographic.{slice_cmp}
+use Rattle.std.proofs.Common.{◌≡◌, ◌≢◌, ℕ, ◌+◌, ◌*◌, ◌<◌, ◌≤◌, ◌⊎◌, inl, inr, length, Ordering, Less, Equal, Greater, refl, sym, ◌∙◌, ap, ap₂, arith}
+use Rattle.std.specs.Ordering.{nat_cmp}
 use Rattle.go_points.specs.declared.Colour.TheVariants.{Black, White}
 use Rattle.go_points.specs.declared.Cell.{Cell}
 use Rattle.go_points.specs.declared.Cell.TheVariants.{Empty, Stone}
-use Rattle.go_points.specs.Text.{cell_code, text_of}
+use Rattle.go_points.specs.Grid.{cell_at, side_of}
+use Rattle.go_points.specs.Text.{cell_code}
 use Rattle.go_points.specs.Order.{text_order}
 use Rattle.go_points.specs.contracts.CellOrd.TheImpl.{cmp-value}
+use Rattle.go_points.proofs.Comparing.{SameBelow, order_at, order_whole, one_cell_more}
 use Rattle.go_points.proofs.colouring.ColouringOrd.cmp.Goals as goal
 
 -- the derived order of cells is that of their bytes
@@ -21,11 +22,57 @@ agrees (Stone Black) (Stone White) = refl
 agrees (Stone White) (Stone Black) = refl
 agrees (Stone White) (Stone White) = refl
 
-each_agrees : (xs ys : List Cell) → slice_cmp (cmp-value).it xs ys ≡ slice_cmp nat_cmp (text_of xs) (text_of ys)
-each_agrees [] [] = refl
-each_agrees [] (y ∷ ys) = refl
-each_agrees (x ∷ xs) [] = refl
-each_agrees (x ∷ xs) (y ∷ ys) = ap₂ ordering_then (agrees x y) (each_agrees xs ys)
+-- cells that the order does not tell apart are the same
+alike : (a b : Cell) → (cmp-value).it a b ≡ Equal → a ≡ b
+alike Empty Empty e = refl
+alike Empty (Stone Black) e = absurd (cc)
+alike Empty (Stone White) e = absurd (cc)
+alike (Stone Black) Empty e = absurd (cc)
+alike (Stone White) Empty e = absurd (cc)
+alike (Stone Black) (Stone Black) e = refl
+alike (Stone Black) (Stone White) e = absurd (cc)
+alike (Stone White) (Stone Black) e = absurd (cc)
+alike (Stone White) (Stone White) e = refl
+
+less_differs : Less ≢ Equal
+less_differs e = absurd (cc e)
+
+greater_differs : Greater ≢ Equal
+greater_differs e = absurd (cc e)
+
+pub loop-number-preserved : goal.loop-number-preserved
+loop-number-preserved c =
+    let same = alike c.cell.result c.cell-in-loop-number.result (sym c.cmp.ensures ∙ c.in-Equal.is) in
+    one_cell_more c.args.self.now c.args.other.now c.loop-number.number c.loop-number.invariant (sym c.cell.ensures ∙ same ∙ c.cell-in-loop-number.ensures)
+
+pub returns-in-Less : goal.returns-in-Less
+returns-in-Less c =
+    let i = c.loop-number.number in
+    let came : Less ≡ nat_cmp (cell_code (cell_at c.args.self.now i)) (cell_code (cell_at c.args.other.now i))
+        = sym c.in-Less.is ∙ c.cmp.ensures ∙ agrees c.cell.result c.cell-in-loop-number.result ∙ ap₂ (λ a b. nat_cmp (cell_code a) (cell_code b)) c.cell.ensures c.cell-in-loop-number.ensures in
+    let one : c.area.result ≡ length c.args.self.now = c.area.ensures.value ∙ ap (λ (m : ℕ). m * m) c.size.ensures.value ∙ sym c.size.ensures.colouring.full in
+    let two : c.area-2.result ≡ length c.args.other.now = c.area-2.ensures.value ∙ ap (λ (m : ℕ). m * m) c.size-2.ensures.value ∙ sym c.size-2.ensures.colouring.full in
+    let low : i < length c.args.self.now = omega (arith, one, c.loop-number-test.true, c.min-most.ensures) in
+    let high : i < length c.args.other.now = omega (arith, two, c.loop-number-test.true, c.min-most.ensures) in
+    came ∙ order_at i c.args.self.now c.args.other.now low high c.loop-number.invariant (λ e. less_differs (came ∙ e))
+
+pub returns-in-Greater : goal.returns-in-Greater
+returns-in-Greater c =
+    let i = c.loop-number.number in
+    let came : Greater ≡ nat_cmp (cell_code (cell_at c.args.self.now i)) (cell_code (cell_at c.args.other.now i))
+        = sym c.in-Greater.is ∙ c.cmp.ensures ∙ agrees c.cell.result c.cell-in-loop-number.result ∙ ap₂ (λ a b. nat_cmp (cell_code a) (cell_code b)) c.cell.ensures c.cell-in-loop-number.ensures in
+    let one : c.area.result ≡ length c.args.self.now = c.area.ensures.value ∙ ap (λ (m : ℕ). m * m) c.size.ensures.value ∙ sym c.size.ensures.colouring.full in
+    let two : c.area-2.result ≡ length c.args.other.now = c.area-2.ensures.value ∙ ap (λ (m : ℕ). m * m) c.size-2.ensures.value ∙ sym c.size-2.ensures.colouring.full in
+    let low : i < length c.args.self.now = omega (arith, one, c.loop-number-test.true, c.min-most.ensures) in
+    let high : i < length c.args.other.now = omega (arith, two, c.loop-number-test.true, c.min-most.ensures) in
+    came ∙ order_at i c.args.self.now c.args.other.now low high c.loop-number.invariant (λ e. greater_differs (came ∙ e))
 
 pub returns : goal.returns
-returns c = c.cmp.ensures ∙ each_agrees c.cells.result.now c.cells-2.result.now ∙ ap₂ text_order c.cells.ensures c.cells-2.ensures
+returns c =
+    let i = c.loop-number.number in
+    let one : c.area.result ≡ length c.args.self.now = c.area.ensures.value ∙ ap (λ (m : ℕ). m * m) c.size.ensures.value ∙ sym c.size.ensures.colouring.full in
+    let two : c.area-2.result ≡ length c.args.other.now = c.area-2.ensures.value ∙ ap (λ (m : ℕ). m * m) c.size-2.ensures.value ∙ sym c.size-2.ensures.colouring.full in
+    let last : c.area-3.result ≡ length c.args.self.now = c.area-3.ensures.value ∙ ap (λ (m : ℕ). m * m) c.size-3.ensures.value ∙ sym c.size-3.ensures.colouring.full in
+    let other_last : c.area-4.result ≡ length c.args.other.now = c.area-4.ensures.value ∙ ap (λ (m : ℕ). m * m) c.size-4.ensures.value ∙ sym c.size-4.ensures.colouring.full in
+    let end : (length c.args.self.now ≤ i) ⊎ (length c.args.other.now ≤ i) = grind (arith, one, two, c.loop-number-test.false, c.min-most.ensures) in
+    c.cmp-2.ensures ∙ ap₂ nat_cmp last other_last ∙ order_whole c.args.self.now c.args.other.now i c.loop-number.invariant end

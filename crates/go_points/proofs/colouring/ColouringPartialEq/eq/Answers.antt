@@ -1,62 +1,46 @@
-use Rattle.std.proofs.Common.{◌≡◌, ℕ, Bool, true, false, ◌&&◌, ◌*◌, ◌-◌, ◌≤◌, ◌++◌, List, [], ◌∷◌, eq-eqb, eqb-true, length, take, drop, replicate, refl, sym, ◌∙◌, ap, ap₂}
-use lib.Pointwise.{pointwise}
-use Rattle.go_points.specs.declared.Colour.TheVariants.{Black, White}
-use Rattle.go_points.specs.declared.TheConstants.{MAX_SIZE, MAX_POINTS}
-use Rattle.go_points.specs.declared.Cell.{Cell}
-use Rattle.go_points.specs.declared.Cell.TheVariants.{Empty, Stone}
-use Rattle.go_points.specs.Grid.{side_of, same_cell, same_cells}
-use Rattle.go_points.specs.Equal.{same_cells_eq, same_cells_refl}
-use Rattle.go_points.specs.contracts.CellPartialEq.TheImpl.{eq-value}
-use Rattle.go_points.proofs.Sides.{side_kept, room_kept}
+use Rattle.std.proofs.Common.{◌≡◌, ℕ, List, Bool, true, false, not, nat_eq, eqb-true, eq-eqb, refl, sym, ◌∙◌, ap}
+use Rattle.std.specs.Cmp.Lexicographic.{pointwise}
+use Rattle.go_points.specs.Grid.{same_cells}
+use Rattle.go_points.proofs.Comparing.{all_same, size_same, stones_same, blacks_same, unlike, words_decide}
 use Rattle.go_points.proofs.colouring.ColouringPartialEq.eq.Goals as goal
 
--- the derived test of cells is the one that the rules use
-agrees : (a b : Cell) → (eq-value).it a b ≡ same_cell a b
-agrees Empty Empty = refl
-agrees Empty (Stone Black) = refl
-agrees Empty (Stone White) = refl
-agrees (Stone Black) Empty = refl
-agrees (Stone White) Empty = refl
-agrees (Stone Black) (Stone Black) = refl
-agrees (Stone Black) (Stone White) = refl
-agrees (Stone White) (Stone Black) = refl
-agrees (Stone White) (Stone White) = refl
+-- a test that was turned
+turned : (a b : Bool) → a ≡ not b → a ≡ true → b ≡ false
+turned a true e f = absurd (cc)
+turned a false e f = refl
 
-each_agrees : (xs ys : List Cell) → pointwise (eq-value).it xs ys ≡ same_cells xs ys
-each_agrees [] [] = refl
-each_agrees [] (y ∷ ys) = refl
-each_agrees (x ∷ xs) [] = refl
-each_agrees (x ∷ xs) (y ∷ ys) = ap₂ (λ a b. a && b) (agrees x y) (each_agrees xs ys)
+kept : (a b : Bool) → a ≡ not b → a ≡ false → b ≡ true
+kept a true e f = refl
+kept a false e f = absurd (cc)
 
--- two colourings of one size are the same exactly where their rooms are
-same_room : (n : ℕ) (xs ys c d : List Cell) → n ≤ MAX_SIZE → length xs ≡ MAX_POINTS → length ys ≡ MAX_POINTS → take (n * n) xs ≡ c → take (n * n) ys ≡ d
-    → drop (n * n) xs ≡ replicate (MAX_POINTS - n * n) Empty → drop (n * n) ys ≡ replicate (MAX_POINTS - n * n) Empty → same_cells xs ys ≡ same_cells c d
-same_room n xs ys c d low wide also is was rest more = go (same_cells xs ys) (same_cells c d) refl refl
-  where
-    go : (a b : Bool) → same_cells xs ys ≡ a → same_cells c d ≡ b → a ≡ b
-    go true true e f = refl
-    go false false e f = refl
-    go true false e f = sym (ap (same_cells c) (sym was ∙ ap (take (n * n)) (sym (same_cells_eq xs ys e)) ∙ is) ∙ same_cells_refl c) ∙ f
-    go false true e f = sym e ∙ ap (same_cells xs) (sym (room_kept n ys d low also was more) ∙ ap (λ l. l ++ replicate (MAX_POINTS - length l) Empty) (sym (same_cells_eq c d f)) ∙ room_kept n xs c low wide is rest) ∙ same_cells_refl xs
+same_tests : (a b : Bool) → (a ≡ true → b ≡ true) → (b ≡ true → a ≡ true) → a ≡ b
+same_tests true true there back = refl
+same_tests false false there back = refl
+same_tests true false there back = sym (there refl)
+same_tests false true there back = back refl
 
-pub returns-then-eq : goal.returns-then-eq
-returns-then-eq c =
-    let one : c.self.inside.size ≡ c.other.inside.size = eqb-true _ _ (sym c.eq.ensures ∙ c.if-eq.true) in
-    c.eq-then-eq.ensures
-    ∙ each_agrees c.self.inside.cells c.other.inside.cells
-    ∙ same_room c.self.inside.size c.self.inside.cells c.other.inside.cells c.args.self.now c.args.other.now c.self.invariant.1 c.self.invariant.2 c.other.invariant.2 c.self.view_is
-    (ap (λ n. take (n * n) c.other.inside.cells) one ∙ c.other.view_is) c.self.invariant.3 (rw one c.other.invariant.3)
+pub returns-then-ne : goal.returns-then-ne
+returns-then-ne c =
+    let a = c.self.inside in
+    let b = c.other.inside in
+    unlike a.size b.size a.stones a.blacks b.stones b.blacks c.args.self.now c.args.other.now c.self.invariant c.other.invariant c.self.view_is c.other.view_is false refl
+    (λ h. sym (turned c.ne.result (nat_eq a.size b.size) c.ne.ensures c.if-ne.true) ∙ eq-eqb a.size b.size (size_same a.size b.size a.stones a.blacks b.stones b.blacks c.args.self.now c.args.other.now c.self.invariant c.other.invariant c.self.view_is c.other.view_is h))
 
-pub returns-else-eq : goal.returns-else-eq
-returns-else-eq c = c.if-eq.false ∙ differs (same_cells c.args.self.now c.args.other.now) refl
-  where
-    differs : (b : Bool) → same_cells c.args.self.now c.args.other.now ≡ b → false ≡ b
-    differs false e = refl
-    differs true e =
-        absurd (cc (
-          sym c.eq.ensures ∙ c.if-eq.false,
-          eq-eqb c.self.inside.size c.other.inside.size
-              (sym (side_kept c.self.inside.size c.self.inside.cells c.args.self.now c.self.invariant.1 c.self.invariant.2 c.self.view_is)
-              ∙ ap side_of (same_cells_eq c.args.self.now c.args.other.now e)
-              ∙ side_kept c.other.inside.size c.other.inside.cells c.args.other.now c.other.invariant.1 c.other.invariant.2 c.other.view_is),
-        ))
+pub returns-then-ne-2 : goal.returns-then-ne-2
+returns-then-ne-2 c =
+    let a = c.self.inside in
+    let b = c.other.inside in
+    unlike a.size b.size a.stones a.blacks b.stones b.blacks c.args.self.now c.args.other.now c.self.invariant c.other.invariant c.self.view_is c.other.view_is false refl
+    (λ h. sym (turned c.ne-2.result (pointwise nat_eq a.stones b.stones) c.ne-2.ensures c.if-ne-2.true) ∙ (words_decide a.stones b.stones).1 (stones_same a.size b.size a.stones a.blacks b.stones b.blacks c.args.self.now c.args.other.now c.self.invariant c.other.invariant c.self.view_is c.other.view_is h))
+
+pub returns : goal.returns
+returns c =
+    let a = c.self.inside in
+    let b = c.other.inside in
+    let size : a.size ≡ b.size = eqb-true a.size b.size (kept c.ne.result (nat_eq a.size b.size) c.ne.ensures c.if-ne.false) in
+    let stones : a.stones ≡ b.stones = (words_decide a.stones b.stones).0 (kept c.ne-2.result (pointwise nat_eq a.stones b.stones) c.ne-2.ensures c.if-ne-2.false) in
+    let there : pointwise nat_eq a.blacks b.blacks ≡ true → same_cells c.args.self.now c.args.other.now ≡ true =
+    λ h. all_same a.size b.size a.stones a.blacks b.stones b.blacks c.args.self.now c.args.other.now c.self.invariant c.other.invariant c.self.view_is c.other.view_is size stones ((words_decide a.blacks b.blacks).0 h) in
+    let back : same_cells c.args.self.now c.args.other.now ≡ true → pointwise nat_eq a.blacks b.blacks ≡ true =
+    λ h. (words_decide a.blacks b.blacks).1 (blacks_same a.size b.size a.stones a.blacks b.stones b.blacks c.args.self.now c.args.other.now c.self.invariant c.other.invariant c.self.view_is c.other.view_is h) in
+    c.eq.ensures ∙ same_tests (pointwise nat_eq a.blacks b.blacks) (same_cells c.args.self.now c.args.other.now) there back

@@ -1,0 +1,54 @@
+//! One bit for each point of the widest board, in fixed words.
+
+ghost use Rattle.std.specs.Prelude.{◌≡◌, ◌≢◌, ◌<◌, ◌≤◌, ℕ, replicate, slice_index};
+ghost use Rattle.go_points.specs.declared.TheConstants.{MAX_POINTS};
+ghost use Rattle.go_points.specs.Points.{has_bit};
+ghost use Rattle.go_points.specs.Words.{IsWords, word_count};
+
+use crate::MAX_POINTS;
+
+/// The number of words.
+pub(crate) const WORDS: usize = (MAX_POINTS + 63) / 64;
+
+/// The words: bit i % 64 of word i / 64 is that of the point i.
+pub(crate) type PointBits = [u64; WORDS];
+
+pub(crate) fn no_bits() -> PointBits
+    ensures { result ≡ replicate word_count 0 }
+{
+    [0; WORDS]
+}
+
+pub(crate) fn read_bit(bits: &PointBits, bit: usize) -> bool
+    requires within { bit < MAX_POINTS }
+    ensures { result ≡ has_bit bits.now bit }
+{
+    bits[bit / 64] >> (bit % 64) & 1 == 1
+}
+
+pub(crate) fn write_bit(bits: &mut PointBits, bit: usize, value: bool)
+    requires within { bit < MAX_POINTS }
+    requires words { IsWords bits.old word_count MAX_POINTS }
+    ensures same { has_bit bits.new bit ≡ value }
+    ensures others { (i : ℕ) → i ≢ bit → has_bit bits.new i ≡ has_bit bits.old i }
+    ensures kept { (area : ℕ) → bit < area → IsWords bits.old word_count area → IsWords bits.new word_count area }
+{
+    if value {
+        bits[bit / 64] |= 1 << (bit % 64);
+    } else {
+        bits[bit / 64] &= !(1 << (bit % 64));
+    }
+}
+
+/// How many words at the front are the same.
+pub(crate) fn alike_words(bits: &PointBits, others: &PointBits) -> usize
+    ensures same { (j : ℕ) → j < result → slice_index bits.now j ≡ slice_index others.now j }
+    ensures most { result ≤ word_count }
+{
+    for index in 0..WORDS {
+        if bits[index] != others[index] {
+            return index;
+        }
+    }
+    WORDS
+}

@@ -24,6 +24,8 @@ pub type PlayBoard = PlainBoard;
 pub type PlaySeen = ListSeen;
 
 #[cfg(test)]
+mod board_tests;
+#[cfg(test)]
 mod key_tests;
 #[cfg(test)]
 mod tests;

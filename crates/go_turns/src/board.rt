@@ -7,7 +7,7 @@ ghost use Rattle.go_points.specs.Grid.{cell_at, same_cell, side_of, IsColouring}
 ghost use Rattle.go_points.specs.Place.{IsOn, number_of};
 ghost use Rattle.go_points.specs.Liberty.{first_without_liberty};
 ghost use Rattle.go_points.specs.Move.{after_move, taken_by_move};
-ghost use Rattle.go_turns.specs.Key.{key_of};
+ghost use Rattle.stone_key.specs.Key.{key_of};
 
 pub use go_chains::{NoLiberty, Occupied};
 use go_points::{Cell, Colour, Colouring, Point, Size};

@@ -1,9 +1,9 @@
 //! The board of chains, as a board that play may use.
 
 use crate::board::{Board, NoLiberty, Occupied};
-use crate::key::key_of;
 use go_chains::ChainBoard;
 use go_points::{Cell, Colour, Colouring, Point, Size};
+use stone_key::key_of;
 
 impl Board for ChainBoard {
     ghost content = { λ b. b };

@@ -2,9 +2,9 @@
 
 use crate::board::{Board, NoLiberty, Occupied};
 use crate::clearing::{are_same, clear_colour, find_without_liberty};
-use crate::key::key_of;
 use go_points::{Cell, Colour, Colouring, MAX_SIZE, Point, Size};
 use std::marker::Model;
+use stone_key::key_of;
 
 /// A board that keeps its cells alone and looks for captures by sweeps over all of them.
 #[derive(Clone, Copy, Debug)]

@@ -2,7 +2,7 @@
 use Rattle.std.proofs.Common.{◌∙◌, ap}
 use Rattle.go_turns.specs.History.{repeats}
 use Rattle.go_turns.proofs.Repeats.{once_more}
-use Rattle.go_turns.proofs.seen.ListSeenSeen.add.Goals as goal
+use Rattle.go_turns.proofs.list_seen.ListSeenSeen.add.Goals as goal
 
 pub invariant_of-self-2 : goal.invariant_of-self-2
 invariant_of-self-2 c =

@@ -7,7 +7,9 @@ use std::test::Fail;
 
 // The next number of a linear congruential generator (Knuth's MMIX).
 fn next(number: u64) -> u64 {
-    number.wrapping_mul(6_364_136_223_846_793_005).wrapping_add(1_442_695_040_888_963_407)
+    number
+        .wrapping_mul(6_364_136_223_846_793_005)
+        .wrapping_add(1_442_695_040_888_963_407)
 }
 
 // What a board says of a move, and what it holds after it.

@@ -30,7 +30,8 @@ pub(crate) fn make_move(
 {
     prove!(colouring.size().area() <= MAX_POINTS);
     fill(colouring, heads, next, counts, colour, number);
-    let captured = capture(colouring, heads, next, counts, colour.opponent(), number);
+    let other = colour.opponent();
+    let captured = capture(colouring, heads, next, counts, other, number);
     let lost = remove_dead(colouring, heads, next, counts, colour, number);
     prove!(colouring.size().area() <= MAX_POINTS);
     captured + lost

@@ -32,7 +32,7 @@ pub(crate) fn remove_dead(
 {
     let size = colouring.size();
     prove!(size.area() <= MAX_POINTS);
-    if !colouring.get(size.point_at(number)).is_stone_of(colour) {
+    if !colouring.at(number).is_stone_of(colour) {
         return 0;
     }
     let head = heads[number];

@@ -10,7 +10,7 @@ ghost use Rattle.go_chains.specs.Chains.{nowhere, IsBoard, IsSettled, TellsLiber
 
 use crate::NoLiberty;
 use crate::circles::remove;
-use crate::keyed_cells::KeyedCells;
+use crate::keyed_cells::{KeyedCells, cell_of};
 use crate::stones::fill;
 use go_points::{Cell, Colouring, MAX_POINTS, Point};
 
@@ -39,8 +39,7 @@ fn remove_changed(
     prove!(size.area() <= MAX_POINTS);
     for number in 0..size.area() {
         let head = heads[number];
-        let point = size.point_at(number);
-        if head != MAX_POINTS as u16 && !are_same(colouring.get(point), wanted.get(point)) {
+        if head != MAX_POINTS as u16 && !are_same(colouring.at(number), cell_of(wanted, number)) {
             remove(colouring, heads, next, counts, head);
         }
     }
@@ -88,8 +87,7 @@ fn fill_changed(
     prove!(size.area() <= MAX_POINTS);
     for number in 0..size.area() {
         if heads[number] == MAX_POINTS as u16 {
-            let cell = wanted.get(size.point_at(number));
-            fill_cell(colouring, heads, next, counts, cell, number);
+            fill_cell(colouring, heads, next, counts, cell_of(wanted, number), number);
         }
     }
     prove!(wanted.size().area() <= MAX_POINTS);

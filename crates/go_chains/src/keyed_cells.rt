@@ -1,6 +1,6 @@
 //! The colouring of a board with its key, which changes with each point.
 
-ghost use Rattle.std.specs.Prelude.{◌≡◌, ◌*◌, replicate, slice_set};
+ghost use Rattle.std.specs.Prelude.{◌≡◌, ◌*◌, ◌<◌, replicate, slice_set};
 ghost use Rattle.go_points.specs.declared.Cell.TheVariants.{Empty};
 ghost use Rattle.go_points.specs.Grid.{cell_at, side_of, IsColouring};
 ghost use Rattle.go_points.specs.Place.{IsOn, number_of};
@@ -74,6 +74,14 @@ impl KeyedCells {
         self.colouring.set(point, cell);
     }
 
+    /// What the point of this number holds.
+    pub(crate) fn at(&self, number: usize) -> Cell
+        requires { number < side_of self.now * side_of self.now }
+        ensures { result ≡ cell_at self.now number }
+    {
+        cell_of(&self.colouring, number)
+    }
+
     pub(crate) fn colouring(&self) -> Colouring
         ensures { result ≡ self.now }
     {
@@ -85,4 +93,13 @@ impl KeyedCells {
     {
         self.key
     }
+}
+
+/// What the point of this number holds: as `get`, without the point.
+pub(crate) fn cell_of(colouring: &Colouring, number: usize) -> Cell
+    requires { number < side_of colouring.now * side_of colouring.now }
+    ensures { result ≡ cell_at colouring.now number }
+{
+    prove!(colouring.size().area() <= MAX_POINTS);
+    colouring.cells()[number]
 }

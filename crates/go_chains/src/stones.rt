@@ -81,7 +81,7 @@ fn join(
     prove!(size.area() <= MAX_POINTS);
     let into = heads[neighbour];
     let from = heads[number];
-    if into == from || !colouring.get(size.point_at(neighbour)).is_stone_of(colour) {
+    if into == from || !colouring.at(neighbour).is_stone_of(colour) {
         return;
     }
     merge(colouring, heads, next, counts, into, from);

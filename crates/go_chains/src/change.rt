@@ -87,7 +87,14 @@ fn fill_changed(
     prove!(size.area() <= MAX_POINTS);
     for number in 0..size.area() {
         if heads[number] == MAX_POINTS as u16 {
-            fill_cell(colouring, heads, next, counts, cell_of(wanted, number), number);
+            fill_cell(
+                colouring,
+                heads,
+                next,
+                counts,
+                cell_of(wanted, number),
+                number,
+            );
         }
     }
     prove!(wanted.size().area() <= MAX_POINTS);

@@ -1,8 +1,8 @@
 -- When a move keeps its stone and changes no other point, from the counts before it.
-use Rattle.std.proofs.Common.{◌≡◌, ◌≢◌, ℕ, ◌+◌, ◌*◌, ◌<◌, ◌≤◌, ◌⊎◌, inl, inr, ◌↔◌, Bool, true, false, not, ◌&&◌, ◌||◌, IsTrue, nat_eq, eqb-true, nat_lt, ltb-true, ltb-false, List, [], ◌∷◌, length, slice_index, set, refl, sym, ◌∙◌, ap, subst, arith}
+use Rattle.std.proofs.Common.{◌≡◌, ◌≢◌, ℕ, ◌+◌, ◌*◌, ◌<◌, ◌≤◌, ◌⊎◌, inl, inr, ◌↔◌, Bool, true, false, not, ◌&&◌, IsTrue, nat_eq, eqb-true, nat_lt, ltb-true, ltb-false, List, [], ◌∷◌, length, slice_index, set, refl, sym, ◌∙◌, ap, subst, arith}
 use Rattle.std.specs.List.{list_any}
 use Rattle.std.proofs.lemmas.Bool.{cases_eq}
-use Rattle.std.proofs.lemmas.List.{get_or-set_same, get_or-set_other, get_or_past, length-set}
+use Rattle.std.proofs.lemmas.List.{get_or-set_same, get_or-set_other, get_or_past}
 use Rattle.go_points.specs.declared.TheConstants.{MAX_POINTS}
 use Rattle.go_points.specs.declared.Colour.{Colour}
 use Rattle.go_points.specs.declared.Cell.{Cell}
@@ -15,7 +15,7 @@ use Rattle.go_points.proofs.Cells.{same_cell_eq, eq_same_cell, adjacent_on_board
 use Rattle.go_points.proofs.Clearing.{EveryStoneReaches, one_or_other, on_or_off}
 use Rattle.go_points.proofs.Quiet.{quiet_reaches}
 use Rattle.go_chains.specs.Joined.{IsWay, Joined}
-use Rattle.go_chains.specs.Chains.{nowhere, touches, liberty_count, IsClosed, IsBoard}
+use Rattle.go_chains.specs.Chains.{nowhere, touches, liberty_count, IsBoard}
 use Rattle.go_chains.specs.Quiet.{has_more, loses_last, lets_stay}
 use Rattle.go_chains.proofs.Joins.{joined_self, joined_on, joined_beside, reaches_beside}
 use Rattle.go_chains.proofs.Counts.{touches_from, touches_to, count_from, count_to, count_filled}

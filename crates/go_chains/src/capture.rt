@@ -9,11 +9,12 @@ ghost use Rattle.go_points.specs.Stones.{stone_count};
 ghost use Rattle.go_chains.specs.Chains.{touches, IsSettled, IsDead, KillsNone};
 
 use crate::circles::remove;
-use go_points::{Colour, Colouring, MAX_POINTS};
+use crate::keyed_cells::KeyedCells;
+use go_points::{Colour, MAX_POINTS};
 
 /// Takes the chain at the point off where it is of the colour and has no liberty. How many stones it had.
 pub(crate) fn remove_dead(
-    colouring: &mut Colouring,
+    colouring: &mut KeyedCells,
     heads: &mut [u16],
     next: &[u16],
     counts: &mut [u32],
@@ -31,7 +32,7 @@ pub(crate) fn remove_dead(
 {
     let size = colouring.size();
     prove!(size.area() <= MAX_POINTS);
-    if !colouring.get(size.point_at(number)).is_stone_of(colour) {
+    if !colouring.at(number).is_stone_of(colour) {
         return 0;
     }
     let head = heads[number];
@@ -43,7 +44,7 @@ pub(crate) fn remove_dead(
 
 /// Takes the chains of the colour off that stand beside the point and have no liberty. How many stones they had.
 pub(crate) fn capture(
-    colouring: &mut Colouring,
+    colouring: &mut KeyedCells,
     heads: &mut [u16],
     next: &[u16],
     counts: &mut [u32],

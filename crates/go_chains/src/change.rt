@@ -10,6 +10,7 @@ ghost use Rattle.go_chains.specs.Chains.{nowhere, IsBoard, IsSettled, TellsLiber
 
 use crate::NoLiberty;
 use crate::circles::remove;
+use crate::keyed_cells::{KeyedCells, cell_of};
 use crate::stones::fill;
 use go_points::{Cell, Colouring, MAX_POINTS, Point};
 
@@ -22,7 +23,7 @@ fn are_same(cell: Cell, other: Cell) -> bool
 
 // Takes the chains off that have a stone where the other colouring holds something else.
 fn remove_changed(
-    colouring: &mut Colouring,
+    colouring: &mut KeyedCells,
     heads: &mut [u16],
     next: &[u16],
     counts: &mut [u32],
@@ -38,8 +39,7 @@ fn remove_changed(
     prove!(size.area() <= MAX_POINTS);
     for number in 0..size.area() {
         let head = heads[number];
-        let point = size.point_at(number);
-        if head != MAX_POINTS as u16 && !are_same(colouring.get(point), wanted.get(point)) {
+        if head != MAX_POINTS as u16 && !are_same(colouring.at(number), cell_of(wanted, number)) {
             remove(colouring, heads, next, counts, head);
         }
     }
@@ -47,7 +47,7 @@ fn remove_changed(
 
 // Lets an empty point hold the cell.
 fn fill_cell(
-    colouring: &mut Colouring,
+    colouring: &mut KeyedCells,
     heads: &mut [u16],
     next: &mut [u16],
     counts: &mut [u32],
@@ -70,7 +70,7 @@ fn fill_cell(
 
 // Puts the stones down that the other colouring holds at empty points.
 fn fill_changed(
-    colouring: &mut Colouring,
+    colouring: &mut KeyedCells,
     heads: &mut [u16],
     next: &mut [u16],
     counts: &mut [u32],
@@ -87,8 +87,14 @@ fn fill_changed(
     prove!(size.area() <= MAX_POINTS);
     for number in 0..size.area() {
         if heads[number] == MAX_POINTS as u16 {
-            let cell = wanted.get(size.point_at(number));
-            fill_cell(colouring, heads, next, counts, cell, number);
+            fill_cell(
+                colouring,
+                heads,
+                next,
+                counts,
+                cell_of(wanted, number),
+                number,
+            );
         }
     }
     prove!(wanted.size().area() <= MAX_POINTS);
@@ -96,7 +102,7 @@ fn fill_changed(
 }
 
 // The least point whose chain has no liberty.
-fn find_dead(colouring: &Colouring, heads: &[u16], counts: &[u32]) -> Option<Point>
+fn find_dead(colouring: &KeyedCells, heads: &[u16], counts: &[u32]) -> Option<Point>
     requires heads_full { length heads.now ≡ MAX_POINTS }
     requires counts_full { length counts.now ≡ MAX_POINTS }
     requires tells { TellsLiberties (side_of colouring.now) colouring.now heads.now counts.now }
@@ -117,7 +123,7 @@ fn find_dead(colouring: &Colouring, heads: &[u16], counts: &[u32]) -> Option<Poi
 
 // Lets the board hold the other colouring, whether or not each of its chains has a liberty.
 fn change_to(
-    colouring: &mut Colouring,
+    colouring: &mut KeyedCells,
     heads: &mut [u16],
     next: &mut [u16],
     counts: &mut [u32],
@@ -134,7 +140,7 @@ fn change_to(
 
 /// Takes the colouring over, or names the least point whose chain would have no liberty.
 pub(crate) fn take_over(
-    colouring: &mut Colouring,
+    colouring: &mut KeyedCells,
     heads: &mut [u16],
     next: &mut [u16],
     counts: &mut [u32],
@@ -150,7 +156,7 @@ pub(crate) fn take_over(
     ensures err { OnErr result (colouring.new ≡ colouring.old) }
 {
     prove!(colouring.size().area() <= MAX_POINTS);
-    let before = *colouring;
+    let before = colouring.colouring();
     change_to(colouring, heads, next, counts, wanted);
     match find_dead(colouring, heads, counts) {
         None => Ok(()),

@@ -7,12 +7,13 @@ ghost use Rattle.go_points.specs.Move.{after_move, taken_by_move};
 ghost use Rattle.go_chains.specs.Chains.{nowhere, IsBoard};
 
 use crate::capture::{capture, remove_dead};
+use crate::keyed_cells::KeyedCells;
 use crate::stones::fill;
-use go_points::{Colour, Colouring, MAX_POINTS};
+use go_points::{Colour, MAX_POINTS};
 
 /// A stone is put down at an empty point, then the chains of the other colour without liberty are taken off, and then its own if it has none. How many stones are taken off.
 pub(crate) fn make_move(
-    colouring: &mut Colouring,
+    colouring: &mut KeyedCells,
     heads: &mut [u16],
     next: &mut [u16],
     counts: &mut [u32],
@@ -29,7 +30,8 @@ pub(crate) fn make_move(
 {
     prove!(colouring.size().area() <= MAX_POINTS);
     fill(colouring, heads, next, counts, colour, number);
-    let captured = capture(colouring, heads, next, counts, colour.opponent(), number);
+    let other = colour.opponent();
+    let captured = capture(colouring, heads, next, counts, other, number);
     let lost = remove_dead(colouring, heads, next, counts, colour, number);
     prove!(colouring.size().area() <= MAX_POINTS);
     captured + lost

@@ -7,10 +7,11 @@ ghost use Rattle.go_points.specs.Grid.{adjacent, cell_at, side_of};
 ghost use Rattle.go_chains.specs.Chains.{nowhere, empties_beside, AreFull, HasCircles, HasCounts, IsSettled, KeepsTogether, KeepsOthers};
 
 use crate::circles::{merge, take_from};
-use go_points::{Cell, Colour, Colouring, MAX_POINTS};
+use crate::keyed_cells::KeyedCells;
+use go_points::{Cell, Colour, MAX_POINTS};
 
 // How many empty points are beside the point.
-fn empties_at(colouring: &Colouring, number: usize) -> u32
+fn empties_at(colouring: &KeyedCells, number: usize) -> u32
     requires on { number < side_of colouring.now * side_of colouring.now }
     ensures { result ≡ empties_beside (side_of colouring.now) colouring.now number }
 {
@@ -28,7 +29,7 @@ fn empties_at(colouring: &Colouring, number: usize) -> u32
 
 // Puts a stone down at an empty point, as a chain of its own.
 fn place(
-    colouring: &mut Colouring,
+    colouring: &mut KeyedCells,
     heads: &mut [u16],
     next: &mut [u16],
     counts: &mut [u32],
@@ -56,7 +57,7 @@ fn place(
 
 // Makes the chain of the stone one with that of the neighbour, where this has the same colour.
 fn join(
-    colouring: &Colouring,
+    colouring: &KeyedCells,
     heads: &mut [u16],
     next: &mut [u16],
     counts: &mut [u32],
@@ -80,7 +81,7 @@ fn join(
     prove!(size.area() <= MAX_POINTS);
     let into = heads[neighbour];
     let from = heads[number];
-    if into == from || !colouring.get(size.point_at(neighbour)).is_stone_of(colour) {
+    if into == from || !colouring.at(neighbour).is_stone_of(colour) {
         return;
     }
     merge(colouring, heads, next, counts, into, from);
@@ -88,7 +89,7 @@ fn join(
 
 /// Puts a stone down at an empty point, and makes one chain of it and of those of its colour beside it. Nothing is taken off.
 pub(crate) fn fill(
-    colouring: &mut Colouring,
+    colouring: &mut KeyedCells,
     heads: &mut [u16],
     next: &mut [u16],
     counts: &mut [u32],

@@ -3,7 +3,6 @@
 use crate::board::{Board, NoLiberty, Occupied};
 use go_chains::ChainBoard;
 use go_points::{Cell, Colour, Colouring, Point, Size};
-use stone_key::key_of;
 
 impl Board for ChainBoard {
     ghost content = { λ b. b };
@@ -29,7 +28,7 @@ impl Board for ChainBoard {
     }
 
     fn key(&self) -> u64 {
-        key_of(&self.colouring())
+        self.key()
     }
 
     fn play(&mut self, colour: Colour, point: Point) -> Result<u16, Occupied> {

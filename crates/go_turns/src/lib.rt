@@ -29,6 +29,8 @@ pub type PlayBoard = ChainBoard;
 pub type PlaySeen = HashSeen;
 
 #[cfg(test)]
+mod board_tests;
+#[cfg(test)]
 mod key_tests;
 #[cfg(test)]
 mod tests;

@@ -19,8 +19,8 @@ pub fn stone_word(number: usize, colour: Colour) -> u64
     }
 }
 
-// The word of what the point of this number holds: none, where it is empty.
-fn cell_word(number: usize, cell: Cell) -> u64
+/// The word of what the point of this number holds: none, where it is empty.
+pub fn cell_word(number: usize, cell: Cell) -> u64
     requires { number < MAX_POINTS }
     ensures { result ≡ word_for cell (word_after (2 * number)) (word_after (2 * number + 1)) }
 {

@@ -4,4 +4,4 @@
 mod key;
 mod words;
 
-pub use key::{key_of, stone_word};
+pub use key::{cell_word, key_of, stone_word};

@@ -1,9 +1,8 @@
-use Rattle.std.proofs.Common.{rules, ◌≡◌, ◌*◌, ◌≤◌, ℕ, slice_index, refl, sym, ◌∙◌, ap}
+use Rattle.std.proofs.Common.{rules, ◌≡◌, ◌*◌, ◌≤◌, slice_index, refl, sym, ◌∙◌, ap}
 use Rattle.go_points.specs.declared.Cell.{Cell}
 use Rattle.go_points.specs.declared.Cell.TheVariants.{Stone}
 use Rattle.go_points.specs.declared.TheConstants.{MAX_POINTS}
 use Rattle.go_points.specs.Grid.{same_cell, cell_at, side_of}
-use Rattle.go_points.specs.Place.{number_of}
 use Rattle.go_points.proofs.Cells.{same_cell_eq, eq_same_cell}
 use Rattle.go_chains.proofs.Captures.{clear_rest}
 use Rattle.go_chains.proofs.Dying.{head_holds, removal_kills}
@@ -15,10 +14,9 @@ returns-then-not-is_stone_of-clause-passed c = λ h dead stone same.
     let cells = c.args.colouring.now in
     let n = side_of cells in
     let room : n * n ≤ MAX_POINTS = search rules in
-    let at : number_of n c.point_at.result ≡ c.args.number = ap (λ (m : ℕ). number_of m c.point_at.result) (sym c.size-size.ensures.value) ∙ c.point_at.ensures.number_back in
     let holds = head_holds n cells c.args.heads.now c.args.next.now c.args.number h room c.requires.settled.chains c.requires.on dead.on same in
     let is = eq_same_cell (cell_at cells c.args.number) (Stone c.args.colour) (holds ∙ stone) in
-    let got = c.is_stone_of.ensures ∙ ap (λ (a : Cell). same_cell a (Stone c.args.colour)) (c.get.ensures.value ∙ ap (cell_at cells) at) ∙ is in
+    let got = c.is_stone_of.ensures ∙ ap (λ (a : Cell). same_cell a (Stone c.args.colour)) c.at.ensures ∙ is in
     absurd (cc (got, c.if-not-is_stone_of.true))
 
 pub returns-clause-cleared : goal.returns-clause-cleared
@@ -29,9 +27,8 @@ returns-clause-cleared c =
     let p = c.args.number in
     let h = slice_index heads p in
     let room : n * n ≤ MAX_POINTS = search rules in
-    let at : number_of n c.point_at.result ≡ p = ap (λ (m : ℕ). number_of m c.point_at.result) (sym c.size-size.ensures.value) ∙ c.point_at.ensures.number_back in
     let stone : cell_at cells p ≡ Stone c.args.colour =
-    same_cell_eq (cell_at cells p) (Stone c.args.colour) (ap (λ (a : Cell). same_cell a (Stone c.args.colour)) (ap (cell_at cells) (sym at) ∙ sym c.get.ensures.value) ∙ sym c.is_stone_of.ensures ∙ c.if-not-is_stone_of.false) in
+    same_cell_eq (cell_at cells p) (Stone c.args.colour) (ap (λ (a : Cell). same_cell a (Stone c.args.colour)) (sym c.at.ensures) ∙ sym c.is_stone_of.ensures ∙ c.if-not-is_stone_of.false) in
     let chains = c.requires.settled.chains in
     let has = headed n cells heads c.args.next.now p chains c.requires.on (not_empty (cell_at cells p) c.args.colour stone) in
     let h_on = chains.within p c.requires.on has in
@@ -48,9 +45,8 @@ returns-clause-kills c =
     let p = c.args.number in
     let h = slice_index heads p in
     let room : n * n ≤ MAX_POINTS = search rules in
-    let at : number_of n c.point_at.result ≡ p = ap (λ (m : ℕ). number_of m c.point_at.result) (sym c.size-size.ensures.value) ∙ c.point_at.ensures.number_back in
     let stone : cell_at cells p ≡ Stone c.args.colour =
-    same_cell_eq (cell_at cells p) (Stone c.args.colour) (ap (λ (a : Cell). same_cell a (Stone c.args.colour)) (ap (cell_at cells) (sym at) ∙ sym c.get.ensures.value) ∙ sym c.is_stone_of.ensures ∙ c.if-not-is_stone_of.false) in
+    same_cell_eq (cell_at cells p) (Stone c.args.colour) (ap (λ (a : Cell). same_cell a (Stone c.args.colour)) (sym c.at.ensures) ∙ sym c.is_stone_of.ensures ∙ c.if-not-is_stone_of.false) in
     let chains = c.requires.settled.chains in
     let has = headed n cells heads c.args.next.now p chains c.requires.on (not_empty (cell_at cells p) c.args.colour stone) in
     let h_on = chains.within p c.requires.on has in

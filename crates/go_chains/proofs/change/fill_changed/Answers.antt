@@ -2,7 +2,6 @@ use Rattle.std.proofs.Common.{rules, ◌≡◌, ◌*◌, ◌<◌, ◌≤◌, inl
 use Rattle.std.proofs.lemmas.List.{ext_get_or}
 use Rattle.go_points.specs.declared.Cell.TheVariants.{Empty}
 use Rattle.go_points.specs.Grid.{cell_at, side_of}
-use Rattle.go_points.specs.Place.{number_of}
 use Rattle.go_chains.specs.Chains.{IsSettled}
 use Rattle.go_chains.proofs.Changing.{stays_filled, filled_more}
 use Rattle.go_chains.proofs.change.fill_changed.Goals as goal
@@ -19,8 +18,7 @@ loop-number-preserved c =
     elim c.if-heads-number.branch [
       | then-heads-number w ↦
           (let after = w.fill_cell.new.colouring in
-          let at : number_of n w.point_at.result ≡ i = ap (λ (m : ℕ). number_of m w.point_at.result) (sym c.size-size.ensures.value) ∙ w.point_at.ensures.number_back in
-          let here : cell_at after i ≡ cell_at wanted i = w.fill_cell.ensures.here ∙ w.get-cell.ensures.value ∙ ap (λ (m : ℕ). cell_at wanted (number_of m w.point_at.result)) c.requires.same_size ∙ ap (cell_at wanted) at in
+          let here : cell_at after i ≡ cell_at wanted i = w.fill_cell.ensures.here ∙ w.cell_of.ensures in
           rw (w.colouring-is, w.heads-is, w.next-is, w.counts-is) (record {
             side = w.fill_cell.ensures.size ∙ side;
             settled = subst (λ (m : ℕ). IsSettled m after w.fill_cell.new.heads w.fill_cell.new.next w.fill_cell.new.counts) side w.fill_cell.ensures.settled;

@@ -1,8 +1,7 @@
-use Rattle.std.proofs.Common.{rules, ◌≡◌, ◌≢◌, ◌*◌, ◌<◌, inl, inr, ℕ, slice_index, refl, sym, ◌∙◌, ap, subst}
+use Rattle.std.proofs.Common.{rules, ◌≡◌, ◌≢◌, ◌*◌, ◌<◌, inl, inr, ℕ, slice_index, refl, sym, ◌∙◌, subst}
 use Rattle.std.proofs.lemmas.Bool.{cases_eq}
 use Rattle.go_points.specs.declared.Cell.TheVariants.{Empty}
 use Rattle.go_points.specs.Grid.{cell_at, side_of}
-use Rattle.go_points.specs.Place.{number_of}
 use Rattle.go_points.proofs.Cells.{same_cell_eq}
 use Rattle.go_chains.specs.Chains.{nowhere, HasCircles, HasCounts, IsClosed}
 use Rattle.go_chains.proofs.Changing.{stays_more}
@@ -17,7 +16,6 @@ loop-number-preserved c =
     let i = c.loop-number.number in
     let side = c.loop-number.invariant.side in
     let on : i < n * n = search rules in
-    let at : number_of n c.point_at-point.result ≡ i = ap (λ (m : ℕ). number_of m c.point_at-point.result) (sym c.size-size.ensures.value) ∙ c.point_at-point.ensures.number_back in
     elim c.if-head.branch [
       | then-head+then-not-are_same w ↦
           (let after = w.remove.new.colouring in
@@ -39,9 +37,7 @@ loop-number-preserved c =
           }))
       | else-head w ↦ rw (w.colouring-is, w.heads-is, w.counts-is) (elim w.else-head.branch [
         | else-head-via-then-head+else-not-are_same w' ↦
-            (let first = w'.get.ensures.value ∙ ap (λ (m : ℕ). cell_at now (number_of m c.point_at-point.result)) side ∙ ap (cell_at now) at in
-            let second = w'.get-then-head.ensures.value ∙ ap (λ (m : ℕ). cell_at wanted (number_of m c.point_at-point.result)) c.requires.same_size ∙ ap (cell_at wanted) at in
-            let same : cell_at now i ≡ cell_at wanted i = sym first ∙ same_cell_eq w'.get.result w'.get-then-head.result (sym w'.are_same.ensures ∙ w'.if-not-are_same.false) ∙ second in
+            (let same : cell_at now i ≡ cell_at wanted i = sym w'.at.ensures ∙ same_cell_eq w'.at.result w'.cell_of.result (sym w'.are_same.ensures ∙ w'.if-not-are_same.false) ∙ w'.cell_of.ensures in
             record {
               side = side;
               settled = c.loop-number.invariant.settled;

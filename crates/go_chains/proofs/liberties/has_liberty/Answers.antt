@@ -1,8 +1,7 @@
-use Rattle.std.proofs.Common.{rules, ◌≡◌, ◌<◌, ℕ, Bool, true, false, ◌&&◌, ◌||◌, not, map, sym, ◌∙◌, ap, ap₂, subst}
-use Rattle.go_points.specs.declared.Colour.{Colour}
+use Rattle.std.proofs.Common.{◌≡◌, ℕ, Bool, true, ◌&&◌, map, sym, ◌∙◌, ap, ap₂, subst}
 use Rattle.go_points.specs.declared.Cell.{Cell}
 use Rattle.go_points.specs.declared.Cell.TheVariants.{Empty, Stone}
-use Rattle.go_points.specs.Grid.{opponent_of, same_cell, adjacent, neighbours, cell_at, side_of}
+use Rattle.go_points.specs.Grid.{same_cell, adjacent, neighbours, cell_at, side_of}
 use Rattle.go_points.specs.Place.{number_of}
 use Rattle.go_points.proofs.Lists.{any_to, or_left, or_right}
 use Rattle.go_points.proofs.Cells.{neighbours_member}

@@ -14,9 +14,9 @@ capture-captured-requires-clause-beside c =
     let n = side_of before in
     let put = c.fill.new.colouring in
     let room : n * n ≤ MAX_POINTS = search rules in
-    subst (λ (m : ℕ). (h : ℕ) → IsDead m put c.fill.new.heads h → cell_at put h ≡ Stone c.opponent.result → 0 < touches m c.fill.new.heads h c.args.number) (sym c.fill.ensures.size)
+    subst (λ (m : ℕ). (h : ℕ) → IsDead m put c.fill.new.heads h → cell_at put h ≡ Stone c.opponent-other.result → 0 < touches m c.fill.new.heads h c.args.number) (sym c.fill.ensures.size)
     (captures_beside n before put c.args.heads.now c.args.next.now c.args.counts.now c.fill.new.heads c.fill.new.next c.fill.new.counts c.args.colour c.args.number room c.size.ensures.colouring.full c.requires.on c.requires.free
-    c.requires.board c.fill.ensures.cells c.fill.ensures.others c.fill.ensures.settled c.opponent.result c.opponent.ensures)
+    c.requires.board c.fill.ensures.cells c.fill.ensures.others c.fill.ensures.settled c.opponent-other.result c.opponent-other.ensures)
 
 pub returns-clause-board : goal.returns-clause-board
 returns-clause-board c =
@@ -34,7 +34,7 @@ returns-clause-board c =
     let room : n * n ≤ MAX_POINTS = search rules in
     let side : side_of first ≡ n = c.capture-captured.ensures.size ∙ c.fill.ensures.size in
     let full : length last ≡ n * n = c.size-2.ensures.colouring.full ∙ ap (λ (m : ℕ). m * m) (c.remove_dead-lost.ensures.size ∙ side) in
-    let cleared : first ≡ clear n put (opponent_of k) = c.capture-captured.ensures.cleared ∙ ap (λ (m : ℕ). clear m put c.opponent.result) c.fill.ensures.size ∙ ap (clear n put) c.opponent.ensures in
+    let cleared : first ≡ clear n put (opponent_of k) = c.capture-captured.ensures.cleared ∙ ap (λ (m : ℕ). clear m put c.opponent-other.result) c.fill.ensures.size ∙ ap (clear n put) c.opponent-other.ensures in
     let kills : KillsNone n put more first then = subst (λ (m : ℕ). KillsNone m put more first then) c.fill.ensures.size c.capture-captured.ensures.kills in
     let still : IsSettled n first then next c.capture-captured.new.counts = subst (λ (m : ℕ). IsSettled m first then next c.capture-captured.new.counts) c.fill.ensures.size c.capture-captured.ensures.settled in
     let end : IsSettled n last final next c.remove_dead-lost.new.counts = subst (λ (m : ℕ). IsSettled m last final next c.remove_dead-lost.new.counts) side c.remove_dead-lost.ensures.settled in
@@ -61,7 +61,7 @@ returns-clause-made c =
     let room : n * n ≤ MAX_POINTS = search rules in
     let side : side_of first ≡ n = c.capture-captured.ensures.size ∙ c.fill.ensures.size in
     let full : length last ≡ n * n = c.size-2.ensures.colouring.full ∙ ap (λ (m : ℕ). m * m) (c.remove_dead-lost.ensures.size ∙ side) in
-    let cleared : first ≡ clear n put (opponent_of k) = c.capture-captured.ensures.cleared ∙ ap (λ (m : ℕ). clear m put c.opponent.result) c.fill.ensures.size ∙ ap (clear n put) c.opponent.ensures in
+    let cleared : first ≡ clear n put (opponent_of k) = c.capture-captured.ensures.cleared ∙ ap (λ (m : ℕ). clear m put c.opponent-other.result) c.fill.ensures.size ∙ ap (clear n put) c.opponent-other.ensures in
     let kills : KillsNone n put more first then = subst (λ (m : ℕ). KillsNone m put more first then) c.fill.ensures.size c.capture-captured.ensures.kills in
     let still : IsSettled n first then next c.capture-captured.new.counts = subst (λ (m : ℕ). IsSettled m first then next c.capture-captured.new.counts) c.fill.ensures.size c.capture-captured.ensures.settled in
     let end : IsSettled n last final next c.remove_dead-lost.new.counts = subst (λ (m : ℕ). IsSettled m last final next c.remove_dead-lost.new.counts) side c.remove_dead-lost.ensures.settled in
@@ -72,7 +72,7 @@ returns-clause-made c =
     let clears : last ≡ clear n first k =
     move_clears n before put c.args.heads.now c.args.next.now c.args.counts.now more next c.fill.new.counts k p room c.size.ensures.colouring.full c.requires.on c.requires.free
     c.requires.board c.fill.ensures.cells c.fill.ensures.others c.fill.ensures.settled first then c.capture-captured.new.counts cleared kills still last final c.remove_dead-lost.new.counts full end alike kills' passed in
-    move_made before put first last k c.opponent.result p c.fill.ensures.cells c.fill.ensures.size c.opponent.ensures c.capture-captured.ensures.cleared c.capture-captured.ensures.size (clears ∙ ap (λ (m : ℕ). clear m first k) (sym side))
+    move_made before put first last k c.opponent-other.result p c.fill.ensures.cells c.fill.ensures.size c.opponent-other.ensures c.capture-captured.ensures.cleared c.capture-captured.ensures.size (clears ∙ ap (λ (m : ℕ). clear m first k) (sym side))
 
 pub returns-clause-taken : goal.returns-clause-taken
 returns-clause-taken c =
@@ -90,7 +90,7 @@ returns-clause-taken c =
     let room : n * n ≤ MAX_POINTS = search rules in
     let side : side_of first ≡ n = c.capture-captured.ensures.size ∙ c.fill.ensures.size in
     let full : length last ≡ n * n = c.size-2.ensures.colouring.full ∙ ap (λ (m : ℕ). m * m) (c.remove_dead-lost.ensures.size ∙ side) in
-    let cleared : first ≡ clear n put (opponent_of k) = c.capture-captured.ensures.cleared ∙ ap (λ (m : ℕ). clear m put c.opponent.result) c.fill.ensures.size ∙ ap (clear n put) c.opponent.ensures in
+    let cleared : first ≡ clear n put (opponent_of k) = c.capture-captured.ensures.cleared ∙ ap (λ (m : ℕ). clear m put c.opponent-other.result) c.fill.ensures.size ∙ ap (clear n put) c.opponent-other.ensures in
     let kills : KillsNone n put more first then = subst (λ (m : ℕ). KillsNone m put more first then) c.fill.ensures.size c.capture-captured.ensures.kills in
     let still : IsSettled n first then next c.capture-captured.new.counts = subst (λ (m : ℕ). IsSettled m first then next c.capture-captured.new.counts) c.fill.ensures.size c.capture-captured.ensures.settled in
     let end : IsSettled n last final next c.remove_dead-lost.new.counts = subst (λ (m : ℕ). IsSettled m last final next c.remove_dead-lost.new.counts) side c.remove_dead-lost.ensures.settled in
@@ -101,5 +101,5 @@ returns-clause-taken c =
     let clears : last ≡ clear n first k =
     move_clears n before put c.args.heads.now c.args.next.now c.args.counts.now more next c.fill.new.counts k p room c.size.ensures.colouring.full c.requires.on c.requires.free
     c.requires.board c.fill.ensures.cells c.fill.ensures.others c.fill.ensures.settled first then c.capture-captured.new.counts cleared kills still last final c.remove_dead-lost.new.counts full end alike kills' passed in
-    move_takes before put first last k c.opponent.result p c.fill.ensures.cells c.fill.ensures.size c.opponent.ensures c.capture-captured.ensures.cleared c.capture-captured.ensures.size (clears ∙ ap (λ (m : ℕ). clear m first k) (sym side))
+    move_takes before put first last k c.opponent-other.result p c.fill.ensures.cells c.fill.ensures.size c.opponent-other.ensures c.capture-captured.ensures.cleared c.capture-captured.ensures.size (clears ∙ ap (λ (m : ℕ). clear m first k) (sym side))
     c.capture-captured.result c.remove_dead-lost.result c.size.ensures.colouring.full c.capture-captured.ensures.count c.remove_dead-lost.ensures.count

@@ -105,7 +105,7 @@ fn opening_of(line: Line) -> Option<Opening>
 fn colouring_fits(size: Size, colouring: &Colouring) -> bool
     ensures { result ≡ nat_eq (length colouring.now) (size * size) }
 {
-    colouring.cells().len() == size.area()
+    colouring.size().area() == size.area()
 }
 
 /// Whether a turn is one of boards of this size.

@@ -9,12 +9,12 @@ ghost use Rattle.go_points.specs.Stones.{stone_count};
 ghost use Rattle.go_chains.specs.Chains.{touches, IsSettled, IsDead, KillsNone};
 
 use crate::circles::remove;
-use crate::keyed_cells::KeyedCells;
+use stone_key::KeyedColouring;
 use go_points::{Colour, MAX_POINTS};
 
 /// Takes the chain at the point off where it is of the colour and has no liberty. How many stones it had.
 pub(crate) fn remove_dead(
-    colouring: &mut KeyedCells,
+    colouring: &mut KeyedColouring,
     heads: &mut [u16],
     next: &[u16],
     counts: &mut [u32],
@@ -44,7 +44,7 @@ pub(crate) fn remove_dead(
 
 /// Takes the chains of the colour off that stand beside the point and have no liberty. How many stones they had.
 pub(crate) fn capture(
-    colouring: &mut KeyedCells,
+    colouring: &mut KeyedColouring,
     heads: &mut [u16],
     next: &[u16],
     counts: &mut [u32],

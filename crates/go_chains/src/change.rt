@@ -10,7 +10,7 @@ ghost use Rattle.go_chains.specs.Chains.{nowhere, IsBoard, IsSettled, TellsLiber
 
 use crate::NoLiberty;
 use crate::circles::remove;
-use crate::keyed_cells::{KeyedCells, cell_of};
+use stone_key::KeyedColouring;
 use crate::stones::fill;
 use go_points::{Cell, Colouring, MAX_POINTS, Point};
 
@@ -23,7 +23,7 @@ fn are_same(cell: Cell, other: Cell) -> bool
 
 // Takes the chains off that have a stone where the other colouring holds something else.
 fn remove_changed(
-    colouring: &mut KeyedCells,
+    colouring: &mut KeyedColouring,
     heads: &mut [u16],
     next: &[u16],
     counts: &mut [u32],
@@ -39,7 +39,7 @@ fn remove_changed(
     prove!(size.area() <= MAX_POINTS);
     for number in 0..size.area() {
         let head = heads[number];
-        if head != MAX_POINTS as u16 && !are_same(colouring.at(number), cell_of(wanted, number)) {
+        if head != MAX_POINTS as u16 && !are_same(colouring.at(number), wanted.cell(number)) {
             remove(colouring, heads, next, counts, head);
         }
     }
@@ -47,7 +47,7 @@ fn remove_changed(
 
 // Lets an empty point hold the cell.
 fn fill_cell(
-    colouring: &mut KeyedCells,
+    colouring: &mut KeyedColouring,
     heads: &mut [u16],
     next: &mut [u16],
     counts: &mut [u32],
@@ -70,7 +70,7 @@ fn fill_cell(
 
 // Puts the stones down that the other colouring holds at empty points.
 fn fill_changed(
-    colouring: &mut KeyedCells,
+    colouring: &mut KeyedColouring,
     heads: &mut [u16],
     next: &mut [u16],
     counts: &mut [u32],
@@ -92,7 +92,7 @@ fn fill_changed(
                 heads,
                 next,
                 counts,
-                cell_of(wanted, number),
+                wanted.cell(number),
                 number,
             );
         }
@@ -102,7 +102,7 @@ fn fill_changed(
 }
 
 // The least point whose chain has no liberty.
-fn find_dead(colouring: &KeyedCells, heads: &[u16], counts: &[u32]) -> Option<Point>
+fn find_dead(colouring: &KeyedColouring, heads: &[u16], counts: &[u32]) -> Option<Point>
     requires heads_full { length heads.now ≡ MAX_POINTS }
     requires counts_full { length counts.now ≡ MAX_POINTS }
     requires tells { TellsLiberties (side_of colouring.now) colouring.now heads.now counts.now }
@@ -123,7 +123,7 @@ fn find_dead(colouring: &KeyedCells, heads: &[u16], counts: &[u32]) -> Option<Po
 
 // Lets the board hold the other colouring, whether or not each of its chains has a liberty.
 fn change_to(
-    colouring: &mut KeyedCells,
+    colouring: &mut KeyedColouring,
     heads: &mut [u16],
     next: &mut [u16],
     counts: &mut [u32],
@@ -140,7 +140,7 @@ fn change_to(
 
 /// Takes the colouring over, or names the least point whose chain would have no liberty.
 pub(crate) fn take_over(
-    colouring: &mut KeyedCells,
+    colouring: &mut KeyedColouring,
     heads: &mut [u16],
     next: &mut [u16],
     counts: &mut [u32],
@@ -156,7 +156,7 @@ pub(crate) fn take_over(
     ensures err { OnErr result (colouring.new ≡ colouring.old) }
 {
     prove!(colouring.size().area() <= MAX_POINTS);
-    let before = colouring.colouring();
+    let before = *colouring.colouring();
     change_to(colouring, heads, next, counts, wanted);
     match find_dead(colouring, heads, counts) {
         None => Ok(()),

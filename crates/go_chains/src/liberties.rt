@@ -8,7 +8,7 @@ ghost use Rattle.go_chains.specs.Joined.{HoldsThose};
 ghost use Rattle.go_chains.specs.Chains.{touches, TellsLiberties};
 ghost use Rattle.go_chains.specs.Quiet.{has_more as has_more_of, loses_last, lets_stay, is_liberty};
 
-use crate::keyed_cells::KeyedCells;
+use stone_key::KeyedColouring;
 use go_points::{Colour, MAX_POINTS, PointSet, Size};
 
 // How many points beside the point have this head.
@@ -29,7 +29,7 @@ fn shared(heads: &[u16], size: Size, number: usize, head: u16) -> u32
 }
 
 /// The empty points beside the chain with this head.
-pub(crate) fn liberties_of(colouring: &KeyedCells, heads: &[u16], head: u16) -> PointSet
+pub(crate) fn liberties_of(colouring: &KeyedColouring, heads: &[u16], head: u16) -> PointSet
     requires heads_full { length heads.now ≡ MAX_POINTS }
     ensures { HoldsThose (side_of colouring.now) (is_liberty (side_of colouring.now) colouring.now heads.now head) result }
 {
@@ -61,7 +61,7 @@ fn has_more(heads: &[u16], counts: &[u32], size: Size, number: usize, neighbour:
 
 /// Whether a stone of the colour at the point takes a chain off.
 pub(crate) fn takes_chain(
-    colouring: &KeyedCells,
+    colouring: &KeyedColouring,
     heads: &[u16],
     counts: &[u32],
     colour: Colour,
@@ -87,7 +87,7 @@ pub(crate) fn takes_chain(
 
 /// Whether a stone of the colour at the point has a liberty at once, or by its neighbours of the colour.
 pub(crate) fn has_liberty(
-    colouring: &KeyedCells,
+    colouring: &KeyedColouring,
     heads: &[u16],
     counts: &[u32],
     colour: Colour,

@@ -7,11 +7,11 @@ ghost use Rattle.go_points.specs.Grid.{adjacent, cell_at, side_of};
 ghost use Rattle.go_chains.specs.Chains.{nowhere, empties_beside, AreFull, HasCircles, HasCounts, IsSettled, KeepsTogether, KeepsOthers};
 
 use crate::circles::{merge, take_from};
-use crate::keyed_cells::KeyedCells;
+use stone_key::KeyedColouring;
 use go_points::{Cell, Colour, MAX_POINTS};
 
 // How many empty points are beside the point.
-fn empties_at(colouring: &KeyedCells, number: usize) -> u32
+fn empties_at(colouring: &KeyedColouring, number: usize) -> u32
     requires on { number < side_of colouring.now * side_of colouring.now }
     ensures { result ≡ empties_beside (side_of colouring.now) colouring.now number }
 {
@@ -29,7 +29,7 @@ fn empties_at(colouring: &KeyedCells, number: usize) -> u32
 
 // Puts a stone down at an empty point, as a chain of its own.
 fn place(
-    colouring: &mut KeyedCells,
+    colouring: &mut KeyedColouring,
     heads: &mut [u16],
     next: &mut [u16],
     counts: &mut [u32],
@@ -57,7 +57,7 @@ fn place(
 
 // Makes the chain of the stone one with that of the neighbour, where this has the same colour.
 fn join(
-    colouring: &KeyedCells,
+    colouring: &KeyedColouring,
     heads: &mut [u16],
     next: &mut [u16],
     counts: &mut [u32],
@@ -89,7 +89,7 @@ fn join(
 
 /// Puts a stone down at an empty point, and makes one chain of it and of those of its colour beside it. Nothing is taken off.
 pub(crate) fn fill(
-    colouring: &mut KeyedCells,
+    colouring: &mut KeyedColouring,
     heads: &mut [u16],
     next: &mut [u16],
     counts: &mut [u32],

@@ -169,8 +169,8 @@ impl Colouring {
         write_bit(&mut self.blacks, number, cell.is_stone_of(Colour::Black));
     }
 
-    // What the point of this number holds.
-    fn cell(&self, number: usize) -> Cell
+    /// What the point of this number holds, in the order of the points.
+    pub fn cell(&self, number: usize) -> Cell
         requires { number < side_of self.now * side_of self.now }
         ensures { result ≡ cell_at self.now number }
     {

@@ -2,13 +2,12 @@
 
 ghost use Rattle.go_turns.specs.History.{place_in, repeats};
 
-use crate::keyed_colouring::KeyedColouring;
 use crate::seen::Seen;
 use go_points::Colouring;
 use indexmap::IndexSet;
 use std::alloc::{AllocError, Global};
 use std::marker::Model;
-use stone_key::key_of;
+use stone_key::{KeyedColouring, key_of};
 
 /// The colourings in a set that keeps their order. Colourings of one key are still told apart.
 #[derive(Drop)]
@@ -17,15 +16,15 @@ pub struct HashSeen {
 }
 
 impl Model for HashSeen {
-    ghost use Rattle.std.specs.Prelude.{List, IsFalse, map};
+    ghost use Rattle.std.specs.Prelude.{List, IsFalse};
     ghost use Rattle.go_points.specs.declared.Cell.{Cell};
     ghost use Rattle.go_turns.specs.History.{repeats};
 
     ghost Value = { List (List Cell) };
 
-    ghost view = { λ s. map (λ e. e.colouring) s.entries.keys };
+    ghost view = { λ s. s.entries.keys };
 
-    ghost invariant = { λ s. IsFalse (repeats (map (λ e. e.colouring) s.entries.keys)) };
+    ghost invariant = { λ s. IsFalse (repeats s.entries.keys) };
 }
 
 impl Seen for HashSeen {
@@ -43,7 +42,7 @@ impl Seen for HashSeen {
 
     fn holds_with(&self, colouring: &Colouring, key: u64) -> Option<usize> {
         self.entries
-            .get_index_of(&KeyedColouring::new(*colouring, key))
+            .get_index_of(&KeyedColouring::with_key(*colouring, key))
     }
 
     fn at(&self, place: usize) -> &Colouring {
@@ -60,7 +59,8 @@ impl Seen for HashSeen {
     }
 
     fn add_with(&mut self, colouring: Colouring, key: u64) -> Result<(), AllocError> {
-        self.entries.insert(KeyedColouring::new(colouring, key))?;
+        self.entries
+            .insert(KeyedColouring::with_key(colouring, key))?;
         Ok(())
     }
 

@@ -6,7 +6,6 @@ mod chain_board;
 mod clearing;
 mod fault;
 mod hash_seen;
-mod keyed_colouring;
 pub mod laws;
 mod list_seen;
 mod plain_board;

@@ -68,8 +68,8 @@ fn hold_cells(colouring: &Colouring, held: &mut Held)
     ensures items { held.new.items ≡ held.old.items ++ text_of colouring.now }
     ensures len { array_vec_len held.new ≡ array_vec_len held.old + length colouring.now }
 {
-    for cell in colouring.cells() {
-        held.push(byte_of(*cell));
+    for number in 0..colouring.size().area() {
+        held.push(byte_of(colouring.cell(number)));
     }
 }
 

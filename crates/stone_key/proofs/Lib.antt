@@ -1,3 +1,5 @@
 mod Table
 mod Drawn
 mod Keys
+mod Xors
+mod Changes

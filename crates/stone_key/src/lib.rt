@@ -2,6 +2,8 @@
 #![tactic(auto)]
 
 mod key;
+mod keyed_colouring;
 mod words;
 
 pub use key::{cell_word, key_of, stone_word};
+pub use keyed_colouring::KeyedColouring;

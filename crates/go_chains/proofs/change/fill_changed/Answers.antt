@@ -18,7 +18,7 @@ loop-number-preserved c =
     elim c.if-heads-number.branch [
       | then-heads-number w ↦
           (let after = w.fill_cell.new.colouring in
-          let here : cell_at after i ≡ cell_at wanted i = w.fill_cell.ensures.here ∙ w.cell_of.ensures in
+          let here : cell_at after i ≡ cell_at wanted i = w.fill_cell.ensures.here ∙ w.cell.ensures in
           rw (w.colouring-is, w.heads-is, w.next-is, w.counts-is) (record {
             side = w.fill_cell.ensures.size ∙ side;
             settled = subst (λ (m : ℕ). IsSettled m after w.fill_cell.new.heads w.fill_cell.new.next w.fill_cell.new.counts) side w.fill_cell.ensures.settled;

@@ -37,7 +37,7 @@ loop-number-preserved c =
           }))
       | else-head w ↦ rw (w.colouring-is, w.heads-is, w.counts-is) (elim w.else-head.branch [
         | else-head-via-then-head+else-not-are_same w' ↦
-            (let same : cell_at now i ≡ cell_at wanted i = sym w'.at.ensures ∙ same_cell_eq w'.at.result w'.cell_of.result (sym w'.are_same.ensures ∙ w'.if-not-are_same.false) ∙ w'.cell_of.ensures in
+            (let same : cell_at now i ≡ cell_at wanted i = sym w'.at.ensures ∙ same_cell_eq w'.at.result w'.cell.result (sym w'.are_same.ensures ∙ w'.if-not-are_same.false) ∙ w'.cell.ensures in
             record {
               side = side;
               settled = c.loop-number.invariant.settled;

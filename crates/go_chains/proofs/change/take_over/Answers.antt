@@ -36,4 +36,4 @@ returns-in-Some-clause-board c =
     let settled : IsSettled n last c.change_to-in-Some.new.heads c.change_to-in-Some.new.next c.change_to-in-Some.new.counts =
     subst (λ (m : ℕ). IsSettled m last c.change_to-in-Some.new.heads c.change_to-in-Some.new.next c.change_to-in-Some.new.counts) side c.change_to-in-Some.ensures.settled in
     let none = board_none n before c.args.heads.now c.args.next.now c.args.counts.now room c.requires.board in
-    settled_board n last c.change_to-in-Some.new.heads c.change_to-in-Some.new.next c.change_to-in-Some.new.counts room settled (ap (first_without_liberty n) (c.change_to-in-Some.ensures.value ∙ c.colouring-before.ensures) ∙ none)
+    settled_board n last c.change_to-in-Some.new.heads c.change_to-in-Some.new.next c.change_to-in-Some.new.counts room settled (ap (first_without_liberty n) (c.change_to-in-Some.ensures.value ∙ c.colouring.ensures) ∙ none)

@@ -1,4 +1,5 @@
-//! The colouring of a board with its key, which changes with each point.
+//! A colouring with its key, which changes with each point: the key of a board that plays, of a position that is looked up, of an
+//! element of a history.
 
 ghost use Rattle.std.specs.Prelude.{◌≡◌, ◌*◌, ◌<◌, replicate, slice_set};
 ghost use Rattle.go_points.specs.declared.Cell.TheVariants.{Empty};
@@ -6,18 +7,19 @@ ghost use Rattle.go_points.specs.Grid.{cell_at, side_of, IsColouring};
 ghost use Rattle.go_points.specs.Place.{IsOn, number_of};
 ghost use Rattle.stone_key.specs.Key.{key_of};
 
+use crate::key::{cell_word, key_of};
 use go_points::{Cell, Colouring, MAX_POINTS, Point, Size};
+use std::hash::{Hash, Hasher};
 use std::marker::Model;
-use stone_key::cell_word;
 
-/// A colouring with its key.
+/// A colouring with its key: equal by the colouring, hashed by the key.
 #[derive(Clone, Copy, Debug)]
-pub(crate) struct KeyedCells {
+pub struct KeyedColouring {
     colouring: Colouring,
     key: u64,
 }
 
-impl Model for KeyedCells {
+impl Model for KeyedColouring {
     ghost use Rattle.std.specs.Prelude.{◌≡◌, List};
     ghost use Rattle.std.proofs.Common.{sym};
     ghost use Rattle.go_points.specs.declared.Cell.{Cell};
@@ -34,25 +36,81 @@ impl Model for KeyedCells {
     ghost inverse_ok = { λ a h. λ i. record { colouring = a.colouring; key = sym h i } };
 }
 
-impl KeyedCells {
-    pub(crate) fn empty(size: Size) -> KeyedCells
+impl PartialEq for KeyedColouring {
+    ghost use Rattle.go_points.specs.Grid.{same_cells};
+    ghost use Rattle.go_points.specs.Equal.{same_cells_equiv};
+    ghost use Rattle.std.specs.Cmp.{partial_equiv_from_equiv};
+
+    ghost eq = { same_cells };
+
+    ghost laws = { partial_equiv_from_equiv same_cells_equiv };
+
+    fn eq(&self, other: &KeyedColouring) -> bool {
+        self.colouring == other.colouring
+    }
+}
+
+impl Eq for KeyedColouring {
+    ghost use Rattle.go_points.specs.Equal.{same_cells_equiv};
+
+    ghost laws = { same_cells_equiv };
+}
+
+impl Hash for KeyedColouring {
+    ghost use Rattle.std.specs.Hash as fed;
+    ghost use Rattle.std.proofs.Common.{ap};
+    ghost use Rattle.go_points.specs.Equal.{same_cells_eq};
+    ghost use Rattle.stone_key.specs.Key.{key_of};
+
+    ghost hash_input = { λ c. fed.u64 (key_of c) };
+
+    ghost respects_eq = { λ x y e. ap (λ c. fed.u64 (key_of c)) (same_cells_eq x y e) };
+
+    fn hash<H: Hasher>(&self, state: &mut H) {
+        self.key.hash(state);
+    }
+}
+
+impl KeyedColouring {
+    /// The colouring with its key, in time linear in the number of points.
+    pub fn of(colouring: &Colouring) -> KeyedColouring
+        ensures { result ≡ colouring.now }
+    {
+        KeyedColouring {
+            colouring: *colouring,
+            key: key_of(colouring),
+        }
+    }
+
+    /// The same, for a caller that knows the key.
+    pub fn with_key(colouring: Colouring, key: u64) -> KeyedColouring
+        requires { key ≡ key_of colouring }
+        ensures { result ≡ colouring }
+    {
+        KeyedColouring { colouring, key }
+    }
+
+    /// The colouring without stones.
+    pub fn empty(size: Size) -> KeyedColouring
         ensures value { result ≡ replicate (size * size) Empty }
         ensures size { side_of result ≡ size }
     {
-        KeyedCells {
+        KeyedColouring {
             colouring: Colouring::empty(size),
             key: 0,
         }
     }
 
-    pub(crate) fn size(&self) -> Size
+    /// The size of the board.
+    pub fn size(&self) -> Size
         ensures value { result ≡ side_of self.now }
         ensures colouring { IsColouring (side_of self.now) self.now }
     {
         self.colouring.size()
     }
 
-    pub(crate) fn get(&self, point: Point) -> Cell
+    /// What the point holds.
+    pub fn get(&self, point: Point) -> Cell
         requires { IsOn (side_of self.now) point }
         ensures value { result ≡ cell_at self.now (number_of (side_of self.now) point) }
         ensures colouring { IsColouring (side_of self.now) self.now }
@@ -61,7 +119,7 @@ impl KeyedCells {
     }
 
     /// Lets the point hold `cell`: the word of what it held goes out of the key, and that of the cell comes in.
-    pub(crate) fn set(&mut self, point: Point, cell: Cell)
+    pub fn set(&mut self, point: Point, cell: Cell)
         requires { IsOn (side_of self.old) point }
         ensures value { self.new ≡ slice_set self.old (number_of (side_of self.old) point) cell }
         ensures size { side_of self.new ≡ side_of self.old }
@@ -75,31 +133,23 @@ impl KeyedCells {
     }
 
     /// What the point of this number holds.
-    pub(crate) fn at(&self, number: usize) -> Cell
+    pub fn at(&self, number: usize) -> Cell
         requires { number < side_of self.now * side_of self.now }
         ensures { result ≡ cell_at self.now number }
     {
-        cell_of(&self.colouring, number)
+        self.colouring.cell(number)
     }
 
-    pub(crate) fn colouring(&self) -> Colouring
-        ensures { result ≡ self.now }
+    pub fn colouring(&self) -> &Colouring
+        ensures { result.now ≡ self.now }
     {
-        self.colouring
+        &self.colouring
     }
 
-    pub(crate) fn key(&self) -> u64
+    /// The exclusive or of the words of the stones.
+    pub fn key(&self) -> u64
         ensures { result ≡ key_of self.now }
     {
         self.key
     }
-}
-
-/// What the point of this number holds: as `get`, without the point.
-pub(crate) fn cell_of(colouring: &Colouring, number: usize) -> Cell
-    requires { number < side_of colouring.now * side_of colouring.now }
-    ensures { result ≡ cell_at colouring.now number }
-{
-    prove!(colouring.size().area() <= MAX_POINTS);
-    colouring.cells()[number]
 }

@@ -3,8 +3,8 @@ use Rattle.go_points.specs.declared.Cell.{Cell}
 use Rattle.go_points.specs.Grid.{side_of}
 use Rattle.go_points.specs.Place.{number_of}
 use Rattle.stone_key.specs.Key.{word_after, word_for, point_word}
-use Rattle.go_chains.proofs.Keyed.{key_of_set}
-use Rattle.go_chains.proofs.keyed_cells.KeyedCells.set.Goals as goal
+use Rattle.stone_key.proofs.Changes.{key_of_set}
+use Rattle.stone_key.proofs.keyed_colouring.KeyedColouring.set.Goals as goal
 
 pub invariant_of-self : goal.invariant_of-self
 invariant_of-self c =

@@ -11,7 +11,7 @@ use Rattle.go_points.proofs.Cells.{same_cell_false, points_member}
 use Rattle.go_points.proofs.Lists.{none_found, not_false}
 use Rattle.go_points.proofs.Liberties.{first_none, lacks_empty}
 use Rattle.go_points.proofs.Paths.{reaches_path}
-use Rattle.go_chains.specs.Chains.{nowhere, liberty_count, IsSettled, IsBoard, IsDead, TellsLiberties}
+use Rattle.go_chains.specs.Chains.{nowhere, liberty_count, IsSettled, IsBoard, LacksLiberties, TellsLiberties}
 use Rattle.go_chains.proofs.Counts.{counted_reaches, reaches_counted}
 use Rattle.go_chains.proofs.Boards.{heads_joined}
 use Rattle.go_chains.proofs.Playing.{board_of}
@@ -48,20 +48,20 @@ module _ (n : ℕ) (c : List Cell) (heads next counts : List ℕ) (room : n * n 
                     absurd (cc (e, (reaches_path n c p Empty).1 r)))
               ]
 
-  -- where every stone reaches empty, no chain is dead
+  -- where every stone reaches empty, each chain has a liberty
   pub settled_board : first_without_liberty n c ≡ None → IsBoard n c heads next counts
   unfolding first_without_liberty
-  settled_board none = board_of n c heads next counts room settled dies
+  settled_board none = board_of n c heads next counts room settled lacks_none
     where
-      dies : (h : ℕ) → IsDead n c heads h → ⊥
-      dies h dead =
-          let has : slice_index heads h ≢ nowhere = λ e. omega (arith, dead.on, room, sym dead.own ∙ e) in
-          let stone = settled.chains.stones h dead.on has in
-          let lacks = none_found (lacks_liberty n c) h (points n) (ap is_none none) (points_member n h dead.on) in
+      lacks_none : (h : ℕ) → LacksLiberties n c heads h → ⊥
+      lacks_none h lacking =
+          let has : slice_index heads h ≢ nowhere = λ e. omega (arith, lacking.on, room, sym lacking.own ∙ e) in
+          let stone = settled.chains.stones h lacking.on has in
+          let lacks = none_found (lacks_liberty n c) h (points n) (ap is_none none) (points_member n h lacking.on) in
           let r = (reaches_path n c h Empty).0 (not_false _ (sym (lacks_is h stone) ∙ lacks)) in
           let some = reaches_counted n c heads h settled.closed r in
-          let same : liberty_count n c heads (slice_index heads h) ≡ liberty_count n c heads h = ap (liberty_count n c heads) dead.own in
-          omega (arith, some, same, dead.none)
+          let same : liberty_count n c heads (slice_index heads h) ≡ liberty_count n c heads h = ap (liberty_count n c heads) lacking.own in
+          omega (arith, some, same, lacking.none)
 
 pub board_none : (n : ℕ) (c : List Cell) (heads next counts : List ℕ) → n * n ≤ MAX_POINTS → IsBoard n c heads next counts → first_without_liberty n c ≡ None
 board_none n c heads next counts room board = first_none n c (λ p on. go p on)
@@ -82,5 +82,5 @@ board_none n c heads next counts room board = first_none n c (λ p on. go p on)
         elim split [
           | inl none ↦ lacks_empty n c p (tells.empties p on none)
           | inr has ↦ (let head = slice_index heads p in
-              tells.tells p on has ∙ some (slice_index counts head) (board.alive head (tells.within p on has) (board.settled.chains.own p on has)))
+              tells.tells p on has ∙ some (slice_index counts head) (board.has_liberties head (tells.within p on has) (board.settled.chains.own p on has)))
         ]

@@ -20,7 +20,7 @@ use Rattle.go_chains.specs.Quiet.{has_more, loses_last, lets_stay}
 use Rattle.go_chains.proofs.Joins.{joined_self, joined_on, joined_beside, reaches_beside}
 use Rattle.go_chains.proofs.Counts.{touches_from, touches_to, count_from, count_to, count_filled}
 use Rattle.go_chains.proofs.Boards.{heads_joined}
-use Rattle.go_chains.proofs.Dying.{head_holds}
+use Rattle.go_chains.proofs.Leaving.{head_holds}
 
 more_is : (x y : ℕ) → x < y → nat_lt x y ≡ true
 more_is x y less = go (nat_lt x y) refl
@@ -136,8 +136,8 @@ module _ (n : ℕ) (c : List Cell) (heads next counts : List ℕ) (k : Colour) (
             let h = slice_index heads q in
             let q_has = has q q_on stone in
             let h_on = board.settled.chains.within q q_on q_has in
-            let alive = board.alive h h_on (board.settled.chains.own q q_on q_has) in
-            let beside = touches_to n heads h p (omega (arith, alive, none)) in
+            let living = board.has_liberties h h_on (board.settled.chains.own q q_on q_has) in
+            let beside = touches_to n heads h p (omega (arith, living, none)) in
             let x = beside.0 in
             let x_on = (adjacent_on_board n p x beside.1).1 in
             let x_is : cell_at c x ≡ Stone j = head_holds n c heads next x h room board.settled.chains x_on h_on beside.2 ∙ sym (head_holds n c heads next q h room board.settled.chains q_on h_on refl) ∙ is in

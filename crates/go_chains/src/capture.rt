@@ -6,14 +6,14 @@ ghost use Rattle.go_points.specs.declared.TheConstants.{MAX_POINTS};
 ghost use Rattle.go_points.specs.Clear.{clear};
 ghost use Rattle.go_points.specs.Grid.{cell_at, side_of};
 ghost use Rattle.go_points.specs.Stones.{stone_count};
-ghost use Rattle.go_chains.specs.Chains.{touches, IsSettled, IsDead, KillsNone};
+ghost use Rattle.go_chains.specs.Chains.{touches, IsSettled, LacksLiberties, LeavesLiberties};
 
 use crate::circles::remove;
 use stone_key::KeyedColouring;
 use go_points::{Colour, MAX_POINTS};
 
 /// Takes the chain at the point off where it is of the colour and has no liberty. How many stones it had.
-pub(crate) fn remove_dead(
+pub(crate) fn remove_without_liberty(
     colouring: &mut KeyedColouring,
     heads: &mut [u16],
     next: &[u16],
@@ -26,8 +26,8 @@ pub(crate) fn remove_dead(
     ensures size { side_of colouring.new ≡ side_of colouring.old }
     ensures settled { IsSettled (side_of colouring.old) colouring.new heads.new next.now counts.new }
     ensures cleared { clear (side_of colouring.old) colouring.new colour ≡ clear (side_of colouring.old) colouring.old colour }
-    ensures kills { KillsNone (side_of colouring.old) colouring.old heads.old colouring.new heads.new }
-    ensures passed { (h : ℕ) → IsDead (side_of colouring.old) colouring.new heads.new h → cell_at colouring.new h ≡ Stone colour → slice_index heads.old number ≢ h }
+    ensures left { LeavesLiberties (side_of colouring.old) colouring.old heads.old colouring.new heads.new }
+    ensures passed { (h : ℕ) → LacksLiberties (side_of colouring.old) colouring.new heads.new h → cell_at colouring.new h ≡ Stone colour → slice_index heads.old number ≢ h }
     ensures count { result + stone_count colouring.new ≡ stone_count colouring.old }
 {
     let size = colouring.size();
@@ -53,11 +53,11 @@ pub(crate) fn capture(
 ) -> u16
     requires settled { IsSettled (side_of colouring.old) colouring.old heads.old next.now counts.old }
     requires on { number < side_of colouring.old * side_of colouring.old }
-    requires beside { (h : ℕ) → IsDead (side_of colouring.old) colouring.old heads.old h → cell_at colouring.old h ≡ Stone colour → 0 < touches (side_of colouring.old) heads.old h number }
+    requires beside { (h : ℕ) → LacksLiberties (side_of colouring.old) colouring.old heads.old h → cell_at colouring.old h ≡ Stone colour → 0 < touches (side_of colouring.old) heads.old h number }
     ensures size { side_of colouring.new ≡ side_of colouring.old }
     ensures settled { IsSettled (side_of colouring.old) colouring.new heads.new next.now counts.new }
     ensures cleared { colouring.new ≡ clear (side_of colouring.old) colouring.old colour }
-    ensures kills { KillsNone (side_of colouring.old) colouring.old heads.old colouring.new heads.new }
+    ensures left { LeavesLiberties (side_of colouring.old) colouring.old heads.old colouring.new heads.new }
     ensures count { result + stone_count colouring.new ≡ stone_count colouring.old }
 {
     let size = colouring.size();
@@ -65,7 +65,7 @@ pub(crate) fn capture(
     let neighbours = size.point_at(number).neighbours(size);
     let mut removed = 0;
     for neighbour in neighbours.as_slice() {
-        removed += remove_dead(
+        removed += remove_without_liberty(
             colouring,
             heads,
             next,

@@ -102,7 +102,7 @@ fn fill_changed(
 }
 
 // The least point whose chain has no liberty.
-fn find_dead(colouring: &KeyedColouring, heads: &[u16], counts: &[u32]) -> Option<Point>
+fn find_without_liberty(colouring: &KeyedColouring, heads: &[u16], counts: &[u32]) -> Option<Point>
     requires heads_full { length heads.now ≡ MAX_POINTS }
     requires counts_full { length counts.now ≡ MAX_POINTS }
     requires tells { TellsLiberties (side_of colouring.now) colouring.now heads.now counts.now }
@@ -158,7 +158,7 @@ pub(crate) fn take_over(
     prove!(colouring.size().area() <= MAX_POINTS);
     let before = *colouring.colouring();
     change_to(colouring, heads, next, counts, wanted);
-    match find_dead(colouring, heads, counts) {
+    match find_without_liberty(colouring, heads, counts) {
         None => Ok(()),
         Some(point) => {
             change_to(colouring, heads, next, counts, &before);

@@ -6,7 +6,7 @@ ghost use Rattle.go_points.specs.Grid.{side_of};
 ghost use Rattle.go_points.specs.Move.{after_move, taken_by_move};
 ghost use Rattle.go_chains.specs.Chains.{nowhere, IsBoard};
 
-use crate::capture::{capture, remove_dead};
+use crate::capture::{capture, remove_without_liberty};
 use stone_key::KeyedColouring;
 use crate::stones::fill;
 use go_points::{Colour, MAX_POINTS};
@@ -32,7 +32,7 @@ pub(crate) fn make_move(
     fill(colouring, heads, next, counts, colour, number);
     let other = colour.opponent();
     let captured = capture(colouring, heads, next, counts, other, number);
-    let lost = remove_dead(colouring, heads, next, counts, colour, number);
+    let lost = remove_without_liberty(colouring, heads, next, counts, colour, number);
     prove!(colouring.size().area() <= MAX_POINTS);
     captured + lost
 }

@@ -49,8 +49,8 @@ impl<B: Board, S: Seen> State<B, S> {
             return None;
         }
         Some(Child {
-            key: position.key,
-            winner: self.winner_at(&position.colouring),
+            key: position.key(),
+            winner: self.winner_at(position.colouring()),
         })
     }
 }

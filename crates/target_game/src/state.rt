@@ -16,7 +16,6 @@ ghost use Rattle.target_game.specs.Over.{over, targets_stand};
 ghost use Rattle.target_game.specs.Kept.{turn_from, at_fault, IsAtFault};
 
 use crate::MAX_TURNS;
-use crate::position::Position;
 use crate::problem::Problem;
 use crate::questions::all_hold;
 use arrayvec::ArrayVec;
@@ -24,6 +23,7 @@ use go_points::{Cell, Colour, Colouring, Point, PointSet, Size, Turn};
 use go_turns::{Board, Record, Seen, TurnFault};
 use std::alloc::{AllocError, Global};
 use std::marker::Model;
+use stone_key::KeyedColouring;
 use thiserror::Error;
 
 /// Why there is no state with a colouring alone.
@@ -152,24 +152,30 @@ impl<B: Board, S: Seen> State<B, S> {
     }
 
     /// What stands after the mover's move at an empty point.
-    pub(crate) fn position_after(&self, point: Point) -> Position
+    pub(crate) fn position_after(&self, point: Point) -> KeyedColouring
         requires on_board { IsOn self.now.state.game.size point }
         requires empty { same_cell (cell_at self.now.state.colouring (number_of self.now.state.game.size point)) Empty ≡ true }
-        ensures value { result.colouring ≡ after_move self.now.state.game.size self.now.state.colouring self.now.state.mover (number_of self.now.state.game.size point) }
-        ensures size { side_of result.colouring ≡ self.now.state.game.size }
+        ensures value { result ≡ after_move self.now.state.game.size self.now.state.colouring self.now.state.mover (number_of self.now.state.game.size point) }
+        ensures size { side_of result ≡ self.now.state.game.size }
     {
-        let mut board = self.played.board().copy();
-        let _removed = board.play(self.mover, point);
-        Position::of(&board)
+        let board = self.played.board();
+        if board.quiet(self.mover, point) {
+            let mut position = KeyedColouring::with_key(board.colouring(), board.key());
+            position.set(point, Cell::Stone(self.mover));
+            return position;
+        }
+        let mut after = board.copy();
+        let _removed = after.play(self.mover, point);
+        KeyedColouring::with_key(after.colouring(), after.key())
     }
 
     /// Whether the colouring has occurred.
-    pub(crate) fn has_occurred(&self, position: &Position) -> bool
-        ensures { result ≡ has_occurred self.now.state.history position.now.colouring }
+    pub(crate) fn has_occurred(&self, position: &KeyedColouring) -> bool
+        ensures { result ≡ has_occurred self.now.state.history position.now }
     {
         self.played
             .seen()
-            .holds_with(&position.colouring, position.key)
+            .holds_with(position.colouring(), position.key())
             .is_some()
     }
 
@@ -205,7 +211,7 @@ impl<B: Board, S: Seen> State<B, S> {
         requires empty { same_cell (cell_at self.now.state.colouring (number_of self.now.state.game.size point)) Empty ≡ true }
         ensures { result ≡ after_move self.now.state.game.size self.now.state.colouring self.now.state.mover (number_of self.now.state.game.size point) }
     {
-        self.position_after(point).colouring
+        *self.position_after(point).colouring()
     }
 
     /// Whether the mover may move at the point, if nobody has won.

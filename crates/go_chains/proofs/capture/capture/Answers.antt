@@ -5,9 +5,9 @@ use Rattle.go_points.specs.declared.Cell.TheVariants.{Stone}
 use Rattle.go_points.specs.Clear.{clear}
 use Rattle.go_points.specs.Grid.{neighbours, cell_at, side_of}
 use Rattle.go_points.specs.Place.{number_of}
-use Rattle.go_chains.specs.Chains.{IsIn, IsSettled, IsDead, KillsNone}
+use Rattle.go_chains.specs.Chains.{IsIn, IsSettled, LacksLiberties, LeavesLiberties}
 use Rattle.go_chains.proofs.Beside.{in_more}
-use Rattle.go_chains.proofs.Dying.{CapturedSoFar, captured_step, captured_end}
+use Rattle.go_chains.proofs.Leaving.{CapturedSoFar, captured_step, captured_end}
 use Rattle.go_chains.proofs.capture.capture.Goals as goal
 
 pub loop-neighbour-preserved : goal.loop-neighbour-preserved
@@ -15,9 +15,9 @@ loop-neighbour-preserved c =
     let first = c.args.colouring.now in
     let n = side_of first in
     let now = c.loop-neighbour.colouring in
-    let after = c.remove_dead-removed.new.colouring in
+    let after = c.remove_without_liberty-removed.new.colouring in
     let heads = c.loop-neighbour.heads in
-    let more = c.remove_dead-removed.new.heads in
+    let more = c.remove_without_liberty-removed.new.heads in
     let items = c.as_slice-neighbour-items.result.now in
     let i = c.loop-neighbour.neighbour-index in
     let x = c.neighbour-item.result in
@@ -27,14 +27,14 @@ loop-neighbour-preserved c =
     let last : (q : ℕ) → IsIn q (map (number_of n) (take (i + 1) items)) → IsIn q (map (number_of n) (take i items)) ⊎ (q ≡ c.number.result) =
     λ q m. elim (in_more (number_of n) items i x c.loop-neighbour-test.true c.neighbour-item.is q m) [ inl before ↦ inl before | inr here ↦ inr (here ∙ number) ] in
     record {
-      side = c.remove_dead-removed.ensures.size ∙ side;
-      so_far = captured_step n first now after c.args.heads.now heads more c.args.next.now c.loop-neighbour.counts c.remove_dead-removed.new.counts k c.loop-neighbour.removed c.remove_dead-removed.result c.number.result
+      side = c.remove_without_liberty-removed.ensures.size ∙ side;
+      so_far = captured_step n first now after c.args.heads.now heads more c.args.next.now c.loop-neighbour.counts c.remove_without_liberty-removed.new.counts k c.loop-neighbour.removed c.remove_without_liberty-removed.result c.number.result
           (map (number_of n) (take i items)) (map (number_of n) (take (i + 1) items)) last
-          (subst (λ (m : ℕ). IsSettled m after more c.args.next.now c.remove_dead-removed.new.counts) side c.remove_dead-removed.ensures.settled)
-          (subst (λ (m : ℕ). clear m after k ≡ clear m now k) side c.remove_dead-removed.ensures.cleared)
-          (subst (λ (m : ℕ). KillsNone m now heads after more) side c.remove_dead-removed.ensures.kills)
-          (subst (λ (m : ℕ). (h : ℕ) → IsDead m after more h → cell_at after h ≡ Stone k → slice_index heads c.number.result ≢ h) side c.remove_dead-removed.ensures.passed)
-          c.remove_dead-removed.ensures.count c.loop-neighbour.invariant.so_far;
+          (subst (λ (m : ℕ). IsSettled m after more c.args.next.now c.remove_without_liberty-removed.new.counts) side c.remove_without_liberty-removed.ensures.settled)
+          (subst (λ (m : ℕ). clear m after k ≡ clear m now k) side c.remove_without_liberty-removed.ensures.cleared)
+          (subst (λ (m : ℕ). LeavesLiberties m now heads after more) side c.remove_without_liberty-removed.ensures.left)
+          (subst (λ (m : ℕ). (h : ℕ) → LacksLiberties m after more h → cell_at after h ≡ Stone k → slice_index heads c.number.result ≢ h) side c.remove_without_liberty-removed.ensures.passed)
+          c.remove_without_liberty-removed.ensures.count c.loop-neighbour.invariant.so_far;
     }
 
 pub returns-clause-cleared : goal.returns-clause-cleared

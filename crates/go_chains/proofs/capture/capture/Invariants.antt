@@ -1,7 +1,7 @@
 use Rattle.std.proofs.Common.{◌≡◌, map, take}
 use Rattle.go_points.specs.Grid.{side_of}
 use Rattle.go_points.specs.Place.{number_of}
-use Rattle.go_chains.proofs.Dying.{CapturedSoFar}
+use Rattle.go_chains.proofs.Leaving.{CapturedSoFar}
 use Rattle.go_chains.proofs.capture.capture.Given as goal
 
 abbrev pub invariant-loop-neighbour : goal.invariant-loop-neighbour

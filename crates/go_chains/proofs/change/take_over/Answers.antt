@@ -7,8 +7,8 @@ use Rattle.go_chains.specs.Chains.{IsSettled, TellsLiberties}
 use Rattle.go_chains.proofs.Lacking.{settled_tells, settled_board, board_none}
 use Rattle.go_chains.proofs.change.take_over.Goals as goal
 
-pub find_dead-requires-clause-tells : goal.find_dead-requires-clause-tells
-find_dead-requires-clause-tells c =
+pub find_without_liberty-requires-clause-tells : goal.find_without_liberty-requires-clause-tells
+find_without_liberty-requires-clause-tells c =
     let n = side_of c.args.colouring.now in
     let now = c.change_to.new.colouring in
     let room : n * n ≤ MAX_POINTS = search rules in

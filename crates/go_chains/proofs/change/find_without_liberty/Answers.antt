@@ -2,7 +2,7 @@ use Rattle.std.proofs.Common.{rules, ◌≡◌, ◌*◌, ◌<◌, ℕ, Some, sli
 use Rattle.go_points.specs.Grid.{side_of}
 use Rattle.go_points.specs.Place.{number_of}
 use Rattle.go_points.proofs.Liberties.{first_found, first_none}
-use Rattle.go_chains.proofs.change.find_dead.Goals as goal
+use Rattle.go_chains.proofs.change.find_without_liberty.Goals as goal
 
 pub returns-then-counts-head-eq0-clause-found : goal.returns-then-counts-head-eq0-clause-found
 returns-then-counts-head-eq0-clause-found c =

@@ -5,16 +5,16 @@ use Rattle.go_points.specs.declared.TheConstants.{MAX_POINTS}
 use Rattle.go_points.specs.Grid.{same_cell, cell_at, side_of}
 use Rattle.go_points.proofs.Cells.{same_cell_eq, eq_same_cell}
 use Rattle.go_chains.proofs.Captures.{clear_rest}
-use Rattle.go_chains.proofs.Dying.{head_holds, removal_kills}
+use Rattle.go_chains.proofs.Leaving.{head_holds, removal_leaves}
 use Rattle.go_chains.proofs.Filling.{headed, not_empty}
-use Rattle.go_chains.proofs.capture.remove_dead.Goals as goal
+use Rattle.go_chains.proofs.capture.remove_without_liberty.Goals as goal
 
 pub returns-then-not-is_stone_of-clause-passed : goal.returns-then-not-is_stone_of-clause-passed
-returns-then-not-is_stone_of-clause-passed c = λ h dead stone same.
+returns-then-not-is_stone_of-clause-passed c = λ h lacking stone same.
     let cells = c.args.colouring.now in
     let n = side_of cells in
     let room : n * n ≤ MAX_POINTS = search rules in
-    let holds = head_holds n cells c.args.heads.now c.args.next.now c.args.number h room c.requires.settled.chains c.requires.on dead.on same in
+    let holds = head_holds n cells c.args.heads.now c.args.next.now c.args.number h room c.requires.settled.chains c.requires.on lacking.on same in
     let is = eq_same_cell (cell_at cells c.args.number) (Stone c.args.colour) (holds ∙ stone) in
     let got = c.is_stone_of.ensures ∙ ap (λ (a : Cell). same_cell a (Stone c.args.colour)) c.at.ensures ∙ is in
     absurd (cc (got, c.if-not-is_stone_of.true))
@@ -33,12 +33,12 @@ returns-clause-cleared c =
     let has = headed n cells heads c.args.next.now p chains c.requires.on (not_empty (cell_at cells p) c.args.colour stone) in
     let h_on = chains.within p c.requires.on has in
     let h_is : cell_at cells h ≡ Stone c.args.colour = sym (head_holds n cells heads c.args.next.now p h room chains c.requires.on h_on refl) ∙ stone in
-    let dead = sym (c.requires.settled.counted.right h h_on (λ e. has e) (chains.own p c.requires.on has)) ∙ c.if-counts-head-ne0.false in
+    let lacking = sym (c.requires.settled.counted.right h h_on (λ e. has e) (chains.own p c.requires.on has)) ∙ c.if-counts-head-ne0.false in
     clear_rest n cells c.remove.new.colouring heads h c.args.colour c.requires.settled.closed
-    (λ q on same. head_holds n cells heads c.args.next.now q h room chains on h_on same ∙ h_is) dead c.remove.ensures.emptied c.remove.ensures.others
+    (λ q on same. head_holds n cells heads c.args.next.now q h room chains on h_on same ∙ h_is) lacking c.remove.ensures.emptied c.remove.ensures.others
 
-pub returns-clause-kills : goal.returns-clause-kills
-returns-clause-kills c =
+pub returns-clause-left : goal.returns-clause-left
+returns-clause-left c =
     let cells = c.args.colouring.now in
     let heads = c.args.heads.now in
     let n = side_of cells in
@@ -50,4 +50,4 @@ returns-clause-kills c =
     let chains = c.requires.settled.chains in
     let has = headed n cells heads c.args.next.now p chains c.requires.on (not_empty (cell_at cells p) c.args.colour stone) in
     let h_on = chains.within p c.requires.on has in
-    removal_kills n cells c.remove.new.colouring heads c.remove.new.heads c.args.next.now h room h_on (chains.own p c.requires.on has) chains c.remove.ensures.emptied c.remove.ensures.others c.remove.ensures.heads_gone c.remove.ensures.heads_kept
+    removal_leaves n cells c.remove.new.colouring heads c.remove.new.heads c.args.next.now h room h_on (chains.own p c.requires.on has) chains c.remove.ensures.emptied c.remove.ensures.others c.remove.ensures.heads_gone c.remove.ensures.heads_kept

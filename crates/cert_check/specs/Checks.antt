@@ -1,10 +1,8 @@
 -- What a source of lines gave to the checker, and what is answered of it.
 --     Took gives n s ls t      calls one behind another gave these lines of the program, from the source s of size n on, and left t
 --     Answers gives t r      a call may answer so there
---     TookAll, TookFew      what was taken of a source, until it ended or a line was malformed, or until no more could be taken
---     stop_of r k why      what is answered where k lines were taken, and no more could be
 --     Accepts, RejectsAt, FailsAt      the answers, by the lines taken
-use Rattle.std.specs.Prelude.{◌≡◌, ℕ, suc, ◌+◌, ◌^◌, ◌<◌, ◌≤◌, ◌⊎◌, Bool, true, false, nat_le, ◌||◌, if◌then◌else◌, List, [], ◌∷◌, length, Option, Some, None, Result, Ok, Err}
+use Rattle.std.specs.Prelude.{◌≡◌, ℕ, suc, ◌+◌, ◌^◌, ◌<◌, ◌≤◌, ◌⊎◌, List, length, Option, None, Result, Ok, Err}
 use Rattle.go_points.specs.declared.Colour.{Colour}
 use Rattle.target_game.specs.State.{GameProblem}
 use Rattle.proof_cert.specs.Lines.{Line}
@@ -13,9 +11,6 @@ use Rattle.proof_cert.specs.Source.{Source, source_of, lines_read, text_gives}
 use Rattle.proof_cert.specs.declared.line.Line as code
 use Rattle.proof_cert.specs.declared.source.SourceFault.{SourceFault}
 use Rattle.proof_cert.specs.declared.source.SourceFault.TheVariants.{Read}
-use Rattle.cert_check.specs.declared.reject.Why as stop
-use Rattle.cert_check.specs.declared.reject.Why.TheVariants as stops
-use Rattle.cert_check.specs.declared.reject.Reject.{Reject}
 use Rattle.cert_check.specs.Body.{Why}
 use Rattle.cert_check.specs.Verdict.{verdict, accepted, rejected}
 use Rattle.cert_check.specs.Parts.{line_values}
@@ -25,33 +20,6 @@ Took gives n s ls t = Gave gives s (line_values n ls) t
 
 abbrev pub Answers : {S : Type 0} → (S → Result (Option Line) SourceFault → S → Type 0) → S → Result (Option Line) SourceFault → Type 0
 Answers {S} gives t r = (u : S) × gives t r u
-
--- some line is malformed
-abbrev pub HasMalformed : List (Option code.Line) → Type 0
-HasMalformed [] = ⊥
-HasMalformed (None ∷ ls) = Unit {0}
-HasMalformed (Some l ∷ ls) = HasMalformed ls
-
--- The lines up to the end of the source or to a malformed one; and those up to where no more could be taken, and why.
-pub record TookAll {S : Type 0} (gives : S → Result (Option Line) SourceFault → S → Type 0) (n : ℕ) (s : S) (taken : List (Option code.Line)) : Type 0 where
-  pub left : S
-  pub took : Took gives n s taken left
-  pub there : Answers gives left (Ok None) ⊎ HasMalformed taken
-
-pub record TookFew {S : Type 0} (gives : S → Result (Option Line) SourceFault → S → Type 0) (number : S → ℕ) (n : ℕ) (s : S) (taken : List (Option code.Line)) (why : stop.Why) : Type 0 where
-  pub left : S
-  pub took : Took gives n s taken left
-  pub counted : number left ≡ number s + length taken
-  pub stopped : (why ≡ stops.Memory) ⊎ ((why ≡ stops.Read) × Answers gives left (Err Read))
-
--- The fault of a line that was taken, or else why no more were; where memory was refused to the judge, that.
-abbrev pub is_memory : stop.Why → Bool
-is_memory stops.Memory = true
-is_memory _ = false
-
-abbrev pub stop_of : Result Colour Reject → ℕ → stop.Why → Reject
-stop_of (Ok x) taken why = record { place = suc taken; why = why }
-stop_of (Err e) taken why = (if nat_le e.place taken || is_memory e.why then e else record { place = suc taken; why = why })
 
 -- The source has ended, and the verdict on its lines is this winner.
 pub record Accepts {S : Type 0} (gives : S → Result (Option Line) SourceFault → S → Type 0) (n : ℕ) (q : GameProblem) (s : S) (x : Colour) : Type 0 where

@@ -6,9 +6,13 @@ ghost use Rattle.go_turns.specs.History.{has_occurred};
 ghost use Rattle.cert_check.specs.Body.{is_known, is_listed, lemma_at, main_body, same_state};
 ghost use Rattle.cert_check.specs.Parts.{head_of};
 
-use crate::judge::PlayState;
 use go_points::{Colour, Colouring};
+use go_turns::{PlayBoard, PlaySeen};
 use std::marker::Model;
+use target_game::State;
+
+/// A state of the problem.
+pub(crate) type PlayState = State<PlayBoard, PlaySeen>;
 
 /// What a lemma says before its tree.
 #[derive(Drop)]

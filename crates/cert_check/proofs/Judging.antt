@@ -1,7 +1,10 @@
 -- What the judge does with a line, as the machine does it.
 use Rattle.std.proofs.Common.{◌≡◌, ℕ, suc, ◌+◌, ◌-◌, ◌*◌, Bool, true, false, ◌&&◌, nat_lt, nat_le, List, [], ◌∷◌, ◌++◌, length, Option, Some, None, IfSome, refl, sym, ap, ◌∙◌, subst, arith, if◌then◌else◌}
 use Rattle.std.specs.Prelude.{slice_get, reverse}
+use Rattle.std.specs.Ordering.{is_lt}
+use Rattle.std.proofs.Common.{Ordering, Less, Equal, Greater}
 use Rattle.go_points.specs.declared.Cell.{Cell}
+use Rattle.go_points.specs.Order.{text_order}
 use Rattle.target_game.specs.State.{GameState, state_alone}
 use Rattle.target_game.specs.State as State
 use Rattle.proof_cert.specs.Claim.{max_nodes, max_depth, max_listed}
@@ -20,6 +23,9 @@ use Rattle.cert_check.specs.Machine.{goes_on, stops, goes_if, last_of, listed_ta
 use Rattle.cert_check.specs.Inside.{Inside, phase_of, owed_by, node_fault, node_next}
 use Rattle.cert_check.specs.Parts.{head_of, listed_line, node_line, node_value}
 use Rattle.cert_check.specs.Judging.{GoesOn, IsBehind, machine_of, heading_of, lemma_of, within_of, inside_now, phase_held, IsBehindFor, AwaitsList, AwaitsNode, list_here, node_here, body_here, listed_more}
+use Rattle.cert_check.specs.Ascending.{Ascends}
+use Rattle.cert_check.proofs.Ascending.{ascends_more}
+use Rattle.cert_check.proofs.Lists.{before_is}
 use Rattle.cert_check.proofs.Machines.{last_pushed}
 use Rattle.cert_check.proofs.Replies.{line_on, line_off, line_full, room_is, reply_is}
 
@@ -138,13 +144,26 @@ last_fits cs c n o is long h = at o (last_of cs) (is ∙ last_get cs) h
     at (Some d) b e k = let there = subst (λ (x : Option (List Cell)). IfSome x (λ y. length y ≡ n)) (sym e) k in there ∙ sym long
 
 module _ (j : Judge) (c : List Cell) (v : Judge) (count : ℕ) (phase : j.phase ≡ Listing) (pushed : v.list.items ≡ j.list.items ++ c ∷ []) where
-  pub listed_ready : AwaitsList j → length c ≡ j.problem.now.game.size * j.problem.now.game.size → IsBehind (record j { list = v.list; listed_count = count })
-  listed_ready h fits =
+  -- the colouring is behind the last one
+  listed_behind : (o : Option (List Cell)) → IfSome o (λ d. length d ≡ length c) → is_after o c ≡ true → IfSome o (λ d. text_order d c ≡ Less)
+  listed_behind None long after = tt
+  listed_behind (Some d) long after = go (text_order d c) (before_is d c long ∙ after)
+    where
+      go : (o : Ordering) → is_lt o ≡ true → o ≡ Less
+      go Less e = refl
+      go Equal e = absurd (cc)
+      go Greater e = absurd (cc)
+
+  pub listed_ready : AwaitsList j → length c ≡ j.problem.now.game.size * j.problem.now.game.size → is_after (last_of j.list.items) c ≡ true → IsBehind (record j { list = v.list; listed_count = count })
+  listed_ready h fits after =
       subst (λ p. IsBehindFor (record j { list = v.list; listed_count = count }) p) (sym phase)
       (record {
         state = h.state;
         closed = h.closed;
         fits = subst (λ o. IfSome o (λ d. length d ≡ j.problem.now.game.size * j.problem.now.game.size)) (sym (ap last_of pushed ∙ last_pushed j.list.items c)) fits;
+        ascends =
+            subst Ascends (sym pushed)
+            (ascends_more j.list.items c h.ascends (listed_behind (last_of j.list.items) (last_fits j.list.items c (j.problem.now.game.size * j.problem.now.game.size) (last_of j.list.items) (sym (last_get j.list.items)) fits h.fits) after));
       })
 
   pub listed_goes : nat_lt j.listed_count max_listed ≡ true → is_after (last_of j.list.items) c ≡ true → count ≡ suc j.listed_count

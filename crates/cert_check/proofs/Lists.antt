@@ -1,5 +1,6 @@
 -- Lists of colourings: what is tested of each, and their order.
 use Rattle.std.proofs.Common.{◌≡◌, ℕ, Bool, true, false, cond, not, ◌&&◌, ◌||◌, nat_eq, nat_lt, List, [], ◌∷◌, length, Option, Some, None, is_some, is_none, Ordering, Less, Equal, Greater, refl, sym, ap, ◌∙◌, arith}
+use Rattle.std.specs.List.{list_all}
 use Rattle.std.specs.Ordering.{is_lt, ordering_then}
 use Rattle.go_points.specs.declared.Cell.{Cell}
 use Rattle.go_points.specs.Text.{cell_code}
@@ -7,6 +8,7 @@ use Rattle.go_points.specs.Order.{text_order}
 use Rattle.go_turns.specs.History.{place_in, has_occurred}
 use Rattle.target_game.proofs.Playing.{occurred_place}
 use Rattle.proof_cert.specs.Claim.{cells_before}
+use Rattle.cert_check.specs.Body.{is_listed}
 
 -- whether a colouring is known, by its place
 pub known_by : (h : List (List Cell)) (c : List Cell) (o : Option ℕ) (b : Bool) → o ≡ place_in h c → is_some o ≡ b → not (has_occurred h c) ≡ not b
@@ -29,3 +31,8 @@ before_is [] [] long = refl
 before_is [] (b ∷ d) long = absurd (omega arith)
 before_is (a ∷ c) [] long = absurd (omega arith)
 before_is (a ∷ c) (b ∷ d) long = before_step (nat_lt (cell_code a) (cell_code b)) (nat_eq (cell_code a) (cell_code b)) (text_order c d) (cells_before c d) (before_is c d (omega arith))
+
+-- where there is no list, each is listed
+pub all_free : (cs : List (List Cell)) → list_all (is_listed None) cs ≡ true
+all_free [] = refl
+all_free (c ∷ cs) = all_free cs

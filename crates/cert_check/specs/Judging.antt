@@ -21,6 +21,7 @@ use Rattle.cert_check.specs.Body.{Why, malformed, text_after_end}
 use Rattle.cert_check.specs.Stage.{why_value}
 use Rattle.cert_check.specs.Machine.{Machine, Heading, header, opening, listing_not, done, last_of, Step, goes_on, stops, not_taken, node_taken, reply_taken, end_taken}
 use Rattle.cert_check.specs.Machine as machine
+use Rattle.cert_check.specs.Ascending.{Ascends}
 use Rattle.cert_check.specs.Inside.{Follows, Unwon, FitsDepth, Inside, inside_of, phase_of, owed_by, others_after}
 use Rattle.cert_check.specs.Parts.{head_of, IsJudged}
 
@@ -59,12 +60,14 @@ pub record AwaitsList (j : Judge) : Type 0 where
   pub state : j.state ≡ record { state = state_alone j.problem.now.game j.root j.mover j.passes; before = [] }
   pub closed : j.open_nodes.items ≡ []
   pub fits : IfSome (last_of j.list.items) (λ c. length c ≡ j.problem.now.game.size * j.problem.now.game.size)
+  pub ascends : Ascends j.list.items
 
 pub record AwaitsNode (j : Judge) (due : Due) : Type 0 where
   pub game : j.state.state.game ≡ j.problem.now.game
   pub follows : Follows j.problem.now.game j.state.before (reverse j.open_nodes.items)
   pub unwon : Unwon due j.state.state
   pub room : FitsDepth due (length j.open_nodes.items)
+  pub ascends : Ascends j.list.items
 
 abbrev pub IsReadyFor : Judge → Phase → Type 0
 IsReadyFor j Header = AwaitsHeader j

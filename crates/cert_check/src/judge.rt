@@ -6,6 +6,7 @@ ghost use Rattle.target_game.specs.State.{state_alone};
 ghost use Rattle.proof_cert.specs.Claim.{max_nodes, max_depth};
 ghost use Rattle.proof_cert.specs.Lines.{line_fits as fits_board, lemma_line, main_line};
 ghost use Rattle.proof_cert.specs.Stage.{line_value};
+ghost use Rattle.cert_check.specs.Ascending.{Ascends};
 ghost use Rattle.cert_check.specs.Body.{Why as SpecWhy};
 ghost use Rattle.cert_check.specs.Inside.{node_fault, node_next, owed_by};
 ghost use Rattle.cert_check.specs.Judging.{AwaitsHeader, AwaitsList, AwaitsNode, GoesOn, IsBehind, IsReady, StopsFor, bad_line, body_here, heading_of, inside_now, lemma_of, list_here, listed_more, machine_of, node_here, reply_here, within_of};
@@ -168,6 +169,7 @@ impl<'p> Judge<'p> {
 
     /// The line `main`.
     fn main(&mut self) -> Result<(), Why>
+        requires list { self.old.list.items ≡ [] }
         ensures place { self.new.place ≡ self.old.place }
         ensures problem { self.new.problem ≡ self.old.problem }
         ensures ready { OnOk result (IsBehind self.new) }
@@ -339,6 +341,7 @@ impl<'p> Judge<'p> {
 
     /// The line `end` of a body whose nodes are all judged.
     fn close(&mut self, within: Within, line: &Line) -> Result<(), Why>
+        requires ascends { Ascends self.old.list.items }
         ensures place { self.new.place ≡ self.old.place }
         ensures problem { self.new.problem ≡ self.old.problem }
         ensures ready { OnOk result (IsBehind self.new) }
@@ -359,6 +362,7 @@ impl<'p> Judge<'p> {
 
     /// The present lemma is judged.
     fn close_lemma(&mut self) -> Result<(), Why>
+        requires ascends { Ascends self.old.list.items }
         ensures place { self.new.place ≡ self.old.place }
         ensures problem { self.new.problem ≡ self.old.problem }
         ensures ready { OnOk result (IsBehind self.new) }

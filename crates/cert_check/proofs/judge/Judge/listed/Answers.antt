@@ -26,8 +26,11 @@ returns-then-not-is_after-clause-err c =
 pub returns-clause-ready : goal.returns-clause-ready
 returns-clause-ready c =
     let j = c.args.self.now in
-    let pushed : c.push.new.self.items ≡ j.list.items ++ c.args.colouring ∷ [] = search rules in
-    listed_ready j c.args.colouring (record j { list = c.push.new.self }) (j.listed_count + 1) c.requires.phase pushed c.requires.ready c.requires.fits
+    let cs = j.list.items in
+    let last : c.copied.result ≡ slice_get cs (length cs - 1) = c.copied.ensures ∙ c.last.ensures.value ∙ ap (λ s. slice_get s (length s - 1)) c.deref.ensures.value in
+    let after : is_after (last_of cs) c.args.colouring ≡ true = ap (λ o. is_after o c.args.colouring) (sym (last ∙ last_get cs)) ∙ sym c.is_after.ensures ∙ c.if-not-is_after.false in
+    let pushed : c.push.new.self.items ≡ cs ++ c.args.colouring ∷ [] = search rules in
+    listed_ready j c.args.colouring (record j { list = c.push.new.self }) (j.listed_count + 1) c.requires.phase pushed c.requires.ready c.requires.fits after
 
 pub returns-clause-ok : goal.returns-clause-ok
 returns-clause-ok c =

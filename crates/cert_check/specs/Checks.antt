@@ -7,7 +7,8 @@ use Rattle.go_points.specs.declared.Colour.{Colour}
 use Rattle.target_game.specs.State.{GameProblem}
 use Rattle.proof_cert.specs.Lines.{Line}
 use Rattle.proof_cert.specs.Given.{Gave}
-use Rattle.proof_cert.specs.Source.{Source, source_of, lines_read, text_gives}
+use Rattle.proof_cert.specs.Source.{lines_read}
+use Rattle.proof_cert.specs.Streamed.{Tells, reader_gives, streamed_of}
 use Rattle.proof_cert.specs.declared.line.Line as code
 use Rattle.proof_cert.specs.declared.source.SourceFault.{SourceFault}
 use Rattle.proof_cert.specs.declared.source.SourceFault.TheVariants.{Read}
@@ -48,8 +49,9 @@ pub record FailsAt {S : Type 0} (gives : S → Result (Option Line) SourceFault 
   pub behind : place ≡ suc (length taken)
   pub faultless : (p : ℕ) (w : Why) → verdict q (line_values q.game.size taken) ≡ rejected p w → length taken < p
 
--- Over a text the answers are those of the verdict on all its lines, as far as they are read.
-pub record TextsJudged : Type 0 where
-  pub accepted : (q : GameProblem) (text : List ℕ) (x : Colour) → Accepts text_gives q.game.size q (source_of q.game.size text) x → verdict q (lines_read q.game.size text) ≡ accepted x
-  pub rejected : (q : GameProblem) (text : List ℕ) (place : ℕ) (why : Why) → RejectsAt text_gives q.game.size q (source_of q.game.size text) place why → verdict q (lines_read q.game.size text) ≡ rejected place why
-  pub unfailed : (q : GameProblem) (text : List ℕ) (place : ℕ) → FailsAt text_gives (λ (s : Source). s.number) q.game.size q (source_of q.game.size text) place → ⊥
+-- Over a reader the answers are those of the verdict on all the lines of its bytes, as far as they are read.
+pub record ReadersJudged : Type 0 where
+  pub accepted : (q : GameProblem) (told : Option (List ℕ)) (x : Colour) → Accepts reader_gives q.game.size q (streamed_of q.game.size told) x
+      → (bytes : List ℕ) × Tells told bytes × (verdict q (lines_read q.game.size bytes) ≡ accepted x)
+  pub rejected : (q : GameProblem) (told : Option (List ℕ)) (place : ℕ) (why : Why) → RejectsAt reader_gives q.game.size q (streamed_of q.game.size told) place why
+      → (bytes : List ℕ) × Tells told bytes × (verdict q (lines_read q.game.size bytes) ≡ rejected place why)

@@ -1,5 +1,5 @@
 -- The turn that is due and the turn that is given.
-use Rattle.std.proofs.Common.{◌≡◌, ℕ, zero, suc, None, not, ◌*◌, ◌<◌, Bool, true, false, ◌&&◌, ◌||◌, nat_eq, nat_lt, IsTrue, eqb-true, ltb-true, [], ◌∷◌, refl, sym, ap, ◌∙◌, arith, if◌then◌else◌}
+use Rattle.std.proofs.Common.{◌≡◌, ℕ, zero, suc, not, ◌*◌, ◌<◌, Bool, true, false, ◌&&◌, ◌||◌, nat_eq, nat_lt, IsTrue, eqb-true, ltb-true, [], ◌∷◌, refl, sym, ap, ◌∙◌, arith, if◌then◌else◌}
 use Rattle.std.specs.List.{All}
 use Rattle.go_points.specs.declared.Cell.TheVariants.{Empty}
 use Rattle.go_points.specs.Grid.{same_cell, cell_at}
@@ -14,11 +14,7 @@ use Rattle.go_points.specs.Ply.{Ply, pass, move, ply_of, same_ply}
 use Rattle.target_game.specs.State.{GameState}
 use Rattle.target_game.specs.Legal.{legal, holds_point}
 use Rattle.target_game.proofs.Playing.{holds_numbered}
-use Rattle.proof_cert.specs.Lines.{reply_line, turn_fits}
-use Rattle.cert_check.specs.Body.{replies_differ}
-use Rattle.cert_check.specs.Verdict.{Reading, fine, faulty, then_judge, read_line, asked, judge_reply}
-use Rattle.cert_check.specs.Body.{ask}
-use Rattle.cert_check.specs.Parts.{answered}
+use Rattle.proof_cert.specs.Lines.{turn_fits}
 use Rattle.cert_check.proofs.Members.{and_first, and_second}
 
 is_on : (n : ℕ) (p : Place) → on_board n p ≡ true → IsOn n p
@@ -57,11 +53,6 @@ turns_apart n (At p) (At q) fits other = go (on_board n p) refl (on_board n q) r
         no : (c : Bool) → nat_eq (number_of n p) (n * n) ≡ c → c ≡ false
         no true g = absurd (let low : number_of n p < n * n = ltb-true (number_of n p) (n * n) h in let same : number_of n p ≡ n * n = eqb-true (number_of n p) (n * n) g in omega arith)
         no false g = refl
-
-pub reply_apart : (n : ℕ) (due given : Turn) (r0 r1 : Reading) → IsTrue (turn_fits n (ply_of n due)) → (given ≡ due → ⊥) → read_line r0 ≡ fine (reply_line (ply_of n given)) r1 → answered (ply_of n due) r0 ≡ faulty r0.place (replies_differ (ply_of n due))
-reply_apart n due given r0 r1 fits other read =
-    ap (λ j. then_judge j (judge_reply r0 (ply_of n due))) read
-    ∙ ap (λ b. asked r0.place (ask b (replies_differ (ply_of n due)) None) r1) (turns_apart n due given fits other)
 
 -- a legal turn is one of the board
 pub legal_fits : (s : GameState) (t : Ply) → IsTrue (legal s t) → IsTrue (turn_fits s.game.size t)

@@ -1,6 +1,6 @@
--- Lists of colourings: what is tested of each, their order, and their lines.
-use Rattle.std.proofs.Common.{◌≡◌, ℕ, Bool, true, false, cond, not, ◌&&◌, ◌||◌, nat_eq, nat_lt, List, [], ◌∷◌, ◌++◌, length, Option, Some, None, is_some, is_none, Ordering, Less, Equal, Greater, refl, sym, ap, ◌∙◌, arith, append_assoc}
-use Rattle.std.proofs.lemmas.List.{append-nil}
+-- Lists of colourings: what is tested of each, and their order.
+use Rattle.std.proofs.Common.{◌≡◌, ℕ, Bool, true, false, cond, not, ◌&&◌, ◌||◌, nat_eq, nat_lt, List, [], ◌∷◌, length, Option, Some, None, is_some, is_none, Ordering, Less, Equal, Greater, refl, sym, ap, ◌∙◌, arith}
+use Rattle.std.specs.List.{list_all}
 use Rattle.std.specs.Ordering.{is_lt, ordering_then}
 use Rattle.go_points.specs.declared.Cell.{Cell}
 use Rattle.go_points.specs.Text.{cell_code}
@@ -8,11 +8,7 @@ use Rattle.go_points.specs.Order.{text_order}
 use Rattle.go_turns.specs.History.{place_in, has_occurred}
 use Rattle.target_game.proofs.Playing.{occurred_place}
 use Rattle.proof_cert.specs.Claim.{cells_before}
-use Rattle.cert_check.specs.declared.reject.Reject.{Reject}
-use Rattle.cert_check.specs.Body.{Why}
-use Rattle.cert_check.specs.Verdict.{Reading, Judged, fine, faulty, with_first}
-use Rattle.cert_check.specs.Stage.{why_value}
-use Rattle.cert_check.specs.Parts.{IsFault, Refuses, behind_front}
+use Rattle.cert_check.specs.Body.{is_listed}
 
 -- whether a colouring is known, by its place
 pub known_by : (h : List (List Cell)) (c : List Cell) (o : Option ℕ) (b : Bool) → o ≡ place_in h c → is_some o ≡ b → not (has_occurred h c) ≡ not b
@@ -36,24 +32,7 @@ before_is [] (b ∷ d) long = absurd (omega arith)
 before_is (a ∷ c) [] long = absurd (omega arith)
 before_is (a ∷ c) (b ∷ d) long = before_step (nat_lt (cell_code a) (cell_code b)) (nat_eq (cell_code a) (cell_code b)) (text_order c d) (cells_before c d) (before_is c d (omega arith))
 
--- a list with colourings in front
-pub front_none : (j : Judged (List (List Cell))) → j ≡ behind_front [] j
-front_none (fine cs r) = refl
-front_none (faulty place why) = refl
-
-front_more_at : (front : List (List Cell)) (c : List Cell) (j : Judged (List (List Cell))) → behind_front front (with_first c j) ≡ behind_front (front ++ c ∷ []) j
-front_more_at front c (fine cs r) = ap (λ ds. fine ds r) (sym (append_assoc front (c ∷ []) cs))
-front_more_at front c (faulty place why) = refl
-
-pub front_more : (front : List (List Cell)) (c : List Cell) (i j : Judged (List (List Cell))) → i ≡ with_first c j → behind_front front i ≡ behind_front (front ++ c ∷ []) j
-front_more front c i j e = ap (behind_front front) e ∙ front_more_at front c j
-
-pub front_end : (front : List (List Cell)) (i : Judged (List (List Cell))) (r : Reading) → i ≡ fine [] r → behind_front front i ≡ fine front r
-front_end front i r e = ap (behind_front front) e ∙ ap (λ cs. fine cs r) (append-nil front)
-
-pub front_refused : (n : ℕ) (front : List (List Cell)) (j : Judged (List (List Cell))) (e : Reject) → Refuses n j e → Refuses n (behind_front front j) e
-front_refused n front j e h = (go (why_value n e.why) h.0, h.1)
-  where
-    go : (o : Option Why) → IsFault j e.place o → IsFault (behind_front front j) e.place o
-    go None g = tt
-    go (Some why) g = ap (behind_front front) g
+-- where there is no list, each is listed
+pub all_free : (cs : List (List Cell)) → list_all (is_listed None) cs ≡ true
+all_free [] = refl
+all_free (c ∷ cs) = all_free cs

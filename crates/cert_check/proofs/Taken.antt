@@ -1,44 +1,34 @@
--- What the checker answers over the lines of a text.
-use Rattle.std.proofs.Common.{◌≡◌, ℕ, ◌≤◌, ◌⊎◌, inl, inr, Bool, true, false, List, [], ◌∷◌, length, Option, Some, None, Ok, Err, ap, ◌∙◌, arith}
+-- What the checker answers over the lines that a reader gives.
+use Rattle.std.proofs.Common.{◌≡◌, ℕ, ◌≤◌, ◌⊎◌, inl, inr, List, length, Option, None, Ok, ap, ◌∙◌, arith}
 use Rattle.go_points.specs.declared.Colour.{Colour}
 use Rattle.target_game.specs.State.{GameProblem}
-use Rattle.proof_cert.specs.Lines.{Line}
-use Rattle.proof_cert.specs.Source.{source_of, answer_from, lines_read, text_gives}
-use Rattle.proof_cert.specs.Given.{IsFrontOfText, LinesGivenOfText}
-use Rattle.proof_cert.specs.declared.source.SourceFault.TheVariants.{Read}
+use Rattle.proof_cert.specs.Source.{lines_read}
+use Rattle.proof_cert.specs.Streamed.{Tells, reader_gives, streamed_of, LinesGivenOfReader}
 use Rattle.cert_check.specs.Body.{Why}
 use Rattle.cert_check.specs.Verdict.{verdict, accepted, rejected}
 use Rattle.cert_check.specs.Parts.{line_values}
-use Rattle.cert_check.specs.Checks.{Answers, Accepts, RejectsAt, TextsJudged}
+use Rattle.cert_check.specs.Checks.{Answers, Accepts, RejectsAt, ReadersJudged}
 use Rattle.cert_check.proofs.Faults.{faults_stay}
 use Rattle.cert_check.proofs.Taking.{as_long}
 
-text_accepted : LinesGivenOfText → (q : GameProblem) (text : List ℕ) (x : Colour) → Accepts text_gives q.game.size q (source_of q.game.size text) x → verdict q (lines_read q.game.size text) ≡ accepted x
-text_accepted law q text x h =
-    let front = law q.game.size text (line_values q.game.size h.taken) h.left h.took in
-    ap (verdict q) (front.all h.ended.0 h.ended.1) ∙ h.accepted
+reader_accepted : LinesGivenOfReader → (q : GameProblem) (told : Option (List ℕ)) (x : Colour) → Accepts reader_gives q.game.size q (streamed_of q.game.size told) x
+    → (bytes : List ℕ) × Tells told bytes × (verdict q (lines_read q.game.size bytes) ≡ accepted x)
+reader_accepted law q told x h =
+    let all = (law q.game.size told (line_values q.game.size h.taken) h.left h.took).all h.ended.0 h.ended.1 in
+    (all.0, all.1, ap (verdict q) all.2 ∙ h.accepted)
 
-text_rejected : LinesGivenOfText → (q : GameProblem) (text : List ℕ) (place : ℕ) (why : Why) → RejectsAt text_gives q.game.size q (source_of q.game.size text) place why → verdict q (lines_read q.game.size text) ≡ rejected place why
-text_rejected law q text place why h = side h.there
+reader_rejected : LinesGivenOfReader → (q : GameProblem) (told : Option (List ℕ)) (place : ℕ) (why : Why) → RejectsAt reader_gives q.game.size q (streamed_of q.game.size told) place why
+    → (bytes : List ℕ) × Tells told bytes × (verdict q (lines_read q.game.size bytes) ≡ rejected place why)
+reader_rejected law q told place why h = side h.there
   where
-    front : IsFrontOfText q.game.size text (line_values q.game.size h.taken) h.left
-    front = law q.game.size text (line_values q.game.size h.taken) h.left h.took
-
-    side : Answers text_gives h.left (Ok None) ⊎ (place ≤ length h.taken) → verdict q (lines_read q.game.size text) ≡ rejected place why
-    side (inl a) = ap (verdict q) (front.all a.0 a.1) ∙ h.rejected
+    side : Answers reader_gives h.left (Ok None) ⊎ (place ≤ length h.taken) → (bytes : List ℕ) × Tells told bytes × (verdict q (lines_read q.game.size bytes) ≡ rejected place why)
+    side (inl a) =
+        let all = (law q.game.size told (line_values q.game.size h.taken) h.left h.took).all a.0 a.1 in
+        (all.0, all.1, ap (verdict q) all.2 ∙ h.rejected)
     side (inr low) =
+        let front = (law q.game.size told (line_values q.game.size h.taken) h.left h.took).front in
         let long = as_long q.game.size h.taken in
-        ap (verdict q) front.front ∙ faults_stay q (line_values q.game.size h.taken) h.left.left place why h.rejected (omega (arith, low, long))
+        (front.0, front.1, ap (verdict q) front.3 ∙ faults_stay q (line_values q.game.size h.taken) front.2 place why h.rejected (omega (arith, low, long)))
 
-always_read : (failed : Bool) (ls : List (Option Line)) → failed ≡ false → Err Read ≡ answer_from failed ls → ⊥
-always_read true ls unfailed e = cc
-always_read false [] unfailed e = cc
-always_read false (None ∷ ls) unfailed e = cc
-always_read false (Some l ∷ ls) unfailed e = cc
-
-pub texts_judged : LinesGivenOfText → TextsJudged
-texts_judged law = record {
-  accepted = text_accepted law;
-  rejected = text_rejected law;
-  unfailed = λ q text place h. always_read h.left.has_failed h.left.left h.failed.1.0 h.failed.1.1;
-}
+pub readers_judged : LinesGivenOfReader → ReadersJudged
+readers_judged law = record { accepted = reader_accepted law; rejected = reader_rejected law }

@@ -1,21 +1,17 @@
 -- What a source of lines gave to the checker, and what is answered of it.
 --     Took gives n s ls t      calls one behind another gave these lines of the program, from the source s of size n on, and left t
 --     Answers gives t r      a call may answer so there
---     TookAll, TookFew      what was taken of a source, until it ended or a line was malformed, or until no more could be taken
---     stop_of r k why      what is answered where k lines were taken, and no more could be
 --     Accepts, RejectsAt, FailsAt      the answers, by the lines taken
-use Rattle.std.specs.Prelude.{◌≡◌, ℕ, suc, ◌+◌, ◌^◌, ◌<◌, ◌≤◌, ◌⊎◌, Bool, true, false, nat_le, ◌||◌, if◌then◌else◌, List, [], ◌∷◌, length, Option, Some, None, Result, Ok, Err}
+use Rattle.std.specs.Prelude.{◌≡◌, ℕ, suc, ◌+◌, ◌^◌, ◌<◌, ◌≤◌, ◌⊎◌, List, length, Option, None, Result, Ok, Err}
 use Rattle.go_points.specs.declared.Colour.{Colour}
 use Rattle.target_game.specs.State.{GameProblem}
 use Rattle.proof_cert.specs.Lines.{Line}
 use Rattle.proof_cert.specs.Given.{Gave}
-use Rattle.proof_cert.specs.Source.{Source, source_of, lines_read, text_gives}
+use Rattle.proof_cert.specs.Source.{lines_read}
+use Rattle.proof_cert.specs.Streamed.{Tells, reader_gives, streamed_of}
 use Rattle.proof_cert.specs.declared.line.Line as code
 use Rattle.proof_cert.specs.declared.source.SourceFault.{SourceFault}
 use Rattle.proof_cert.specs.declared.source.SourceFault.TheVariants.{Read}
-use Rattle.cert_check.specs.declared.reject.Why as stop
-use Rattle.cert_check.specs.declared.reject.Why.TheVariants as stops
-use Rattle.cert_check.specs.declared.reject.Reject.{Reject}
 use Rattle.cert_check.specs.Body.{Why}
 use Rattle.cert_check.specs.Verdict.{verdict, accepted, rejected}
 use Rattle.cert_check.specs.Parts.{line_values}
@@ -25,33 +21,6 @@ Took gives n s ls t = Gave gives s (line_values n ls) t
 
 abbrev pub Answers : {S : Type 0} → (S → Result (Option Line) SourceFault → S → Type 0) → S → Result (Option Line) SourceFault → Type 0
 Answers {S} gives t r = (u : S) × gives t r u
-
--- some line is malformed
-abbrev pub HasMalformed : List (Option code.Line) → Type 0
-HasMalformed [] = ⊥
-HasMalformed (None ∷ ls) = Unit {0}
-HasMalformed (Some l ∷ ls) = HasMalformed ls
-
--- The lines up to the end of the source or to a malformed one; and those up to where no more could be taken, and why.
-pub record TookAll {S : Type 0} (gives : S → Result (Option Line) SourceFault → S → Type 0) (n : ℕ) (s : S) (taken : List (Option code.Line)) : Type 0 where
-  pub left : S
-  pub took : Took gives n s taken left
-  pub there : Answers gives left (Ok None) ⊎ HasMalformed taken
-
-pub record TookFew {S : Type 0} (gives : S → Result (Option Line) SourceFault → S → Type 0) (number : S → ℕ) (n : ℕ) (s : S) (taken : List (Option code.Line)) (why : stop.Why) : Type 0 where
-  pub left : S
-  pub took : Took gives n s taken left
-  pub counted : number left ≡ number s + length taken
-  pub stopped : (why ≡ stops.Memory) ⊎ ((why ≡ stops.Read) × Answers gives left (Err Read))
-
--- The fault of a line that was taken, or else why no more were; where memory was refused to the judge, that.
-abbrev pub is_memory : stop.Why → Bool
-is_memory stops.Memory = true
-is_memory _ = false
-
-abbrev pub stop_of : Result Colour Reject → ℕ → stop.Why → Reject
-stop_of (Ok x) taken why = record { place = suc taken; why = why }
-stop_of (Err e) taken why = (if nat_le e.place taken || is_memory e.why then e else record { place = suc taken; why = why })
 
 -- The source has ended, and the verdict on its lines is this winner.
 pub record Accepts {S : Type 0} (gives : S → Result (Option Line) SourceFault → S → Type 0) (n : ℕ) (q : GameProblem) (s : S) (x : Colour) : Type 0 where
@@ -80,8 +49,9 @@ pub record FailsAt {S : Type 0} (gives : S → Result (Option Line) SourceFault 
   pub behind : place ≡ suc (length taken)
   pub faultless : (p : ℕ) (w : Why) → verdict q (line_values q.game.size taken) ≡ rejected p w → length taken < p
 
--- Over a text the answers are those of the verdict on all its lines, as far as they are read.
-pub record TextsJudged : Type 0 where
-  pub accepted : (q : GameProblem) (text : List ℕ) (x : Colour) → Accepts text_gives q.game.size q (source_of q.game.size text) x → verdict q (lines_read q.game.size text) ≡ accepted x
-  pub rejected : (q : GameProblem) (text : List ℕ) (place : ℕ) (why : Why) → RejectsAt text_gives q.game.size q (source_of q.game.size text) place why → verdict q (lines_read q.game.size text) ≡ rejected place why
-  pub unfailed : (q : GameProblem) (text : List ℕ) (place : ℕ) → FailsAt text_gives (λ (s : Source). s.number) q.game.size q (source_of q.game.size text) place → ⊥
+-- Over a reader the answers are those of the verdict on all the lines of its bytes, as far as they are read.
+pub record ReadersJudged : Type 0 where
+  pub accepted : (q : GameProblem) (told : Option (List ℕ)) (x : Colour) → Accepts reader_gives q.game.size q (streamed_of q.game.size told) x
+      → (bytes : List ℕ) × Tells told bytes × (verdict q (lines_read q.game.size bytes) ≡ accepted x)
+  pub rejected : (q : GameProblem) (told : Option (List ℕ)) (place : ℕ) (why : Why) → RejectsAt reader_gives q.game.size q (streamed_of q.game.size told) place why
+      → (bytes : List ℕ) × Tells told bytes × (verdict q (lines_read q.game.size bytes) ≡ rejected place why)

@@ -2,13 +2,18 @@
 
 ghost use Rattle.std.specs.Prelude.{◌≡◌, [], Some, not, option_map};
 ghost use Rattle.std.specs.List.{list_all};
-ghost use Rattle.go_turns.specs.History.{has_occurred};
+ghost use Rattle.cert_check.specs.Ascending.{Ascends};
 ghost use Rattle.cert_check.specs.Body.{is_known, is_listed, lemma_at, main_body, same_state};
 ghost use Rattle.cert_check.specs.Parts.{head_of};
 
-use crate::judge::PlayState;
+use crate::listed::{all_stand_on, stands_on};
 use go_points::{Colour, Colouring};
+use go_turns::{PlayBoard, PlaySeen};
 use std::marker::Model;
+use target_game::State;
+
+/// A state of the problem.
+pub(crate) type PlayState = State<PlayBoard, PlaySeen>;
 
 /// What a lemma says before its tree.
 #[derive(Drop)]
@@ -26,10 +31,15 @@ impl Model for Head {
     ghost Value = { SpecHead };
 
     ghost view = { λ a. head_of a.mover a.passes a.root a.absent.items };
+
+    ghost use Rattle.cert_check.specs.Ascending.{Ascends};
+
+    ghost invariant = { λ a. Ascends a.absent.items };
 }
 
 impl Head {
     pub(crate) fn new(mover: Colour, passes: u8, root: Colouring, absent: Vec<Colouring>) -> Head
+        requires { Ascends absent.items }
         ensures { result ≡ head_of mover passes root absent.items }
     {
         Head {
@@ -53,6 +63,7 @@ impl Head {
     pub(crate) fn absent(&self) -> &[Colouring]
         ensures value { result.now ≡ self.now.absent }
         ensures had { self.now.had ≡ [] }
+        ensures ascends { Ascends result.now }
     {
         self.absent.as_slice()
     }
@@ -73,18 +84,11 @@ impl<'a> Model for Body<'a> {
     ghost Value = { SpecBody };
 
     ghost view = { λ a. record { winner = a.winner; earlier = a.earlier.now; listed = option_map (λ l. l.now) a.listed } };
-}
 
-/// Whether the colouring stands on the list.
-fn is_on_list(list: &[Colouring], colouring: &Colouring) -> bool
-    ensures { result ≡ has_occurred list.now colouring.now }
-{
-    for listed in list {
-        if colouring == listed {
-            return true;
-        }
-    }
-    false
+    ghost use Rattle.std.specs.Prelude.{IfSome};
+    ghost use Rattle.cert_check.specs.Ascending.{Ascends};
+
+    ghost invariant = { λ a. IfSome a.listed (λ l. Ascends l.now) };
 }
 
 /// Whether none of the colourings is known at the state.
@@ -102,6 +106,7 @@ pub(crate) fn none_known(state: &PlayState, list: &[Colouring]) -> bool
 impl<'a> Body<'a> {
     /// The body of a lemma with this list, behind these lemmas.
     pub(crate) fn of_lemma(winner: Colour, earlier: &'a [Head], listed: &'a [Colouring]) -> Body<'a>
+        requires { Ascends listed.now }
         ensures { result ≡ record { winner = winner; earlier = earlier.now; listed = Some listed.now } }
     {
         Body {
@@ -143,20 +148,19 @@ impl<'a> Body<'a> {
         ensures { result ≡ is_listed self.now.listed colouring.now }
     {
         match self.listed {
-            Some(list) => is_on_list(list, colouring),
+            Some(list) => stands_on(colouring, list),
             None => true,
         }
     }
 
-    /// Whether the body may make each of the colourings.
+    /// Whether the body may make each of the colourings, which ascend.
     pub(crate) fn lists_all(&self, colourings: &[Colouring]) -> bool
+        requires { Ascends colourings.now }
         ensures { result ≡ list_all (is_listed self.now.listed) colourings.now }
     {
-        for colouring in colourings {
-            if !self.lists(colouring) {
-                return false;
-            }
+        match self.listed {
+            Some(list) => all_stand_on(colourings, list),
+            None => true,
         }
-        true
     }
 }

@@ -1,204 +1,513 @@
-//! The judge of a body of a claim: a recursion on nodes, over the lines of the claim, that builds no tree.
+//! The judge of a claim, which takes a line at a time and holds none of them.
 
-ghost use Rattle.std.specs.Prelude.{◌≡◌, ◌≤◌, ℕ, suc, IsTrue, OnOk, IfErr, Option, Some, None, option_map};
-ghost use Rattle.go_points.specs.Ply.{ply_of};
-ghost use Rattle.target_game.specs.Legal.{legal};
-ghost use Rattle.target_game.specs.Next.{next};
-ghost use Rattle.target_game.specs.Over.{over};
-ghost use Rattle.proof_cert.specs.Lines.{play_line, all_line};
-ghost use Rattle.cert_check.specs.Body.{Why as SpecWhy, due_replies};
-ghost use Rattle.cert_check.specs.Verdict.{Reading as SpecReading, asked, fine};
+ghost use Rattle.std.specs.Prelude.{◌≡◌, ◌<◌, ◌≤◌, ◌^◌, ◌*◌, [], suc, nat_lt, nat_le, ◌&&◌, ◌+◌, ◌++◌, ◌∷◌, length, reverse, false, None, Some, IsTrue, IfOk, IfErr, OnOk};
+ghost use Rattle.go_points.specs.Grid.{side_of};
+ghost use Rattle.target_game.specs.State.{state_alone};
+ghost use Rattle.proof_cert.specs.Claim.{max_nodes, max_depth};
+ghost use Rattle.proof_cert.specs.Lines.{line_fits as fits_board, lemma_line, main_line};
+ghost use Rattle.proof_cert.specs.Stage.{line_value};
+ghost use Rattle.cert_check.specs.Ascending.{Ascends};
+ghost use Rattle.cert_check.specs.Body.{Why as SpecWhy};
+ghost use Rattle.cert_check.specs.Inside.{node_fault, node_next, owed_by};
+ghost use Rattle.cert_check.specs.Judging.{AwaitsHeader, AwaitsList, AwaitsNode, GoesOn, IsBehind, IsReady, StopsFor, bad_line, body_here, heading_of, inside_now, lemma_of, list_here, listed_more, machine_of, node_here, reply_here, within_of};
+ghost use Rattle.cert_check.specs.Machine.{begun, body_of, end_taken, ended, goes_on, header_taken, last_of, listed_taken, listing_not, moved, opening, opening_taken, stops, taken};
+ghost use Rattle.cert_check.specs.Parts.{IsJudged, node_value};
 ghost use Rattle.cert_check.specs.Stage.{why_value};
-ghost use Rattle.cert_check.specs.Parts.{IsReadBehind, Refuses, reading_of, judged_node, judged_read, judged_reply, judged_replies, judged_body};
+ghost use Rattle.cert_check.specs.Verdict.{accepted, lemma_fault, rejected};
+ghost use Rattle.cert_check.specs.declared.judge.Phase.TheVariants as phases;
+ghost use Rattle.cert_check.specs.declared.judge.Within.TheVariants.{Lemma, Main};
+ghost use Rattle.cert_check.specs.declared.open_nodes.Due.TheVariants.{Node, Reply};
+ghost use Rattle.cert_check.specs.declared.reject.Why.TheVariants.{Memory};
 
-use crate::body::Body;
-use crate::questions::{all_fault, play_fault, use_fault, won_fault};
-use crate::reading::{NodeLine, Reading};
+use crate::body::{Body, Head, PlayState};
+use crate::limits::{MAX_LEMMAS, MAX_LISTED, MAX_NODES};
+use crate::lines::{
+    NodeLine, Opening, header_of, is_after, is_end, line_fits, listed_of, node_of, opening_of,
+    reply_of,
+};
+use crate::open_nodes::{Due, MOST_OPEN, Open, take_node, take_reply};
 use crate::reject::{Reject, Why};
-use go_points::Turn;
-use go_turns::{PlayBoard, PlaySeen};
-use target_game::State;
+use arrayvec::ArrayVec;
+use go_points::{Colour, Colouring, Turn};
+use proof_cert::Line;
+use std::alloc::{AllocError, Global};
+use std::mem;
+use target_game::{AtFault, Problem, State};
 
-/// A state of the problem.
-pub(crate) type PlayState = State<PlayBoard, PlaySeen>;
-
-/// Judges a first node at a state, all that belongs to it, and the line `end`.
-pub(crate) fn judge_body(
-    reading: &mut Reading<'_>,
-    state: &mut PlayState,
-    body: &Body<'_>,
-) -> Result<(), Reject>
-    requires size { reading.old.size ≡ state.old.state.game.size }
-    ensures kept { OnOk result (IsReadBehind reading.old reading.new) }
-    ensures ok { OnOk result (judged_body body.now state.old.state (reading_of reading.old) ≡ fine tt (reading_of reading.new)) }
-    ensures err { IfErr result (λ e. Refuses state.old.state.game.size (judged_body body.now state.old.state (reading_of reading.old)) e) }
-{
-    match judge_node(reading, state, body, 1) {
-        Ok(()) => reading.end(),
-        Err(reject) => Err(reject),
-    }
+/// Whose body is judged.
+#[derive(Clone, Copy, Debug, PartialEq, Eq)]
+pub(crate) enum Within {
+    Lemma,
+    Main,
 }
 
-/// Goes on where the questions of the line that was read last leave no fault.
-fn ask(reading: &Reading<'_>, fault: Option<Why>) -> Result<(), Reject>
-    ensures ok { OnOk result ((n : ℕ) (p : Option SpecWhy) (r : SpecReading) → option_map (why_value n) fault ≡ option_map Some p → asked reading.now.number p r ≡ fine tt r) }
-    ensures err { IfErr result (λ e. (n : ℕ) (p : Option SpecWhy) (r : SpecReading) → option_map (why_value n) fault ≡ option_map Some p → Refuses n (asked reading.now.number p r) e) }
-    ensures none { OnOk result (fault ≡ None) }
-{
-    match fault {
-        None => Ok(()),
-        Some(why) => Err(reading.reject(why)),
-    }
+/// Which line is due: the first; `lemma` or `main`; one of a lemma's list, or its first node; one of a body; or none.
+#[derive(Clone, Copy, Debug, PartialEq, Eq)]
+pub(crate) enum Phase {
+    Header,
+    Opening,
+    Listing,
+    Body { within: Within, due: Due },
+    Done,
 }
 
-/// Judges a node at a state and a depth, and all that belongs to it. The state is then as it was.
-#[cycle(judge)]
-fn judge_node(
-    reading: &mut Reading<'_>,
-    state: &mut PlayState,
-    body: &Body<'_>,
-    depth: u32,
-) -> Result<(), Reject>
-    requires size { reading.old.size ≡ state.old.state.game.size }
-    ensures kept { OnOk result (IsReadBehind reading.old reading.new) }
-    ensures state { OnOk result (state.new ≡ state.old) }
-    ensures ok { OnOk result (judged_node body.now depth state.old.state (reading_of reading.old) ≡ fine tt (reading_of reading.new)) }
-    ensures err { IfErr result (λ e. Refuses state.old.state.game.size (judged_node body.now depth state.old.state (reading_of reading.old)) e) }
-{
-    let node = match reading.node(depth) {
-        Ok(node) => node,
-        Err(reject) => return Err(reject),
-    };
-    match node {
-        NodeLine::Won => ask(reading, won_fault(body, state)),
-        NodeLine::Use(lemma) => ask(reading, use_fault(body, state, lemma)),
-        NodeLine::Play(turn) => judge_play(reading, state, body, depth, turn),
-        NodeLine::All(replies) => judge_all(reading, state, body, depth, replies),
-    }
+/// What is kept of a claim between two lines: the heads of its lemmas, what the present lemma says before its tree, the
+/// state of the present body with its open nodes, and the counts. `place` is the number of the next line.
+#[derive(Drop)]
+pub(crate) struct Judge<'p> {
+    alloc: Global,
+    problem: &'p Problem,
+    phase: Phase,
+    place: u64,
+    node_count: u32,
+    listed_count: u32,
+    winner: Colour,
+    heads: Vec<Head>,
+    mover: Colour,
+    passes: u8,
+    root: Colouring,
+    list: Vec<Colouring>,
+    state: PlayState,
+    open_nodes: ArrayVec<Open, MOST_OPEN>,
 }
 
-/// Judges a turn of the winner and the node below it, behind its line.
-#[cycle(judge)]
-fn judge_play(
-    reading: &mut Reading<'_>,
-    state: &mut PlayState,
-    body: &Body<'_>,
-    depth: u32,
-    turn: Turn,
-) -> Result<(), Reject>
-    requires size { reading.old.size ≡ state.old.state.game.size }
-    requires shallow { depth ≤ 2000 }
-    ensures kept { OnOk result (IsReadBehind reading.old reading.new) }
-    ensures state { OnOk result (state.new ≡ state.old) }
-    ensures ok { OnOk result (judged_read body.now depth state.old.state reading.old.number (play_line (ply_of state.old.state.game.size turn)) (reading_of reading.old) ≡ fine tt (reading_of reading.new)) }
-    ensures err { IfErr result (λ e. Refuses state.old.state.game.size (judged_read body.now depth state.old.state reading.old.number (play_line (ply_of state.old.state.game.size turn)) (reading_of reading.old)) e) }
-{
-    let made = turn;
-    match ask(reading, play_fault(body, state, made)) {
-        Ok(()) => judge_after(reading, state, body, depth, turn),
-        Err(reject) => Err(reject),
+impl<'p> Judge<'p> {
+    /// Before the first line.
+    pub(crate) fn new(alloc: Global, problem: &'p Problem) -> Result<Judge<'p>, AllocError>
+        ensures problem { IfOk result (λ j. j.problem.now ≡ problem.now) }
+        ensures machine { IfOk result (λ j. machine_of j ≡ begun) }
+        ensures ready { IfOk result (λ j. IsReady j) }
+    {
+        let state = State::of(alloc, problem)?;
+        Ok(Judge {
+            alloc,
+            problem,
+            phase: Phase::Header,
+            place: 1,
+            node_count: 0,
+            listed_count: 0,
+            winner: problem.mover(),
+            heads: Vec::new(alloc),
+            mover: problem.mover(),
+            passes: 0,
+            root: *problem.colouring(),
+            list: Vec::new(alloc),
+            state,
+            open_nodes: ArrayVec::new(),
+        })
     }
-}
 
-/// Judges the replies to the other side's turns, behind the line that counts them.
-#[cycle(judge)]
-fn judge_all(
-    reading: &mut Reading<'_>,
-    state: &mut PlayState,
-    body: &Body<'_>,
-    depth: u32,
-    replies: u32,
-) -> Result<(), Reject>
-    requires size { reading.old.size ≡ state.old.state.game.size }
-    requires shallow { depth ≤ 2000 }
-    ensures kept { OnOk result (IsReadBehind reading.old reading.new) }
-    ensures state { OnOk result (state.new ≡ state.old) }
-    ensures ok { OnOk result (judged_read body.now depth state.old.state reading.old.number (all_line replies) (reading_of reading.old) ≡ fine tt (reading_of reading.new)) }
-    ensures err { IfErr result (λ e. Refuses state.old.state.game.size (judged_read body.now depth state.old.state reading.old.number (all_line replies) (reading_of reading.old)) e) }
-{
-    match ask(reading, all_fault(body, state, replies)) {
-        Ok(()) => judge_replies(reading, state, body, depth),
-        Err(reject) => Err(reject),
+    /// Why the next line is refused.
+    pub(crate) fn reject(&self, why: Why) -> Reject
+        ensures place { result.place ≡ self.now.place }
+        ensures why { result.why ≡ why }
+    {
+        Reject {
+            place: self.place,
+            why,
+        }
     }
-}
 
-/// Judges the node below a legal turn.
-#[cycle(judge)]
-fn judge_after(
-    reading: &mut Reading<'_>,
-    state: &mut PlayState,
-    body: &Body<'_>,
-    depth: u32,
-    turn: Turn,
-) -> Result<(), Reject>
-    requires size { reading.old.size ≡ state.old.state.game.size }
-    requires open { over state.old.state ≡ None }
-    requires legal { IsTrue (legal state.old.state (ply_of state.old.state.game.size turn)) }
-    requires shallow { depth ≤ 2000 }
-    ensures kept { OnOk result (IsReadBehind reading.old reading.new) }
-    ensures state { OnOk result (state.new ≡ state.old) }
-    ensures ok { OnOk result (judged_node body.now (suc depth) (next state.old.state (ply_of state.old.state.game.size turn)) (reading_of reading.old) ≡ fine tt (reading_of reading.new)) }
-    ensures err { IfErr result (λ e. Refuses state.old.state.game.size (judged_node body.now (suc depth) (next state.old.state (ply_of state.old.state.game.size turn)) (reading_of reading.old)) e) }
-{
-    if state.after(turn).is_err() {
-        return Err(reading.reject(Why::Memory));
+    /// The first line.
+    fn header(&mut self, line: &Line) -> Result<(), Why>
+        requires ready { AwaitsHeader self.old }
+        ensures place { self.new.place ≡ self.old.place }
+        ensures problem { self.new.problem ≡ self.old.problem }
+        ensures ready { OnOk result (IsBehind self.new) }
+        ensures ok { OnOk result (GoesOn self.old self.new (header_taken self.old.problem.now (machine_of self.old) (line_value self.old.problem.now.game.size line.now))) }
+        ensures err { IfErr result (λ why. StopsFor self.old (header_taken self.old.problem.now (machine_of self.old) (line_value self.old.problem.now.game.size line.now)) why) }
+    {
+        let Some(header) = header_of(line) else {
+            return Err(Why::Malformed);
+        };
+        if header.size != u32::from(self.problem.size().rows()) {
+            return Err(Why::SizeDiffers);
+        }
+        self.winner = header.winner;
+        self.phase = Phase::Opening;
+        Ok(())
     }
-    if let Err(reject) = judge_node(reading, state, body, depth + 1) {
-        return Err(reject);
-    }
-    state.back();
-    Ok(())
-}
 
-/// Judges the reply that is due and its node.
-#[cycle(judge)]
-fn judge_reply(
-    reading: &mut Reading<'_>,
-    state: &mut PlayState,
-    body: &Body<'_>,
-    depth: u32,
-    turn: Turn,
-) -> Result<(), Reject>
-    requires size { reading.old.size ≡ state.old.state.game.size }
-    requires open { over state.old.state ≡ None }
-    requires legal { IsTrue (legal state.old.state (ply_of state.old.state.game.size turn)) }
-    requires shallow { depth ≤ 2000 }
-    ensures kept { OnOk result (IsReadBehind reading.old reading.new) }
-    ensures state { OnOk result (state.new ≡ state.old) }
-    ensures ok { OnOk result (judged_reply body.now depth state.old.state (ply_of state.old.state.game.size turn) (reading_of reading.old) ≡ fine tt (reading_of reading.new)) }
-    ensures err { IfErr result (λ e. Refuses state.old.state.game.size (judged_reply body.now depth state.old.state (ply_of state.old.state.game.size turn) (reading_of reading.old)) e) }
-{
-    let due = turn;
-    match reading.reply(due) {
-        Ok(()) => judge_after(reading, state, body, depth, turn),
-        Err(reject) => Err(reject),
+    /// A body begins at this state.
+    fn enter(&mut self, state: PlayState)
+        ensures rest { self.new ≡ record self.old { state = state; open_nodes = self.new.open_nodes } }
+        ensures closed { self.new.open_nodes.items ≡ [] }
+    {
+        self.state = state;
+        self.open_nodes.clear();
     }
-}
 
-/// Judges the replies that are due, each with its node: moves ascending, and then the pass.
-#[cycle(judge)]
-fn judge_replies(
-    reading: &mut Reading<'_>,
-    state: &mut PlayState,
-    body: &Body<'_>,
-    depth: u32,
-) -> Result<(), Reject>
-    requires size { reading.old.size ≡ state.old.state.game.size }
-    requires open { over state.old.state ≡ None }
-    requires shallow { depth ≤ 2000 }
-    ensures kept { OnOk result (IsReadBehind reading.old reading.new) }
-    ensures state { OnOk result (state.new ≡ state.old) }
-    ensures ok { OnOk result (judged_replies body.now depth state.old.state (due_replies state.old.state) (reading_of reading.old) ≡ fine tt (reading_of reading.new)) }
-    ensures err { IfErr result (λ e. Refuses state.old.state.game.size (judged_replies body.now depth state.old.state (due_replies state.old.state) (reading_of reading.old)) e) }
-{
-    let size = state.size();
-    for number in 0..size.area() {
-        let point = size.point_at(number);
-        if state.may_move(point) {
-            if let Err(reject) = judge_reply(reading, state, body, depth, Turn::At(point)) {
-                return Err(reject);
+    /// A lemma's first line.
+    fn lemma(&mut self, mover: Colour, passes: u8, root: Colouring) -> Result<(), Why>
+        requires size { side_of root ≡ self.old.problem.now.game.size }
+        requires few { passes ≤ 1 }
+        requires list { self.old.list.items ≡ [] }
+        ensures place { self.new.place ≡ self.old.place }
+        ensures problem { self.new.problem ≡ self.old.problem }
+        ensures ready { OnOk result (IsBehind self.new) }
+        ensures ok { OnOk result (GoesOn self.old self.new (opening_taken self.old.problem.now (machine_of self.old) (heading_of self.old) (lemma_line mover passes root))) }
+        ensures err { IfErr result (λ why. StopsFor self.old (opening_taken self.old.problem.now (machine_of self.old) (heading_of self.old) (lemma_line mover passes root)) why) }
+    {
+        let state = match begin(
+            self.alloc,
+            self.problem,
+            self.heads.as_slice(),
+            mover,
+            passes,
+            &root,
+        ) {
+            Ok(state) => state,
+            Err(why) => return Err(why),
+        };
+        self.enter(state);
+        self.mover = mover;
+        self.passes = passes;
+        self.root = root;
+        self.phase = Phase::Listing;
+        Ok(())
+    }
+
+    /// The line `main`.
+    fn main(&mut self) -> Result<(), Why>
+        requires list { self.old.list.items ≡ [] }
+        ensures place { self.new.place ≡ self.old.place }
+        ensures problem { self.new.problem ≡ self.old.problem }
+        ensures ready { OnOk result (IsBehind self.new) }
+        ensures ok { OnOk result (GoesOn self.old self.new (opening_taken self.old.problem.now (machine_of self.old) (heading_of self.old) main_line)) }
+        ensures err { IfErr result (λ why. StopsFor self.old (opening_taken self.old.problem.now (machine_of self.old) (heading_of self.old) main_line) why) }
+    {
+        let Ok(state) = State::of(self.alloc, self.problem) else {
+            return Err(Why::Memory);
+        };
+        self.enter(state);
+        self.phase = Phase::Body {
+            within: Within::Main,
+            due: Due::Node,
+        };
+        Ok(())
+    }
+
+    /// A line before a body, which fits the board.
+    fn opening(&mut self, line: &Line) -> Result<(), Why>
+        requires list { self.old.list.items ≡ [] }
+        requires fits { IsTrue (fits_board self.old.problem.now.game.size (line_value self.old.problem.now.game.size line.now)) }
+        ensures place { self.new.place ≡ self.old.place }
+        ensures problem { self.new.problem ≡ self.old.problem }
+        ensures ready { OnOk result (IsBehind self.new) }
+        ensures ok { OnOk result (GoesOn self.old self.new (opening_taken self.old.problem.now (machine_of self.old) (heading_of self.old) (line_value self.old.problem.now.game.size line.now))) }
+        ensures err { IfErr result (λ why. StopsFor self.old (opening_taken self.old.problem.now (machine_of self.old) (heading_of self.old) (line_value self.old.problem.now.game.size line.now)) why) }
+    {
+        let Some(opening) = opening_of(line) else {
+            return Err(Why::Malformed);
+        };
+        match opening {
+            Opening::Lemma {
+                mover,
+                passes,
+                root,
+            } => self.lemma(mover, passes, root),
+            Opening::Main => self.main(),
+        }
+    }
+
+    /// A colouring of a lemma's list.
+    fn listed(&mut self, colouring: Colouring) -> Result<(), Why>
+        requires ready { AwaitsList self.old }
+        requires phase { self.old.phase ≡ phases.Listing }
+        requires fits { length colouring ≡ self.old.problem.now.game.size * self.old.problem.now.game.size }
+        ensures place { self.new.place ≡ self.old.place }
+        ensures problem { self.new.problem ≡ self.old.problem }
+        ensures ready { OnOk result (IsBehind self.new) }
+        ensures ok { OnOk result (GoesOn self.old self.new (listed_taken (machine_of self.old) (last_of self.old.list.items) colouring (listing_not (heading_of self.old) (listed_more (lemma_of self.old) colouring)))) }
+        ensures err { IfErr result (λ why. StopsFor self.old (listed_taken (machine_of self.old) (last_of self.old.list.items) colouring (listing_not (heading_of self.old) (listed_more (lemma_of self.old) colouring))) why) }
+    {
+        if self.listed_count >= MAX_LISTED {
+            return Err(Why::Limit);
+        }
+        if !is_after(self.list.last().copied(), &colouring) {
+            return Err(Why::ListOrder);
+        }
+        if self.list.push(colouring).is_err() {
+            return Err(Why::Memory);
+        }
+        self.listed_count += 1;
+        Ok(())
+    }
+
+    /// A node of a lemma, and what is due behind it.
+    fn node_of_lemma(&mut self, node: NodeLine) -> Result<Due, Why>
+        requires ready { AwaitsNode self.old Node }
+        requires room { length self.old.open_nodes.items < 2000 }
+        ensures rest { self.new ≡ record self.old { state = self.new.state; open_nodes = self.new.open_nodes } }
+        ensures ready { IfOk result (λ due. AwaitsNode self.new due) }
+        ensures none { OnOk result (node_fault (body_of (heading_of self.old) (within_of self.old Lemma)) self.old.state.state (node_value self.old.state.state.game.size node) ≡ None) }
+        ensures due { IfOk result (λ due. inside_now self.new due ≡ node_next (suc (length self.old.state.before)) self.old.state.state (owed_by self.old.state.before (reverse self.old.open_nodes.items)) (node_value self.old.state.state.game.size node)) }
+        ensures err { IfErr result (λ why. (p : SpecWhy) → why_value self.old.state.state.game.size why ≡ Some p → node_fault (body_of (heading_of self.old) (within_of self.old Lemma)) self.old.state.state (node_value self.old.state.state.game.size node) ≡ Some p) }
+        ensures judged { IfErr result (λ why. IsJudged why) }
+    {
+        let body = Body::of_lemma(self.winner, self.heads.as_slice(), self.list.as_slice());
+        take_node(&body, &mut self.state, &mut self.open_nodes, node)
+    }
+
+    /// A node of main, and what is due behind it.
+    fn node_of_main(&mut self, node: NodeLine) -> Result<Due, Why>
+        requires ready { AwaitsNode self.old Node }
+        requires room { length self.old.open_nodes.items < 2000 }
+        ensures rest { self.new ≡ record self.old { state = self.new.state; open_nodes = self.new.open_nodes } }
+        ensures ready { IfOk result (λ due. AwaitsNode self.new due) }
+        ensures none { OnOk result (node_fault (body_of (heading_of self.old) (within_of self.old Main)) self.old.state.state (node_value self.old.state.state.game.size node) ≡ None) }
+        ensures due { IfOk result (λ due. inside_now self.new due ≡ node_next (suc (length self.old.state.before)) self.old.state.state (owed_by self.old.state.before (reverse self.old.open_nodes.items)) (node_value self.old.state.state.game.size node)) }
+        ensures err { IfErr result (λ why. (p : SpecWhy) → why_value self.old.state.state.game.size why ≡ Some p → node_fault (body_of (heading_of self.old) (within_of self.old Main)) self.old.state.state (node_value self.old.state.state.game.size node) ≡ Some p) }
+        ensures judged { IfErr result (λ why. IsJudged why) }
+    {
+        let body = Body::of_main(self.winner, self.heads.as_slice());
+        take_node(&body, &mut self.state, &mut self.open_nodes, node)
+    }
+
+    /// A node, and what is due behind it.
+    fn node_within(&mut self, within: Within, node: NodeLine) -> Result<Due, Why>
+        requires ready { AwaitsNode self.old Node }
+        requires room { length self.old.open_nodes.items < 2000 }
+        ensures rest { self.new ≡ record self.old { state = self.new.state; open_nodes = self.new.open_nodes } }
+        ensures ready { IfOk result (λ due. AwaitsNode self.new due) }
+        ensures none { OnOk result (node_fault (body_of (heading_of self.old) (within_of self.old within)) self.old.state.state (node_value self.old.state.state.game.size node) ≡ None) }
+        ensures due { IfOk result (λ due. inside_now self.new due ≡ node_next (suc (length self.old.state.before)) self.old.state.state (owed_by self.old.state.before (reverse self.old.open_nodes.items)) (node_value self.old.state.state.game.size node)) }
+        ensures err { IfErr result (λ why. (p : SpecWhy) → why_value self.old.state.state.game.size why ≡ Some p → node_fault (body_of (heading_of self.old) (within_of self.old within)) self.old.state.state (node_value self.old.state.state.game.size node) ≡ Some p) }
+        ensures judged { IfErr result (λ why. IsJudged why) }
+    {
+        match within {
+            Within::Lemma => self.node_of_lemma(node),
+            Within::Main => self.node_of_main(node),
+        }
+    }
+
+    /// Whether one node more may be counted, at the depth of the next one.
+    fn has_room(&self) -> bool
+        ensures value { result ≡ (nat_lt self.now.node_count max_nodes && nat_le (length self.now.open_nodes.items + 1) max_depth) }
+        ensures few { IsTrue result → self.now.node_count < 10000000 }
+        ensures shallow { IsTrue result → length self.now.open_nodes.items < 2000 }
+    {
+        self.node_count < MAX_NODES && self.open_nodes.len() < MOST_OPEN
+    }
+
+    /// The line of a node.
+    fn node(&mut self, within: Within, line: &Line) -> Result<(), Why>
+        requires ready { AwaitsNode self.old Node }
+        ensures place { self.new.place ≡ self.old.place }
+        ensures problem { self.new.problem ≡ self.old.problem }
+        ensures ready { OnOk result (IsBehind self.new) }
+        ensures ok { OnOk result (GoesOn self.old self.new (node_here self.old within (line_value self.old.problem.now.game.size line.now))) }
+        ensures err { IfErr result (λ why. StopsFor self.old (node_here self.old within (line_value self.old.problem.now.game.size line.now)) why) }
+    {
+        let Some(node) = node_of(line) else {
+            return Err(Why::Malformed);
+        };
+        if !self.has_room() {
+            return Err(Why::Limit);
+        }
+        match self.node_within(within, node) {
+            Ok(due) => {
+                self.node_count += 1;
+                self.phase = Phase::Body { within, due };
+                Ok(())
+            }
+            Err(why) => Err(why),
+        }
+    }
+
+    /// The line of a reply, which is looked for at this place.
+    fn reply(&mut self, within: Within, place: u16, line: &Line) -> Result<(), Why>
+        requires ready { AwaitsNode self.old (Reply (Some place)) }
+        ensures place { self.new.place ≡ self.old.place }
+        ensures problem { self.new.problem ≡ self.old.problem }
+        ensures ready { OnOk result (IsBehind self.new) }
+        ensures ok { OnOk result (GoesOn self.old self.new (reply_here self.old within place (line_value self.old.problem.now.game.size line.now))) }
+        ensures err { IfErr result (λ why. StopsFor self.old (reply_here self.old within place (line_value self.old.problem.now.game.size line.now)) why) }
+    {
+        let Some(turn) = reply_of(line) else {
+            return Err(Why::Malformed);
+        };
+        match take_reply(&mut self.state, &mut self.open_nodes, place, turn) {
+            Ok(()) => {
+                self.phase = Phase::Body {
+                    within,
+                    due: Due::Node,
+                };
+                Ok(())
+            }
+            Err(why) => Err(why),
+        }
+    }
+
+    /// The line `end` of a body whose nodes are all judged.
+    fn close(&mut self, within: Within, line: &Line) -> Result<(), Why>
+        requires ascends { Ascends self.old.list.items }
+        ensures place { self.new.place ≡ self.old.place }
+        ensures problem { self.new.problem ≡ self.old.problem }
+        ensures ready { OnOk result (IsBehind self.new) }
+        ensures ok { OnOk result (GoesOn self.old self.new (end_taken (machine_of self.old) (heading_of self.old) (within_of self.old within) (line_value self.old.problem.now.game.size line.now))) }
+        ensures err { IfErr result (λ why. StopsFor self.old (end_taken (machine_of self.old) (heading_of self.old) (within_of self.old within) (line_value self.old.problem.now.game.size line.now)) why) }
+    {
+        if !is_end(line) {
+            return Err(Why::Malformed);
+        }
+        match within {
+            Within::Lemma => self.close_lemma(),
+            Within::Main => {
+                self.phase = Phase::Done;
+                Ok(())
             }
         }
     }
-    judge_reply(reading, state, body, depth, Turn::Pass)
+
+    /// The present lemma is judged.
+    fn close_lemma(&mut self) -> Result<(), Why>
+        requires ascends { Ascends self.old.list.items }
+        ensures place { self.new.place ≡ self.old.place }
+        ensures problem { self.new.problem ≡ self.old.problem }
+        ensures ready { OnOk result (IsBehind self.new) }
+        ensures ok { OnOk result (GoesOn self.old self.new (goes_on (moved (machine_of self.old) (opening (record (heading_of self.old) { heads = self.old.heads.items ++ lemma_of self.old ∷ [] }))))) }
+        ensures err { IfErr result (λ why. why ≡ Memory) }
+    {
+        let list = mem::replace(&mut self.list, Vec::new(self.alloc));
+        let head = Head::new(self.mover, self.passes, self.root, list);
+        if self.heads.push(head).is_err() {
+            return Err(Why::Memory);
+        }
+        self.phase = Phase::Opening;
+        Ok(())
+    }
+
+    /// A line behind a lemma's first one.
+    fn listing(&mut self, line: &Line) -> Result<(), Why>
+        requires ready { AwaitsList self.old }
+        requires phase { self.old.phase ≡ phases.Listing }
+        requires fits { IsTrue (fits_board self.old.problem.now.game.size (line_value self.old.problem.now.game.size line.now)) }
+        ensures place { self.new.place ≡ self.old.place }
+        ensures problem { self.new.problem ≡ self.old.problem }
+        ensures ready { OnOk result (IsBehind self.new) }
+        ensures ok { OnOk result (GoesOn self.old self.new (list_here self.old (line_value self.old.problem.now.game.size line.now))) }
+        ensures err { IfErr result (λ why. StopsFor self.old (list_here self.old (line_value self.old.problem.now.game.size line.now)) why) }
+    {
+        match listed_of(line) {
+            Some(colouring) => self.listed(colouring),
+            None => self.node(Within::Lemma, line),
+        }
+    }
+
+    /// A line of a body.
+    fn within(&mut self, within: Within, due: Due, line: &Line) -> Result<(), Why>
+        requires ready { AwaitsNode self.old due }
+        ensures place { self.new.place ≡ self.old.place }
+        ensures problem { self.new.problem ≡ self.old.problem }
+        ensures ready { OnOk result (IsBehind self.new) }
+        ensures ok { OnOk result (GoesOn self.old self.new (body_here self.old within due (line_value self.old.problem.now.game.size line.now))) }
+        ensures err { IfErr result (λ why. StopsFor self.old (body_here self.old within due (line_value self.old.problem.now.game.size line.now)) why) }
+    {
+        match due {
+            Due::Node => self.node(within, line),
+            Due::Reply(Some(place)) => self.reply(within, place, line),
+            Due::Reply(None) => self.close(within, line),
+        }
+    }
+
+    /// Why a line that is malformed, or does not fit the board, is refused.
+    fn malformed_why(&self) -> Why
+        ensures value { why_value self.now.problem.now.game.size result ≡ Some (bad_line (machine_of self.now).phase) }
+        ensures judged { IsJudged result }
+    {
+        match self.phase {
+            Phase::Done => Why::TextAfterEnd,
+            _ => Why::Malformed,
+        }
+    }
+
+    /// The next line, which is not counted yet.
+    fn step(&mut self, line: &Line) -> Result<(), Why>
+        requires ready { IsReady self.old }
+        ensures place { self.new.place ≡ self.old.place }
+        ensures problem { self.new.problem ≡ self.old.problem }
+        ensures ready { OnOk result (IsBehind self.new) }
+        ensures ok { OnOk result (GoesOn self.old self.new (taken self.old.problem.now (machine_of self.old) (Some (line_value self.old.problem.now.game.size line.now)))) }
+        ensures err { IfErr result (λ why. StopsFor self.old (taken self.old.problem.now (machine_of self.old) (Some (line_value self.old.problem.now.game.size line.now))) why) }
+    {
+        if !line_fits(self.problem.size(), line) {
+            return Err(self.malformed_why());
+        }
+        match self.phase {
+            Phase::Header => self.header(line),
+            Phase::Opening => self.opening(line),
+            Phase::Listing => self.listing(line),
+            Phase::Body { within, due } => self.within(within, due, line),
+            Phase::Done => Err(Why::TextAfterEnd),
+        }
+    }
+
+    /// Takes the next line.
+    pub(crate) fn take(&mut self, line: &Line) -> Result<(), Reject>
+        requires ready { IsReady self.old }
+        requires few { self.old.place < 2 ^ 63 }
+        ensures problem { self.new.problem.now ≡ self.old.problem.now }
+        ensures ready { OnOk result (IsReady self.new) }
+        ensures ok { OnOk result (taken self.old.problem.now (machine_of self.old) (Some (line_value self.old.problem.now.game.size line.now)) ≡ goes_on (machine_of self.new)) }
+        ensures place { OnOk result (self.new.place ≡ suc self.old.place) }
+        ensures err { IfErr result (λ e. (why : SpecWhy) → why_value self.old.problem.now.game.size e.why ≡ Some why → taken self.old.problem.now (machine_of self.old) (Some (line_value self.old.problem.now.game.size line.now)) ≡ stops e.place why) }
+        ensures there { IfErr result (λ e. e.place ≡ self.old.place) }
+        ensures judged { IfErr result (λ e. IsJudged e.why) }
+    {
+        match self.step(line) {
+            Ok(()) => {
+                self.place += 1;
+                Ok(())
+            }
+            Err(why) => Err(self.reject(why)),
+        }
+    }
+
+    /// Why a malformed line is refused.
+    pub(crate) fn malformed(&self) -> Reject
+        ensures err { (why : SpecWhy) → why_value self.now.problem.now.game.size result.why ≡ Some why → taken self.now.problem.now (machine_of self.now) None ≡ stops result.place why }
+        ensures there { result.place ≡ self.now.place }
+        ensures judged { IsJudged result.why }
+    {
+        self.reject(self.malformed_why())
+    }
+
+    /// Who wins, where no line follows.
+    pub(crate) fn end(&self) -> Result<Colour, Reject>
+        ensures ok { IfOk result (λ x. ended (machine_of self.now) ≡ accepted x) }
+        ensures err { IfErr result (λ e. (why : SpecWhy) → why_value self.now.problem.now.game.size e.why ≡ Some why → ended (machine_of self.now) ≡ rejected e.place why) }
+        ensures judged { IfErr result (λ e. IsJudged e.why) }
+    {
+        match self.phase {
+            Phase::Done => Ok(self.winner),
+            _ => Err(self.reject(Why::Malformed)),
+        }
+    }
+}
+
+/// The state where a lemma begins, behind so many lemmas.
+fn begin(
+    alloc: Global,
+    problem: &Problem,
+    heads: &[Head],
+    mover: Colour,
+    passes: u8,
+    root: &Colouring,
+) -> Result<PlayState, Why>
+    requires size { side_of root.now ≡ problem.now.game.size }
+    requires few { passes ≤ 1 }
+    ensures state { IfOk result (λ s. s ≡ record { state = state_alone problem.now.game root.now mover passes; before = [] }) }
+    ensures ok { OnOk result (lemma_fault problem.now.game heads.now root.now ≡ None) }
+    ensures err { IfErr result (λ why. (p : SpecWhy) → why_value problem.now.game.size why ≡ Some p → lemma_fault problem.now.game heads.now root.now ≡ Some p) }
+    ensures judged { IfErr result (λ why. IsJudged why) }
+{
+    if heads.len() >= MAX_LEMMAS {
+        return Err(Why::Limit);
+    }
+    match State::at(alloc, problem, root, mover, u64::from(passes)) {
+        Ok(state) => Ok(state),
+        Err(AtFault::NoLiberty { .. }) => Err(Why::RootWithoutLiberty),
+        Err(AtFault::Memory) => Err(Why::Memory),
+    }
 }

@@ -7,8 +7,7 @@ ghost use Rattle.go_points.specs.declared.Turn.TheVariants.{At};
 ghost use Rattle.cert_check.specs.Stage.{why_value};
 ghost use Rattle.cert_check.specs.Parts.{move_fault};
 
-use crate::body::{Body, Head, none_known};
-use crate::judge::PlayState;
+use crate::body::{Body, Head, PlayState, none_known};
 use crate::reject::Why;
 use go_points::{Colour, Point, Turn};
 

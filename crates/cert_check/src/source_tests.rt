@@ -1,19 +1,18 @@
 //! The checker over a source that fails behind its lines.
 
 ghost use Rattle.std.specs.Prelude.{◌+◌, Some, if◌then◌else◌};
-ghost use Rattle.proof_cert.specs.Source.{fault_left};
 
 use crate::tests::{problem, refused};
 use crate::{Reject, Why, check};
 use go_points::{Colour, Size};
-use proof_cert::{Line, NodeSource, SourceFault, TextSource};
+use proof_cert::{Line, NodeSource, ReaderSource, SourceFault};
 use std::alloc::Global;
 use std::process::Abort;
 
 // The lines of a text, and in place of its end a fault.
 #[derive(Drop)]
 struct Cut<'a> {
-    text: TextSource<'a>,
+    text: ReaderSource<&'a [u8]>,
     end: SourceFault,
     has_failed: bool,
 }
@@ -23,7 +22,7 @@ impl<'a> NodeSource for Cut<'a> {
 
     ghost number = { λ s. (if s.has_failed then s.text.number + 1 else s.text.number) };
 
-    ghost fault = { λ s. (if s.has_failed then Some s.end else fault_left s.text) };
+    ghost fault = { λ s. (if s.has_failed then Some s.end else s.text.fault) };
 
     ghost gives = { λ s r t. Unit {0} };
 
@@ -62,7 +61,7 @@ fn answer_behind(
 ) -> Result<Colour, Reject> {
     let problem = problem(alloc, rt, 3, &["O..X....."], Colour::Black, &[(1, 0)]);
     let mut source = Cut {
-        text: TextSource::new(problem.size(), text.as_bytes()),
+        text: ReaderSource::new(problem.size(), text.as_bytes()),
         end,
         has_failed: false,
     };

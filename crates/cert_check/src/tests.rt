@@ -2,7 +2,7 @@
 
 use crate::{Reject, Why, check};
 use go_points::{Colour, Colouring, Point, PointSet, Size, Turn};
-use proof_cert::TextSource;
+use proof_cert::ReaderSource;
 use std::alloc::Global;
 use std::process::Abort;
 use std::test::Fail;
@@ -51,7 +51,7 @@ pub(crate) fn problem(
 
 // The answer to a text.
 pub(crate) fn judged(alloc: Global, problem: &Problem, text: &[u8]) -> Result<Colour, Reject> {
-    check(alloc, problem, &mut TextSource::new(problem.size(), text))
+    check(alloc, problem, &mut ReaderSource::new(problem.size(), text))
 }
 
 pub(crate) fn refused(place: u64, why: Why) -> Result<Colour, Reject> {

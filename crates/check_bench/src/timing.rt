@@ -3,7 +3,7 @@
 use crate::samples::Sample;
 use cert_check::{Reject, check};
 use go_points::Colour;
-use proof_cert::TextSource;
+use proof_cert::{NodeSource, ReaderSource};
 use std::alloc::Global;
 use std::io;
 use std::io::ErrorKind;
@@ -12,13 +12,13 @@ use std::time::{Duration, Instant};
 
 /// What the checker says of the claim.
 pub fn judge(alloc: Global, sample: &Sample) -> Result<Colour, Reject> {
-    let mut source = TextSource::new(sample.problem.size(), sample.claim.as_slice());
+    let mut source = ReaderSource::new(sample.problem.size(), sample.claim.as_slice());
     check(alloc, &sample.problem, &mut source)
 }
 
 /// How many lines the claim has, where each is spelled as lines are.
 pub fn split(sample: &Sample) -> io::Result<u64> {
-    let mut source = TextSource::new(sample.problem.size(), sample.claim.as_slice());
+    let mut source = ReaderSource::new(sample.problem.size(), sample.claim.as_slice());
     for _ in 0..u64::MAX {
         match source.next() {
             Ok(Some(_)) => {}

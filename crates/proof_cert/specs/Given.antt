@@ -3,12 +3,11 @@
 --     Gave gives s ls t      calls one behind another gave the lines ls, from the source s on, and left t
 --     fault_of r      the fault of an answer
 --     lines_counted r      how many lines an answer counts for: a line and a fault are one, the end is none
-use Rattle.std.specs.Prelude.{◌≡◌, ℕ, List, [], ◌∷◌, ◌++◌, length, map, Option, Some, None, Result, Ok, Err}
+use Rattle.std.specs.Prelude.{◌≡◌, ℕ, List, [], ◌∷◌, ◌++◌, map, Option, Some, None, Result, Ok, Err}
 use Rattle.proof_cert.specs.Claim.{Claim}
 use Rattle.proof_cert.specs.Lines.{Line, lines_of}
 use Rattle.proof_cert.specs.Text.{text, lines}
 use Rattle.proof_cert.specs.Held.{Held, held_source_of, held_gives, spelled_line}
-use Rattle.proof_cert.specs.Source.{Source, source_of, lines_read, text_gives}
 use Rattle.proof_cert.specs.declared.source.SourceFault.{SourceFault}
 use Rattle.proof_cert.specs.declared.source.SourceFault.TheVariants.{Malformed}
 
@@ -28,15 +27,6 @@ fault_of (Err e) = Some e
 abbrev pub lines_counted : {A : Type 0} → Result (Option A) SourceFault → ℕ
 lines_counted (Ok None) = 0
 lines_counted _ = 1
-
--- A text gives its lines in their order, and all of them where it has ended.
-pub record IsFrontOfText (n : ℕ) (text : List ℕ) (ls : List (Option Line)) (t : Source) : Type 0 where
-  pub front : lines_read n text ≡ ls ++ t.left
-  pub counted : t.number ≡ length ls
-  pub all : (u : Source) → text_gives t (Ok None) u → lines_read n text ≡ ls
-
-abbrev pub LinesGivenOfText : Type 0
-LinesGivenOfText = (n : ℕ) (text : List ℕ) (ls : List (Option Line)) (t : Source) → Gave text_gives (source_of n text) ls t → IsFrontOfText n text ls t
 
 -- A certificate gives the lines of its claim in their order, None for one that has no spelling, and all of them where it has ended.
 pub record IsFrontOfClaim (z : Claim) (ls : List (Option Line)) (t : Held) : Type 0 where

@@ -3,10 +3,8 @@
 --                 that was answered last, and whether it was a fault
 --     source_of n text      before the first call
 --     answer s, later s      what a call gives, and the source behind it
---     fault_left s      the fault that it has answered
---     text_gives s r t      a call at s, which has not failed, answers r and leaves t
 --     answer_value n r      what a call of the program gave
-use Rattle.std.specs.Prelude.{◌≡◌, ℕ, suc, Bool, true, false, List, [], ◌∷◌, map, Option, Some, None, Result, Ok, Err, option_map, if◌then◌else◌}
+use Rattle.std.specs.Prelude.{ℕ, suc, Bool, true, false, List, [], ◌∷◌, map, Option, Some, None, Result, Ok, Err, option_map}
 use Rattle.proof_cert.specs.Lines.{Line}
 use Rattle.proof_cert.specs.Text.{lines}
 use Rattle.proof_cert.specs.Stage.{line_value, version_one}
@@ -40,19 +38,11 @@ later_from s false [] = s
 later_from s false (Some l ∷ ls) = record s { left = ls; number = suc s.number }
 later_from s false (None ∷ ls) = record s { left = ls; number = suc s.number; has_failed = true }
 
--- the fault that it has answered, where there was one
-abbrev pub fault_left : Source → Option SourceFault
-fault_left s = (if s.has_failed then Some Malformed else None)
-
 abbrev pub answer : Source → Result (Option Line) SourceFault
 answer s = answer_from s.has_failed s.left
 
 abbrev pub later : Source → Source
 later s = later_from s s.has_failed s.left
-
--- a call at a source that has not failed
-abbrev pub text_gives : Source → Result (Option Line) SourceFault → Source → Type 0
-text_gives s r t = (s.has_failed ≡ false) × (r ≡ answer s) × (t ≡ later s)
 
 abbrev pub answer_value : ℕ → Result (Option code.Line) SourceFault → Result (Option Line) SourceFault
 answer_value n (Ok l) = Ok (option_map (line_value n) l)

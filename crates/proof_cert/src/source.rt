@@ -5,7 +5,6 @@ ghost use Rattle.proof_cert.specs.Stage.{line_value};
 ghost use Rattle.proof_cert.specs.Source.{lines_read, source_of, answer, answer_value, later};
 
 use crate::line::{Line, place_of_byte};
-use crate::node_source::NodeSource;
 use go_points::Size;
 use std::marker::Model;
 use thiserror::Error;
@@ -26,7 +25,7 @@ pub enum SourceFault {
 
 /// The lines of a text that is held, for a board of one size.
 #[derive(Drop)]
-pub struct TextSource<'a> {
+pub(crate) struct TextSource<'a> {
     size: Size,
     left: &'a [u8],
     number: u64,
@@ -58,7 +57,7 @@ fn first_line<'a>(size: Size, text: &'a [u8]) -> (Option<Line>, &'a [u8])
 
 impl<'a> TextSource<'a> {
     /// The lines of the text, for a board of this size.
-    pub fn new(size: Size, text: &'a [u8]) -> TextSource<'a>
+    pub(crate) fn new(size: Size, text: &'a [u8]) -> TextSource<'a>
         ensures { result ≡ source_of size text.now }
     {
         prove!(text.len() < 9_223_372_036_854_775_808);
@@ -71,7 +70,7 @@ impl<'a> TextSource<'a> {
     }
 
     /// The next line; `None` where the text has ended. After a fault it is the same fault.
-    pub fn next(&mut self) -> Result<Option<Line>, SourceFault>
+    pub(crate) fn next(&mut self) -> Result<Option<Line>, SourceFault>
         ensures answer { answer_value self.old.size result ≡ answer self.old }
         ensures later { self.new ≡ later self.old }
     {
@@ -89,37 +88,5 @@ impl<'a> TextSource<'a> {
             return Err(SourceFault::Malformed);
         }
         Ok(line)
-    }
-
-    /// The number of the line or fault that was answered last; 0 at first.
-    pub fn line_number(&self) -> u64
-        ensures value { result ≡ self.now.number }
-        ensures few { result < 2 ^ 63 }
-    {
-        self.number
-    }
-}
-
-impl<'a> NodeSource for TextSource<'a> {
-    ghost use Rattle.proof_cert.specs.Source.{fault_left, text_gives};
-
-    ghost size = { λ s. s.size };
-
-    ghost number = { λ s. s.number };
-
-    ghost fault = { fault_left };
-
-    ghost gives = { text_gives };
-
-    fn next(&mut self) -> Result<Option<Line>, SourceFault> {
-        TextSource::next(self)
-    }
-
-    fn size(&self) -> Size {
-        self.size
-    }
-
-    fn line_number(&self) -> u64 {
-        TextSource::line_number(self)
     }
 }

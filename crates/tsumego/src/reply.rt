@@ -16,11 +16,11 @@ use crate::command_line::Command;
 use crate::record::{NoRecord, read_record};
 use crate::status::Status;
 use crate::texts::{node_reject_text, reject_text, unknown_text, wins_text};
-use cert_check::laws::texts_judged;
+use cert_check::laws::readers_judged;
 use cert_check::{Checked, Reject, Why, check};
 use go_points::Size;
 use pn_search::{Budget, Verdict, solve};
-use proof_cert::TextSource;
+use proof_cert::ReaderSource;
 use sgf_text::Tree;
 use sgf_text::token::is_white;
 use solution_tree::{AuditFault, AuditWhy, audit};
@@ -106,8 +106,8 @@ fn judge(alloc: Global, problem: &Problem, behind: &[u8]) -> Result<Reply, Failu
     if behind.len() - claim.len() > MAX_WHITE {
         return Err(Failure::Read);
     }
-    texts_judged();
-    let mut source = TextSource::new(problem.size(), claim);
+    readers_judged();
+    let mut source = ReaderSource::new(problem.size(), claim);
     match check(alloc, problem, &mut source) {
         Ok(winner) => said(alloc, Status::Answered, wins_text(winner)),
         Err(reject) => rejected(alloc, problem.size(), &reject),

@@ -1,61 +1,125 @@
-use Rattle.std.proofs.Common.{arith, ◌≡◌, ◌^◌, ◌<◌, ℕ, List, Option, IfOk, IfErr, length, sym, ap, ◌∙◌, subst}
+use Rattle.std.proofs.Common.{arith, ◌≡◌, ◌+◌, ℕ, Option, Some, None, Ok, Err, option_map, ap, ◌∙◌, subst}
+use Rattle.target_game.specs.State.{GameProblem}
+use Rattle.proof_cert.specs.Stage.{line_value}
+use Rattle.proof_cert.specs.Given.{lines_counted}
 use Rattle.proof_cert.specs.declared.line.Line as code
-use Rattle.cert_check.specs.Verdict.{verdict, accepted}
-use Rattle.cert_check.specs.Stage.{Rejects}
+use Rattle.proof_cert.specs.declared.source.SourceFault.{SourceFault}
+use Rattle.cert_check.specs.Body.{Why}
+use Rattle.go_points.specs.declared.Colour.{Colour}
+use Rattle.cert_check.specs.Verdict.{accepted}
 use Rattle.cert_check.specs.Parts.{line_values}
-use Rattle.cert_check.specs.Checks.{stop_of}
+use Rattle.cert_check.specs.Checks.{Accepts}
+use Rattle.cert_check.specs.Machine.{taken, goes_on, stops, ended}
+use Rattle.cert_check.specs.Judging.{machine_of}
+use Rattle.cert_check.specs.Stage.{why_value}
+use Rattle.cert_check.proofs.ReadingClaims.{accepted_sides_win}
 use Rattle.cert_check.proofs.Steps.{if_ok_map, if_err_map}
-use Rattle.cert_check.proofs.Taking.{rejected_as, none_wins, all_rejects, few_rejects, few_fails}
+use Rattle.cert_check.proofs.Taking.{never}
+use Rattle.cert_check.proofs.Hearing.{either_way, heard_more, heard_accepts, heard_ends, heard_rejects, heard_fails}
 use Rattle.cert_check.proofs.checker.check.Goals as goal
 
-pub returns-in-Ok-clause-ok : goal.returns-in-Ok-clause-ok
-returns-in-Ok-clause-ok g c =
-    let q = c.args.problem.now in
+pub returns-in-Err-clause-err : goal.returns-in-Err-clause-err
+returns-in-Err-clause-err g c = λ fresh why said.
     let gives = g.S.NodeSource.gives in
+    let q = c.args.problem.now in
     let s = c.args.source.now in
-    let n : ℕ = g.S.NodeSource.size s in
-    let ls = c.take_lines-taken.new.lines.items in
-    let judged = c.judge_lines-judged in
-    if_ok_map judged.result _ _ (λ x h. none_wins gives g.S.NodeSource.number n q s ls (g.S.NodeSource.fault s) c.in-Ok.ensures.failed c.in-Ok.ensures.ok x (ap (λ (ks : List (Option code.Line)). verdict q (line_values q.game.size ks)) (sym c.as_slice.ensures.value) ∙ h)) judged.ensures.ok
+    let t = c.loop-count.source in
+    let u = c.next.new.self in
+    let inv = c.loop-count.invariant.0 fresh in
+    let same = c.loop-count.invariant.2 in
+    let line = c.in-Ok-Some.line in
+    let here = subst (λ (o : Option code.Line). gives t (Ok (option_map (line_value (g.S.NodeSource.size t)) o)) u) c.in-Ok-Some.field-0-is (c.in-Ok-Some.ensures.gives inv.0) in
+    let one = subst (λ (m : ℕ). gives t (Ok (Some (line_value m line))) u) inv.1 here in
+    let bad = subst (λ (p : GameProblem). (w : Why) → why_value p.game.size c.in-Err.reject.why ≡ Some w → taken p (machine_of c.loop-count.judge) (Some (line_value p.game.size line)) ≡ stops c.in-Err.reject.place w) same c.in-Err.ensures.err in
+    heard_rejects gives g.S.NodeSource.number (g.S.NodeSource.size s) q s t u (machine_of c.loop-count.judge) (Some line) c.in-Err.reject.place why inv.2 one (bad why said) (let at = c.in-Err.ensures.there in omega (arith, at))
 
-pub returns-in-Ok-clause-err : goal.returns-in-Ok-clause-err
-returns-in-Ok-clause-err g c = λ fresh.
-    let q = c.args.problem.now in
+pub returns-in-Ok-None-clause-ok : goal.returns-in-Ok-None-clause-ok
+returns-in-Ok-None-clause-ok g c =
     let gives = g.S.NodeSource.gives in
+    let q = c.args.problem.now in
     let s = c.args.source.now in
     let n : ℕ = g.S.NodeSource.size s in
-    let ls = c.take_lines-taken.new.lines.items in
-    let judged = c.judge_lines-judged in
-    if_err_map judged.result _ _
-    (λ e h why said. all_rejects gives g.S.NodeSource.number n q s ls (c.in-Ok.ensures.ok fresh) e.place why
-    (ap (λ (ks : List (Option code.Line)). verdict q (line_values q.game.size ks)) (sym c.as_slice.ensures.value) ∙ rejected_as q.game.size (verdict q (line_values q.game.size c.as_slice.result.now)) e why h said))
-    judged.ensures.err
+    let t = c.loop-count.source in
+    let u = c.next.new.self in
+    let taken_all = λ (x : Colour) (said : ended (machine_of c.loop-count.judge) ≡ accepted x). either_way (g.S.NodeSource.fault s) (Accepts gives n q s x)
+    (λ fresh. heard_accepts gives g.S.NodeSource.number n q s t (machine_of c.loop-count.judge) x (c.loop-count.invariant.0 fresh).2
+    (u, subst (λ (o : Option code.Line). gives t (Ok (option_map (line_value (g.S.NodeSource.size t)) o)) u) c.in-Ok-None.field-0-is (c.in-Ok-None.ensures.gives (c.loop-count.invariant.0 fresh).0)) said)
+    (never (g.S.NodeSource.fault s) (g.S.NodeSource.fault t) c.next.result c.in-Ok-None.field-0 (Accepts gives n q s x) c.loop-count.invariant.1 c.next.ensures.stays c.in-Ok-None.is) in
+    if_ok_map c.end.result _ _ (λ x said. taken_all x said) c.end.ensures.ok
 
-pub returns-clause-err : goal.returns-clause-err
-returns-clause-err g c = λ fresh why said.
-    let q = c.args.problem.now in
+pub returns-in-Ok-None-clause-wins : goal.returns-in-Ok-None-clause-wins
+returns-in-Ok-None-clause-wins g c =
     let gives = g.S.NodeSource.gives in
+    let q = c.args.problem.now in
     let s = c.args.source.now in
     let n : ℕ = g.S.NodeSource.size s in
-    let ls = c.take_lines-taken.new.lines.items in
-    let judged = c.judge_lines-judged in
-    let count = c.len-count.ensures ∙ sym c.as_slice.ensures.len ∙ ap (λ (ks : List (Option code.Line)). length ks) c.as_slice.ensures.value in
-    few_rejects gives g.S.NodeSource.number n q s ls judged.result c.in-Err.why c.stopped.result why (c.in-Err.ensures.err fresh)
-    (subst (λ (ks : List (Option code.Line)). IfErr judged.result (λ e. Rejects q.game.size (verdict q (line_values q.game.size ks)) e)) c.as_slice.ensures.value judged.ensures.err)
-    (c.stopped.ensures ∙ ap (λ (k : ℕ). stop_of judged.result k c.in-Err.why) count) said
+    let t = c.loop-count.source in
+    let u = c.next.new.self in
+    let taken_all = λ (x : Colour) (said : ended (machine_of c.loop-count.judge) ≡ accepted x). either_way (g.S.NodeSource.fault s) (Accepts gives n q s x)
+    (λ fresh. heard_accepts gives g.S.NodeSource.number n q s t (machine_of c.loop-count.judge) x (c.loop-count.invariant.0 fresh).2
+    (u, subst (λ (o : Option code.Line). gives t (Ok (option_map (line_value (g.S.NodeSource.size t)) o)) u) c.in-Ok-None.field-0-is (c.in-Ok-None.ensures.gives (c.loop-count.invariant.0 fresh).0)) said)
+    (never (g.S.NodeSource.fault s) (g.S.NodeSource.fault t) c.next.result c.in-Ok-None.field-0 (Accepts gives n q s x) c.loop-count.invariant.1 c.next.ensures.stays c.in-Ok-None.is) in
+    if_ok_map c.end.result _ _ (λ x said. let acc = taken_all x said in accepted_sides_win q (line_values q.game.size acc.taken) x c.history.ensures.problem.present acc.accepted) c.end.ensures.ok
 
-pub returns-clause-read : goal.returns-clause-read
-returns-clause-read g c = λ fresh read.
-    let q = c.args.problem.now in
+pub returns-in-Ok-None-clause-err : goal.returns-in-Ok-None-clause-err
+returns-in-Ok-None-clause-err g c = λ fresh.
     let gives = g.S.NodeSource.gives in
+    let q = c.args.problem.now in
     let s = c.args.source.now in
-    let n : ℕ = g.S.NodeSource.size s in
-    let ls = c.take_lines-taken.new.lines.items in
-    let judged = c.judge_lines-judged in
-    let count = c.len-count.ensures ∙ sym c.as_slice.ensures.len ∙ ap (λ (ks : List (Option code.Line)). length ks) c.as_slice.ensures.value in
-    let small : length ls < 2 ^ 63 = let low = c.if-prove.false in omega (arith, count, low) in
-    few_fails gives g.S.NodeSource.number n q s ls judged.result c.in-Err.why c.stopped.result (c.in-Err.ensures.err fresh)
-    (subst (λ (ks : List (Option code.Line)). IfOk judged.result (λ x. verdict q (line_values q.game.size ks) ≡ accepted x)) c.as_slice.ensures.value judged.ensures.ok)
-    (subst (λ (ks : List (Option code.Line)). IfErr judged.result (λ e. Rejects q.game.size (verdict q (line_values q.game.size ks)) e)) c.as_slice.ensures.value judged.ensures.err)
-    judged.ensures.judged
-    (c.stopped.ensures ∙ ap (λ (k : ℕ). stop_of judged.result k c.in-Err.why) count) small read
+    let t = c.loop-count.source in
+    let u = c.next.new.self in
+    let inv = c.loop-count.invariant.0 fresh in
+    let same = c.loop-count.invariant.2 in
+    let last = subst (λ (o : Option code.Line). gives t (Ok (option_map (line_value (g.S.NodeSource.size t)) o)) u) c.in-Ok-None.field-0-is (c.in-Ok-None.ensures.gives inv.0) in
+    if_err_map c.end.result _ _
+    (λ e h why said. heard_ends gives g.S.NodeSource.number (g.S.NodeSource.size s) q s t (machine_of c.loop-count.judge) e.place why inv.2 (u, last) (h why (ap (λ (p : GameProblem). why_value p.game.size e.why) same ∙ said)))
+    c.end.ensures.err
+
+pub returns-in-Err-Malformed-clause-err : goal.returns-in-Err-Malformed-clause-err
+returns-in-Err-Malformed-clause-err g c = λ fresh why said.
+    let gives = g.S.NodeSource.gives in
+    let q = c.args.problem.now in
+    let s = c.args.source.now in
+    let t = c.loop-count.source in
+    let u = c.next.new.self in
+    let inv = c.loop-count.invariant.0 fresh in
+    let same = c.loop-count.invariant.2 in
+    let here = subst (λ (e : SourceFault). gives t (Err e) u) c.in-Err-Malformed.field-0-is (c.in-Err-Malformed.ensures.gives inv.0) in
+    let bad = subst (λ (p : GameProblem). (w : Why) → why_value p.game.size c.malformed.result.why ≡ Some w → taken p (machine_of c.loop-count.judge) None ≡ stops c.malformed.result.place w) same c.malformed.ensures.err in
+    heard_rejects gives g.S.NodeSource.number (g.S.NodeSource.size s) q s t u (machine_of c.loop-count.judge) None c.malformed.result.place why inv.2 here (bad why said) (let at = c.malformed.ensures.there in omega (arith, at))
+
+pub returns-in-Err-Read-clause-read : goal.returns-in-Err-Read-clause-read
+returns-in-Err-Read-clause-read g c = λ fresh read.
+    let gives = g.S.NodeSource.gives in
+    let q = c.args.problem.now in
+    let s = c.args.source.now in
+    let t = c.loop-count.source in
+    let u = c.next.new.self in
+    let inv = c.loop-count.invariant.0 fresh in
+    let here = subst (λ (e : SourceFault). gives t (Err e) u) c.in-Err-Read.field-0-is (c.in-Err-Read.ensures.gives inv.0) in
+    let placed = c.loop-count.invariant.3 in
+    let at = c.reject-in-Err-Read.ensures.place in
+    let less = c.loop-count-test.true in
+    heard_fails gives g.S.NodeSource.number (g.S.NodeSource.size s) q s t (machine_of c.loop-count.judge) c.reject-in-Err-Read.result.place inv.2 (u, here) at (omega (arith, placed, at, less))
+
+pub loop-count-preserved : goal.loop-count-preserved
+loop-count-preserved g c = (
+  λ fresh.
+      let gives = g.S.NodeSource.gives in
+      let q = c.args.problem.now in
+      let s = c.args.source.now in
+      let t = c.loop-count.source in
+      let u = c.next.new.self in
+      let inv = c.loop-count.invariant.0 fresh in
+      let same = c.loop-count.invariant.2 in
+      let line = c.in-Ok-Some.line in
+      let here = subst (λ (o : Option code.Line). gives t (Ok (option_map (line_value (g.S.NodeSource.size t)) o)) u) c.in-Ok-Some.field-0-is (c.in-Ok-Some.ensures.gives inv.0) in
+      let one = subst (λ (m : ℕ). gives t (Ok (Some (line_value m line))) u) inv.1 here in
+      let counted : g.S.NodeSource.number u ≡ g.S.NodeSource.number t + 1 = c.in-Ok-Some.ensures.counted inv.0 ∙ ap (λ (o : Option code.Line). g.S.NodeSource.number t + lines_counted {A = code.Line} (Ok o)) c.in-Ok-Some.field-0-is in
+      let step = subst (λ (p : GameProblem). taken p (machine_of c.loop-count.judge) (Some (line_value p.game.size line)) ≡ goes_on (machine_of c.take.new.self)) same c.in_default-take.ensures.ok in
+      (c.in-Ok-Some.ensures.fault, c.in-Ok-Some.ensures.size ∙ inv.1, heard_more gives g.S.NodeSource.number (g.S.NodeSource.size s) q s t u (machine_of c.loop-count.judge) (machine_of c.take.new.self) (Some line) inv.2 one counted step c.in_default-take.ensures.place),
+  never (g.S.NodeSource.fault c.args.source.now) (g.S.NodeSource.fault c.loop-count.source) c.next.result c.in-Ok-Some.field-0 _ c.loop-count.invariant.1 c.next.ensures.stays c.in-Ok-Some.is,
+  c.in_default-take.ensures.problem ∙ c.loop-count.invariant.2,
+  (let moved = c.in_default-take.ensures.place in let placed = c.loop-count.invariant.3 in omega (arith, moved, placed)),
+  c.in_default-take.ensures.ready,
+)

@@ -1,0 +1,96 @@
+-- What was heard of a source: nothing, a line more, and the verdict where it ends.
+use Rattle.std.proofs.Common.{◌≡◌, ℕ, suc, ◌+◌, ◌≤◌, ◌<◌, ◌^◌, List, [], ◌∷◌, ◌++◌, Option, Some, None, Result, Ok, Err, OnSome, option_map, refl, sym, ap, ◌∙◌, inl, inr, arith, append_assoc, append-nil}
+use Rattle.std.proofs.lemmas.List.{map-append}
+use Rattle.go_points.specs.declared.Colour.{Colour}
+use Rattle.target_game.specs.State.{GameProblem}
+use Rattle.proof_cert.specs.Lines.{Line}
+use Rattle.proof_cert.specs.Stage.{line_value}
+use Rattle.proof_cert.specs.Given.{line_answer}
+use Rattle.proof_cert.specs.declared.line.Line as code
+use Rattle.proof_cert.specs.declared.source.SourceFault.{SourceFault}
+use Rattle.proof_cert.specs.declared.source.SourceFault.TheVariants as fault
+use Rattle.cert_check.specs.Body.{Why}
+use Rattle.cert_check.specs.Verdict.{Verdict, verdict, accepted, rejected}
+use Rattle.cert_check.specs.Machine.{Machine, begun, Phase, header, opening, listing_had, listing_not, node_due, reply_due, done, goes_on, stops, taken, ended, ended_at, after_step, verdict_from}
+use Rattle.cert_check.specs.Parts.{line_values}
+use Rattle.cert_check.specs.Checks.{Answers, Accepts, RejectsAt, FailsAt}
+use Rattle.cert_check.specs.Heard.{Heard}
+use Rattle.cert_check.proofs.Machines.{lines_judged}
+use Rattle.cert_check.proofs.Taking.{took_more, one_more}
+
+pub either_way : {F : Type 0} (o : Option F) (P : Type 0) → (o ≡ None → P) → OnSome o P → P
+either_way None P f h = f refl
+either_way (Some e) P f h = h
+
+module _ {S : Type 0} (gives : S → Result (Option Line) SourceFault → S → Type 0) (number : S → ℕ) (n : ℕ) (q : GameProblem) (s : S) where
+  pub heard_first : Heard gives number n q s s begun
+  heard_first = record { taken = []; took = refl; counted = omega arith; placed = refl; so_far = λ rest. refl }
+
+  values_more : (ls : List (Option code.Line)) (l : Option code.Line) (rest : List (Option Line)) → line_values q.game.size (ls ++ l ∷ []) ++ rest ≡ line_values q.game.size ls ++ (option_map (line_value q.game.size) l ∷ rest)
+  values_more ls l rest = ap (λ vs. vs ++ rest) (map-append (option_map (line_value q.game.size)) ls (l ∷ [])) ∙ append_assoc (line_values q.game.size ls) (option_map (line_value q.game.size) l ∷ []) rest
+
+  pub heard_more : (t u : S) (m m' : Machine) (l : Option code.Line) → Heard gives number n q s t m → gives t (line_answer (option_map (line_value n) l)) u → number u ≡ number t + 1
+      → taken q m (option_map (line_value q.game.size) l) ≡ goes_on m' → m'.place ≡ suc m.place → Heard gives number n q s u m'
+  heard_more t u m m' l h given count step place =
+      let had = h.counted in
+      let put = h.placed in
+      let long = one_more gives n s h.taken l in
+      record {
+        taken = h.taken ++ l ∷ [];
+        took = took_more gives n s h.taken t u l h.took given;
+        counted = omega (arith, count, had, long);
+        placed = omega (arith, place, put, long);
+        so_far = λ rest. ap (verdict_from q begun) (values_more h.taken l rest) ∙ h.so_far (option_map (line_value q.game.size) l ∷ rest) ∙ ap (λ st. after_step st (λ k. verdict_from q k rest)) step;
+      }
+
+  heard_all : (t : S) (m : Machine) (h : Heard gives number n q s t m) → verdict q (line_values q.game.size h.taken) ≡ ended m
+  heard_all t m h = lines_judged q (line_values q.game.size h.taken) ∙ ap (verdict_from q begun) (sym (append-nil (line_values q.game.size h.taken))) ∙ h.so_far []
+
+  pub heard_accepts : (t : S) (m : Machine) (x : Colour) → Heard gives number n q s t m → Answers gives t (Ok None) → ended m ≡ accepted x → Accepts gives n q s x
+  heard_accepts t m x h last said = record { taken = h.taken; left = t; took = h.took; ended = last; accepted = heard_all t m h ∙ said }
+
+  pub heard_ends : (t : S) (m : Machine) (p : ℕ) (w : Why) → Heard gives number n q s t m → Answers gives t (Ok None) → ended m ≡ rejected p w → RejectsAt gives n q s p w
+  heard_ends t m p w h last said = record { taken = h.taken; left = t; took = h.took; there = inl last; rejected = heard_all t m h ∙ said }
+
+  pub heard_rejects : (t u : S) (m : Machine) (l : Option code.Line) (p : ℕ) (w : Why) → Heard gives number n q s t m → gives t (line_answer (option_map (line_value n) l)) u
+      → taken q m (option_map (line_value q.game.size) l) ≡ stops p w → p ≤ m.place → RejectsAt gives n q s p w
+  heard_rejects t u m l p w h given step low =
+      let put = h.placed in
+      let long = one_more gives n s h.taken l in
+      record {
+        taken = h.taken ++ l ∷ [];
+        left = u;
+        took = took_more gives n s h.taken t u l h.took given;
+        there = inr (omega (arith, low, put, long));
+        rejected =
+            lines_judged q (line_values q.game.size (h.taken ++ l ∷ [])) ∙ ap (verdict_from q begun) (sym (append-nil (line_values q.game.size (h.taken ++ l ∷ []))))
+            ∙ ap (verdict_from q begun) (values_more h.taken l []) ∙ h.so_far (option_map (line_value q.game.size) l ∷ []) ∙ ap (λ st. after_step st (λ k. verdict_from q k [])) step;
+      }
+
+  abbrev place_of : Verdict → ℕ → ℕ
+  place_of (accepted x) p = p
+  place_of (rejected a b) p = a
+
+  -- where no line follows, the fault is that of the next line
+  ended_behind : (p k : ℕ) (ph : Phase) (w : Why) → ended_at p ph ≡ rejected k w → p ≡ k
+  ended_behind p k header w e = ap (λ v. place_of v p) e
+  ended_behind p k (opening f) w e = ap (λ v. place_of v p) e
+  ended_behind p k (listing_had f h) w e = ap (λ v. place_of v p) e
+  ended_behind p k (listing_not f h) w e = ap (λ v. place_of v p) e
+  ended_behind p k (node_due f inside d st os) w e = ap (λ v. place_of v p) e
+  ended_behind p k (reply_due f inside os) w e = ap (λ v. place_of v p) e
+  ended_behind p k (done x) w e = ap (λ v. place_of v p) e
+
+  pub heard_fails : (t : S) (m : Machine) (p : ℕ) → Heard gives number n q s t m → Answers gives t (Err fault.Read) → p ≡ m.place → p < 2 ^ 63 → FailsAt gives number n q s p
+  heard_fails t m p h last at small =
+      let put = h.placed in
+      record {
+        taken = h.taken;
+        left = t;
+        took = h.took;
+        counted = h.counted;
+        few = omega (arith, small, at, put);
+        failed = last;
+        behind = at ∙ put;
+        faultless = λ k w said. let here = ended_behind m.place k m.phase w (sym (heard_all t m h) ∙ said) in omega (arith, here, put);
+      }

@@ -1,0 +1,176 @@
+-- What the judge does with a line, as the machine does it.
+use Rattle.std.proofs.Common.{◌≡◌, ℕ, suc, ◌+◌, ◌-◌, ◌*◌, Bool, true, false, ◌&&◌, nat_lt, nat_le, List, [], ◌∷◌, ◌++◌, length, Option, Some, None, IfSome, refl, sym, ap, ◌∙◌, subst, arith, if◌then◌else◌}
+use Rattle.std.specs.Prelude.{slice_get, reverse}
+use Rattle.std.specs.Ordering.{is_lt}
+use Rattle.std.proofs.Common.{Ordering, Less, Equal, Greater}
+use Rattle.go_points.specs.declared.Cell.{Cell}
+use Rattle.go_points.specs.Order.{text_order}
+use Rattle.target_game.specs.State.{GameState, state_alone}
+use Rattle.target_game.specs.State as State
+use Rattle.proof_cert.specs.Claim.{max_nodes, max_depth, max_listed}
+use Rattle.proof_cert.specs.Lines.{Line, header_line, lemma_line, had_line, not_line, main_line, won_line, use_line, play_line, all_line, reply_line, end_line, line_fits}
+use Rattle.cert_check.specs.declared.judge.Judge.{Judge}
+use Rattle.cert_check.specs.declared.judge.Phase.TheVariants.{Listing, Body}
+use Rattle.cert_check.specs.declared.judge.Within.{Within}
+use Rattle.cert_check.specs.declared.judge.Within.TheVariants.{Lemma, Main}
+use Rattle.cert_check.specs.declared.open_nodes.Due.{Due}
+use Rattle.cert_check.specs.declared.open_nodes.Due.TheVariants.{Node, Reply}
+use Rattle.cert_check.specs.declared.open_nodes.Open.{Open}
+use Rattle.cert_check.specs.declared.lines.NodeLine.{NodeLine}
+use Rattle.cert_check.specs.Body.{Why, limit, list_order, ask}
+use Rattle.cert_check.specs.Verdict.{not_of, is_after}
+use Rattle.cert_check.specs.Machine.{goes_on, stops, goes_if, last_of, listed_taken, listing_not, not_taken, phase_taken, taken, body_of, node_taken, reply_due}
+use Rattle.cert_check.specs.Inside.{Inside, phase_of, owed_by, node_fault, node_next}
+use Rattle.cert_check.specs.Parts.{head_of, listed_line, node_line, node_value}
+use Rattle.cert_check.specs.Judging.{GoesOn, IsBehind, machine_of, heading_of, lemma_of, within_of, inside_now, phase_held, IsBehindFor, AwaitsList, AwaitsNode, list_here, node_here, body_here, listed_more}
+use Rattle.cert_check.specs.Ascending.{Ascends}
+use Rattle.cert_check.proofs.Ascending.{ascends_more}
+use Rattle.cert_check.proofs.Lists.{before_is}
+use Rattle.cert_check.proofs.Machines.{last_pushed}
+use Rattle.cert_check.proofs.Replies.{line_on, line_off, line_full, room_is, reply_is}
+
+-- LISTS
+
+pub last_get : (cs : List (List Cell)) → slice_get cs (length cs - 1) ≡ last_of cs
+last_get [] = refl
+last_get (c ∷ []) = refl
+last_get (c ∷ d ∷ cs) = ap (slice_get (c ∷ d ∷ cs)) (let e : length (c ∷ d ∷ cs) - 1 ≡ suc (length (d ∷ cs) - 1) = omega arith in e) ∙ last_get (d ∷ cs)
+
+listed_none : (l : Line) → listed_line l ≡ None → not_of (Some l) ≡ None
+listed_none (not_line c) e = absurd (cc)
+listed_none (header_line v n x) e = refl
+listed_none (lemma_line m p c) e = refl
+listed_none (had_line c) e = refl
+listed_none main_line e = refl
+listed_none won_line e = refl
+listed_none (use_line j) e = refl
+listed_none (play_line t) e = refl
+listed_none (all_line m) e = refl
+listed_none (reply_line t) e = refl
+listed_none end_line e = refl
+
+-- a line that is no colouring begins the body
+pub first_line : (j : Judge) (l : Line) → AwaitsList j → listed_line l ≡ None → list_here j l ≡ node_here j Lemma l
+first_line j l h none =
+    ap (λ o. not_taken j.problem.now (machine_of j) (heading_of j) (lemma_of j) (Some l) o) (listed_none l none)
+    ∙ ap (λ ns. node_taken (machine_of j) (heading_of j) (Some (lemma_of j)) 1 (state_alone j.problem.now.game j.root j.mover j.passes) (owed_by [] (reverse ns)) l) (sym h.closed)
+    ∙ ap (λ (st : State.Line). node_taken (machine_of j) (heading_of j) (Some (lemma_of j)) (suc (length st.before)) st.state (owed_by st.before (reverse j.open_nodes.items)) l) (sym h.state)
+
+-- a line of a list, by its questions
+pub listed_on : (j : Judge) (c : List Cell) → nat_lt j.listed_count max_listed ≡ true → is_after (last_of j.list.items) c ≡ true
+    → listed_taken (machine_of j) (last_of j.list.items) c (listing_not (heading_of j) (listed_more (lemma_of j) c))
+    ≡ goes_on (record (machine_of j) { phase = listing_not (heading_of j) (listed_more (lemma_of j) c); place = suc j.place; listed = suc j.listed_count })
+listed_on j c few after =
+    ap (λ b. goes_if j.place (ask b limit (ask (is_after (last_of j.list.items) c) list_order None)) (record (machine_of j) { phase = listing_not (heading_of j) (listed_more (lemma_of j) c); place = suc j.place; listed = suc j.listed_count })) few
+    ∙ ap (λ b. goes_if j.place (ask b list_order None) (record (machine_of j) { phase = listing_not (heading_of j) (listed_more (lemma_of j) c); place = suc j.place; listed = suc j.listed_count })) after
+
+pub listed_off : (j : Judge) (c : List Cell) → nat_lt j.listed_count max_listed ≡ true → is_after (last_of j.list.items) c ≡ false
+    → listed_taken (machine_of j) (last_of j.list.items) c (listing_not (heading_of j) (listed_more (lemma_of j) c)) ≡ stops j.place list_order
+listed_off j c few after =
+    ap (λ b. goes_if j.place (ask b limit (ask (is_after (last_of j.list.items) c) list_order None)) (record (machine_of j) { phase = listing_not (heading_of j) (listed_more (lemma_of j) c); place = suc j.place; listed = suc j.listed_count })) few
+    ∙ ap (λ b. goes_if j.place (ask b list_order None) (record (machine_of j) { phase = listing_not (heading_of j) (listed_more (lemma_of j) c); place = suc j.place; listed = suc j.listed_count })) after
+
+-- NODES
+
+pub node_line_is : (l k : Line) → node_line l ≡ Some k → l ≡ k
+node_line_is won_line k e = cc
+node_line_is (use_line j) k e = cc
+node_line_is (play_line t) k e = cc
+node_line_is (all_line m) k e = cc
+node_line_is (not_line c) k e = absurd (cc)
+node_line_is (header_line v n x) k e = absurd (cc)
+node_line_is (lemma_line m p c) k e = absurd (cc)
+node_line_is (had_line c) k e = absurd (cc)
+node_line_is main_line k e = absurd (cc)
+node_line_is (reply_line t) k e = absurd (cc)
+node_line_is end_line k e = absurd (cc)
+
+module _ (j : Judge) (within : Within) (l : Line) (k : NodeLine) (ready : AwaitsNode j Node) (is : l ≡ node_value j.state.state.game.size k) where
+  room_here : (b : Bool) → b ≡ (nat_lt j.node_count max_nodes && nat_le (length j.open_nodes.items + 1) max_depth) → (nat_lt j.node_count max_nodes && nat_le (suc (length j.state.before)) max_depth) ≡ b
+  room_here b room = room_is j.problem.now.game j.state.before j.open_nodes.items (length j.open_nodes.items) j.node_count (machine_of j) b ready.follows refl refl room
+
+  pub node_full : (b : Bool) → b ≡ (nat_lt j.node_count max_nodes && nat_le (length j.open_nodes.items + 1) max_depth) → b ≡ false → node_here j within l ≡ stops j.place limit
+  node_full b room full =
+      ap (node_here j within) is
+      ∙ line_full (machine_of j) (heading_of j) (within_of j within) (suc (length j.state.before)) j.state.state (owed_by j.state.before (reverse j.open_nodes.items)) j.state.state.game.size k (body_of (heading_of j) (within_of j within)) refl (room_here b room ∙ full)
+
+  pub node_off : (b : Bool) (w : Why) → b ≡ (nat_lt j.node_count max_nodes && nat_le (length j.open_nodes.items + 1) max_depth) → b ≡ true
+      → node_fault (body_of (heading_of j) (within_of j within)) j.state.state (node_value j.state.state.game.size k) ≡ Some w → node_here j within l ≡ stops j.place w
+  node_off b w room free some =
+      ap (node_here j within) is
+      ∙ line_off (machine_of j) (heading_of j) (within_of j within) (suc (length j.state.before)) j.state.state (owed_by j.state.before (reverse j.open_nodes.items)) j.state.state.game.size k (body_of (heading_of j) (within_of j within)) refl w (room_here b room ∙ free) some
+
+  pub node_on : (b : Bool) (due : Due) (j' : Judge) (count : ℕ) → b ≡ (nat_lt j.node_count max_nodes && nat_le (length j.open_nodes.items + 1) max_depth) → b ≡ true
+      → node_fault (body_of (heading_of j) (within_of j within)) j.state.state (node_value j.state.state.game.size k) ≡ None
+      → inside_now j' due ≡ node_next (suc (length j.state.before)) j.state.state (owed_by j.state.before (reverse j.open_nodes.items)) (node_value j.state.state.game.size k)
+      → j' ≡ record j { state = j'.state; open_nodes = j'.open_nodes } → count ≡ suc j.node_count
+      → GoesOn j (record j' { phase = Body within due; node_count = count }) (node_here j within l)
+  node_on b due j' count room free none next rest counted =
+      ap (node_here j within) is
+      ∙ line_on (machine_of j) (heading_of j) (within_of j within) (suc (length j.state.before)) j.state.state (owed_by j.state.before (reverse j.open_nodes.items)) j.state.state.game.size k (body_of (heading_of j) (within_of j within)) refl (inside_now j' due) (room_here b room ∙ free) none next
+      ∙ sym (ap (λ x. goes_on (record { phase = phase_of (heading_of x) (within_of x within) (inside_now j' due); place = suc j.place; nodes = count; listed = x.listed_count })) rest ∙ at within)
+    where
+      i : Inside
+      i = inside_now j' due
+
+      at : (w : Within) → goes_on (record { phase = phase_of (heading_of j) (within_of (record j { state = j'.state; open_nodes = j'.open_nodes }) w) i; place = suc j.place; nodes = count; listed = j.listed_count }) ≡ goes_on (record { phase = phase_of (heading_of j) (within_of j w) i; place = suc j.place; nodes = suc j.node_count; listed = j.listed_count })
+      at Lemma = ap (λ n. goes_on (record { phase = phase_of (heading_of j) (within_of j Lemma) i; place = suc j.place; nodes = n; listed = j.listed_count })) counted
+      at Main = ap (λ n. goes_on (record { phase = phase_of (heading_of j) None i; place = suc j.place; nodes = n; listed = j.listed_count })) counted
+
+-- a line of a body
+owed_none : (before : List GameState) (ns : List Open) → length ns ≡ 0 → owed_by before (reverse ns) ≡ []
+owed_none [] [] e = refl
+owed_none (s ∷ before) [] e = refl
+owed_none before (n ∷ ns) e = absurd (omega arith)
+
+pub body_line : (j : Judge) (w : Within) (due : Due) (l : Line) → j.phase ≡ Body w due → AwaitsNode j due → line_fits j.problem.now.game.size l ≡ true → taken j.problem.now (machine_of j) (Some l) ≡ body_here j w due l
+body_line j w due l is ready fits =
+    ap (λ b. phase_taken j.problem.now (machine_of j) (phase_held j j.phase) (if b then Some l else None)) fits
+    ∙ ap (λ p. phase_taken j.problem.now (machine_of j) (phase_held j p) (Some l)) is
+    ∙ at due ready
+  where
+    at : (due : Due) → AwaitsNode j due → phase_taken j.problem.now (machine_of j) (phase_held j (Body w due)) (Some l) ≡ body_here j w due l
+    at Node h = refl
+    at (Reply (Some place)) h = ap (λ os. phase_taken j.problem.now (machine_of j) (reply_due (heading_of j) (within_of j w) os) (Some l)) (reply_is (suc (length j.state.before)) j.state.state place (owed_by j.state.before (reverse j.open_nodes.items)))
+    at (Reply None) h = ap (λ os. phase_taken j.problem.now (machine_of j) (reply_due (heading_of j) (within_of j w) os) (Some l)) (owed_none j.state.before j.open_nodes.items h.room)
+
+-- LISTED COLOURINGS
+
+pub last_fits : (cs : List (List Cell)) (c : List Cell) (n : ℕ) (o : Option (List Cell)) → o ≡ slice_get cs (length cs - 1) → length c ≡ n → IfSome (last_of cs) (λ d. length d ≡ n) → IfSome o (λ d. length d ≡ length c)
+last_fits cs c n o is long h = at o (last_of cs) (is ∙ last_get cs) h
+  where
+    at : (a b : Option (List Cell)) → a ≡ b → IfSome b (λ d. length d ≡ n) → IfSome a (λ d. length d ≡ length c)
+    at None b e k = tt
+    at (Some d) b e k = let there = subst (λ (x : Option (List Cell)). IfSome x (λ y. length y ≡ n)) (sym e) k in there ∙ sym long
+
+module _ (j : Judge) (c : List Cell) (v : Judge) (count : ℕ) (phase : j.phase ≡ Listing) (pushed : v.list.items ≡ j.list.items ++ c ∷ []) where
+  -- the colouring is behind the last one
+  listed_behind : (o : Option (List Cell)) → IfSome o (λ d. length d ≡ length c) → is_after o c ≡ true → IfSome o (λ d. text_order d c ≡ Less)
+  listed_behind None long after = tt
+  listed_behind (Some d) long after = go (text_order d c) (before_is d c long ∙ after)
+    where
+      go : (o : Ordering) → is_lt o ≡ true → o ≡ Less
+      go Less e = refl
+      go Equal e = absurd (cc)
+      go Greater e = absurd (cc)
+
+  pub listed_ready : AwaitsList j → length c ≡ j.problem.now.game.size * j.problem.now.game.size → is_after (last_of j.list.items) c ≡ true → IsBehind (record j { list = v.list; listed_count = count })
+  listed_ready h fits after =
+      subst (λ p. IsBehindFor (record j { list = v.list; listed_count = count }) p) (sym phase)
+      (record {
+        state = h.state;
+        closed = h.closed;
+        fits = subst (λ o. IfSome o (λ d. length d ≡ j.problem.now.game.size * j.problem.now.game.size)) (sym (ap last_of pushed ∙ last_pushed j.list.items c)) fits;
+        ascends =
+            subst Ascends (sym pushed)
+            (ascends_more j.list.items c h.ascends (listed_behind (last_of j.list.items) (last_fits j.list.items c (j.problem.now.game.size * j.problem.now.game.size) (last_of j.list.items) (sym (last_get j.list.items)) fits h.fits) after));
+      })
+
+  pub listed_goes : nat_lt j.listed_count max_listed ≡ true → is_after (last_of j.list.items) c ≡ true → count ≡ suc j.listed_count
+      → GoesOn j (record j { list = v.list; listed_count = count }) (listed_taken (machine_of j) (last_of j.list.items) c (listing_not (heading_of j) (listed_more (lemma_of j) c)))
+  listed_goes few after counted =
+      listed_on j c few after
+      ∙ sym (
+      ap (λ p. goes_on (record { phase = phase_held (record j { list = v.list; listed_count = count }) p; place = suc j.place; nodes = j.node_count; listed = count })) phase
+      ∙ ap (λ cs. goes_on (record { phase = listing_not (heading_of j) (head_of j.mover j.passes j.root cs); place = suc j.place; nodes = j.node_count; listed = count })) pushed
+      ∙ ap (λ n. goes_on (record { phase = listing_not (heading_of j) (head_of j.mover j.passes j.root (j.list.items ++ c ∷ [])); place = suc j.place; nodes = j.node_count; listed = n })) counted)

@@ -1,0 +1,124 @@
+-- What the judge holds, as the machine that takes lines.
+--     machine_of j      the machine
+--     IsReady j      what the judge keeps from line to line
+--     GoesOn, StopsFor      a call did what the machine does with a line, and a refusal is the machine's
+use Rattle.std.specs.Prelude.{◌≡◌, ℕ, suc, ◌*◌, List, [], ◌∷◌, ◌++◌, length, reverse, Option, Some, None, IfSome}
+use Rattle.go_points.specs.declared.Cell.{Cell}
+use Rattle.target_game.specs.State.{state_alone}
+use Rattle.target_game.specs.Kept.{turn_from}
+use Rattle.proof_cert.specs.Lines as Read
+use Rattle.proof_cert.specs.Claim.{Head}
+use Rattle.cert_check.specs.declared.reject.Why as stop
+use Rattle.cert_check.specs.declared.judge.Judge.{Judge}
+use Rattle.cert_check.specs.declared.judge.Phase.{Phase}
+use Rattle.cert_check.specs.declared.judge.Phase.TheVariants.{Header, Opening, Listing, Body, Done}
+use Rattle.cert_check.specs.declared.judge.Within.{Within}
+use Rattle.cert_check.specs.declared.judge.Within.TheVariants.{Lemma, Main}
+use Rattle.cert_check.specs.declared.open_nodes.Due.{Due}
+use Rattle.cert_check.specs.declared.open_nodes.Due.TheVariants.{Node, Reply}
+use Rattle.cert_check.specs.Verdict.{not_of}
+use Rattle.cert_check.specs.Body.{Why, malformed, text_after_end}
+use Rattle.cert_check.specs.Stage.{why_value}
+use Rattle.cert_check.specs.Machine.{Machine, Heading, header, opening, listing_not, done, last_of, Step, goes_on, stops, not_taken, node_taken, reply_taken, end_taken}
+use Rattle.cert_check.specs.Machine as machine
+use Rattle.cert_check.specs.Ascending.{Ascends}
+use Rattle.cert_check.specs.Inside.{Follows, Unwon, FitsDepth, Inside, inside_of, phase_of, owed_by, others_after}
+use Rattle.cert_check.specs.Parts.{head_of, IsJudged}
+
+abbrev pub heading_of : Judge → Heading
+heading_of j = record { version = 1; winner = j.winner; heads = j.heads.items }
+
+abbrev pub lemma_of : Judge → Head
+lemma_of j = head_of j.mover j.passes j.root j.list.items
+
+-- which lemma's body it is, or main
+abbrev pub within_of : Judge → Within → Option Head
+within_of j Lemma = Some (lemma_of j)
+within_of j Main = None
+
+abbrev pub inside_now : Judge → Due → Inside
+inside_now j due = inside_of due j.state.state j.state.before (reverse j.open_nodes.items)
+
+abbrev pub phase_held : Judge → Phase → machine.Phase
+phase_held j Header = header
+phase_held j Opening = opening (heading_of j)
+phase_held j Listing = listing_not (heading_of j) (lemma_of j)
+phase_held j (Body within due) = phase_of (heading_of j) (within_of j within) (inside_now j due)
+phase_held j Done = done j.winner
+
+abbrev pub machine_of : Judge → Machine
+machine_of j = record { phase = phase_held j j.phase; place = j.place; nodes = j.node_count; listed = j.listed_count }
+
+-- before the first line nothing is known
+pub record AwaitsHeader (j : Judge) : Type 0 where
+  pub first : j.place ≡ 1
+  pub heads : j.heads.items ≡ []
+  pub list : j.list.items ≡ []
+
+-- between a lemma's first line and its body: the state is where the body begins, and the colouring listed last is one of the board
+pub record AwaitsList (j : Judge) : Type 0 where
+  pub state : j.state ≡ record { state = state_alone j.problem.now.game j.root j.mover j.passes; before = [] }
+  pub closed : j.open_nodes.items ≡ []
+  pub fits : IfSome (last_of j.list.items) (λ c. length c ≡ j.problem.now.game.size * j.problem.now.game.size)
+  pub ascends : Ascends j.list.items
+
+pub record AwaitsNode (j : Judge) (due : Due) : Type 0 where
+  pub game : j.state.state.game ≡ j.problem.now.game
+  pub follows : Follows j.problem.now.game j.state.before (reverse j.open_nodes.items)
+  pub unwon : Unwon due j.state.state
+  pub room : FitsDepth due (length j.open_nodes.items)
+  pub ascends : Ascends j.list.items
+
+abbrev pub IsReadyFor : Judge → Phase → Type 0
+IsReadyFor j Header = AwaitsHeader j
+IsReadyFor j Opening = j.list.items ≡ []
+IsReadyFor j Listing = AwaitsList j
+IsReadyFor j (Body within due) = AwaitsNode j due
+IsReadyFor j Done = Unit {0}
+
+abbrev pub IsReady : Judge → Type 0
+IsReady j = IsReadyFor j j.phase
+
+-- the same behind a line, where it is not the first one that is due
+abbrev pub IsBehindFor : Judge → Phase → Type 0
+IsBehindFor j Header = ⊥
+IsBehindFor j Opening = IsReadyFor j Opening
+IsBehindFor j Listing = IsReadyFor j Listing
+IsBehindFor j (Body within due) = IsReadyFor j (Body within due)
+IsBehindFor j Done = IsReadyFor j Done
+
+abbrev pub IsBehind : Judge → Type 0
+IsBehind j = IsBehindFor j j.phase
+
+-- The line is not counted yet: its number is that of the judge before and behind the call.
+abbrev pub GoesOn : Judge → Judge → Step → Type 0
+GoesOn old new step = step ≡ goes_on (record (machine_of new) { place = suc old.place })
+
+abbrev pub StopsFor : Judge → Step → stop.Why → Type 0
+StopsFor j step why = ((p : Why) → why_value j.problem.now.game.size why ≡ Some p → step ≡ stops j.place p) × IsJudged why
+
+-- What the machine does with a line that fits the board: of a list or behind it, of a body's node, of a reply looked for at a place, and of a body.
+abbrev pub list_here : Judge → Read.Line → Step
+list_here j l = not_taken j.problem.now (machine_of j) (heading_of j) (lemma_of j) (Some l) (not_of (Some l))
+
+abbrev pub node_here : Judge → Within → Read.Line → Step
+node_here j within l = node_taken (machine_of j) (heading_of j) (within_of j within) (suc (length j.state.before)) j.state.state (owed_by j.state.before (reverse j.open_nodes.items)) l
+
+abbrev pub reply_here : Judge → Within → ℕ → Read.Line → Step
+reply_here j within place l =
+    reply_taken (machine_of j) (heading_of j) (within_of j within)
+    (record { depth = suc (length j.state.before); state = j.state.state; due = turn_from j.state.state place; others = others_after j.state.state (turn_from j.state.state place) })
+    (owed_by j.state.before (reverse j.open_nodes.items)) l
+
+abbrev pub body_here : Judge → Within → Due → Read.Line → Step
+body_here j within Node l = node_here j within l
+body_here j within (Reply (Some place)) l = reply_here j within place l
+body_here j within (Reply None) l = end_taken (machine_of j) (heading_of j) (within_of j within) l
+
+abbrev pub listed_more : Head → List Cell → Head
+listed_more h c = record h { absent = h.absent ++ c ∷ [] }
+
+-- why a malformed line is refused
+abbrev pub bad_line : machine.Phase → Why
+bad_line (done x) = text_after_end
+bad_line _ = malformed

@@ -1,0 +1,63 @@
+//! Listed colourings, which ascend.
+
+ghost use Rattle.std.specs.Prelude.{◌≡◌};
+ghost use Rattle.std.specs.List.{list_all};
+ghost use Rattle.go_turns.specs.History.{has_occurred};
+ghost use Rattle.cert_check.specs.Ascending.{Ascends};
+
+use go_points::Colouring;
+
+/// A list that is shorter than another by this factor is looked up in it, colouring by colouring.
+const MUCH_SHORTER: usize = 16;
+
+/// Whether the colouring stands on the list: by halving.
+pub(crate) fn stands_on(colouring: &Colouring, list: &[Colouring]) -> bool
+    requires { Ascends list.now }
+    ensures { result ≡ has_occurred list.now colouring.now }
+{
+    list.binary_search(colouring).is_ok()
+}
+
+/// Whether each of the colourings stands on the list.
+pub(crate) fn all_stand_on(few: &[Colouring], list: &[Colouring]) -> bool
+    requires few { Ascends few.now }
+    requires list { Ascends list.now }
+    ensures { result ≡ list_all (has_occurred list.now) few.now }
+{
+    if few.len() < list.len() / MUCH_SHORTER {
+        all_found(few, list)
+    } else {
+        all_passed(few, list)
+    }
+}
+
+/// The same, by halving for each.
+fn all_found(few: &[Colouring], list: &[Colouring]) -> bool
+    requires { Ascends list.now }
+    ensures { result ≡ list_all (has_occurred list.now) few.now }
+{
+    for colouring in few {
+        if !stands_on(colouring, list) {
+            return false;
+        }
+    }
+    true
+}
+
+/// The same, by one pass over both.
+fn all_passed(few: &[Colouring], list: &[Colouring]) -> bool
+    requires few { Ascends few.now }
+    requires list { Ascends list.now }
+    ensures { result ≡ list_all (has_occurred list.now) few.now }
+{
+    let mut wanted = 0;
+    for listed in list {
+        if wanted == few.len() {
+            return true;
+        }
+        if few[wanted] == *listed {
+            wanted += 1;
+        }
+    }
+    wanted == few.len()
+}

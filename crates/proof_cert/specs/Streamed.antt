@@ -1,0 +1,70 @@
+-- A source of lines that a reader gives, and what one call of it gives and leaves.
+--     Streamed      the board's size, the bytes that the reader still tells, where it tells them, the number of the line or
+--                   fault that was answered last, and the fault
+--     Tells told bytes      the bytes are those that are told, where they are
+--     IsRead n old new r      what a call answers where the bytes old were told before it and new behind it
+--     reader_gives s r t      a call at s, which has not failed, answers r and leaves t
+use Rattle.std.specs.Prelude.{◌≡◌, ℕ, false, nat_eq, length, List, [], ◌∷◌, ◌++◌, Option, Some, None, Result, Ok, Err}
+use Rattle.std.specs.Io.KnownBytes.{Consumes, IsAtEnd}
+use Rattle.proof_cert.specs.Lines.{Line}
+use Rattle.proof_cert.specs.Text.{line_feed, max_line}
+use Rattle.proof_cert.specs.Source.{lines_read}
+use Rattle.proof_cert.specs.declared.reader_source.Ending.{Ending}
+use Rattle.proof_cert.specs.declared.reader_source.Ending.TheVariants.{LineFeed, End, TooLong}
+use Rattle.proof_cert.specs.Given.{Gave, fault_of}
+use Rattle.proof_cert.specs.declared.source.SourceFault.{SourceFault}
+use Rattle.proof_cert.specs.declared.source.SourceFault.TheVariants.{Malformed, Memory, Read}
+
+pub record Streamed : Type 0 where
+  pub size : ℕ
+  pub told : Option (List ℕ)
+  pub number : ℕ
+  pub fault : Option SourceFault
+
+abbrev pub streamed_of : ℕ → Option (List ℕ) → Streamed
+streamed_of n told = record { size = n; told = told; number = 0; fault = None }
+
+abbrev pub Tells : Option (List ℕ) → List ℕ → Type 0
+Tells None bytes = Unit {0}
+Tells (Some told) bytes = bytes ≡ told
+
+-- the bytes that are told; none where nothing is
+abbrev pub told_bytes : Option (List ℕ) → List ℕ
+told_bytes None = []
+told_bytes (Some told) = told
+
+-- a reader gave one byte, or has ended
+abbrev pub IsByte : Option (List ℕ) → Option (List ℕ) → Option ℕ → Type 0
+IsByte old new None = Consumes old new [] × IsAtEnd new
+IsByte old new (Some b) = Consumes old new (b ∷ [])
+
+-- no byte is a line feed
+abbrev pub HasNoFeed : List ℕ → Type 0
+HasNoFeed [] = Unit {0}
+HasNoFeed (x ∷ b) = (nat_eq x line_feed ≡ false) × HasNoFeed b
+
+-- How the bytes of a line ended: by a line feed, by the reader's end, or by a byte more than a line may have.
+abbrev pub IsPiece : Option (List ℕ) → Option (List ℕ) → List ℕ → Ending → Type 0
+IsPiece old new b LineFeed = HasNoFeed b × Consumes old new (b ++ line_feed ∷ [])
+IsPiece old new b End = HasNoFeed b × Consumes old new b × IsAtEnd new
+IsPiece old new b TooLong = (x : ℕ) × HasNoFeed (b ++ x ∷ []) × Consumes old new (b ++ x ∷ []) × (length b ≡ max_line)
+
+-- A line: the bytes that were used give it, whatever follows. None: the reader has ended. A malformed line: the bytes that were
+-- used and what is told behind them begin with it. A read may always fail, and no memory is taken.
+abbrev pub IsRead : ℕ → Option (List ℕ) → Option (List ℕ) → Result (Option Line) SourceFault → Type 0
+IsRead n old new (Ok (Some l)) = (used : List ℕ) × Consumes old new used × ((more : List ℕ) → lines_read n (used ++ more) ≡ Some l ∷ lines_read n more)
+IsRead n old new (Ok None) = Consumes old new [] × IsAtEnd new
+IsRead n old new (Err Malformed) = (used : List ℕ) × Consumes old new used × (rest : List (Option Line)) × (lines_read n (used ++ told_bytes new) ≡ None ∷ rest)
+IsRead n old new (Err Memory) = ⊥
+IsRead n old new (Err Read) = Unit {0}
+
+abbrev pub reader_gives : Streamed → Result (Option Line) SourceFault → Streamed → Type 0
+reader_gives s r t = (s.fault ≡ None) × (t.size ≡ s.size) × (t.fault ≡ fault_of r) × IsRead s.size s.told t.told r
+
+-- A reader gives the lines of its bytes in their order, and all of them where it has ended.
+pub record IsFrontOfReader (n : ℕ) (told : Option (List ℕ)) (ls : List (Option Line)) (t : Streamed) : Type 0 where
+  pub front : (bytes : List ℕ) × Tells told bytes × (rest : List (Option Line)) × (lines_read n bytes ≡ ls ++ rest)
+  pub all : (u : Streamed) → reader_gives t (Ok None) u → (bytes : List ℕ) × Tells told bytes × (lines_read n bytes ≡ ls)
+
+abbrev pub LinesGivenOfReader : Type 0
+LinesGivenOfReader = (n : ℕ) (told : Option (List ℕ)) (ls : List (Option Line)) (t : Streamed) → Gave reader_gives (streamed_of n told) ls t → IsFrontOfReader n told ls t

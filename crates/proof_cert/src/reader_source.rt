@@ -1,0 +1,155 @@
+//! The lines of a claim that a reader gives, one at a time.
+
+ghost use Rattle.std.specs.Prelude.{◌≡◌, ◌<◌, ◌^◌, [], None, IfOk};
+ghost use Rattle.std.specs.Io.KnownBytes.{Consumes};
+ghost use Rattle.proof_cert.specs.Source.{answer_value};
+ghost use Rattle.proof_cert.specs.Streamed.{IsPiece, IsRead, streamed_of};
+
+use crate::line::Line;
+use crate::node_source::NodeSource;
+use crate::source::SourceFault;
+use crate::told_bytes::{ReadFailed, ToldBytes};
+use arrayvec::ArrayVec;
+use go_points::Size;
+use std::io::Read;
+use std::marker::Model;
+
+/// The longest line, without its line feed, in bytes.
+pub const MAX_LINE: usize = 371;
+
+/// More lines than a source gives.
+const TOO_MANY: u64 = 18_446_744_073_709_551_614;
+
+/// How the bytes of a line ended.
+#[derive(Clone, Copy, Debug, PartialEq, Eq)]
+pub(crate) enum Ending {
+    LineFeed,
+    End,
+    TooLong,
+}
+
+/// The lines that a reader gives, for a board of one size. It takes no memory: a block of the reader's bytes and one line are held.
+#[derive(Drop)]
+pub struct ReaderSource<R: Read + Drop> {
+    size: Size,
+    bytes: ToldBytes<R>,
+    number: u64,
+    fault: Option<SourceFault>,
+}
+
+impl<R: Read + Drop> Model for ReaderSource<R> {
+    ghost use Rattle.std.specs.Prelude.{◌≡◌, ◌-◌, ◌^◌, ◌<◌, None};
+    ghost use Rattle.proof_cert.specs.Streamed.{Streamed};
+
+    ghost Value = { Streamed };
+
+    ghost view = { λ a. record { size = a.size; told = a.bytes; number = a.number; fault = a.fault } };
+
+    ghost invariant = { λ a. a.fault ≡ None → a.number < 2 ^ 64 - 1 };
+}
+
+/// The bytes up to a line feed, to the end, or to one more than a line may have.
+fn read_piece<R: Read + Drop>(
+    bytes: &mut ToldBytes<R>,
+    line: &mut ArrayVec<u8, MAX_LINE>,
+) -> Result<Ending, ReadFailed>
+    requires { line.old.items ≡ [] }
+    ensures { IfOk result (λ e. IsPiece bytes.old bytes.new line.new.items e) }
+{
+    for _ in 0..MAX_LINE {
+        let Some(byte) = bytes.next()? else {
+            return Ok(Ending::End);
+        };
+        if byte == b'\n' {
+            return Ok(Ending::LineFeed);
+        }
+        line.push(byte);
+    }
+    let Some(byte) = bytes.next()? else {
+        return Ok(Ending::End);
+    };
+    if byte == b'\n' {
+        return Ok(Ending::LineFeed);
+    }
+    Ok(Ending::TooLong)
+}
+
+/// The next line of the bytes, for a board of this size.
+fn read_line<R: Read + Drop>(
+    size: Size,
+    bytes: &mut ToldBytes<R>,
+) -> Result<Option<Line>, SourceFault>
+    ensures { IsRead size bytes.old bytes.new (answer_value size result) }
+{
+    prove!(size.rows() <= 19);
+    let mut line = ArrayVec::new();
+    match read_piece(bytes, &mut line) {
+        Ok(Ending::LineFeed) => match Line::from_text(size, line.as_slice()) {
+            Some(line) => Ok(Some(line)),
+            None => Err(SourceFault::Malformed),
+        },
+        Ok(Ending::End) => {
+            if line.is_empty() {
+                Ok(None)
+            } else {
+                Err(SourceFault::Malformed)
+            }
+        }
+        Ok(Ending::TooLong) => Err(SourceFault::Malformed),
+        Err(_) => Err(SourceFault::Read),
+    }
+}
+
+impl<R: Read + Drop> ReaderSource<R> {
+    /// The lines that the reader gives, for a board of this size.
+    pub fn new(size: Size, reader: R) -> ReaderSource<R>
+        ensures { result ≡ streamed_of size (R.remaining reader) }
+    {
+        ReaderSource {
+            size,
+            bytes: ToldBytes::new(reader),
+            number: 0,
+            fault: None,
+        }
+    }
+}
+
+impl<R: Read + Drop> NodeSource for ReaderSource<R> {
+    ghost use Rattle.proof_cert.specs.Streamed.{reader_gives};
+
+    ghost size = { λ s. s.size };
+
+    ghost number = { λ s. s.number };
+
+    ghost fault = { λ s. s.fault };
+
+    ghost gives = { reader_gives };
+
+    fn next(&mut self) -> Result<Option<Line>, SourceFault> {
+        if let Some(fault) = self.fault {
+            return Err(fault);
+        }
+        let answer = if self.number >= TOO_MANY {
+            Err(SourceFault::Read)
+        } else {
+            read_line(self.size, &mut self.bytes)
+        };
+        match answer {
+            Ok(Some(_)) => self.number += 1,
+            Ok(None) => {}
+            Err(fault) => {
+                self.number += 1;
+                self.fault = Some(fault);
+            }
+        }
+        answer
+    }
+
+    fn size(&self) -> Size {
+        self.size
+    }
+
+    fn line_number(&self) -> u64 {
+        self.number
+    }
+}

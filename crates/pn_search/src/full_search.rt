@@ -4,7 +4,7 @@
 //! replies that were answered on it. A win within a few turns, in a small tree of play, is found whatever the search
 //! by proof numbers would do.
 
-ghost use Rattle.std.specs.Prelude.{◌≡◌, ◌+◌, ◌≤◌, ◌&&◌, ℕ, nat_eq, IsTrue, OnOk, IfOk, None};
+ghost use Rattle.std.specs.Prelude.{◌≡◌, ◌+◌, ◌≤◌, ◌&&◌, ◌-◌, ℕ, nat_eq, IsTrue, OnOk, IfOk, None};
 ghost use Rattle.go_points.specs.Grid.{same_colour};
 ghost use Rattle.go_points.specs.Ply.{ply_of, pass};
 ghost use Rattle.target_game.specs.State.{GameState, start};
@@ -46,8 +46,27 @@ pub(crate) struct Seen {
 /// The side that wins the problem within the fewest turns, up to 200, with a tree that shows it; none, where neither
 /// side does or the steps ran out.
 ///
-/// All legal play is searched within 0, 1, 2 and so on turns, each number anew. A step is one expansion.
+/// All legal play is searched within 0, 1, 2 and so on turns, each number anew. A step is one expansion; so many as
+/// `floor` are left alone.
 pub(crate) fn full_search(
+    alloc: Global,
+    problem: &Problem,
+    floor: u64,
+    left: &mut u64,
+) -> Result<Option<(Colour, Node)>, AllocError>
+    requires { floor ≤ left.old }
+    ensures fewer { left.new ≤ left.old }
+    ensures floor { floor ≤ left.new }
+    ensures decided { IfOk result (λ r. IsDecided (start problem.now) (left.old - floor) r) }
+{
+    let mut own = *left - floor;
+    let found = search_depths(alloc, problem, &mut own);
+    *left = floor + own;
+    found
+}
+
+/// The same, by these steps alone.
+fn search_depths(
     alloc: Global,
     problem: &Problem,
     left: &mut u64,

@@ -12,3 +12,8 @@ pub mod Bits
 pub mod PlaceSets
 pub mod Counting
 pub mod Membership
+pub mod Taken
+pub mod Moves
+pub mod Liberties
+pub mod Anywhere
+pub mod Quiet

@@ -1,5 +1,5 @@
 -- Marks that are sound and closed are on exactly the free points.
-use Rattle.std.proofs.Common.{◌≡◌, ℕ, ◌+◌, ◌*◌, ◌<◌, ◌≤◌, Bool, true, false, ◌⊎◌, inl, inr, cond, List, [], ◌∷◌, length, get_or, set, refl, sym, ◌∙◌, ap, subst, arith}
+use Rattle.std.proofs.Common.{◌≡◌, ℕ, ◌+◌, ◌*◌, ◌<◌, ◌≤◌, Bool, true, false, not, ◌&&◌, ◌⊎◌, inl, inr, cond, List, [], ◌∷◌, length, get_or, set, refl, sym, ◌∙◌, ap, subst, arith}
 use Rattle.std.specs.List.{list_any}
 use Rattle.std.proofs.lemmas.Bool.{cases_eq, cases_lt, both_ways, true≢false}
 use Rattle.std.proofs.lemmas.List.{get_or-set_same, get_or-set_other, get_or_past}
@@ -9,11 +9,12 @@ use Rattle.go_points.specs.declared.Cell.{Cell}
 use Rattle.go_points.specs.declared.Cell.TheVariants.{Empty, Stone}
 use Rattle.go_points.specs.Grid.{same_cell, adjacent, neighbours, cell_at}
 use Rattle.go_points.specs.Reach.{reaches, IsPath}
+use Rattle.go_points.specs.Liberty.{lacks_liberty}
 use Rattle.go_points.proofs.Lists.{any_from, any_to}
 use Rattle.go_points.proofs.Cells.{same_cell_eq, eq_same_cell, adjacent_on_board, member_neighbours, neighbours_member}
 use Rattle.go_points.proofs.Paths.{reaches_path}
 use Rattle.go_turns.specs.Marks.{is_marked, mark_count, IsFree, IsSound, HasSeeds, IsClosedBelow, AreFree}
-use Rattle.go_turns.proofs.Anywhere.{same_tests}
+use Rattle.go_points.proofs.Anywhere.{same_tests}
 
 -- one more mark
 pub count_marked : (marks : List Bool) (i : ℕ) → i < length marks → is_marked marks i ≡ false → mark_count (set marks i true) ≡ mark_count marks + 1
@@ -120,3 +121,7 @@ spread_miss n c k old marks b i here s = record {
   grown = s.grown;
   closed = λ e. closed_more n c k marks i (s.closed e) here;
 }
+
+-- a stone, by the marks of its colour
+pub lacks_stone : (n : ℕ) (c : List Cell) (k : Colour) (marks : List Bool) (p : ℕ) → AreFree n c k marks → p < n * n → cell_at c p ≡ Stone k → lacks_liberty n c p ≡ not (is_marked marks p)
+lacks_stone n c k marks p exact on stone = ap (λ a. not (same_cell a Empty) && not (reaches n c p Empty)) stone ∙ ap not (reaches_marked n c k marks p exact on stone)

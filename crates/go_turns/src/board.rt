@@ -1,25 +1,16 @@
 //! What a board owes: a colouring in which every stone reaches empty, and moves on it.
 
-ghost use Rattle.std.specs.Prelude.{◌≡◌, ◌*◌, List, is_ok, IfOk, IfErr, OnOk, OnErr, replicate, Some, None};
+ghost use Rattle.std.specs.Prelude.{◌≡◌, ◌*◌, ◌↔◌, IsTrue, List, slice_set, is_ok, IfOk, IfErr, OnOk, OnErr, replicate, Some, None};
 ghost use Rattle.go_points.specs.declared.Cell.{Cell};
-ghost use Rattle.go_points.specs.declared.Cell.TheVariants.{Empty};
+ghost use Rattle.go_points.specs.declared.Cell.TheVariants.{Empty, Stone};
 ghost use Rattle.go_points.specs.Grid.{cell_at, same_cell, side_of, IsColouring};
 ghost use Rattle.go_points.specs.Place.{IsOn, number_of};
 ghost use Rattle.go_points.specs.Liberty.{first_without_liberty};
 ghost use Rattle.go_points.specs.Move.{after_move, taken_by_move};
-ghost use Rattle.go_turns.specs.Key.{key_of};
+ghost use Rattle.stone_key.specs.Key.{key_of};
 
+pub use go_chains::{NoLiberty, Occupied};
 use go_points::{Cell, Colour, Colouring, Point, Size};
-
-/// A move at a point that holds a stone.
-#[derive(Clone, Copy, Debug, PartialEq, Eq)]
-pub struct Occupied;
-
-/// A colouring with a stone that does not reach empty: the least such point.
-#[derive(Clone, Copy, Debug, PartialEq, Eq)]
-pub struct NoLiberty {
-    pub point: Point,
-}
 
 /// A colouring in which every stone reaches empty. No call takes memory.
 pub trait Board: Drop {
@@ -30,6 +21,10 @@ pub trait Board: Drop {
     fn new(size: Size) -> Self
         ensures value { content result ≡ replicate (size * size) Empty }
         ensures size { side_of (content result) ≡ size };
+
+    /// Another board with the same content.
+    fn copy(&self) -> Self
+        ensures { content result ≡ content self.now };
 
     fn size(&self) -> Size
         ensures value { result ≡ side_of (content self.now) };
@@ -57,6 +52,12 @@ pub trait Board: Drop {
         ensures size { side_of (content self.new) ≡ side_of (content self.old) }
         ensures taken { IfOk result (λ taken. taken ≡ taken_by_move (side_of (content self.old)) (content self.old) colour (number_of (side_of (content self.old)) point)) }
         ensures err { OnErr result (content self.new ≡ content self.old) };
+
+    /// Whether a move at the empty point keeps its stone and changes no other point.
+    fn quiet(&self, colour: Colour, point: Point) -> bool
+        requires on_board { IsOn (side_of (content self.now)) point }
+        requires empty { cell_at (content self.now) (number_of (side_of (content self.now)) point) ≡ Empty }
+        ensures { IsTrue result ↔ (after_move (side_of (content self.now)) (content self.now) colour (number_of (side_of (content self.now)) point) ≡ slice_set (content self.now) (number_of (side_of (content self.now)) point) (Stone colour)) };
 
     /// Takes the colouring over, or names the least point whose stone does not reach empty.
     fn assign(&mut self, colouring: &Colouring) -> Result<(), NoLiberty>

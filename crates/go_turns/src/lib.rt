@@ -2,25 +2,31 @@
 #![tactic(auto)]
 
 mod board;
+mod chain_board;
 mod clearing;
 mod fault;
-mod key;
+mod hash_seen;
+mod keyed_colouring;
 pub mod laws;
+mod list_seen;
 mod plain_board;
 mod record;
 mod seen;
 
 pub use board::{Board, NoLiberty, Occupied};
 pub use fault::TurnFault;
+pub use go_chains::ChainBoard;
+pub use hash_seen::HashSeen;
+pub use list_seen::ListSeen;
 pub use plain_board::PlainBoard;
 pub use record::Record;
-pub use seen::{ListSeen, Seen};
+pub use seen::Seen;
 
 /// The board that play uses. The layers above name it so, and a faster one takes its place here alone.
-pub type PlayBoard = PlainBoard;
+pub type PlayBoard = ChainBoard;
 
 /// The list of colourings that play uses, named so for the same reason.
-pub type PlaySeen = ListSeen;
+pub type PlaySeen = HashSeen;
 
 #[cfg(test)]
 mod key_tests;

@@ -2,9 +2,9 @@
 
 use crate::board::{Board, NoLiberty, Occupied};
 use crate::clearing::{are_same, clear_colour, find_without_liberty};
-use crate::key::key_of;
 use go_points::{Cell, Colour, Colouring, MAX_SIZE, Point, Size};
 use std::marker::Model;
+use stone_key::key_of;
 
 /// A board that keeps its cells alone and looks for captures by sweeps over all of them.
 #[derive(Clone, Copy, Debug)]
@@ -36,6 +36,10 @@ impl Board for PlainBoard {
         }
     }
 
+    fn copy(&self) -> PlainBoard {
+        *self
+    }
+
     fn size(&self) -> Size {
         self.colouring.size()
     }
@@ -61,6 +65,16 @@ impl Board for PlainBoard {
         let captured = clear_colour(&mut self.colouring, colour.opponent());
         let lost = clear_colour(&mut self.colouring, colour);
         Ok(captured + lost)
+    }
+
+    fn quiet(&self, colour: Colour, point: Point) -> bool {
+        let mut placed = self.colouring;
+        prove!(placed.size().rows() <= MAX_SIZE);
+        placed.set(point, Cell::Stone(colour));
+        match find_without_liberty(&placed) {
+            None => true,
+            Some(_) => false,
+        }
     }
 
     fn assign(&mut self, colouring: &Colouring) -> Result<(), NoLiberty> {

@@ -7,7 +7,7 @@ ghost use Rattle.go_points.specs.Place.{IsOn, number_of};
 ghost use Rattle.go_points.specs.Liberty.{first_without_liberty};
 ghost use Rattle.go_points.specs.Ply.{ply_of, pass as a_pass, move as a_move};
 ghost use Rattle.go_turns.specs.History.{place_in, repeats};
-ghost use Rattle.go_turns.specs.Key.{key_of};
+ghost use Rattle.stone_key.specs.Key.{key_of};
 ghost use Rattle.go_turns.specs.Record.{colouring_of, numbered, assigned, play_of, setup_of, undo_of, opened, Did, DidWithoutMemory, Opens};
 ghost use Rattle.go_turns.specs.Steps.{IsNotAdded, Joins};
 
@@ -67,7 +67,9 @@ fn add_step<S: Seen>(
     steps: &mut Vec<Step>,
     step: Step,
     colouring: Colouring,
+    key: u64,
 ) -> Result<(), TurnFault>
+    requires { key ≡ key_of colouring }
     ensures new { OnOk result (place_in (S.content seen.old) colouring ≡ None) }
     ensures history { OnOk result (S.content seen.new ≡ S.content seen.old ++ colouring ∷ []) }
     ensures steps { OnOk result (steps.new.items ≡ steps.old.items ++ step ∷ []) }
@@ -75,13 +77,13 @@ fn add_step<S: Seen>(
     ensures history_kept { OnErr result (S.content seen.new ≡ S.content seen.old) }
     ensures steps_kept { OnErr result (steps.new.items ≡ steps.old.items) }
 {
-    if let Some(earlier) = seen.holds(&colouring) {
+    if let Some(earlier) = seen.holds_with(&colouring, key) {
         return Err(TurnFault::Repeats { earlier });
     }
     if steps.push(step).is_err() {
         return Err(TurnFault::Memory);
     }
-    if seen.add(colouring).is_err() {
+    if seen.add_with(colouring, key).is_err() {
         let _untaken = steps.pop();
         return Err(TurnFault::Memory);
     }
@@ -94,18 +96,20 @@ fn add_setup<S: Seen>(
     steps: &mut Vec<Step>,
     step: Step,
     colouring: Colouring,
+    key: u64,
 ) -> Result<usize, AllocError>
+    requires { key ≡ key_of colouring }
     ensures history { IfOk result (λ place. Joins (place_in (S.content seen.old) colouring) (S.content seen.old) colouring place (S.content seen.new)) }
     ensures steps { OnOk result (steps.new.items ≡ steps.old.items ++ step ∷ []) }
     ensures history_kept { OnErr result (S.content seen.new ≡ S.content seen.old) }
     ensures steps_kept { OnErr result (steps.new.items ≡ steps.old.items) }
 {
     steps.push(step)?;
-    if let Some(earlier) = seen.holds(&colouring) {
+    if let Some(earlier) = seen.holds_with(&colouring, key) {
         return Ok(earlier);
     }
     let place = seen.len();
-    if let Err(error) = seen.add(colouring) {
+    if let Err(error) = seen.add_with(colouring, key) {
         let _untaken = steps.pop();
         return Err(error);
     }
@@ -230,7 +234,8 @@ impl<B: Board, S: Seen> Record<B, S> {
             return Err(TurnFault::Occupied);
         }
         let after = self.board.colouring();
-        if let Err(fault) = add_step(&mut self.seen, &mut self.steps, step, after) {
+        let key = self.board.key();
+        if let Err(fault) = add_step(&mut self.seen, &mut self.steps, step, after, key) {
             let _back = self.board.assign(&before);
             return Err(fault);
         }
@@ -259,7 +264,8 @@ impl<B: Board, S: Seen> Record<B, S> {
                 point: refused.point,
             });
         }
-        let Ok(place) = add_setup(&mut self.seen, &mut self.steps, step, after) else {
+        let key = self.board.key();
+        let Ok(place) = add_setup(&mut self.seen, &mut self.steps, step, after, key) else {
             let _as_before = self.board.assign(&before);
             return Err(TurnFault::Memory);
         };

@@ -3,12 +3,12 @@
 ghost use Rattle.std.specs.Prelude.{◌≡◌, ◌<◌, ◌-◌, ◌++◌, ◌∷◌, [], List, Some, None, IsFalse, OnOk, OnErr, length, slice_get, take};
 ghost use Rattle.go_points.specs.declared.Cell.{Cell};
 ghost use Rattle.go_turns.specs.History.{place_in, repeats};
+ghost use Rattle.stone_key.specs.Key.{key_of};
 
 use go_points::Colouring;
 use std::alloc::{AllocError, Global};
-use std::marker::Model;
 
-/// A list of colourings without repeats. Only `add` takes memory.
+/// A list of colourings without repeats. Only `add` and `add_with` take memory.
 pub trait Seen: Drop {
     /// The colourings, in the order in which they occurred.
     ghost content: { Self → List (List Cell) };
@@ -19,6 +19,11 @@ pub trait Seen: Drop {
 
     /// The place of the equal colouring.
     fn holds(&self, colouring: &Colouring) -> Option<usize>
+        ensures { result ≡ place_in (content self.now) colouring.now };
+
+    /// The same, for a caller that knows the key of the colouring.
+    fn holds_with(&self, colouring: &Colouring, key: u64) -> Option<usize>
+        requires { key ≡ key_of colouring.now }
         ensures { result ≡ place_in (content self.now) colouring.now };
 
     /// The colouring at this place.
@@ -37,57 +42,15 @@ pub trait Seen: Drop {
         ensures ok { OnOk result (content self.new ≡ content self.old ++ colouring ∷ []) }
         ensures err { OnErr result (content self.new ≡ content self.old) };
 
+    /// The same, for a caller that knows the key of the colouring.
+    fn add_with(&mut self, colouring: Colouring, key: u64) -> Result<(), AllocError>
+        requires key { key ≡ key_of colouring }
+        requires fresh { place_in (content self.old) colouring ≡ None }
+        ensures ok { OnOk result (content self.new ≡ content self.old ++ colouring ∷ []) }
+        ensures err { OnErr result (content self.new ≡ content self.old) };
+
     /// Takes the last colouring off.
     fn take_last(&mut self)
         requires { 0 < length (content self.old) }
         ensures { content self.new ≡ take (length (content self.old) - 1) (content self.old) };
-}
-
-/// The colourings in a vector.
-#[derive(Drop)]
-pub struct ListSeen {
-    colourings: Vec<Colouring>,
-}
-
-impl Model for ListSeen {
-    ghost use Rattle.std.specs.Prelude.{List, IsFalse};
-    ghost use Rattle.go_points.specs.declared.Cell.{Cell};
-    ghost use Rattle.go_turns.specs.History.{repeats};
-
-    ghost Value = { List (List Cell) };
-
-    ghost view = { λ s. s.colourings.items };
-
-    ghost invariant = { λ s. IsFalse (repeats s.colourings.items) };
-}
-
-impl Seen for ListSeen {
-    ghost content = { λ s. s };
-
-    fn new(alloc: Global) -> ListSeen {
-        ListSeen {
-            colourings: Vec::new(alloc),
-        }
-    }
-
-    fn holds(&self, colouring: &Colouring) -> Option<usize> {
-        self.colourings.iter().position(|seen| colouring == seen)
-    }
-
-    fn at(&self, place: usize) -> &Colouring {
-        &self.colourings[place]
-    }
-
-    fn len(&self) -> usize {
-        self.colourings.len()
-    }
-
-    fn add(&mut self, colouring: Colouring) -> Result<(), AllocError> {
-        self.colourings.push(colouring)?;
-        Ok(())
-    }
-
-    fn take_last(&mut self) {
-        let _last = self.colourings.pop();
-    }
 }

@@ -22,6 +22,7 @@ use Rattle.go_turns.proofs.Repeats.{no_position, no_element}
 use Rattle.target_game.specs.State.{Game, GameState}
 use Rattle.target_game.specs.Legal.{holds_point, legal, legal_turns}
 use Rattle.target_game.specs.Next.{next}
+use Rattle.target_game.specs.Over.{over, targets_stand}
 use Rattle.target_game.proofs.Facts.{map_all}
 use Rattle.target_game.specs.Kept.{kept_state, turn_or_pass, turn_from}
 
@@ -34,6 +35,15 @@ occurred_place h c = go (has_occurred h c) refl (place_in h c) refl
     go true e (Some p) f = refl
     go false e None f = refl
     go false e (Some p) f = absurd (cc (no_position (same_cells c) h e, f))
+
+pub occurred_is : (h : List (List Cell)) (c : List Cell) → is_some (place_in h c) ≡ has_occurred h c
+occurred_is h c = go (has_occurred h c) (place_in h c) (occurred_place h c)
+  where
+    go : (b : Bool) (o : Option ℕ) → not b ≡ is_none o → is_some o ≡ b
+    go true None e = absurd (cc)
+    go true (Some p) e = refl
+    go false None e = refl
+    go false (Some p) e = absurd (cc)
 
 pub new_place : (h : List (List Cell)) (c : List Cell) → not (has_occurred h c) ≡ true → place_in h c ≡ None
 new_place h c e = no_position (same_cells c) h (not_true (has_occurred h c) e)
@@ -155,13 +165,6 @@ ply_at n p on =
     let here : on_board n p ≡ true = and_both (nat_lt p.row n) (nat_lt p.column n) (lt-ltb p.row n on.row_within) (lt-ltb p.column n on.column_within) in
     ap (λ b. move (if b then number_of n p else n * n)) here
 
--- a missing place, by the test that it is there
-pub none_from_some : (o : Option ℕ) (b : Bool) → is_some o ≡ not b → b ≡ is_none o
-none_from_some None true h = refl
-none_from_some None false h = absurd (cc)
-none_from_some (Some p) true h = absurd (cc)
-none_from_some (Some p) false h = refl
-
 -- whether the targets stand, by their places
 pub stand_is : (n : ℕ) (c : List Cell) (k : Colour) (ts : List Place) → list_all (λ p. same_cell (cell_at c p) (Stone k)) (map (number_of n) ts) ≡ list_all (λ t. same_cell (cell_at c (number_of n t)) (Stone k)) ts
 stand_is n c k ts = map_all (number_of n) (λ p. same_cell (cell_at c p) (Stone k)) ts
@@ -175,3 +178,7 @@ stand_yes f ts left end had = sym had ∙ ap (list_all f) end
 pub open_none : (o : Option Colour) (b : Bool) → b ≡ is_some o → b ≡ false → is_none o ≡ true
 open_none None b e f = refl
 open_none (Some x) b e f = absurd (cc)
+
+-- who has won where a colouring stands after a move, by whether its targets stand
+pub winner_is : (s : GameState) (c : List Cell) (b : Bool) → b ≡ targets_stand (record s { colouring = c }) → over (record s { colouring = c; passes = 0 }) ≡ (if b then None else Some (opponent_of s.game.defender))
+winner_is s c b e = ap (λ (a : Bool). if a then None else Some (opponent_of s.game.defender)) (sym e)

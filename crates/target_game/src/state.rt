@@ -1,14 +1,14 @@
 //! States of the target game, and the play from them.
 
-ghost use Rattle.std.specs.Prelude.{◌≡◌, ◌≤◌, ◌<◌, ◌&&◌, true, [], ◌∷◌, IsTrue, IfOk, IfErr, OnOk, OnErr, None, is_none, if◌then◌else◌, map, length};
+ghost use Rattle.std.specs.Prelude.{◌≡◌, ◌≤◌, ◌<◌, ◌&&◌, true, false, [], ◌∷◌, IsTrue, IfOk, IfErr, OnOk, OnErr, None, is_none, if◌then◌else◌, map, length};
 ghost use Rattle.go_points.specs.Grid.{cell_at, same_cell, side_of};
 ghost use Rattle.go_points.specs.Liberty.{first_without_liberty};
 ghost use Rattle.go_points.specs.Move.{after_move};
 ghost use Rattle.go_points.specs.Place.{IsOn, number_of};
-ghost use Rattle.go_points.specs.Ply.{ply_of, move};
+ghost use Rattle.go_points.specs.Ply.{ply_of, move, pass};
 ghost use Rattle.go_points.specs.declared.Cell.TheVariants.{Empty};
-ghost use Rattle.go_turns.specs.History.{place_in};
-ghost use Rattle.go_turns.specs.Key.{key_of};
+ghost use Rattle.go_turns.specs.History.{place_in, has_occurred};
+ghost use Rattle.stone_key.specs.Key.{key_of};
 ghost use Rattle.target_game.specs.State.{Game, GameState, GameProblem, Line, start, state_alone};
 ghost use Rattle.target_game.specs.Legal.{legal, legal_turns, holds_point};
 ghost use Rattle.target_game.specs.Next.{next};
@@ -16,9 +16,11 @@ ghost use Rattle.target_game.specs.Over.{over, targets_stand};
 ghost use Rattle.target_game.specs.Kept.{turn_from, at_fault, IsAtFault};
 
 use crate::MAX_TURNS;
+use crate::position::Position;
 use crate::problem::Problem;
+use crate::questions::all_hold;
 use arrayvec::ArrayVec;
-use go_points::{Colour, Colouring, Point, PointSet, Size, Turn};
+use go_points::{Cell, Colour, Colouring, Point, PointSet, Size, Turn};
 use go_turns::{Board, Record, Seen, TurnFault};
 use std::alloc::{AllocError, Global};
 use std::marker::Model;
@@ -36,7 +38,7 @@ pub enum AtFault {
 
 /// A state of the game, with the turns that led to it from where it was made.
 #[derive(Drop)]
-pub struct State<B: Board + Copy, S: Seen> {
+pub struct State<B: Board, S: Seen> {
     played: Record<B, S>,
     mover: Colour,
     targets: PointSet,
@@ -44,7 +46,7 @@ pub struct State<B: Board + Copy, S: Seen> {
     region: PointSet,
 }
 
-impl<B: Board + Copy, S: Seen> Model for State<B, S> {
+impl<B: Board, S: Seen> Model for State<B, S> {
     ghost use Rattle.std.specs.List.{All};
     ghost use Rattle.go_points.specs.Place.{IsOn};
     ghost use Rattle.target_game.specs.State.{Line};
@@ -67,7 +69,7 @@ fn at_fault(fault: TurnFault) -> AtFault
     }
 }
 
-impl<B: Board + Copy, S: Seen> State<B, S> {
+impl<B: Board, S: Seen> State<B, S> {
     /// The start of the problem.
     pub fn of(alloc: Global, problem: &Problem) -> Result<State<B, S>, AllocError>
         ensures { IfOk result (λ s. s ≡ record { state = start problem.now; before = [] }) }
@@ -149,15 +151,61 @@ impl<B: Board + Copy, S: Seen> State<B, S> {
         self.region.has(point) && self.played.cell(point).is_empty()
     }
 
+    /// What stands after the mover's move at an empty point.
+    pub(crate) fn position_after(&self, point: Point) -> Position
+        requires on_board { IsOn self.now.state.game.size point }
+        requires empty { same_cell (cell_at self.now.state.colouring (number_of self.now.state.game.size point)) Empty ≡ true }
+        ensures value { result.colouring ≡ after_move self.now.state.game.size self.now.state.colouring self.now.state.mover (number_of self.now.state.game.size point) }
+        ensures size { side_of result.colouring ≡ self.now.state.game.size }
+    {
+        let mut board = self.played.board().copy();
+        let _removed = board.play(self.mover, point);
+        Position::of(&board)
+    }
+
+    /// Whether the colouring has occurred.
+    pub(crate) fn has_occurred(&self, position: &Position) -> bool
+        ensures { result ≡ has_occurred self.now.state.history position.now.colouring }
+    {
+        self.played
+            .seen()
+            .holds_with(&position.colouring, position.key)
+            .is_some()
+    }
+
+    /// Who has won where this colouring stands after a move.
+    pub(crate) fn winner_at(&self, colouring: &Colouring) -> Option<Colour>
+        requires { side_of colouring.now ≡ self.now.state.game.size }
+        ensures { result ≡ over (record self.now.state { colouring = colouring.now; passes = 0 }) }
+    {
+        if all_hold(colouring, &self.targets, Cell::Stone(self.defender)) {
+            None
+        } else {
+            Some(self.defender.opponent())
+        }
+    }
+
+    /// Who has won after one more pass.
+    pub(crate) fn winner_after_pass(&self) -> Option<Colour>
+        ensures { result ≡ over (next self.now.state pass) }
+    {
+        let stands = self.targets_stand();
+        if !stands {
+            Some(self.defender.opponent())
+        } else if self.played.passes() == 1 {
+            Some(self.defender)
+        } else {
+            None
+        }
+    }
+
     /// The colouring after the mover's move at an empty point.
     pub fn result(&self, point: Point) -> Colouring
         requires on_board { IsOn self.now.state.game.size point }
         requires empty { same_cell (cell_at self.now.state.colouring (number_of self.now.state.game.size point)) Empty ≡ true }
         ensures { result ≡ after_move self.now.state.game.size self.now.state.colouring self.now.state.mover (number_of self.now.state.game.size point) }
     {
-        let mut board = *self.played.board();
-        let _removed = board.play(self.mover, point);
-        board.colouring()
+        self.position_after(point).colouring
     }
 
     /// Whether the mover may move at the point, if nobody has won.
@@ -165,7 +213,7 @@ impl<B: Board + Copy, S: Seen> State<B, S> {
         requires { IsOn self.now.state.game.size point }
         ensures { result ≡ legal self.now.state (move (number_of self.now.state.game.size point)) }
     {
-        self.is_open(point) && self.holds(&self.result(point)).is_none()
+        self.is_open(point) && !self.has_occurred(&self.position_after(point))
     }
 
     /// The legal turns, points ascending and then pass; none where somebody has won.

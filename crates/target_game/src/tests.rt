@@ -1,6 +1,6 @@
 //! Problems and play on small boards, with results worked out by the rules.
 
-use crate::{AtFault, BadProblem, MAX_HISTORY, Problem, State};
+use crate::{AtFault, BadProblem, Child, MAX_HISTORY, Problem, State};
 use go_points::{Cell, Colour, Colouring, MAX_SIZE, Point, PointSet, Size, Turn, sgf_point};
 use go_turns::{PlayBoard, PlaySeen};
 use std::alloc::Global;
@@ -96,6 +96,12 @@ fn a_capture_wins_for_the_attacker(rt: HostRuntime) {
 fn a_state_has_the_key_of_its_colouring(rt: HostRuntime) {
     let mut state = start(&rt, rt.alloc(), &["O..X....."], Colour::Black, "aa", "ba");
     assert_eq!(rt; state.key(), 3_778_989_091_018_136_610);
+    let capture = Child {
+        key: 3_257_418_155_030_562_517,
+        winner: Some(Colour::Black),
+    };
+    assert_eq!(rt; state.child(turn(&rt, "ba")), Some(capture));
+    assert_eq!(rt; state.child(turn(&rt, "ca")), None);
     assert!(rt; play(&mut state, turn(&rt, "ba")));
     assert_eq!(rt; state.key(), 3_257_418_155_030_562_517);
     let other_mover = start(&rt, rt.alloc(), &["O..X....."], Colour::White, "aa", "ba");
@@ -109,6 +115,8 @@ fn two_passes_win_for_the_defender(rt: HostRuntime) {
     assert!(rt; play(&mut state, Turn::Pass));
     assert_eq!(rt; state.passes(), 1);
     assert_eq!(rt; state.over(), None);
+    let end = state.child(Turn::Pass);
+    assert_eq!(rt; end.and_then(|child| child.winner), Some(Colour::White));
     assert!(rt; play(&mut state, Turn::Pass));
     assert_eq!(rt; state.over(), Some(Colour::White));
     assert!(rt; !play(&mut state, Turn::Pass));
@@ -130,6 +138,7 @@ fn the_past_decides_at_a_ko(rt: HostRuntime) {
         "ba",
     );
     assert_eq!(rt; barred.turns().as_slice(), [Turn::Pass].as_slice());
+    assert_eq!(rt; barred.child(turn(&rt, "ba")), None);
     assert_eq!(rt; barred.holds(&three(&rt, ".XOXO....")), Some(0));
     assert_eq!(rt; barred.holds(&three(&rt, ".X.XO....")), None);
 }

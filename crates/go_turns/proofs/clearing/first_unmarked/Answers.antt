@@ -6,7 +6,8 @@ use Rattle.go_points.specs.declared.Cell.TheVariants.{Stone}
 use Rattle.go_points.specs.Grid.{side_of, cell_at}
 use Rattle.go_points.specs.Place.{number_of}
 use Rattle.go_points.specs.Liberty.{lacks_liberty}
-use Rattle.go_turns.proofs.Liberties.{first_found, first_none, lacks_empty, lacks_stone}
+use Rattle.go_points.proofs.Liberties.{first_found, first_none, lacks_empty}
+use Rattle.go_turns.proofs.Marks.{lacks_stone}
 use Rattle.go_turns.proofs.clearing.first_unmarked.Goals as goal
 use Rattle.go_turns.proofs.clearing.first_unmarked.Goals.{in-Empty, in-Stone-Black, in-Stone-White}
 

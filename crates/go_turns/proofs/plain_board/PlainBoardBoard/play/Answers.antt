@@ -3,7 +3,7 @@ use Rattle.std.proofs.Common.{◌∙◌, ap}
 use Rattle.go_points.specs.Grid.{side_of}
 use Rattle.go_points.specs.Place.{number_of}
 use Rattle.go_points.specs.Move.{after_move, taken_by_move}
-use Rattle.go_turns.proofs.Moves.{move_made, move_leaves, move_takes}
+use Rattle.go_points.proofs.Moves.{move_made, move_leaves, move_takes}
 use Rattle.go_turns.proofs.plain_board.PlainBoardBoard.play.Goals as goal
 
 pub invariant_of-self : goal.invariant_of-self

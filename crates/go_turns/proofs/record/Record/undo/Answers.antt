@@ -5,7 +5,7 @@ use Rattle.go_points.specs.declared.Cell.{Cell}
 use Rattle.go_points.specs.Grid.{side_of}
 use Rattle.go_points.specs.Place.{number_of}
 use Rattle.go_points.specs.Liberty.{first_without_liberty}
-use Rattle.go_turns.specs.declared.board.NoLiberty.{NoLiberty}
+use Rattle.go_chains.specs.declared.NoLiberty.{NoLiberty}
 use Rattle.go_turns.specs.declared.record.Step.{Step}
 use Rattle.go_turns.specs.Record.{Moment, GameRecord, undo_of, DidWithoutMemory}
 use Rattle.go_turns.specs.Steps.{CanStand, IsAt}

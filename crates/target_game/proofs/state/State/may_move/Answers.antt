@@ -1,8 +1,8 @@
-use Rattle.std.proofs.Common.{sym, ap, ◌∙◌, not, is_none, ◌<◌, ◌*◌}
+use Rattle.std.proofs.Common.{sym, ap, ◌∙◌, not, ◌<◌, ◌*◌}
 use Rattle.std.proofs.lemmas.Nat.{mul-add-lt}
 use Rattle.go_points.specs.Place.{number_of}
 use Rattle.go_turns.specs.History.{has_occurred}
-use Rattle.target_game.proofs.Playing.{occurred_place, legal_open, none_from_some}
+use Rattle.target_game.proofs.Playing.{legal_open}
 use Rattle.target_game.proofs.state.State.may_move.Goals as goal
 
 pub returns-then-is_open : goal.returns-then-is_open
@@ -10,5 +10,6 @@ returns-then-is_open g c =
     let s = c.args.self.now.state in
     let p = number_of s.game.size c.args.point in
     let on : p < s.game.size * s.game.size = mul-add-lt c.args.point.row s.game.size c.args.point.column s.game.size c.requires.row_within c.requires.column_within in
-    none_from_some c.holds.result c.is_none.result c.is_none.ensures ∙ ap is_none c.holds.ensures ∙ sym (occurred_place s.history c.result.result) ∙ ap (λ x. not (has_occurred s.history x)) c.result.ensures
+    ap not c.has_occurred.ensures
+    ∙ ap (λ x. not (has_occurred s.history x)) c.position_after.ensures.value
     ∙ sym (legal_open s p on (sym c.is_open.ensures ∙ c.if-is_open.true))

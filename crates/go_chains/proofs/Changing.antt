@@ -1,0 +1,36 @@
+-- Points pass one by one to what another colouring holds.
+use Rattle.std.proofs.Common.{◌≡◌, ◌≢◌, ℕ, ◌+◌, ◌*◌, ◌<◌, ◌⊎◌, inl, inr, List, sym, ◌∙◌, subst, arith}
+use Rattle.std.proofs.lemmas.Bool.{cases_eq}
+use Rattle.go_points.specs.declared.Cell.{Cell}
+use Rattle.go_points.specs.declared.Cell.TheVariants.{Empty}
+use Rattle.go_points.specs.Grid.{cell_at}
+
+-- the point is empty, or as it is wanted
+abbrev pub MayStay : List Cell → List Cell → ℕ → Type 0
+MayStay now wanted p = (cell_at now p ≡ Empty) ⊎ (cell_at now p ≡ cell_at wanted p)
+
+pub stays_more : (n : ℕ) (now after wanted : List Cell) (i : ℕ) → i < n * n → ((q : ℕ) → q < n * n → (cell_at after q ≡ Empty) ⊎ (cell_at after q ≡ cell_at now q)) → MayStay after wanted i
+    → ((p : ℕ) → p < i → MayStay now wanted p) → (p : ℕ) → p < i + 1 → MayStay after wanted p
+stays_more n now after wanted i on emptier here before p less = elim (cases_eq p i) [
+  | inl same ↦ subst (MayStay after wanted) (sym same) here
+  | inr other ↦ (let earlier : p < i = grind (arith, less, other) in go earlier (emptier p (omega (arith, earlier, on))) (before p earlier))
+]
+  where
+    go : p < i → (cell_at after p ≡ Empty) ⊎ (cell_at after p ≡ cell_at now p) → MayStay now wanted p → MayStay after wanted p
+    go earlier (inl e) m = inl e
+    go earlier (inr e) (inl f) = inl (e ∙ f)
+    go earlier (inr e) (inr f) = inr (e ∙ f)
+
+pub stays_filled : (n : ℕ) (now after wanted : List Cell) (i : ℕ) → cell_at after i ≡ cell_at wanted i → ((q : ℕ) → q ≢ i → cell_at after q ≡ cell_at now q)
+    → ((p : ℕ) → p < n * n → MayStay now wanted p) → (p : ℕ) → p < n * n → MayStay after wanted p
+stays_filled n now after wanted i here others before p on = elim (cases_eq p i) [
+  | inl same ↦ inr (subst (λ z. cell_at after z ≡ cell_at wanted z) (sym same) here)
+  | inr other ↦ elim (before p on) [ inl e ↦ inl (others p other ∙ e) | inr e ↦ inr (others p other ∙ e) ]
+]
+
+pub filled_more : (now after wanted : List Cell) (i : ℕ) → cell_at after i ≡ cell_at wanted i → ((q : ℕ) → q ≢ i → cell_at after q ≡ cell_at now q)
+    → ((p : ℕ) → p < i → cell_at now p ≡ cell_at wanted p) → (p : ℕ) → p < i + 1 → cell_at after p ≡ cell_at wanted p
+filled_more now after wanted i here others before p less = elim (cases_eq p i) [
+  | inl same ↦ subst (λ z. cell_at after z ≡ cell_at wanted z) (sym same) here
+  | inr other ↦ (let earlier : p < i = grind (arith, less, other) in others p other ∙ before p earlier)
+]

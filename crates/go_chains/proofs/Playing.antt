@@ -1,0 +1,98 @@
+-- What a move leaves, from its three steps.
+use Rattle.std.proofs.Common.{◌≡◌, ◌≢◌, ℕ, ◌*◌, ◌<◌, ◌≤◌, ◌⊎◌, inl, inr, List, length, slice_index, set, refl, sym, ◌∙◌, ap, subst, arith}
+use Rattle.std.proofs.lemmas.Bool.{cases_eq}
+use Rattle.std.proofs.lemmas.List.{get_or-set_same, get_or-set_other}
+use Rattle.go_points.specs.declared.TheConstants.{MAX_POINTS}
+use Rattle.go_points.specs.declared.Colour.{Colour}
+use Rattle.go_points.specs.declared.Cell.{Cell}
+use Rattle.go_points.specs.declared.Cell.TheVariants.{Empty, Stone}
+use Rattle.go_points.specs.Grid.{opponent_of, same_cell, cell_at}
+use Rattle.go_points.specs.Reach.{Reaches}
+use Rattle.go_points.specs.Clear.{clear}
+use Rattle.go_points.proofs.Cells.{opponent_ne, adjacent_on_board}
+use Rattle.go_points.proofs.Clearing.{one_or_other, cleared_reaches}
+use Rattle.go_chains.specs.Chains.{nowhere, touches, liberty_count, IsSettled, IsBoard, IsDead, KillsNone, KeepsOthers}
+use Rattle.go_chains.proofs.Counts.{touches_same, touches_to, count_filled, reaches_counted}
+use Rattle.go_points.proofs.Quiet.{clear_none}
+use Rattle.go_chains.proofs.Dying.{head_holds, stone_reaches}
+
+same_stone : (k j : Colour) (a : Cell) → a ≡ Stone k → a ≡ Stone j → k ≡ j
+same_stone k j a is was = cc (is, was)
+
+-- a board without dead chains
+pub board_of : (n : ℕ) (c : List Cell) (heads next counts : List ℕ) → n * n ≤ MAX_POINTS → IsSettled n c heads next counts → ((h : ℕ) → IsDead n c heads h → ⊥) → IsBoard n c heads next counts
+board_of n c heads next counts room settled none = record {
+  settled = settled;
+  alive = λ h on own.
+      let right = settled.counted.right h on (λ e. omega (arith, on, room, e)) own in
+      let split : (liberty_count n c heads h ≡ 0) ⊎ (0 < liberty_count n c heads h) = grind arith in
+      elim split [
+        | inl dead ↦ absurd (none h (record { on = on; own = own; none = dead }))
+        | inr some ↦ omega (arith, right, some)
+      ];
+}
+
+-- the stone is put down: c becomes d
+module _ (n : ℕ) (c d : List Cell) (heads next counts more next' counts' : List ℕ) (k : Colour) (p : ℕ) (room : n * n ≤ MAX_POINTS) (whole : length c ≡ n * n) (on : p < n * n) (free : slice_index heads p ≡ nowhere)
+    (board : IsBoard n c heads next counts) (put : d ≡ set c p (Stone k)) (others : KeepsOthers n p heads more) (settled : IsSettled n d more next' counts') where
+  here : cell_at d p ≡ Stone k
+  here = ap (λ l. cell_at l p) put ∙ get_or-set_same c p (Stone k) Empty (omega (arith, on, whole))
+
+  -- a chain without liberty that the stone does not belong to stands beside it
+  dead_beside : (h : ℕ) → IsDead n d more h → slice_index more p ≢ h → 0 < touches n more h p
+  dead_beside h dead away =
+      let same = others h dead.on dead.own away in
+      let change = count_filled n c d heads more h p on same.points (λ q ne. ap (λ l. cell_at l q) put ∙ get_or-set_other c p q (Stone k) Empty ne) (board.settled.chains.empties p on free) (ap (λ a. same_cell a Empty) here) in
+      let some = board.alive h dead.on same.own in
+      let right = board.settled.counted.right h dead.on (λ e. omega (arith, dead.on, room, e)) same.own in
+      let kept = touches_same n heads more h p same.points in
+      omega (arith, change, some, right, dead.none, kept)
+
+  -- a chain of the other colour among them
+  pub captures_beside : (j : Colour) → j ≡ opponent_of k → (h : ℕ) → IsDead n d more h → cell_at d h ≡ Stone j → 0 < touches n more h p
+  captures_beside j other h dead stone = dead_beside h dead (λ e. opponent_ne k (same_stone k (opponent_of k) (cell_at d h) (sym (head_holds n d more next' p h room settled.chains on dead.on e) ∙ here) (stone ∙ ap Stone other)))
+
+  -- the other colour is cleared: d becomes e
+  module _ (e : List Cell) (last counts'' : List ℕ) (cleared : e ≡ clear n d (opponent_of k)) (kills : KillsNone n d more e last) (still : IsSettled n e last next' counts'') where
+    own_colour : (h : ℕ) → IsDead n e last h → cell_at e h ≡ Stone k
+    own_colour h dead = go (cell_at e h) refl
+      where
+        go : (a : Cell) → cell_at e h ≡ a → a ≡ Stone k
+        go Empty is = absurd (still.chains.stones h dead.on (λ f. omega (arith, dead.on, room, sym dead.own ∙ f)) is)
+        go (Stone i) is = elim (one_or_other k i) [
+          | inl own ↦ ap Stone own
+          | inr other ↦ (let reaches : Reaches n e h Empty = subst (λ l. Reaches n l h Empty) (sym cleared) (cleared_reaches n d (opponent_of k) h (ap (λ l. cell_at l h) (sym cleared) ∙ is ∙ ap Stone other)) in
+              let some = reaches_counted n e last h still.closed reaches in
+              let same : liberty_count n e last (slice_index last h) ≡ liberty_count n e last h = ap (liberty_count n e last) dead.own in
+              absurd (omega (arith, some, same, dead.none)))
+        ]
+
+    -- the chain of the stone is the only one that may have no liberty
+    own_dead : (h : ℕ) → IsDead n e last h → slice_index last p ≡ h
+    own_dead h dead =
+        let was = kills h dead in
+        elim (cases_eq (slice_index more p) h) [
+          | inl same ↦ was.points p on same
+          | inr away ↦ absurd (apart away was.dead (sym was.cell ∙ own_colour h dead))
+        ]
+      where
+        apart : slice_index more p ≢ h → IsDead n d more h → cell_at d h ≡ Stone k → ⊥
+        apart away was stone =
+            let found = touches_to n more h p (dead_beside h was away) in
+            let q_on = (adjacent_on_board n p found.0 found.1).1 in
+            let holds = head_holds n d more next' found.0 h room settled.chains q_on was.on found.2 in
+            away (settled.closed.same p found.0 found.1 (λ f. cc (here, f)) (holds ∙ stone ∙ sym here) ∙ found.2)
+
+    -- its own chain is taken off if it has none: e becomes f
+    module _ (f : List Cell) (final counts3 : List ℕ) (full : length f ≡ n * n) (end : IsSettled n f final next' counts3) (alike : clear n f k ≡ clear n e k) (kills' : KillsNone n e last f final)
+        (passed : (h : ℕ) → IsDead n f final h → cell_at f h ≡ Stone k → slice_index last p ≢ h) where
+      none_dead : (h : ℕ) → IsDead n f final h → ⊥
+      none_dead h dead =
+          let was = kills' h dead in
+          passed h dead (was.cell ∙ own_colour h was.dead) (own_dead h was.dead)
+
+      pub move_ends : IsBoard n f final next' counts3
+      move_ends = board_of n f final next' counts3 room end none_dead
+
+      pub move_clears : f ≡ clear n e k
+      move_clears = sym (clear_none n f k full (λ q q_on stone. stone_reaches n f final next' counts3 q room end q_on (λ g. cc (g, stone)) (none_dead (slice_index final q)))) ∙ alike

@@ -1,0 +1,105 @@
+use Rattle.std.proofs.Common.{rules, ◌≡◌, ◌≢◌, ◌*◌, ◌<◌, ◌≤◌, ℕ, length, slice_index, sym, ◌∙◌, ap, subst}
+use Rattle.go_points.specs.declared.TheConstants.{MAX_POINTS}
+use Rattle.go_points.specs.declared.Cell.TheVariants.{Stone}
+use Rattle.go_points.specs.Grid.{opponent_of, cell_at, side_of}
+use Rattle.go_points.specs.Clear.{clear}
+use Rattle.go_points.proofs.Moves.{move_made, move_takes}
+use Rattle.go_chains.specs.Chains.{touches, IsSettled, IsDead, KillsNone}
+use Rattle.go_chains.proofs.Playing.{captures_beside, move_ends, move_clears}
+use Rattle.go_chains.proofs.moves.make_move.Goals as goal
+
+pub capture-captured-requires-clause-beside : goal.capture-captured-requires-clause-beside
+capture-captured-requires-clause-beside c =
+    let before = c.args.colouring.now in
+    let n = side_of before in
+    let put = c.fill.new.colouring in
+    let room : n * n ≤ MAX_POINTS = search rules in
+    subst (λ (m : ℕ). (h : ℕ) → IsDead m put c.fill.new.heads h → cell_at put h ≡ Stone c.opponent.result → 0 < touches m c.fill.new.heads h c.args.number) (sym c.fill.ensures.size)
+    (captures_beside n before put c.args.heads.now c.args.next.now c.args.counts.now c.fill.new.heads c.fill.new.next c.fill.new.counts c.args.colour c.args.number room c.size.ensures.colouring.full c.requires.on c.requires.free
+    c.requires.board c.fill.ensures.cells c.fill.ensures.others c.fill.ensures.settled c.opponent.result c.opponent.ensures)
+
+pub returns-clause-board : goal.returns-clause-board
+returns-clause-board c =
+    let before = c.args.colouring.now in
+    let n = side_of before in
+    let k = c.args.colour in
+    let p = c.args.number in
+    let put = c.fill.new.colouring in
+    let first = c.capture-captured.new.colouring in
+    let last = c.remove_dead-lost.new.colouring in
+    let more = c.fill.new.heads in
+    let then = c.capture-captured.new.heads in
+    let final = c.remove_dead-lost.new.heads in
+    let next = c.fill.new.next in
+    let room : n * n ≤ MAX_POINTS = search rules in
+    let side : side_of first ≡ n = c.capture-captured.ensures.size ∙ c.fill.ensures.size in
+    let full : length last ≡ n * n = c.size-2.ensures.colouring.full ∙ ap (λ (m : ℕ). m * m) (c.remove_dead-lost.ensures.size ∙ side) in
+    let cleared : first ≡ clear n put (opponent_of k) = c.capture-captured.ensures.cleared ∙ ap (λ (m : ℕ). clear m put c.opponent.result) c.fill.ensures.size ∙ ap (clear n put) c.opponent.ensures in
+    let kills : KillsNone n put more first then = subst (λ (m : ℕ). KillsNone m put more first then) c.fill.ensures.size c.capture-captured.ensures.kills in
+    let still : IsSettled n first then next c.capture-captured.new.counts = subst (λ (m : ℕ). IsSettled m first then next c.capture-captured.new.counts) c.fill.ensures.size c.capture-captured.ensures.settled in
+    let end : IsSettled n last final next c.remove_dead-lost.new.counts = subst (λ (m : ℕ). IsSettled m last final next c.remove_dead-lost.new.counts) side c.remove_dead-lost.ensures.settled in
+    let alike : clear n last k ≡ clear n first k = subst (λ (m : ℕ). clear m last k ≡ clear m first k) side c.remove_dead-lost.ensures.cleared in
+    let kills' : KillsNone n first then last final = subst (λ (m : ℕ). KillsNone m first then last final) side c.remove_dead-lost.ensures.kills in
+    let passed : (h : ℕ) → IsDead n last final h → cell_at last h ≡ Stone k → slice_index then p ≢ h =
+    subst (λ (m : ℕ). (h : ℕ) → IsDead m last final h → cell_at last h ≡ Stone k → slice_index then p ≢ h) side c.remove_dead-lost.ensures.passed in
+    move_ends n before put c.args.heads.now c.args.next.now c.args.counts.now more next c.fill.new.counts k p room c.size.ensures.colouring.full c.requires.on c.requires.free
+    c.requires.board c.fill.ensures.cells c.fill.ensures.others c.fill.ensures.settled first then c.capture-captured.new.counts cleared kills still last final c.remove_dead-lost.new.counts full end alike kills' passed
+
+pub returns-clause-made : goal.returns-clause-made
+returns-clause-made c =
+    let before = c.args.colouring.now in
+    let n = side_of before in
+    let k = c.args.colour in
+    let p = c.args.number in
+    let put = c.fill.new.colouring in
+    let first = c.capture-captured.new.colouring in
+    let last = c.remove_dead-lost.new.colouring in
+    let more = c.fill.new.heads in
+    let then = c.capture-captured.new.heads in
+    let final = c.remove_dead-lost.new.heads in
+    let next = c.fill.new.next in
+    let room : n * n ≤ MAX_POINTS = search rules in
+    let side : side_of first ≡ n = c.capture-captured.ensures.size ∙ c.fill.ensures.size in
+    let full : length last ≡ n * n = c.size-2.ensures.colouring.full ∙ ap (λ (m : ℕ). m * m) (c.remove_dead-lost.ensures.size ∙ side) in
+    let cleared : first ≡ clear n put (opponent_of k) = c.capture-captured.ensures.cleared ∙ ap (λ (m : ℕ). clear m put c.opponent.result) c.fill.ensures.size ∙ ap (clear n put) c.opponent.ensures in
+    let kills : KillsNone n put more first then = subst (λ (m : ℕ). KillsNone m put more first then) c.fill.ensures.size c.capture-captured.ensures.kills in
+    let still : IsSettled n first then next c.capture-captured.new.counts = subst (λ (m : ℕ). IsSettled m first then next c.capture-captured.new.counts) c.fill.ensures.size c.capture-captured.ensures.settled in
+    let end : IsSettled n last final next c.remove_dead-lost.new.counts = subst (λ (m : ℕ). IsSettled m last final next c.remove_dead-lost.new.counts) side c.remove_dead-lost.ensures.settled in
+    let alike : clear n last k ≡ clear n first k = subst (λ (m : ℕ). clear m last k ≡ clear m first k) side c.remove_dead-lost.ensures.cleared in
+    let kills' : KillsNone n first then last final = subst (λ (m : ℕ). KillsNone m first then last final) side c.remove_dead-lost.ensures.kills in
+    let passed : (h : ℕ) → IsDead n last final h → cell_at last h ≡ Stone k → slice_index then p ≢ h =
+    subst (λ (m : ℕ). (h : ℕ) → IsDead m last final h → cell_at last h ≡ Stone k → slice_index then p ≢ h) side c.remove_dead-lost.ensures.passed in
+    let clears : last ≡ clear n first k =
+    move_clears n before put c.args.heads.now c.args.next.now c.args.counts.now more next c.fill.new.counts k p room c.size.ensures.colouring.full c.requires.on c.requires.free
+    c.requires.board c.fill.ensures.cells c.fill.ensures.others c.fill.ensures.settled first then c.capture-captured.new.counts cleared kills still last final c.remove_dead-lost.new.counts full end alike kills' passed in
+    move_made before put first last k c.opponent.result p c.fill.ensures.cells c.fill.ensures.size c.opponent.ensures c.capture-captured.ensures.cleared c.capture-captured.ensures.size (clears ∙ ap (λ (m : ℕ). clear m first k) (sym side))
+
+pub returns-clause-taken : goal.returns-clause-taken
+returns-clause-taken c =
+    let before = c.args.colouring.now in
+    let n = side_of before in
+    let k = c.args.colour in
+    let p = c.args.number in
+    let put = c.fill.new.colouring in
+    let first = c.capture-captured.new.colouring in
+    let last = c.remove_dead-lost.new.colouring in
+    let more = c.fill.new.heads in
+    let then = c.capture-captured.new.heads in
+    let final = c.remove_dead-lost.new.heads in
+    let next = c.fill.new.next in
+    let room : n * n ≤ MAX_POINTS = search rules in
+    let side : side_of first ≡ n = c.capture-captured.ensures.size ∙ c.fill.ensures.size in
+    let full : length last ≡ n * n = c.size-2.ensures.colouring.full ∙ ap (λ (m : ℕ). m * m) (c.remove_dead-lost.ensures.size ∙ side) in
+    let cleared : first ≡ clear n put (opponent_of k) = c.capture-captured.ensures.cleared ∙ ap (λ (m : ℕ). clear m put c.opponent.result) c.fill.ensures.size ∙ ap (clear n put) c.opponent.ensures in
+    let kills : KillsNone n put more first then = subst (λ (m : ℕ). KillsNone m put more first then) c.fill.ensures.size c.capture-captured.ensures.kills in
+    let still : IsSettled n first then next c.capture-captured.new.counts = subst (λ (m : ℕ). IsSettled m first then next c.capture-captured.new.counts) c.fill.ensures.size c.capture-captured.ensures.settled in
+    let end : IsSettled n last final next c.remove_dead-lost.new.counts = subst (λ (m : ℕ). IsSettled m last final next c.remove_dead-lost.new.counts) side c.remove_dead-lost.ensures.settled in
+    let alike : clear n last k ≡ clear n first k = subst (λ (m : ℕ). clear m last k ≡ clear m first k) side c.remove_dead-lost.ensures.cleared in
+    let kills' : KillsNone n first then last final = subst (λ (m : ℕ). KillsNone m first then last final) side c.remove_dead-lost.ensures.kills in
+    let passed : (h : ℕ) → IsDead n last final h → cell_at last h ≡ Stone k → slice_index then p ≢ h =
+    subst (λ (m : ℕ). (h : ℕ) → IsDead m last final h → cell_at last h ≡ Stone k → slice_index then p ≢ h) side c.remove_dead-lost.ensures.passed in
+    let clears : last ≡ clear n first k =
+    move_clears n before put c.args.heads.now c.args.next.now c.args.counts.now more next c.fill.new.counts k p room c.size.ensures.colouring.full c.requires.on c.requires.free
+    c.requires.board c.fill.ensures.cells c.fill.ensures.others c.fill.ensures.settled first then c.capture-captured.new.counts cleared kills still last final c.remove_dead-lost.new.counts full end alike kills' passed in
+    move_takes before put first last k c.opponent.result p c.fill.ensures.cells c.fill.ensures.size c.opponent.ensures c.capture-captured.ensures.cleared c.capture-captured.ensures.size (clears ∙ ap (λ (m : ℕ). clear m first k) (sym side))
+    c.capture-captured.result c.remove_dead-lost.result c.size.ensures.colouring.full c.capture-captured.ensures.count c.remove_dead-lost.ensures.count

@@ -1,0 +1,9 @@
+use Rattle.std.proofs.Common.{◌≡◌, ℕ, cond, map, take}
+use Rattle.go_points.specs.declared.Cell.TheVariants.{Empty}
+use Rattle.go_points.specs.Grid.{same_cell, cell_at, side_of}
+use Rattle.go_points.specs.Place.{number_of}
+use Rattle.go_chains.specs.Chains.{total}
+use Rattle.go_chains.proofs.stones.empties_at.Given as goal
+
+abbrev pub invariant-loop-neighbour : goal.invariant-loop-neighbour
+invariant-loop-neighbour l = l.found ≡ total (λ e. cond {A = ℕ} (same_cell (cell_at l.fn.colouring e) Empty) 1 0) (map (number_of (side_of l.fn.colouring)) (take l.neighbour-index l.neighbour-items))

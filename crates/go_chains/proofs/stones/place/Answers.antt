@@ -1,0 +1,58 @@
+use Rattle.std.proofs.Common.{rules, ◌≡◌, ◌≢◌, ◌+◌, ◌*◌, ◌<◌, ◌≤◌, ℕ, List, slice_index, slice_set, sym, ◌∙◌, ap, subst, arith}
+use Rattle.std.proofs.lemmas.List.{get_or-set_same, get_or-set_other}
+use Rattle.go_points.specs.declared.Cell.{Cell}
+use Rattle.go_points.specs.declared.Cell.TheVariants.{Empty, Stone}
+use Rattle.go_points.specs.declared.TheConstants.{MAX_POINTS}
+use Rattle.go_points.specs.Grid.{cell_at, side_of}
+use Rattle.go_points.specs.Place.{number_of}
+use Rattle.go_chains.specs.Chains.{touches, empties_beside}
+use Rattle.go_chains.proofs.Filling.{touches_few}
+use Rattle.go_chains.proofs.Placing.{placed_circles, placed_counts}
+use Rattle.go_chains.proofs.stones.place.Goals as goal
+
+pub take_from-requires-clause-enough : goal.take_from-requires-clause-enough
+take_from-requires-clause-enough c = λ j on own.
+    let cells = c.args.colouring.now in
+    let heads = c.args.heads.now in
+    let n = side_of cells in
+    let room : n * n ≤ MAX_POINTS = search rules in
+    let on' : j < n * n = subst (λ (m : ℕ). j < m * m) c.size-size.ensures.value on in
+    let free : cell_at cells c.args.number ≡ Empty = c.requires.settled.chains.empties c.args.number c.requires.on c.requires.free in
+    let few = touches_few n cells heads j c.args.number c.requires.on free in
+    let right = c.requires.settled.counted.right j on' (λ e. omega (arith, on', room, e)) own in
+    subst (λ (m : ℕ). touches m heads j c.args.number ≤ slice_index c.args.counts.now j) (sym c.size-size.ensures.value) (subst (λ (t : ℕ). touches n heads j c.args.number ≤ t) (sym right) few)
+
+pub returns-clause-chains : goal.returns-clause-chains
+returns-clause-chains c =
+    let cells = c.args.colouring.now in
+    let heads = c.args.heads.now in
+    let n = side_of cells in
+    let p = c.args.number in
+    let room : n * n ≤ MAX_POINTS = search rules in
+    let number : number_of n c.point_at.result ≡ p = ap (λ (m : ℕ). number_of m c.point_at.result) (sym c.size-size.ensures.value) ∙ c.point_at.ensures.number_back in
+    let put : c.set.new.self ≡ slice_set cells p (Stone c.args.colour) = c.set.ensures.value ∙ ap (λ (q : ℕ). slice_set cells q (Stone c.args.colour)) number in
+    let here : cell_at c.set.new.self p ≡ Stone c.args.colour = ap (λ (l : List Cell). cell_at l p) put ∙ get_or-set_same cells p (Stone c.args.colour) Empty (omega (arith, c.requires.on, c.size-size.ensures.colouring.full)) in
+    let others : (q : ℕ) → q ≢ p → cell_at c.set.new.self q ≡ cell_at cells q = λ q ne. ap (λ (l : List Cell). cell_at l q) put ∙ get_or-set_other cells p q (Stone c.args.colour) Empty ne in
+    placed_circles n cells c.set.new.self heads c.args.next.now c.args.colour p room c.requires.settled.full.heads_full c.requires.settled.full.next_full c.requires.on c.requires.settled.chains c.requires.free here others
+
+pub returns-clause-counted : goal.returns-clause-counted
+returns-clause-counted c =
+    let cells = c.args.colouring.now in
+    let heads = c.args.heads.now in
+    let n = side_of cells in
+    let p = c.args.number in
+    let room : n * n ≤ MAX_POINTS = search rules in
+    let number : number_of n c.point_at.result ≡ p = ap (λ (m : ℕ). number_of m c.point_at.result) (sym c.size-size.ensures.value) ∙ c.point_at.ensures.number_back in
+    let put : c.set.new.self ≡ slice_set cells p (Stone c.args.colour) = c.set.ensures.value ∙ ap (λ (q : ℕ). slice_set cells q (Stone c.args.colour)) number in
+    let here : cell_at c.set.new.self p ≡ Stone c.args.colour = ap (λ (l : List Cell). cell_at l p) put ∙ get_or-set_same cells p (Stone c.args.colour) Empty (omega (arith, c.requires.on, c.size-size.ensures.colouring.full)) in
+    let others : (q : ℕ) → q ≢ p → cell_at c.set.new.self q ≡ cell_at cells q = λ q ne. ap (λ (l : List Cell). cell_at l q) put ∙ get_or-set_other cells p q (Stone c.args.colour) Empty ne in
+    let free : cell_at cells p ≡ Empty = c.requires.settled.chains.empties p c.requires.on c.requires.free in
+    let lesser = c.take_from.new.counts in
+    let more = slice_set lesser p c.empties_at.result in
+    let at_it : slice_index more p ≡ empties_beside n c.set.new.self p =
+    get_or-set_same lesser p c.empties_at.result 0 (omega (arith, c.requires.on, room, c.take_from.ensures.full)) ∙ c.empties_at.ensures ∙ ap (λ (m : ℕ). empties_beside m c.set.new.self p) c.set.ensures.size in
+    let taken : (j : ℕ) → j < n * n → j ≢ p → slice_index heads j ≡ j → slice_index more j + touches n heads j p ≡ slice_index c.args.counts.now j =
+    λ j on ne own. ap (λ (t : ℕ). t + touches n heads j p) (get_or-set_other lesser p j c.empties_at.result 0 ne)
+    ∙ ap (λ (m : ℕ). slice_index lesser j + touches m heads j p) (sym c.size-size.ensures.value) ∙ c.take_from.ensures.taken j (subst (λ (m : ℕ). j < m * m) (sym c.size-size.ensures.value) on) in
+    placed_counts n cells c.set.new.self heads c.args.next.now c.args.colour p room c.requires.settled.full.heads_full c.requires.settled.full.next_full c.requires.on c.requires.settled.chains c.requires.free here others
+    c.args.counts.now more free c.requires.settled.counted at_it taken

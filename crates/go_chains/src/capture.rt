@@ -1,0 +1,78 @@
+//! Chains without liberty are taken off.
+
+ghost use Rattle.std.specs.Prelude.{◌≡◌, ◌≢◌, ◌+◌, ◌*◌, ◌<◌, ℕ, slice_index};
+ghost use Rattle.go_points.specs.declared.Cell.TheVariants.{Stone};
+ghost use Rattle.go_points.specs.declared.TheConstants.{MAX_POINTS};
+ghost use Rattle.go_points.specs.Clear.{clear};
+ghost use Rattle.go_points.specs.Grid.{cell_at, side_of};
+ghost use Rattle.go_points.specs.Stones.{stone_count};
+ghost use Rattle.go_chains.specs.Chains.{touches, IsSettled, IsDead, KillsNone};
+
+use crate::circles::remove;
+use go_points::{Colour, Colouring, MAX_POINTS};
+
+/// Takes the chain at the point off where it is of the colour and has no liberty. How many stones it had.
+pub(crate) fn remove_dead(
+    colouring: &mut Colouring,
+    heads: &mut [u16],
+    next: &[u16],
+    counts: &mut [u32],
+    colour: Colour,
+    number: usize,
+) -> u16
+    requires settled { IsSettled (side_of colouring.old) colouring.old heads.old next.now counts.old }
+    requires on { number < side_of colouring.old * side_of colouring.old }
+    ensures size { side_of colouring.new ≡ side_of colouring.old }
+    ensures settled { IsSettled (side_of colouring.old) colouring.new heads.new next.now counts.new }
+    ensures cleared { clear (side_of colouring.old) colouring.new colour ≡ clear (side_of colouring.old) colouring.old colour }
+    ensures kills { KillsNone (side_of colouring.old) colouring.old heads.old colouring.new heads.new }
+    ensures passed { (h : ℕ) → IsDead (side_of colouring.old) colouring.new heads.new h → cell_at colouring.new h ≡ Stone colour → slice_index heads.old number ≢ h }
+    ensures count { result + stone_count colouring.new ≡ stone_count colouring.old }
+{
+    let size = colouring.size();
+    prove!(size.area() <= MAX_POINTS);
+    if !colouring.get(size.point_at(number)).is_stone_of(colour) {
+        return 0;
+    }
+    let head = heads[number];
+    if counts[head as usize] != 0 {
+        return 0;
+    }
+    remove(colouring, heads, next, counts, head)
+}
+
+/// Takes the chains of the colour off that stand beside the point and have no liberty. How many stones they had.
+pub(crate) fn capture(
+    colouring: &mut Colouring,
+    heads: &mut [u16],
+    next: &[u16],
+    counts: &mut [u32],
+    colour: Colour,
+    number: usize,
+) -> u16
+    requires settled { IsSettled (side_of colouring.old) colouring.old heads.old next.now counts.old }
+    requires on { number < side_of colouring.old * side_of colouring.old }
+    requires beside { (h : ℕ) → IsDead (side_of colouring.old) colouring.old heads.old h → cell_at colouring.old h ≡ Stone colour → 0 < touches (side_of colouring.old) heads.old h number }
+    ensures size { side_of colouring.new ≡ side_of colouring.old }
+    ensures settled { IsSettled (side_of colouring.old) colouring.new heads.new next.now counts.new }
+    ensures cleared { colouring.new ≡ clear (side_of colouring.old) colouring.old colour }
+    ensures kills { KillsNone (side_of colouring.old) colouring.old heads.old colouring.new heads.new }
+    ensures count { result + stone_count colouring.new ≡ stone_count colouring.old }
+{
+    let size = colouring.size();
+    prove!(size.area() <= MAX_POINTS);
+    let neighbours = size.point_at(number).neighbours(size);
+    let mut removed = 0;
+    for neighbour in neighbours.as_slice() {
+        removed += remove_dead(
+            colouring,
+            heads,
+            next,
+            counts,
+            colour,
+            neighbour.number(size),
+        );
+    }
+    prove!(colouring.size().area() <= MAX_POINTS);
+    removed
+}

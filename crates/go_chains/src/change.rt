@@ -1,0 +1,162 @@
+//! A board takes another colouring over: the chains with a stone that the other does not hold go, and then its stones that are missing are put down.
+
+ghost use Rattle.std.specs.Prelude.{◌≡◌, ◌≢◌, ◌⊎◌, ◌*◌, ◌<◌, ℕ, OnOk, OnErr, IfErr, IfSome, IfNone, Some, None, length, slice_index};
+ghost use Rattle.go_points.specs.declared.Cell.TheVariants.{Empty};
+ghost use Rattle.go_points.specs.declared.TheConstants.{MAX_POINTS};
+ghost use Rattle.go_points.specs.Grid.{cell_at, same_cell, side_of};
+ghost use Rattle.go_points.specs.Liberty.{first_without_liberty};
+ghost use Rattle.go_points.specs.Place.{IsOn, number_of};
+ghost use Rattle.go_chains.specs.Chains.{nowhere, IsBoard, IsSettled, TellsLiberties};
+
+use crate::NoLiberty;
+use crate::circles::remove;
+use crate::stones::fill;
+use go_points::{Cell, Colouring, MAX_POINTS, Point};
+
+// Whether two points hold the same.
+fn are_same(cell: Cell, other: Cell) -> bool
+    ensures { result ≡ same_cell cell other }
+{
+    cell == other
+}
+
+// Takes the chains off that have a stone where the other colouring holds something else.
+fn remove_changed(
+    colouring: &mut Colouring,
+    heads: &mut [u16],
+    next: &[u16],
+    counts: &mut [u32],
+    wanted: &Colouring,
+)
+    requires settled { IsSettled (side_of colouring.old) colouring.old heads.old next.now counts.old }
+    requires same_size { side_of wanted.now ≡ side_of colouring.old }
+    ensures size { side_of colouring.new ≡ side_of colouring.old }
+    ensures settled { IsSettled (side_of colouring.old) colouring.new heads.new next.now counts.new }
+    ensures rest { (p : ℕ) → p < side_of colouring.old * side_of colouring.old → (cell_at colouring.new p ≡ Empty) ⊎ (cell_at colouring.new p ≡ cell_at wanted.now p) }
+{
+    let size = colouring.size();
+    prove!(size.area() <= MAX_POINTS);
+    for number in 0..size.area() {
+        let head = heads[number];
+        let point = size.point_at(number);
+        if head != MAX_POINTS as u16 && !are_same(colouring.get(point), wanted.get(point)) {
+            remove(colouring, heads, next, counts, head);
+        }
+    }
+}
+
+// Lets an empty point hold the cell.
+fn fill_cell(
+    colouring: &mut Colouring,
+    heads: &mut [u16],
+    next: &mut [u16],
+    counts: &mut [u32],
+    cell: Cell,
+    number: usize,
+)
+    requires settled { IsSettled (side_of colouring.old) colouring.old heads.old next.old counts.old }
+    requires on { number < side_of colouring.old * side_of colouring.old }
+    requires free { slice_index heads.old number ≡ nowhere }
+    ensures size { side_of colouring.new ≡ side_of colouring.old }
+    ensures settled { IsSettled (side_of colouring.old) colouring.new heads.new next.new counts.new }
+    ensures here { cell_at colouring.new number ≡ cell }
+    ensures others { (q : ℕ) → q ≢ number → cell_at colouring.new q ≡ cell_at colouring.old q }
+{
+    prove!(colouring.size().area() <= MAX_POINTS);
+    if let Cell::Stone(colour) = cell {
+        fill(colouring, heads, next, counts, colour, number);
+    }
+}
+
+// Puts the stones down that the other colouring holds at empty points.
+fn fill_changed(
+    colouring: &mut Colouring,
+    heads: &mut [u16],
+    next: &mut [u16],
+    counts: &mut [u32],
+    wanted: &Colouring,
+)
+    requires settled { IsSettled (side_of colouring.old) colouring.old heads.old next.old counts.old }
+    requires same_size { side_of wanted.now ≡ side_of colouring.old }
+    requires rest { (p : ℕ) → p < side_of colouring.old * side_of colouring.old → (cell_at colouring.old p ≡ Empty) ⊎ (cell_at colouring.old p ≡ cell_at wanted.now p) }
+    ensures size { side_of colouring.new ≡ side_of colouring.old }
+    ensures settled { IsSettled (side_of colouring.old) colouring.new heads.new next.new counts.new }
+    ensures value { colouring.new ≡ wanted.now }
+{
+    let size = colouring.size();
+    prove!(size.area() <= MAX_POINTS);
+    for number in 0..size.area() {
+        if heads[number] == MAX_POINTS as u16 {
+            let cell = wanted.get(size.point_at(number));
+            fill_cell(colouring, heads, next, counts, cell, number);
+        }
+    }
+    prove!(wanted.size().area() <= MAX_POINTS);
+    prove!(colouring.size().area() <= MAX_POINTS);
+}
+
+// The least point whose chain has no liberty.
+fn find_dead(colouring: &Colouring, heads: &[u16], counts: &[u32]) -> Option<Point>
+    requires heads_full { length heads.now ≡ MAX_POINTS }
+    requires counts_full { length counts.now ≡ MAX_POINTS }
+    requires tells { TellsLiberties (side_of colouring.now) colouring.now heads.now counts.now }
+    ensures found { IfSome result (λ p. first_without_liberty (side_of colouring.now) colouring.now ≡ Some (number_of (side_of colouring.now) p)) }
+    ensures on_board { IfSome result (λ p. IsOn (side_of colouring.now) p) }
+    ensures none { IfNone result (first_without_liberty (side_of colouring.now) colouring.now ≡ None) }
+{
+    let size = colouring.size();
+    prove!(size.area() <= MAX_POINTS);
+    for number in 0..size.area() {
+        let head = heads[number];
+        if head != MAX_POINTS as u16 && counts[head as usize] == 0 {
+            return Some(size.point_at(number));
+        }
+    }
+    None
+}
+
+// Lets the board hold the other colouring, whether or not each of its chains has a liberty.
+fn change_to(
+    colouring: &mut Colouring,
+    heads: &mut [u16],
+    next: &mut [u16],
+    counts: &mut [u32],
+    wanted: &Colouring,
+)
+    requires settled { IsSettled (side_of colouring.old) colouring.old heads.old next.old counts.old }
+    requires same_size { side_of wanted.now ≡ side_of colouring.old }
+    ensures settled { IsSettled (side_of colouring.old) colouring.new heads.new next.new counts.new }
+    ensures value { colouring.new ≡ wanted.now }
+{
+    remove_changed(colouring, heads, next, counts, wanted);
+    fill_changed(colouring, heads, next, counts, wanted);
+}
+
+/// Takes the colouring over, or names the least point whose chain would have no liberty.
+pub(crate) fn take_over(
+    colouring: &mut Colouring,
+    heads: &mut [u16],
+    next: &mut [u16],
+    counts: &mut [u32],
+    wanted: &Colouring,
+) -> Result<(), NoLiberty>
+    requires board { IsBoard (side_of colouring.old) colouring.old heads.old next.old counts.old }
+    requires same_size { side_of wanted.now ≡ side_of colouring.old }
+    ensures board { IsBoard (side_of colouring.old) colouring.new heads.new next.new counts.new }
+    ensures ok { OnOk result (colouring.new ≡ wanted.now) }
+    ensures liberties { OnOk result (first_without_liberty (side_of wanted.now) wanted.now ≡ None) }
+    ensures fault { IfErr result (λ e. first_without_liberty (side_of wanted.now) wanted.now ≡ Some (number_of (side_of wanted.now) e.point)) }
+    ensures fault_on_board { IfErr result (λ e. IsOn (side_of wanted.now) e.point) }
+    ensures err { OnErr result (colouring.new ≡ colouring.old) }
+{
+    prove!(colouring.size().area() <= MAX_POINTS);
+    let before = *colouring;
+    change_to(colouring, heads, next, counts, wanted);
+    match find_dead(colouring, heads, counts) {
+        None => Ok(()),
+        Some(point) => {
+            change_to(colouring, heads, next, counts, &before);
+            Err(NoLiberty { point })
+        }
+    }
+}

@@ -1,0 +1,56 @@
+//! What a turn leads to, without making it: the first moves of a state can be compared at a fraction of the cost of play.
+
+ghost use Rattle.std.specs.Prelude.{◌≡◌};
+ghost use Rattle.go_points.specs.Place.{IsOn, number_of};
+ghost use Rattle.go_points.specs.Ply.{ply_of, move};
+ghost use Rattle.target_game.specs.Child.{child_of};
+
+use crate::state::State;
+use go_points::{Colour, Point, Turn};
+use go_turns::{Board, Seen};
+
+/// The state after a legal turn.
+#[derive(Clone, Copy, Debug, PartialEq, Eq)]
+pub struct Child {
+    /// The key of its colouring.
+    pub key: u64,
+    /// Who has won there.
+    pub winner: Option<Colour>,
+}
+
+impl<B: Board, S: Seen> State<B, S> {
+    /// What the turn leads to, which is not made; none, where it is not legal. Takes no memory, and the time of at most one move.
+    pub fn child(&self, turn: Turn) -> Option<Child>
+        ensures { result ≡ child_of self.now.state (ply_of self.now.state.game.size turn) }
+    {
+        match turn {
+            Turn::Pass => Some(Child {
+                key: self.key(),
+                winner: self.winner_after_pass(),
+            }),
+            Turn::At(point) => {
+                if !self.size().holds(point) {
+                    return None;
+                }
+                self.move_child(point)
+            }
+        }
+    }
+
+    fn move_child(&self, point: Point) -> Option<Child>
+        requires { IsOn self.now.state.game.size point }
+        ensures { result ≡ child_of self.now.state (move (number_of self.now.state.game.size point)) }
+    {
+        if !self.is_open(point) {
+            return None;
+        }
+        let position = self.position_after(point);
+        if self.has_occurred(&position) {
+            return None;
+        }
+        Some(Child {
+            key: position.key,
+            winner: self.winner_at(&position.colouring),
+        })
+    }
+}

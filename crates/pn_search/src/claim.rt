@@ -98,6 +98,8 @@ struct Walk {
     places: IndexMap<Key, Places>,
     /// Whether a proof was met.
     met: Vec<bool>,
+    /// The fewest turns of a proof that is to be a lemma.
+    least: u64,
     visits: Vec<Visit>,
     lemmas: Lemmas,
 }
@@ -111,7 +113,13 @@ struct Visit {
 }
 
 impl Walk {
-    fn new(alloc: Global, line: Line, proofs: &Proofs, root: u32) -> Result<Walk, AllocError> {
+    fn new(
+        alloc: Global,
+        line: Line,
+        proofs: &Proofs,
+        root: u32,
+        least: u64,
+    ) -> Result<Walk, AllocError> {
         let mut met = Vec::with_capacity(alloc, proofs.len())?;
         let mut numbers = Vec::with_capacity(alloc, proofs.len())?;
         for _ in 0..proofs.len() {
@@ -122,6 +130,7 @@ impl Walk {
             line,
             places: count_places(alloc, proofs, root)?,
             met,
+            least,
             visits: Vec::new(alloc),
             lemmas: Lemmas {
                 made: Vec::new(alloc),
@@ -168,9 +177,11 @@ impl Walk {
         self.enter(proofs, number)
     }
 
-    /// Whether the proof is to be a lemma: its state stands at several places, and no past is needed.
+    /// Whether the proof is to be a lemma: its state stands at several places, it is not too small, and needs no past.
     fn is_lemma(&self, proofs: &Proofs, proof: Proof) -> bool {
-        !proofs.needs_a_past(proof) && matches!(self.places.get(&proof.key), Some(Places::Several))
+        proof.turns >= self.least
+            && !proofs.needs_a_past(proof)
+            && matches!(self.places.get(&proof.key), Some(Places::Several))
     }
 
     /// Leaves the last proof, all of whose branches were followed, and makes its lemma where it is to be one.
@@ -232,9 +243,10 @@ fn lemmas_of(
     problem: &Problem,
     proofs: &Proofs,
     root: u32,
+    least: u64,
 ) -> Result<Lemmas, Refusal> {
     let line = Line::of(alloc, problem)?;
-    let mut walk = Walk::new(alloc, line, proofs, root)?;
+    let mut walk = Walk::new(alloc, line, proofs, root, least)?;
     walk.enter(proofs, root)?;
     for _ in 0..u64::MAX {
         let Some(visit) = walk.visits.last().copied() else {
@@ -249,13 +261,14 @@ fn lemmas_of(
 }
 
 /// The claim of the proof in which each state that stands at several places is a lemma, for each of its proofs. A proof
-/// that needs a past stands in line. Refused past the limits of claims.
+/// that needs a past, or has fewer turns than `least`, stands in line. Refused past the limits of claims.
 pub(crate) fn claim_with_lemmas(
     alloc: Global,
     problem: &Problem,
     shared: &Shared,
+    least: u64,
 ) -> Result<Certificate, Refusal> {
-    let lemmas = lemmas_of(alloc, problem, &shared.proofs, shared.root)?;
+    let lemmas = lemmas_of(alloc, problem, &shared.proofs, shared.root, least)?;
     claim(alloc, problem, shared, lemmas)
 }
 

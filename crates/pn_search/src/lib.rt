@@ -3,8 +3,12 @@
 
 mod claim;
 mod df_search;
+#[cfg(test)]
+mod df_tests;
 mod frame;
 mod full_search;
+#[cfg(test)]
+mod full_tests;
 mod full_tree;
 mod line;
 mod numbers;

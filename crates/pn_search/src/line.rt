@@ -1,11 +1,12 @@
 //! A line of play from the problem's state, with the positions that have occurred before its end.
 
 use crate::past::Past;
-use crate::play::{Move, Play, key_of};
+use crate::play::{Move, Play};
 use crate::refusal::Refusal;
 use go_points::Turn;
 use pn_table::Key;
 use std::alloc::{AllocError, Global};
+use stone_key::key_of;
 use target_game::Problem;
 
 /// What a turn of the line is taken back to.
@@ -103,7 +104,7 @@ impl Line {
     }
 
     /// The moves at its end, points ascending, barred ones among them.
-    pub(crate) fn list_moves(&mut self, moves: &mut Vec<Move>) -> Result<(), AllocError> {
+    pub(crate) fn list_moves(&self, moves: &mut Vec<Move>) -> Result<(), AllocError> {
         self.play.list_moves(moves)
     }
 

@@ -9,9 +9,10 @@ ghost use Rattle.target_game.specs.Legal.{legal};
 ghost use Rattle.target_game.specs.Over.{over};
 
 use go_points::{Colour, Colouring, Point, Size, Turn};
-use go_turns::{Board, PlayBoard, PlaySeen};
+use go_turns::{PlayBoard, PlaySeen};
 use pn_table::Key;
 use std::alloc::{AllocError, Global};
+use stone_key::key_of;
 use target_game::{Problem, State};
 
 /// A state of the problem.
@@ -95,12 +96,12 @@ impl Play {
     }
 
     /// The mover's moves, points ascending, barred ones among them; none, where somebody has won.
-    pub(crate) fn list_moves(&mut self, moves: &mut Vec<Move>) -> Result<(), AllocError> {
+    pub(crate) fn list_moves(&self, moves: &mut Vec<Move>) -> Result<(), AllocError> {
         moves.clear();
         if self.state.over().is_some() {
             return Ok(());
         }
-        add_moves(&mut self.state, moves)
+        add_moves(&self.state, moves)
     }
 }
 
@@ -118,24 +119,14 @@ fn is_open_to(state: &PlayState, turn: Turn) -> bool
     }
 }
 
-/// The key of the colouring, in which every stone reaches empty.
-pub(crate) fn key_of(colouring: &Colouring) -> u64 {
-    let mut board = PlayBoard::new(colouring.size());
-    let _assigned = board.assign(colouring);
-    board.key()
-}
-
 /// Adds the mover's moves.
-fn add_moves(state: &mut PlayState, moves: &mut Vec<Move>) -> Result<(), AllocError>
-    requires nobody { over state.old.state ≡ None }
-    ensures state { state.new ≡ state.old }
-{
+fn add_moves(state: &PlayState, moves: &mut Vec<Move>) -> Result<(), AllocError> {
     let size = state.size();
     let present = state.key();
     for number in 0..size.area() {
         let point = size.point_at(number);
         if state.is_open(point) {
-            let found = move_at(state, point)?;
+            let found = move_at(state, point);
             if found.position != present {
                 moves.push(found)?;
             }
@@ -145,31 +136,24 @@ fn add_moves(state: &mut PlayState, moves: &mut Vec<Move>) -> Result<(), AllocEr
 }
 
 /// The move at the open point.
-fn move_at(state: &mut PlayState, point: Point) -> Result<Move, AllocError>
-    requires nobody { over state.old.state ≡ None }
-    requires on_board { IsOn state.old.state.game.size point }
-    requires empty { same_cell (cell_at state.old.state.colouring (number_of state.old.state.game.size point)) Empty ≡ true }
-    ensures state { state.new ≡ state.old }
+fn move_at(state: &PlayState, point: Point) -> Move
+    requires on_board { IsOn state.now.state.game.size point }
+    requires empty { same_cell (cell_at state.now.state.colouring (number_of state.now.state.game.size point)) Empty ≡ true }
 {
-    if !state.may_move(point) {
-        return Ok(Move {
+    match state.child(Turn::At(point)) {
+        Some(child) => Move {
+            point,
+            position: child.key,
+            is_barred: false,
+            wins: child.winner.is_some(),
+        },
+        None => Move {
             point,
             position: key_of(&state.result(point)),
             is_barred: true,
             wins: false,
-        });
+        },
     }
-    let turn = Turn::At(point);
-    state.after(turn)?;
-    let position = state.key();
-    let wins = state.over().is_some();
-    state.back();
-    Ok(Move {
-        point,
-        position,
-        is_barred: false,
-        wins,
-    })
 }
 
 /// The move of this turn; none, where it is a pass.

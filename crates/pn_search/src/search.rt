@@ -1,8 +1,7 @@
 //! The search for a checked claim.
 
 ghost use Rattle.std.specs.Prelude.{◌≡◌, ◌≢◌, ◌≤◌, ◌⊎◌, IfOk, IfErr};
-ghost use Rattle.cert_check.specs.declared.reject.Why.TheVariants.{Memory as MemoryRefused};
-ghost use Rattle.pn_search.specs.Search.{IfWins, IfUnknown, IsHard, full_steps};
+ghost use Rattle.pn_search.specs.Search.{IfWins, IfUnknown, IsHard, cause_told, full_steps};
 ghost use Rattle.pn_search.specs.Shown.{IsConfirmable};
 ghost use Rattle.pn_search.specs.declared.verdict.Cause.TheVariants.{Steps, Memory};
 
@@ -25,6 +24,9 @@ use target_game::Problem;
 
 /// The most steps of full search.
 const MAX_FULL_STEPS: u64 = 10_000_000;
+
+/// How many sizes of lemmas are tried, from the least on.
+const LEMMA_SIZES: u32 = 4;
 
 /// A checked claim, or why there is none, with the problem handed back.
 type Found = Result<Checked, (Problem, Cause)>;
@@ -90,7 +92,7 @@ fn searched_by_numbers(alloc: Global, problem: Problem, budget: Budget, left: &m
 }
 
 /// The proofs that the search by proof numbers finds.
-fn shared_by_numbers(
+pub(crate) fn shared_by_numbers(
     alloc: Global,
     problem: &Problem,
     budget: Budget,
@@ -129,7 +131,7 @@ fn shared(alloc: Global, found: Smaller, root: u32) -> Result<Shared, Refusal> {
 }
 
 /// The shared proofs of the tree that full search found.
-fn shared_from_tree(
+pub(crate) fn shared_from_tree(
     alloc: Global,
     problem: &Problem,
     winner: Colour,
@@ -159,35 +161,61 @@ fn confirmed(alloc: Global, problem: Problem, winner: Colour, main: Node) -> Fou
 {
     match shared_from_tree(alloc, &problem, winner, &main) {
         Err(_) => confirmed_plainly(alloc, problem, winner, main),
-        Ok(shared) => match confirmed_with_lemmas(alloc, problem, &shared) {
+        Ok(shared) => match confirmed_with_lemmas(alloc, problem, &shared, 0) {
             Ok(checked) => Ok(checked),
             Err((problem, _)) => confirmed_plainly(alloc, problem, winner, main),
         },
     }
 }
 
-/// The claim of the proofs with lemmas, where the checker accepts it, else without.
+/// The claim of the proofs with lemmas, where the checker accepts it, else without. Where the claim would pass a limit
+/// larger proofs alone become lemmas.
 fn confirmed_in_turn(alloc: Global, problem: Problem, shared: Shared) -> Found
     ensures ok { IfOk result (λ c. c.problem ≡ problem) }
     ensures err { IfErr result (λ r. r.0 ≡ problem) }
     ensures cause { IfErr result (λ r. r.1 ≢ Steps) }
 {
-    match confirmed_with_lemmas(alloc, problem, &shared) {
-        Ok(checked) => Ok(checked),
-        Err((problem, _)) => match claim_without_lemmas(alloc, &problem, &shared) {
-            Ok(certificate) => accepted(alloc, problem, certificate),
-            Err(refusal) => Err((problem, cause_of_refusal(refusal))),
-        },
+    let mut rest = problem;
+    let mut least = 0;
+    for _ in 0..LEMMA_SIZES {
+        match confirmed_with_lemmas(alloc, rest, &shared, least) {
+            Ok(checked) => return Ok(checked),
+            Err((problem, Cause::Limit)) => rest = problem,
+            Err((problem, _)) => return confirmed_without_lemmas(alloc, problem, &shared),
+        }
+        least = larger(least);
+    }
+    confirmed_without_lemmas(alloc, rest, &shared)
+}
+
+/// The next size of lemmas that is tried.
+fn larger(least: u64) -> u64 {
+    if least == 0 {
+        16
+    } else {
+        least.saturating_mul(16)
     }
 }
 
-/// The claim of the proofs with lemmas.
-fn confirmed_with_lemmas(alloc: Global, problem: Problem, shared: &Shared) -> Found
+/// The claim of the proofs without lemmas.
+fn confirmed_without_lemmas(alloc: Global, problem: Problem, shared: &Shared) -> Found
     ensures ok { IfOk result (λ c. c.problem ≡ problem) }
     ensures err { IfErr result (λ r. r.0 ≡ problem) }
     ensures cause { IfErr result (λ r. r.1 ≢ Steps) }
 {
-    match claim_with_lemmas(alloc, &problem, shared) {
+    match claim_without_lemmas(alloc, &problem, shared) {
+        Ok(certificate) => accepted(alloc, problem, certificate),
+        Err(refusal) => Err((problem, cause_of_refusal(refusal))),
+    }
+}
+
+/// The claim of the proofs with lemmas of so many turns at least.
+fn confirmed_with_lemmas(alloc: Global, problem: Problem, shared: &Shared, least: u64) -> Found
+    ensures ok { IfOk result (λ c. c.problem ≡ problem) }
+    ensures err { IfErr result (λ r. r.0 ≡ problem) }
+    ensures cause { IfErr result (λ r. r.1 ≢ Steps) }
+{
+    match claim_with_lemmas(alloc, &problem, shared, least) {
         Ok(certificate) => accepted(alloc, problem, certificate),
         Err(refusal) => Err((problem, cause_of_refusal(refusal))),
     }
@@ -227,8 +255,7 @@ fn confirmed_plainly(alloc: Global, problem: Problem, winner: Colour, main: Node
 
 /// Why there is no verdict, where the checker refused the claim without lemmas for this.
 fn cause_of(why: Why) -> Cause
-    ensures steps { result ≢ Steps }
-    ensures memory { why ≡ MemoryRefused → result ≡ Memory }
+    ensures { result ≡ cause_told why }
 {
     match why {
         Why::Limit => Cause::Limit,

@@ -1,0 +1,208 @@
+//! Full search on boards of three rows, where every claim and every step is worked out by hand.
+
+use crate::full_search::full_search;
+use crate::{Budget, Verdict, solve};
+use go_points::{Colour, Colouring, PointSet, Size, sgf_point};
+use proof_cert::{Certificate, write_cert};
+use std::alloc::Global;
+use std::num::NonZeroUsize;
+use std::process::Abort;
+use std::test::Fail;
+use target_game::Problem;
+
+fn points(rt: &impl Abort, letters: &str) -> PointSet {
+    let size = Size::new(3).expect(rt, "a size");
+    let mut found = PointSet::new();
+    for pair in letters.as_bytes().chunks(2) {
+        found.insert(sgf_point(size, pair).expect(rt, "a point"));
+    }
+    found
+}
+
+// The problem on 3 by 3 whose present colouring is the last of its history.
+fn problem(
+    rt: &impl Abort,
+    alloc: Global,
+    texts: &[&str],
+    mover: Colour,
+    target: &str,
+    region: &str,
+) -> Problem {
+    let size = Size::new(3).expect(rt, "a size");
+    let mut history = Vec::new(alloc);
+    for text in texts {
+        let colouring = Colouring::from_text(size, text.as_bytes()).expect(rt, "a text");
+        history.push(colouring).expect(rt, "memory");
+    }
+    let place = texts.len().saturating_sub(1);
+    let made = Problem::new(
+        history,
+        place,
+        mover,
+        0,
+        points(rt, target),
+        points(rt, region),
+    );
+    made.expect(rt, "a problem")
+}
+
+fn budget(rt: &impl Abort, steps: u64) -> Budget {
+    Budget {
+        steps,
+        table: NonZeroUsize::new(100).expect(rt, "a size"),
+    }
+}
+
+// Whether the claim is the one of this text.
+fn is_claim(alloc: Global, certificate: &Certificate, text: &str) -> Result<bool, Fail> {
+    let mut out = Vec::new(alloc);
+    write_cert(certificate, &mut out)?;
+    Ok(out.as_slice() == text.as_bytes())
+}
+
+// Whether full search answers the claim of this text after just so many steps, and nothing where one of them is missing.
+fn finds(alloc: Global, problem: &Problem, steps: u64, text: &str) -> Result<bool, Fail> {
+    let mut fewer = steps.saturating_sub(1);
+    let nothing = full_search(alloc, problem, 0, &mut fewer)?;
+    if nothing.is_some() || fewer != 0 {
+        return Ok(false);
+    }
+    let mut left = steps;
+    let Some((winner, main)) = full_search(alloc, problem, 0, &mut left)? else {
+        return Ok(false);
+    };
+    let certificate = Certificate {
+        size: problem.size(),
+        winner,
+        lemmas: Vec::new(alloc),
+        main,
+    };
+    Ok(left == 0 && is_claim(alloc, &certificate, text)?)
+}
+
+// Whether the problem is solved by the claim of this text.
+fn solves(
+    rt: &impl Abort,
+    alloc: Global,
+    problem: Problem,
+    winner: Colour,
+    text: &str,
+) -> Result<bool, Fail> {
+    match solve(alloc, problem, budget(rt, 1000)) {
+        Verdict::Wins(checked) => Ok(
+            checked.winner() == winner && is_claim(alloc, checked.certificate(), text)?,
+        ),
+        Verdict::Unknown { .. } => Ok(false),
+    }
+}
+
+// White's aa is in atari, and Black takes it. The start alone is expanded, once.
+#[test]
+fn a_capture_of_one_turn(rt: HostRuntime) -> Result<(), Fail> {
+    let alloc = rt.alloc();
+    let text = "tsucert 1 3 B\nmain\nplay ba\nwon\nend\n";
+    let corner = problem(&rt, alloc, &["O..X....."], Colour::Black, "aa", "ba");
+    assert!(rt; finds(alloc, &corner, 1, text)?);
+    assert!(rt; solves(&rt, alloc, corner, Colour::Black, text)?);
+    Ok(())
+}
+
+// White to move fills ba, and two passes follow. Within one turn the start is expanded; within two the states after ba
+// and after the pass as well; within three the start, the state after ba and the one after Black's pass.
+#[test]
+fn a_liberty_filled(rt: HostRuntime) -> Result<(), Fail> {
+    let alloc = rt.alloc();
+    let text = "tsucert 1 3 W\nmain\nplay ba\nall 1\nreply pass\nplay pass\nwon\nend\n";
+    let corner = problem(&rt, alloc, &["O..X....."], Colour::White, "aa", "ba");
+    assert!(rt; finds(alloc, &corner, 7, text)?);
+    assert!(rt; solves(&rt, alloc, corner, Colour::White, text)?);
+    Ok(())
+}
+
+// Black may not take the ko again, so it passes, and White passes: the start, and then the start and the state after it.
+#[test]
+fn a_ko_that_is_barred(rt: HostRuntime) -> Result<(), Fail> {
+    let alloc = rt.alloc();
+    let text = "tsucert 1 3 W\nmain\nall 1\nreply pass\nplay pass\nwon\nend\n";
+    let texts = [".XOXO....", "O.OXO...."];
+    let barred = problem(&rt, alloc, &texts, Colour::Black, "aa", "ba");
+    assert!(rt; finds(alloc, &barred, 3, text)?);
+    assert!(rt; solves(&rt, alloc, barred, Colour::White, text)?);
+    let open = problem(&rt, alloc, &["O.OXO...."], Colour::Black, "aa", "ba");
+    let taken = "tsucert 1 3 B\nmain\nplay ba\nwon\nend\n";
+    assert!(rt; solves(&rt, alloc, open, Colour::Black, taken)?);
+    Ok(())
+}
+
+// With a threat at cc Black may take again, so White fills ba behind it. After Black's pass White passes at once, though
+// ba, which comes before it, wins as well.
+#[test]
+fn a_second_pass_comes_first(rt: HostRuntime) -> Result<(), Fail> {
+    let alloc = rt.alloc();
+    let text =
+        "tsucert 1 3 W\nmain\nall 2\nreply cc\nplay ba\nall 1\nreply pass\nplay pass\nwon\nreply pass\nplay pass\nwon\nend\n";
+    let texts = [".XOXO....", "O.OXO...."];
+    let threat = problem(&rt, alloc, &texts, Colour::Black, "aa", "bacc");
+    assert!(rt; solves(&rt, alloc, threat, Colour::White, text)?);
+    Ok(())
+}
+
+// White answers each of Black's moves by the other, which leaves only passes.
+#[test]
+fn an_answer_to_each_reply(rt: HostRuntime) -> Result<(), Fail> {
+    let alloc = rt.alloc();
+    let text =
+        "tsucert 1 3 W\nmain\nall 3\nreply bc\nplay cc\nall 1\nreply pass\nplay pass\nwon\nreply cc\nplay bc\nall 1\nreply pass\nplay pass\nwon\nreply pass\nplay pass\nwon\nend\n";
+    let two = problem(&rt, alloc, &["O........"], Colour::Black, "aa", "bccc");
+    assert!(rt; solves(&rt, alloc, two, Colour::White, text)?);
+    Ok(())
+}
+
+// Both of White's moves are suicides of one stone, so White may only pass.
+#[test]
+fn no_move_is_legal(rt: HostRuntime) -> Result<(), Fail> {
+    let alloc = rt.alloc();
+    let text = "tsucert 1 3 B\nmain\nall 1\nreply pass\nplay pass\nwon\nend\n";
+    let eyes = problem(&rt, alloc, &[".XXXXXXX."], Colour::White, "bb", "aacc");
+    assert!(rt; finds(alloc, &eyes, 3, text)?);
+    assert!(rt; solves(&rt, alloc, eyes, Colour::Black, text)?);
+    Ok(())
+}
+
+// Without a step nothing is found, and the problem is handed back.
+#[test]
+fn a_problem_is_handed_back(rt: HostRuntime) {
+    let alloc = rt.alloc();
+    let texts = [".XOXO....", "O.OXO...."];
+    let barred = problem(&rt, alloc, &texts, Colour::Black, "aa", "ba");
+    match solve(alloc, barred, budget(&rt, 0)) {
+        Verdict::Wins(_) => assert!(rt; false, "no claim"),
+        Verdict::Unknown {
+            problem: rest,
+            cause: _,
+            steps,
+        } => {
+            assert_eq!(rt; steps, 0);
+            assert_eq!(rt; rest.history().len(), 2);
+            assert_eq!(rt; rest.place(), 1);
+            assert_eq!(rt; rest.mover(), Colour::Black);
+            assert_eq!(rt; rest.passes(), 0);
+            assert!(rt; *rest.targets() == points(&rt, "aa"));
+            assert!(rt; *rest.region() == points(&rt, "ba"));
+        }
+    }
+}
+
+// What is above the floor alone is taken: the start and the states after ba and the pass need three steps within two turns.
+#[test]
+fn full_search_stops_at_its_floor(rt: HostRuntime) -> Result<(), Fail> {
+    let alloc = rt.alloc();
+    let corner = problem(&rt, alloc, &["O..X....."], Colour::White, "aa", "ba");
+    let mut left = 100;
+    assert!(rt; full_search(alloc, &corner, 94, &mut left)?.is_none());
+    assert_eq!(rt; left, 94);
+    let mut enough = 100;
+    assert!(rt; full_search(alloc, &corner, 93, &mut enough)?.is_some());
+    assert_eq!(rt; enough, 93);
+    Ok(())
+}

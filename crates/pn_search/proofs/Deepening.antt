@@ -1,16 +1,13 @@
 -- Full search depth by depth, and what it means that a claim of its is refused.
-use Rattle.std.proofs.Common.{◌≡◌, ℕ, ◌+◌, ◌*◌, ◌/◌, ◌<◌, ◌≤◌, ◌⊎◌, inl, inr, false, IsTrue, arith}
-use Rattle.std.proofs.Math.Nat.{min-le_right, mul-le-mul, mul-le-mul_left}
+use Rattle.std.proofs.Common.{◌≡◌, ℕ, ◌+◌, ◌-◌, ◌*◌, ◌/◌, ◌<◌, ◌≤◌, ◌⊎◌, inl, inr, false, Result, Ok, Err, IfErr, IsTrue, arith}
+use Rattle.std.proofs.Math.Nat.{min-le_left, min-le_right, mul-le-mul, mul-le-mul_left}
 use Rattle.go_points.specs.declared.Colour.{Colour}
 use Rattle.target_game.specs.State.{GameState, GameProblem, start}
 use Rattle.target_game.specs.Wins.{wins, nodes}
 use Rattle.proof_cert.specs.Claim.{Node, node_count, max_nodes}
 use Rattle.proof_cert.specs.Certificate.{node_of}
 use Rattle.proof_cert.specs.declared.certificate.Node as code
-use Rattle.pn_search.specs.declared.verdict.Cause.{Cause}
-use Rattle.pn_search.specs.declared.verdict.Verdict.{Verdict}
-use Rattle.pn_search.specs.declared.verdict.Verdict.TheVariants.{Wins, Unknown}
-use Rattle.pn_search.specs.Search.{full_steps, IsHard, IfUnknown}
+use Rattle.pn_search.specs.Search.{full_steps, IsHard}
 use Rattle.pn_search.specs.Shown.{NeitherWins, NoneWithin, IsFirst, IsConfirmable}
 use Rattle.pn_search.proofs.Showing.{nodes_within}
 
@@ -70,6 +67,12 @@ none_within_refused q x tree budget h refused =
       | inr large ↦ none_within_large x (start q) n (full_steps budget) h few large
     ]
 
-pub if_unknown_map : (v : Verdict) (P Q : GameProblem → Cause → ℕ → Type 0) → ((q : GameProblem) (cause : Cause) (steps : ℕ) → P q cause steps → Q q cause steps) → IfUnknown v P → IfUnknown v Q
-if_unknown_map (Wins k) P Q f h = tt
-if_unknown_map (Unknown q cause steps) P Q f h = f q cause steps h
+pub if_refused_map : {A E : Type 0} (r : Result A E) (P Q : E → Type 0) → ((e : E) → P e → Q e) → IfErr r P → IfErr r Q
+if_refused_map (Ok a) P Q f h = tt
+if_refused_map (Err e) P Q f h = f e h
+
+-- what is above the floor that leaves full search its steps
+pub steps_above_floor : (budget : ℕ) → budget - (budget - full_steps budget) ≡ full_steps budget
+steps_above_floor budget =
+    let a : full_steps budget ≤ budget / 10 = min-le_left (budget / 10) 10000000 in
+    omega (arith, a)

@@ -1,3 +1,4 @@
+pub mod Children
 pub mod Showing
 pub mod Deepening
 pub mod Confirming

@@ -1,18 +1,28 @@
 -- When a search may end without an answer.
 --     full_steps budget      the steps that full search has
+--     cause_told why      what is told where the checker refused the claim for this
 --     IsHard q budget      no side can force a win that full search would have found with them
 use Rattle.std.specs.Prelude.{ℕ, ◌+◌, ◌*◌, ◌/◌, ◌<◌, ◌≤◌, min, IsTrue}
 use Rattle.go_points.specs.declared.Colour.{Colour}
 use Rattle.target_game.specs.State.{GameProblem, start}
 use Rattle.target_game.specs.Wins.{wins, nodes}
 use Rattle.cert_check.specs.Checked.{CheckedClaim}
+use Rattle.cert_check.specs.declared.reject.Why.{Why}
+use Rattle.cert_check.specs.declared.reject.Why.TheVariants as why
 use Rattle.pn_search.specs.declared.verdict.Cause.{Cause}
+use Rattle.pn_search.specs.declared.verdict.Cause.TheVariants.{Memory, NotConfirmed, Limit}
 use Rattle.pn_search.specs.declared.verdict.Verdict.{Verdict}
 use Rattle.pn_search.specs.declared.verdict.Verdict.TheVariants.{Wins, Unknown}
 
 -- A tenth of the budget, rounded down, and at most 10,000,000.
 abbrev pub full_steps : ℕ → ℕ
 full_steps budget = min (budget / 10) 10000000
+
+-- A limit and want of memory are told as such, all else as not confirmed.
+abbrev pub cause_told : Why → Cause
+cause_told why.Limit = Limit
+cause_told why.Memory = Memory
+cause_told other = NotConfirmed
 
 -- No side can force a win within k ≤ 200 turns whose tree of all legal play is so small that k + 1 times its states are steps of full search.
 abbrev pub IsHard : GameProblem → ℕ → Type 0

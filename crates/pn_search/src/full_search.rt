@@ -4,7 +4,7 @@
 //! replies that were answered on it. A win within a few turns, in a small tree of play, is found whatever the search
 //! by proof numbers would do.
 
-ghost use Rattle.std.specs.Prelude.{◌≡◌, ◌+◌, ◌≤◌, ◌&&◌, ℕ, nat_eq, IsTrue, OnOk, IfOk, None};
+ghost use Rattle.std.specs.Prelude.{◌≡◌, ◌+◌, ◌≤◌, ◌&&◌, ◌-◌, ℕ, nat_eq, IsTrue, OnOk, IfOk, None};
 ghost use Rattle.go_points.specs.Grid.{same_colour};
 ghost use Rattle.go_points.specs.Ply.{ply_of, pass};
 ghost use Rattle.target_game.specs.State.{GameState, start};
@@ -46,8 +46,27 @@ pub(crate) struct Seen {
 /// The side that wins the problem within the fewest turns, up to 200, with a tree that shows it; none, where neither
 /// side does or the steps ran out.
 ///
-/// All legal play is searched within 0, 1, 2 and so on turns, each number anew. A step is one expansion.
+/// All legal play is searched within 0, 1, 2 and so on turns, each number anew. A step is one expansion; so many as
+/// `floor` are left alone.
 pub(crate) fn full_search(
+    alloc: Global,
+    problem: &Problem,
+    floor: u64,
+    left: &mut u64,
+) -> Result<Option<(Colour, Node)>, AllocError>
+    requires { floor ≤ left.old }
+    ensures fewer { left.new ≤ left.old }
+    ensures floor { floor ≤ left.new }
+    ensures decided { IfOk result (λ r. IsDecided (start problem.now) (left.old - floor) r) }
+{
+    let mut own = *left - floor;
+    let found = search_depths(alloc, problem, &mut own);
+    *left = floor + own;
+    found
+}
+
+/// The same, by these steps alone.
+fn search_depths(
     alloc: Global,
     problem: &Problem,
     left: &mut u64,
@@ -152,16 +171,49 @@ fn search_turns(
     let size = state.size();
     for number in 0..size.area() {
         let point = size.point_at(number);
-        if state.may_move(point) {
-            let turn = Turn::At(point);
-            if let Some(found) = search_turn(alloc, state, turns, turn, &mut seen, left)? {
+        let turn = Turn::At(point);
+        let asked = turn;
+        if let Some(child) = state.child(asked) {
+            let winner = child.winner;
+            if let Some(found) = search_turn(alloc, state, turns, turn, winner, &mut seen, left)? {
                 return Ok(found);
             }
         }
     }
-    match search_turn(alloc, state, turns, Turn::Pass, &mut seen, left)? {
+    let winner = winner_after_pass(state);
+    match search_turn(alloc, state, turns, Turn::Pass, winner, &mut seen, left)? {
         Some(found) => Ok(found),
         None => Ok(decided(state, turns, seen)),
+    }
+}
+
+/// Who has won after a pass.
+fn winner_after_pass(state: &PlayState) -> Option<Colour>
+    ensures { result ≡ over (next state.now.state pass) }
+{
+    match state.child(Turn::Pass) {
+        Some(child) => child.winner,
+        None => None,
+    }
+}
+
+/// Whether there is nothing to search: somebody has won, or no turn is left.
+fn is_settled(turns: u32, winner: Option<Colour>) -> bool
+    ensures { IsTrue result → winner ≡ None → turns ≡ 0 }
+{
+    match winner {
+        Some(_) => true,
+        None => turns == 0,
+    }
+}
+
+/// What is found where this side has won, or nobody has within the turns that are left.
+fn found_at_once(winner: Option<Colour>) -> Found
+    ensures { (s : GameState) (k left : ℕ) → over s ≡ winner → (winner ≡ None → k ≡ 0) → IsFound s k left result }
+{
+    match winner {
+        Some(winner) => Found::Wins(winner, Node::Won),
+        None => Found::Open,
     }
 }
 
@@ -178,28 +230,34 @@ fn decided(state: &PlayState, turns: u32, seen: Seen) -> Found
     }
 }
 
-/// Searches one turn more: nothing, where it is seen as well; what is found, where it decides the search of the state.
+/// Searches one turn more, after which this side has won: nothing, where it is seen as well; what is found, where it decides
+/// the search of the state. It is made only where play goes on behind it.
 #[cycle(full)]
 fn search_turn(
     alloc: Global,
     state: &mut PlayState,
     turns: u32,
     turn: Turn,
+    winner: Option<Colour>,
     seen: &mut Seen,
     left: &mut u64,
 ) -> Result<Option<Found>, AllocError>
     requires nobody { over state.old.state ≡ None }
     requires legal { IsTrue (legal state.old.state (ply_of state.old.state.game.size turn)) }
+    requires winner { winner ≡ over (next state.old.state (ply_of state.old.state.game.size turn)) }
     ensures state { OnOk result (state.new ≡ state.old) }
     ensures fewer { left.new ≤ left.old }
     ensures steps { OnOk result (left.old ≤ left.new + nodes (next state.old.state (ply_of state.old.state.game.size turn)) turns) }
     ensures seen { IfOk result (λ r. IsTurnSeen state.old.state turns (ply_of state.old.state.game.size turn) left.old seen.old seen.new r) }
 {
+    let mover = state.mover();
+    if is_settled(turns, winner) {
+        return with_turn(alloc, mover, turn, found_at_once(winner), seen);
+    }
     let made = turn;
     state.after(made)?;
     let below = search_state(alloc, state, turns, left)?;
     state.back();
-    let mover = state.mover();
     with_turn(alloc, mover, turn, below, seen)
 }
 

@@ -63,12 +63,12 @@ fn is_claim(alloc: Global, certificate: &Certificate, text: &str) -> Result<bool
 // Whether full search answers the claim of this text after just so many steps, and nothing where one of them is missing.
 fn finds(alloc: Global, problem: &Problem, steps: u64, text: &str) -> Result<bool, Fail> {
     let mut fewer = steps.saturating_sub(1);
-    let nothing = full_search(alloc, problem, &mut fewer)?;
+    let nothing = full_search(alloc, problem, 0, &mut fewer)?;
     if nothing.is_some() || fewer != 0 {
         return Ok(false);
     }
     let mut left = steps;
-    let Some((winner, main)) = full_search(alloc, problem, &mut left)? else {
+    let Some((winner, main)) = full_search(alloc, problem, 0, &mut left)? else {
         return Ok(false);
     };
     let certificate = Certificate {
@@ -191,4 +191,18 @@ fn a_problem_is_handed_back(rt: HostRuntime) {
             assert!(rt; *rest.region() == points(&rt, "ba"));
         }
     }
+}
+
+// What is above the floor alone is taken: the start and the states after ba and the pass need three steps within two turns.
+#[test]
+fn full_search_stops_at_its_floor(rt: HostRuntime) -> Result<(), Fail> {
+    let alloc = rt.alloc();
+    let corner = problem(&rt, alloc, &["O..X....."], Colour::White, "aa", "ba");
+    let mut left = 100;
+    assert!(rt; full_search(alloc, &corner, 94, &mut left)?.is_none());
+    assert_eq!(rt; left, 94);
+    let mut enough = 100;
+    assert!(rt; full_search(alloc, &corner, 93, &mut enough)?.is_some());
+    assert_eq!(rt; enough, 93);
+    Ok(())
 }

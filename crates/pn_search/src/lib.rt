@@ -1,23 +1,25 @@
 //! The search for a proof: full search within few turns first, then proof numbers; every claim is put to the checker.
 #![tactic(auto)]
 
+mod claim;
+mod df_search;
 #[cfg(test)]
-mod deep_tests;
-mod estimates;
-mod expansion;
+mod df_tests;
+mod frame;
 mod full_search;
 #[cfg(test)]
 mod full_tests;
-mod lemma_tree;
-mod number_search;
-#[cfg(test)]
-mod number_tests;
+mod full_tree;
+mod line;
+mod numbers;
+mod past;
 mod play;
-mod proof_tree;
+mod proofs;
+mod refusal;
 mod search;
-mod shared_states;
-#[cfg(test)]
-mod shared_tests;
+mod share;
+mod smaller;
+mod tree;
 mod verdict;
 
 pub use search::solve;

@@ -1,19 +1,109 @@
-//! Play on the problem's states, as the search needs it.
+//! Play on the problem's states, as the search needs it: every call may be made at any time.
 
-ghost use Rattle.std.specs.Prelude.{◌≡◌, ◌≢◌, ◌∷◌, IsTrue, OnOk, IfErr, None};
+ghost use Rattle.std.specs.Prelude.{◌≡◌, ◌≤◌, length, true, None, IsTrue};
+ghost use Rattle.go_points.specs.Grid.{cell_at, same_cell};
+ghost use Rattle.go_points.specs.Place.{IsOn, number_of};
 ghost use Rattle.go_points.specs.Ply.{ply_of};
+ghost use Rattle.go_points.specs.declared.Cell.TheVariants.{Empty};
 ghost use Rattle.target_game.specs.Legal.{legal};
 ghost use Rattle.target_game.specs.Over.{over};
-ghost use Rattle.pn_search.specs.declared.verdict.Cause.TheVariants.{Steps};
 
-use crate::verdict::Cause;
-use go_points::Turn;
+use go_points::{Colour, Colouring, Point, Size, Turn};
 use go_turns::{PlayBoard, PlaySeen};
 use pn_table::Key;
-use target_game::State;
+use std::alloc::{AllocError, Global};
+use stone_key::key_of;
+use target_game::{Problem, State};
 
 /// A state of the problem.
-pub(crate) type PlayState = State<PlayBoard, PlaySeen>;
+type PlayState = State<PlayBoard, PlaySeen>;
+
+/// A move of the mover's at an open point that changes the colouring.
+#[derive(Clone, Copy)]
+pub(crate) struct Move {
+    pub(crate) point: Point,
+    /// The key of the colouring after it.
+    pub(crate) position: u64,
+    /// Whether that colouring has occurred before, so that the move is not legal.
+    pub(crate) is_barred: bool,
+    /// Whether the attacker has won by it.
+    pub(crate) wins: bool,
+}
+
+/// The game at the end of a line of play.
+#[derive(Drop)]
+pub(crate) struct Play {
+    state: PlayState,
+    /// How many turns may be taken back.
+    made: usize,
+    ghost within: { made ≤ length state.before },
+}
+
+impl Play {
+    /// The start of the problem.
+    pub(crate) fn of(alloc: Global, problem: &Problem) -> Result<Play, AllocError> {
+        let state = State::of(alloc, problem)?;
+        Ok(Play { state, made: 0 })
+    }
+
+    /// The state with this colouring alone in its history; none, where there is no such state.
+    pub(crate) fn at(
+        alloc: Global,
+        problem: &Problem,
+        colouring: &Colouring,
+        mover: Colour,
+        passes: u8,
+    ) -> Option<Play> {
+        if colouring.size() != problem.size() || passes > 1 {
+            return None;
+        }
+        match State::at(alloc, problem, colouring, mover, passes as u64) {
+            Ok(state) => Some(Play { state, made: 0 }),
+            Err(_) => None,
+        }
+    }
+
+    /// Makes the turn, and answers whether it was made: where nobody has won and it is legal.
+    pub(crate) fn go(&mut self, turn: Turn) -> Result<bool, AllocError> {
+        let asked = turn;
+        if !is_open_to(&self.state, asked) || self.made == usize::MAX {
+            return Ok(false);
+        }
+        self.state.after(turn)?;
+        self.made += 1;
+        Ok(true)
+    }
+
+    /// Takes the last turn back, where there is one.
+    pub(crate) fn back(&mut self) {
+        if self.made > 0 {
+            self.state.back();
+            self.made -= 1;
+        }
+    }
+
+    /// What the state is known by. At most one pass stands where nobody has won.
+    pub(crate) fn key(&self) -> Key {
+        Key {
+            position: self.state.key(),
+            mover: self.state.mover(),
+            passes: if self.state.passes() == 0 { 0 } else { 1 },
+        }
+    }
+
+    pub(crate) fn colouring(&self) -> Colouring {
+        self.state.colouring()
+    }
+
+    /// The mover's moves, points ascending, barred ones among them; none, where somebody has won.
+    pub(crate) fn list_moves(&self, moves: &mut Vec<Move>) -> Result<(), AllocError> {
+        moves.clear();
+        if self.state.over().is_some() {
+            return Ok(());
+        }
+        add_moves(&self.state, moves)
+    }
+}
 
 /// Whether nobody has won and the turn is legal.
 fn is_open_to(state: &PlayState, turn: Turn) -> bool
@@ -29,26 +119,52 @@ fn is_open_to(state: &PlayState, turn: Turn) -> bool
     }
 }
 
-/// Makes a turn of a tree, which was legal when the tree was made: an end where it is not, which never comes.
-pub(crate) fn make_again(state: &mut PlayState, turn: Turn) -> Result<(), Cause>
-    ensures before { OnOk result (state.new.before ≡ state.old.state ∷ state.old.before) }
-    ensures cause { IfErr result (λ cause. cause ≢ Steps) }
-{
-    let asked = turn;
-    if !is_open_to(state, asked) {
-        return Err(Cause::NotConfirmed);
+/// Adds the mover's moves.
+fn add_moves(state: &PlayState, moves: &mut Vec<Move>) -> Result<(), AllocError> {
+    let size = state.size();
+    let present = state.key();
+    for number in 0..size.area() {
+        let point = size.point_at(number);
+        if state.is_open(point) {
+            let found = move_at(state, point);
+            if found.position != present {
+                moves.push(found)?;
+            }
+        }
     }
-    match state.after(turn) {
-        Ok(()) => Ok(()),
-        Err(_) => Err(Cause::Memory),
+    Ok(())
+}
+
+/// The move at the open point.
+fn move_at(state: &PlayState, point: Point) -> Move
+    requires on_board { IsOn state.now.state.game.size point }
+    requires empty { same_cell (cell_at state.now.state.colouring (number_of state.now.state.game.size point)) Empty ≡ true }
+{
+    match state.child(Turn::At(point)) {
+        Some(child) => Move {
+            point,
+            position: child.key,
+            is_barred: false,
+            wins: child.winner.is_some(),
+        },
+        None => Move {
+            point,
+            position: key_of(&state.result(point)),
+            is_barred: true,
+            wins: false,
+        },
     }
 }
 
-/// What the table knows a state by where nobody has won: at most one pass stands there.
-pub(crate) fn key_of(state: &PlayState) -> Key {
-    Key {
-        position: state.key(),
-        mover: state.mover(),
-        passes: if state.passes() == 0 { 0 } else { 1 },
+/// The move of this turn; none, where it is a pass.
+pub(crate) fn move_of(moves: &[Move], turn: Turn) -> Option<Move> {
+    let Turn::At(point) = turn else {
+        return None;
+    };
+    for played in moves {
+        if played.point == point {
+            return Some(*played);
+        }
     }
+    None
 }

@@ -1,14 +1,20 @@
 //! The search for a checked claim.
 
 ghost use Rattle.std.specs.Prelude.{◌≡◌, ◌≢◌, ◌≤◌, ◌⊎◌, IfOk, IfErr};
-ghost use Rattle.cert_check.specs.declared.reject.Why.TheVariants.{Memory as MemoryRefused};
-ghost use Rattle.pn_search.specs.Search.{IfWins, IfUnknown, IsHard, full_steps};
+ghost use Rattle.pn_search.specs.Search.{IfWins, IfUnknown, IsHard, cause_told, full_steps};
 ghost use Rattle.pn_search.specs.Shown.{IsConfirmable};
 ghost use Rattle.pn_search.specs.declared.verdict.Cause.TheVariants.{Steps, Memory};
 
+use crate::claim::{Shared, claim_with_lemmas, claim_without_lemmas};
+use crate::df_search::Search;
 use crate::full_search::full_search;
-use crate::number_search::search_by_numbers;
-use crate::shared_states::with_lemmas;
+use crate::full_tree::note_tree;
+use crate::line::Line;
+use crate::play::Play;
+use crate::proofs::{Below, Proofs};
+use crate::refusal::{Refusal, cause_of_refusal};
+use crate::share::Sharing;
+use crate::smaller::Smaller;
 use crate::verdict::{Budget, Cause, Verdict};
 use cert_check::{Checked, Why, check_held};
 use go_points::Colour;
@@ -18,6 +24,12 @@ use target_game::Problem;
 
 /// The most steps of full search.
 const MAX_FULL_STEPS: u64 = 10_000_000;
+
+/// How many sizes of lemmas are tried, from the least on.
+const LEMMA_SIZES: u32 = 4;
+
+/// A checked claim, or why there is none, with the problem handed back.
+type Found = Result<Checked, (Problem, Cause)>;
 
 /// Searches for a claim of either side that the checker accepts for the problem.
 ///
@@ -31,15 +43,13 @@ pub fn solve(alloc: Global, problem: Problem, budget: Budget) -> Verdict
     ensures all { IfUnknown result (λ rest cause steps. cause ≡ Steps → steps ≡ budget.steps) }
     ensures hard { IfUnknown result (λ rest cause steps. cause ≢ Memory → IsHard problem budget.steps) }
 {
-    let full = steps_of_full_search(budget.steps);
-    let mut left = full;
-    match full_search(alloc, &problem, &mut left) {
-        Ok(Some((winner, main))) => confirmed(alloc, problem, winner, main, full - left),
-        Ok(None) => solved_by_numbers(alloc, problem, budget, full - left),
-        Err(_) => Verdict::Unknown {
+    let mut left = budget.steps;
+    match searched(alloc, problem, budget, &mut left) {
+        Ok(checked) => Verdict::Wins(checked),
+        Err((problem, cause)) => Verdict::Unknown {
             problem,
-            cause: Cause::Memory,
-            steps: full - left,
+            cause,
+            steps: budget.steps - left,
         },
     }
 }
@@ -51,71 +61,184 @@ fn steps_of_full_search(steps: u64) -> u64
     (steps / 10).min(MAX_FULL_STEPS)
 }
 
-/// The verdict of the search by proof numbers, with the steps of the budget that are left where so many are made.
-fn solved_by_numbers(alloc: Global, problem: Problem, budget: Budget, made: u64) -> Verdict
-    requires { made ≤ budget.steps }
-    ensures problem { IfWins result (λ c. c.problem ≡ problem) }
-    ensures kept { IfUnknown result (λ rest cause steps. rest ≡ problem) }
-    ensures most { IfUnknown result (λ rest cause steps. steps ≤ budget.steps) }
-    ensures all { IfUnknown result (λ rest cause steps. cause ≡ Steps → steps ≡ budget.steps) }
+/// What both searches find, each of which lowers the steps that are left.
+fn searched(alloc: Global, problem: Problem, budget: Budget, left: &mut u64) -> Found
+    requires { left.old ≡ budget.steps }
+    ensures ok { IfOk result (λ c. c.problem ≡ problem) }
+    ensures err { IfErr result (λ r. r.0 ≡ problem) }
+    ensures fewer { left.new ≤ left.old }
+    ensures all { IfErr result (λ r. r.1 ≡ Steps → left.new ≡ 0) }
+    ensures hard { IfErr result (λ r. r.1 ≢ Memory → IsHard problem budget.steps) }
 {
-    let mut left = budget.steps - made;
-    match search_by_numbers(alloc, &problem, budget.table, &mut left) {
-        Ok((winner, main)) => confirmed(alloc, problem, winner, main, budget.steps - left),
-        Err(cause) => Verdict::Unknown {
-            problem,
-            cause,
-            steps: budget.steps - left,
+    let floor = *left - steps_of_full_search(budget.steps);
+    match full_search(alloc, &problem, floor, left) {
+        Ok(Some((winner, main))) => confirmed(alloc, problem, winner, main),
+        Ok(None) => searched_by_numbers(alloc, problem, budget, left),
+        Err(_) => Err((problem, Cause::Memory)),
+    }
+}
+
+/// What the search by proof numbers finds.
+fn searched_by_numbers(alloc: Global, problem: Problem, budget: Budget, left: &mut u64) -> Found
+    ensures ok { IfOk result (λ c. c.problem ≡ problem) }
+    ensures err { IfErr result (λ r. r.0 ≡ problem) }
+    ensures fewer { left.new ≤ left.old }
+    ensures all { IfErr result (λ r. r.1 ≡ Steps → left.new ≡ 0) }
+{
+    match shared_by_numbers(alloc, &problem, budget, left) {
+        Ok(shared) => confirmed_in_turn(alloc, problem, shared),
+        Err(cause) => Err((problem, cause)),
+    }
+}
+
+/// The proofs that the search by proof numbers finds.
+pub(crate) fn shared_by_numbers(
+    alloc: Global,
+    problem: &Problem,
+    budget: Budget,
+    left: &mut u64,
+) -> Result<Shared, Cause>
+    ensures fewer { left.new ≤ left.old }
+    ensures all { IfErr result (λ cause. cause ≡ Steps → left.new ≡ 0) }
+{
+    let Ok(mut search) = Search::of(alloc, problem, budget.table) else {
+        return Err(Cause::Memory);
+    };
+    let found = search.settle(0, left)?;
+    let mut smaller = Smaller::of(alloc, search);
+    let root = smaller.shrink(found, left);
+    match shared(alloc, smaller, root) {
+        Ok(shared) => Ok(shared),
+        Err(refusal) => Err(cause_of_refusal(refusal)),
+    }
+}
+
+/// The proofs of what was found, shared.
+fn shared(alloc: Global, found: Smaller, root: u32) -> Result<Shared, Refusal> {
+    let Smaller { search, .. } = found;
+    let Search { line, proofs, .. } = search;
+    let Some(proof) = proofs.get(root) else {
+        return Err(Refusal::Fault);
+    };
+    let winner = proof.winner;
+    let mut sharing = Sharing::of(alloc, line, proofs);
+    let root = sharing.share(root)?;
+    Ok(Shared {
+        winner,
+        proofs: sharing.shared,
+        root,
+    })
+}
+
+/// The shared proofs of the tree that full search found.
+pub(crate) fn shared_from_tree(
+    alloc: Global,
+    problem: &Problem,
+    winner: Colour,
+    main: &Node,
+) -> Result<Shared, Refusal> {
+    let mut play = Play::of(alloc, problem)?;
+    let mut proofs = Proofs::new(alloc);
+    let Below::Proof(root) = note_tree(alloc, &mut proofs, &mut play, winner, main)? else {
+        return Err(Refusal::Fault);
+    };
+    let line = Line::of(alloc, problem)?;
+    let mut sharing = Sharing::of(alloc, line, proofs);
+    let root = sharing.share(root)?;
+    Ok(Shared {
+        winner,
+        proofs: sharing.shared,
+        root,
+    })
+}
+
+/// The claim of the tree that full search found, with lemmas where the checker accepts it, else without.
+fn confirmed(alloc: Global, problem: Problem, winner: Colour, main: Node) -> Found
+    ensures ok { IfOk result (λ c. c.problem ≡ problem) }
+    ensures err { IfErr result (λ r. r.0 ≡ problem) }
+    ensures cause { IfErr result (λ r. r.1 ≢ Steps) }
+    ensures refused { IfErr result (λ r. r.1 ≢ Memory → IsConfirmable problem winner main → ⊥) }
+{
+    match shared_from_tree(alloc, &problem, winner, &main) {
+        Err(_) => confirmed_plainly(alloc, problem, winner, main),
+        Ok(shared) => match confirmed_with_lemmas(alloc, problem, &shared, 0) {
+            Ok(checked) => Ok(checked),
+            Err((problem, _)) => confirmed_plainly(alloc, problem, winner, main),
         },
     }
 }
 
-/// The verdict by a tree that was found in so many steps: its claim with lemmas, or the one without.
-fn confirmed(alloc: Global, problem: Problem, winner: Colour, main: Node, made: u64) -> Verdict
-    ensures problem { IfWins result (λ c. c.problem ≡ problem) }
-    ensures kept { IfUnknown result (λ rest cause steps. rest ≡ problem) }
-    ensures made { IfUnknown result (λ rest cause steps. steps ≡ made) }
-    ensures cause { IfUnknown result (λ rest cause steps. cause ≢ Steps) }
-    ensures refused { IfUnknown result (λ rest cause steps. cause ≢ Memory → IsConfirmable problem winner main → ⊥) }
+/// The claim of the proofs with lemmas, where the checker accepts it, else without. Where the claim would pass a limit
+/// larger proofs alone become lemmas.
+fn confirmed_in_turn(alloc: Global, problem: Problem, shared: Shared) -> Found
+    ensures ok { IfOk result (λ c. c.problem ≡ problem) }
+    ensures err { IfErr result (λ r. r.0 ≡ problem) }
+    ensures cause { IfErr result (λ r. r.1 ≢ Steps) }
 {
-    match confirmed_with_lemmas(alloc, problem, winner, &main) {
-        Ok(checked) => Verdict::Wins(checked),
-        Err(problem) => confirmed_plainly(alloc, problem, winner, main, made),
+    let mut rest = problem;
+    let mut least = 0;
+    for _ in 0..LEMMA_SIZES {
+        match confirmed_with_lemmas(alloc, rest, &shared, least) {
+            Ok(checked) => return Ok(checked),
+            Err((problem, Cause::Limit)) => rest = problem,
+            Err((problem, _)) => return confirmed_without_lemmas(alloc, problem, &shared),
+        }
+        least = larger(least);
+    }
+    confirmed_without_lemmas(alloc, rest, &shared)
+}
+
+/// The next size of lemmas that is tried.
+fn larger(least: u64) -> u64 {
+    if least == 0 {
+        16
+    } else {
+        least.saturating_mul(16)
     }
 }
 
-/// The claim of the tree with its shared states as lemmas, where the checker accepts it; else the problem.
-fn confirmed_with_lemmas(
-    alloc: Global,
-    problem: Problem,
-    winner: Colour,
-    main: &Node,
-) -> Result<Checked, Problem>
+/// The claim of the proofs without lemmas.
+fn confirmed_without_lemmas(alloc: Global, problem: Problem, shared: &Shared) -> Found
     ensures ok { IfOk result (λ c. c.problem ≡ problem) }
-    ensures err { IfErr result (λ rest. rest ≡ problem) }
+    ensures err { IfErr result (λ r. r.0 ≡ problem) }
+    ensures cause { IfErr result (λ r. r.1 ≢ Steps) }
 {
-    let Ok(Some(certificate)) = with_lemmas(alloc, &problem, winner, main) else {
-        return Err(problem);
-    };
+    match claim_without_lemmas(alloc, &problem, shared) {
+        Ok(certificate) => accepted(alloc, problem, certificate),
+        Err(refusal) => Err((problem, cause_of_refusal(refusal))),
+    }
+}
+
+/// The claim of the proofs with lemmas of so many turns at least.
+fn confirmed_with_lemmas(alloc: Global, problem: Problem, shared: &Shared, least: u64) -> Found
+    ensures ok { IfOk result (λ c. c.problem ≡ problem) }
+    ensures err { IfErr result (λ r. r.0 ≡ problem) }
+    ensures cause { IfErr result (λ r. r.1 ≢ Steps) }
+{
+    match claim_with_lemmas(alloc, &problem, shared, least) {
+        Ok(certificate) => accepted(alloc, problem, certificate),
+        Err(refusal) => Err((problem, cause_of_refusal(refusal))),
+    }
+}
+
+/// The claim, where the checker accepts it.
+fn accepted(alloc: Global, problem: Problem, certificate: Certificate) -> Found
+    ensures ok { IfOk result (λ c. c.problem ≡ problem) }
+    ensures err { IfErr result (λ r. r.0 ≡ problem) }
+    ensures cause { IfErr result (λ r. r.1 ≢ Steps) }
+{
     match check_held(alloc, problem, certificate) {
         Ok(checked) => Ok(checked),
-        Err((_, problem, _)) => Err(problem),
+        Err((reject, problem, _)) => Err((problem, cause_of(reject.why))),
     }
 }
 
-/// The verdict by the claim of the tree without lemmas.
-fn confirmed_plainly(
-    alloc: Global,
-    problem: Problem,
-    winner: Colour,
-    main: Node,
-    made: u64,
-) -> Verdict
-    ensures problem { IfWins result (λ c. c.problem ≡ problem) }
-    ensures kept { IfUnknown result (λ rest cause steps. rest ≡ problem) }
-    ensures made { IfUnknown result (λ rest cause steps. steps ≡ made) }
-    ensures cause { IfUnknown result (λ rest cause steps. cause ≢ Steps) }
-    ensures refused { IfUnknown result (λ rest cause steps. cause ≢ Memory → IsConfirmable problem winner main → ⊥) }
+/// The claim of the tree that full search found, without lemmas.
+fn confirmed_plainly(alloc: Global, problem: Problem, winner: Colour, main: Node) -> Found
+    ensures ok { IfOk result (λ c. c.problem ≡ problem) }
+    ensures err { IfErr result (λ r. r.0 ≡ problem) }
+    ensures cause { IfErr result (λ r. r.1 ≢ Steps) }
+    ensures refused { IfErr result (λ r. r.1 ≢ Memory → IsConfirmable problem winner main → ⊥) }
 {
     prove!(problem.size().rows() <= 25);
     let certificate = Certificate {
@@ -125,19 +248,14 @@ fn confirmed_plainly(
         main,
     };
     match check_held(alloc, problem, certificate) {
-        Ok(checked) => Verdict::Wins(checked),
-        Err((reject, problem, _)) => Verdict::Unknown {
-            problem,
-            cause: cause_of(reject.why),
-            steps: made,
-        },
+        Ok(checked) => Ok(checked),
+        Err((reject, problem, _)) => Err((problem, cause_of(reject.why))),
     }
 }
 
 /// Why there is no verdict, where the checker refused the claim without lemmas for this.
 fn cause_of(why: Why) -> Cause
-    ensures steps { result ≢ Steps }
-    ensures memory { why ≡ MemoryRefused → result ≡ Memory }
+    ensures { result ≡ cause_told why }
 {
     match why {
         Why::Limit => Cause::Limit,

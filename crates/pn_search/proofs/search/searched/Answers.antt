@@ -1,0 +1,18 @@
+use Rattle.std.proofs.Common.{◌≡◌, ℕ, ◌-◌, subst, ap, ◌∙◌}
+use Rattle.target_game.specs.State.{start}
+use Rattle.pn_search.specs.Shown.{IsDecided}
+use Rattle.pn_search.specs.Search.{full_steps}
+use Rattle.pn_search.proofs.Deepening.{if_refused_map, none_within_refused, steps_above_floor}
+use Rattle.pn_search.proofs.search.searched.Goals as goal
+
+pub returns-in-Ok-Some-clause-hard : goal.returns-in-Ok-Some-clause-hard
+returns-in-Ok-Some-clause-hard c =
+    let q = c.args.problem in
+    let steps = c.args.budget.steps in
+    let own : c.args.left.now - (c.args.left.now - c.steps_of_full_search.result) ≡ full_steps steps =
+    ap (λ (m : ℕ). m - (m - c.steps_of_full_search.result)) c.requires ∙ (ap (λ (m : ℕ). steps - (steps - m)) c.steps_of_full_search.ensures ∙ steps_above_floor steps) in
+    let decided = subst (λ r. IsDecided (start q) (full_steps steps) r) c.in-Ok-Some.field-0-is
+    (subst (λ (m : ℕ). IsDecided (start q) m c.in-Ok-Some.field-0) own c.in-Ok-Some.ensures.decided) in
+    if_refused_map c.confirmed.result _ _
+    (λ r h not_memory. none_within_refused q c.in-Ok-Some.winner c.in-Ok-Some.main steps decided (h not_memory))
+    c.confirmed.ensures.refused

@@ -1,0 +1,91 @@
+//! One state of the line of play that is searched, with its children.
+
+use crate::numbers::{Count, MoverNumbers, Thresholds};
+use crate::proofs::{Below, Proofs};
+use go_points::Turn;
+use pn_table::Key;
+
+/// What is known of a child, as the mover of the state above sees it.
+#[derive(Clone, Copy)]
+pub(crate) enum Outcome {
+    Open(MoverNumbers),
+    Wins(Below),
+    Loses(Below),
+}
+
+/// A state one turn further.
+#[derive(Clone, Copy)]
+pub(crate) struct Child {
+    pub(crate) turn: Turn,
+    pub(crate) key: Key,
+    pub(crate) outcome: Outcome,
+}
+
+/// A state of the line. Its children stand behind those of the states above it, in one list for all.
+#[derive(Clone, Copy)]
+pub(crate) struct Frame {
+    pub(crate) key: Key,
+    pub(crate) thresholds: Thresholds,
+    /// The place of the first child.
+    pub(crate) first: usize,
+    /// The place of the child that is worked on.
+    pub(crate) current: usize,
+    /// Whether the past bars a move.
+    pub(crate) is_barred: bool,
+}
+
+/// What the children say of their state.
+#[derive(Clone, Copy)]
+pub(crate) enum Standing {
+    /// The mover wins by a child.
+    Wins,
+    /// The mover loses by all children.
+    Loses,
+    Open(Count),
+}
+
+/// What these children say of their state.
+pub(crate) fn standing_of(children: &[Child]) -> Standing {
+    let mut count: Option<Count> = None;
+    for place in 0..children.len() {
+        match children[place].outcome {
+            Outcome::Wins(_) => return Standing::Wins,
+            Outcome::Loses(_) => {}
+            Outcome::Open(numbers) => {
+                count = match count {
+                    None => Some(Count::one(place, numbers)),
+                    Some(count) => Some(count.with(place, numbers)),
+                };
+            }
+        }
+    }
+    match count {
+        None => Standing::Loses,
+        Some(count) => Standing::Open(count),
+    }
+}
+
+/// How good a winning child is: an end of the game by pass is best, then any end, then the fewest turns.
+fn cost(child: Child, below: Below, proofs: &Proofs) -> u64 {
+    match below {
+        Below::Won if child.turn == Turn::Pass => 0,
+        Below::Won => 1,
+        Below::Proof(_) => proofs.turns_below(below).saturating_add(2),
+    }
+}
+
+/// The best of the children by which the mover wins.
+pub(crate) fn winning_child(children: &[Child], proofs: &Proofs) -> Option<Child> {
+    let mut best = None;
+    let mut least = u64::MAX;
+    for child in children {
+        if let Outcome::Wins(below) = child.outcome {
+            let cost = cost(*child, below, proofs);
+            if best.is_none() || cost < least {
+                best = Some(*child);
+                least = cost;
+            }
+        }
+    }
+    best
+}

@@ -1,0 +1,126 @@
+//! A line of play from the problem's state, with the positions that have occurred before its end.
+
+use crate::past::Past;
+use crate::play::{Move, Play};
+use crate::refusal::Refusal;
+use go_points::Turn;
+use pn_table::Key;
+use std::alloc::{AllocError, Global};
+use stone_key::key_of;
+use target_game::Problem;
+
+/// What a turn of the line is taken back to.
+#[derive(Clone, Copy)]
+struct Before {
+    end: Key,
+    /// Whether the turn led to a new position.
+    is_new: bool,
+}
+
+/// A line of play: the game at its end, and what has occurred before.
+#[derive(Drop)]
+pub(crate) struct Line {
+    play: Play,
+    past: Past,
+    turns: Vec<Before>,
+    end: Key,
+}
+
+impl Line {
+    /// The line without turns.
+    pub(crate) fn of(alloc: Global, problem: &Problem) -> Result<Line, AllocError> {
+        let mut past = Past::new(alloc);
+        for colouring in problem.history() {
+            past.add(key_of(colouring))?;
+        }
+        let play = Play::of(alloc, problem)?;
+        let end = play.key();
+        Ok(Line {
+            play,
+            past,
+            turns: Vec::new(alloc),
+            end,
+        })
+    }
+
+    /// How many turns it has.
+    pub(crate) fn len(&self) -> usize {
+        self.turns.len()
+    }
+
+    /// What the state at its end is known by.
+    pub(crate) fn end(&self) -> Key {
+        self.end
+    }
+
+    pub(crate) fn past(&self) -> &Past {
+        &self.past
+    }
+
+    /// Adds a turn that leads to this state. Where it is not legal, or memory is refused, nothing changes.
+    pub(crate) fn go(&mut self, turn: Turn, next: Key) -> Result<(), Refusal> {
+        let is_new = match turn {
+            Turn::Pass => false,
+            Turn::At(_) => self.past.add(next.position)?,
+        };
+        let end = self.end;
+        if self.turns.push(Before { end, is_new }).is_err() {
+            self.forget(is_new);
+            return Err(Refusal::Memory);
+        }
+        let refusal = match self.play.go(turn) {
+            Ok(true) => {
+                self.end = next;
+                return Ok(());
+            }
+            Ok(false) => Refusal::Fault,
+            Err(_) => Refusal::Memory,
+        };
+        self.turns.pop();
+        self.forget(is_new);
+        Err(refusal)
+    }
+
+    fn forget(&mut self, is_new: bool) {
+        if is_new {
+            self.past.take_last();
+        }
+    }
+
+    /// Takes the last turn back, where there is one.
+    pub(crate) fn back(&mut self) {
+        if let Some(before) = self.turns.pop() {
+            self.play.back();
+            self.forget(before.is_new);
+            self.end = before.end;
+        }
+    }
+
+    /// Takes turns back until the line has so many.
+    pub(crate) fn back_to(&mut self, turns: usize) {
+        for _ in turns..self.turns.len() {
+            self.back();
+        }
+    }
+
+    /// The moves at its end, points ascending, barred ones among them.
+    pub(crate) fn list_moves(&self, moves: &mut Vec<Move>) -> Result<(), AllocError> {
+        self.play.list_moves(moves)
+    }
+
+    pub(crate) fn play(&self) -> &Play {
+        &self.play
+    }
+}
+
+/// What a state is known by after a turn at this one.
+pub(crate) fn key_after(key: Key, turn: Turn, position: u64) -> Key {
+    Key {
+        position,
+        mover: key.mover.opponent(),
+        passes: match turn {
+            Turn::Pass => key.passes.saturating_add(1),
+            Turn::At(_) => 0,
+        },
+    }
+}

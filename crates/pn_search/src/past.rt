@@ -1,0 +1,61 @@
+//! The positions that have occurred, by their keys.
+
+use indexmap::IndexSet;
+use std::alloc::{AllocError, Global};
+
+/// The keys of the colourings that have occurred, in order of first occurrence.
+#[derive(Drop)]
+pub(crate) struct Past {
+    positions: IndexSet<u64>,
+}
+
+impl Past {
+    pub(crate) fn new(alloc: Global) -> Past {
+        Past {
+            positions: IndexSet::new(alloc),
+        }
+    }
+
+    pub(crate) fn has(&self, position: u64) -> bool {
+        self.positions.contains(&position)
+    }
+
+    /// Adds the position, and answers whether it is new.
+    pub(crate) fn add(&mut self, position: u64) -> Result<bool, AllocError> {
+        Ok(self.positions.insert(position)?)
+    }
+
+    /// Takes the latest position off.
+    pub(crate) fn take_last(&mut self) {
+        self.positions.pop();
+    }
+
+    /// Whether one of the positions, which ascend, has occurred.
+    pub(crate) fn has_any(&self, positions: &[u64]) -> bool {
+        // The shorter side is walked.
+        if positions.len() / 4 < self.positions.len() {
+            for position in positions {
+                if self.has(*position) {
+                    return true;
+                }
+            }
+            return false;
+        }
+        for position in self.positions.iter() {
+            if positions.binary_search(position).is_ok() {
+                return true;
+            }
+        }
+        false
+    }
+
+    /// Whether all of the positions have occurred.
+    pub(crate) fn has_all(&self, positions: &[u64]) -> bool {
+        for position in positions {
+            if !self.has(*position) {
+                return false;
+            }
+        }
+        true
+    }
+}

@@ -1,0 +1,219 @@
+//! One proof of a state for all places of it where that proof holds.
+//!
+//! A found proof is walked along the real line of play, and each state takes a proof that was made for it before, where that
+//! one holds, or a new one. Each new proof has the conditions of the very place where it is made.
+
+use crate::line::Line;
+use crate::play::{Move, move_of};
+use crate::proofs::{Below, Branch, Form, Proof, Proofs, Settled};
+use crate::refusal::Refusal;
+use go_points::Turn;
+use std::alloc::{AllocError, Global};
+
+/// A state of the line whose new proof is made.
+#[derive(Clone, Copy)]
+struct Visit {
+    settled: Settled,
+    /// The position after the winner's move.
+    reached: Option<u64>,
+    /// The place of the next branch among those that are due.
+    next: usize,
+    /// Where its branches, those that are made for it and its barred positions begin.
+    due: usize,
+    made: usize,
+    barred: usize,
+}
+
+/// The walk along the line.
+#[derive(Drop)]
+pub(crate) struct Sharing {
+    pub(crate) line: Line,
+    found: Proofs,
+    pub(crate) shared: Proofs,
+    visits: Vec<Visit>,
+    due: Vec<Branch>,
+    made: Vec<Branch>,
+    barred: Vec<u64>,
+    moves: Vec<Move>,
+}
+
+impl Sharing {
+    /// A walk over what was found, at the start of the problem.
+    pub(crate) fn of(alloc: Global, line: Line, found: Proofs) -> Sharing {
+        Sharing {
+            line,
+            found,
+            shared: Proofs::new(alloc),
+            visits: Vec::new(alloc),
+            due: Vec::new(alloc),
+            made: Vec::new(alloc),
+            barred: Vec::new(alloc),
+            moves: Vec::new(alloc),
+        }
+    }
+
+    /// Shares the found proof of the state at the end of the line: the number of its new proof.
+    pub(crate) fn share(&mut self, root: u32) -> Result<u32, Refusal> {
+        self.enter(root)?;
+        for _ in 0..u64::MAX {
+            if let Some(number) = self.go_on()? {
+                return Ok(number);
+            }
+        }
+        Err(Refusal::Fault)
+    }
+
+    /// Follows the next branch of the last state, or makes its proof; the first state's ends the walk.
+    fn go_on(&mut self) -> Result<Option<u32>, Refusal> {
+        let Some(visit) = self.visits.last().copied() else {
+            return Err(Refusal::Fault);
+        };
+        match self.due.get(visit.next).copied() {
+            Some(branch) => {
+                self.follow(branch)?;
+                Ok(None)
+            }
+            None => self.leave(visit),
+        }
+    }
+
+    /// Adds the state at the end of the line, of which this proof was found.
+    fn enter(&mut self, number: u32) -> Result<(), Refusal> {
+        let Some(proof) = self.found.get(number) else {
+            return Err(Refusal::Fault);
+        };
+        self.line.list_moves(&mut self.moves)?;
+        let visit = Visit {
+            settled: Settled {
+                key: self.line.end(),
+                winner: proof.winner,
+                form: proof.form,
+            },
+            reached: None,
+            next: self.due.len(),
+            due: self.due.len(),
+            made: self.made.len(),
+            barred: self.barred.len(),
+        };
+        let reached = match proof.form {
+            Form::Turn => self.list_turn(proof)?,
+            Form::Replies => {
+                self.list_replies(proof)?;
+                self.list_barred()?;
+                None
+            }
+        };
+        self.visits.push(Visit { reached, ..visit })?;
+        Ok(())
+    }
+
+    /// Lists the winner's turn as due: the position after it, where it is a move.
+    fn list_turn(&mut self, proof: Proof) -> Result<Option<u64>, AllocError> {
+        let Some(branch) = self.found.branch(proof, 0) else {
+            return Ok(None);
+        };
+        let turn = branch.turn;
+        self.due.push(branch)?;
+        match move_of(self.moves.as_slice(), turn) {
+            Some(played) => Ok(Some(played.position)),
+            None => Ok(None),
+        }
+    }
+
+    /// Lists the replies that are legal here as due.
+    fn list_replies(&mut self, proof: Proof) -> Result<(), AllocError> {
+        for place in 0..self.found.branches(proof).len() {
+            if let Some(branch) = self.found.branch(proof, place) {
+                if !is_barred(self.moves.as_slice(), branch.turn) {
+                    self.due.push(branch)?;
+                }
+            }
+        }
+        Ok(())
+    }
+
+    /// Lists the positions that are barred here.
+    fn list_barred(&mut self) -> Result<(), AllocError> {
+        for place in 0..self.moves.len() {
+            let played = self.moves[place];
+            if played.is_barred {
+                self.barred.push(played.position)?;
+            }
+        }
+        Ok(())
+    }
+
+    /// The proof that was made before for the state of a found one, one turn further, and holds there.
+    fn known(&self, found: Proof) -> Option<u32> {
+        let line = self.line.len().saturating_add(1);
+        self.shared.find(found.key, self.line.past(), line)
+    }
+
+    /// Takes what is known of the branch, or goes down it.
+    fn follow(&mut self, branch: Branch) -> Result<(), Refusal> {
+        let Below::Proof(number) = branch.below else {
+            return self.keep(branch.turn, Below::Won);
+        };
+        let Some(found) = self.found.get(number) else {
+            return Err(Refusal::Fault);
+        };
+        if let Some(number) = self.known(found) {
+            return self.keep(branch.turn, Below::Proof(number));
+        }
+        self.line.go(branch.turn, found.key)?;
+        self.enter(number)
+    }
+
+    /// Keeps the branch of the last state, and turns to its next one.
+    fn keep(&mut self, turn: Turn, below: Below) -> Result<(), Refusal> {
+        self.made.push(Branch { turn, below })?;
+        self.pass_on();
+        Ok(())
+    }
+
+    /// Turns to the next branch of the last state.
+    fn pass_on(&mut self) {
+        let last = self.visits.len().saturating_sub(1);
+        if last < self.visits.len() {
+            self.visits[last].next = self.visits[last].next.saturating_add(1);
+        }
+    }
+
+    /// Makes the proof of the last state, and gives it to the state above: its number, where there is none above.
+    fn leave(&mut self, visit: Visit) -> Result<Option<u32>, Refusal> {
+        let number = self.add(visit)?;
+        self.due.truncate(visit.due);
+        self.made.truncate(visit.made);
+        self.barred.truncate(visit.barred);
+        self.visits.pop();
+        let Some(above) = self.visits.last().copied() else {
+            return Ok(Some(number));
+        };
+        self.line.back();
+        let Some(branch) = self.due.get(above.next).copied() else {
+            return Err(Refusal::Fault);
+        };
+        self.keep(branch.turn, Below::Proof(number))?;
+        Ok(None)
+    }
+
+    fn add(&mut self, visit: Visit) -> Result<u32, AllocError> {
+        if visit.made > self.made.len() || visit.barred > self.barred.len() {
+            return Err(AllocError);
+        }
+        self.shared.add(
+            visit.settled,
+            &self.made[visit.made..],
+            visit.reached,
+            &self.barred[visit.barred..],
+        )
+    }
+}
+
+/// Whether the turn is a move that the past bars.
+fn is_barred(moves: &[Move], turn: Turn) -> bool {
+    match move_of(moves, turn) {
+        Some(played) => played.is_barred,
+        None => false,
+    }
+}

@@ -1,12 +1,12 @@
 -- Lists of values that stand for colourings: what is asked of the values is asked of their colourings.
-use Rattle.std.proofs.Common.{◌≡◌, ℕ, ◌+◌, ◌-◌, ◌<◌, ◌≤◌, Bool, true, false, ◌||◌, not, cond, List, [], ◌∷◌, ◌++◌, take, map, length, nat_lt, Option, Some, None, if◌then◌else◌, refl, sym, ◌∙◌, ap, ap₂, arith}
+use Rattle.std.proofs.Common.{◌≡◌, ℕ, ◌+◌, ◌-◌, Bool, false, ◌||◌, not, cond, List, [], ◌∷◌, ◌++◌, take, map, length, nat_lt, Option, Some, None, if◌then◌else◌, refl, sym, ◌∙◌, ap, ap₂, arith}
 use Rattle.std.specs.List.{list_any, position, position_or_len}
 use Rattle.std.proofs.Math.Seq.{take-append_seam}
 use Rattle.std.proofs.lemmas.List.{map-append, length-map, length-append}
 use Rattle.std.specs.Option.{IsSome, option_to_list}
 use Rattle.go_points.specs.declared.Cell.{Cell}
 use Rattle.go_points.specs.Grid.{same_cells}
-use Rattle.go_turns.specs.History.{place_in, has_occurred, repeats}
+use Rattle.go_turns.specs.History.{place_in, repeats}
 use Rattle.go_turns.proofs.Repeats.{no_element, once_in_front}
 
 module _ {X Y : Type 0} (f : X → Y) (test : Y → Bool) where

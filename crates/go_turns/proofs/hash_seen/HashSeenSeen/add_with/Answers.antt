@@ -1,4 +1,4 @@
-use Rattle.std.proofs.Common.{◌≡◌, List, [], ◌∷◌, ◌++◌, None, ◌∙◌, ap, map}
+use Rattle.std.proofs.Common.{List, [], ◌∷◌, ◌++◌, ◌∙◌, ap, map}
 use Rattle.go_points.specs.declared.Cell.{Cell}
 use Rattle.go_turns.specs.History.{place_in, repeats}
 use Rattle.go_turns.specs.declared.keyed_colouring.KeyedColouring.{KeyedColouring}

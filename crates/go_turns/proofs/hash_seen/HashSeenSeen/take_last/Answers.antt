@@ -1,4 +1,4 @@
-use Rattle.std.proofs.Common.{◌≡◌, ◌-◌, ◌<◌, ◌∙◌, ap, sym, subst, map, length, take, List, ℕ, arith}
+use Rattle.std.proofs.Common.{◌≡◌, ◌-◌, ◌<◌, ◌∙◌, ap, map, length, take, List, arith}
 use Rattle.std.proofs.lemmas.List.{length-map}
 use Rattle.go_points.specs.declared.Cell.{Cell}
 use Rattle.go_turns.specs.declared.keyed_colouring.KeyedColouring.{KeyedColouring}

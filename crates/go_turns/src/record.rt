@@ -1,10 +1,12 @@
 //! Records of turns. A record keeps one board and one history; a step keeps only what it changed, and `undo` looks its colouring up in the history.
 
-ghost use Rattle.std.specs.Prelude.{◌≡◌, ◌<◌, ◌≤◌, ◌+◌, ◌*◌, ◌++◌, [], ◌∷◌, length, map, nat_lt, slice_index_or, IsFalse, IfErr, IfOk, IfSome, OnOk, OnErr, None, is_some};
+ghost use Rattle.std.specs.Prelude.{◌≡◌, ◌<◌, ◌≤◌, ◌+◌, ◌*◌, ◌++◌, [], ◌∷◌, length, map, nat_lt, slice_index_or, slice_set, ◌↔◌, IsTrue, IsFalse, IfErr, IfOk, IfSome, OnOk, OnErr, None, is_some};
 ghost use Rattle.std.specs.List.{All, list_all};
 ghost use Rattle.go_points.specs.Grid.{cell_at, side_of, IsColouring};
 ghost use Rattle.go_points.specs.Place.{IsOn, number_of};
 ghost use Rattle.go_points.specs.Liberty.{first_without_liberty};
+ghost use Rattle.go_points.specs.Move.{after_move};
+ghost use Rattle.go_points.specs.declared.Cell.TheVariants.{Empty, Stone};
 ghost use Rattle.go_points.specs.Ply.{ply_of, pass as a_pass, move as a_move};
 ghost use Rattle.go_turns.specs.History.{place_in, repeats};
 ghost use Rattle.stone_key.specs.Key.{key_of};
@@ -312,6 +314,15 @@ impl<B: Board, S: Seen> Record<B, S> {
         ensures { result ≡ cell_at (colouring_of self.now.present) (number_of self.now.size point) }
     {
         self.board.cell(point)
+    }
+
+    /// Whether a move at the empty point keeps its stone and changes no other point, whether or not it repeats.
+    pub fn quiet(&self, colour: Colour, point: Point) -> bool
+        requires on_board { IsOn self.now.size point }
+        requires empty { cell_at (colouring_of self.now.present) (number_of self.now.size point) ≡ Empty }
+        ensures { IsTrue result ↔ (after_move self.now.size (colouring_of self.now.present) colour (number_of self.now.size point) ≡ slice_set (colouring_of self.now.present) (number_of self.now.size point) (Stone colour)) }
+    {
+        self.board.quiet(colour, point)
     }
 
     /// The present colouring, in which every stone reaches empty.

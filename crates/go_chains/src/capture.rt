@@ -9,8 +9,8 @@ ghost use Rattle.go_points.specs.Stones.{stone_count};
 ghost use Rattle.go_chains.specs.Chains.{touches, IsSettled, LacksLiberties, LeavesLiberties};
 
 use crate::circles::remove;
-use stone_key::KeyedColouring;
 use go_points::{Colour, MAX_POINTS};
+use stone_key::KeyedColouring;
 
 /// Takes the chain at the point off where it is of the colour and has no liberty. How many stones it had.
 pub(crate) fn remove_without_liberty(

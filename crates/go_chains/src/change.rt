@@ -10,9 +10,9 @@ ghost use Rattle.go_chains.specs.Chains.{nowhere, IsBoard, IsSettled, TellsLiber
 
 use crate::NoLiberty;
 use crate::circles::remove;
-use stone_key::KeyedColouring;
 use crate::stones::fill;
 use go_points::{Cell, Colouring, MAX_POINTS, Point};
+use stone_key::KeyedColouring;
 
 // Whether two points hold the same.
 fn are_same(cell: Cell, other: Cell) -> bool
@@ -87,14 +87,7 @@ fn fill_changed(
     prove!(size.area() <= MAX_POINTS);
     for number in 0..size.area() {
         if heads[number] == MAX_POINTS as u16 {
-            fill_cell(
-                colouring,
-                heads,
-                next,
-                counts,
-                wanted.cell(number),
-                number,
-            );
+            fill_cell(colouring, heads, next, counts, wanted.cell(number), number);
         }
     }
     prove!(wanted.size().area() <= MAX_POINTS);

@@ -8,8 +8,8 @@ ghost use Rattle.go_chains.specs.Joined.{HoldsThose};
 ghost use Rattle.go_chains.specs.Chains.{touches, TellsLiberties};
 ghost use Rattle.go_chains.specs.Quiet.{has_more as has_more_of, loses_last, lets_stay, is_liberty};
 
-use stone_key::KeyedColouring;
 use go_points::{Colour, MAX_POINTS, PointSet, Size};
+use stone_key::KeyedColouring;
 
 // How many points beside the point have this head.
 fn shared(heads: &[u16], size: Size, number: usize, head: u16) -> u32

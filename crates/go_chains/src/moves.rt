@@ -7,9 +7,9 @@ ghost use Rattle.go_points.specs.Move.{after_move, taken_by_move};
 ghost use Rattle.go_chains.specs.Chains.{nowhere, IsBoard};
 
 use crate::capture::{capture, remove_without_liberty};
-use stone_key::KeyedColouring;
 use crate::stones::fill;
 use go_points::{Colour, MAX_POINTS};
+use stone_key::KeyedColouring;
 
 /// A stone is put down at an empty point, then the chains of the other colour without liberty are taken off, and then its own if it has none. How many stones are taken off.
 pub(crate) fn make_move(

@@ -7,8 +7,8 @@ ghost use Rattle.go_points.specs.Grid.{adjacent, cell_at, side_of};
 ghost use Rattle.go_chains.specs.Chains.{nowhere, empties_beside, AreFull, HasCircles, HasCounts, IsSettled, KeepsTogether, KeepsOthers};
 
 use crate::circles::{merge, take_from};
-use stone_key::KeyedColouring;
 use go_points::{Cell, Colour, MAX_POINTS};
+use stone_key::KeyedColouring;
 
 // How many empty points are beside the point.
 fn empties_at(colouring: &KeyedColouring, number: usize) -> u32

@@ -49,7 +49,7 @@ pub returns-in-Less : goal.returns-in-Less
 returns-in-Less c =
     let i = c.loop-number.number in
     let came : Less ≡ nat_cmp (cell_code (cell_at c.args.self.now i)) (cell_code (cell_at c.args.other.now i))
-        = sym c.in-Less.is ∙ c.cmp.ensures ∙ agrees c.cell.result c.cell-in-loop-number.result ∙ ap₂ (λ a b. nat_cmp (cell_code a) (cell_code b)) c.cell.ensures c.cell-in-loop-number.ensures in
+    = sym c.in-Less.is ∙ c.cmp.ensures ∙ agrees c.cell.result c.cell-in-loop-number.result ∙ ap₂ (λ a b. nat_cmp (cell_code a) (cell_code b)) c.cell.ensures c.cell-in-loop-number.ensures in
     let one : c.area.result ≡ length c.args.self.now = c.area.ensures.value ∙ ap (λ (m : ℕ). m * m) c.size.ensures.value ∙ sym c.size.ensures.colouring.full in
     let two : c.area-2.result ≡ length c.args.other.now = c.area-2.ensures.value ∙ ap (λ (m : ℕ). m * m) c.size-2.ensures.value ∙ sym c.size-2.ensures.colouring.full in
     let low : i < length c.args.self.now = omega (arith, one, c.loop-number-test.true, c.min-most.ensures) in
@@ -60,7 +60,7 @@ pub returns-in-Greater : goal.returns-in-Greater
 returns-in-Greater c =
     let i = c.loop-number.number in
     let came : Greater ≡ nat_cmp (cell_code (cell_at c.args.self.now i)) (cell_code (cell_at c.args.other.now i))
-        = sym c.in-Greater.is ∙ c.cmp.ensures ∙ agrees c.cell.result c.cell-in-loop-number.result ∙ ap₂ (λ a b. nat_cmp (cell_code a) (cell_code b)) c.cell.ensures c.cell-in-loop-number.ensures in
+    = sym c.in-Greater.is ∙ c.cmp.ensures ∙ agrees c.cell.result c.cell-in-loop-number.result ∙ ap₂ (λ a b. nat_cmp (cell_code a) (cell_code b)) c.cell.ensures c.cell-in-loop-number.ensures in
     let one : c.area.result ≡ length c.args.self.now = c.area.ensures.value ∙ ap (λ (m : ℕ). m * m) c.size.ensures.value ∙ sym c.size.ensures.colouring.full in
     let two : c.area-2.result ≡ length c.args.other.now = c.area-2.ensures.value ∙ ap (λ (m : ℕ). m * m) c.size-2.ensures.value ∙ sym c.size-2.ensures.colouring.full in
     let low : i < length c.args.self.now = omega (arith, one, c.loop-number-test.true, c.min-most.ensures) in

@@ -1,110 +1,69 @@
-//! The checker over a source that fails behind its lines.
-
-ghost use Rattle.std.specs.Prelude.{◌+◌, Some, if◌then◌else◌};
+//! The checker over a reader that fails behind its bytes.
 
 use crate::tests::{problem, refused};
 use crate::{Reject, Why, check};
-use go_points::{Colour, Size};
-use proof_cert::{Line, NodeSource, ReaderSource, SourceFault};
+use go_points::Colour;
+use proof_cert::ReaderSource;
 use std::alloc::Global;
+use std::io;
+use std::io::{ErrorKind, Read};
 use std::process::Abort;
 
-// The lines of a text, and in place of its end a fault.
+// Gives a text in pieces of seven bytes, and then fails.
 #[derive(Drop)]
-struct Cut<'a> {
-    text: ReaderSource<&'a [u8]>,
-    end: SourceFault,
-    has_failed: bool,
+struct Failing<'a> {
+    left: &'a [u8],
 }
 
-impl<'a> NodeSource for Cut<'a> {
-    ghost size = { λ s. s.text.size };
+impl<'a> Read for Failing<'a> {
+    ghost use Rattle.std.specs.Prelude.{Some};
 
-    ghost number = { λ s. (if s.has_failed then s.text.number + 1 else s.text.number) };
+    ghost remaining = { λ r. Some r.left.now };
 
-    ghost fault = { λ s. (if s.has_failed then Some s.end else s.text.fault) };
-
-    ghost gives = { λ s r t. Unit {0} };
-
-    fn next(&mut self) -> Result<Option<Line>, SourceFault> {
-        if self.has_failed {
-            return Err(self.end);
+    fn read(&mut self, buf: &mut [u8]) -> io::Result<usize> {
+        if self.left.is_empty() {
+            return Err(io::Error::from(ErrorKind::Other));
         }
-        match self.text.next() {
-            Ok(None) => {
-                self.has_failed = true;
-                Err(self.end)
-            }
-            answer => answer,
-        }
-    }
-
-    fn size(&self) -> Size {
-        self.text.size()
-    }
-
-    fn line_number(&self) -> u64 {
-        if self.has_failed {
-            self.text.line_number() + 1
-        } else {
-            self.text.line_number()
-        }
+        let count = self.left.len().min(buf.len()).min(7);
+        let (front, rest) = self.left.split_at(count);
+        buf[..count].copy_from_slice(front);
+        self.left = rest;
+        Ok(count)
     }
 }
 
-// The answer where these lines come, and then this fault.
-fn answer_behind(
-    rt: &impl Abort,
-    alloc: Global,
-    text: &str,
-    end: SourceFault,
-) -> Result<Colour, Reject> {
+// The answer where these bytes come, and then a failed read.
+fn answer_behind(rt: &impl Abort, alloc: Global, text: &str) -> Result<Colour, Reject> {
     let problem = problem(alloc, rt, 3, &["O..X....."], Colour::Black, &[(1, 0)]);
-    let mut source = Cut {
-        text: ReaderSource::new(problem.size(), text.as_bytes()),
-        end,
-        has_failed: false,
+    let reader = Failing {
+        left: text.as_bytes(),
     };
+    let mut source = ReaderSource::new(problem.size(), reader);
     check(alloc, &problem, &mut source)
 }
 
 #[test]
 fn a_line_that_cannot_be_read(rt: HostRuntime) {
-    let none = answer_behind(&rt, rt.alloc(), "", SourceFault::Read);
+    let none = answer_behind(&rt, rt.alloc(), "");
     assert_eq!(rt; none, refused(1, Why::Read));
-    let some = answer_behind(
-        &rt,
-        rt.alloc(),
-        "tsucert 1 3 B\nmain\nplay ba\n",
-        SourceFault::Read,
-    );
+    let some = answer_behind(&rt, rt.alloc(), "tsucert 1 3 B\nmain\nplay ba\n");
     assert_eq!(rt; some, refused(4, Why::Read));
-    let whole = "tsucert 1 3 B\nmain\nplay ba\nwon\nend\n";
-    assert_eq!(rt;
-        answer_behind(&rt, rt.alloc(), whole, SourceFault::Read),
-        refused(6, Why::Read)
-    );
-    assert_eq!(rt;
-        answer_behind(&rt, rt.alloc(), whole, SourceFault::Memory),
-        refused(6, Why::Memory)
-    );
+    let part = answer_behind(&rt, rt.alloc(), "tsucert 1 3 B\nmain\nplay b");
+    assert_eq!(rt; part, refused(3, Why::Read));
+    let whole = answer_behind(&rt, rt.alloc(), "tsucert 1 3 B\nmain\nplay ba\nwon\nend\n");
+    assert_eq!(rt; whole, refused(6, Why::Read));
 }
 
 #[test]
 fn faults_before_a_line_that_cannot_be_read(rt: HostRuntime) {
-    let faulty = "tsucert 1 3 B\nmain\nplay pass\nwon\n";
-    assert_eq!(rt;
-        answer_behind(&rt, rt.alloc(), faulty, SourceFault::Read),
-        refused(4, Why::NotWon)
+    let faulty = answer_behind(&rt, rt.alloc(), "tsucert 1 3 B\nmain\nplay pass\nwon\n");
+    assert_eq!(rt; faulty, refused(4, Why::NotWon));
+    let more = answer_behind(
+        &rt,
+        rt.alloc(),
+        "tsucert 1 3 B\nmain\nplay ba\nwon\nend\nmain\n",
     );
-    let more = "tsucert 1 3 B\nmain\nplay ba\nwon\nend\nmain\n";
-    assert_eq!(rt;
-        answer_behind(&rt, rt.alloc(), more, SourceFault::Read),
-        refused(6, Why::TextAfterEnd)
-    );
-    let malformed = "tsucert 1 3 B\nmain\nplay\n";
-    assert_eq!(rt;
-        answer_behind(&rt, rt.alloc(), malformed, SourceFault::Read),
-        refused(3, Why::Malformed)
-    );
+    assert_eq!(rt; more, refused(6, Why::TextAfterEnd));
+    let malformed = answer_behind(&rt, rt.alloc(), "tsucert 1 3 B\nmain\nplay\n");
+    assert_eq!(rt; malformed, refused(3, Why::Malformed));
 }

@@ -33,7 +33,7 @@ def winners(index):
         next(lines)
         for line in lines:
             fields = line.rstrip("\n").split("\t")
-            known[fields[0]] = (fields[3], int(fields[2]))
+            known[fields[0]] = (fields[3], int(fields[2] or 0))
     return known
 
 

@@ -2,7 +2,7 @@
 --     Took gives n s ls t      calls one behind another gave these lines of the program, from the source s of size n on, and left t
 --     Answers gives t r      a call may answer so there
 --     Accepts, RejectsAt, FailsAt      the answers, by the lines taken
-use Rattle.std.specs.Prelude.{◌≡◌, ℕ, suc, ◌+◌, ◌^◌, ◌<◌, ◌≤◌, ◌⊎◌, List, length, Option, None, Result, Ok, Err}
+use Rattle.std.specs.Prelude.{◌≡◌, ℕ, suc, ◌+◌, ◌^◌, ◌<◌, ◌≤◌, ◌⊎◌, List, ◌++◌, length, Option, None, Result, Ok, Err}
 use Rattle.go_points.specs.declared.Colour.{Colour}
 use Rattle.target_game.specs.State.{GameProblem}
 use Rattle.proof_cert.specs.Lines.{Line}
@@ -49,9 +49,9 @@ pub record FailsAt {S : Type 0} (gives : S → Result (Option Line) SourceFault 
   pub behind : place ≡ suc (length taken)
   pub faultless : (p : ℕ) (w : Why) → verdict q (line_values q.game.size taken) ≡ rejected p w → length taken < p
 
--- Over a reader the answers are those of the verdict on all the lines of its bytes, as far as they are read.
+-- Over some bytes and a reader the answers are those of the verdict on all the lines of those bytes and the reader's, as far as they are read.
 pub record ReadersJudged : Type 0 where
-  pub accepted : (q : GameProblem) (told : Option (List ℕ)) (x : Colour) → Accepts reader_gives q.game.size q (streamed_of q.game.size told) x
-      → (bytes : List ℕ) × Tells told bytes × (verdict q (lines_read q.game.size bytes) ≡ accepted x)
-  pub rejected : (q : GameProblem) (told : Option (List ℕ)) (place : ℕ) (why : Why) → RejectsAt reader_gives q.game.size q (streamed_of q.game.size told) place why
-      → (bytes : List ℕ) × Tells told bytes × (verdict q (lines_read q.game.size bytes) ≡ rejected place why)
+  pub accepted : (q : GameProblem) (held : List ℕ) (told : Option (List ℕ)) (x : Colour) → Accepts reader_gives q.game.size q (streamed_of q.game.size held told) x
+      → (bytes : List ℕ) × Tells told bytes × (verdict q (lines_read q.game.size (held ++ bytes)) ≡ accepted x)
+  pub rejected : (q : GameProblem) (held : List ℕ) (told : Option (List ℕ)) (place : ℕ) (why : Why) → RejectsAt reader_gives q.game.size q (streamed_of q.game.size held told) place why
+      → (bytes : List ℕ) × Tells told bytes × (verdict q (lines_read q.game.size (held ++ bytes)) ≡ rejected place why)

@@ -66,7 +66,7 @@ fn first_move(state: &PlayState) -> Option<Point>
 }
 
 // Makes the turn, which is a pass or a legal move of a game that is not over.
-fn make(rt: &impl Abort, state: &mut PlayState, turn: Turn) {
+pub(crate) fn make(rt: &impl Abort, state: &mut PlayState, turn: Turn) {
     assert!(rt; state.over().is_none(), "the game goes on");
     match turn {
         Turn::Pass => state.after(Turn::Pass).expect(rt, "memory"),
@@ -80,7 +80,7 @@ fn make(rt: &impl Abort, state: &mut PlayState, turn: Turn) {
     }
 }
 
-fn add_line(text: &mut Vec<u8>, rt: &impl Abort, word: &[u8], turn: Turn) {
+pub(crate) fn add_line(text: &mut Vec<u8>, rt: &impl Abort, word: &[u8], turn: Turn) {
     text.extend_from_slice(word).expect(rt, "memory");
     match turn {
         Turn::Pass => text.extend_from_slice(b"pass").expect(rt, "memory"),
@@ -89,7 +89,7 @@ fn add_line(text: &mut Vec<u8>, rt: &impl Abort, word: &[u8], turn: Turn) {
     text.push(b'\n').expect(rt, "memory");
 }
 
-fn add_count(text: &mut Vec<u8>, rt: &impl Abort, count: usize) {
+pub(crate) fn add_count(text: &mut Vec<u8>, rt: &impl Abort, count: usize) {
     text.extend_from_slice(b"all ").expect(rt, "memory");
     if count >= 10 {
         text.push(b'0' + (count / 10 % 10) as u8)

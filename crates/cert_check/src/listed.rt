@@ -10,8 +10,35 @@ use go_points::Colouring;
 /// A list that is shorter than another by this factor is looked up in it, colouring by colouring.
 const MUCH_SHORTER: usize = 16;
 
-/// Whether the colouring stands on the list: by halving.
+/// A list up to this length is looked through, since two colourings are compared faster by their words than by their order.
+const SHORT: usize = 32;
+
+/// Whether the colouring stands on the list.
 pub(crate) fn stands_on(colouring: &Colouring, list: &[Colouring]) -> bool
+    requires { Ascends list.now }
+    ensures { result ≡ has_occurred list.now colouring.now }
+{
+    if list.len() <= SHORT {
+        is_among(colouring, list)
+    } else {
+        is_found(colouring, list)
+    }
+}
+
+/// The same, by looking at each.
+fn is_among(colouring: &Colouring, list: &[Colouring]) -> bool
+    ensures { result ≡ has_occurred list.now colouring.now }
+{
+    for listed in list {
+        if colouring == listed {
+            return true;
+        }
+    }
+    false
+}
+
+/// The same, by halving.
+fn is_found(colouring: &Colouring, list: &[Colouring]) -> bool
     requires { Ascends list.now }
     ensures { result ≡ has_occurred list.now colouring.now }
 {

@@ -38,7 +38,7 @@ fn answer_behind(rt: &impl Abort, alloc: Global, text: &str) -> Result<Colour, R
     let reader = Failing {
         left: text.as_bytes(),
     };
-    let mut source = ReaderSource::new(problem.size(), reader);
+    let mut source = ReaderSource::new(problem.size(), b"".as_slice(), reader);
     check(alloc, &problem, &mut source)
 }
 

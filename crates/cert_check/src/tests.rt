@@ -51,7 +51,11 @@ pub(crate) fn problem(
 
 // The answer to a text.
 pub(crate) fn judged(alloc: Global, problem: &Problem, text: &[u8]) -> Result<Colour, Reject> {
-    check(alloc, problem, &mut ReaderSource::new(problem.size(), text))
+    check(
+        alloc,
+        problem,
+        &mut ReaderSource::new(problem.size(), text, b"".as_slice()),
+    )
 }
 
 pub(crate) fn refused(place: u64, why: Why) -> Result<Colour, Reject> {

@@ -12,7 +12,7 @@ mod wide_tree;
 
 use cert_check::{Reject, Why};
 use go_points::Colour;
-use samples::{FAMILIES, LARGE, SMALL, Sample};
+use samples::{Extent, FAMILIES, Family, LARGE, SMALL, Sample};
 use speed::{per_second, tenths};
 use std::convert::AsStr;
 use std::rt::Clock;
@@ -28,6 +28,24 @@ fn main(rt: HostRuntime) -> io::Result<()> {
         } else {
             judge_once(&rt, &family.sample(rt.alloc(), SMALL)?)?;
         }
+    }
+    if is_measuring {
+        measure_depths(&rt)?;
+    }
+    Ok(())
+}
+
+/// How deep the deep paths are, in turns of Black: the time of a line may not grow with them. The game is over before 999.
+const ROUNDS: [u32; 3] = [125, 250, 500];
+
+fn measure_depths<R: Print + Clock + AllocGlobal>(rt: &R) -> io::Result<()> {
+    for rounds in ROUNDS {
+        let extent = Extent {
+            lemmas: 0,
+            moves: 0,
+            rounds,
+        };
+        measure(rt, &Family::DeepPath.sample(rt.alloc(), extent)?)?;
     }
     Ok(())
 }

@@ -12,13 +12,21 @@ use std::time::{Duration, Instant};
 
 /// What the checker says of the claim.
 pub fn judge(alloc: Global, sample: &Sample) -> Result<Colour, Reject> {
-    let mut source = ReaderSource::new(sample.problem.size(), sample.claim.as_slice());
+    let mut source = ReaderSource::new(
+        sample.problem.size(),
+        sample.claim.as_slice(),
+        b"".as_slice(),
+    );
     check(alloc, &sample.problem, &mut source)
 }
 
 /// How many lines the claim has, where each is spelled as lines are.
 pub fn split(sample: &Sample) -> io::Result<u64> {
-    let mut source = ReaderSource::new(sample.problem.size(), sample.claim.as_slice());
+    let mut source = ReaderSource::new(
+        sample.problem.size(),
+        sample.claim.as_slice(),
+        b"".as_slice(),
+    );
     for _ in 0..u64::MAX {
         match source.next() {
             Ok(Some(_)) => {}

@@ -1,6 +1,6 @@
 -- Points pass one by one to what another colouring holds.
-use Rattle.std.proofs.Common.{◌≡◌, ◌≢◌, ℕ, ◌+◌, ◌*◌, ◌<◌, ◌⊎◌, inl, inr, List, sym, ◌∙◌, subst, arith}
-use Rattle.std.proofs.lemmas.Bool.{cases_eq}
+use Rattle.std.proofs.Common.{◌≡◌, ◌≢◌, ℕ, ◌+◌, ◌*◌, ◌<◌, ◌≤◌, ◌⊎◌, inl, inr, List, sym, ◌∙◌, subst, arith}
+use Rattle.std.proofs.lemmas.Bool.{cases_eq, cases_lt}
 use Rattle.go_points.specs.declared.Cell.{Cell}
 use Rattle.go_points.specs.declared.Cell.TheVariants.{Empty}
 use Rattle.go_points.specs.Grid.{cell_at}
@@ -20,6 +20,13 @@ stays_more n now after wanted i on emptier here before p less = elim (cases_eq p
     go earlier (inl e) m = inl e
     go earlier (inr e) (inl f) = inl (e ∙ f)
     go earlier (inr e) (inr f) = inr (e ∙ f)
+
+-- the points up to the next difference are as they are wanted
+pub stays_on : (now wanted : List Cell) (i j : ℕ) → ((p : ℕ) → p < i → MayStay now wanted p) → ((p : ℕ) → i ≤ p → p < j → cell_at now p ≡ cell_at wanted p) → (p : ℕ) → p < j → MayStay now wanted p
+stays_on now wanted i j before same p low = elim (cases_lt p i) [ inl less ↦ before p less | inr past ↦ inr (same p past low) ]
+
+pub filled_on : (now wanted : List Cell) (i j : ℕ) → ((p : ℕ) → p < i → cell_at now p ≡ cell_at wanted p) → ((p : ℕ) → i ≤ p → p < j → cell_at now p ≡ cell_at wanted p) → (p : ℕ) → p < j → cell_at now p ≡ cell_at wanted p
+filled_on now wanted i j before same p low = elim (cases_lt p i) [ inl less ↦ before p less | inr past ↦ same p past low ]
 
 pub stays_filled : (n : ℕ) (now after wanted : List Cell) (i : ℕ) → cell_at after i ≡ cell_at wanted i → ((q : ℕ) → q ≢ i → cell_at after q ≡ cell_at now q)
     → ((p : ℕ) → p < n * n → MayStay now wanted p) → (p : ℕ) → p < n * n → MayStay after wanted p

@@ -1,25 +1,18 @@
 //! A board takes another colouring over: the chains with a stone that the other does not hold go, and then its stones that are missing are put down.
 
-ghost use Rattle.std.specs.Prelude.{◌≡◌, ◌≢◌, ◌⊎◌, ◌*◌, ◌<◌, ℕ, OnOk, OnErr, IfErr, IfSome, IfNone, Some, None, length, slice_index};
+ghost use Rattle.std.specs.Prelude.{◌≡◌, ◌≢◌, ◌⊎◌, ◌*◌, ◌<◌, ℕ, IsTrue, OnOk, OnErr, IfErr, IfSome, IfNone, Some, None, length, slice_index};
 ghost use Rattle.go_points.specs.declared.Cell.TheVariants.{Empty};
 ghost use Rattle.go_points.specs.declared.TheConstants.{MAX_POINTS};
-ghost use Rattle.go_points.specs.Grid.{cell_at, same_cell, side_of};
-ghost use Rattle.go_points.specs.Liberty.{first_without_liberty};
+ghost use Rattle.go_points.specs.Grid.{cell_at, side_of};
+ghost use Rattle.go_points.specs.Liberty.{lacks_liberty as lacks_liberty_of, first_without_liberty};
 ghost use Rattle.go_points.specs.Place.{IsOn, number_of};
-ghost use Rattle.go_chains.specs.Chains.{nowhere, IsBoard, IsSettled, TellsLiberties};
+ghost use Rattle.go_chains.specs.Chains.{nowhere, IsBoard, IsSettled, TellsLiberties, LivesAround, LivesWhereNew};
 
 use crate::NoLiberty;
 use crate::circles::remove;
 use crate::stones::fill;
 use go_points::{Cell, Colouring, MAX_POINTS, Point};
 use stone_key::KeyedColouring;
-
-// Whether two points hold the same.
-fn are_same(cell: Cell, other: Cell) -> bool
-    ensures { result ≡ same_cell cell other }
-{
-    cell == other
-}
 
 // Takes the chains off that have a stone where the other colouring holds something else.
 fn remove_changed(
@@ -37,11 +30,13 @@ fn remove_changed(
 {
     let size = colouring.size();
     prove!(size.area() <= MAX_POINTS);
-    for number in 0..size.area() {
+    let mut number = colouring.colouring().next_difference(wanted, 0);
+    'changed: while number < size.area() {
         let head = heads[number];
-        if head != MAX_POINTS as u16 && !are_same(colouring.at(number), wanted.cell(number)) {
+        if head != MAX_POINTS as u16 {
             remove(colouring, heads, next, counts, head);
         }
+        number = colouring.colouring().next_difference(wanted, number + 1);
     }
 }
 
@@ -85,13 +80,72 @@ fn fill_changed(
 {
     let size = colouring.size();
     prove!(size.area() <= MAX_POINTS);
-    for number in 0..size.area() {
-        if heads[number] == MAX_POINTS as u16 {
-            fill_cell(colouring, heads, next, counts, wanted.cell(number), number);
-        }
+    let mut number = colouring.colouring().next_difference(wanted, 0);
+    'changed: while number < size.area() {
+        fill_cell(colouring, heads, next, counts, wanted.cell(number), number);
+        number = colouring.colouring().next_difference(wanted, number + 1);
     }
     prove!(wanted.size().area() <= MAX_POINTS);
     prove!(colouring.size().area() <= MAX_POINTS);
+}
+
+// Whether the point holds a stone whose chain has no liberty.
+fn lacks_liberty(colouring: &KeyedColouring, heads: &[u16], counts: &[u32], number: usize) -> bool
+    requires heads_full { length heads.now ≡ MAX_POINTS }
+    requires counts_full { length counts.now ≡ MAX_POINTS }
+    requires tells { TellsLiberties (side_of colouring.now) colouring.now heads.now counts.now }
+    requires on { number < side_of colouring.now * side_of colouring.now }
+    ensures { result ≡ lacks_liberty_of (side_of colouring.now) colouring.now number }
+{
+    prove!(colouring.size().area() <= MAX_POINTS);
+    let head = heads[number];
+    head != MAX_POINTS as u16 && counts[head as usize] == 0
+}
+
+// Whether the chains of the point and of those beside it have liberties.
+fn live_around(colouring: &KeyedColouring, heads: &[u16], counts: &[u32], number: usize) -> bool
+    requires heads_full { length heads.now ≡ MAX_POINTS }
+    requires counts_full { length counts.now ≡ MAX_POINTS }
+    requires tells { TellsLiberties (side_of colouring.now) colouring.now heads.now counts.now }
+    requires on { number < side_of colouring.now * side_of colouring.now }
+    ensures { IsTrue result → LivesAround (side_of colouring.now) colouring.now number }
+{
+    let size = colouring.size();
+    if lacks_liberty(colouring, heads, counts, number) {
+        return false;
+    }
+    let neighbours = size.point_at(number).neighbours(size);
+    for neighbour in neighbours.as_slice() {
+        if lacks_liberty(colouring, heads, counts, neighbour.number(size)) {
+            return false;
+        }
+    }
+    true
+}
+
+// Whether all chains have liberties at and beside the stones that another colouring does not hold.
+fn live_where_new(
+    colouring: &KeyedColouring,
+    heads: &[u16],
+    counts: &[u32],
+    before: &Colouring,
+) -> bool
+    requires heads_full { length heads.now ≡ MAX_POINTS }
+    requires counts_full { length counts.now ≡ MAX_POINTS }
+    requires tells { TellsLiberties (side_of colouring.now) colouring.now heads.now counts.now }
+    requires same_size { side_of before.now ≡ side_of colouring.now }
+    ensures { IsTrue result → LivesWhereNew (side_of colouring.now) before.now colouring.now }
+{
+    let size = colouring.size();
+    prove!(size.area() <= MAX_POINTS);
+    let mut number = colouring.colouring().next_difference(before, 0);
+    'changed: while number < size.area() {
+        if heads[number] != MAX_POINTS as u16 && !live_around(colouring, heads, counts, number) {
+            return false;
+        }
+        number = colouring.colouring().next_difference(before, number + 1);
+    }
+    true
 }
 
 // The least point whose chain has no liberty.
@@ -106,12 +160,33 @@ fn find_without_liberty(colouring: &KeyedColouring, heads: &[u16], counts: &[u32
     let size = colouring.size();
     prove!(size.area() <= MAX_POINTS);
     for number in 0..size.area() {
-        let head = heads[number];
-        if head != MAX_POINTS as u16 && counts[head as usize] == 0 {
+        if lacks_liberty(colouring, heads, counts, number) {
             return Some(size.point_at(number));
         }
     }
     None
+}
+
+// The same, for a caller that had another colouring with liberties for all: whoever has none now stands at or beside a new stone.
+fn find_after(
+    colouring: &KeyedColouring,
+    heads: &[u16],
+    counts: &[u32],
+    before: &Colouring,
+) -> Option<Point>
+    requires heads_full { length heads.now ≡ MAX_POINTS }
+    requires counts_full { length counts.now ≡ MAX_POINTS }
+    requires tells { TellsLiberties (side_of colouring.now) colouring.now heads.now counts.now }
+    requires same_size { side_of before.now ≡ side_of colouring.now }
+    requires lived { first_without_liberty (side_of before.now) before.now ≡ None }
+    ensures found { IfSome result (λ p. first_without_liberty (side_of colouring.now) colouring.now ≡ Some (number_of (side_of colouring.now) p)) }
+    ensures on_board { IfSome result (λ p. IsOn (side_of colouring.now) p) }
+    ensures none { IfNone result (first_without_liberty (side_of colouring.now) colouring.now ≡ None) }
+{
+    if live_where_new(colouring, heads, counts, before) {
+        return None;
+    }
+    find_without_liberty(colouring, heads, counts)
 }
 
 // Lets the board hold the other colouring, whether or not each of its chains has a liberty.
@@ -151,7 +226,7 @@ pub(crate) fn take_over(
     prove!(colouring.size().area() <= MAX_POINTS);
     let before = *colouring.colouring();
     change_to(colouring, heads, next, counts, wanted);
-    match find_without_liberty(colouring, heads, counts) {
+    match find_after(colouring, heads, counts, &before) {
         None => Ok(()),
         Some(point) => {
             change_to(colouring, heads, next, counts, &before);

@@ -6,10 +6,13 @@ pub mod Clearing
 pub mod Sides
 pub mod Packing
 pub mod Comparing
+pub mod Unlike
+pub mod Reciprocals
 pub mod Adjacency
 pub mod Remaining
 pub mod Texts
 pub mod Letters
+pub mod Vertices
 pub mod Bits
 pub mod PlaceSets
 pub mod Counting
@@ -19,3 +22,4 @@ pub mod Moves
 pub mod Liberties
 pub mod Anywhere
 pub mod Quiet
+pub mod Onward

@@ -17,7 +17,7 @@ use Rattle.go_points.proofs.Lists.{and_both, and_right, or_cases, or_left, or_ri
 rows_rise : (n i k : ℕ) → 0 < n → i ≤ k → i / n ≤ k / n
 rows_rise n i k some low = le-div (i / n) k n some (omega (arith, div-add-mod' i n))
 
-before : (n i k : ℕ) → 0 < n → i < k → is_before (place_of n i) (place_of n k) ≡ true
+pub before : (n i k : ℕ) → 0 < n → i < k → is_before (place_of n i) (place_of n k) ≡ true
 before n i k some low =
     let rows : i / n ≤ k / n = rows_rise n i k some (omega arith) in
     let split : (i / n < k / n) ⊎ (i / n ≡ k / n) = grind arith in
@@ -28,7 +28,7 @@ before n i k some low =
           or_right (nat_lt (i / n) (k / n)) _ (and_both _ _ (eq-eqb (i / n) (k / n) level) (lt-ltb (i % n) (k % n) (omega (arith, low, same, div-add-mod' i n, div-add-mod' k n)))))
     ]
 
-not_before : (n i k : ℕ) → 0 < n → i ≤ k → is_before (place_of n k) (place_of n i) ≡ false
+pub not_before : (n i k : ℕ) → 0 < n → i ≤ k → is_before (place_of n k) (place_of n i) ≡ false
 not_before n i k some low = go (nat_lt (k / n) (i / n)) (nat_eq (k / n) (i / n)) (nat_lt (k % n) (i % n)) refl refl refl (rows_rise n i k some low)
   where
     go : (a b d : Bool) → nat_lt (k / n) (i / n) ≡ a → nat_eq (k / n) (i / n) ≡ b → nat_lt (k % n) (i % n) ≡ d → i / n ≤ k / n → (a || (b && d)) ≡ false

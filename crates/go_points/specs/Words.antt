@@ -25,3 +25,8 @@ pub record IsWords (words : List ℕ) (count area : ℕ) : Type 0 where
   pub long : length words ≡ count
   pub fits : (j : ℕ) → slice_index words j < 2 ^ 64
   pub rest : (i : ℕ) → area ≤ i → has_bit words i ≡ false
+
+-- Two sets of words say the same of a point, and two others too.
+pub record AreAlike (bits others more more_others : List ℕ) (i : ℕ) : Type 0 where
+  pub first : has_bit bits i ≡ has_bit others i
+  pub second : has_bit more i ≡ has_bit more_others i

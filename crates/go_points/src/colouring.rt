@@ -1,13 +1,13 @@
 //! What every point of a board holds.
 
-ghost use Rattle.std.specs.Prelude.{◌≡◌, ◌*◌, ◌<◌, ◌≤◌, ℕ, length, replicate, slice_set};
+ghost use Rattle.std.specs.Prelude.{◌≡◌, ◌*◌, ◌<◌, ◌≤◌, ◌≢◌, ℕ, length, replicate, slice_set};
 ghost use Rattle.go_points.specs.declared.Cell.TheVariants.{Empty};
 ghost use Rattle.go_points.specs.declared.TheConstants.{MAX_SIZE};
 ghost use Rattle.go_points.specs.Grid.{cell_at, side_of, IsColouring};
 ghost use Rattle.go_points.specs.Place.{IsOn, number_of};
 
 use crate::point::Point;
-use crate::point_bits::{PointBits, alike_words, no_bits, read_bit, write_bit};
+use crate::point_bits::{PointBits, alike_words, next_unlike, no_bits, read_bit, write_bit};
 use crate::size::Size;
 use crate::{Cell, Colour, MAX_POINTS};
 use std::cmp::Ordering;
@@ -181,6 +181,23 @@ impl Colouring {
         } else {
             Cell::Stone(Colour::White)
         }
+    }
+
+    /// The number of the first point, from this number on, where the other colouring holds something else; one that no point has, where there is none. A look at each word of bits.
+    pub fn next_difference(&self, other: &Colouring, from: usize) -> usize
+        requires { side_of other.now ≡ side_of self.now }
+        ensures later { from ≤ result }
+        ensures same { (i : ℕ) → from ≤ i → i < result → cell_at self.now i ≡ cell_at other.now i }
+        ensures differs { result < side_of self.now * side_of self.now → cell_at self.now result ≢ cell_at other.now result }
+    {
+        next_unlike(
+            &self.stones,
+            &other.stones,
+            &self.blacks,
+            &other.blacks,
+            from,
+            self.size.area(),
+        )
     }
 
     // A number up to which two colourings hold the same at each point: that of the first point of the first words that differ.

@@ -64,6 +64,7 @@ mod size;
 #[cfg(test)]
 mod tests;
 mod text;
+mod vertex;
 
 pub use colouring::Colouring;
 pub use point::Point;
@@ -71,6 +72,7 @@ pub use point_set::{Members, PointSet};
 pub use points::Points;
 pub use sgf::{sgf_point, to_sgf};
 pub use size::Size;
+pub use vertex::{Vertex, gtp_vertex, to_gtp};
 
 /// A turn of the game: a pass, or a move at a point.
 #[derive(Clone, Copy, Debug, Default, PartialEq, Eq, PartialOrd, Ord, Hash)]

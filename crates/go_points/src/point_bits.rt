@@ -1,9 +1,10 @@
 //! One bit for each point of the widest board, in fixed words.
 
-ghost use Rattle.std.specs.Prelude.{◌≡◌, ◌≢◌, ◌<◌, ◌≤◌, ℕ, replicate, slice_index};
+ghost use Rattle.std.specs.Prelude.{◌≡◌, ◌≢◌, ◌<◌, ◌≤◌, ◌*◌, ℕ, replicate, slice_index};
+ghost use Rattle.std.specs.Int.{bit_at};
 ghost use Rattle.go_points.specs.declared.TheConstants.{MAX_POINTS};
 ghost use Rattle.go_points.specs.Points.{has_bit};
-ghost use Rattle.go_points.specs.Words.{IsWords, word_count};
+ghost use Rattle.go_points.specs.Words.{IsWords, AreAlike, word_count};
 
 use crate::MAX_POINTS;
 
@@ -51,4 +52,47 @@ pub(crate) fn alike_words(bits: &PointBits, others: &PointBits) -> usize
         }
     }
     WORDS
+}
+
+/// The first bit of the word that is set, from this one on; 64 where none is.
+fn next_set(word: u64, from: usize) -> usize
+    requires { from < 64 }
+    ensures unset { (i : ℕ) → from ≤ i → i < result → bit_at word i ≡ 0 }
+    ensures set { result < 64 → bit_at word result ≡ 1 }
+    ensures later { from ≤ result }
+    ensures most { result ≤ 64 }
+{
+    let rest = word >> from;
+    if rest == 0 {
+        64
+    } else {
+        from + rest.trailing_zeros() as usize
+    }
+}
+
+/// The first bit from this one on in which two differ, or two others do; one that no point has, where there is none.
+pub(crate) fn next_unlike(
+    bits: &PointBits,
+    others: &PointBits,
+    more: &PointBits,
+    more_others: &PointBits,
+    from: usize,
+    area: usize,
+) -> usize
+    requires { area ≤ MAX_POINTS }
+    ensures later { from ≤ result }
+    ensures alike { (i : ℕ) → from ≤ i → i < result → AreAlike bits.now others.now more.now more_others.now i }
+    ensures unlike { result < area → AreAlike bits.now others.now more.now more_others.now result → ⊥ }
+{
+    let mut at = from;
+    'words: while at < area {
+        let index = at / 64;
+        let word = (bits[index] ^ others[index]) | (more[index] ^ more_others[index]);
+        let bit = next_set(word, at % 64);
+        at = index * 64 + bit;
+        if bit < 64 {
+            return at;
+        }
+    }
+    at
 }

@@ -1,6 +1,6 @@
 //! The size of a board.
 
-ghost use Rattle.std.specs.Prelude.{◌≡◌, ◌*◌, ◌<◌, ◌≤◌, ◌↔◌, SomeIff, IsTrue};
+ghost use Rattle.std.specs.Prelude.{◌≡◌, ◌*◌, ◌/◌, ◌<◌, ◌≤◌, ◌↔◌, SomeIff, IsTrue};
 ghost use Rattle.go_points.specs.Place.{Place, IsOn, number_of, place_of};
 ghost use Rattle.go_points.specs.declared.TheConstants.{MAX_SIZE, MAX_POINTS};
 
@@ -83,7 +83,23 @@ impl Size {
         ensures number_back { number_of self result ≡ number }
         ensures on_board { IsOn self result }
     {
-        let rows = self.rows as usize;
-        Point::new((number / rows) as u8, (number % rows) as u8)
+        let row = row_of(number, self.rows);
+        Point::new(row as u8, (number - row * self.rows as usize) as u8)
     }
+}
+
+/// 2^16 divided by each number of rows, rounded up.
+const RECIPROCALS: [usize; MAX_SIZE as usize + 1] = [
+    0, 65536, 32768, 21846, 16384, 13108, 10923, 9363, 8192, 7282, 6554, 5958, 5462, 5042, 4682,
+    4370, 4096, 3856, 3641, 3450,
+];
+
+// The row of the point with this number: the quotient by the rows, by a multiplication, which takes a fraction of a division's time.
+fn row_of(number: usize, rows: u8) -> usize
+    requires least { 1 ≤ rows }
+    requires most { rows ≤ MAX_SIZE }
+    requires within { number < rows * rows }
+    ensures { result ≡ number / rows }
+{
+    number * RECIPROCALS[rows as usize] >> 16
 }

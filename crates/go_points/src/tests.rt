@@ -2,7 +2,10 @@
 
 ghost use Rattle.go_points.specs.Place.{IsOn};
 
-use crate::{Cell, Colour, Colouring, MAX_SIZE, Point, PointSet, Size, Turn, sgf_point, to_sgf};
+use crate::{
+    Cell, Colour, Colouring, MAX_SIZE, Point, PointSet, Size, Turn, Vertex, gtp_vertex, sgf_point,
+    to_gtp, to_sgf,
+};
 use std::cmp::Ordering;
 use std::process::Abort;
 use std::test::Fail;
@@ -181,4 +184,117 @@ fn sets_that_lose_points(rt: HostRuntime) {
     assert_eq!(rt; set.first(), size.point(1, 1));
     set.remove(at(&rt, size, 1, 1));
     assert_eq!(rt; set, PointSet::new());
+}
+
+#[test]
+fn sets_from_a_point_on(rt: HostRuntime) {
+    let size = board(&rt, MAX_SIZE);
+    let last = MAX_SIZE - 1;
+    let mut set = PointSet::new();
+    assert_eq!(rt; set.first_from(at(&rt, size, 0, 0)), None);
+    for (column, row) in [(2, 0), (6, 3), (7, 3), (last, last)] {
+        set.insert(at(&rt, size, column, row));
+    }
+    for (from, found) in [
+        ((0, 0), (2, 0)),
+        ((2, 0), (2, 0)),
+        ((3, 0), (6, 3)),
+        ((0, 3), (6, 3)),
+        ((7, 3), (7, 3)),
+        ((8, 3), (last, last)),
+        ((last, last), (last, last)),
+    ] {
+        let point = set.first_from(at(&rt, size, from.0, from.1));
+        assert_eq!(rt; point, Some(at(&rt, size, found.0, found.1)));
+    }
+    set.remove(at(&rt, size, last, last));
+    assert_eq!(rt; set.first_from(at(&rt, size, 8, 3)), None);
+}
+
+#[test]
+fn vertices(rt: HostRuntime) {
+    for (text, column, row) in [
+        (b"A1".as_slice(), 0, 0),
+        (b"a1".as_slice(), 0, 0),
+        (b"b03".as_slice(), 1, 2),
+        (b"h8".as_slice(), 7, 7),
+        (b"J9".as_slice(), 8, 8),
+        (b"j11".as_slice(), 8, 10),
+        (b"T19".as_slice(), 18, 18),
+        (b"Z25".as_slice(), 24, 24),
+    ] {
+        assert_eq!(rt; gtp_vertex(text), Some(Vertex::At { column, row }));
+    }
+    for text in [b"pass".as_slice(), b"PASS".as_slice(), b"Pass".as_slice()] {
+        assert_eq!(rt; gtp_vertex(text), Some(Vertex::Pass));
+    }
+    for text in [
+        b"".as_slice(),
+        b"a".as_slice(),
+        b"a0".as_slice(),
+        b"a00".as_slice(),
+        b"a26".as_slice(),
+        b"a001".as_slice(),
+        b"a1b".as_slice(),
+        b"i5".as_slice(),
+        b"I5".as_slice(),
+        b"11".as_slice(),
+        b"@1".as_slice(),
+        b"[1".as_slice(),
+        b"`1".as_slice(),
+        b"{1".as_slice(),
+        b"a/".as_slice(),
+        b"a:".as_slice(),
+        b"pas".as_slice(),
+        b"passe".as_slice(),
+    ] {
+        assert_eq!(rt; gtp_vertex(text), None);
+    }
+}
+
+#[test]
+fn texts_of_vertices(rt: HostRuntime) {
+    let three = board(&rt, 3);
+    assert_eq!(rt;
+        to_gtp(three, at(&rt, three, 1, 0)).as_slice(),
+        b"B3".as_slice()
+    );
+    let size = board(&rt, MAX_SIZE);
+    assert_eq!(rt;
+        to_gtp(size, at(&rt, size, 8, 0)).as_slice(),
+        b"J19".as_slice()
+    );
+    assert_eq!(rt;
+        to_gtp(size, at(&rt, size, 7, 9)).as_slice(),
+        b"H10".as_slice()
+    );
+    assert_eq!(rt;
+        to_gtp(size, at(&rt, size, 0, 18)).as_slice(),
+        b"A1".as_slice()
+    );
+    for row in 0..MAX_SIZE {
+        for column in 0..MAX_SIZE {
+            let text = to_gtp(size, at(&rt, size, column, row));
+            let vertex = Vertex::At {
+                column,
+                row: MAX_SIZE - 1 - row,
+            };
+            assert_eq!(rt; gtp_vertex(text.as_slice()), Some(vertex));
+        }
+    }
+}
+
+#[test]
+fn colourings_differ_from_a_point_on(rt: HostRuntime) {
+    let size = board(&rt, MAX_SIZE);
+    let last = MAX_SIZE - 1;
+    let mut one = Colouring::empty(size);
+    let mut other = Colouring::empty(size);
+    one.set(at(&rt, size, 2, 0), Cell::Stone(Colour::Black));
+    other.set(at(&rt, size, 2, 0), Cell::Stone(Colour::White));
+    other.set(at(&rt, size, last, last), Cell::Stone(Colour::White));
+    assert_eq!(rt; one.next_difference(&other, 0), 2);
+    assert_eq!(rt; one.next_difference(&other, 3), 360);
+    assert!(rt; one.next_difference(&other, 361) >= size.area());
+    assert!(rt; one.next_difference(&one, 0) >= size.area());
 }

@@ -1,12 +1,13 @@
 -- A set of colourings that keeps their order, as a history without repeats.
-use Rattle.std.proofs.Common.{◌≡◌, ℕ, ◌+◌, ◌-◌, ◌<◌, Bool, false, List, [], ◌∷◌, ◌++◌, take, length, length-append, Option, Some, None, if◌then◌else◌, sym, ◌∙◌, ap, ap₂, arith}
-use Rattle.std.specs.List.{list_any}
+use Rattle.std.proofs.Common.{◌≡◌, ℕ, ◌+◌, ◌-◌, true, false, inl, inr, subst, List, [], ◌∷◌, ◌++◌, take, length, length-append, Option, Some, None, if◌then◌else◌, sym, ◌∙◌, ap, ap₂, arith}
+use Rattle.std.specs.List.{list_any, position_or_len}
 use Rattle.std.specs.Option.{IsSome, option_to_list}
 use Rattle.std.proofs.Math.Seq.{take-append_seam}
 use Rattle.go_points.specs.declared.Cell.{Cell}
 use Rattle.go_points.specs.Grid.{same_cells}
-use Rattle.go_turns.specs.History.{place_in, repeats}
-use Rattle.go_turns.proofs.Repeats.{no_element, once_in_front}
+use Rattle.go_points.proofs.Lists.{true_or_false}
+use Rattle.go_turns.specs.History.{place_in, repeats, IsJoined}
+use Rattle.go_turns.proofs.Repeats.{no_element, no_position, some_position, once_more, once_in_front}
 
 -- a new colouring goes last
 pub goes_last : (h : List (List Cell)) (c : List Cell) → place_in h c ≡ None → (if list_any (same_cells c) h then h else h ++ c ∷ []) ≡ h ++ c ∷ []
@@ -22,3 +23,19 @@ left_over (Some c) old new whole some =
 
 pub rest_is_once : (old new : List (List Cell)) (k : ℕ) → new ≡ take k old → repeats old ≡ false → repeats new ≡ false
 rest_is_once old new k front once = ap repeats front ∙ once_in_front old k once
+
+-- a colouring that is looked for and added at once
+pub stood : (h : List (List Cell)) (c : List Cell) → list_any (same_cells c) h ≡ true → place_in h c ≡ Some (position_or_len (same_cells c) h)
+stood h c some = some_position (same_cells c) h some
+
+pub joins_none : (h new : List (List Cell)) (c : List Cell) → list_any (same_cells c) h ≡ true → new ≡ (if list_any (same_cells c) h then h else h ++ c ∷ []) → IsJoined (place_in h c) h c new
+joins_none h new c some now = subst (λ r. IsJoined r h c new) (sym (stood h c some)) (now ∙ ap (λ b. if b then h else h ++ c ∷ []) some)
+
+pub joins_last : (h new : List (List Cell)) (c : List Cell) → list_any (same_cells c) h ≡ false → new ≡ (if list_any (same_cells c) h then h else h ++ c ∷ []) → IsJoined (place_in h c) h c new
+joins_last h new c none now = subst (λ r. IsJoined r h c new) (sym (no_position (same_cells c) h none)) (now ∙ ap (λ b. if b then h else h ++ c ∷ []) none)
+
+pub still_once : (h new : List (List Cell)) (c : List Cell) → repeats h ≡ false → new ≡ (if list_any (same_cells c) h then h else h ++ c ∷ []) → repeats new ≡ false
+still_once h new c once now = elim (true_or_false (list_any (same_cells c) h)) [
+  | inl some ↦ ap repeats (now ∙ ap (λ b. if b then h else h ++ c ∷ []) some) ∙ once
+  | inr none ↦ ap repeats (now ∙ ap (λ b. if b then h else h ++ c ∷ []) none) ∙ once_more h c once (no_position (same_cells c) h none)
+]

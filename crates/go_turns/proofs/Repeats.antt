@@ -39,6 +39,9 @@ module _ {X : Type 0} (test : X → Bool) where
   pub no_position : (xs : List X) → list_any test xs ≡ false → position test xs ≡ None
   no_position xs h = ap (λ b. cond b (Some (position_or_len test xs)) None) (le-ltb (position_or_len test xs) (length xs) (all_past xs h))
 
+  pub some_position : (xs : List X) → list_any test xs ≡ true → position test xs ≡ Some (position_or_len test xs)
+  some_position xs h = ap (λ b. cond b (Some (position_or_len test xs)) None) (lt-ltb (position_or_len test xs) (length xs) (found_below xs h))
+
   pub no_element : (xs : List X) → position test xs ≡ None → list_any test xs ≡ false
   no_element xs h = go (true_or_false (list_any test xs))
     where

@@ -1,5 +1,5 @@
 -- The colourings that have occurred, in a list. The rules look only at which are in it.
-use Rattle.std.specs.Prelude.{ℕ, Bool, false, ◌||◌, List, [], ◌∷◌, Option, position}
+use Rattle.std.specs.Prelude.{◌≡◌, ℕ, Bool, false, ◌||◌, List, [], ◌∷◌, ◌++◌, Option, Some, None, position}
 use Rattle.std.specs.List.{list_any}
 use Rattle.go_points.specs.declared.Cell.{Cell}
 use Rattle.go_points.specs.Grid.{same_cells}
@@ -16,3 +16,8 @@ place_in history c = position (same_cells c) history
 abbrev pub repeats : List (List Cell) → Bool
 repeats [] = false
 repeats (c ∷ cs) = has_occurred cs c || repeats cs
+
+-- A list with a colouring that was looked for in it: the same where it stands there already, else longer by it.
+abbrev pub IsJoined : Option ℕ → List (List Cell) → List Cell → List (List Cell) → Type 0
+IsJoined (Some earlier) old c new = new ≡ old
+IsJoined None old c new = new ≡ old ++ c ∷ []

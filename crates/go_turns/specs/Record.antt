@@ -1,5 +1,5 @@
 -- A record of turns (this project's own): an opening moment and the moment that each play or setup left.
-use Rattle.std.specs.Prelude.{◌≡◌, ℕ, ◌+◌, ◌*◌, nat_lt, List, [], ◌∷◌, ◌++◌, length, slice_index_or, slice_set, if◌then◌else◌, Option, Some, None, Result, Ok, Err}
+use Rattle.std.specs.Prelude.{◌≡◌, ℕ, Bool, true, false, ◌+◌, ◌*◌, nat_lt, List, [], ◌∷◌, ◌++◌, length, slice_index_or, slice_set, if◌then◌else◌, Option, Some, None, Result, Ok, Err}
 use Rattle.std.specs.List.{list_all}
 use Rattle.go_points.specs.declared.Colour.{Colour}
 use Rattle.go_points.specs.declared.Cell.{Cell}
@@ -103,6 +103,15 @@ Did (Ok r) old (Ok u) new = new ≡ r
 Did (Ok r) old (Err fault) new = (fault ≡ Memory) × (new ≡ old)
 Did (Err due) old (Ok u) new = ⊥
 Did (Err due) old (Err fault) new = (fault ≡ due) × (new ≡ old)
+
+-- The same for a call that says whether the definitions allow it, and refuses for want of memory alone.
+abbrev pub DidIfLegal : {E : Type 0} → Result GameRecord TurnFault → GameRecord → Result Bool E → GameRecord → Type 0
+DidIfLegal (Ok r) old (Ok true) new = new ≡ r
+DidIfLegal (Ok r) old (Ok false) new = ⊥
+DidIfLegal (Ok r) old (Err error) new = new ≡ old
+DidIfLegal (Err due) old (Ok true) new = ⊥
+DidIfLegal (Err due) old (Ok false) new = new ≡ old
+DidIfLegal (Err due) old (Err error) new = ⊥
 
 -- The same for a call that takes no memory.
 abbrev pub DidWithoutMemory : Result GameRecord TurnFault → GameRecord → Result (Unit {0}) TurnFault → GameRecord → Type 0

@@ -64,6 +64,17 @@ impl Seen for HashSeen {
         Ok(())
     }
 
+    fn add_new(&mut self, colouring: Colouring, key: u64) -> Result<Option<usize>, AllocError> {
+        let entry = KeyedColouring::with_key(colouring, key);
+        let Ok((place, is_new)) = self.entries.insert_full(entry) else {
+            return Err(AllocError);
+        };
+        if !is_new {
+            return Ok(Some(place));
+        }
+        Ok(None)
+    }
+
     fn take_last(&mut self) {
         let _last = self.entries.pop();
     }

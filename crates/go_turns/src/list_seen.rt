@@ -60,6 +60,14 @@ impl Seen for ListSeen {
         self.add(colouring)
     }
 
+    fn add_new(&mut self, colouring: Colouring, _key: u64) -> Result<Option<usize>, AllocError> {
+        if let Some(place) = self.holds(&colouring) {
+            return Ok(Some(place));
+        }
+        self.colourings.push(colouring)?;
+        Ok(None)
+    }
+
     fn take_last(&mut self) {
         let _last = self.colourings.pop();
     }

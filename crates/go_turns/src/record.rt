@@ -10,7 +10,7 @@ ghost use Rattle.go_points.specs.declared.Cell.TheVariants.{Empty, Stone};
 ghost use Rattle.go_points.specs.Ply.{ply_of, pass as a_pass, move as a_move};
 ghost use Rattle.go_turns.specs.History.{place_in, repeats};
 ghost use Rattle.stone_key.specs.Key.{key_of};
-ghost use Rattle.go_turns.specs.Record.{colouring_of, numbered, assigned, play_of, setup_of, undo_of, opened, Did, DidWithoutMemory, Opens};
+ghost use Rattle.go_turns.specs.Record.{colouring_of, numbered, assigned, play_of, setup_of, undo_of, opened, Did, DidIfLegal, DidWithoutMemory, Opens};
 ghost use Rattle.go_turns.specs.Steps.{IsNotAdded, Joins};
 
 use crate::board::Board;
@@ -79,14 +79,13 @@ fn add_step<S: Seen>(
     ensures history_kept { OnErr result (S.content seen.new ≡ S.content seen.old) }
     ensures steps_kept { OnErr result (steps.new.items ≡ steps.old.items) }
 {
-    if let Some(earlier) = seen.holds_with(&colouring, key) {
-        return Err(TurnFault::Repeats { earlier });
+    match seen.add_new(colouring, key) {
+        Ok(None) => {}
+        Ok(Some(earlier)) => return Err(TurnFault::Repeats { earlier }),
+        Err(_) => return Err(TurnFault::Memory),
     }
     if steps.push(step).is_err() {
-        return Err(TurnFault::Memory);
-    }
-    if seen.add_with(colouring, key).is_err() {
-        let _untaken = steps.pop();
+        seen.take_last();
         return Err(TurnFault::Memory);
     }
     Ok(())
@@ -201,6 +200,17 @@ impl<B: Board, S: Seen> Record<B, S> {
                 }
                 self.move_at(colour, point)
             }
+        }
+    }
+
+    /// The same turn, made exactly where it is legal: whether it was. A move is played once, and where it repeats it is taken back, so a caller need not ask first. The error says that memory was refused, and then nothing changes.
+    pub fn play_if_legal(&mut self, colour: Colour, turn: Turn) -> Result<bool, AllocError>
+        ensures { DidIfLegal (play_of self.old colour (ply_of self.old.size turn)) self.old result self.new }
+    {
+        match self.play(colour, turn) {
+            Ok(()) => Ok(true),
+            Err(TurnFault::Memory) => Err(AllocError),
+            Err(_) => Ok(false),
         }
     }
 

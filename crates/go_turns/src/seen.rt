@@ -1,14 +1,14 @@
 //! The colourings that have occurred.
 
-ghost use Rattle.std.specs.Prelude.{◌≡◌, ◌<◌, ◌-◌, ◌++◌, ◌∷◌, [], List, Some, None, IsFalse, OnOk, OnErr, length, slice_get, take};
+ghost use Rattle.std.specs.Prelude.{◌≡◌, ◌<◌, ◌-◌, ◌++◌, ◌∷◌, [], List, Some, None, IsFalse, IfOk, OnOk, OnErr, length, slice_get, take};
 ghost use Rattle.go_points.specs.declared.Cell.{Cell};
-ghost use Rattle.go_turns.specs.History.{place_in, repeats};
+ghost use Rattle.go_turns.specs.History.{place_in, repeats, IsJoined};
 ghost use Rattle.stone_key.specs.Key.{key_of};
 
 use go_points::Colouring;
 use std::alloc::{AllocError, Global};
 
-/// A list of colourings without repeats. Only `add` and `add_with` take memory.
+/// A list of colourings without repeats. Only `add`, `add_with` and `add_new` take memory.
 pub trait Seen: Drop {
     /// The colourings, in the order in which they occurred.
     ghost content: { Self → List (List Cell) };
@@ -47,6 +47,14 @@ pub trait Seen: Drop {
         requires key { key ≡ key_of colouring }
         requires fresh { place_in (content self.old) colouring ≡ None }
         ensures ok { OnOk result (content self.new ≡ content self.old ++ colouring ∷ []) }
+        ensures err { OnErr result (content self.new ≡ content self.old) };
+
+    /// Adds the colouring where it is not held, by one look-up; else the place of the equal one.
+    fn add_new(&mut self, colouring: Colouring, key: u64) -> Result<Option<usize>, AllocError>
+        requires { key ≡ key_of colouring }
+        ensures held { IfOk result (λ place. place ≡ place_in (content self.old) colouring) }
+        ensures added { OnOk result (IsJoined (place_in (content self.old) colouring) (content self.old) colouring (content self.new)) }
+        ensures new { OnErr result (place_in (content self.old) colouring ≡ None) }
         ensures err { OnErr result (content self.new ≡ content self.old) };
 
     /// Takes the last colouring off.

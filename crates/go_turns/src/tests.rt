@@ -4,6 +4,7 @@ use crate::*;
 use go_points::{Cell, Colour, Colouring, Point, Size, Turn, sgf_point};
 use std::alloc::{AllocError, Global};
 use std::test::Fail;
+use stone_key::key_of;
 
 // The colouring with this text: `.` for empty, `X` for black, `O` for white, row by row.
 fn painted(size: Size, text: &str) -> Colouring {
@@ -279,6 +280,64 @@ fn each_colouring_has_its_place(rt: HostRuntime) -> Result<(), Fail> {
     let size = Size::new(2).ok_or("size")?;
     let are_found = are_found::<PlaySeen>(rt.alloc(), painted(size, "X..."), painted(size, "O..."));
     assert_eq!(rt; are_found.ok(), Some(true));
+    Ok(())
+}
+
+// Whether a colouring joins the list just where it is new.
+fn are_joined<S: Seen>(
+    alloc: Global,
+    first: Colouring,
+    second: Colouring,
+) -> Result<bool, AllocError> {
+    let mut seen = S::new(alloc);
+    let was_new = seen.add_new(first, key_of(&first))? == None;
+    let is_second_new = seen.add_new(second, key_of(&second))? == None;
+    let again = seen.add_new(first, key_of(&first))?;
+    Ok(was_new && is_second_new && again == Some(0) && seen.len() == 2)
+}
+
+#[test]
+fn each_colouring_joins_once(rt: HostRuntime) -> Result<(), Fail> {
+    let size = Size::new(2).ok_or("size")?;
+    let first = painted(size, "X...");
+    let second = painted(size, "O...");
+    assert_eq!(rt;
+        are_joined::<PlaySeen>(rt.alloc(), first, second).ok(),
+        Some(true)
+    );
+    assert_eq!(rt;
+        are_joined::<ListSeen>(rt.alloc(), first, second).ok(),
+        Some(true)
+    );
+    Ok(())
+}
+
+#[test]
+fn a_turn_is_made_just_where_it_is_legal(rt: HostRuntime) -> Result<(), Fail> {
+    let size = Size::new(3).ok_or("size")?;
+    let mut record = Record::<PlayBoard, PlaySeen>::new(
+        rt.alloc(),
+        &painted(size, ".XOXO...."),
+    ).expect(&rt, "liberties");
+    assert_eq!(rt;
+        record.play_if_legal(Colour::White, at(size, 1, 0)).ok(),
+        Some(false)
+    );
+    assert_eq!(rt;
+        record.play_if_legal(Colour::White, at(size, 0, 0)).ok(),
+        Some(true)
+    );
+    assert_eq!(rt;
+        record.play_if_legal(Colour::Black, at(size, 1, 0)).ok(),
+        Some(false)
+    );
+    assert_eq!(rt; record.colouring(), painted(size, "O.OXO...."));
+    assert_eq!(rt; record.seen().len(), 2);
+    assert_eq!(rt;
+        record.play_if_legal(Colour::Black, Turn::Pass).ok(),
+        Some(true)
+    );
+    assert_eq!(rt; record.passes(), 1);
     Ok(())
 }
 

@@ -1,4 +1,3 @@
-pub mod Children
 pub mod Showing
 pub mod Deepening
 pub mod Confirming

@@ -1,6 +1,7 @@
 -- What full search finds, turn by turn and depth by depth.
 use Rattle.std.proofs.Common.{◌≡◌, ℕ, zero, suc, ◌+◌, ◌<◌, ◌≤◌, ◌⊎◌, inl, inr, Bool, true, false, not, ◌&&◌, ◌||◌, IsTrue, List, [], ◌∷◌, ◌++◌, Option, Some, None, is_none, refl, sym, ◌∙◌, ap, subst, arith, sum_by, add-one, zero-le, append_assoc, nat_eq, Result, Ok, Err, OnOk}
 use Rattle.std.specs.List.{list_any, list_all}
+use Rattle.std.proofs.lemmas.List.{append-nil}
 use Rattle.std.proofs.lemmas.List.Sums.{sum_by-cons, sum_by-append}
 use Rattle.std.proofs.lemmas.List.Folds.{list_any-append, list_all-append}
 use Rattle.go_points.specs.declared.Colour.{Colour}
@@ -17,7 +18,6 @@ use Rattle.target_game.specs.Next.{next}
 use Rattle.target_game.specs.Over.{over}
 use Rattle.target_game.specs.Wins.{is_winner, some_or_each, wins, nodes}
 use Rattle.target_game.proofs.Winning.{over_cases, wins_over, wins_none, wins_next, wins_by_turn, not_both, legal_member}
-use Rattle.target_game.proofs.Tallies.{turns_left, left_begun}
 use Rattle.proof_cert.specs.Claim.{Node, won, play, all, Branches, no_branch, branch, branch_turns, node_count, node_count_below, depth_of, depth_below}
 use Rattle.proof_cert.specs.Certificate.{node_of, replies_of}
 use Rattle.proof_cert.specs.declared.certificate.Node as code
@@ -267,18 +267,19 @@ turn_won s k left turn x old new tree OutOfSteps m e l h by = absurd by
 -- TURN BY TURN
 
 -- the turns at points below i were seen, with these steps left before and after
-pub record TurnsSeen (s : GameState) (k i before left : ℕ) (seen : Seen) : Type 0 where
+pub record TurnsSeen (s : GameState) (k : ℕ) (due : List Ply) (before left : ℕ) (seen : Seen) : Type 0 where
   pub turns : List Ply
-  pub all_turns : turns ++ turns_left s i ≡ legal_turns s
+  pub all_turns : turns ++ due ≡ legal_turns s
   pub known : AreSeen s k turns seen
   pub fewer : left ≤ before
   pub steps : before ≤ left + nodes_behind s k turns
 
-pub turns_begun : (s : GameState) (k before : ℕ) (seen : Seen) → seen.is_open ≡ false → seen.replies.items ≡ [] → TurnsSeen s k 0 before before seen
-turns_begun s k before seen closed none = record { turns = []; all_turns = left_begun s; known = nothing_seen s k seen closed none; fewer = omega arith; steps = omega arith }
+pub turns_begun : (s : GameState) (k before : ℕ) (due : List Ply) (seen : Seen) → due ≡ legal_turns s → seen.is_open ≡ false → seen.replies.items ≡ [] → TurnsSeen s k due before before seen
+turns_begun s k before due seen whole closed none = record { turns = []; all_turns = whole; known = nothing_seen s k seen closed none; fewer = omega arith; steps = omega arith }
 
-pub turns_same : (s : GameState) (k i j before left : ℕ) (seen : Seen) → turns_left s i ≡ turns_left s j → TurnsSeen s k i before left seen → TurnsSeen s k j before left seen
-turns_same s k i j before left seen same h = record { turns = h.turns; all_turns = ap (λ us. h.turns ++ us) (sym same) ∙ h.all_turns; known = h.known; fewer = h.fewer; steps = h.steps }
+-- where none is left, all were seen
+pub turns_all : (s : GameState) (k before left : ℕ) (due : List Ply) (seen : Seen) → due ≡ [] → TurnsSeen s k due before left seen → AreSeen s k (legal_turns s) seen
+turns_all s k before left due seen none h = subst (λ ts. AreSeen s k ts seen) (sym (append-nil h.turns) ∙ ap (λ us. h.turns ++ us) (sym none) ∙ h.all_turns) h.known
 
 -- a turn more
 behind_more : (s : GameState) (k : ℕ) (ts : List Ply) (t : Ply) → nodes_behind s k (ts ++ t ∷ []) ≡ nodes_behind s k ts + nodes (next s t) k
@@ -292,27 +293,27 @@ behind_all s k ts us t e =
     let c : nodes_behind s k (ts ++ t ∷ us) ≡ nodes_behind s k (legal_turns s) = ap (nodes_behind s k) e in
     omega arith
 
-pub turns_more : (s : GameState) (k i j before left now : ℕ) (t : Ply) (old new : Seen) → turns_left s i ≡ t ∷ turns_left s j → TurnsSeen s k i before left old → now ≤ left → left ≤ now + nodes (next s t) k → IsTurnSeen s k t left old new None → TurnsSeen s k j before now new
-turns_more s k i j before left now t old new here h fewer steps seen = record {
+pub turns_more : (s : GameState) (k before left now : ℕ) (t : Ply) (ds us : List Ply) (old new : Seen) → ds ≡ t ∷ us → TurnsSeen s k ds before left old → now ≤ left → left ≤ now + nodes (next s t) k → IsTurnSeen s k t left old new None → TurnsSeen s k us before now new
+turns_more s k before left now t ds us old new here h fewer steps seen = record {
   turns = h.turns ++ t ∷ [];
-  all_turns = append_assoc h.turns (t ∷ []) (turns_left s j) ∙ ap (λ us. h.turns ++ us) (sym here) ∙ h.all_turns;
+  all_turns = append_assoc h.turns (t ∷ []) us ∙ ap (λ us. h.turns ++ us) (sym here) ∙ h.all_turns;
   known = seen h.turns h.known;
   fewer = let a = h.fewer in omega arith;
   steps = let a = h.steps in let b = behind_more s k h.turns t in omega arith;
 }
 
 -- the steps behind some of the turns are no more than those behind all
-pub turns_steps : (s : GameState) (k i before left now : ℕ) (t : Ply) (us : List Ply) (old : Seen) → turns_left s i ≡ t ∷ us → TurnsSeen s k i before left old → left ≤ now + nodes (next s t) k → before ≤ now + nodes_behind s k (legal_turns s)
-turns_steps s k i before left now t us old here h steps =
+pub turns_steps : (s : GameState) (k before left now : ℕ) (t : Ply) (ds us : List Ply) (old : Seen) → ds ≡ t ∷ us → TurnsSeen s k ds before left old → left ≤ now + nodes (next s t) k → before ≤ now + nodes_behind s k (legal_turns s)
+turns_steps s k before left now t ds us old here h steps =
     let a = behind_all s k h.turns us t (ap (λ vs. h.turns ++ vs) (sym here) ∙ h.all_turns) in
     let b = h.steps in
     omega arith
 
 -- what decides the search behind a turn decides it
-pub turns_found : (s : GameState) (k i before left : ℕ) (t : Ply) (us : List Ply) (old new : Seen) (found : Found) → over s ≡ None → turns_left s i ≡ t ∷ us → TurnsSeen s k i before left old → IsTurnSeen s k t left old new (Some found) → IsFound s (k + 1) (before + 1) found
-turns_found s k i before left t us old new (Wins x tree) e here h seen = seen
-turns_found s k i before left t us old new Open e here h seen = absurd seen
-turns_found s k i before left t us old new OutOfSteps e here h seen =
+pub turns_found : (s : GameState) (k before left : ℕ) (t : Ply) (ds us : List Ply) (old new : Seen) (found : Found) → over s ≡ None → ds ≡ t ∷ us → TurnsSeen s k ds before left old → IsTurnSeen s k t left old new (Some found) → IsFound s (k + 1) (before + 1) found
+turns_found s k before left t ds us old new (Wins x tree) e here h seen = seen
+turns_found s k before left t ds us old new Open e here h seen = absurd seen
+turns_found s k before left t ds us old new OutOfSteps e here h seen =
     let a = behind_all s k h.turns us t (ap (λ vs. h.turns ++ vs) (sym here) ∙ h.all_turns) in
     let b = h.steps in
     let c = nodes_then s k e in

@@ -18,7 +18,7 @@ use go_points::{Colour, Turn};
 use go_turns::{PlayBoard, PlaySeen};
 use proof_cert::Node;
 use std::alloc::{AllocError, Global};
-use target_game::{Problem, State};
+use target_game::{Problem, State, TurnsLeft};
 
 /// A state of the problem.
 type PlayState = State<PlayBoard, PlaySeen>;
@@ -168,33 +168,15 @@ fn search_turns(
         is_open: false,
         replies: Vec::new(alloc),
     };
-    let size = state.size();
-    for number in 0..size.area() {
-        let point = size.point_at(number);
-        let turn = Turn::At(point);
-        let asked = turn;
-        if let Some(child) = state.child(asked) {
-            let winner = child.winner;
-            if let Some(found) = search_turn(alloc, state, turns, turn, winner, &mut seen, left)? {
-                return Ok(found);
-            }
+    let mut turns_left = TurnsLeft::all();
+    while let Some(next) = state.next_child(&mut turns_left) {
+        let turn = next.0;
+        let winner = next.1.winner;
+        if let Some(found) = search_turn(alloc, state, turns, turn, winner, &mut seen, left)? {
+            return Ok(found);
         }
     }
-    let winner = winner_after_pass(state);
-    match search_turn(alloc, state, turns, Turn::Pass, winner, &mut seen, left)? {
-        Some(found) => Ok(found),
-        None => Ok(decided(state, turns, seen)),
-    }
-}
-
-/// Who has won after a pass.
-fn winner_after_pass(state: &PlayState) -> Option<Colour>
-    ensures { result ≡ over (next state.now.state pass) }
-{
-    match state.child(Turn::Pass) {
-        Some(child) => child.winner,
-        None => None,
-    }
+    Ok(decided(state, turns, seen))
 }
 
 /// Whether there is nothing to search: somebody has won, or no turn is left.

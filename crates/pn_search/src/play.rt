@@ -1,12 +1,9 @@
 //! Play on the problem's states, as the search needs it: every call may be made at any time.
 
-ghost use Rattle.std.specs.Prelude.{◌≡◌, ◌≤◌, length, true, None, IsTrue};
+ghost use Rattle.std.specs.Prelude.{◌≡◌, ◌≤◌, length, true};
 ghost use Rattle.go_points.specs.Grid.{cell_at, same_cell};
 ghost use Rattle.go_points.specs.Place.{IsOn, number_of};
-ghost use Rattle.go_points.specs.Ply.{ply_of};
 ghost use Rattle.go_points.specs.declared.Cell.TheVariants.{Empty};
-ghost use Rattle.target_game.specs.Legal.{legal};
-ghost use Rattle.target_game.specs.Over.{over};
 
 use go_points::{Colour, Colouring, Point, Size, Turn};
 use go_turns::{PlayBoard, PlaySeen};
@@ -65,11 +62,12 @@ impl Play {
 
     /// Makes the turn, and answers whether it was made: where nobody has won and it is legal.
     pub(crate) fn go(&mut self, turn: Turn) -> Result<bool, AllocError> {
-        let asked = turn;
-        if !is_open_to(&self.state, asked) || self.made == usize::MAX {
+        if self.state.over().is_some() || self.made == usize::MAX {
             return Ok(false);
         }
-        self.state.after(turn)?;
+        if !self.state.try_after(turn)? {
+            return Ok(false);
+        }
         self.made += 1;
         Ok(true)
     }
@@ -105,32 +103,20 @@ impl Play {
     }
 }
 
-/// Whether nobody has won and the turn is legal.
-fn is_open_to(state: &PlayState, turn: Turn) -> bool
-    ensures open { IsTrue result → over state.now.state ≡ None }
-    ensures legal { IsTrue result → IsTrue (legal state.now.state (ply_of state.now.state.game.size turn)) }
-{
-    if state.over().is_some() {
-        return false;
-    }
-    match turn {
-        Turn::Pass => true,
-        Turn::At(point) => state.size().holds(point) && state.may_move(point),
-    }
-}
-
 /// Adds the mover's moves.
 fn add_moves(state: &PlayState, moves: &mut Vec<Move>) -> Result<(), AllocError> {
     let size = state.size();
     let present = state.key();
-    for number in 0..size.area() {
-        let point = size.point_at(number);
-        if state.is_open(point) {
-            let found = move_at(state, point);
-            if found.position != present {
-                moves.push(found)?;
-            }
+    let mut number = 0;
+    while number < size.area() {
+        let Some(point) = state.next_open(number) else {
+            return Ok(());
+        };
+        let found = move_at(state, point);
+        if found.position != present {
+            moves.push(found)?;
         }
+        number = point.number(size) + 1;
     }
     Ok(())
 }

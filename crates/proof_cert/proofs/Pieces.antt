@@ -7,7 +7,7 @@ use Rattle.proof_cert.specs.Stage.{version_one}
 use Rattle.proof_cert.specs.Source.{lines_read}
 use Rattle.proof_cert.specs.Text.{with_byte, pieces, line_of_piece, line_of}
 
-abbrev place : List ℕ → ℕ
+abbrev pub place : List ℕ → ℕ
 place b = position_or_len (λ x. nat_eq x 10) b
 
 pieces_at : (b : List ℕ) → place b < length b → pieces b ≡ (take (place b) b, true) ∷ pieces (drop (suc (place b)) b)

@@ -1,13 +1,19 @@
 -- The lines that a reader gives: the first line of its bytes, and all of them.
-use Rattle.std.proofs.Common.{◌≡◌, ℕ, ◌<◌, ◌≤◌, Bool, true, false, nat_eq, List, [], ◌∷◌, ◌++◌, length, map, Option, Some, None, refl, sym, ap, ◌∙◌, subst, arith, append_assoc, append-nil, length-append}
+use Rattle.std.proofs.Common.{◌≡◌, ℕ, suc, ◌+◌, ◌-◌, ◌<◌, ◌≤◌, Bool, true, false, cond, not, nat_eq, nat_lt, ltb-true, eqb-true, List, [], ◌∷◌, ◌++◌, length, take, drop, get_or, map, Option, Some, None, Ok, Err, position, refl, sym, ap, ◌∙◌, subst, arith, append_assoc, append-nil, length-append}
+use Rattle.std.specs.List.{position_or_len}
 use Rattle.std.specs.Io.KnownBytes.{Consumes, IsAtEnd}
+use Rattle.std.proofs.lemmas.List.{length-take, get_or-take, drop-take, drop-drop, take-take, take-append-drop}
+use Rattle.std.proofs.Math.Seq.{drop-cons}
+use Rattle.std.proofs.Math.ListN.{drop_of_length-le}
+use Rattle.proof_cert.proofs.Pieces.{place}
 use Rattle.std.proofs.KnownBytes.{Consumes-nil, Consumes-trans}
 use Rattle.proof_cert.specs.Lines.{Line}
 use Rattle.proof_cert.specs.Text.{pieces, with_byte, line_of, line_of_piece, line_feed, max_line}
 use Rattle.proof_cert.specs.Stage.{version_one}
 use Rattle.proof_cert.specs.Source.{lines_read}
+use Rattle.proof_cert.specs.declared.source.SourceFault.TheVariants.{Malformed}
 use Rattle.proof_cert.specs.Given.{Gave}
-use Rattle.proof_cert.specs.Streamed.{Streamed, streamed_of, Tells, told_bytes, HasNoFeed, reader_gives, LinesGivenOfReader}
+use Rattle.proof_cert.specs.Streamed.{Unread, Streamed, IsRead, streamed_of, Tells, told_bytes, bytes_left, Uses, HasEnded, HasNoFeed, reader_gives, LinesGivenOfReader}
 use Rattle.proof_cert.proofs.LineLengths.{long_none}
 
 -- PIECES
@@ -56,32 +62,55 @@ line_long n small (x ∷ b) more long h =
     none tail true = let whole = length-append (x ∷ b) tail in long_none n small (x ∷ b ++ tail) (omega (arith, long, whole))
     none tail false = refl
 
+-- WHAT WAS USED
+
+pub uses_none : (a : Unread) → Uses a a []
+uses_none a = record { read = []; told = Consumes-nil a.told; bytes = append-nil a.held }
+
+pub uses_then : (a b c : Unread) (u v : List ℕ) → Uses a b u → Uses b c v → Uses a c (u ++ v)
+uses_then a b c u v p q = record {
+  read = p.read ++ q.read;
+  told = Consumes-trans a.told b.told c.told p.read q.read p.told q.told;
+  bytes =
+      sym (append_assoc a.held p.read q.read) ∙ ap (λ l. l ++ q.read) p.bytes ∙ append_assoc u b.held q.read
+      ∙ ap (λ l. u ++ l) q.bytes ∙ sym (append_assoc u v c.held);
+}
+
+-- the bytes that were told, and so all of them
+told_whole : (a b : Option (List ℕ)) (read : List ℕ) → Consumes a b read → Tells a (read ++ told_bytes b)
+told_whole None b read h = tt
+told_whole (Some x) None read h = absurd h
+told_whole (Some x) (Some y) read h = sym h
+
+used_whole : (a b : Unread) (used : List ℕ) → Uses a b used → (bytes : List ℕ) × Tells a.told bytes × (a.held ++ bytes ≡ used ++ bytes_left b)
+used_whole a b used p = (
+  p.read ++ told_bytes b.told,
+  told_whole a.told b.told p.read p.told,
+  sym (append_assoc a.held p.read (told_bytes b.told)) ∙ ap (λ l. l ++ told_bytes b.told) p.bytes ∙ append_assoc used b.held (told_bytes b.told),
+)
+
+pub end_told : (o : Option (List ℕ)) → IsAtEnd o → told_bytes o ≡ []
+end_told None h = refl
+end_told (Some x) h = h
+
+pub none_left : (b : Unread) → HasEnded b → bytes_left b ≡ []
+none_left b (none, end) = ap (λ l. l ++ told_bytes b.told) none ∙ end_told b.told end
+
 -- WHAT CALLS GAVE
-
-told_whole : (a b : Option (List ℕ)) (used : List ℕ) → Consumes a b used → Tells a (used ++ told_bytes b)
-told_whole None b used h = tt
-told_whole (Some x) None used h = absurd h
-told_whole (Some x) (Some y) used h = sym h
-
-ended_whole : (a b c : Option (List ℕ)) (used : List ℕ) → Consumes a b used → Consumes b c [] → IsAtEnd c → Tells a used
-ended_whole None b c used h k end = tt
-ended_whole (Some x) None c used h k end = absurd h
-ended_whole (Some x) (Some y) None used h k end = absurd k
-ended_whole (Some x) (Some y) (Some z) used h k end = sym (h ∙ ap (λ l. used ++ l) (k ∙ end) ∙ append-nil used)
 
 pub record GaveOf (s : Streamed) (ls : List (Option Line)) (t : Streamed) : Type 0 where
   pub used : List ℕ
-  pub taken : Consumes s.told t.told used
+  pub taken : Uses s.left t.left used
   pub whole : t.fault ≡ None → (more : List ℕ) → lines_read s.size (used ++ more) ≡ ls ++ lines_read s.size more
   pub rest : List (Option Line)
-  pub front : lines_read s.size (used ++ told_bytes t.told) ≡ ls ++ rest
+  pub front : lines_read s.size (used ++ bytes_left t.left) ≡ ls ++ rest
 
 gave_of : (s : Streamed) (ls : List (Option Line)) (t : Streamed) → Gave reader_gives s ls t → GaveOf s ls t
 gave_of s [] t e = record {
   used = [];
-  taken = subst (λ (x : Streamed). Consumes s.told x.told []) e (Consumes-nil s.told);
+  taken = subst (λ (x : Streamed). Uses s.left x.left []) e (uses_none s.left);
   whole = λ free more. refl;
-  rest = lines_read s.size (told_bytes t.told);
+  rest = lines_read s.size (bytes_left t.left);
   front = refl;
 }
 gave_of s (Some l ∷ ls) t (u, g, more) =
@@ -89,32 +118,143 @@ gave_of s (Some l ∷ ls) t (u, g, more) =
     let below = gave_of u ls t more in
     let size : u.size ≡ s.size = g.1 in record {
       used = one.0 ++ below.used;
-      taken = Consumes-trans s.told u.told t.told one.0 below.used one.1 below.taken;
+      taken = uses_then s.left u.left t.left one.0 below.used one.1 below.taken;
       whole = λ free behind.
           ap (lines_read s.size) (append_assoc one.0 below.used behind) ∙ one.2 (below.used ++ behind)
           ∙ ap (λ k. Some l ∷ k) (subst (λ (m : ℕ). lines_read m (below.used ++ behind) ≡ ls ++ lines_read m behind) size (below.whole free behind));
       rest = below.rest;
       front =
-          ap (lines_read s.size) (append_assoc one.0 below.used (told_bytes t.told)) ∙ one.2 (below.used ++ told_bytes t.told)
-          ∙ ap (λ k. Some l ∷ k) (subst (λ (m : ℕ). lines_read m (below.used ++ told_bytes t.told) ≡ ls ++ below.rest) size below.front);
+          ap (lines_read s.size) (append_assoc one.0 below.used (bytes_left t.left)) ∙ one.2 (below.used ++ bytes_left t.left)
+          ∙ ap (λ k. Some l ∷ k) (subst (λ (m : ℕ). lines_read m (below.used ++ bytes_left t.left) ≡ ls ++ below.rest) size below.front);
     }
 gave_of s (None ∷ []) t (u, g, e) =
     let one = g.3 in record {
       used = one.0;
-      taken = subst (λ (x : Streamed). Consumes s.told x.told one.0) e one.1;
+      taken = subst (λ (x : Streamed). Uses s.left x.left one.0) e one.1;
       whole = λ free. absurd (cc (sym free ∙ ap (λ (x : Streamed). x.fault) (sym e) ∙ g.2));
       rest = one.2;
-      front = subst (λ (x : Streamed). lines_read s.size (one.0 ++ told_bytes x.told) ≡ None ∷ one.2) e one.3;
+      front = subst (λ (x : Streamed). lines_read s.size (one.0 ++ bytes_left x.left) ≡ None ∷ one.2) e one.3;
     }
 gave_of s (None ∷ (k ∷ ls)) t (u, g, (v, f, more)) = absurd (cc (sym f.0 ∙ g.2))
 
 pub lines_given_of_reader : LinesGivenOfReader
-lines_given_of_reader n told ls t h =
-    let all = gave_of (streamed_of n told) ls t h in record {
-      front = (all.used ++ told_bytes t.told, told_whole told t.told all.used all.taken, all.rest, all.front);
-      all = λ u g. (all.used, ended_whole told t.told u.told all.used all.taken g.3.0 g.3.1, ap (lines_read n) (sym (append-nil all.used)) ∙ all.whole g.0 [] ∙ append-nil ls);
+lines_given_of_reader n held told ls t h =
+    let s = streamed_of n held told in
+    let all = gave_of s ls t h in
+    let one = used_whole s.left t.left all.used all.taken in record {
+      front = (one.0, one.1, all.rest, ap (lines_read n) one.2 ∙ all.front);
+      all = λ u g.
+          let end = used_whole s.left u.left (all.used ++ []) (uses_then s.left t.left u.left all.used [] all.taken g.3.0) in
+          (end.0, end.1, ap (lines_read n) (end.2 ∙ append_assoc all.used [] (bytes_left u.left) ∙ ap (λ l. all.used ++ l) (none_left u.left g.3.1)) ∙ all.whole g.0 [] ∙ append-nil ls);
     }
 
-pub end_told : (o : Option (List ℕ)) → IsAtEnd o → told_bytes o ≡ []
-end_told None h = refl
-end_told (Some x) h = h
+-- THE BLOCK
+
+-- nothing is between two places that are one
+none_between : (i : ℕ) (l : List ℕ) → drop i (take i l) ≡ []
+none_between i l = let long = length-take {A = ℕ} i l in drop_of_length-le (take i l) (omega (arith, long))
+
+-- the byte at a place, and those after it up to another
+byte_at : (s e : ℕ) (block : List ℕ) → s < e → e ≤ length block → drop s (take e block) ≡ get_or block s 0 ∷ drop (s + 1) (take e block)
+byte_at s e block low within =
+    let long = length-take {A = ℕ} e block in
+    let next : suc s ≡ s + 1 = omega arith in
+    drop-cons (take e block) s 0 (omega (arith, long, low, within)) ∙ ap (λ x. x ∷ drop (suc s) (take e block)) (get_or-take e block s 0 low)
+    ∙ ap (λ i. get_or block s 0 ∷ drop i (take e block)) next
+
+module _ (told : Option (List ℕ)) (front : List ℕ) (s e : ℕ) (block : List ℕ) where
+  pub byte_held : s < e → e ≤ length block → Uses (record { held = drop s (take e block) ++ front; told = told }) (record { held = drop (s + 1) (take e block) ++ front; told = told }) (get_or block s 0 ∷ [])
+  byte_held low within = record { read = []; told = Consumes-nil told; bytes = append-nil (drop s (take e block) ++ front) ∙ ap (λ l. l ++ front) (byte_at s e block low within) }
+
+  module _ (next : Option (List ℕ)) (rest : List ℕ) (n : ℕ) (new : List ℕ) (same : s ≡ e) (u : Uses (record { held = front; told = told }) (record { held = rest; told = next }) (take n new)) where
+    none_held : (drop s (take e block) ++ front) ++ u.read ≡ front ++ u.read
+    none_held = ap (λ l. (l ++ front) ++ u.read) (ap (λ i. drop i (take e block)) same ∙ none_between e block)
+
+    pub byte_read : 0 < n → n ≤ length new → Uses (record { held = drop s (take e block) ++ front; told = told }) (record { held = drop 1 (take n new) ++ rest; told = next }) (get_or new 0 0 ∷ [])
+    byte_read some within = record { read = u.read; told = u.told; bytes = none_held ∙ u.bytes ∙ ap (λ l. l ++ rest) (byte_at 0 n new some within) }
+
+    pub none_read : n ≡ 0 → Uses (record { held = drop s (take e block) ++ front; told = told }) (record { held = drop s (take e new) ++ rest; told = next }) []
+    none_read none = record { read = u.read; told = u.told; bytes = none_held ∙ u.bytes ∙ ap (λ k. take k new ++ rest) none ∙ ap (λ l. l ++ rest) (sym (ap (λ i. drop i (take e new)) same ∙ none_between e new)) }
+
+    pub none_now : HasEnded (record { held = rest; told = next }) → HasEnded (record { held = drop s (take e new) ++ rest; told = next })
+    none_now end = (ap (λ l. l ++ rest) (ap (λ i. drop i (take e new)) same ∙ none_between e new) ∙ end.0, end.1)
+
+-- the first line of a block, by the place of its line feed
+fed_at : (b : List ℕ) → place b < length b → HasNoFeed (take (place b) b) × (take (suc (place b)) b ≡ take (place b) b ++ line_feed ∷ [])
+fed_at [] h = absurd (omega arith)
+fed_at (x ∷ b) h = go (nat_eq x 10) refl h (fed_at b)
+  where
+    At : ℕ → Type 0
+    At j = HasNoFeed (take j (x ∷ b)) × (take (suc j) (x ∷ b) ≡ take j (x ∷ b) ++ line_feed ∷ [])
+
+    go : (t : Bool) → nat_eq x 10 ≡ t → cond (not t) (1 + place b) 0 < suc (length b) → (place b < length b → HasNoFeed (take (place b) b) × (take (suc (place b)) b ≡ take (place b) b ++ line_feed ∷ [])) → At (cond (not t) (1 + place b) 0)
+    go true e h' more = (tt, ap (λ y. y ∷ []) (eqb-true x 10 e))
+    go false e h' more =
+        let next : suc (place b) ≡ 1 + place b = omega arith in
+        let below = more (omega arith) in
+        subst At next ((e, below.0), ap (λ l. x ∷ l) below.1)
+
+pub fed_by : (b : List ℕ) (k : ℕ) → position (λ x. nat_eq x 10) b ≡ Some k → (k < length b) × HasNoFeed (take k b) × (take (k + 1) b ≡ take k b ++ line_feed ∷ [])
+fed_by b k e = go (nat_lt (place b) (length b)) refl e
+  where
+    go : (t : Bool) → nat_lt (place b) (length b) ≡ t → cond t (Some (place b)) None ≡ Some k → (k < length b) × HasNoFeed (take k b) × (take (k + 1) b ≡ take k b ++ line_feed ∷ [])
+    go false low e' = absurd (cc)
+    go true low e' =
+        let same : place b ≡ k = cc e' in
+        let next : suc k ≡ k + 1 = omega arith in
+        let less = ltb-true (place b) (length b) low in
+        let at = fed_at b less in
+        (omega (arith, less, same), subst (λ j. HasNoFeed (take j b)) same at.0, subst (λ j. take j b ≡ take k b ++ line_feed ∷ []) next (subst (λ j. take (suc j) b ≡ take j b ++ line_feed ∷ []) same at.1))
+
+module _ (told : Option (List ℕ)) (front : List ℕ) (s e k : ℕ) (block : List ℕ) (low : s ≤ e) (fed : position (λ x. nat_eq x 10) (take (e - s) (drop s block)) ≡ Some k) where
+  abbrev pub piece : List ℕ
+  piece = take (e - s) (drop s block)
+
+  fed_here : (k < length piece) × HasNoFeed (take k piece) × (take (k + 1) piece ≡ take k piece ++ line_feed ∷ [])
+  fed_here = fed_by piece k fed
+
+  -- what is spelled before the line feed
+  pub line_there : take (s + k - s) (drop s block) ≡ take k piece
+  line_there =
+      let long = length-take {A = ℕ} (e - s) (drop s block) in
+      let first = fed_here.0 in
+      let count : s + k - s ≡ k = omega arith in
+      ap (λ j. take j (drop s block)) count ∙ sym (take-take k (e - s) (drop s block) (omega (arith, long, first)))
+
+  pub line_clean : HasNoFeed (take k piece)
+  line_clean = fed_here.1
+
+  rest_there : drop (k + 1) piece ≡ drop (s + k + 1) (take e block)
+  rest_there =
+      let whole : s + (e - s) ≡ e = omega (arith, low) in
+      let place : s + (k + 1) ≡ s + k + 1 = omega arith in
+      ap (drop (k + 1)) (sym (drop-take s (e - s) block) ∙ ap (λ j. drop s (take j block)) whole) ∙ drop-drop (k + 1) s (take e block) ∙ ap (λ j. drop j (take e block)) place
+
+  pub block_line : drop s (take e block) ++ front ≡ (take k piece ++ line_feed ∷ []) ++ (drop (s + k + 1) (take e block) ++ front)
+  block_line =
+      let whole : s + (e - s) ≡ e = omega (arith, low) in
+      ap (λ l. l ++ front) (sym (ap (λ j. drop s (take j block)) whole) ∙ drop-take s (e - s) block ∙ sym (take-append-drop (k + 1) piece))
+      ∙ append_assoc (take (k + 1) piece) (drop (k + 1) piece) front
+      ∙ ap (λ l. l ++ (drop (k + 1) piece ++ front)) fed_here.2
+      ∙ ap (λ l. (take k piece ++ line_feed ∷ []) ++ (l ++ front)) rest_there
+
+  pub line_used : Uses (record { held = drop s (take e block) ++ front; told = told }) (record { held = drop (s + k + 1) (take e block) ++ front; told = told }) (take k piece ++ line_feed ∷ [])
+  line_used = record { read = []; told = Consumes-nil told; bytes = append-nil (drop s (take e block) ++ front) ∙ block_line }
+
+  -- a line that is spelled, and one that is not
+  module _ (n : ℕ) (line : Option Line) (spelled : line ≡ version_one (line_of n (take (s + k - s) (drop s block)))) where
+    is_line : (more : List ℕ) → lines_read n ((take k piece ++ line_feed ∷ []) ++ more) ≡ line ∷ lines_read n more
+    is_line more = line_fed n (take k piece) more line_clean ∙ ap (λ (l : Option Line). l ∷ lines_read n more) (sym (spelled ∙ ap (λ b. version_one (line_of n b)) line_there))
+
+    pub line_read : (l : Line) → line ≡ Some l → IsRead n (record { held = drop s (take e block) ++ front; told = told }) (record { held = drop (s + k + 1) (take e block) ++ front; told = told }) (Ok (Some l))
+    line_read l is = (take k piece ++ line_feed ∷ [], line_used, λ more. is_line more ∙ ap (λ (l : Option Line). l ∷ lines_read n more) is)
+
+    pub line_unread : line ≡ None → IsRead n (record { held = drop s (take e block) ++ front; told = told }) (record { held = drop s (take e block) ++ front; told = told }) (Err Malformed)
+    line_unread is =
+        let more = (drop (s + k + 1) (take e block) ++ front) ++ told_bytes told in (
+          [],
+          uses_none (record { held = drop s (take e block) ++ front; told = told }),
+          lines_read n more,
+          ap (lines_read n) (ap (λ l. l ++ told_bytes told) block_line ∙ append_assoc (take k piece ++ line_feed ∷ []) (drop (s + k + 1) (take e block) ++ front) (told_bytes told))
+              ∙ is_line more ∙ ap (λ (l : Option Line). l ∷ lines_read n more) is,
+        )

@@ -1,8 +1,9 @@
--- A source of lines that a reader gives, and what one call of it gives and leaves.
---     Streamed      the board's size, the bytes that the reader still tells, where it tells them, the number of the line or
---                   fault that was answered last, and the fault
+-- A source of lines that some bytes and then a reader give, and what one call of it gives and leaves.
+--     Unread      the bytes that nobody used yet: those that are held, and after them those that the reader tells, where it does
+--     Streamed      the board's size, the bytes that are left, the number of the line or fault that was answered last, and the fault
 --     Tells told bytes      the bytes are those that are told, where they are
---     IsRead n old new r      what a call answers where the bytes old were told before it and new behind it
+--     Uses old new used      these bytes were used from the front
+--     IsRead n old new r      what a call answers, from the bytes that were left before it to those after it
 --     reader_gives s r t      a call at s, which has not failed, answers r and leaves t
 use Rattle.std.specs.Prelude.{◌≡◌, ℕ, false, nat_eq, length, List, [], ◌∷◌, ◌++◌, Option, Some, None, Result, Ok, Err}
 use Rattle.std.specs.Io.KnownBytes.{Consumes, IsAtEnd}
@@ -15,14 +16,18 @@ use Rattle.proof_cert.specs.Given.{Gave, fault_of}
 use Rattle.proof_cert.specs.declared.source.SourceFault.{SourceFault}
 use Rattle.proof_cert.specs.declared.source.SourceFault.TheVariants.{Malformed, Memory, Read}
 
+pub record Unread : Type 0 where
+  pub held : List ℕ
+  pub told : Option (List ℕ)
+
 pub record Streamed : Type 0 where
   pub size : ℕ
-  pub told : Option (List ℕ)
+  pub left : Unread
   pub number : ℕ
   pub fault : Option SourceFault
 
-abbrev pub streamed_of : ℕ → Option (List ℕ) → Streamed
-streamed_of n told = record { size = n; told = told; number = 0; fault = None }
+abbrev pub streamed_of : ℕ → List ℕ → Option (List ℕ) → Streamed
+streamed_of n held told = record { size = n; left = record { held = held; told = told }; number = 0; fault = None }
 
 abbrev pub Tells : Option (List ℕ) → List ℕ → Type 0
 Tells None bytes = Unit {0}
@@ -33,38 +38,51 @@ abbrev pub told_bytes : Option (List ℕ) → List ℕ
 told_bytes None = []
 told_bytes (Some told) = told
 
--- a reader gave one byte, or has ended
-abbrev pub IsByte : Option (List ℕ) → Option (List ℕ) → Option ℕ → Type 0
-IsByte old new None = Consumes old new [] × IsAtEnd new
-IsByte old new (Some b) = Consumes old new (b ∷ [])
+-- all the bytes that are left, as far as they are told
+abbrev pub bytes_left : Unread → List ℕ
+bytes_left b = b.held ++ told_bytes b.told
+
+-- some may have been read after those that were held
+pub record Uses (old new : Unread) (used : List ℕ) : Type 0 where
+  pub read : List ℕ
+  pub told : Consumes old.told new.told read
+  pub bytes : old.held ++ read ≡ used ++ new.held
+
+abbrev pub HasEnded : Unread → Type 0
+HasEnded b = (b.held ≡ []) × IsAtEnd b.told
+
+-- one byte was used, or there is none
+abbrev pub IsByte : Unread → Unread → Option ℕ → Type 0
+IsByte old new None = Uses old new [] × HasEnded new
+IsByte old new (Some b) = Uses old new (b ∷ [])
 
 -- no byte is a line feed
 abbrev pub HasNoFeed : List ℕ → Type 0
 HasNoFeed [] = Unit {0}
 HasNoFeed (x ∷ b) = (nat_eq x line_feed ≡ false) × HasNoFeed b
 
--- How the bytes of a line ended: by a line feed, by the reader's end, or by a byte more than a line may have.
-abbrev pub IsPiece : Option (List ℕ) → Option (List ℕ) → List ℕ → Ending → Type 0
-IsPiece old new b LineFeed = HasNoFeed b × Consumes old new (b ++ line_feed ∷ [])
-IsPiece old new b End = HasNoFeed b × Consumes old new b × IsAtEnd new
-IsPiece old new b TooLong = (x : ℕ) × HasNoFeed (b ++ x ∷ []) × Consumes old new (b ++ x ∷ []) × (length b ≡ max_line)
+-- How the bytes of a line ended: by a line feed, by the end, or by a byte more than a line may have.
+abbrev pub IsPiece : Unread → Unread → List ℕ → Ending → Type 0
+IsPiece old new b LineFeed = HasNoFeed b × Uses old new (b ++ line_feed ∷ [])
+IsPiece old new b End = HasNoFeed b × Uses old new b × HasEnded new
+IsPiece old new b TooLong = (x : ℕ) × HasNoFeed (b ++ x ∷ []) × Uses old new (b ++ x ∷ []) × (length b ≡ max_line)
 
--- A line: the bytes that were used give it, whatever follows. None: the reader has ended. A malformed line: the bytes that were
--- used and what is told behind them begin with it. A read may always fail, and no memory is taken.
-abbrev pub IsRead : ℕ → Option (List ℕ) → Option (List ℕ) → Result (Option Line) SourceFault → Type 0
-IsRead n old new (Ok (Some l)) = (used : List ℕ) × Consumes old new used × ((more : List ℕ) → lines_read n (used ++ more) ≡ Some l ∷ lines_read n more)
-IsRead n old new (Ok None) = Consumes old new [] × IsAtEnd new
-IsRead n old new (Err Malformed) = (used : List ℕ) × Consumes old new used × (rest : List (Option Line)) × (lines_read n (used ++ told_bytes new) ≡ None ∷ rest)
+-- A line: the bytes that were used give it, whatever follows. None: there are no more bytes. A malformed line: the bytes that were
+-- used and those that are left begin with it. A read may always fail, and no memory is taken.
+abbrev pub IsRead : ℕ → Unread → Unread → Result (Option Line) SourceFault → Type 0
+IsRead n old new (Ok (Some l)) = (used : List ℕ) × Uses old new used × ((more : List ℕ) → lines_read n (used ++ more) ≡ Some l ∷ lines_read n more)
+IsRead n old new (Ok None) = Uses old new [] × HasEnded new
+IsRead n old new (Err Malformed) = (used : List ℕ) × Uses old new used × (rest : List (Option Line)) × (lines_read n (used ++ bytes_left new) ≡ None ∷ rest)
 IsRead n old new (Err Memory) = ⊥
 IsRead n old new (Err Read) = Unit {0}
 
 abbrev pub reader_gives : Streamed → Result (Option Line) SourceFault → Streamed → Type 0
-reader_gives s r t = (s.fault ≡ None) × (t.size ≡ s.size) × (t.fault ≡ fault_of r) × IsRead s.size s.told t.told r
+reader_gives s r t = (s.fault ≡ None) × (t.size ≡ s.size) × (t.fault ≡ fault_of r) × IsRead s.size s.left t.left r
 
--- A reader gives the lines of its bytes in their order, and all of them where it has ended.
-pub record IsFrontOfReader (n : ℕ) (told : Option (List ℕ)) (ls : List (Option Line)) (t : Streamed) : Type 0 where
-  pub front : (bytes : List ℕ) × Tells told bytes × (rest : List (Option Line)) × (lines_read n bytes ≡ ls ++ rest)
-  pub all : (u : Streamed) → reader_gives t (Ok None) u → (bytes : List ℕ) × Tells told bytes × (lines_read n bytes ≡ ls)
+-- A source gives the lines of its bytes in their order, and all of them where it has ended.
+pub record IsFrontOfReader (n : ℕ) (held : List ℕ) (told : Option (List ℕ)) (ls : List (Option Line)) (t : Streamed) : Type 0 where
+  pub front : (bytes : List ℕ) × Tells told bytes × (rest : List (Option Line)) × (lines_read n (held ++ bytes) ≡ ls ++ rest)
+  pub all : (u : Streamed) → reader_gives t (Ok None) u → (bytes : List ℕ) × Tells told bytes × (lines_read n (held ++ bytes) ≡ ls)
 
 abbrev pub LinesGivenOfReader : Type 0
-LinesGivenOfReader = (n : ℕ) (told : Option (List ℕ)) (ls : List (Option Line)) (t : Streamed) → Gave reader_gives (streamed_of n told) ls t → IsFrontOfReader n told ls t
+LinesGivenOfReader = (n : ℕ) (held : List ℕ) (told : Option (List ℕ)) (ls : List (Option Line)) (t : Streamed) → Gave reader_gives (streamed_of n held told) ls t → IsFrontOfReader n held told ls t

@@ -6,6 +6,7 @@ ghost use Rattle.proof_cert.specs.Text.{after_word, at_end, at_space, number_of,
 ghost use Rattle.proof_cert.specs.Lines.{main_line, won_line, end_line};
 ghost use Rattle.proof_cert.specs.Stage.{line_value, version_one};
 
+use crate::cells::read_cells;
 use go_points::{Colour, Colouring, Size, Turn, sgf_point};
 
 /// One line of a claim.
@@ -130,7 +131,7 @@ fn read_lemma(size: Size, text: &[u8]) -> Option<Line>
         b'1' => 1,
         _ => return None,
     };
-    let root = Colouring::from_text(size, &text[4..])?;
+    let root = read_cells(size, &text[4..])?;
     Some(Line::Lemma {
         mover,
         passes,
@@ -150,7 +151,7 @@ impl Line {
             return read_lemma(size, rest);
         }
         if let Some(rest) = behind_word(b"not ", text) {
-            return Some(Line::Not(Colouring::from_text(size, rest)?));
+            return Some(Line::Not(read_cells(size, rest)?));
         }
         if let Some(rest) = behind_word(b"use ", text) {
             return Some(Line::Use(read_number(rest)?));

@@ -1,4 +1,4 @@
-//! The lines of a claim that a reader gives, one at a time.
+//! The lines of a claim that some bytes and then a reader give, one at a time.
 
 ghost use Rattle.std.specs.Prelude.{◌≡◌, ◌<◌, ◌^◌, [], None, IfOk};
 ghost use Rattle.std.specs.Io.KnownBytes.{Consumes};
@@ -28,29 +28,29 @@ pub(crate) enum Ending {
     TooLong,
 }
 
-/// The lines that a reader gives, for a board of one size. It takes no memory: a block of the reader's bytes and one line are held.
+/// The lines of some bytes and then of what a reader gives, for a board of one size. It takes no memory: a block of the bytes and one line are held.
 #[derive(Drop)]
-pub struct ReaderSource<R: Read + Drop> {
+pub struct ReaderSource<'a, R: Read + Drop> {
     size: Size,
-    bytes: ToldBytes<R>,
+    bytes: ToldBytes<'a, R>,
     number: u64,
     fault: Option<SourceFault>,
 }
 
-impl<R: Read + Drop> Model for ReaderSource<R> {
+impl<'a, R: Read + Drop> Model for ReaderSource<'a, R> {
     ghost use Rattle.std.specs.Prelude.{◌≡◌, ◌-◌, ◌^◌, ◌<◌, None};
     ghost use Rattle.proof_cert.specs.Streamed.{Streamed};
 
     ghost Value = { Streamed };
 
-    ghost view = { λ a. record { size = a.size; told = a.bytes; number = a.number; fault = a.fault } };
+    ghost view = { λ a. record { size = a.size; left = a.bytes; number = a.number; fault = a.fault } };
 
     ghost invariant = { λ a. a.fault ≡ None → a.number < 2 ^ 64 - 1 };
 }
 
 /// The bytes up to a line feed, to the end, or to one more than a line may have.
 fn read_piece<R: Read + Drop>(
-    bytes: &mut ToldBytes<R>,
+    bytes: &mut ToldBytes<'_, R>,
     line: &mut ArrayVec<u8, MAX_LINE>,
 ) -> Result<Ending, ReadFailed>
     requires { line.old.items ≡ [] }
@@ -65,19 +65,21 @@ fn read_piece<R: Read + Drop>(
         }
         line.push(byte);
     }
-    let Some(byte) = bytes.next()? else {
-        return Ok(Ending::End);
-    };
-    if byte == b'\n' {
-        return Ok(Ending::LineFeed);
+    match bytes.next()? {
+        None => Ok(Ending::End),
+        Some(byte) => {
+            if byte == b'\n' {
+                return Ok(Ending::LineFeed);
+            }
+            Ok(Ending::TooLong)
+        }
     }
-    Ok(Ending::TooLong)
 }
 
-/// The next line of the bytes, for a board of this size.
-fn read_line<R: Read + Drop>(
+/// The next line of the bytes, byte by byte.
+fn cut_line<R: Read + Drop>(
     size: Size,
-    bytes: &mut ToldBytes<R>,
+    bytes: &mut ToldBytes<'_, R>,
 ) -> Result<Option<Line>, SourceFault>
     ensures { IsRead size bytes.old bytes.new (answer_value size result) }
 {
@@ -100,21 +102,35 @@ fn read_line<R: Read + Drop>(
     }
 }
 
-impl<R: Read + Drop> ReaderSource<R> {
-    /// The lines that the reader gives, for a board of this size.
-    pub fn new(size: Size, reader: R) -> ReaderSource<R>
-        ensures { result ≡ streamed_of size (R.remaining reader) }
+/// The next line of the bytes, for a board of this size: at once where the block has the whole of it.
+fn read_line<R: Read + Drop>(
+    size: Size,
+    bytes: &mut ToldBytes<'_, R>,
+) -> Result<Option<Line>, SourceFault>
+    ensures { IsRead size bytes.old bytes.new (answer_value size result) }
+{
+    match bytes.whole_line(size) {
+        Some(Some(line)) => Ok(Some(line)),
+        Some(None) => Err(SourceFault::Malformed),
+        None => cut_line(size, bytes),
+    }
+}
+
+impl<'a, R: Read + Drop> ReaderSource<'a, R> {
+    /// The lines of the front and of what the reader gives after it, for a board of this size.
+    pub fn new(size: Size, front: &'a [u8], reader: R) -> ReaderSource<'a, R>
+        ensures { result ≡ streamed_of size front.now (R.remaining reader) }
     {
         ReaderSource {
             size,
-            bytes: ToldBytes::new(reader),
+            bytes: ToldBytes::new(front, reader),
             number: 0,
             fault: None,
         }
     }
 }
 
-impl<R: Read + Drop> NodeSource for ReaderSource<R> {
+impl<'a, R: Read + Drop> NodeSource for ReaderSource<'a, R> {
     ghost use Rattle.proof_cert.specs.Streamed.{reader_gives};
 
     ghost size = { λ s. s.size };

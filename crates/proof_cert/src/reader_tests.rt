@@ -41,7 +41,7 @@ fn three(rt: &impl Abort) -> Size {
 
 // How many lines come before the end or the fault, and the fault.
 fn count<R: Read + Drop>(size: Size, reader: R) -> (u64, Option<SourceFault>) {
-    let mut source = ReaderSource::new(size, reader);
+    let mut source = ReaderSource::new(size, b"".as_slice(), reader);
     for lines in 0..100_000u64 {
         match source.next() {
             Ok(Some(_)) => {}
@@ -60,7 +60,7 @@ fn the_same_lines_however_the_bytes_are_cut(rt: HostRuntime) {
             piece,
             fails: false,
         };
-        let mut source = ReaderSource::new(three(&rt), pieces);
+        let mut source = ReaderSource::new(three(&rt), b"".as_slice(), pieces);
         assert_eq!(rt;
             source.next(),
             Ok(Some(Line::Header {
@@ -134,12 +134,35 @@ fn the_longest_line(rt: HostRuntime) -> Result<(), Fail> {
 
 #[test]
 fn a_fault_stays(rt: HostRuntime) {
-    let mut source = ReaderSource::new(three(&rt), b"won\n\nplay pass\n".as_slice());
+    let mut source = ReaderSource::new(
+        three(&rt),
+        b"".as_slice(),
+        b"won\n\nplay pass\n".as_slice(),
+    );
     assert_eq!(rt; source.next(), Ok(Some(Line::Won)));
     for _ in 0..3 {
         assert_eq!(rt; source.next(), Err(SourceFault::Malformed));
     }
     assert_eq!(rt; source.line_number(), 2);
-    let mut good = ReaderSource::new(three(&rt), b"play pass\n".as_slice());
+    let mut good = ReaderSource::new(three(&rt), b"".as_slice(), b"play pass\n".as_slice());
     assert_eq!(rt; good.next(), Ok(Some(Line::Play(Turn::Pass))));
+}
+
+// A line may begin in the bytes that are held and end in the reader's.
+#[test]
+fn the_same_lines_wherever_the_front_ends(rt: HostRuntime) {
+    let bytes = CLAIM.as_bytes();
+    for end in 0..bytes.len() {
+        let pieces = Pieces {
+            left: &bytes[end..],
+            piece: 3,
+            fails: false,
+        };
+        let mut source = ReaderSource::new(three(&rt), &bytes[..end], pieces);
+        for _ in 0..8 {
+            assert!(rt; source.next().is_ok());
+        }
+        assert_eq!(rt; source.next(), Ok(Some(Line::End)));
+        assert_eq!(rt; source.next(), Ok(None));
+    }
 }

@@ -161,7 +161,7 @@ fn walks_the_lines_of_the_text(rt: HostRuntime) -> Result<(), Fail> {
     ];
     for (certificate, text) in &claims {
         let mut held = HeldSource::new(alloc, certificate);
-        let mut spelled = ReaderSource::new(certificate.size, text.as_bytes());
+        let mut spelled = ReaderSource::new(certificate.size, text.as_bytes(), b"".as_slice());
         assert_eq!(rt; NodeSource::size(&held).rows(), 3);
         assert_eq!(rt; NodeSource::line_number(&held), 0);
         let (walked, walk_failed) = taken(alloc, &mut held)?;

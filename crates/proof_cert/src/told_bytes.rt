@@ -1,8 +1,12 @@
-//! The bytes of a reader, one at a time, from a block of fixed size.
+//! The bytes that are held and those of a reader, one at a time or a line at once, from a block of fixed size.
 
-ghost use Rattle.std.specs.Prelude.{◌≡◌, [], IfOk};
-ghost use Rattle.proof_cert.specs.Streamed.{IsByte};
+ghost use Rattle.std.specs.Prelude.{◌≡◌, ◌≤◌, ◌++◌, [], ℕ, length, take, None, IfOk, IfSome, option_map};
+ghost use Rattle.proof_cert.specs.Stage.{line_value};
+ghost use Rattle.proof_cert.specs.Given.{line_answer};
+ghost use Rattle.proof_cert.specs.Streamed.{HasEnded, IsByte, IsRead, Uses};
 
+use crate::line::{Line, place_of_byte};
+use go_points::Size;
 use std::io::Read;
 use std::marker::Model;
 
@@ -13,48 +17,78 @@ const BLOCK: usize = 4096;
 #[derive(Clone, Copy, Debug)]
 pub(crate) struct ReadFailed;
 
-/// A reader, with the bytes that it gave and nobody took yet: those of the block from `start` to `end`.
+/// Bytes that are held, and after them a reader.
 #[derive(Drop)]
-pub(crate) struct ToldBytes<R: Read + Drop> {
+struct Rest<'a, R: Read + Drop> {
+    front: &'a [u8],
     reader: R,
+}
+
+impl<'a, R: Read + Drop> Rest<'a, R> {
+    /// The next bytes, at the front of the block; so many are there, and none at the end.
+    fn read(&mut self, block: &mut [u8; BLOCK]) -> Result<usize, ReadFailed>
+        ensures length { length block.new ≡ 4096 }
+        ensures few { IfOk result (λ n. n ≤ 4096) }
+        ensures used { IfOk result (λ n. Uses (record { held = self.old.front.now; told = R.remaining self.old.reader }) (record { held = self.new.front.now; told = R.remaining self.new.reader }) (take n block.new)) }
+        ensures end { IfOk result (λ n. n ≡ 0 → HasEnded (record { held = self.new.front.now; told = R.remaining self.new.reader })) }
+    {
+        if self.front.is_empty() {
+            return match self.reader.read(block) {
+                Ok(count) => Ok(count),
+                Err(_) => Err(ReadFailed),
+            };
+        }
+        let count = self.front.len().min(BLOCK);
+        let (taken, front) = self.front.split_at(count);
+        block[..count].copy_from_slice(taken);
+        self.front = front;
+        Ok(count)
+    }
+}
+
+/// Bytes that nobody used yet: those of the block from `start` to `end`, and the rest after them.
+#[derive(Drop)]
+pub(crate) struct ToldBytes<'a, R: Read + Drop> {
+    rest: Rest<'a, R>,
     block: [u8; BLOCK],
     start: usize,
     end: usize,
 }
 
-impl<R: Read + Drop> Model for ToldBytes<R> {
-    ghost use Rattle.std.specs.Prelude.{◌≡◌, ◌≤◌, ℕ, List, Option, length, take, drop};
-    ghost use Rattle.std.specs.Io.KnownBytes.{prepend_known};
+impl<'a, R: Read + Drop> Model for ToldBytes<'a, R> {
+    ghost use Rattle.std.specs.Prelude.{◌≡◌, ◌≤◌, ◌++◌, length, take, drop};
+    ghost use Rattle.proof_cert.specs.Streamed.{Unread};
 
-    ghost Value = { Option (List ℕ) };
+    ghost Value = { Unread };
 
-    ghost view = { λ a. prepend_known (drop a.start (take a.end a.block)) (R.remaining a.reader) };
+    ghost view = { λ a. record { held = drop a.start (take a.end a.block) ++ a.rest.front.now; told = R.remaining a.rest.reader } };
 
     ghost invariant = { λ a. (a.start ≤ a.end) × (a.end ≤ 4096) × (length a.block ≡ 4096) };
 }
 
-impl<R: Read + Drop> ToldBytes<R> {
-    pub(crate) fn new(reader: R) -> ToldBytes<R>
-        ensures { result ≡ R.remaining reader }
+impl<'a, R: Read + Drop> ToldBytes<'a, R> {
+    pub(crate) fn new(front: &'a [u8], reader: R) -> ToldBytes<'a, R>
+        ensures { result ≡ record { held = front.now; told = R.remaining reader } }
     {
         ToldBytes {
-            reader,
+            rest: Rest { front, reader },
             block: [0; BLOCK],
             start: 0,
             end: 0,
         }
     }
 
-    /// The next byte; none where the reader has ended.
+    /// The next byte; none at the end.
     pub(crate) fn next(&mut self) -> Result<Option<u8>, ReadFailed>
         ensures { IfOk result (λ o. IsByte self.old self.new o) }
     {
         if self.start == self.end {
-            match self.reader.read(&mut self.block) {
+            match self.rest.read(&mut self.block) {
                 Ok(0) => return Ok(None),
                 Ok(count) => {
-                    self.start = 0;
+                    self.start = 1;
                     self.end = count;
+                    return Ok(Some(self.block[0]));
                 }
                 Err(_) => return Err(ReadFailed),
             }
@@ -62,5 +96,21 @@ impl<R: Read + Drop> ToldBytes<R> {
         let byte = self.block[self.start];
         self.start += 1;
         Ok(Some(byte))
+    }
+
+    /// The next line, where the block has it with its line feed. A line that is spelled as lines are is used.
+    pub(crate) fn whole_line(&mut self, size: Size) -> Option<Option<Line>>
+        ensures some { IfSome result (λ l. IsRead size self.old self.new (line_answer (option_map (line_value size) l))) }
+        ensures none { result ≡ None → self.new ≡ self.old }
+    {
+        let length = place_of_byte(&self.block[self.start..self.end], b'\n')?;
+        let feed = self.start + length;
+        match Line::from_text(size, &self.block[self.start..feed]) {
+            Some(line) => {
+                self.start = feed + 1;
+                Some(Some(line))
+            }
+            None => Some(None),
+        }
     }
 }

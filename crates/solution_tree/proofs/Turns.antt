@@ -1,5 +1,5 @@
 -- A set of turns, and the list that it stands for.
-use Rattle.std.proofs.Common.{◌≡◌, ℕ, ◌+◌, ◌*◌, ◌/◌, ◌%◌, ◌<◌, ◌≤◌, Bool, true, false, ◌||◌, if◌then◌else◌, nat_eq, nat_lt, eqb-true, eq-eqb, ltb-true, List, [], ◌∷◌, ◌++◌, Some, None, refl, sym, ◌∙◌, ap, ap₂, subst, arith}
+use Rattle.std.proofs.Common.{◌≡◌, ℕ, ◌*◌, ◌/◌, ◌%◌, Bool, true, false, ◌||◌, if◌then◌else◌, nat_eq, nat_lt, eqb-true, eq-eqb, ltb-true, List, [], ◌∷◌, ◌++◌, Some, refl, sym, ◌∙◌, ap, ap₂, subst, arith}
 use Rattle.std.proofs.lemmas.List.Folds.{list_any-append}
 use Rattle.std.proofs.lemmas.Nat.{div-mul-add, mod-mul-add}
 use Rattle.go_points.specs.declared.Turn.{Turn}
@@ -11,9 +11,8 @@ use Rattle.go_points.specs.Equal.{same_place_decides}
 use Rattle.go_points.proofs.Lists.{and_left, and_right}
 use Rattle.go_points.proofs.Membership.{sets_gain}
 use Rattle.target_game.specs.State.{GameState}
-use Rattle.target_game.specs.Legal.{legal, legal_turns}
+use Rattle.target_game.specs.Legal.{legal, holds_point}
 use Rattle.target_game.proofs.Playing.{ply_at}
-use Rattle.target_game.proofs.Tallies.{turns_left, left_begun, left_here, left_later, left_last}
 use Rattle.tsumego_problem.specs.Walked.{StandsOn}
 use Rattle.solution_tree.specs.declared.given.Given.{Given}
 use Rattle.solution_tree.specs.Asked.{given_has, Tells}
@@ -83,26 +82,20 @@ move_told n points b p ts on had (At q) h =
     ∙ or_last (holds_ply ts t) (same_ply t (ply_of n (At p)))
     ∙ sym (list_any-append (same_ply t) ts (ply_of n (At p) ∷ []))
 
--- the replies that are missing, from the point of this number on
-pub missing_begun : (s : GameState) (ts : List Ply) → missing ts (turns_left s 0) ≡ missing ts (legal_turns s)
-missing_begun s ts = ap (missing ts) (left_begun s)
+-- the first reply that is missing, where one more was asked for
+pub missing_here : (ts us ds : List Ply) (t : Ply) → ds ≡ t ∷ us → holds_ply ts t ≡ false → missing ts ds ≡ Some (reply_missing t)
+missing_here ts us ds t due new = ap (missing ts) due ∙ ap (λ b. unless_given b t (missing ts us)) new
 
-pub missing_here : (s : GameState) (ts : List Ply) (i : ℕ) (p : Place) → i < s.game.size * s.game.size → number_of s.game.size p ≡ i → IsOn s.game.size p → legal s (move (number_of s.game.size p)) ≡ true
-    → holds_ply ts (ply_of s.game.size (At p)) ≡ false → missing ts (turns_left s i) ≡ Some (reply_missing (ply_of s.game.size (At p)))
-missing_here s ts i p low at on free new =
-    ap (missing ts) (left_here s i p low at on free) ∙ ap (λ b. unless_given b (ply_of s.game.size (At p)) (missing ts (turns_left s (i + 1)))) new
+pub missing_given : (ts us ds : List Ply) (t : Ply) → ds ≡ t ∷ us → holds_ply ts t ≡ true → missing ts ds ≡ missing ts us
+missing_given ts us ds t due had = ap (missing ts) due ∙ ap (λ b. unless_given b t (missing ts us)) had
 
-pub missing_given : (s : GameState) (ts : List Ply) (i : ℕ) (p : Place) → i < s.game.size * s.game.size → number_of s.game.size p ≡ i → IsOn s.game.size p → legal s (move (number_of s.game.size p)) ≡ true
-    → holds_ply ts (ply_of s.game.size (At p)) ≡ true → missing ts (turns_left s i) ≡ missing ts (turns_left s (i + 1))
-missing_given s ts i p low at on free had =
-    ap (missing ts) (left_here s i p low at on free) ∙ ap (λ b. unless_given b (ply_of s.game.size (At p)) (missing ts (turns_left s (i + 1)))) had
+-- a legal turn stands on the board
+pub legal_stands : (s : GameState) (t : Ply) → legal s t ≡ true → StandsOn s.game.size t
+legal_stands s pass fine = tt
+legal_stands s (move p) fine = ltb-true p (s.game.size * s.game.size) (and_left (nat_lt p (s.game.size * s.game.size)) (holds_point s.game.region p) (and_left _ _ (and_left _ _ fine)))
 
-pub missing_later : (s : GameState) (ts : List Ply) (i : ℕ) (p : Place) → i < s.game.size * s.game.size → number_of s.game.size p ≡ i → legal s (move (number_of s.game.size p)) ≡ false
-    → missing ts (turns_left s i) ≡ missing ts (turns_left s (i + 1))
-missing_later s ts i p low at barred = ap (missing ts) (left_later s i p low at barred)
-
-pub missing_pass : (s : GameState) (ts : List Ply) (i : ℕ) (b : Bool) → s.game.size * s.game.size ≤ i → holds_ply ts pass ≡ b → missing ts (turns_left s i) ≡ unless_given b pass None
-missing_pass s ts i b past e = ap (missing ts) (left_last s i past) ∙ ap (λ b. unless_given b pass None) e
+pub turn_told : (n : ℕ) (g : Given) (t : Turn) (ts : List Ply) (b : Bool) → StandsOn n (ply_of n t) → Tells n g ts → b ≡ given_has g t → holds_ply ts (ply_of n t) ≡ b
+turn_told n g t ts b on had e = sym (had t on) ∙ sym e
 
 pub move_put : (n : ℕ) (g : Given) (t : Turn) (p : Place) (points : List Place) (ts : List Ply) → t ≡ At p → points ≡ with_place g.points p → StandsOn n (ply_of n t) → Tells n g ts
     → Tells n (record { points = points; pass = g.pass }) (ts ++ ply_of n t ∷ [])
@@ -110,10 +103,3 @@ move_put n g t p points ts is put on had =
     subst (λ (u : Turn). Tells n (record { points = points; pass = g.pass }) (ts ++ ply_of n u ∷ [])) (sym is)
     (subst (λ ps. Tells n (record { points = ps; pass = g.pass }) (ts ++ ply_of n (At p) ∷ [])) (sym put)
     (move_told n g.points g.pass p ts (subst (λ (u : Turn). StandsOn n (ply_of n u)) is on) had))
-
--- whether a turn at a point of the board is given
-pub point_told : (n : ℕ) (g : Given) (p : Place) (ts : List Ply) (b : Bool) → number_of n p < n * n → IsOn n p → Tells n g ts → b ≡ given_has g (At p) → holds_ply ts (ply_of n (At p)) ≡ b
-point_told n g p ts b low on had e = sym (had (At p) (subst (StandsOn n) (sym (ply_at n p on)) low)) ∙ sym e
-
-pub pass_is_told : (n : ℕ) (g : Given) (ts : List Ply) (b : Bool) → Tells n g ts → b ≡ given_has g Pass → holds_ply ts pass ≡ b
-pass_is_told n g ts b had e = sym (had Pass tt) ∙ sym e

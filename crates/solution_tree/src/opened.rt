@@ -44,16 +44,6 @@ pub(crate) enum Part<'a> {
     Finished(Answer),
 }
 
-/// Whether the turn is legal, if nobody has won.
-fn is_legal(state: &PlayState, turn: Turn) -> bool
-    ensures { result ≡ legal state.now.state (ply_of state.now.state.game.size turn) }
-{
-    match turn {
-        Turn::Pass => true,
-        Turn::At(point) => state.size().holds(point) && state.may_move(point),
-    }
-}
-
 /// The first of the replies that is legal, and those behind it.
 #[tactic(auto, using(crate::proofs::NextReplies::replies_kept, crate::proofs::NextReplies::replies_left_out, crate::proofs::NextReplies::reply_below))]
 fn next_reply<'a>(
@@ -70,7 +60,7 @@ fn next_reply<'a>(
         let Some((reply, others)) = rest.split_first() else {
             return None;
         };
-        if is_legal(state, reply.0) {
+        if state.is_legal(reply.0) {
             return Some((reply, others));
         }
         rest = others;

@@ -18,7 +18,7 @@ use crate::given::Given;
 use go_points::{Colour, Size, Turn};
 use go_turns::{PlayBoard, PlaySeen};
 use sgf_text::{SgfNode, Tree};
-use target_game::State;
+use target_game::{State, TurnsLeft};
 use tsumego_problem::{has_setup, turn_at, values_at};
 
 /// A state of the problem.
@@ -45,17 +45,6 @@ fn carried(size: Size, node: &SgfNode) -> Option<(Colour, Turn)>
     }
 }
 
-/// Whether the mover may make the turn, if nobody has won.
-fn is_legal(state: &PlayState, turn: Turn) -> bool
-    requires { StandsOn state.now.state.game.size (ply_of state.now.state.game.size turn) }
-    ensures { result ≡ legal state.now.state (ply_of state.now.state.game.size turn) }
-{
-    match turn {
-        Turn::Pass => true,
-        Turn::At(point) => state.may_move(point),
-    }
-}
-
 /// Asks the node as a turn, and makes the turn.
 pub(crate) fn take_turn(state: &mut PlayState, node: &SgfNode) -> Result<Turn, AuditWhy>
     ensures asked { OnOk result (turn_fault state.old.state (carried state.old.state.game.size node.now) ≡ None) }
@@ -68,20 +57,17 @@ pub(crate) fn take_turn(state: &mut PlayState, node: &SgfNode) -> Result<Turn, A
         return Err(AuditWhy::NoTurn);
     };
     let asked = turn;
-    let made = turn;
     if colour != state.mover() {
         return Err(AuditWhy::WrongColour);
     }
     if state.over().is_some() {
         return Err(AuditWhy::AfterTheEnd);
     }
-    if !is_legal(state, asked) {
-        return Err(AuditWhy::TurnBarred);
+    match state.try_after(asked) {
+        Ok(true) => Ok(turn),
+        Ok(false) => Err(AuditWhy::TurnBarred),
+        Err(_) => Err(AuditWhy::Memory),
     }
-    if state.after(made).is_err() {
-        return Err(AuditWhy::Memory);
-    }
-    Ok(turn)
 }
 
 /// Whether anything follows a node.
@@ -143,18 +129,14 @@ fn missing_reply(state: &PlayState, given: &Given) -> Option<Turn>
     ensures { (turns : List Ply) → Tells state.now.state.game.size given.now turns
         → option_map (λ t. reply_missing (ply_of state.now.state.game.size t)) result ≡ missing turns (legal_turns state.now.state) }
 {
-    let size = state.size();
-    for number in 0..size.area() {
-        let point = size.point_at(number);
-        if state.may_move(point) && !given.has(Turn::At(point)) {
-            return Some(Turn::At(point));
+    let mut turns_left = TurnsLeft::all();
+    while let Some(turn) = state.next_left(&mut turns_left) {
+        let asked = turn;
+        if !given.has(asked) {
+            return Some(turn);
         }
     }
-    if given.has(Turn::Pass) {
-        None
-    } else {
-        Some(Turn::Pass)
-    }
+    None
 }
 
 /// Whether the side has won, or play goes on with a child.

@@ -37,7 +37,7 @@ pub fn key_of(colouring: &Colouring) -> u64
     let size = colouring.size();
     let mut key = 0;
     for number in 0..size.area() {
-        key ^= cell_word(number, colouring.get(size.point_at(number)));
+        key ^= cell_word(number, colouring.cell(number));
     }
     key
 }

@@ -14,7 +14,6 @@ use Rattle.go_points.proofs.Lists.{and_left, and_right}
 use Rattle.target_game.specs.declared.bad_problem.BadProblem.TheVariants.{BadPlace}
 use Rattle.target_game.specs.Problem.{one_colour, problem_on, problem_of}
 use Rattle.go_points.specs.Sides.{side_of-whole}
-use Rattle.go_turns.specs.History.{repeats, has_occurred}
 
 module _ {A : Type 0} (f : A → Bool) (xs : List A) where
   -- all pass exactly where all from i on do
@@ -63,25 +62,6 @@ not_of_size n c other = go (nat_eq (length c) (n * n)) refl
     go : (b : Bool) → nat_eq (length c) (n * n) ≡ b → b ≡ false
     go true e = absurd (other (side_of-whole c n (eqb-true (length c) (n * n) e)))
     go false e = refl
-
--- whether one stands twice: exactly where one from i on does
-abbrev pub TwiceAfter : List (List Cell) → ℕ → Type 0
-TwiceAfter h i = repeats (drop i h) ≡ repeats h
-
-pub twice_more : (h : List (List Cell)) (i : ℕ) (c : List Cell) → i < length h → get_or h i c ≡ c → has_occurred (drop (i + 1) h) c ≡ false → TwiceAfter h i → TwiceAfter h (i + 1)
-twice_more h i c low at failed had =
-    let next : suc i ≡ i + 1 = omega arith in
-    let step : drop i h ≡ c ∷ drop (i + 1) h = drop-cons h i c low ∙ ap (λ y. y ∷ drop (suc i) h) at ∙ ap (λ k. c ∷ drop k h) next in
-    sym (ap (λ b. b || repeats (drop (i + 1) h)) failed) ∙ sym (ap repeats step) ∙ had
-
-pub twice_yes : (h : List (List Cell)) (i : ℕ) (c : List Cell) → i < length h → get_or h i c ≡ c → has_occurred (drop (i + 1) h) c ≡ true → TwiceAfter h i → repeats h ≡ true
-twice_yes h i c low at passed had =
-    let next : suc i ≡ i + 1 = omega arith in
-    let step : drop i h ≡ c ∷ drop (i + 1) h = drop-cons h i c low ∙ ap (λ y. y ∷ drop (suc i) h) at ∙ ap (λ k. c ∷ drop k h) next in
-    sym had ∙ ap repeats step ∙ ap (λ b. b || repeats (drop (i + 1) h)) passed
-
-pub twice_no : (h : List (List Cell)) (i : ℕ) → i ≡ length h → TwiceAfter h i → repeats h ≡ false
-twice_no h i end had = sym had ∙ ap (λ k. repeats (drop k h)) end ∙ ap repeats (drop-length h)
 
 -- the same from a test of the sizes
 pub differs_in_size : (n r : ℕ) (c : List Cell) (b : Bool) → r ≡ side_of c → b ≡ not (nat_eq r n) → b ≡ true → nat_eq (length c) (n * n) ≡ false

@@ -2,7 +2,7 @@
 use Rattle.std.proofs.Common.{◌≡◌, ℕ, suc, ◌+◌, ◌-◌, ◌*◌, ◌/◌, ◌%◌, ◌<◌, ◌≤◌, Bool, true, false, cond, not, ◌&&◌, ◌||◌, nat_eq, nat_lt, eqb-true, eq-eqb, lt-ltb, find, List, [], ◌∷◌, ◌++◌, map, filter, length, Option, Some, None, Ok, is_some, is_none, refl, sym, ◌∙◌, ap, ap₂, subst, arith, if◌then◌else◌}
 use Rattle.std.specs.List.{All, list_all, range_with_len}
 use Rattle.std.proofs.lemmas.Nat.{div-mul-add, mod-mul-add}
-use Rattle.std.proofs.lemmas.List.{map-append, map-id, append-nil}
+use Rattle.std.proofs.lemmas.List.{map-id}
 use Rattle.std.proofs.lemmas.List.FromFn.{filter_of_map_range_with_len_more}
 use Rattle.std.proofs.Math.Seq.{get_or-append_seam}
 use Rattle.go_points.specs.declared.Colour.{Colour}
@@ -12,15 +12,14 @@ use Rattle.go_points.specs.Grid.{opponent_of, same_cell, same_cells, cell_at}
 use Rattle.go_points.specs.Move.{after_move}
 use Rattle.go_points.specs.Place.{Place, IsOn, on_board, number_of}
 use Rattle.go_points.specs.Points.{same_place, holds_place}
-use Rattle.go_points.specs.declared.Turn.{Turn}
-use Rattle.go_points.specs.declared.Turn.TheVariants.{Pass, At}
+use Rattle.go_points.specs.declared.Turn.TheVariants.{At}
 use Rattle.go_points.specs.Ply.{pass, move, ply_of}
 use Rattle.go_points.proofs.Lists.{and_left, and_right, and_both, not_true}
 use Rattle.go_turns.specs.History.{has_occurred, place_in}
 use Rattle.go_turns.specs.Record.{Moment, colouring_of, after_play}
 use Rattle.go_turns.proofs.Repeats.{no_position, no_element}
 use Rattle.target_game.specs.State.{Game, GameState}
-use Rattle.target_game.specs.Legal.{holds_point, legal, legal_turns}
+use Rattle.target_game.specs.Legal.{holds_point, legal}
 use Rattle.target_game.specs.Next.{next}
 use Rattle.target_game.specs.Over.{over, targets_stand}
 use Rattle.target_game.proofs.Facts.{map_all}
@@ -115,27 +114,6 @@ legal_open s p on free =
     ∙ ap (λ b. b && same_cell (cell_at s.colouring p) Empty && not (has_occurred s.history (after_move s.game.size s.colouring s.mover p))) held
     ∙ ap (λ b. b && not (has_occurred s.history (after_move s.game.size s.colouring s.mover p))) empty
 
--- the legal moves, one point more
-pub moves_more : (s : GameState) (n : ℕ) (xs : List Turn) (i : ℕ) (p : Place) → map (ply_of n) xs ≡ map move (filter (λ q. legal s (move q)) (range_with_len 0 i)) → IsOn n p → number_of n p ≡ i → legal s (move (number_of n p)) ≡ true
-    → map (ply_of n) (xs ++ At p ∷ []) ≡ map move (filter (λ q. legal s (move q)) (range_with_len 0 (i + 1)))
-moves_more s n xs i p had on at fine =
-    let here : on_board n p ≡ true = and_both (nat_lt p.row n) (nat_lt p.column n) (lt-ltb p.row n on.row_within) (lt-ltb p.column n on.column_within) in
-    let one : ply_of n (At p) ≡ move i = ap (λ b. move (if b then number_of n p else n * n)) here ∙ ap move at in
-    let passed : legal s (move i) ≡ true = subst (λ k. legal s (move k) ≡ true) at fine in
-    map-append (ply_of n) xs (At p ∷ []) ∙ ap₂ (λ a b. a ++ b ∷ []) had one
-    ∙ sym (ap (map move) (passing_more (λ q. legal s (move q)) i ∙ ap (λ b. filter (λ q. legal s (move q)) (range_with_len 0 i) ++ cond b (i ∷ []) []) passed) ∙ map-append move (filter (λ q. legal s (move q)) (range_with_len 0 i)) (i ∷ []))
-
-pub moves_same : (s : GameState) (n : ℕ) (xs : List Turn) (i k : ℕ) → map (ply_of n) xs ≡ map move (filter (λ q. legal s (move q)) (range_with_len 0 i)) → k ≡ i → legal s (move k) ≡ false
-    → map (ply_of n) xs ≡ map move (filter (λ q. legal s (move q)) (range_with_len 0 (i + 1)))
-moves_same s n xs i k had at barred =
-    let failed : legal s (move i) ≡ false = subst (λ j. legal s (move j) ≡ false) at barred in
-    had ∙ sym (ap (map move) (passing_more (λ q. legal s (move q)) i ∙ ap (λ b. filter (λ q. legal s (move q)) (range_with_len 0 i) ++ cond b (i ∷ []) []) failed ∙ append-nil (filter (λ q. legal s (move q)) (range_with_len 0 i))))
-
-pub moves_whole : (s : GameState) (xs : List Turn) → map (ply_of s.game.size) xs ≡ map move (filter (λ q. legal s (move q)) (range_with_len 0 (s.game.size * s.game.size)))
-    → map (ply_of s.game.size) (xs ++ Pass ∷ []) ≡ legal_turns s
-unfolding legal_turns
-moves_whole s xs had = map-append (ply_of s.game.size) xs (Pass ∷ []) ∙ ap (λ ys. ys ++ pass ∷ []) had
-
 -- the first legal turn from a point on
 pub turn_here : (s : GameState) (i k : ℕ) → i < s.game.size * s.game.size → k ≡ i → legal s (move k) ≡ true → turn_from s i ≡ move k
 unfolding turn_from
@@ -174,10 +152,6 @@ stand_no f ts left rest p b first test failed had = sym had ∙ ap (list_all f) 
 
 pub stand_yes : (f : Place → Bool) (ts left : List Place) → left ≡ [] → list_all f left ≡ list_all f ts → list_all f ts ≡ true
 stand_yes f ts left end had = sym had ∙ ap (list_all f) end
-
-pub open_none : (o : Option Colour) (b : Bool) → b ≡ is_some o → b ≡ false → is_none o ≡ true
-open_none None b e f = refl
-open_none (Some x) b e f = absurd (cc)
 
 -- who has won where a colouring stands after a move, by whether its targets stand
 pub winner_is : (s : GameState) (c : List Cell) (b : Bool) → b ≡ targets_stand (record s { colouring = c }) → over (record s { colouring = c; passes = 0 }) ≡ (if b then None else Some (opponent_of s.game.defender))

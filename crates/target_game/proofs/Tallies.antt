@@ -1,24 +1,20 @@
 -- The pass over the tree of all legal play, state by state and turn by turn.
-use Rattle.std.proofs.Common.{◌≡◌, ℕ, zero, suc, ◌+◌, ◌-◌, ◌*◌, ◌<◌, ◌≤◌, Bool, true, false, cond, not, nat_lt, ltb-true, ltb-false, lt-ltb, List, [], ◌∷◌, ◌++◌, map, filter, sum_by, Option, Some, None, is_some, option_map, Result, Ok, Err, IfOk, ◌⊎◌, inl, inr, if◌then◌else◌, refl, sym, ◌∙◌, ap, ap₂, subst, arith}
-use Rattle.std.specs.List.{range_with_len}
+use Rattle.std.proofs.Common.{◌≡◌, ℕ, zero, suc, ◌+◌, ◌-◌, ◌<◌, ◌≤◌, Bool, true, false, cond, not, nat_lt, ltb-true, ltb-false, lt-ltb, List, [], ◌∷◌, sum_by, Option, Some, None, is_some, option_map, Result, Ok, Err, IfOk, ◌⊎◌, inl, inr, if◌then◌else◌, refl, sym, ◌∙◌, ap, ap₂, arith}
 use Rattle.std.proofs.lemmas.List.Sums.{sum_by-cons}
 use Rattle.go_points.specs.declared.Colour.{Colour}
 use Rattle.go_points.specs.declared.Colour.TheVariants.{Black, White}
-use Rattle.go_points.specs.declared.Turn.TheVariants.{At}
 use Rattle.go_points.specs.Grid.{same_colour}
-use Rattle.go_points.specs.Place.{Place, IsOn, number_of}
-use Rattle.go_points.specs.Ply.{Ply, pass, move, ply_of}
+use Rattle.go_points.specs.Ply.{Ply}
 use Rattle.target_game.specs.declared.tally.Tally.{Tally}
 use Rattle.target_game.specs.declared.within.Within.TheVariants.{Wins, Neither, Limit}
 use Rattle.target_game.specs.State.{GameState}
-use Rattle.target_game.specs.Legal.{legal, legal_turns}
+use Rattle.target_game.specs.Legal.{legal_turns}
 use Rattle.target_game.specs.Next.{next}
 use Rattle.target_game.specs.Over.{over}
 use Rattle.target_game.specs.Wins.{some_or_each, is_winner, wins, nodes}
 use Rattle.target_game.specs.Tally.{tally_of, either_or_both, before_turns, with_below, with_turns}
 use Rattle.target_game.specs.Within.{decision}
 use Rattle.target_game.proofs.Winning.{over_cases, wins_over, wins_next}
-use Rattle.target_game.proofs.Playing.{ply_at}
 
 -- a test of a limit
 not_past : (n m : ℕ) → m ≤ n → nat_lt n m ≡ false
@@ -177,44 +173,6 @@ turns_done s k a =
       black = either_none (same_colour s.mover Black) (λ u. wins Black (next s u) k) a.black i;
       white = either_none (same_colour s.mover White) (λ u. wins White (next s u) k) a.white i;
     })
-
--- the last turn of all
-pub turn_last : (s : GameState) (k : ℕ) (t : Ply) (a : Tally) (o : Option Tally) → o ≡ option_map (with_below s.mover a) (tally_of (next s t) k a.left) → o ≡ with_turns s k (t ∷ []) a
-turn_last s k t a None h = sym (turn_past s k t [] a h)
-turn_last s k t a (Some b) h = sym (turn_more s k t [] a b h ∙ turns_done s k b)
-
--- the legal turns from the point of this number on
-abbrev pub turns_left : GameState → ℕ → List Ply
-turns_left s i = map move (filter (λ p. legal s (move p)) (range_with_len i (s.game.size * s.game.size - i))) ++ pass ∷ []
-
-pub left_begun : (s : GameState) → turns_left s 0 ≡ legal_turns s
-unfolding legal_turns
-left_begun s = ap (λ m. map move (filter (λ p. legal s (move p)) (range_with_len 0 m)) ++ pass ∷ []) (omega arith)
-
-pub left_here : (s : GameState) (i : ℕ) (p : Place) → i < s.game.size * s.game.size → number_of s.game.size p ≡ i → IsOn s.game.size p → legal s (move (number_of s.game.size p)) ≡ true
-    → turns_left s i ≡ ply_of s.game.size (At p) ∷ turns_left s (i + 1)
-left_here s i p low at on free =
-    let n = s.game.size in
-    let passed : legal s (move i) ≡ true = subst (λ j. legal s (move j) ≡ true) at free in
-    let left : n * n - i ≡ suc (n * n - (i + 1)) = omega arith in
-    let rest = filter (λ q. legal s (move q)) (range_with_len (i + 1) (n * n - (i + 1))) in
-    ap (λ m. map move (filter (λ q. legal s (move q)) (range_with_len i m)) ++ pass ∷ []) left
-    ∙ ap (λ b. map move (cond b (i ∷ rest) rest) ++ pass ∷ []) passed
-    ∙ ap (λ t. t ∷ turns_left s (i + 1)) (ap move (sym at) ∙ sym (ply_at n p on))
-
-pub left_later : (s : GameState) (i : ℕ) (p : Place) → i < s.game.size * s.game.size → number_of s.game.size p ≡ i → legal s (move (number_of s.game.size p)) ≡ false → turns_left s i ≡ turns_left s (i + 1)
-left_later s i p low at barred =
-    let n = s.game.size in
-    let failed : legal s (move i) ≡ false = subst (λ j. legal s (move j) ≡ false) at barred in
-    let left : n * n - i ≡ suc (n * n - (i + 1)) = omega arith in
-    let rest = filter (λ q. legal s (move q)) (range_with_len (i + 1) (n * n - (i + 1))) in
-    ap (λ m. map move (filter (λ q. legal s (move q)) (range_with_len i m)) ++ pass ∷ []) left
-    ∙ ap (λ b. map move (cond b (i ∷ rest) rest) ++ pass ∷ []) failed
-
-pub left_last : (s : GameState) (i : ℕ) → s.game.size * s.game.size ≤ i → turns_left s i ≡ pass ∷ []
-left_last s i past =
-    let none : s.game.size * s.game.size - i ≡ 0 = omega arith in
-    ap (λ m. map move (filter (λ q. legal s (move q)) (range_with_len i m)) ++ pass ∷ []) none
 
 -- what a tally decides
 pub decided : (s : GameState) (k allowed : ℕ) (t : Tally) → Some t ≡ tally_of s k allowed → (if t.black then Wins Black else (if t.white then Wins White else Neither)) ≡ decision s k allowed

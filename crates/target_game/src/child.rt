@@ -1,9 +1,10 @@
 //! What a turn leads to, without making it: the first moves of a state can be compared at a fraction of the cost of play.
 
-ghost use Rattle.std.specs.Prelude.{◌≡◌};
+ghost use Rattle.std.specs.Prelude.{◌≡◌, Some};
 ghost use Rattle.go_points.specs.Place.{IsOn, number_of};
-ghost use Rattle.go_points.specs.Ply.{ply_of, move};
+ghost use Rattle.go_points.specs.Ply.{ply_of, move, pass};
 ghost use Rattle.target_game.specs.Child.{child_of};
+ghost use Rattle.target_game.specs.Legal.{legal};
 
 use crate::state::State;
 use go_points::{Colour, Point, Turn};
@@ -24,10 +25,7 @@ impl<B: Board, S: Seen> State<B, S> {
         ensures { result ≡ child_of self.now.state (ply_of self.now.state.game.size turn) }
     {
         match turn {
-            Turn::Pass => Some(Child {
-                key: self.key(),
-                winner: self.winner_after_pass(),
-            }),
+            Turn::Pass => Some(self.pass_child()),
             Turn::At(point) => {
                 if !self.size().holds(point) {
                     return None;
@@ -37,7 +35,25 @@ impl<B: Board, S: Seen> State<B, S> {
         }
     }
 
-    fn move_child(&self, point: Point) -> Option<Child>
+    /// Whether the turn is legal, if nobody has won: any turn, at a point of the board or not. It costs what `child` does.
+    pub fn is_legal(&self, turn: Turn) -> bool
+        ensures { result ≡ legal self.now.state (ply_of self.now.state.game.size turn) }
+    {
+        self.child(turn).is_some()
+    }
+
+    /// What a pass leads to.
+    pub(crate) fn pass_child(&self) -> Child
+        ensures { child_of self.now.state pass ≡ Some result }
+    {
+        Child {
+            key: self.key(),
+            winner: self.winner_after_pass(),
+        }
+    }
+
+    /// What a move at the point leads to; none, where it is not legal.
+    pub(crate) fn move_child(&self, point: Point) -> Option<Child>
         requires { IsOn self.now.state.game.size point }
         ensures { result ≡ child_of self.now.state (move (number_of self.now.state.game.size point)) }
     {

@@ -5,11 +5,12 @@ ghost use Rattle.std.specs.List.{All, list_all};
 ghost use Rattle.go_points.specs.Grid.{cell_at, same_cell, side_of};
 ghost use Rattle.go_points.specs.Liberty.{all_reach_empty};
 ghost use Rattle.go_points.specs.Place.{IsOn, on_board, number_of};
-ghost use Rattle.go_turns.specs.History.{repeats, has_occurred};
+ghost use Rattle.go_turns.specs.History.{repeats};
 ghost use Rattle.target_game.specs.Problem.{one_colour, first_refusal, refusals};
 
 use crate::MAX_HISTORY;
 use crate::bad_problem::BadProblem;
+use crate::repeated::stand_twice;
 use go_points::{Cell, Colour, Colouring, PointSet, Size};
 use go_turns::{Board, PlayBoard};
 
@@ -53,7 +54,7 @@ pub(crate) fn all_hold(colouring: &Colouring, points: &PointSet, cell: Cell) -> 
 }
 
 /// The colour of the stones at these points, where they are stones of one colour, and at least one.
-fn colour_at(colouring: &Colouring, points: &PointSet) -> Option<Colour>
+pub fn colour_at(colouring: &Colouring, points: &PointSet) -> Option<Colour>
     requires { All (IsOn (side_of colouring.now)) points.now }
     ensures { result ≡ one_colour (map (λ p. cell_at colouring.now (number_of (side_of colouring.now) p)) points.now) }
 {
@@ -80,30 +81,6 @@ fn have_liberties(history: &[Colouring], size: Size) -> bool
         }
     }
     true
-}
-
-/// Whether the colouring stands in the list.
-fn stands_in(history: &[Colouring], colouring: &Colouring) -> bool
-    ensures { result ≡ has_occurred history.now colouring.now }
-{
-    for held in history {
-        if *colouring == *held {
-            return true;
-        }
-    }
-    false
-}
-
-/// Whether a colouring stands twice in the list. It has at most as many colourings as a problem may have.
-fn stand_twice(history: &[Colouring]) -> bool
-    ensures { result ≡ repeats history.now }
-{
-    for (place, colouring) in history.iter().enumerate() {
-        if stands_in(&history[place + 1..], colouring) {
-            return true;
-        }
-    }
-    false
 }
 
 /// The defender's colour, or the first refusal.

@@ -1,6 +1,6 @@
 //! States of the target game, and the play from them.
 
-ghost use Rattle.std.specs.Prelude.{◌≡◌, ◌≤◌, ◌<◌, ◌&&◌, true, false, [], ◌∷◌, IsTrue, IfOk, IfErr, OnOk, OnErr, None, is_none, if◌then◌else◌, map, length};
+ghost use Rattle.std.specs.Prelude.{◌≡◌, ◌≤◌, ◌<◌, ◌&&◌, true, false, [], ◌∷◌, IsTrue, IfOk, IfErr, IfSome, IfNone, OnOk, OnErr, None, ◌*◌, length};
 ghost use Rattle.go_points.specs.Grid.{cell_at, same_cell, side_of};
 ghost use Rattle.go_points.specs.Liberty.{first_without_liberty};
 ghost use Rattle.go_points.specs.Move.{after_move};
@@ -10,15 +10,14 @@ ghost use Rattle.go_points.specs.declared.Cell.TheVariants.{Empty};
 ghost use Rattle.go_turns.specs.History.{place_in, has_occurred};
 ghost use Rattle.stone_key.specs.Key.{key_of};
 ghost use Rattle.target_game.specs.State.{Game, GameState, GameProblem, Line, start, state_alone};
-ghost use Rattle.target_game.specs.Legal.{legal, legal_turns, holds_point};
+ghost use Rattle.target_game.specs.Legal.{legal, holds_point};
+ghost use Rattle.target_game.specs.Left.{IsNextOpen, NoneLegal, is_repeat, line_if};
 ghost use Rattle.target_game.specs.Next.{next};
 ghost use Rattle.target_game.specs.Over.{over, targets_stand};
-ghost use Rattle.target_game.specs.Kept.{turn_from, at_fault, IsAtFault};
+ghost use Rattle.target_game.specs.Kept.{at_fault, IsAtFault};
 
-use crate::MAX_TURNS;
 use crate::problem::Problem;
 use crate::questions::all_hold;
-use arrayvec::ArrayVec;
 use go_points::{Cell, Colour, Colouring, Point, PointSet, Size, Turn};
 use go_turns::{Board, Record, Seen, TurnFault};
 use std::alloc::{AllocError, Global};
@@ -66,6 +65,16 @@ fn at_fault(fault: TurnFault) -> AtFault
     match fault {
         TurnFault::NoLiberty { point } => AtFault::NoLiberty { point },
         _ => AtFault::Memory,
+    }
+}
+
+// Whether the fault is that the colouring has occurred.
+fn repeats(fault: TurnFault) -> bool
+    ensures { result ≡ is_repeat fault }
+{
+    match fault {
+        TurnFault::Repeats { earlier: _ } => true,
+        _ => false,
     }
 }
 
@@ -151,6 +160,25 @@ impl<B: Board, S: Seen> State<B, S> {
         self.region.has(point) && self.played.cell(point).is_empty()
     }
 
+    /// The first empty point of the region whose number is not below this one.
+    pub fn next_open(&self, from: usize) -> Option<Point>
+        ensures some { IfSome result (λ p. IsNextOpen self.now.state from p) }
+        ensures none { IfNone result (NoneLegal self.now.state from (self.now.state.game.size * self.now.state.game.size)) }
+    {
+        let size = self.size();
+        let mut number = from;
+        while number < size.area() {
+            let Some(point) = self.region.first_from(size.point_at(number)) else {
+                return None;
+            };
+            if self.played.cell(point).is_empty() {
+                return Some(point);
+            }
+            number = point.number(size) + 1;
+        }
+        None
+    }
+
     /// What stands after the mover's move at an empty point.
     pub(crate) fn position_after(&self, point: Point) -> KeyedColouring
         requires on_board { IsOn self.now.state.game.size point }
@@ -222,39 +250,6 @@ impl<B: Board, S: Seen> State<B, S> {
         self.is_open(point) && !self.has_occurred(&self.position_after(point))
     }
 
-    /// The legal turns, points ascending and then pass; none where somebody has won.
-    pub fn turns(&self) -> ArrayVec<Turn, MAX_TURNS>
-        ensures { map (ply_of self.now.state.game.size) result.items ≡ (if is_none (over self.now.state) then legal_turns self.now.state else []) }
-    {
-        let mut all = ArrayVec::new();
-        if self.over().is_some() {
-            return all;
-        }
-        let size = self.size();
-        for number in 0..size.area() {
-            let point = size.point_at(number);
-            if self.may_move(point) {
-                all.push(Turn::At(point));
-            }
-        }
-        all.push(Turn::Pass);
-        all
-    }
-
-    /// The first legal turn at a point of this number or a greater one; the pass, where there is none.
-    pub fn next_turn(&self, from: usize) -> Turn
-        ensures { ply_of self.now.state.game.size result ≡ turn_from self.now.state from }
-    {
-        let size = self.size();
-        for number in from..size.area() {
-            let point = size.point_at(number);
-            if self.may_move(point) {
-                return Turn::At(point);
-            }
-        }
-        Turn::Pass
-    }
-
     /// Makes the turn; memory may be refused, and then nothing changes.
     pub fn after(&mut self, turn: Turn) -> Result<(), AllocError>
         requires open { over self.old.state ≡ None }
@@ -267,6 +262,48 @@ impl<B: Board, S: Seen> State<B, S> {
         }
         self.mover = self.mover.opponent();
         Ok(())
+    }
+
+    /// Makes the turn where it is legal, and answers whether it was; where it is not, and where memory was refused, nothing changes. A move is played once.
+    pub fn try_after(&mut self, turn: Turn) -> Result<bool, AllocError>
+        requires open { over self.old.state ≡ None }
+        ensures legal { IfOk result (λ made. made ≡ legal self.old.state (ply_of self.old.state.game.size turn)) }
+        ensures state { IfOk result (λ made. self.new ≡ line_if made self.old (ply_of self.old.state.game.size turn)) }
+        ensures err { OnErr result (self.new ≡ self.old) }
+    {
+        match turn {
+            Turn::Pass => {
+                self.after(Turn::Pass)?;
+                Ok(true)
+            }
+            Turn::At(point) => {
+                if !self.size().holds(point) {
+                    return Ok(false);
+                }
+                if !self.is_open(point) {
+                    return Ok(false);
+                }
+                self.try_move(point)
+            }
+        }
+    }
+
+    /// Makes the move at an empty point of the region where it repeats nothing, and answers whether it was made.
+    pub(crate) fn try_move(&mut self, point: Point) -> Result<bool, AllocError>
+        requires on_board { IsOn self.old.state.game.size point }
+        requires free { (holds_point self.old.state.game.region (number_of self.old.state.game.size point) && same_cell (cell_at self.old.state.colouring (number_of self.old.state.game.size point)) Empty) ≡ true }
+        ensures legal { IfOk result (λ made. made ≡ legal self.old.state (move (number_of self.old.state.game.size point))) }
+        ensures state { IfOk result (λ made. self.new ≡ line_if made self.old (move (number_of self.old.state.game.size point))) }
+        ensures err { OnErr result (self.new ≡ self.old) }
+    {
+        if let Err(fault) = self.played.play(self.mover, Turn::At(point)) {
+            if repeats(fault) {
+                return Ok(false);
+            }
+            return Err(AllocError);
+        }
+        self.mover = self.mover.opponent();
+        Ok(true)
     }
 
     /// Takes the last turn back.

@@ -3,20 +3,19 @@
 //! The pass goes down with a number of states that are still allowed and gives back what is left of it, so no sum can
 //! overflow and it stops at the first state past the limit. It keeps one path of play and makes no list of turns.
 
-ghost use Rattle.std.specs.Prelude.{◌≡◌, ◌+◌, ◌≤◌, IsTrue, OnOk, IfOk, None, option_map, if◌then◌else◌};
+ghost use Rattle.std.specs.Prelude.{◌≡◌, ◌+◌, ◌≤◌, OnOk, IfOk, None, if◌then◌else◌};
 ghost use Rattle.go_points.specs.Grid.{same_colour};
-ghost use Rattle.go_points.specs.Ply.{ply_of};
 ghost use Rattle.go_points.specs.declared.Colour.TheVariants.{Black, White};
-ghost use Rattle.target_game.specs.Legal.{legal, legal_turns};
-ghost use Rattle.target_game.specs.Next.{next};
+ghost use Rattle.target_game.specs.Legal.{legal_turns};
 ghost use Rattle.target_game.specs.Over.{over};
 ghost use Rattle.target_game.specs.Wins.{is_winner};
 ghost use Rattle.target_game.specs.Tally.{tally_of, before_turns, with_below, with_turns};
 ghost use Rattle.target_game.specs.declared.within.Within.TheVariants.{Wins, Neither};
 
 use crate::state::State;
+use crate::turns_left::TurnsLeft;
 use crate::within::Within;
-use go_points::{Colour, Turn};
+use go_points::Colour;
 use go_turns::{PlayBoard, PlaySeen};
 use std::alloc::AllocError;
 
@@ -128,7 +127,26 @@ pub(crate) fn tally_state(
     if winner.is_some() || turns == 0 {
         return Ok(Some(Tally::last(left - 1, winner)));
     }
+    if turns == 1 {
+        return Ok(tally_last_turns(state, left - 1));
+    }
     tally_turns(state, turns - 1, left - 1)
+}
+
+/// The tally of a state that is itself counted already, where each turn is the last: none of them is made.
+fn tally_last_turns(state: &PlayState, left: u64) -> Option<Tally>
+    ensures { result ≡ with_turns state.now.state 0 (legal_turns state.now.state) (before_turns state.now.state.mover left) }
+{
+    let mover = state.mover();
+    let mut seen = Tally::before_turns(mover, left);
+    let mut turns_left = TurnsLeft::all();
+    while let Some((_turn, child)) = state.next_child(&mut turns_left) {
+        if seen.left == 0 {
+            return None;
+        }
+        seen = seen.with_below(mover, Tally::last(seen.left - 1, child.winner));
+    }
+    Some(seen)
 }
 
 /// The same of a state where nobody has won and that is itself counted already, with so many turns after the first.
@@ -138,38 +156,16 @@ fn tally_turns(state: &mut PlayState, turns: u32, left: u64) -> Result<Option<Ta
     ensures state { OnOk result (state.new ≡ state.old) }
     ensures tally { IfOk result (λ r. r ≡ with_turns state.old.state turns (legal_turns state.old.state) (before_turns state.old.state.mover left)) }
 {
-    let mut seen = Tally::before_turns(state.mover(), left);
-    let size = state.size();
-    for number in 0..size.area() {
-        let point = size.point_at(number);
-        if state.may_move(point) {
-            match tally_turn(state, turns, Turn::At(point), seen)? {
-                Some(tally) => seen = tally,
-                None => return Ok(None),
-            }
+    let mover = state.mover();
+    let mut seen = Tally::before_turns(mover, left);
+    let mut turns_left = TurnsLeft::all();
+    while let Some(_turn) = state.after_next(&mut turns_left)? {
+        let below = tally_state(state, turns, seen.left)?;
+        state.back();
+        match below {
+            Some(tally) => seen = seen.with_below(mover, tally),
+            None => return Ok(None),
         }
     }
-    tally_turn(state, turns, Turn::Pass, seen)
-}
-
-/// What is known of the turns that were seen, with the tree below one more.
-#[cycle(tally)]
-fn tally_turn(
-    state: &mut PlayState,
-    turns: u32,
-    turn: Turn,
-    seen: Tally,
-) -> Result<Option<Tally>, AllocError>
-    requires open { over state.old.state ≡ None }
-    requires legal { IsTrue (legal state.old.state (ply_of state.old.state.game.size turn)) }
-    ensures state { OnOk result (state.new ≡ state.old) }
-    ensures tally { IfOk result (λ r. r ≡ option_map (with_below state.old.state.mover seen) (tally_of (next state.old.state (ply_of state.old.state.game.size turn)) turns seen.left)) }
-{
-    state.after(turn)?;
-    let below = tally_state(state, turns, seen.left)?;
-    state.back();
-    match below {
-        Some(below) => Ok(Some(seen.with_below(state.mover(), below))),
-        None => Ok(None),
-    }
+    Ok(Some(seen))
 }

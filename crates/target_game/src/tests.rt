@@ -1,6 +1,7 @@
 //! Problems and play on small boards, with results worked out by the rules.
 
-use crate::{AtFault, BadProblem, Child, MAX_HISTORY, Problem, State};
+use crate::{AtFault, BadProblem, Child, MAX_HISTORY, MAX_TURNS, Problem, State, TurnsLeft};
+use arrayvec::ArrayVec;
 use go_points::{Cell, Colour, Colouring, MAX_SIZE, Point, PointSet, Size, Turn, sgf_point};
 use go_turns::{PlayBoard, PlaySeen};
 use std::alloc::Global;
@@ -63,15 +64,25 @@ fn play(state: &mut Play, turn: Turn) -> bool {
     if state.over().is_some() {
         return false;
     }
-    match turn {
-        Turn::Pass => state.after(Turn::Pass).is_ok(),
-        Turn::At(point) => {
-            if !state.size().holds(point) || !state.may_move(point) {
-                return false;
+    match state.try_after(turn) {
+        Ok(made) => made,
+        Err(_) => false,
+    }
+}
+
+// The turns that are left, taken one by one; each is made and taken back.
+fn turns_one_by_one(state: &mut Play) -> ArrayVec<Turn, MAX_TURNS> {
+    let mut all = ArrayVec::new();
+    let mut left = TurnsLeft::all();
+    for _ in 0..MAX_TURNS {
+        if state.over().is_none() {
+            if let Ok(Some(turn)) = state.after_next(&mut left) {
+                state.back();
+                all.push(turn);
             }
-            state.after(Turn::At(point)).is_ok()
         }
     }
+    all
 }
 
 #[test]
@@ -129,7 +140,7 @@ fn the_past_decides_at_a_ko(rt: HostRuntime) {
         free.turns().as_slice(),
         [turn(&rt, "ba"), Turn::Pass].as_slice()
     );
-    let barred = start(
+    let mut barred = start(
         &rt,
         rt.alloc(),
         &[".XOXO....", "O.OXO...."],
@@ -138,6 +149,13 @@ fn the_past_decides_at_a_ko(rt: HostRuntime) {
         "ba",
     );
     assert_eq!(rt; barred.turns().as_slice(), [Turn::Pass].as_slice());
+    assert_eq!(rt;
+        turns_one_by_one(&mut barred).as_slice(),
+        [Turn::Pass].as_slice()
+    );
+    assert_eq!(rt; barred.try_after(turn(&rt, "ba")), Ok(false));
+    assert_eq!(rt; barred.colouring(), three(&rt, "O.OXO...."));
+    assert_eq!(rt; barred.mover(), Colour::Black);
     assert_eq!(rt; barred.child(turn(&rt, "ba")), None);
     assert_eq!(rt; barred.holds(&three(&rt, ".XOXO....")), Some(0));
     assert_eq!(rt; barred.holds(&three(&rt, ".X.XO....")), None);

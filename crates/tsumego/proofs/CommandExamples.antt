@@ -1,7 +1,7 @@
 -- Worked examples of the command line, computed by the definitions.
 use Rattle.std.proofs.Common.{◌≡◌, true, false, [], ◌∷◌, Some, None, codes, refl}
 use Rattle.clap.proofs.OnLiterals.{clap_on_literals}
-use Rattle.tsumego.specs.declared.command_line.Command.TheVariants.{Check, Within, Audit, Solve}
+use Rattle.tsumego.specs.declared.command_line.Command.TheVariants.{Check, Within, Audit, Solve, Gtp}
 use Rattle.tsumego.specs.CommandLine.{command_of}
 
 check_asked : command_of (codes "tsumego" ∷ codes "check" ∷ []) ≡ Some Check
@@ -55,6 +55,10 @@ call_for_help = refl
 audit_asked : command_of (codes "tsumego" ∷ codes "audit" ∷ []) ≡ Some Audit
 unfolding clap_on_literals command_of
 audit_asked = refl
+
+gtp_asked : command_of (codes "tsumego" ∷ codes "gtp" ∷ []) ≡ Some Gtp
+unfolding clap_on_literals command_of
+gtp_asked = refl
 
 word_behind_audit : command_of (codes "tsumego" ∷ codes "audit" ∷ codes "3" ∷ []) ≡ None
 unfolding clap_on_literals command_of

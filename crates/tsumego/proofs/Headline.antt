@@ -9,6 +9,7 @@ use Rattle.target_game.specs.Within.{decision}
 use Rattle.target_game.specs.declared.within.Within.{Within}
 use Rattle.target_game.specs.declared.within.Within.TheVariants as within
 use Rattle.sgf_text.specs.Trees.{GameTree}
+use Rattle.tsumego_problem.specs.Values.{skip_white}
 use Rattle.tsumego_problem.specs.Walk.{history_limit}
 use Rattle.proof_cert.specs.Source.{lines_read}
 use Rattle.cert_check.specs.Verdict.{Verdict, accepted, rejected}
@@ -24,7 +25,7 @@ use Rattle.solution_tree.proofs.Sound.{below_wins}
 use Rattle.solution_tree.proofs.Exact.{audit_is_exact}
 use Rattle.tsumego.specs.declared.status.Status.TheVariants.{Answered}
 use Rattle.tsumego.specs.Texts.{wins_text, neither_text}
-use Rattle.tsumego.specs.Answers.{Answer, IsRecord, check_answer, within_answer, audit_answer, claim_in}
+use Rattle.tsumego.specs.Answers.{Answer, IsRecord, check_answer, within_answer, audit_answer}
 use Rattle.tsumego.specs.Solutions.{claim_verdict}
 use Rattle.tsumego.specs.Laws.{SideWins, CheckIsTrue, WithinIsTrue, AuditIsTrue, SolveIsTrue, ProofIsTrue}
 use Rattle.tsumego.proofs.Records.{placed, has_problem_node}
@@ -41,8 +42,8 @@ pub check_is_true : CheckIsTrue
 check_is_true bytes written (inr (failed, _)) = absurd cc
 check_is_true bytes written (inl (inl (refusal, r, e, t))) = absurd cc
 check_is_true bytes written (inl (inr (q, tree, n, r, h))) =
-    let (x, e, t) = accepts q.game.size (claim_verdict q (claim_in bytes n)) written h in
-    (q, x, t, side_wins bytes tree n q x r (accepted_sides_win q (lines_read q.game.size (claim_in bytes n)) x (placed history_limit tree q r.problem).place e))
+    let (x, e, t) = accepts q.game.size (claim_verdict q (skip_white (drop n bytes))) written h.1 in
+    (q, x, t, side_wins bytes tree n q x r (accepted_sides_win q (lines_read q.game.size (skip_white (drop n bytes))) x (placed history_limit tree q r.problem).place e))
 
 apart : true ≡ false → ⊥
 apart h = absurd (cc h)
@@ -108,6 +109,7 @@ solve_is_true steps table bytes written (inl (inr (q, tree, n, r, inl (e, (x, a,
     let read = written_reads s (10 ∷ []) is.whole in (
       q,
       x,
+      (a, text),
       side_wins bytes tree n q x r (answers_win_law x (start q) a answer),
       record { tree = s; end = length (tree_text s); reads = subst (λ w. Reads w s (length (tree_text s))) (sym text) read; problem = is.problem; below = below },
     )

@@ -6,6 +6,10 @@ pub mod Recording
 pub mod Phrases
 pub mod Running
 pub mod Answering
+pub mod Judged
+pub mod Front
 pub mod SubcommandWalks
 pub mod SubcommandRows
 pub mod SubcommandNames
+pub mod Sessions
+pub mod Telling

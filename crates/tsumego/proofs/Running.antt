@@ -1,5 +1,5 @@
 -- What is written, and what a run has then left.
-use Rattle.std.proofs.Common.{◌≡◌, ℕ, List, [], ◌++◌, Option, Some, None, Result, Ok, Err, inl, inr, refl, sym, ◌∙◌, ap, ap₂, subst}
+use Rattle.std.proofs.Common.{◌≡◌, ℕ, false, List, [], ◌++◌, Option, Some, None, Result, Ok, Err, inl, inr, refl, sym, ◌∙◌, ap, ap₂, subst}
 use Rattle.std.specs.Prelude.{IfOk}
 use Rattle.go_points.specs.declared.Colour.{Colour}
 use Rattle.std.specs.Io.KnownBytes.{Consumes, IsAtEnd}
@@ -15,9 +15,10 @@ use Rattle.solution_tree.specs.Faults.{IsFaultOf, IsFault}
 use Rattle.solution_tree.specs.declared.fault.AuditFault.{AuditFault}
 use Rattle.tsumego_problem.specs.Refusals.{Refuses}
 use Rattle.tsumego.specs.declared.command_line.Command.{Command}
-use Rattle.tsumego.specs.declared.command_line.Command.TheVariants.{Check, Within, Audit, Solve}
+use Rattle.tsumego.specs.declared.command_line.Command.TheVariants.{Check, Within, Audit, Solve, Gtp}
 use Rattle.tsumego.specs.declared.status.Status.{Status}
 use Rattle.tsumego.specs.declared.status.Status.TheVariants.{Refused, BadWords, Failed}
+use Rattle.tsumego.specs.CommandLine.{is_session}
 use Rattle.tsumego.specs.Texts.{line, no_memory_text}
 use Rattle.tsumego.specs.Answers.{IsRecord, RefusedOr, Says, SaysFailure, check_answer, audit_answer}
 use Rattle.tsumego.specs.Outcome.{Tells, Ran}
@@ -85,8 +86,9 @@ said_of_record status text Said bytes tree n q (Ok x) is said = inr (q, tree, n,
 said_of_record status text Said bytes tree n q (Err f) is said = tt
 
 -- a refusal is said whatever the command
-pub refused_says : (command : Command) (bytes text : List ℕ) → (refusal : List ℕ) × Refuses bytes refusal × (text ≡ line refusal) → Says command bytes Refused text
-refused_says Check bytes text (refusal, refuses, is) = inl (refusal, refuses, refl, is)
-refused_says (Within turns nodes) bytes text (refusal, refuses, is) = inl (refusal, refuses, refl, is)
-refused_says Audit bytes text (refusal, refuses, is) = inl (refusal, refuses, refl, is)
-refused_says (Solve steps table proof) bytes text (refusal, refuses, is) = inl (refusal, refuses, refl, is)
+pub refused_says : (command : Command) (bytes text : List ℕ) → is_session command ≡ false → (refusal : List ℕ) × Refuses bytes refusal × (text ≡ line refusal) → Says command bytes Refused text
+refused_says Check bytes text whole (refusal, refuses, is) = inl (refusal, refuses, refl, is)
+refused_says (Within turns nodes) bytes text whole (refusal, refuses, is) = inl (refusal, refuses, refl, is)
+refused_says Audit bytes text whole (refusal, refuses, is) = inl (refusal, refuses, refl, is)
+refused_says (Solve steps table proof) bytes text whole (refusal, refuses, is) = inl (refusal, refuses, refl, is)
+refused_says Gtp bytes text whole h = absurd (cc whole)

@@ -18,11 +18,11 @@ use Rattle.tsumego.proofs.SubcommandRows.{check_none, solve_found, within_found}
 
 -- the names of the subcommands, `help` among them
 abbrev names : Names
-names = (codes "check", []) ∷ (codes "within", []) ∷ (codes "audit", []) ∷ (codes "solve", []) ∷ (codes "help", []) ∷ []
+names = (codes "check", []) ∷ (codes "within", []) ∷ (codes "audit", []) ∷ (codes "solve", []) ∷ (codes "gtp", []) ∷ (codes "help", []) ∷ []
 
 -- a subcommand that is no call for help
 abbrev IsAskedName : Text → Type 0
-IsAskedName name = (name ≡ codes "check") ⊎ ((name ≡ codes "within") ⊎ ((name ≡ codes "audit") ⊎ (name ≡ codes "solve")))
+IsAskedName name = (name ≡ codes "check") ⊎ ((name ≡ codes "within") ⊎ ((name ≡ codes "audit") ⊎ ((name ≡ codes "solve") ⊎ (name ≡ codes "gtp"))))
 
 abbrev IsAsked : Option (Text × List Text) → Type 0
 IsAsked None = Unit {0}
@@ -33,16 +33,17 @@ IsAskedStep (subcommand name) = IsAskedName name
 IsAskedStep _ = Unit {0}
 
 known : (waiting : Waiting) (word name : Text) → subcommand_met names waiting word ≡ Some name → IsAskedName name ⊎ (name ≡ codes "help")
-known idle word name h = go (answers_to word (codes "check", [])) (answers_to word (codes "within", [])) (answers_to word (codes "audit", [])) (answers_to word (codes "solve", [])) (answers_to word (codes "help", [])) h
+known idle word name h = go (answers_to word (codes "check", [])) (answers_to word (codes "within", [])) (answers_to word (codes "audit", [])) (answers_to word (codes "solve", [])) (answers_to word (codes "gtp", [])) (answers_to word (codes "help", [])) h
   where
-    go : (a b c d e : Bool) → option_map (λ (s : Text × List Text). s.0) (cond a (Some (codes "check", [])) (cond b (Some (codes "within", [])) (cond c (Some (codes "audit", [])) (cond d (Some (codes "solve", [])) (cond e (Some (codes "help", [])) None))))) ≡ Some name
+    go : (a b c d e f : Bool) → option_map (λ (s : Text × List Text). s.0) (cond a (Some (codes "check", [])) (cond b (Some (codes "within", [])) (cond c (Some (codes "audit", [])) (cond d (Some (codes "solve", [])) (cond e (Some (codes "gtp", [])) (cond f (Some (codes "help", [])) None)))))) ≡ Some name
         → IsAskedName name ⊎ (name ≡ codes "help")
-    go true b c d e f = inl (inl (cc f))
-    go false true c d e f = inl (inr (inl (cc f)))
-    go false false true d e f = inl (inr (inr (inl (cc f))))
-    go false false false true e f = inl (inr (inr (inr (cc f))))
-    go false false false false true f = inr (cc f)
-    go false false false false false f = absurd (cc)
+    go true b c d e f g = inl (inl (cc g))
+    go false true c d e f g = inl (inr (inl (cc g)))
+    go false false true d e f g = inl (inr (inr (inl (cc g))))
+    go false false false true e f g = inl (inr (inr (inr (inl (cc g)))))
+    go false false false false true f g = inl (inr (inr (inr (inr (cc g)))))
+    go false false false false false true g = inr (cc g)
+    go false false false false false false g = absurd (cc)
 known (option id) word name h = absurd (cc)
 known positional word name h = absurd (cc)
 
@@ -149,7 +150,8 @@ stop_gives (Some (name, rest)) asked some none = go asked
         let found = within_found _ refl rest (fault (codes "within") e) in
         subst Gives (sym e) (within_some _ _ found.0 found.1)
     go (inr (inr (inl e))) = subst Gives (sym e) refl
-    go (inr (inr (inr e))) =
+    go (inr (inr (inr (inr e)))) = subst Gives (sym e) refl
+    go (inr (inr (inr (inl e)))) =
         let found = solve_found _ refl rest (fault (codes "solve") e) in
         subst Gives (sym e) (solve_some _ _ _ found.0 found.1)
 

@@ -1,7 +1,7 @@
 -- What each command answers: the whole text, and the status with it.
 --     check_answer, within_answer, audit_answer      of what the definitions of claims, of winning and of answer trees say
 --     Says command bytes status text      the whole text that the command may have for these bytes
-use Rattle.std.specs.Prelude.{◌≡◌, ℕ, List, drop, Some, Result, Ok, Err, ◌⊎◌}
+use Rattle.std.specs.Prelude.{◌≡◌, ℕ, ◌-◌, ◌≤◌, List, ◌++◌, length, drop, Some, Result, Ok, Err, ◌⊎◌}
 use Rattle.go_points.specs.declared.Colour.{Colour}
 use Rattle.target_game.specs.State.{GameProblem, start}
 use Rattle.target_game.specs.Within.{decision}
@@ -14,11 +14,14 @@ use Rattle.tsumego_problem.specs.Values.{skip_white}
 use Rattle.tsumego_problem.specs.Walk.{problem_within, history_limit}
 use Rattle.tsumego_problem.specs.Refusals.{Refuses}
 use Rattle.cert_check.specs.Verdict.{Verdict, accepted, rejected}
+use Rattle.gtp_core.specs.Lines.{raw_lines}
+use Rattle.gtp_core.specs.Runs.{IsRun, IsReadTo, first_session}
 use Rattle.solution_tree.specs.Audit.{Fault, audit}
 use Rattle.tsumego.specs.declared.command_line.Command.{Command}
 use Rattle.tsumego.specs.declared.command_line.Command.TheVariants as command
 use Rattle.tsumego.specs.declared.status.Status.{Status}
-use Rattle.tsumego.specs.declared.status.Status.TheVariants.{Answered, Unanswered, Refused}
+use Rattle.tsumego.specs.declared.status.Status.TheVariants.{Answered, Unanswered, Refused, Failed}
+use Rattle.tsumego.specs.Bounds.{white_limit}
 use Rattle.tsumego.specs.Solutions.{claim_verdict, Solved, Unsolved}
 use Rattle.tsumego.specs.Texts.{line, wins_text, rejected_line_text, rejected_node_text, neither_text, limit_text, no_memory_text, no_read_text}
 
@@ -40,13 +43,17 @@ RefusedOr Said bytes status text =
 
 -- ---- check
 
--- the claim: what follows the record and the white space behind it
-abbrev pub claim_in : List ℕ → ℕ → List ℕ
-claim_in bytes n = skip_white (drop n bytes)
-
 abbrev pub check_answer : ℕ → Verdict → Answer
 check_answer n (accepted x) = (Answered, wins_text x)
 check_answer n (rejected place why) = (Unanswered, rejected_line_text n place why)
+
+-- how many bytes of white space stand at the front
+abbrev pub white_before : List ℕ → ℕ
+white_before bytes = length bytes - length (skip_white bytes)
+
+-- After a record stands white space, no more than may be, and then the claim: what is said is the verdict on it.
+abbrev pub JudgesClaim : GameProblem → List ℕ → Status → List ℕ → Type 0
+JudgesClaim q bytes status text = (white_before bytes ≤ white_limit) × ((status, text) ≡ check_answer q.game.size (claim_verdict q (skip_white bytes)))
 
 -- ---- within
 
@@ -61,14 +68,23 @@ abbrev pub audit_answer : ℕ → Result Colour Fault → Answer
 audit_answer n (Ok x) = (Answered, wins_text x)
 audit_answer n (Err fault) = (Unanswered, rejected_node_text n fault)
 
+-- ---- gtp
+
+-- the replies of a session over all lines; or, where a read failed, those to the lines that had ended, and that it failed
+abbrev pub SessionSays : List ℕ → Status → List ℕ → Type 0
+SessionSays bytes status text =
+    ((status ≡ Answered) × IsRun first_session (raw_lines bytes) text)
+    ⊎ ((status ≡ Failed) × ((replies : List ℕ) × IsReadTo bytes replies × (text ≡ replies ++ no_read_text)))
+
 -- ---- all commands
 
 abbrev pub Says : Command → List ℕ → Status → List ℕ → Type 0
-Says command.Check bytes = RefusedOr (λ q tree n status text. (status, text) ≡ check_answer q.game.size (claim_verdict q (claim_in bytes n))) bytes
+Says command.Check bytes = RefusedOr (λ q tree n status text. JudgesClaim q (drop n bytes) status text) bytes
 Says (command.Within turns nodes) bytes = RefusedOr (λ q tree n status text. (status, text) ≡ within_answer (decision (start q) turns nodes)) bytes
 Says command.Audit bytes = RefusedOr (λ q tree n status text. (status, text) ≡ audit_answer q.game.size (audit q tree)) bytes
 Says (command.Solve steps table proof) bytes =
     RefusedOr (λ q tree n status text. ((status ≡ Answered) × Solved proof q text) ⊎ ((status ≡ Unanswered) × Unsolved steps proof q text)) bytes
+Says command.Gtp bytes = SessionSays bytes
 
 -- Memory was refused, or a read failed, or the input has no end in sight.
 abbrev pub SaysFailure : List ℕ → Type 0

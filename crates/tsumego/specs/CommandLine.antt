@@ -9,7 +9,7 @@ use Rattle.clap.specs.ValueTests.{is_unsigned_in}
 use Rattle.clap.specs.declared.builder.action.ArgAction.TheVariants.{SetTrue}
 use Rattle.clap.specs.declared.builder.value_parser.ValueParser.TheVariants.{Unsigned}
 use Rattle.tsumego.specs.declared.command_line.Command.{Command}
-use Rattle.tsumego.specs.declared.command_line.Command.TheVariants.{Check, Within, Audit, Solve}
+use Rattle.tsumego.specs.declared.command_line.Command.TheVariants.{Check, Within, Audit, Solve, Gtp}
 use Rattle.tsumego.specs.declared.command_line.NoCommand.{NoCommand}
 use Rattle.tsumego.specs.declared.command_line.NoCommand.TheVariants.{Words, Memory}
 
@@ -71,11 +71,14 @@ audit_shape = new_shape (codes "audit")
 abbrev pub solve_shape : Shape
 solve_shape = record (new_shape (codes "solve")) { rules = steps_rule ∷ table_rule ∷ proof_rule ∷ [] }
 
+abbrev pub gtp_shape : Shape
+gtp_shape = new_shape (codes "gtp")
+
 -- The program, one of whose subcommands has to be named.
 abbrev pub grammar : App
 grammar = record {
   top = record (new_shape (codes "tsumego")) { is_leaf = false; subcommand_required = true };
-  subs = check_shape ∷ within_shape ∷ audit_shape ∷ solve_shape ∷ [];
+  subs = check_shape ∷ within_shape ∷ audit_shape ∷ solve_shape ∷ gtp_shape ∷ [];
 }
 
 -- The number that the first value of an argument writes, where it is at least so much and at most so much.
@@ -105,7 +108,8 @@ command_named name rows =
     else (if bytes_eq name (codes "within") then within_of (number_of (codes "K") 0 most_turns rows) (number_of (codes "nodes") 0 most_nodes rows)
     else (if bytes_eq name (codes "audit") then Some Audit
     else (if bytes_eq name (codes "solve") then solve_of (number_of (codes "steps") 1 most_steps rows) (number_of (codes "table") 1 most_entries rows) (flag_of (codes "proof") rows)
-    else None))))
+    else (if bytes_eq name (codes "gtp") then Some Gtp
+    else None)))))
 
 -- No command at a fault.
 abbrev pub unless_faulty : Kinds → Option Command → Option Command
@@ -126,6 +130,12 @@ FitsRanges Check = Unit {0}
 FitsRanges (Within turns nodes) = (turns ≤ most_turns) × (nodes ≤ most_nodes)
 FitsRanges Audit = Unit {0}
 FitsRanges (Solve steps table proof) = (1 ≤ steps) × (steps ≤ most_steps) × (1 ≤ table) × (table ≤ most_entries)
+FitsRanges Gtp = Unit {0}
+
+-- The command serves a session, and answers each line by itself.
+abbrev pub is_session : Command → Bool
+is_session Gtp = true
+is_session other = false
 
 -- The words are at fault, and not the memory.
 abbrev pub IsWordsFault : NoCommand → Type 0

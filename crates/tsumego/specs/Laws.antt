@@ -1,16 +1,28 @@
 -- What the outcome of a run says of the game.
-use Rattle.std.specs.Prelude.{◌≡◌, ℕ, true, false, List, ◌∷◌, drop, IsTrue, Some, Ok}
+use Rattle.std.specs.Prelude.{◌≡◌, ℕ, true, false, List, [], ◌∷◌, ◌++◌, codes, drop, IsTrue, Some, Ok, ◌⊎◌}
 use Rattle.go_points.specs.declared.Colour.{Colour}
+use Rattle.go_points.specs.Grid.{opponent_of}
+use Rattle.go_points.specs.Ply.{Ply}
 use Rattle.target_game.specs.State.{GameProblem, start}
+use Rattle.target_game.specs.Legal.{legal}
+use Rattle.target_game.specs.Next.{next}
 use Rattle.target_game.specs.Wins.{Wins, wins}
+use Rattle.target_game.specs.Answers.{AnswerTree}
 use Rattle.sgf_text.specs.Trees.{GameTree}
 use Rattle.sgf_text.specs.Grammar.{Reads}
+use Rattle.sgf_text.specs.Text.{tree_text}
 use Rattle.tsumego_problem.specs.Walk.{problem_of}
 use Rattle.tsumego_problem.specs.Below.{Below}
+use Rattle.tsumego_problem.specs.Canonical.{solution}
 use Rattle.tsumego.specs.declared.command_line.Command.TheVariants as command
 use Rattle.tsumego.specs.declared.status.Status.TheVariants.{Answered}
 use Rattle.cert_check.specs.Verdict.{accepted}
-use Rattle.tsumego.specs.Texts.{wins_text}
+use Rattle.gtp_core.specs.Lines.{asks, raw_lines, request_of}
+use Rattle.gtp_core.specs.Words.{colour_named, success, turn_text}
+use Rattle.gtp_core.specs.Session.{GtpSession, problem_at, size_of}
+use Rattle.gtp_core.specs.Serving.{Serves, reply, last_reply}
+use Rattle.gtp_core.specs.Runs.{first_session}
+use Rattle.tsumego.specs.Texts.{line, wins_text}
 use Rattle.tsumego.specs.Solutions.{claim_verdict}
 use Rattle.tsumego.specs.Outcome.{Outcome}
 
@@ -45,10 +57,14 @@ abbrev pub AuditIsTrue : Type 0
 AuditIsTrue = (bytes written : List ℕ) → Outcome (Some command.Audit) bytes Answered written →
     (q : GameProblem) × (x : Colour) × (written ≡ wins_text x) × SideWins bytes q x × HasAnswers bytes q x
 
--- Where `solve` writes a record, some side wins the problem of the record that was read; what is written holds the same problem, with a legal answer of that side to every legal reply.
+-- The bytes are the solution record of the problem for this side, which names it: its problem node says `C[Black wins]` or `C[White wins]`.
+abbrev pub NamesWinner : List ℕ → GameProblem → Colour → Type 0
+NamesWinner bytes q x = (a : AnswerTree) × (bytes ≡ line (tree_text (solution q x a)))
+
+-- Where `solve` writes a record, it names a side, and that side wins the problem of the record that was read; what is written holds the same problem, with a legal answer of that side to every legal reply.
 abbrev pub SolveIsTrue : Type 0
 SolveIsTrue = (steps table : ℕ) (bytes written : List ℕ) → Outcome (Some (command.Solve steps table false)) bytes Answered written →
-    (q : GameProblem) × (x : Colour) × SideWins bytes q x × HasAnswers written q x
+    (q : GameProblem) × (x : Colour) × NamesWinner written q x × SideWins bytes q x × HasAnswers written q x
 
 -- The bytes are a record of the problem, a line feed, and a claim that names this side and is accepted for the problem.
 pub record HasClaim (bytes : List ℕ) (q : GameProblem) (x : Colour) : Type 0 where
@@ -64,3 +80,37 @@ pub record HasClaim (bytes : List ℕ) (q : GameProblem) (x : Colour) : Type 0 w
 abbrev pub ProofIsTrue : Type 0
 ProofIsTrue = (steps table : ℕ) (bytes written : List ℕ) → Outcome (Some (command.Solve steps table true)) bytes Answered written →
     (q : GameProblem) × (x : Colour) × SideWins bytes q x × HasClaim written q x
+
+-- What a session told of the colour k is true: `win V` names a legal turn after which k wins the session's problem with k to move, and `loss` says that the other side wins it.
+pub record IsTrueOf (s : GtpSession) (k : Colour) (told : List ℕ) : Type 0 where
+  pub wins : (v : List ℕ) → told ≡ codes "win " ++ v → (q : GameProblem) × (t : Ply) × (problem_at s k ≡ Some q) × (v ≡ turn_text (size_of s) t) × IsTrue (legal (start q) t) × Wins k (next (start q) t)
+  pub losses : told ≡ codes "loss" → (q : GameProblem) × (problem_at s k ≡ Some q) × Wins (opponent_of k) (start q)
+
+-- Where the line asks who wins with a colour to move, and the reply is told with the line's id, it is true.
+abbrev pub AnswersTruly : GtpSession → List ℕ → List ℕ → Type 0
+AnswersTruly s line written = (id word told : List ℕ) (words : List (List ℕ)) (k : Colour) → request_of line ≡ asks id (codes "tsu-solve" ∷ word ∷ words) → colour_named word ≡ Some k
+    → written ≡ success id told → IsTrueOf s k told
+
+-- Some replies of a session, line by line, each of which is so.
+abbrev pub AllTrue : GtpSession → List (List ℕ) → List ℕ → GtpSession → Type 0
+AllTrue s [] written t = (written ≡ []) × (t ≡ s)
+AllTrue s (line ∷ lines) written t =
+    (bytes rest : List ℕ) × (new : GtpSession) × Serves s line (reply bytes) new × AnswersTruly s line bytes × (written ≡ bytes ++ rest) × AllTrue new lines rest t
+
+-- Where `gtp` has ended, its output is the replies of a session, line by line, each of which is so; after a line that ends the session the lines count for nothing.
+pub record IsTrueEnd (lines : List (List ℕ)) (written : List ℕ) : Type 0 where
+  pub front : List (List ℕ)
+  pub line : List ℕ
+  pub behind : List (List ℕ)
+  pub parted : lines ≡ front ++ line ∷ behind
+  pub before : List ℕ
+  pub mid : GtpSession
+  pub all : AllTrue first_session front before mid
+  pub bytes : List ℕ
+  pub last : GtpSession
+  pub served : Serves mid line (last_reply bytes) last
+  pub whole : written ≡ before ++ bytes
+
+abbrev pub GtpIsTrue : Type 0
+GtpIsTrue = (bytes written : List ℕ) → Outcome (Some command.Gtp) bytes Answered written →
+    ((t : GtpSession) × AllTrue first_session (raw_lines bytes) written t) ⊎ IsTrueEnd (raw_lines bytes) written

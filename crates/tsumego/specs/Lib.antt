@@ -1,7 +1,9 @@
 pub mod CommandLine
+pub mod Bounds
 pub mod Texts
 pub mod Solutions
 pub mod Answers
 pub mod Outcome
 pub mod Replies
 pub mod Laws
+pub mod Codes

@@ -1,6 +1,8 @@
 -- What the private calls of the program give. No public clause rests on these words.
-use Rattle.std.specs.Prelude.{◌≡◌, ℕ, ◌<◌, Bool, List, Option, Some, None, ◌⊎◌, string_bytes}
-use Rattle.std.specs.Io.KnownBytes.{Appends}
+use Rattle.std.specs.Prelude.{◌≡◌, ℕ, ◌<◌, Bool, true, false, List, [], ◌∷◌, ◌++◌, length, Option, Some, None, ◌⊎◌, string_bytes}
+use Rattle.std.specs.Io.KnownBytes.{Appends, Consumes, IsAtEnd}
+use Rattle.sgf_text.specs.Bytes.{is_white}
+use Rattle.sgf_text.specs.Followers.{byte_limit}
 use Rattle.target_game.specs.State.{GameProblem, start}
 use Rattle.target_game.specs.Answers.{answer_size}
 use Rattle.sgf_text.specs.Taken.{TakesPart}
@@ -21,10 +23,12 @@ use Rattle.solution_tree.specs.Audit as audit
 use Rattle.solution_tree.specs.Faults as fault
 use Rattle.solution_tree.specs.declared.fault.AuditFault.{AuditFault}
 use Rattle.tsumego.specs.declared.command_line.Command.{Command}
+use Rattle.tsumego.specs.declared.command_line.Command.TheVariants.{Check}
 use Rattle.tsumego.specs.declared.reply.Response.{Response}
 use Rattle.tsumego.specs.declared.reply.Response.TheVariants.{Text, Solution}
-use Rattle.tsumego.specs.Solutions.{MayAnswer, Unsolved, tree_limit}
-use Rattle.tsumego.specs.Answers.{Says}
+use Rattle.tsumego.specs.Solutions.{MayAnswer, Unsolved, tree_limit, claim_verdict}
+use Rattle.tsumego.specs.Answers.{Says, check_answer, JudgesClaim}
+use Rattle.tsumego.specs.Outcome.{Tells}
 use Rattle.tsumego.specs.Texts.{line, rejected_line_text, rejected_node_text}
 
 -- The bytes have no record with this text; where memory was refused, nothing is said.
@@ -59,6 +63,39 @@ IsSolutionOf k None = tree_limit < answer_size (expand (claim_of k.certificate) 
 abbrev pub IsReply : Command → List ℕ → Response → Type 0
 IsReply command bytes (Text reply) = Says command bytes reply.status (string_bytes reply.text)
 IsReply command bytes (Solution checked proof) = (status : Status) (text : List ℕ) → MayAnswer proof checked.problem status text → Says command bytes status text
+
+-- A record is decided by the bytes that were read: there are more of them than a record may have, or the reader has ended.
+abbrev pub Decides : List ℕ → Option (List ℕ) → Type 0
+Decides front told = (byte_limit < length front) ⊎ IsAtEnd told
+
+-- what may be said, or replied, of these bytes and those that the reader tells after them
+abbrev pub SaysAfter : Command → List ℕ → Option (List ℕ) → Status → List ℕ → Type 0
+SaysAfter command front told status text = (rest : List ℕ) × Tells told rest × Says command (front ++ rest) status text
+
+abbrev pub IsReplyAfter : Command → List ℕ → Option (List ℕ) → Response → Type 0
+IsReplyAfter command front told r = (rest : List ℕ) × Tells told rest × IsReply command (front ++ rest) r
+
+-- no command but `check` asks for more
+abbrev pub AsksOn : Command → Option (List ℕ) → Option (List ℕ) → Type 0
+AsksOn Check old new = Unit {0}
+AsksOn _ old new = new ≡ old
+
+abbrev pub AllWhite : List ℕ → Type 0
+AllWhite [] = Unit {0}
+AllWhite (x ∷ bytes) = (is_white x ≡ true) × AllWhite bytes
+
+-- After less white space than this there is a byte of another kind, or nothing: the bytes were given up to it.
+abbrev pub IsPastWhite : ℕ → Option (List ℕ) → Option (List ℕ) → Option ℕ → Type 0
+IsPastWhite room old new None = (white : List ℕ) × AllWhite white × (length white < room) × Consumes old new white × IsAtEnd new
+IsPastWhite room old new (Some b) = (white : List ℕ) × AllWhite white × (length white < room) × Consumes old new (white ++ b ∷ []) × (is_white b ≡ false)
+
+-- the answer to a claim in these bytes and those that the reader tells after them, where it is judged
+abbrev pub IsJudgedAfter : GameProblem → List ℕ → Option (List ℕ) → Status → List ℕ → Type 0
+IsJudgedAfter q claim told status text = (rest : List ℕ) × Tells told rest × ((status, text) ≡ check_answer q.game.size (claim_verdict q (claim ++ rest)))
+
+-- the same, where white space stands before the claim
+abbrev pub IsCheckedAfter : GameProblem → List ℕ → Option (List ℕ) → Status → List ℕ → Type 0
+IsCheckedAfter q behind told status text = (rest : List ℕ) × Tells told rest × JudgesClaim q (behind ++ rest) status text
 
 -- a search of the problem has this reply
 abbrev pub IsSearched : ℕ → Bool → GameProblem → Response → Type 0

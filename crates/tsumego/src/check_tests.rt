@@ -1,7 +1,7 @@
 //! Records and claims with what `check` says of them, from the rules and the formats.
 
 use crate::status::Status;
-use crate::tests::checks;
+use crate::tests::{answers, checks};
 use std::alloc::Global;
 use std::process::Abort;
 
@@ -228,17 +228,19 @@ fn many_lemmas(alloc: Global, rt: &impl Abort, count: usize) -> String {
 #[test]
 fn a_claim_has_at_most_65535_lemmas(rt: HostRuntime) {
     let most = many_lemmas(rt.alloc(), &rt, 65_535);
-    checks(
+    answers(
         &rt,
         rt.alloc(),
+        &["tsumego", "check"],
         most.as_str(),
         Status::Answered,
         "wins Black\n",
     );
     let more = many_lemmas(rt.alloc(), &rt, 65_536);
-    checks(
+    answers(
         &rt,
         rt.alloc(),
+        &["tsumego", "check"],
         more.as_str(),
         Status::Unanswered,
         "rejected line 196607: C15 limit\n",

@@ -6,7 +6,7 @@
 ghost use Rattle.std.specs.Prelude.{◌≡◌, ◌≤◌, false, Some, None, codes, IfOk, IfErr, IfSome, option_and_then, map};
 ghost use Rattle.clap.specs.Words.{app_of, found_of, kind_of, new_app, rows_of, rule_of, subcommand_rows_of, with_rule, with_subcommand};
 ghost use Rattle.clap.specs.declared.builder.command.Command.TheViews.{out-Command as fields_of};
-ghost use Rattle.tsumego.specs.CommandLine.{FitsRanges, HasFault, IsWordsFault, command_named, command_of, flag_of, grammar, nodes_rule, number_of, proof_rule, solve_shape, steps_rule, table_rule, turns_rule};
+ghost use Rattle.tsumego.specs.CommandLine.{FitsRanges, HasFault, IsWordsFault, command_named, command_of, flag_of, grammar, gtp_shape, is_session, nodes_rule, number_of, proof_rule, solve_shape, steps_rule, table_rule, turns_rule};
 
 use clap::builder::ValueParser;
 use clap::error::ErrorKind;
@@ -44,6 +44,23 @@ pub enum Command {
         table: usize,
         proof: bool,
     },
+    /// Serve GTP commands.
+    Gtp,
+}
+
+impl Command {
+    /// Whether the command serves a session, and answers each line by itself.
+    pub fn is_session(self) -> bool
+        ensures { result ≡ is_session self }
+    {
+        match self {
+            Command::Check => false,
+            Command::Within { .. } => false,
+            Command::Audit => false,
+            Command::Solve { .. } => false,
+            Command::Gtp => true,
+        }
+    }
 }
 
 /// Why there is no command.
@@ -117,6 +134,9 @@ fn chosen(matches: &ArgMatches<'_>) -> Option<Command>
             proof: flag(given, "proof"),
         });
     }
+    if name == "gtp" {
+        return Some(Command::Gtp);
+    }
     None
 }
 
@@ -147,13 +167,13 @@ fn flag(given: &ArgMatches<'_>, id: &str) -> bool
 fn program<'a>(alloc: Global) -> Result<clap::Command<'a>, AllocError>
     ensures { IfOk result (λ c. app_of c ≡ grammar) }
 {
-    let program = judging(alloc)?;
-    program.subcommand(solve_command(alloc)?)
+    let program = judging(alloc)?.subcommand(solve_command(alloc)?)?;
+    program.subcommand(gtp_command(alloc))
 }
 
-/// The program with the subcommands that judge: all but `solve`.
+/// The program with the subcommands that judge: all but `solve` and `gtp`.
 fn judging<'a>(alloc: Global) -> Result<clap::Command<'a>, AllocError>
-    ensures { IfOk result (λ c. with_subcommand (app_of c) solve_shape ≡ grammar) }
+    ensures { IfOk result (λ c. with_subcommand (with_subcommand (app_of c) solve_shape) gtp_shape ≡ grammar) }
 {
     let program = clap::Command::new(alloc, "tsumego")
         .about(
@@ -202,6 +222,13 @@ fn solve_command<'a>(alloc: Global) -> Result<clap::Command<'a>, AllocError>
     let solve = solve.arg(steps_argument(alloc))?;
     let solve = solve.arg(table_argument(alloc))?;
     solve.arg(proof_argument(alloc))
+}
+
+fn gtp_command<'a>(alloc: Global) -> clap::Command<'a>
+    ensures app { app_of result ≡ new_app (codes "gtp") }
+    ensures local { (fields_of result).has_globals ≡ false }
+{
+    clap::Command::new(alloc, "gtp").about("Serves GTP commands, one a line.")
 }
 
 fn turns_argument<'a>(alloc: Global) -> Arg<'a>

@@ -1,41 +1,84 @@
-//! The whole input, up to a bound.
+//! What is read of the input: its front, and white space before a claim.
 
-ghost use Rattle.std.specs.Prelude.{◌≡◌, ◌++◌, ℕ, List, OnOk, IfOk};
+ghost use Rattle.std.specs.Prelude.{◌≡◌, ◌≤◌, ◌+◌, ◌++◌, ℕ, List, length, OnOk, IfOk};
 ghost use Rattle.std.specs.Io.KnownBytes.{Consumes, IsAtEnd};
+ghost use Rattle.tsumego_problem.specs.Values.{skip_white};
+ghost use Rattle.tsumego.specs.Replies.{IsPastWhite};
 
+use sgf_text::token::is_white;
 use std::alloc::AllocError;
 use std::io::Read;
+
+/// How many bytes are asked of a reader at once.
+const BLOCK: usize = 65_536;
 
 /// How reading ended.
 #[derive(Clone, Copy, Debug, PartialEq, Eq)]
 pub enum Reading {
     /// The input has ended.
     Whole,
-    /// It has more bytes than allowed.
-    TooLong,
+    /// There are as many bytes as are wanted.
+    Full,
     /// A read failed.
     Failed,
 }
 
-/// Appends all that the reader has, in blocks, until it has ended, a read fails, or there are more than `limit` bytes.
+/// A read failed, or there is more white space than may be.
+#[derive(Clone, Copy, Debug)]
+pub struct ReadFailed;
+
+/// Appends what the reader has, in blocks, until it has ended, a read fails, or there are `limit` bytes. No byte after those is asked for.
 pub fn read_to_limit<R: Read>(
     reader: &mut R,
     into: &mut Vec<u8>,
     limit: usize,
 ) -> Result<Reading, AllocError>
+    requires { length into.old.items ≤ limit }
     ensures bytes { OnOk result ((bytes : List ℕ) × (into.new.items ≡ into.old.items ++ bytes) × Consumes (R.remaining reader.old) (R.remaining reader.new) bytes) }
+    ensures asked { (bytes : List ℕ) × Consumes (R.remaining reader.old) (R.remaining reader.new) bytes × (length into.old.items + length bytes ≤ limit) }
     ensures end { IfOk result (λ r. r ≡ Reading.Whole → IsAtEnd (R.remaining reader.new)) }
+    ensures full { IfOk result (λ r. r ≡ Reading.Full → length into.new.items ≡ limit) }
 {
-    let mut block = [0u8; 65536];
-    for _ in 0..u64::MAX {
-        if into.len() > limit {
-            return Ok(Reading::TooLong);
-        }
-        match reader.read(&mut block) {
+    let mut block = [0u8; BLOCK];
+    while into.len() < limit {
+        let room = (limit - into.len()).min(BLOCK);
+        match reader.read(&mut block[..room]) {
             Ok(0) => return Ok(Reading::Whole),
             Ok(count) => into.extend_from_slice(&block[..count])?,
             Err(_) => return Ok(Reading::Failed),
         }
     }
-    Ok(Reading::TooLong)
+    Ok(Reading::Full)
+}
+
+/// The text from its first byte on that is no white space.
+pub fn skip_white(text: &[u8]) -> &[u8]
+    ensures value { result.now ≡ skip_white text.now }
+    ensures shorter { length result.now ≤ length text.now }
+{
+    for start in 0..text.len() {
+        if !is_white(text[start]) {
+            return &text[start..];
+        }
+    }
+    &[]
+}
+
+/// The first byte that is no white space, after fewer than so many that are; none where the reader has ended. It is read byte by byte.
+pub fn read_past_white<R: Read>(reader: &mut R, room: usize) -> Result<Option<u8>, ReadFailed>
+    ensures { IfOk result (λ o. IsPastWhite room (R.remaining reader.old) (R.remaining reader.new) o) }
+{
+    let mut byte = [0u8; 1];
+    for _ in 0..room {
+        match reader.read(&mut byte) {
+            Ok(0) => return Ok(None),
+            Ok(_) => {
+                if !is_white(byte[0]) {
+                    return Ok(Some(byte[0]));
+                }
+            }
+            Err(_) => return Err(ReadFailed),
+        }
+    }
+    Err(ReadFailed)
 }

@@ -1,6 +1,6 @@
 //! What the outcome of a run says of the game, over the definitions alone.
 
-ghost use Rattle.tsumego.specs.Laws.{AuditIsTrue, CheckIsTrue, ProofIsTrue, SolveIsTrue, WithinIsTrue};
+ghost use Rattle.tsumego.specs.Laws.{AuditIsTrue, CheckIsTrue, GtpIsTrue, ProofIsTrue, SolveIsTrue, WithinIsTrue};
 
 /// Where `check` answers, it names a side, and that side wins the problem of the record that was read.
 pub fn check_is_true()
@@ -18,8 +18,8 @@ pub fn audit_is_true()
     ensures { AuditIsTrue }
 {}
 
-/// Where `solve` writes a record, some side wins the problem of the record that was read; what is written holds the same
-/// problem, the order of its history included, with a legal answer of that side to every legal reply.
+/// Where `solve` writes a record, it names a side, and that side wins the problem of the record that was read; what is
+/// written holds the same problem, the order of its history included, with a legal answer of that side to every legal reply.
 pub fn solve_is_true()
     ensures { SolveIsTrue }
 {}
@@ -28,4 +28,10 @@ pub fn solve_is_true()
 /// same problem, a line feed, and a claim that names that side and is accepted.
 pub fn proof_is_true()
     ensures { ProofIsTrue }
+{}
+
+/// Where `gtp` has ended, each `win V` in its output names a legal turn after which that colour wins the problem of the
+/// session then, and each `loss` a side that wins it.
+pub fn gtp_is_true()
+    ensures { GtpIsTrue }
 {}

@@ -8,9 +8,14 @@ mod answer_tests;
 mod audit_tests;
 #[cfg(test)]
 mod check_tests;
+mod claim;
 mod command_line;
 #[cfg(test)]
 mod command_line_tests;
+pub mod devices;
+mod gtp;
+#[cfg(test)]
+mod gtp_tests;
 mod input;
 pub mod laws;
 mod record;
@@ -38,10 +43,10 @@ use std::process::ExitCode;
 fn main(rt: HostRuntime) -> ExitCode {
     let alloc = rt.alloc();
     let Ok(words) = env::args(&rt) else {
-        return ExitCode::from(Status::BadWords as u8);
+        return ExitCode::from(Status::BadWords.code());
     };
     let Ok(words) = words.collect::<Vec<String>>(alloc) else {
-        return ExitCode::from(Status::Failed as u8);
+        return ExitCode::from(Status::Failed.code());
     };
-    ExitCode::from(run(alloc, words.as_slice(), &mut rt.stdin(), &mut rt.stdout()) as u8)
+    ExitCode::from(run(alloc, words.as_slice(), &mut rt.stdin(), &mut rt.stdout()).code())
 }

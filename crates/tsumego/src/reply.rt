@@ -1,35 +1,30 @@
 //! What a command answers for its input.
 
-ghost use Rattle.std.specs.Prelude.{◌≡◌, ◌≤◌, ℕ, List, length, IfOk, IsSome, string_bytes};
+ghost use Rattle.std.specs.Prelude.{◌≡◌, ◌≤◌, ℕ, List, Option, IfOk, IsFalse, IsSome, string_bytes};
 ghost use Rattle.target_game.specs.State.{start};
 ghost use Rattle.target_game.specs.Within.{decision};
-ghost use Rattle.tsumego_problem.specs.Values.{skip_white};
 ghost use Rattle.tsumego_problem.specs.Walk.{problem_node};
 ghost use Rattle.solution_tree.specs.Audit.{audit};
-ghost use Rattle.tsumego.specs.CommandLine.{FitsRanges};
+ghost use Rattle.tsumego.specs.CommandLine.{FitsRanges, is_session};
 ghost use Rattle.tsumego.specs.declared.command_line.Command.{Command};
-ghost use Rattle.tsumego.specs.Replies.{HasNoRecord, IsNodeRejectionOf, IsRejectionOf, IsReply, IsSearched};
-ghost use Rattle.tsumego.specs.Answers.{Says, audit_answer, check_answer, within_answer};
-ghost use Rattle.tsumego.specs.Solutions.{claim_verdict};
+ghost use Rattle.tsumego.specs.Replies.{AsksOn, Decides, HasNoRecord, IsNodeRejectionOf, IsReplyAfter, IsSearched, SaysAfter};
+ghost use Rattle.tsumego.specs.Answers.{Says, audit_answer, within_answer};
 
+use crate::claim::judge;
 use crate::command_line::Command;
 use crate::record::{NoRecord, read_record};
 use crate::status::Status;
-use crate::texts::{node_reject_text, reject_text, unknown_text, wins_text};
-use cert_check::laws::readers_judged;
-use cert_check::{Checked, Reject, Why, check};
+use crate::texts::{node_reject_text, unknown_text, wins_text};
+use cert_check::Checked;
 use go_points::Size;
 use pn_search::{Budget, Verdict, solve};
-use proof_cert::ReaderSource;
 use sgf_text::Tree;
-use sgf_text::token::is_white;
+use sgf_text::laws::fronts_decide;
 use solution_tree::{AuditFault, AuditWhy, audit};
 use std::alloc::Global;
+use std::io::Read;
 use std::num::NonZeroUsize;
 use target_game::{Problem, Within, decide_within};
-
-/// The most white space between a record and a claim, in bytes.
-pub const MAX_WHITE: usize = 1_048_576;
 
 /// A whole answer.
 #[derive(Debug, Drop)]
@@ -55,17 +50,26 @@ pub enum Failure {
     Read,
 }
 
-/// What the command answers for these bytes.
-pub fn reply_to(alloc: Global, command: Command, bytes: &[u8]) -> Result<Response, Failure>
-    requires { FitsRanges command }
-    ensures { IfOk result (λ r. IsReply command bytes.now r) }
+/// What the command answers for these bytes and what the reader has after them. `check` alone reads on.
+pub fn reply_to<R: Read>(
+    alloc: Global,
+    command: Command,
+    front: &[u8],
+    reader: &mut R,
+) -> Result<Response, Failure>
+    requires fits { FitsRanges command }
+    requires whole { IsFalse (is_session command) }
+    requires decided { Decides front.now (R.remaining reader.old) }
+    ensures reply { IfOk result (λ r. IsReplyAfter command front.now (R.remaining reader.old) r) }
+    ensures asked { AsksOn command (R.remaining reader.old) (R.remaining reader.new) }
 {
-    let record = match read_record(alloc, bytes) {
+    fronts_decide();
+    let record = match read_record(alloc, front) {
         Ok(record) => record,
         Err(none) => return as_text(refused(none)),
     };
     match command {
-        Command::Check => as_text(judge(alloc, &record.problem, &bytes[record.end..])),
+        Command::Check => { as_text(judge(alloc, &record.problem, &front[record.end..], reader)) },
         Command::Within { turns, nodes } => as_text(within(alloc, &record.problem, turns, nodes)),
         Command::Audit => as_text(audited(alloc, &record.problem, &record.tree)),
         Command::Solve {
@@ -73,11 +77,12 @@ pub fn reply_to(alloc: Global, command: Command, bytes: &[u8]) -> Result<Respons
             table,
             proof,
         } => searched(alloc, record.problem, steps, table, proof),
+        Command::Gtp => unreachable!(),
     }
 }
 
 fn as_text(reply: Result<Reply, Failure>) -> Result<Response, Failure>
-    ensures { (command : Command) (bytes : List ℕ) → IfOk reply (λ r. Says command bytes r.status (string_bytes r.text)) → IfOk result (λ r. IsReply command bytes r) }
+    ensures { (command : Command) (front : List ℕ) (told : Option (List ℕ)) → IfOk reply (λ r. SaysAfter command front told r.status (string_bytes r.text)) → IfOk result (λ r. IsReplyAfter command front told r) }
 {
     match reply {
         Ok(reply) => Ok(Response::Text(reply)),
@@ -87,7 +92,7 @@ fn as_text(reply: Result<Reply, Failure>) -> Result<Response, Failure>
 
 /// What is answered where there is no record, whatever the command.
 fn refused(none: NoRecord) -> Result<Reply, Failure>
-    ensures { (command : Command) (bytes : List ℕ) → HasNoRecord bytes none → IfOk result (λ r. Says command bytes r.status (string_bytes r.text)) }
+    ensures { (command : Command) (bytes : List ℕ) → IsFalse (is_session command) → HasNoRecord bytes none → IfOk result (λ r. Says command bytes r.status (string_bytes r.text)) }
 {
     match none {
         NoRecord::Refused(text) => Ok(Reply {
@@ -96,52 +101,6 @@ fn refused(none: NoRecord) -> Result<Reply, Failure>
         }),
         NoRecord::Memory => Err(Failure::Memory),
     }
-}
-
-/// Judges the claim behind white space.
-fn judge(alloc: Global, problem: &Problem, behind: &[u8]) -> Result<Reply, Failure>
-    ensures { IfOk result (λ r. (r.status, string_bytes r.text) ≡ check_answer problem.now.game.size (claim_verdict problem.now (skip_white behind.now))) }
-{
-    let claim = skip_white(behind);
-    if behind.len() - claim.len() > MAX_WHITE {
-        return Err(Failure::Read);
-    }
-    readers_judged();
-    let mut source = ReaderSource::new(problem.size(), claim);
-    match check(alloc, problem, &mut source) {
-        Ok(winner) => said(alloc, Status::Answered, wins_text(winner)),
-        Err(reject) => rejected(alloc, problem.size(), &reject),
-    }
-}
-
-/// Why the claim is rejected; or why it was not judged.
-fn rejected(alloc: Global, size: Size, reject: &Reject) -> Result<Reply, Failure>
-    ensures { IfOk result (λ r. IsRejectionOf size reject.now r.status (string_bytes r.text)) }
-{
-    match reject.why {
-        Why::Memory => Err(Failure::Memory),
-        Why::Read => Err(Failure::Read),
-        _ => match reject_text(alloc, size, reject) {
-            Ok(text) => Ok(Reply {
-                status: Status::Unanswered,
-                text,
-            }),
-            Err(_) => Err(Failure::Memory),
-        },
-    }
-}
-
-/// The text from its first byte on that is no white space.
-fn skip_white(text: &[u8]) -> &[u8]
-    ensures value { result.now ≡ skip_white text.now }
-    ensures shorter { length result.now ≤ length text.now }
-{
-    for start in 0..text.len() {
-        if !is_white(text[start]) {
-            return &text[start..];
-        }
-    }
-    &[]
 }
 
 /// Decides by full search who can force a win.
@@ -211,7 +170,7 @@ fn searched(
 }
 
 /// A text that is not made of parts.
-fn said(alloc: Global, status: Status, text: &str) -> Result<Reply, Failure>
+pub fn said(alloc: Global, status: Status, text: &str) -> Result<Reply, Failure>
     ensures { IfOk result (λ r. (r.status ≡ status) × (string_bytes r.text ≡ text.now)) }
 {
     match text.to_string(alloc) {

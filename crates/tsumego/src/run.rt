@@ -1,12 +1,14 @@
 //! A run of the program: its words and its input to its answer.
 
-ghost use Rattle.std.specs.Prelude.{ℕ, List, map, Some, IfOk};
-ghost use Rattle.tsumego.specs.CommandLine.{command_of, FitsRanges};
+ghost use Rattle.std.specs.Prelude.{ℕ, List, map, Some, IfOk, IsFalse};
+ghost use Rattle.tsumego.specs.CommandLine.{command_of, is_session, FitsRanges};
+ghost use Rattle.tsumego.specs.Bounds.{MayAsk};
 ghost use Rattle.tsumego.specs.Outcome.{Ran, Tells};
 ghost use Rattle.tsumego.specs.Replies.{IsReply};
 
 use crate::answer::{answer, write_text};
 use crate::command_line::{Command, NoCommand, read_command};
+use crate::gtp::serve_gtp;
 use crate::input::{Reading, read_to_limit};
 use crate::reply::{Failure, Response, reply_to};
 use crate::status::Status;
@@ -15,20 +17,22 @@ use std::alloc::Global;
 use std::convert::AsStr;
 use std::io::{Read, Write};
 
-/// The most bytes of input that are held: 64 MiB.
-pub const MAX_INPUT: usize = 67_108_864;
+/// The most bytes that are asked for a record: one more than a record may have.
+pub const MAX_FRONT: usize = 1_048_577;
 
 /// Runs the program on its words, the first of which is its name.
 ///
 /// For every list of bytes that the reader tells, the status and the text that the writer has taken are those of the
-/// command that the words give; after a failed write what was taken is a part of such a text.
+/// command that the words give; after a failed write what was taken is a part of such a text. No command but `check` asks for
+/// more bytes than a record may have, and one.
 pub fn run<S: AsStr, R: Read, W: Write>(
     alloc: Global,
     words: &[S],
     reader: &mut R,
     writer: &mut W,
 ) -> Status
-    ensures { Ran (command_of (map S.text words.now)) (R.remaining reader.old) result (W.contents writer.old) (W.contents writer.new) }
+    ensures ran { Ran (command_of (map S.text words.now)) (R.remaining reader.old) result (W.contents writer.old) (W.contents writer.new) }
+    ensures asked { MayAsk (command_of (map S.text words.now)) (R.remaining reader.old) (R.remaining reader.new) }
 {
     match read_command(alloc, words) {
         Ok(command) => obey(alloc, command, reader, writer),
@@ -45,8 +49,12 @@ fn obey<R: Read, W: Write>(
     writer: &mut W,
 ) -> Status
     requires { FitsRanges command }
-    ensures { Ran (Some command) (R.remaining reader.old) result (W.contents writer.old) (W.contents writer.new) }
+    ensures ran { Ran (Some command) (R.remaining reader.old) result (W.contents writer.old) (W.contents writer.new) }
+    ensures asked { MayAsk (Some command) (R.remaining reader.old) (R.remaining reader.new) }
 {
+    if command.is_session() {
+        return serve_gtp(alloc, reader, writer);
+    }
     match answer_of(alloc, command, reader) {
         Ok(Response::Text(reply)) => write_text(writer, reply.text.as_bytes(), reply.status),
         Ok(Response::Solution { checked, proof }) => answer(alloc, &checked, proof, writer),
@@ -55,15 +63,21 @@ fn obey<R: Read, W: Write>(
     }
 }
 
-/// What the command answers for the whole input.
+/// What the command answers for the input, of which the front is read first. Where it has ended, nothing more is asked of it.
 fn answer_of<R: Read>(alloc: Global, command: Command, reader: &mut R) -> Result<Response, Failure>
-    requires { FitsRanges command }
-    ensures { IfOk result (λ r. (bytes : List ℕ) × Tells (R.remaining reader.old) bytes × IsReply command bytes r) }
+    requires fits { FitsRanges command }
+    requires whole { IsFalse (is_session command) }
+    ensures reply { IfOk result (λ r. (bytes : List ℕ) × Tells (R.remaining reader.old) bytes × IsReply command bytes r) }
+    ensures asked { MayAsk (Some command) (R.remaining reader.old) (R.remaining reader.new) }
 {
-    let mut input = Vec::new(alloc);
-    match read_to_limit(reader, &mut input, MAX_INPUT) {
-        Ok(Reading::Whole) => reply_to(alloc, command, input.as_slice()),
-        Ok(Reading::Failed) | Ok(Reading::TooLong) => Err(Failure::Read),
+    let mut front = Vec::new(alloc);
+    match read_to_limit(reader, &mut front, MAX_FRONT) {
+        Ok(Reading::Whole) => {
+            let mut nothing = b"".as_slice();
+            reply_to(alloc, command, front.as_slice(), &mut nothing)
+        }
+        Ok(Reading::Full) => reply_to(alloc, command, front.as_slice(), reader),
+        Ok(Reading::Failed) => Err(Failure::Read),
         Err(_) => Err(Failure::Memory),
     }
 }

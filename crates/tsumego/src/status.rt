@@ -1,5 +1,8 @@
 //! How a run ended.
 
+ghost use Rattle.std.specs.Prelude.{◌≡◌};
+ghost use Rattle.tsumego.specs.Codes.{code_of};
+
 /// How a run ended; the numbers are the exit codes.
 #[derive(Clone, Copy, Debug, PartialEq, Eq)]
 pub enum Status {
@@ -13,4 +16,19 @@ pub enum Status {
     BadWords = 3,
     /// Memory was refused, or a device failed.
     Failed = 4,
+}
+
+impl Status {
+    /// The exit code.
+    pub fn code(self) -> u8
+        ensures { result ≡ code_of self }
+    {
+        match self {
+            Status::Answered => 0,
+            Status::Unanswered => 1,
+            Status::Refused => 2,
+            Status::BadWords => 3,
+            Status::Failed => 4,
+        }
+    }
 }

@@ -1,12 +1,10 @@
 //! Runs over memory and over devices that fail.
 
-ghost use Rattle.std.specs.Prelude.{None};
-
+use crate::devices::{Endless, Faulty, Pieces};
 use crate::run::run;
 use crate::status::Status;
 use std::alloc::Global;
-use std::io;
-use std::io::{ErrorKind, Read, Write};
+use std::io::ErrorKind;
 use std::process::Abort;
 
 // For these words and this input the program has this status and this text.
@@ -28,9 +26,22 @@ pub fn answers(
     assert_eq!(rt; writer.as_slice(), text.as_bytes(), "{input}");
 }
 
-// The same for `check`.
+// The same for `check`, whole and in pieces.
 pub fn checks(rt: &impl Abort, alloc: Global, input: &str, status: Status, text: &str) {
     answers(rt, alloc, &["tsumego", "check"], input, status, text);
+    for piece in [1, 2, 7, 4_096] {
+        let mut reader = Pieces {
+            left: input.as_bytes(),
+            piece,
+        };
+        let mut writer = Vec::new(alloc);
+        assert_eq!(rt;
+            run(alloc, &["tsumego", "check"], &mut reader, &mut writer),
+            status,
+            "{input}"
+        );
+        assert_eq!(rt; writer.as_slice(), text.as_bytes(), "{input}");
+    }
 }
 
 const CAPTURE: &str = "(;FF[4]GM[1]SZ[3]AB[ab]AW[aa]PL[B]TR[aa]SQ[ba])\n";
@@ -116,75 +127,141 @@ fn white_space_past_the_bound_is_a_failed_read(rt: HostRuntime) {
     }
 }
 
-// A reader that never ends.
-#[derive(Debug, Drop)]
-struct Endless;
-
-impl Read for Endless {
-    ghost remaining = { λ r. None };
-
-    fn read(&mut self, buf: &mut [u8]) -> io::Result<usize> {
-        for at in 0..buf.len() {
-            buf[at] = b'a';
-        }
-        Ok(buf.len())
-    }
-}
-
-// A reader that fails.
-#[derive(Debug, Drop)]
-struct Broken;
-
-impl Read for Broken {
-    ghost remaining = { λ r. None };
-
-    fn read(&mut self, buf: &mut [u8]) -> io::Result<usize> {
-        let _room = buf.len();
-        Err(io::Error::from(ErrorKind::Other))
-    }
-}
-
-impl Write for Broken {
-    ghost contents = { λ w. None };
-
-    fn write(&mut self, buf: &[u8]) -> io::Result<usize> {
-        let _bytes = buf.len();
-        Err(io::Error::from(ErrorKind::Other))
-    }
-
-    fn flush(&mut self) -> io::Result<()> {
-        Ok(())
-    }
+// What the program says of a text and then one byte for ever.
+fn endless(
+    rt: &impl Abort,
+    alloc: Global,
+    words: &[&str],
+    left: &str,
+    byte: u8,
+    status: Status,
+    text: &str,
+) {
+    let mut reader = Endless {
+        left: left.as_bytes(),
+        byte,
+    };
+    let mut writer = Vec::new(alloc);
+    assert_eq!(rt; run(alloc, words, &mut reader, &mut writer), status);
+    assert_eq!(rt; writer.as_slice(), text.as_bytes());
 }
 
 #[test]
-fn an_input_past_the_bound_is_a_failed_read(rt: HostRuntime) {
-    let mut writer = Vec::new(rt.alloc());
-    let words = ["tsumego", "check"];
-    assert_eq!(rt;
-        run(rt.alloc(), words.as_slice(), &mut Endless, &mut writer),
-        Status::Failed
-    );
-    assert_eq!(rt; writer.as_slice(), "failed: read\n".as_bytes());
+fn a_reader_that_never_ends(rt: HostRuntime) {
+    let alloc = rt.alloc();
+    let check = ["tsumego", "check"];
+    let within = ["tsumego", "within", "1"];
+    let rows: [(&[&str], &str, u8, Status, &str); 6] = [
+        (
+            &check,
+            "",
+            b'a',
+            Status::Refused,
+            "refused: sgf 1 no tree\n",
+        ),
+        (
+            &check,
+            "(;C[",
+            b'a',
+            Status::Refused,
+            "refused: sgf 3 too long\n",
+        ),
+        (
+            &check,
+            CAPTURE,
+            b'a',
+            Status::Unanswered,
+            "rejected line 1: C01 malformed\n",
+        ),
+        (&check, CAPTURE, b'\n', Status::Failed, "failed: read\n"),
+        (&within, CAPTURE, b' ', Status::Answered, "wins Black\n"),
+        (&within, CAPTURE, b')', Status::Answered, "wins Black\n"),
+    ];
+    for (words, left, byte, status, text) in rows {
+        endless(&rt, alloc, words, left, byte, status, text);
+    }
 }
 
+// A read that fails before the input has ended is told, whatever was read before it.
 #[test]
 fn a_failed_read_is_told(rt: HostRuntime) {
-    let mut writer = Vec::new(rt.alloc());
-    let words = ["tsumego", "check"];
-    assert_eq!(rt;
-        run(rt.alloc(), words.as_slice(), &mut Broken, &mut writer),
-        Status::Failed
-    );
-    assert_eq!(rt; writer.as_slice(), "failed: read\n".as_bytes());
+    let alloc = rt.alloc();
+    let mut input = Vec::new(alloc);
+    input
+        .extend_from_slice(CAPTURE.as_bytes())
+        .expect(&rt, "memory");
+    input
+        .extend_from_slice(CAPTURE_CLAIM.as_bytes())
+        .expect(&rt, "memory");
+    for call in 0..input.len() {
+        let mut reader = Faulty {
+            inner: Pieces {
+                left: input.as_slice(),
+                piece: 1,
+            },
+            calls: 0,
+            failing: &[call as u64],
+            kind: ErrorKind::Other,
+        };
+        let mut writer = Vec::new(alloc);
+        assert_eq!(rt;
+            run(alloc, &["tsumego", "check"], &mut reader, &mut writer),
+            Status::Failed
+        );
+        assert_eq!(rt; writer.as_slice(), "failed: read\n".as_bytes());
+    }
+}
+
+// The claim stands behind more white space than is read with the record, and a read fails in it.
+#[test]
+fn a_failed_read_in_a_claim_is_told(rt: HostRuntime) {
+    let alloc = rt.alloc();
+    let mut input = Vec::new(alloc);
+    input
+        .extend_from_slice(CAPTURE.as_bytes())
+        .expect(&rt, "memory");
+    for _ in 0..1_048_560 {
+        input.push(b' ').expect(&rt, "memory");
+    }
+    input
+        .extend_from_slice(CAPTURE_CLAIM.as_bytes())
+        .expect(&rt, "memory");
+    let rows: [(&[u64], Status, &str); 3] = [
+        (&[], Status::Answered, "wins Black\n"),
+        (&[30], Status::Failed, "failed: read\n"),
+        (&[50], Status::Failed, "failed: read\n"),
+    ];
+    for (failing, status, text) in rows {
+        let mut reader = Faulty {
+            inner: Pieces {
+                left: input.as_slice(),
+                piece: 65_536,
+            },
+            calls: 0,
+            failing,
+            kind: ErrorKind::Interrupted,
+        };
+        let mut writer = Vec::new(alloc);
+        assert_eq!(rt;
+            run(alloc, &["tsumego", "check"], &mut reader, &mut writer),
+            status
+        );
+        assert_eq!(rt; writer.as_slice(), text.as_bytes());
+    }
 }
 
 #[test]
 fn a_failed_write_has_its_status_alone(rt: HostRuntime) {
     let mut reader = "".as_bytes();
-    let words = ["tsumego", "check"];
+    let mut writer = Faulty {
+        inner: Vec::new(rt.alloc()),
+        calls: 0,
+        failing: &[0],
+        kind: ErrorKind::Other,
+    };
     assert_eq!(rt;
-        run(rt.alloc(), words.as_slice(), &mut reader, &mut Broken),
+        run(rt.alloc(), &["tsumego", "check"], &mut reader, &mut writer),
         Status::Failed
     );
+    assert!(rt; writer.inner.is_empty());
 }

@@ -21,6 +21,7 @@ mod walk;
 pub use canonical::{marks_node, marks_with_winner, past_nodes, problem_tree, turn_node};
 pub use fault::{ProblemFault, SingleProperty, TurnFaultCause};
 pub use main_line::{first_marked, has_setup, problem_node, values_at};
+pub use named_points::all_points;
 pub use node_change::turn_at;
-pub use read::read_problem;
+pub use read::{history_of, read_problem};
 pub use values::read_turn;

@@ -119,7 +119,7 @@ pub(crate) fn points_at(size: Size, name: &[u8], node: &SgfNode) -> PointSet
 }
 
 /// Every point of the board.
-pub(crate) fn all_points(size: Size) -> PointSet
+pub fn all_points(size: Size) -> PointSet
     ensures value { map (number_of size) result ≡ points size }
     ensures on_board { All (IsOn size) result }
 {

@@ -92,8 +92,8 @@ fn region_at(size: Size, node: &SgfNode) -> PointSet
     }
 }
 
-/// The colourings that have occurred.
-fn history_of<S: Seen>(alloc: Global, seen: &S) -> Result<Vec<Colouring>, AllocError>
+/// The colourings that have occurred, in their order, in memory of its own.
+pub fn history_of<S: Seen>(alloc: Global, seen: &S) -> Result<Vec<Colouring>, AllocError>
     ensures { IfOk result (λ history. history.items ≡ S.content seen.now) }
 {
     let mut history = Vec::new(alloc);

@@ -6,14 +6,14 @@ mod speed;
 mod tape;
 mod timing;
 
-use samples::{Sample, samples};
+use samples::{LONG_PAST, Sample, samples};
 use speed::{per_second, tenths};
 use std::convert::AsStr;
 use std::rt::Clock;
 use std::{env, io};
 use tape::{Step, record, states_of};
 use target_game::{Problem, Within, decide_within};
-use timing::{time_deciding, time_replaying};
+use timing::{time_deciding, time_making, time_replaying};
 
 /// How many turns are looked ahead where nothing is measured.
 const FEW_TURNS: u32 = 2;
@@ -29,7 +29,25 @@ fn main(rt: HostRuntime) -> io::Result<()> {
             try_once(&rt, &sample, &problem)?;
         }
     }
+    if is_measuring {
+        measure_pasts(&rt)?;
+    }
     Ok(())
+}
+
+/// Prints how long it takes to make a problem of a past, and of one four times as long.
+fn measure_pasts<R: Print + Clock + AllocGlobal>(rt: &R) -> io::Result<()> {
+    let past = LONG_PAST / 4;
+    let short = time_making(rt, past)?;
+    let long = time_making(rt, LONG_PAST)?;
+    let ratio = tenths(long, short);
+    let whole = ratio / 10;
+    let part = ratio % 10;
+    let short = short.as_micros();
+    let long = long.as_micros();
+    println!(rt;
+        "a problem of {past} positions before made in {short} microseconds, of {LONG_PAST} in {long}, {whole}.{part} times as long"
+    )
 }
 
 /// Says what is decided within few turns, and by how many states.
@@ -44,8 +62,9 @@ fn try_once<R: Print + AllocGlobal>(rt: &R, sample: &Sample, problem: &Problem) 
         states.saturating_sub(1),
     )?);
     let rows = sample.rows;
+    let past = sample.past;
     println!(rt;
-        "{rows} by {rows}: within {FEW_TURNS} turns {decision}, {states} states, with one fewer {short}"
+        "{rows} by {rows}, {past} positions before: within {FEW_TURNS} turns {decision}, {states} states, with one fewer {short}"
     )
 }
 
@@ -68,6 +87,7 @@ fn measure<R: Print + Clock + AllocGlobal>(
     let deciding = time_deciding(rt, problem, sample.turns)?;
     let replaying = time_replaying(rt, problem, tape.as_slice())?;
     let rows = sample.rows;
+    let past = sample.past;
     let turns = sample.turns;
     let decided = per_second(states, deciding);
     let replayed = per_second(states, replaying);
@@ -75,6 +95,6 @@ fn measure<R: Print + Clock + AllocGlobal>(
     let whole = ratio / 10;
     let part = ratio % 10;
     println!(rt;
-        "{rows} by {rows}, {turns} turns, {states} states: decided {decided} a second, replayed {replayed} a second, {whole}.{part} times as long"
+        "{rows} by {rows}, {past} positions before, {turns} turns, {states} states: decided {decided} a second, replayed {replayed} a second, {whole}.{part} times as long"
     )
 }

@@ -1,4 +1,4 @@
-//! The problems that are measured: one corner, on boards of three sizes.
+//! The problems that are measured: one corner, on boards of three sizes, and after many positions.
 
 ghost use Rattle.std.specs.Prelude.{◌≤◌};
 
@@ -16,20 +16,41 @@ const BLACK: &[u8] = b"dadbdccdbdad";
 /// The corner point and the five points between the stones.
 const REGION: &[u8] = b"aacacbbcaccc";
 
-/// A size of the board, and how many turns are looked ahead on it where it is measured.
+/// How many positions have occurred where there is a past: as many as a problem may have, with the present one.
+pub const LONG_PAST: u16 = 999;
+
+/// A size of the board, how many turns are looked ahead on it where it is measured, and how many other positions have occurred.
 #[derive(Clone, Copy)]
 pub struct Sample {
     pub rows: u8,
     pub turns: u32,
+    pub past: u16,
     ghost few: { turns ≤ 200 },
 }
 
 /// All of them.
-pub fn samples() -> [Sample; 3] {
+pub fn samples() -> [Sample; 4] {
     [
-        Sample { rows: 5, turns: 11 },
-        Sample { rows: 9, turns: 9 },
-        Sample { rows: 19, turns: 8 },
+        Sample {
+            rows: 5,
+            turns: 11,
+            past: 0,
+        },
+        Sample {
+            rows: 9,
+            turns: 9,
+            past: 0,
+        },
+        Sample {
+            rows: 9,
+            turns: 9,
+            past: LONG_PAST,
+        },
+        Sample {
+            rows: 19,
+            turns: 8,
+            past: 0,
+        },
     ]
 }
 
@@ -44,6 +65,9 @@ impl Sample {
         place_stones(&mut colouring, BLACK, Colour::Black);
         let mut history = Vec::new(alloc);
         history.push(colouring)?;
+        for number in 0..self.past {
+            history.push(earlier(colouring, number + 1))?;
+        }
         match Problem::new(
             history,
             0,
@@ -55,6 +79,31 @@ impl Sample {
             Ok(problem) => Ok(problem),
             Err(_) => Err(io::Error::from(ErrorKind::InvalidData)),
         }
+    }
+}
+
+/// The position with more black stones, on the last row but one and above it: one for each bit of the number.
+fn earlier(present: Colouring, number: u16) -> Colouring {
+    let mut position = present;
+    for column in 0..10u8 {
+        if number >> column & 1 == 1 {
+            place_far(&mut position, column);
+        }
+    }
+    position
+}
+
+/// A black stone on the last row but one; past its last column, two rows above its end.
+fn place_far(position: &mut Colouring, column: u8) {
+    let size = position.size();
+    let last = size.rows().saturating_sub(1);
+    let row = if column <= last {
+        last.saturating_sub(1)
+    } else {
+        last.saturating_sub(3)
+    };
+    if let Some(point) = size.point(column.min(last), row) {
+        position.set(point, Cell::Stone(Colour::Black));
     }
 }
 

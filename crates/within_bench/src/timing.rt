@@ -2,6 +2,7 @@
 
 ghost use Rattle.std.specs.Prelude.{◌≤◌};
 
+use crate::samples::Sample;
 use crate::tape::Step;
 use go_turns::{PlayBoard, PlaySeen, Record};
 use std::io;
@@ -9,6 +10,9 @@ use std::io::ErrorKind;
 use std::rt::Clock;
 use std::time::{Duration, Instant};
 use target_game::{Problem, decide_within};
+
+/// How often a problem is made to measure it.
+const MAKINGS: u32 = 20;
 
 /// How long it takes to decide who wins within so many turns.
 pub fn time_deciding<R: Clock + AllocGlobal>(
@@ -21,6 +25,20 @@ pub fn time_deciding<R: Clock + AllocGlobal>(
     let start = Instant::now(rt)?;
     let _decision = decide_within(rt.alloc(), problem, turns, u64::MAX)?;
     start.elapsed(rt)
+}
+
+/// How long it takes to make the problem of the widest board with this many positions before, on average.
+pub fn time_making<R: Clock + AllocGlobal>(rt: &R, past: u16) -> io::Result<Duration> {
+    let sample = Sample {
+        rows: 19,
+        turns: 0,
+        past,
+    };
+    let start = Instant::now(rt)?;
+    for _ in 0..MAKINGS {
+        let _problem = sample.problem(rt.alloc())?;
+    }
+    Ok(start.elapsed(rt)? / MAKINGS)
 }
 
 /// How long it takes to make the turns of the tape, and to take them back, on a record that asks nothing of the game.

@@ -1,13 +1,17 @@
-use Rattle.std.proofs.Common.{◌≡◌, ◌*◌, ◌<◌, ◌⊎◌, ℕ}
+use Rattle.std.proofs.Common.{◌≡◌, ◌≢◌, ◌-◌, ◌*◌, ◌<◌, ◌⊎◌, ℕ}
 use Rattle.go_points.specs.declared.Cell.TheVariants.{Empty}
 use Rattle.go_points.specs.Grid.{cell_at, side_of}
 use Rattle.go_chains.specs.Chains.{IsSettled}
 use Rattle.go_chains.proofs.change.fill_changed.Given as goal
 
-abbrev pub invariant-loop-number : goal.invariant-loop-number
-invariant-loop-number l = record {
+abbrev pub invariant-changed : goal.invariant-changed
+invariant-changed l = record {
   side : side_of l.colouring ≡ side_of l.fn.colouring;
   settled : IsSettled (side_of l.fn.colouring) l.colouring l.heads l.next l.counts;
   rest : (p : ℕ) → p < side_of l.fn.colouring * side_of l.fn.colouring → (cell_at l.colouring p ≡ Empty) ⊎ (cell_at l.colouring p ≡ cell_at l.wanted p);
   filled : (p : ℕ) → p < l.number → cell_at l.colouring p ≡ cell_at l.wanted p;
+  differs : l.number < side_of l.fn.colouring * side_of l.fn.colouring → cell_at l.colouring l.number ≢ cell_at l.wanted l.number;
 }
+
+abbrev pub decreases-changed : goal.decreases-changed
+decreases-changed l = side_of l.fn.colouring * side_of l.fn.colouring - l.number

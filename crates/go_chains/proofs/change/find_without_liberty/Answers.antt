@@ -1,17 +1,17 @@
-use Rattle.std.proofs.Common.{rules, ◌≡◌, ◌*◌, ◌<◌, ℕ, Some, slice_index, eq-eqb, sym, ◌∙◌, ap, arith}
+use Rattle.std.proofs.Common.{rules, ◌≡◌, ◌*◌, ◌<◌, ℕ, Some, sym, ◌∙◌, ap, arith}
 use Rattle.go_points.specs.Grid.{side_of}
 use Rattle.go_points.specs.Place.{number_of}
 use Rattle.go_points.proofs.Liberties.{first_found, first_none}
 use Rattle.go_chains.proofs.change.find_without_liberty.Goals as goal
 
-pub returns-then-counts-head-eq0-clause-found : goal.returns-then-counts-head-eq0-clause-found
-returns-then-counts-head-eq0-clause-found c =
+pub returns-then-lacks_liberty-clause-found : goal.returns-then-lacks_liberty-clause-found
+returns-then-lacks_liberty-clause-found c =
     let cells = c.args.colouring.now in
     let n = side_of cells in
     let i = c.loop-number.number in
     let at : number_of n c.point_at.result ≡ i = ap (λ (m : ℕ). number_of m c.point_at.result) (sym c.size-size.ensures.value) ∙ c.point_at.ensures.number_back in
     let on : i < n * n = search rules in
-    first_found n cells i on c.loop-number.invariant (c.requires.tells.tells i on c.if-head.true ∙ eq-eqb (slice_index c.args.counts.now (slice_index c.args.heads.now i)) 0 c.if-counts-head-eq0.true) ∙ ap Some (sym at)
+    first_found n cells i on c.loop-number.invariant (sym c.lacks_liberty.ensures ∙ c.if-lacks_liberty.true) ∙ ap Some (sym at)
 
 pub returns-clause-none : goal.returns-clause-none
 returns-clause-none c =

@@ -7,8 +7,8 @@ use Rattle.go_chains.specs.Chains.{IsSettled, TellsLiberties}
 use Rattle.go_chains.proofs.Lacking.{settled_tells, settled_board, board_none}
 use Rattle.go_chains.proofs.change.take_over.Goals as goal
 
-pub find_without_liberty-requires-clause-tells : goal.find_without_liberty-requires-clause-tells
-find_without_liberty-requires-clause-tells c =
+pub find_after-requires-clause-tells : goal.find_after-requires-clause-tells
+find_after-requires-clause-tells c =
     let n = side_of c.args.colouring.now in
     let now = c.change_to.new.colouring in
     let room : n * n ≤ MAX_POINTS = search rules in
@@ -37,3 +37,10 @@ returns-in-Some-clause-board c =
     subst (λ (m : ℕ). IsSettled m last c.change_to-in-Some.new.heads c.change_to-in-Some.new.next c.change_to-in-Some.new.counts) side c.change_to-in-Some.ensures.settled in
     let none = board_none n before c.args.heads.now c.args.next.now c.args.counts.now room c.requires.board in
     settled_board n last c.change_to-in-Some.new.heads c.change_to-in-Some.new.next c.change_to-in-Some.new.counts room settled (ap (first_without_liberty n) (c.change_to-in-Some.ensures.value ∙ c.colouring.ensures) ∙ none)
+
+pub find_after-requires-clause-lived : goal.find_after-requires-clause-lived
+find_after-requires-clause-lived c =
+    let before = c.args.colouring.now in
+    let n = side_of before in
+    let room : n * n ≤ MAX_POINTS = search rules in
+    ap (λ (d : List Cell). first_without_liberty (side_of d) d) c.colouring.ensures ∙ board_none n before c.args.heads.now c.args.next.now c.args.counts.now room c.requires.board

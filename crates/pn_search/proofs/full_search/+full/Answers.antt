@@ -1,21 +1,18 @@
-use Rattle.std.proofs.Common.{◌≡◌, ◌<◌, ◌≤◌, ◌+◌, ◌-◌, ◌*◌, ℕ, true, false, None, IfOk, OnOk, refl, [], ◌∷◌, sym, ap, ◌∙◌, subst, arith}
-use Rattle.go_points.specs.declared.Turn.TheVariants.{At, Pass}
-use Rattle.go_points.specs.Place.{IsOn, number_of}
-use Rattle.go_points.specs.Ply.{Ply, pass, move, ply_of}
+use Rattle.std.proofs.Common.{◌≡◌, ◌≤◌, ◌+◌, ◌-◌, ℕ, false, None, IfOk, OnOk, refl, ◌∷◌, sym, ap, ◌∙◌, subst, arith}
+use Rattle.go_points.specs.Ply.{ply_of}
 use Rattle.target_game.specs.State.{Line}
-use Rattle.target_game.specs.Legal.{legal, legal_turns}
+use Rattle.target_game.specs.Legal.{legal_turns}
 use Rattle.target_game.specs.Next.{next}
 use Rattle.target_game.specs.Over.{over}
 use Rattle.target_game.specs.Wins.{nodes}
-use Rattle.target_game.proofs.Playing.{ply_at}
-use Rattle.target_game.proofs.Tallies.{turns_left, left_here, left_later, left_last, if_ok_map}
+use Rattle.target_game.specs.Left.{turns_due}
+use Rattle.target_game.proofs.Due.{turns_begun as due_begun}
+use Rattle.target_game.proofs.Tallies.{if_ok_map}
 use Rattle.proof_cert.proofs.Certificates.{node_of_won}
 use Rattle.proof_cert.specs.Claim.{Node}
 use Rattle.pn_search.specs.Shown.{Shows, IsFound, IsTurnSeen, nodes_behind}
-use Rattle.pn_search.proofs.Showing.{nodes_some, nodes_then, open_last, shows_won, pass_won, on_ok_any, on_ok_map, turns_begun, turns_same, turns_more, turns_steps, turns_found}
+use Rattle.pn_search.proofs.Showing.{nodes_some, nodes_then, open_last, shows_won, pass_won, on_ok_any, on_ok_map, turns_begun, turns_more, turns_steps, turns_found}
 use Rattle.pn_search.proofs.full_search.+full.Goals as goal
-use Rattle.pn_search.proofs.Children.{child_legal, child_barred}
-use Rattle.pn_search.proofs.full_search.+full.Goals.{search_turns-in-Some+in_ok-found+in_default-2, search_turns-in_default}
 
 pub search_state-returns-in-Some-clause-found : goal.search_state-returns-in-Some-clause-found
 search_state-returns-in-Some-clause-found t c =
@@ -72,101 +69,53 @@ search_state-returns-clause-found t c =
     (λ f h. subst (λ (j : ℕ). IsFound s j c.args.left.now f) k (subst (λ (j : ℕ). IsFound s (c.args.turns - 1 + 1) j f) left h))
     (subst (λ (v : Line). IfOk c.search_turns.result (λ f. IsFound v.state (c.args.turns - 1 + 1) (c.args.left.now - 1 + 1) f)) c.in_ok-pass_wins.ensures.state c.search_turns.ensures.found)
 
-pub search_turns-loop-number-init : goal.search_turns-loop-number-init
-search_turns-loop-number-init t c =
+pub search_turns-loop-next-init : goal.search_turns-loop-next-init
+search_turns-loop-next-init t c =
     let s = c.args.state.now.state in
-    (refl, turns_begun s c.args.turns c.args.left.now (record { is_open = false; replies = c.new.result }) refl c.new.ensures.items)
+    (refl, turns_begun s c.args.turns c.args.left.now (turns_due s c.all-turns_left.result.next) (record { is_open = false; replies = c.new.result }) (ap (turns_due s) c.all-turns_left.ensures ∙ due_begun s) refl c.new.ensures.items)
+
+pub search_turns-loop-next-preserved : goal.search_turns-loop-next-preserved
+search_turns-loop-next-preserved t c =
+    let s = c.args.state.now.state in
+    let k = c.args.turns in
+    let turn = c.in-Some.next.0 in
+    let ply = ply_of s.game.size turn in
+    let kept : c.loop-next.state ≡ c.args.state.now = c.loop-next.invariant.0 in
+    let due : turns_due s c.loop-next.turns_left.next ≡ ply ∷ turns_due s c.next_child.new.left.next = subst (λ (v : Line). turns_due v.state c.loop-next.turns_left.next ≡ ply_of v.state.game.size turn ∷ turns_due v.state c.next_child.new.left.next) kept c.in-Some.ensures.takes.0 in
+    let steps : c.loop-next.left ≤ c.search_turn.new.left + nodes (next s ply) k = subst (λ (v : Line). c.loop-next.left ≤ c.search_turn.new.left + nodes (next v.state (ply_of v.state.game.size turn)) k) kept c.in_ok-found.ensures.steps in
+    let seen = subst (λ (v : Line). IsTurnSeen v.state k (ply_of v.state.game.size turn) c.loop-next.left c.loop-next.seen c.search_turn.new.seen c.in_ok-found.field-0) kept c.in_ok-found.ensures.seen in (
+      c.in_ok-found.ensures.state ∙ kept,
+      turns_more s k c.args.left.now c.loop-next.left c.search_turn.new.left ply (turns_due s c.loop-next.turns_left.next) (turns_due s c.next_child.new.left.next) c.loop-next.seen c.search_turn.new.seen due c.loop-next.invariant.1 c.in_ok-found.ensures.fewer steps
+          (subst (λ r. IsTurnSeen s k ply c.loop-next.left c.loop-next.seen c.search_turn.new.seen r) c.in_default-2.is seen),
+    )
 
 pub search_turns-returns-in-Some-2-clause-steps : goal.search_turns-returns-in-Some-2-clause-steps
 search_turns-returns-in-Some-2-clause-steps t c =
     let s = c.args.state.now.state in
-    let n = s.game.size in
-    let i = c.loop-number.number in
-    let p = c.point_at-point.result in
-    let same : c.size-size.result ≡ n = c.size-size.ensures in
-    let square : c.size-size.result * c.size-size.result ≡ n * n = ap (λ (m : ℕ). m * m) same in
-    let low : i < n * n = omega (arith, c.loop-number-test.true, c.area-number-end.ensures.value, square) in
-    let at : number_of n p ≡ i = ap (λ (m : ℕ). number_of m p) (sym same) ∙ c.point_at-point.ensures.number_back in
-    let on : IsOn n p = subst (λ (m : ℕ). IsOn m p) same c.point_at-point.ensures.on_board in
-    let kept : c.loop-number.state ≡ c.args.state.now = c.loop-number.invariant.0 in
-    let free : legal s (move (number_of n p)) ≡ true = subst (λ (u : Ply). legal s u ≡ true) (ply_at n p on) (subst (λ (v : Line). legal v.state (ply_of v.state.game.size (At p)) ≡ true) kept (child_legal c.loop-number.state.state (ply_of c.loop-number.state.state.game.size (At p)) c.in-Some.child (sym c.child.ensures ∙ c.in-Some.is))) in
-    let here : turns_left s i ≡ ply_of n (At p) ∷ turns_left s (i + 1) = left_here s i p low at on free in
-    let steps : c.loop-number.left ≤ c.search_turn.new.left + nodes (next s (ply_of n (At p))) c.args.turns = subst (λ (v : Line). c.loop-number.left ≤ c.search_turn.new.left + nodes (next v.state (ply_of v.state.game.size (At p))) c.args.turns) kept c.in_ok-found.ensures.steps in
-    turns_steps s c.args.turns i c.args.left.now c.loop-number.left c.search_turn.new.left (ply_of n (At p)) (turns_left s (i + 1)) c.loop-number.seen here c.loop-number.invariant.1 steps
+    let k = c.args.turns in
+    let turn = c.in-Some.next.0 in
+    let ply = ply_of s.game.size turn in
+    let kept : c.loop-next.state ≡ c.args.state.now = c.loop-next.invariant.0 in
+    let due : turns_due s c.loop-next.turns_left.next ≡ ply ∷ turns_due s c.next_child.new.left.next = subst (λ (v : Line). turns_due v.state c.loop-next.turns_left.next ≡ ply_of v.state.game.size turn ∷ turns_due v.state c.next_child.new.left.next) kept c.in-Some.ensures.takes.0 in
+    let steps : c.loop-next.left ≤ c.search_turn.new.left + nodes (next s ply) k = subst (λ (v : Line). c.loop-next.left ≤ c.search_turn.new.left + nodes (next v.state (ply_of v.state.game.size turn)) k) kept c.in_ok-found.ensures.steps in
+    turns_steps s k c.args.left.now c.loop-next.left c.search_turn.new.left ply (turns_due s c.loop-next.turns_left.next) (turns_due s c.next_child.new.left.next) c.loop-next.seen due c.loop-next.invariant.1 steps
 
 pub search_turns-returns-in-Some-2-clause-found : goal.search_turns-returns-in-Some-2-clause-found
 search_turns-returns-in-Some-2-clause-found t c =
     let s = c.args.state.now.state in
-    let n = s.game.size in
-    let i = c.loop-number.number in
-    let p = c.point_at-point.result in
-    let same : c.size-size.result ≡ n = c.size-size.ensures in
-    let square : c.size-size.result * c.size-size.result ≡ n * n = ap (λ (m : ℕ). m * m) same in
-    let low : i < n * n = omega (arith, c.loop-number-test.true, c.area-number-end.ensures.value, square) in
-    let at : number_of n p ≡ i = ap (λ (m : ℕ). number_of m p) (sym same) ∙ c.point_at-point.ensures.number_back in
-    let on : IsOn n p = subst (λ (m : ℕ). IsOn m p) same c.point_at-point.ensures.on_board in
-    let kept : c.loop-number.state ≡ c.args.state.now = c.loop-number.invariant.0 in
-    let free : legal s (move (number_of n p)) ≡ true = subst (λ (u : Ply). legal s u ≡ true) (ply_at n p on) (subst (λ (v : Line). legal v.state (ply_of v.state.game.size (At p)) ≡ true) kept (child_legal c.loop-number.state.state (ply_of c.loop-number.state.state.game.size (At p)) c.in-Some.child (sym c.child.ensures ∙ c.in-Some.is))) in
-    let here : turns_left s i ≡ ply_of n (At p) ∷ turns_left s (i + 1) = left_here s i p low at on free in
-    let seen = subst (λ (v : Line). IsTurnSeen v.state c.args.turns (ply_of v.state.game.size (At p)) c.loop-number.left c.loop-number.seen c.search_turn.new.seen c.in_ok-found.field-0) kept c.in_ok-found.ensures.seen in
-    turns_found s c.args.turns i c.args.left.now c.loop-number.left (ply_of n (At p)) (turns_left s (i + 1)) c.loop-number.seen c.search_turn.new.seen c.in-Some-2.found c.requires.nobody here c.loop-number.invariant.1
-    (subst (λ r. IsTurnSeen s c.args.turns (ply_of n (At p)) c.loop-number.left c.loop-number.seen c.search_turn.new.seen r) c.in-Some-2.is seen)
+    let k = c.args.turns in
+    let turn = c.in-Some.next.0 in
+    let ply = ply_of s.game.size turn in
+    let kept : c.loop-next.state ≡ c.args.state.now = c.loop-next.invariant.0 in
+    let due : turns_due s c.loop-next.turns_left.next ≡ ply ∷ turns_due s c.next_child.new.left.next = subst (λ (v : Line). turns_due v.state c.loop-next.turns_left.next ≡ ply_of v.state.game.size turn ∷ turns_due v.state c.next_child.new.left.next) kept c.in-Some.ensures.takes.0 in
+    let seen = subst (λ (v : Line). IsTurnSeen v.state k (ply_of v.state.game.size turn) c.loop-next.left c.loop-next.seen c.search_turn.new.seen c.in_ok-found.field-0) kept c.in_ok-found.ensures.seen in
+    turns_found s k c.args.left.now c.loop-next.left ply (turns_due s c.loop-next.turns_left.next) (turns_due s c.next_child.new.left.next) c.loop-next.seen c.search_turn.new.seen c.in-Some-2.found c.requires.nobody due c.loop-next.invariant.1
+    (subst (λ r. IsTurnSeen s k ply c.loop-next.left c.loop-next.seen c.search_turn.new.seen r) c.in-Some-2.is seen)
 
-pub search_turns-loop-number-preserved : goal.search_turns-loop-number-preserved
-search_turns-loop-number-preserved t c =
-    let s = c.args.state.now.state in
-    let n = s.game.size in
-    let i = c.loop-number.number in
-    let p = c.point_at-point.result in
-    let same : c.size-size.result ≡ n = c.size-size.ensures in
-    let square : c.size-size.result * c.size-size.result ≡ n * n = ap (λ (m : ℕ). m * m) same in
-    let low : i < n * n = omega (arith, c.loop-number-test.true, c.area-number-end.ensures.value, square) in
-    let at : number_of n p ≡ i = ap (λ (m : ℕ). number_of m p) (sym same) ∙ c.point_at-point.ensures.number_back in
-    let on : IsOn n p = subst (λ (m : ℕ). IsOn m p) same c.point_at-point.ensures.on_board in
-    let kept : c.loop-number.state ≡ c.args.state.now = c.loop-number.invariant.0 in
-    elim c.match-child.branch [
-      | search_turns-in-Some+in_ok-found+in_default-2 w ↦
-          let free : legal s (move (number_of n p)) ≡ true = subst (λ (u : Ply). legal s u ≡ true) (ply_at n p on) (subst (λ (v : Line). legal v.state (ply_of v.state.game.size (At p)) ≡ true) kept (child_legal c.loop-number.state.state (ply_of c.loop-number.state.state.game.size (At p)) w.in-Some.child (sym c.child.ensures ∙ w.in-Some.is))) in
-          let here : turns_left s i ≡ ply_of n (At p) ∷ turns_left s (i + 1) = left_here s i p low at on free in
-          let steps : c.loop-number.left ≤ w.search_turn.new.left + nodes (next s (ply_of n (At p))) c.args.turns = subst (λ (v : Line). c.loop-number.left ≤ w.search_turn.new.left + nodes (next v.state (ply_of v.state.game.size (At p))) c.args.turns) kept w.in_ok-found.ensures.steps in
-          let seen = subst (λ (v : Line). IsTurnSeen v.state c.args.turns (ply_of v.state.game.size (At p)) c.loop-number.left c.loop-number.seen w.search_turn.new.seen w.in_ok-found.field-0) kept w.in_ok-found.ensures.seen in
-          rw (w.state-is, w.left-is, w.seen-is) (
-            w.in_ok-found.ensures.state ∙ kept,
-            turns_more s c.args.turns i (i + 1) c.args.left.now c.loop-number.left w.search_turn.new.left (ply_of n (At p)) c.loop-number.seen w.search_turn.new.seen here c.loop-number.invariant.1 w.in_ok-found.ensures.fewer steps
-                (subst (λ r. IsTurnSeen s c.args.turns (ply_of n (At p)) c.loop-number.left c.loop-number.seen w.search_turn.new.seen r) w.in_default-2.is seen),
-          )
-      | search_turns-in_default w ↦
-          let barred : legal s (move (number_of n p)) ≡ false = subst (λ (u : Ply). legal s u ≡ false) (ply_at n p on) (subst (λ (v : Line). legal v.state (ply_of v.state.game.size (At p)) ≡ false) kept (child_barred c.loop-number.state.state (ply_of c.loop-number.state.state.game.size (At p)) (sym c.child.ensures ∙ w.in_default.is))) in
-          rw (w.state-is, w.left-is, w.seen-is) (
-            kept,
-            turns_same s c.args.turns i (i + 1) c.args.left.now c.loop-number.left c.loop-number.seen (left_later s i p low at barred) c.loop-number.invariant.1,
-          )
-    ]
-
-pub search_turns-returns-in-Some-3-clause-found : goal.search_turns-returns-in-Some-3-clause-found
-search_turns-returns-in-Some-3-clause-found t c =
-    let s = c.args.state.now.state in
-    let n = s.game.size in
-    let i = c.loop-number.number in
-    let same : c.size-size.result ≡ n = c.size-size.ensures in
-    let square : c.size-size.result * c.size-size.result ≡ n * n = ap (λ (m : ℕ). m * m) same in
-    let past : n * n ≤ i = omega (arith, c.loop-number-test.false, c.area-number-end.ensures.value, square) in
-    let kept : c.loop-number.state ≡ c.args.state.now = c.loop-number.invariant.0 in
-    let seen = subst (λ (v : Line). IsTurnSeen v.state c.args.turns (ply_of v.state.game.size Pass) c.loop-number.left c.loop-number.seen c.search_turn-2.new.seen c.in_ok-found-2.field-0) kept c.in_ok-found-2.ensures.seen in
-    turns_found s c.args.turns i c.args.left.now c.loop-number.left pass [] c.loop-number.seen c.search_turn-2.new.seen c.in-Some-3.found c.requires.nobody (left_last s i past) c.loop-number.invariant.1
-    (subst (λ r. IsTurnSeen s c.args.turns pass c.loop-number.left c.loop-number.seen c.search_turn-2.new.seen r) c.in-Some-3.is seen)
-
-pub search_turns-returns-in-None-clause-found : goal.search_turns-returns-in-None-clause-found
-search_turns-returns-in-None-clause-found t c =
-    let s = c.args.state.now.state in
-    let n = s.game.size in
-    let i = c.loop-number.number in
-    let same : c.size-size.result ≡ n = c.size-size.ensures in
-    let square : c.size-size.result * c.size-size.result ≡ n * n = ap (λ (m : ℕ). m * m) same in
-    let past : n * n ≤ i = omega (arith, c.loop-number-test.false, c.area-number-end.ensures.value, square) in
-    let kept : c.loop-number.state ≡ c.args.state.now = c.loop-number.invariant.0 in
-    let seen = subst (λ (v : Line). IsTurnSeen v.state c.args.turns (ply_of v.state.game.size Pass) c.loop-number.left c.loop-number.seen c.search_turn-2.new.seen c.in_ok-found-2.field-0) kept c.in_ok-found-2.ensures.seen in
-    subst (λ (v : Line). IsFound v.state (c.args.turns + 1) (c.args.left.now + 1) c.decided.result) (c.in_ok-found-2.ensures.state ∙ kept) (c.decided.ensures (c.args.left.now + 1))
+pub search_turns-returns-clause-found : goal.search_turns-returns-clause-found
+search_turns-returns-clause-found t c =
+    let kept : c.loop-next.state ≡ c.args.state.now = c.loop-next.invariant.0 in
+    subst (λ (v : Line). IsFound v.state (c.args.turns + 1) (c.args.left.now + 1) c.decided.result) kept (c.decided.ensures (c.args.left.now + 1))
 
 pub search_turn-returns-then-is_settled-clause-seen : goal.search_turn-returns-then-is_settled-clause-seen
 search_turn-returns-then-is_settled-clause-seen t c =

@@ -1,4 +1,5 @@
-use Rattle.std.proofs.Common.{◌≡◌, ◌+◌, ◌*◌}
+use Rattle.std.proofs.Common.{◌≡◌, ◌+◌, ◌*◌, length}
+use Rattle.target_game.specs.Left.{turns_due}
 use Rattle.pn_search.proofs.Showing.{TurnsSeen}
 use Rattle.pn_search.proofs.full_search.+full.Given as goal
 
@@ -11,6 +12,9 @@ decreases-search_turn a = 3 * a.turns + 1
 abbrev pub decreases-search_turns : goal.decreases-search_turns
 decreases-search_turns a = 3 * a.turns + 2
 
-abbrev pub invariant-search_turns-loop-number : goal.invariant-search_turns-loop-number
-invariant-search_turns-loop-number l =
-    (l.state ≡ l.initial.state) × TurnsSeen l.initial.state.state l.turns l.number l.initial.left l.left l.seen
+abbrev pub invariant-search_turns-loop-next : goal.invariant-search_turns-loop-next
+invariant-search_turns-loop-next l =
+    (l.state ≡ l.initial.state) × TurnsSeen l.initial.state.state l.turns (turns_due l.initial.state.state l.turns_left.next) l.initial.left l.left l.seen
+
+abbrev pub decreases-search_turns-loop-next : goal.decreases-search_turns-loop-next
+decreases-search_turns-loop-next l = length (turns_due l.initial.state.state l.turns_left.next)

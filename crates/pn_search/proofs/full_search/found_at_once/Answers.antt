@@ -1,4 +1,4 @@
-use Rattle.std.proofs.Common.{◌≡◌, refl, sym, ap, ◌∙◌, subst}
+use Rattle.std.proofs.Common.{sym, ◌∙◌, subst}
 use Rattle.proof_cert.specs.Claim.{Node}
 use Rattle.proof_cert.proofs.Certificates.{node_of_won}
 use Rattle.pn_search.specs.Shown.{Shows, NeitherWins}

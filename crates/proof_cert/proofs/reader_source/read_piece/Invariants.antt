@@ -1,7 +1,6 @@
 use Rattle.std.proofs.Common.{◌≡◌, length}
-use Rattle.std.specs.Io.KnownBytes.{Consumes}
-use Rattle.proof_cert.specs.Streamed.{HasNoFeed}
+use Rattle.proof_cert.specs.Streamed.{HasNoFeed, Uses}
 use Rattle.proof_cert.proofs.reader_source.read_piece.Given as goal
 
 abbrev pub invariant-loop : goal.invariant-loop
-invariant-loop g l = HasNoFeed l.line.items × Consumes l.initial.bytes l.bytes l.line.items × (length l.line.items ≡ l.counter)
+invariant-loop g l = HasNoFeed l.line.items × Uses l.initial.bytes l.bytes l.line.items × (length l.line.items ≡ l.counter)

@@ -1,11 +1,13 @@
-use Rattle.std.proofs.Common.{◌≡◌, List}
+use Rattle.std.proofs.Common.{◌≡◌, List, length}
 use Rattle.go_points.specs.Ply.{Ply}
 use Rattle.target_game.specs.Legal.{legal_turns}
-use Rattle.target_game.proofs.Tallies.{turns_left}
+use Rattle.target_game.specs.Left.{turns_due}
 use Rattle.solution_tree.specs.Asked.{Tells}
 use Rattle.solution_tree.specs.Audit.{missing}
 use Rattle.solution_tree.proofs.questions.missing_reply.Given as goal
 
-abbrev pub invariant-loop-number : goal.invariant-loop-number
-invariant-loop-number l =
-    (turns : List Ply) → Tells l.state.state.game.size l.given turns → missing turns (turns_left l.state.state l.number) ≡ missing turns (legal_turns l.state.state)
+abbrev pub invariant-loop-turn : goal.invariant-loop-turn
+invariant-loop-turn l = (given : List Ply) → Tells l.state.state.game.size l.given given → missing given (turns_due l.state.state l.turns_left.next) ≡ missing given (legal_turns l.state.state)
+
+abbrev pub decreases-loop-turn : goal.decreases-loop-turn
+decreases-loop-turn l = length (turns_due l.state.state l.turns_left.next)

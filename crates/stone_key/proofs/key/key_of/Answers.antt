@@ -11,7 +11,7 @@ pub loop-number-preserved : goal.loop-number-preserved
 loop-number-preserved c =
     let before = c.args.colouring.now in
     let i = c.loop-number.number in
-    let held : c.get.result ≡ cell_at before i = search rules in
+    let held : c.cell.result ≡ cell_at before i = c.cell.ensures in
     ap (λ w. bit_xor c.loop-number.key w) (c.cell_word-key.ensures ∙ ap (λ x. word_for x (word_after (2 * i)) (word_after (2 * i + 1))) held)
     ∙ ap (λ k. bit_xor k (word_for (cell_at before i) (word_after (2 * i)) (word_after (2 * i + 1)))) c.loop-number.invariant
     ∙ sym (key_of_more before i)

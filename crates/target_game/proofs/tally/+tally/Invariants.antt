@@ -1,20 +1,20 @@
-use Rattle.std.proofs.Common.{◌≡◌, ◌+◌, ◌*◌}
+use Rattle.std.proofs.Common.{◌≡◌, ◌+◌, ◌*◌, length}
 use Rattle.target_game.specs.Legal.{legal_turns}
+use Rattle.target_game.specs.Left.{turns_due}
 use Rattle.target_game.specs.Tally.{before_turns, with_turns}
-use Rattle.target_game.proofs.Tallies.{turns_left}
 use Rattle.target_game.proofs.tally.+tally.Given as goal
 
 abbrev pub decreases-tally_state : goal.decreases-tally_state
-decreases-tally_state a = 3 * a.turns
-
-abbrev pub decreases-tally_turn : goal.decreases-tally_turn
-decreases-tally_turn a = 3 * a.turns + 1
+decreases-tally_state a = 2 * a.turns
 
 abbrev pub decreases-tally_turns : goal.decreases-tally_turns
-decreases-tally_turns a = 3 * a.turns + 2
+decreases-tally_turns a = 2 * a.turns + 1
 
-abbrev pub invariant-tally_turns-loop-number : goal.invariant-tally_turns-loop-number
-invariant-tally_turns-loop-number l =
+abbrev pub invariant-tally_turns-loop-turn : goal.invariant-tally_turns-loop-turn
+invariant-tally_turns-loop-turn l =
     (l.state ≡ l.initial.state)
-    × (with_turns l.initial.state.state l.turns (turns_left l.initial.state.state l.number) l.seen
-    ≡ with_turns l.initial.state.state l.turns (legal_turns l.initial.state.state) (before_turns l.initial.state.state.mover l.initial.left))
+    × (with_turns l.initial.state.state l.turns (turns_due l.initial.state.state l.turns_left.next) l.seen
+    ≡ with_turns l.initial.state.state l.turns (legal_turns l.initial.state.state) (before_turns l.initial.state.state.mover l.left))
+
+abbrev pub decreases-tally_turns-loop-turn : goal.decreases-tally_turns-loop-turn
+decreases-tally_turns-loop-turn l = length (turns_due l.initial.state.state l.turns_left.next)

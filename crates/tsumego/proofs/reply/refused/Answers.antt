@@ -5,4 +5,4 @@ use Rattle.tsumego.proofs.Running.{refused_says}
 use Rattle.tsumego.proofs.reply.refused.Goals as goal
 
 pub returns-in-Refused : goal.returns-in-Refused
-returns-in-Refused c = λ command bytes none. refused_says command bytes (string_bytes c.in-Refused.text) (subst (HasNoRecord bytes) c.in-Refused.is none)
+returns-in-Refused c = λ command bytes whole none. refused_says command bytes (string_bytes c.in-Refused.text) whole (subst (HasNoRecord bytes) c.in-Refused.is none)

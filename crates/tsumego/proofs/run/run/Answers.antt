@@ -1,15 +1,18 @@
 use Rattle.std.proofs.Common.{sym, subst, refl, map}
 use Rattle.tsumego.specs.CommandLine.{command_of, IsWordsFault}
 use Rattle.tsumego.specs.Texts.{no_memory_text}
+use Rattle.tsumego.proofs.Judged.{may_ask_nothing}
 use Rattle.tsumego.proofs.Running.{ran_no_words, ran_no_memory}
 use Rattle.tsumego.proofs.run.run.Goals as goal
 
 pub returns-in-Err-Words : goal.returns-in-Err-Words
 returns-in-Err-Words g c =
-    ran_no_words (g.W.Write.contents c.args.writer.now) (g.W.Write.contents c.write_text.new.writer) c.as_bytes.result.now (g.R.Read.remaining c.args.reader.now) (command_of (map g.S.AsStr.text c.args.words.now)) c.write_text.result
-    (c.in-Err-Words.ensures.refused (subst IsWordsFault (sym c.in-Err-Words.field-0-is) tt)) c.write_text.ensures
+    let ran = ran_no_words (g.W.Write.contents c.args.writer.now) (g.W.Write.contents c.write_text.new.writer) c.as_bytes.result.now (g.R.Read.remaining c.args.reader.now) (command_of (map g.S.AsStr.text c.args.words.now)) c.write_text.result
+    (c.in-Err-Words.ensures.refused (subst IsWordsFault (sym c.in-Err-Words.field-0-is) tt)) c.write_text.ensures in
+    record { ran = ran; asked = may_ask_nothing (command_of (map g.S.AsStr.text c.args.words.now)) (g.R.Read.remaining c.args.reader.now) }
 
 pub returns-in-Err-Memory : goal.returns-in-Err-Memory
 returns-in-Err-Memory g c =
-    ran_no_memory (g.W.Write.contents c.args.writer.now) (g.W.Write.contents c.write_text-in-Err-Memory.new.writer) no_memory_text (g.R.Read.remaining c.args.reader.now) (command_of (map g.S.AsStr.text c.args.words.now)) c.write_text-in-Err-Memory.result
-    refl c.write_text-in-Err-Memory.ensures
+    let ran = ran_no_memory (g.W.Write.contents c.args.writer.now) (g.W.Write.contents c.write_text-in-Err-Memory.new.writer) no_memory_text (g.R.Read.remaining c.args.reader.now) (command_of (map g.S.AsStr.text c.args.words.now)) c.write_text-in-Err-Memory.result
+    refl c.write_text-in-Err-Memory.ensures in
+    record { ran = ran; asked = may_ask_nothing (command_of (map g.S.AsStr.text c.args.words.now)) (g.R.Read.remaining c.args.reader.now) }

@@ -1,11 +1,11 @@
-use Rattle.std.proofs.Common.{◌≡◌, ◌≤◌, map, filter}
-use Rattle.std.specs.List.{range_with_len}
-use Rattle.arrayvec.specs.ArrayVec.{array_vec_len}
-use Rattle.go_points.specs.Ply.{move, ply_of}
-use Rattle.target_game.specs.Legal.{legal}
+use Rattle.std.proofs.Common.{◌≡◌, ◌++◌, length, map}
+use Rattle.go_points.specs.Ply.{ply_of}
+use Rattle.target_game.specs.Legal.{legal_turns}
+use Rattle.target_game.specs.Left.{turns_due}
 use Rattle.target_game.proofs.state.State.turns.Given as goal
 
-abbrev pub invariant-loop-number : goal.invariant-loop-number
-invariant-loop-number g l =
-    (array_vec_len l.all ≤ l.number)
-    × (map (ply_of l.self.state.game.size) l.all.items ≡ map move (filter (λ p. legal l.self.state (move p)) (range_with_len 0 l.number)))
+abbrev pub invariant-loop-turn : goal.invariant-loop-turn
+invariant-loop-turn g l = map (ply_of l.self.state.game.size) l.all.items ++ turns_due l.self.state l.left.next ≡ legal_turns l.self.state
+
+abbrev pub decreases-loop-turn : goal.decreases-loop-turn
+decreases-loop-turn g l = length (turns_due l.self.state l.left.next)

@@ -2,10 +2,10 @@ use Rattle.std.proofs.Common.{rules, ℕ, ◌≡◌, ◌∙◌, sym, ap, subst, 
 use Rattle.std.specs.List.{list_all}
 use Rattle.go_points.specs.declared.Cell.TheVariants.{Stone}
 use Rattle.go_points.specs.declared.Colour.{Colour}
-use Rattle.go_points.specs.Grid.{side_of, cell_at, same_cell, opponent_of}
+use Rattle.go_points.specs.Grid.{side_of, cell_at, same_cell}
 use Rattle.go_points.specs.Place.{number_of}
-use Rattle.target_game.specs.State.{Line, GameState}
-use Rattle.target_game.specs.Over.{over, targets_stand}
+use Rattle.target_game.specs.State.{Line}
+use Rattle.target_game.specs.Over.{over}
 use Rattle.target_game.specs.Kept.{kept_state, kept_game}
 use Rattle.target_game.proofs.Playing.{stand_is, winner_is}
 use Rattle.target_game.proofs.state.State.winner_at.Goals as goal

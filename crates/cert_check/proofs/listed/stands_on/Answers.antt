@@ -1,6 +1,0 @@
-use Rattle.std.proofs.Common.{◌∙◌}
-use Rattle.cert_check.proofs.Ascending.{searched_list}
-use Rattle.cert_check.proofs.listed.stands_on.Goals as goal
-
-pub returns : goal.returns
-returns c = c.is_ok.ensures.value ∙ searched_list c.args.list.now c.args.colouring.now c.binary_search.result c.requires c.binary_search.ensures.bound c.binary_search.ensures.position

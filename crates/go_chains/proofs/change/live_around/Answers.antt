@@ -1,0 +1,23 @@
+use Rattle.std.proofs.Common.{◌≡◌, ℕ, map, take, sym, ◌∙◌, ap, subst}
+use Rattle.std.proofs.lemmas.List.{take_all}
+use Rattle.go_points.specs.Grid.{neighbours, side_of}
+use Rattle.go_points.specs.Place.{number_of}
+use Rattle.go_points.proofs.Cells.{neighbours_member}
+use Rattle.go_chains.specs.Chains.{IsIn}
+use Rattle.go_chains.proofs.Counts.{member_in}
+use Rattle.go_chains.proofs.change.live_around.Goals as goal
+
+pub returns : goal.returns
+returns c = λ yes.
+    let n = side_of c.args.colouring.now in
+    let p = c.args.number in
+    let s = c.size-size.result in
+    let items = c.as_slice-neighbour-items.result.now in
+    let all : take c.loop-neighbour.neighbour-index items ≡ items = take_all c.loop-neighbour.neighbour-index items c.loop-neighbour-test.false in
+    let those : map (number_of n) (take c.loop-neighbour.neighbour-index items) ≡ neighbours n p =
+    ap (map (number_of n)) (all ∙ c.as_slice-neighbour-items.ensures.value)
+    ∙ subst (λ (m : ℕ). map (number_of m) c.neighbours-neighbours.result.items ≡ neighbours m p) c.size-size.ensures.value (c.neighbours-neighbours.ensures.exact ∙ ap (neighbours s) c.point_at.ensures.number_back) in
+    record {
+      here = sym c.lacks_liberty.ensures ∙ c.if-lacks_liberty.false;
+      beside = λ q adj. c.loop-neighbour.invariant q (subst (IsIn q) (sym those) (member_in q (neighbours n p) (neighbours_member n p q adj)));
+    }

@@ -1,0 +1,4 @@
+pub mod Pieces
+pub mod Telling
+pub mod Orders
+pub mod Running

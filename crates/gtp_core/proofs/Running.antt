@@ -1,0 +1,194 @@
+-- Runs, line by line, over a reader and a writer.
+use Rattle.std.proofs.Common.{◌≡◌, ℕ, ◌+◌, ◌<◌, ◌≤◌, Bool, true, false, not, IsTrue, codes, cond, nat_eq, nat_lt, lt-ltb, List, [], ◌∷◌, ◌++◌, length, take, Option, None, Some, ◌⊎◌, inl, inr, refl, sym, ap, ◌∙◌, subst, arith, append_assoc, append-nil}
+use Rattle.std.proofs.lemmas.Bool.{cases_lt}
+use Rattle.std.proofs.lemmas.List.{length-take-le, take_all}
+use Rattle.std.specs.Io.KnownBytes.{Appends, Consumes, IsAtEnd}
+use Rattle.std.proofs.KnownBytes.{Appends-nil, Appends-trans, Consumes-nil, Consumes-trans}
+use Rattle.sgf_text.specs.Taken.{TakesPart}
+use Rattle.gtp_core.specs.declared.end.GtpEnd.TheVariants.{Read, Write}
+use Rattle.gtp_core.specs.declared.input.Ending.{Ending}
+use Rattle.gtp_core.specs.declared.input.Ending.TheVariants.{LineFeed, End}
+use Rattle.gtp_core.specs.Lines.{Request, bad_line, request_of, request_with, cleaned, words_of, raw_lines, parted_at, with_byte}
+use Rattle.gtp_core.specs.Pieces.{HasNone}
+use Rattle.gtp_core.specs.Session.{GtpSession}
+use Rattle.gtp_core.specs.Words.{failure}
+use Rattle.gtp_core.specs.Serving.{Output, needs_memory, reply, last_reply, Answers, HadNoMemory, Serves}
+use Rattle.gtp_core.specs.Runs.{GoesThrough, IsEnded, IsRun, first_session, Tells, IsReadTo, IsCut, HasRun, HasStopped}
+use Rattle.gtp_core.specs.Taking.{kept, IsRawLine, IsServed, IsPartServed, IsUnderWay}
+use Rattle.gtp_core.proofs.Pieces.{parted_one, parted_more}
+
+-- one line more
+pub through_more : (s : GtpSession) (ls : List (List ℕ)) (w : List ℕ) (t : GtpSession) (line bytes : List ℕ) (u : GtpSession)
+    → GoesThrough s ls w t → Serves t line (reply bytes) u → GoesThrough s (ls ++ line ∷ []) (w ++ bytes) u
+through_more s [] w t line bytes u h served =
+    (bytes, [], u, subst (λ x. Serves x line (reply bytes) u) h.1 served, ap (λ x. x ++ bytes) h.0 ∙ sym (append-nil bytes), (refl, refl))
+through_more s (l ∷ ls) w t line bytes u h served =
+    (h.0, h.1 ++ bytes, h.2, h.3, ap (λ x. x ++ bytes) h.4 ∙ append_assoc h.0 h.1 bytes, through_more h.2 ls h.1 t line bytes u h.5 served)
+
+-- a line of which a front was kept is served as its front
+bad : (line : List ℕ) → 4096 < length line → request_of line ≡ bad_line
+bad line long = ap (λ b. cond b bad_line (request_with (words_of (cleaned line)))) (lt-ltb 4096 (length line) long)
+
+pub kept_request : (line : List ℕ) → request_of (kept line) ≡ request_of line
+kept_request line = elim (cases_lt 4097 (length line)) [
+  | inl long ↦ bad (kept line) (omega (arith, length-take-le 4097 line (omega (arith, long)))) ∙ sym (bad line (omega (arith, long)))
+  | inr short ↦ ap request_of (take_all 4097 line short)
+]
+
+pub serves_kept : (s : GtpSession) (line : List ℕ) (out : Output) (t : GtpSession) → Serves s (kept line) out t → Serves s line out t
+serves_kept s line out t h = subst (λ r. Answers s r out t ⊎ HadNoMemory s r out t) (kept_request line) h
+
+-- the bytes that a reader has left, where it tells them
+left_bytes : Option (List ℕ) → List ℕ
+left_bytes None = []
+left_bytes (Some xs) = xs
+
+tells_all : (told left : Option (List ℕ)) (used : List ℕ) → Consumes told left used → Tells told (used ++ left_bytes left)
+unfolding left_bytes
+tells_all None left used c = tt
+tells_all (Some x) None used c = absurd c
+tells_all (Some x) (Some y) used c = sym c
+
+none_left : (left : Option (List ℕ)) → IsAtEnd left → left_bytes left ≡ []
+unfolding left_bytes
+none_left None e = refl
+none_left (Some xs) e = e
+
+-- there is always a line
+some_line : (xs : List ℕ) → (l : List ℕ) × (ls : List (List ℕ)) × (raw_lines xs ≡ l ∷ ls)
+some_line [] = ([], [], refl)
+some_line (c ∷ cs) = go (nat_eq c 10) (some_line cs)
+  where
+    go : (b : Bool) → (l : List ℕ) × (ls : List (List ℕ)) × (raw_lines cs ≡ l ∷ ls)
+        → (l : List ℕ) × (ls : List (List ℕ)) × (elim b [ true ↦ [] ∷ raw_lines cs | false ↦ with_byte c (raw_lines cs) ] ≡ l ∷ ls)
+    go true rest = ([], raw_lines cs, refl)
+    go false (l, ls, is) = (c ∷ l, ls, ap (with_byte c) is)
+
+pub begins : (told old : Option (List ℕ)) → IsUnderWay told told old old first_session
+begins told old = record { used = []; front = []; parted = λ more. refl; consumed = Consumes-nil told; written = []; appended = Appends-nil old; through = (refl, refl) }
+
+module _ (told left mid old now : Option (List ℕ)) (s : GtpSession) (run : IsUnderWay told left old now s) where
+  -- a line that a line feed ended
+  fed : (line more : List ℕ) → HasNone 10 line → raw_lines ((run.used ++ (line ++ 10 ∷ [])) ++ more) ≡ (run.front ++ line ∷ []) ++ raw_lines more
+  fed line more none =
+      ap raw_lines (append_assoc run.used (line ++ 10 ∷ []) more)
+      ∙ run.parted ((line ++ 10 ∷ []) ++ more)
+      ∙ ap (λ xs. run.front ++ raw_lines xs) (append_assoc line (10 ∷ []) more)
+      ∙ ap (λ ls. run.front ++ ls) (parted_more 10 line more none)
+      ∙ sym (append_assoc run.front (line ∷ []) (raw_lines more))
+
+  pub goes_on : (front : List ℕ) (new : Option (List ℕ)) (t : GtpSession) → IsRawLine left mid front LineFeed → IsServed s front true now new t → IsUnderWay told mid old new t
+  goes_on front new t raw served =
+      let line = raw.0 in
+      let bytes = served.0 in
+      let serves : Serves s line (reply bytes) t = serves_kept s line (reply bytes) t (subst (λ l. Serves s l (reply bytes) t) raw.2 served.1) in
+      record {
+        used = run.used ++ (line ++ 10 ∷ []);
+        front = run.front ++ line ∷ [];
+        parted = λ more. fed line more raw.1;
+        consumed = Consumes-trans told left mid run.used (line ++ 10 ∷ []) run.consumed raw.3;
+        written = run.written ++ bytes;
+        appended = Appends-trans old now new run.written bytes run.appended served.2;
+        through = through_more first_session run.front run.written s line bytes t run.through serves;
+      }
+
+  -- a line that was taken: the bytes that are told, and the lines after it
+  record IsTaken (front : List ℕ) (e : Ending) : Type 0 where
+    line : List ℕ
+    is : front ≡ kept line
+    bytes : List ℕ
+    tells : Tells told bytes
+    behind : List (List ℕ)
+    parted : raw_lines bytes ≡ run.front ++ line ∷ behind
+    last : e ≡ End → behind ≡ []
+
+  taken : (front : List ℕ) (e : Ending) → IsRawLine left mid front e → IsTaken front e
+  taken front LineFeed raw =
+      let line = raw.0 in
+      let more = left_bytes mid in
+      record {
+        line = line;
+        is = raw.2;
+        bytes = (run.used ++ (line ++ 10 ∷ [])) ++ more;
+        tells = tells_all told mid (run.used ++ (line ++ 10 ∷ [])) (Consumes-trans told left mid run.used (line ++ 10 ∷ []) run.consumed raw.3);
+        behind = raw_lines more;
+        parted = fed line more raw.1 ∙ append_assoc run.front (line ∷ []) (raw_lines more);
+        last = λ h. absurd (cc h);
+      }
+  taken front End raw =
+      let line = raw.0 in
+      record {
+        line = line;
+        is = raw.2;
+        bytes = run.used ++ line;
+        tells = subst (Tells told) (ap (λ xs. (run.used ++ line) ++ xs) (none_left mid raw.4) ∙ append-nil (run.used ++ line)) (tells_all told mid (run.used ++ line) (Consumes-trans told left mid run.used line run.consumed raw.3));
+        behind = [];
+        parted = run.parted line ∙ ap (λ ls. run.front ++ ls) (parted_one 10 line raw.1);
+        last = λ h. refl;
+      }
+
+  -- the session ends with the input, or with a line
+  pub ends_with_input : (front : List ℕ) (new : Option (List ℕ)) (t : GtpSession) → IsRawLine left mid front End → IsServed s front true now new t → HasRun told old new
+  ends_with_input front new t raw served =
+      let k = taken front End raw in
+      let bytes = served.0 in
+      let serves : Serves s k.line (reply bytes) t = serves_kept s k.line (reply bytes) t (subst (λ l. Serves s l (reply bytes) t) k.is served.1) in (
+        k.bytes,
+        run.written ++ bytes,
+        k.tells,
+        Appends-trans old now new run.written bytes run.appended served.2,
+        inl (t, subst (λ ls. GoesThrough first_session ls (run.written ++ bytes) t) (sym (k.parted ∙ ap (λ ls. run.front ++ k.line ∷ ls) (k.last refl))) (through_more first_session run.front run.written s k.line bytes t run.through serves)),
+      )
+
+  pub ends_with_line : (front : List ℕ) (e : Ending) (new : Option (List ℕ)) (t : GtpSession) → IsRawLine left mid front e → IsServed s front false now new t → HasRun told old new
+  ends_with_line front e new t raw served =
+      let k = taken front e raw in
+      let bytes = served.0 in
+      let serves : Serves s k.line (last_reply bytes) t = serves_kept s k.line (last_reply bytes) t (subst (λ l. Serves s l (last_reply bytes) t) k.is served.1) in (
+        k.bytes,
+        run.written ++ bytes,
+        k.tells,
+        Appends-trans old now new run.written bytes run.appended served.2,
+        inr (record { front = run.front; line = k.line; behind = k.behind; parted = k.parted; before = run.written; mid = s; through = run.through; bytes = bytes; last = t; served = serves; whole = refl }),
+      )
+
+  -- a read failed
+  pub read_failed : HasStopped Read told old now
+  read_failed =
+      let more = left_bytes left in
+      let next = some_line more in (
+        run.used ++ more,
+        run.written,
+        tells_all told left run.used run.consumed,
+        run.appended,
+        record { front = run.front; line = next.0; behind = next.1; parted = run.parted more ∙ ap (λ ls. run.front ++ ls) next.2; last = s; through = run.through },
+      )
+
+  -- a write failed
+  pub write_failed : (front : List ℕ) (e : Ending) (new : Option (List ℕ)) → IsRawLine left mid front e → IsPartServed s front now new → HasStopped Write told old new
+  write_failed front e new raw (out, t, served, part) =
+      let k = taken front e raw in
+      let serves : Serves s k.line out t = serves_kept s k.line out t (subst (λ l. Serves s l out t) k.is served) in
+      let whole : run.written ++ out.bytes ≡ (run.written ++ part.0) ++ part.1 = ap (λ xs. run.written ++ xs) part.2 ∙ sym (append_assoc run.written part.0 part.1) in (
+        k.bytes,
+        run.written ++ part.0,
+        k.tells,
+        Appends-trans old now new run.written part.0 run.appended part.3,
+        record {
+          front = run.front ++ k.line ∷ [];
+          behind = k.behind;
+          parted = k.parted ∙ sym (append_assoc run.front (k.line ∷ []) k.behind);
+          rest = part.1;
+          run = subst (IsRun first_session (run.front ++ k.line ∷ [])) whole (go k.line out.bytes out.ends serves);
+        },
+      )
+    where
+      go : (line bytes : List ℕ) (ends : Bool) → Serves s line (record { bytes = bytes; ends = ends }) t → IsRun first_session (run.front ++ line ∷ []) (run.written ++ bytes)
+      go line bytes false serves = inl (t, through_more first_session run.front run.written s line bytes t run.through serves)
+      go line bytes true serves =
+          inr (record { front = run.front; line = line; behind = []; parted = refl; before = run.written; mid = s; through = run.through; bytes = bytes; last = t; served = serves; whole = refl })
+
+-- memory was refused, and the write failed that says so
+pub no_memory_part : (s : GtpSession) (line : List ℕ) (old new : Option (List ℕ)) (bytes : List ℕ) → IsTrue (needs_memory (request_of line)) → bytes ≡ failure [] (codes "out of memory")
+    → TakesPart old new bytes → IsPartServed s line old new
+no_memory_part s line old new bytes needed is part = (reply bytes, s, inr (record { needed = needed; written = ap reply is; kept = refl }), part)

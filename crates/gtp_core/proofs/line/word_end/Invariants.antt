@@ -1,0 +1,6 @@
+use Rattle.std.proofs.Common.{take}
+use Rattle.gtp_core.specs.Pieces.{HasNone}
+use Rattle.gtp_core.proofs.line.word_end.Given as goal
+
+abbrev pub invariant-loop-end : goal.invariant-loop-end
+invariant-loop-end l = HasNone 32 (take l.end l.text)

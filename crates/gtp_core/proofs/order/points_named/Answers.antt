@@ -1,0 +1,25 @@
+use Rattle.std.proofs.Common.{rules, ◌≡◌, ◌∷◌, ◌∙◌, Some}
+use Rattle.go_points.specs.declared.vertex.Vertex.TheVariants.{At}
+use Rattle.go_points.specs.Gtp.{vertex_named}
+use Rattle.gtp_core.specs.Lines.{words_of}
+use Rattle.gtp_core.specs.Words.{place_at}
+use Rattle.std.proofs.Common.{subst, sym, ap, refl}
+use Rattle.go_points.specs.Points.{with_place}
+use Rattle.gtp_core.specs.Commands.{with_points}
+use Rattle.std.specs.List.{All}
+use Rattle.go_points.specs.Place.{IsOn}
+use Rattle.gtp_core.proofs.Orders.{all_with, point_more}
+use Rattle.gtp_core.proofs.order.points_named.Goals as goal
+
+pub loop-word-preserved : goal.loop-word-preserved
+loop-word-preserved c =
+    let n = c.args.size in
+    let p = c.in_ok-point.point in
+    let words : words_of c.loop-word.left.now ≡ c.in-Some.word.now ∷ words_of c.in-Some.rest.now = search rules in
+    let named : vertex_named c.in-Some.word.now ≡ Some (At c.in-Some-At.column c.in-Some-At.row) = search rules in
+    let place : place_at n c.in-Some-At.column c.in-Some-At.row ≡ Some p = search rules in
+    let on : IsOn n p = c.in_ok-point.ensures.on_board in
+    let more : All (IsOn n) c.insert.new.self = subst (All (IsOn n)) (sym c.insert.ensures) (all_with n c.loop-word.set p on c.loop-word.invariant.1) in
+    let step = point_more n c.loop-word.set c.in-Some.word.now (words_of c.in-Some.rest.now) (words_of c.loop-word.left.now) (At c.in-Some-At.column c.in-Some-At.row) c.in-Some-At.column c.in-Some-At.row p words named refl place in
+    let set : with_points n c.insert.new.self (words_of c.in-Some.rest.now) ≡ with_points n (with_place c.loop-word.set p) (words_of c.in-Some.rest.now) = ap (λ ps. with_points n ps (words_of c.in-Some.rest.now)) c.insert.ensures in
+    (set ∙ step ∙ c.loop-word.invariant.0, more)

@@ -1,0 +1,70 @@
+-- A run of a session over the lines of an input.
+--     GoesThrough s lines written t      all the lines are served in turn, and the session goes on as t
+--     IsRun s lines written      the lines are served in turn, up to their end or that of the session
+--     HasRun, HasStopped      what a run over a reader leaves with the writer
+use Rattle.std.specs.Prelude.{◌≡◌, ℕ, List, [], ◌∷◌, ◌++◌, Option, Some, None, ◌⊎◌}
+use Rattle.std.specs.Io.KnownBytes.{Appends}
+use Rattle.gtp_core.specs.declared.end.GtpEnd.{GtpEnd}
+use Rattle.gtp_core.specs.declared.end.GtpEnd.TheVariants.{Read, Write, Memory}
+use Rattle.gtp_core.specs.Lines.{raw_lines}
+use Rattle.gtp_core.specs.Session.{GtpSession, new_session}
+use Rattle.gtp_core.specs.Serving.{reply, last_reply, Serves}
+
+abbrev pub GoesThrough : GtpSession → List (List ℕ) → List ℕ → GtpSession → Type 0
+GoesThrough s [] written t = (written ≡ []) × (t ≡ s)
+GoesThrough s (line ∷ lines) written t =
+    (bytes rest : List ℕ) × (new : GtpSession) × Serves s line (reply bytes) new × (written ≡ bytes ++ rest) × GoesThrough new lines rest t
+
+-- A line ends the session, and those after it count for nothing.
+pub record IsEnded (s : GtpSession) (lines : List (List ℕ)) (written : List ℕ) : Type 0 where
+  pub front : List (List ℕ)
+  pub line : List ℕ
+  pub behind : List (List ℕ)
+  pub parted : lines ≡ front ++ line ∷ behind
+  pub before : List ℕ
+  pub mid : GtpSession
+  pub through : GoesThrough s front before mid
+  pub bytes : List ℕ
+  pub last : GtpSession
+  pub served : Serves mid line (last_reply bytes) last
+  pub whole : written ≡ before ++ bytes
+
+abbrev pub IsRun : GtpSession → List (List ℕ) → List ℕ → Type 0
+IsRun s lines written = ((t : GtpSession) × GoesThrough s lines written t) ⊎ IsEnded s lines written
+
+-- The size of the first board.
+abbrev pub first_size : ℕ
+first_size = 19
+
+abbrev pub first_session : GtpSession
+first_session = new_session first_size
+
+-- The bytes are those that the reader tells, where it tells them.
+abbrev pub Tells : Option (List ℕ) → List ℕ → Type 0
+Tells None bytes = Unit {0}
+Tells (Some told) bytes = bytes ≡ told
+
+-- The replies to all lines that had ended, but to none after them.
+pub record IsReadTo (bytes written : List ℕ) : Type 0 where
+  pub front : List (List ℕ)
+  pub line : List ℕ
+  pub behind : List (List ℕ)
+  pub parted : raw_lines bytes ≡ front ++ line ∷ behind
+  pub last : GtpSession
+  pub through : GoesThrough first_session front written last
+
+-- A part from the front of the replies to some lines from the front.
+pub record IsCut (bytes written : List ℕ) : Type 0 where
+  pub front : List (List ℕ)
+  pub behind : List (List ℕ)
+  pub parted : raw_lines bytes ≡ front ++ behind
+  pub rest : List ℕ
+  pub run : IsRun first_session front (written ++ rest)
+
+abbrev pub HasRun : Option (List ℕ) → Option (List ℕ) → Option (List ℕ) → Type 0
+HasRun told old new = (bytes written : List ℕ) × Tells told bytes × Appends old new written × IsRun first_session (raw_lines bytes) written
+
+abbrev pub HasStopped : GtpEnd → Option (List ℕ) → Option (List ℕ) → Option (List ℕ) → Type 0
+HasStopped Read told old new = (bytes written : List ℕ) × Tells told bytes × Appends old new written × IsReadTo bytes written
+HasStopped Write told old new = (bytes written : List ℕ) × Tells told bytes × Appends old new written × IsCut bytes written
+HasStopped Memory told old new = Appends old new []

@@ -1,0 +1,356 @@
+//! A session, and what it does with a line.
+
+ghost use Rattle.std.specs.Prelude.{◌≡◌, ◌≢◌, ◌≤◌, ◌*◌, [], None, Some, Ok, Err, Result, IfOk, OnOk, OnErr, IfSome, IsTrue, length, drop};
+ghost use Rattle.std.specs.List.{All};
+ghost use Rattle.go_points.specs.Place.{IsOn};
+ghost use Rattle.go_points.specs.declared.Colour.{Colour};
+ghost use Rattle.target_game.specs.State.{GameProblem};
+ghost use Rattle.gtp_core.specs.Lines.{request_of, request_with, words_of, bad_line, max_line};
+ghost use Rattle.gtp_core.specs.Words.{turn_at};
+ghost use Rattle.gtp_core.specs.Session as spec;
+ghost use Rattle.gtp_core.specs.Serving.{Answers, Due, Meets, answers, board_text, command_due, due_of, fed_rows, needs_memory, output_of, plays, record_due, refuses, reply, solve_due, target_due, turn_due, with_region, within_due, within_text};
+ghost use Rattle.gtp_core.specs.declared.refusal.Refusal.TheVariants as refusal;
+ghost use Rattle.gtp_core.specs.Following.{FitsBoard, FoundOnBoard, IsFoundAt, IsTurnFault};
+ghost use Rattle.go_turns.specs.Record.{undo_of};
+
+use crate::command::Command;
+use crate::fed::Fed;
+use crate::line::{clean, is_digits, number_named, take_word};
+use crate::order::{Order, order_of};
+use crate::refusal::Refusal;
+use crate::reply::{failure, success};
+use crate::search::{Found, searched};
+use crate::words::{turn_at, with_turn};
+use go_points::{Colour, PointSet, Size, Turn, Vertex};
+use go_turns::{Board, PlayBoard, PlaySeen, Record, Seen, TurnFault};
+use std::alloc::{AllocError, Global};
+use std::marker::Model;
+use target_game::{Problem, Within, colour_at, decide_within};
+use tsumego_problem::{all_points, history_of};
+
+/// The longest raw line, without its line feed, in bytes.
+pub const MAX_LINE: usize = 4096;
+
+/// The size of the first board.
+const FIRST_SIZE: u8 = 19;
+
+/// The most states of a decision.
+const MAX_NODES: u64 = 1_000_000;
+
+/// A record of turns, as the session keeps it.
+pub(crate) type PlayRecord = Record<PlayBoard, PlaySeen>;
+
+/// A session: its record since the new board, the targets and the region. It plays by the Tromp-Taylor turn rule over the whole past.
+#[derive(Drop)]
+pub struct Session {
+    alloc: Global,
+    turns: PlayRecord,
+    targets: PointSet,
+    region: PointSet,
+}
+
+impl Model for Session {
+    ghost use Rattle.gtp_core.specs.Session.{GtpSession};
+
+    ghost Value = { GtpSession };
+
+    ghost view = { λ a. record { turns = a.turns; targets = a.targets; region = a.region } };
+}
+
+/// The session with a new board.
+fn with_board(alloc: Global, size: Size) -> Result<Session, AllocError>
+    ensures { IfOk result (λ s. s ≡ spec.new_session size) }
+{
+    let colouring = PlayBoard::new(size).colouring();
+    match Record::new(alloc, &colouring) {
+        Ok(turns) => Ok(Session {
+            alloc,
+            turns,
+            targets: PointSet::new(),
+            region: all_points(size),
+        }),
+        Err(_) => Err(AllocError),
+    }
+}
+
+impl Session {
+    /// The session with a new board of 19 rows.
+    pub fn new(alloc: Global) -> Result<Session, AllocError>
+        ensures { IfOk result (λ s. s ≡ spec.new_session 19) }
+    {
+        match Size::new(FIRST_SIZE) {
+            Some(size) => with_board(alloc, size),
+            None => Err(AllocError),
+        }
+    }
+
+    /// What a raw line gets, which is given without its line feed. After an error, which says that memory was refused, the session is as it was; and so it is after a failure reply. A line that asks for nothing is never refused.
+    pub fn feed(&mut self, line: &[u8]) -> Result<Fed, AllocError>
+        ensures ok { IfOk result (λ fed. Answers self.old (request_of line.now) (output_of fed) self.new) }
+        ensures err { OnErr result (self.new ≡ self.old) }
+        ensures needed { OnErr result (IsTrue (needs_memory (request_of line.now))) }
+    {
+        if line.len() > MAX_LINE {
+            return self.bad_line();
+        }
+        let text = clean(line);
+        self.serve(text.as_slice())
+    }
+
+    /// What a bad line gets.
+    fn bad_line(&self) -> Result<Fed, AllocError>
+        ensures { IfOk result (λ fed. Answers self.now bad_line (output_of fed) self.now) }
+    {
+        Ok(Fed::Reply(failure(self.alloc, b"", Refusal::SyntaxError)?))
+    }
+
+    /// What the words of a line get.
+    fn serve(&mut self, text: &[u8]) -> Result<Fed, AllocError>
+        ensures ok { IfOk result (λ fed. Answers self.old (request_with (words_of text.now)) (output_of fed) self.new) }
+        ensures err { OnErr result (self.new ≡ self.old) }
+        ensures needed { OnErr result (IsTrue (needs_memory (request_with (words_of text.now)))) }
+    {
+        let Some((word, rest)) = take_word(text) else {
+            return Ok(Fed::Nothing);
+        };
+        let size = self.size();
+        if !is_digits(word) {
+            return self.obey(b"", order_of(size, word, rest));
+        }
+        if number_named(word).is_none() {
+            return self.bad_line();
+        }
+        match take_word(rest) {
+            Some((name, rest)) => self.obey(word, order_of(size, name, rest)),
+            None => self.obey(word, Err(Refusal::SyntaxError)),
+        }
+    }
+
+    /// What an order gets.
+    fn obey(&mut self, id: &[u8], order: Order) -> Result<Fed, AllocError>
+        requires { IfOk order (FitsBoard self.old.turns.size) }
+        ensures ok { IfOk result (λ fed. Meets self.old id.now (due_of self.old order) (output_of fed) self.new) }
+        ensures err { OnErr result (self.new ≡ self.old) }
+    {
+        match order {
+            Ok(Command::Quit) => Ok(Fed::Quit(success(self.alloc, id, b"")?)),
+            Ok(command) => Ok(Fed::Reply(self.follow(id, command)?)),
+            Err(why) => Ok(Fed::Reply(failure(self.alloc, id, why)?)),
+        }
+    }
+
+    /// The reply to a command that does not end the session.
+    fn follow(&mut self, id: &[u8], command: Command) -> Result<Vec<u8>, AllocError>
+        requires goes_on { command ≢ Command.Quit }
+        requires fits { FitsBoard self.old.turns.size command }
+        ensures ok { IfOk result (λ bytes. Meets self.old id.now (command_due self.old command) (reply bytes.items) self.new) }
+        ensures err { OnErr result (self.new ≡ self.old) }
+    {
+        match command {
+            Command::Say(saying) => success(self.alloc, id, saying.text()),
+            Command::Quit => unreachable!(),
+            Command::NewBoard(size) => self.begin(id, size),
+            Command::ClearBoard => self.begin(id, self.size()),
+            Command::Play(colour, vertex) => self.play(id, colour, vertex),
+            Command::Genmove(colour) => self.genmove(id, colour),
+            Command::Undo => self.undo(id),
+            Command::Showboard => self.showboard(id),
+            Command::SetTargets(set) => self.set_targets(id, set),
+            Command::SetRegion(set) => self.set_region(id, set),
+            Command::Solve(colour) => self.solve(id, colour),
+            Command::Within(turns) => self.within(id, turns),
+        }
+    }
+
+    /// The size of the board.
+    fn size(&self) -> Size
+        ensures { result ≡ self.now.turns.size }
+    {
+        self.turns.size()
+    }
+
+    /// Begins a new board.
+    fn begin(&mut self, id: &[u8], size: Size) -> Result<Vec<u8>, AllocError>
+        ensures ok { IfOk result (λ bytes. Meets self.old id.now (answers [] (spec.new_session size)) (reply bytes.items) self.new) }
+        ensures err { OnErr result (self.new ≡ self.old) }
+    {
+        let bytes = success(self.alloc, id, b"")?;
+        let fresh = with_board(self.alloc, size)?;
+        *self = fresh;
+        Ok(bytes)
+    }
+
+    /// Plays the turn at a vertex.
+    fn play(&mut self, id: &[u8], colour: Colour, vertex: Vertex) -> Result<Vec<u8>, AllocError>
+        ensures ok { IfOk result (λ bytes. Meets self.old id.now (turn_due self.old colour (turn_at self.old.turns.size vertex)) (reply bytes.items) self.new) }
+        ensures err { OnErr result (self.new ≡ self.old) }
+    {
+        let Some(turn) = turn_at(self.size(), vertex) else {
+            return failure(self.alloc, id, Refusal::IllegalMove);
+        };
+        let bytes = success(self.alloc, id, b"")?;
+        match self.turns.play(colour, turn) {
+            Ok(()) => Ok(bytes),
+            Err(fault) => self.barred(id, fault),
+        }
+    }
+
+    /// The reply to a turn that the record has refused.
+    fn barred(&self, id: &[u8], fault: TurnFault) -> Result<Vec<u8>, AllocError>
+        ensures { IfOk result (λ bytes. IsTurnFault fault × Meets self.now id.now (refuses refusal.IllegalMove) (reply bytes.items) self.now) }
+    {
+        match fault {
+            TurnFault::Memory => Err(AllocError),
+            _ => failure(self.alloc, id, Refusal::IllegalMove),
+        }
+    }
+
+    /// Takes the last turn back.
+    fn undo(&mut self, id: &[u8]) -> Result<Vec<u8>, AllocError>
+        ensures ok { IfOk result (λ bytes. Meets self.old id.now (record_due self.old refusal.CannotUndo (undo_of self.old.turns)) (reply bytes.items) self.new) }
+        ensures err { OnErr result (self.new ≡ self.old) }
+    {
+        let bytes = success(self.alloc, id, b"")?;
+        match self.turns.undo() {
+            Ok(()) => Ok(bytes),
+            Err(_) => failure(self.alloc, id, Refusal::CannotUndo),
+        }
+    }
+
+    /// Shows the board.
+    fn showboard(&self, id: &[u8]) -> Result<Vec<u8>, AllocError>
+        ensures { IfOk result (λ bytes. Meets self.now id.now (answers (board_text self.now) self.now) (reply bytes.items) self.now) }
+    {
+        let cells = self.turns.colouring().to_text(self.alloc)?;
+        let rows = fed_rows(self.alloc, self.size().rows() as usize, cells.as_slice())?;
+        success(self.alloc, id, &rows.as_slice()[1..])
+    }
+
+    /// Sets the targets, which have to be stones of one colour; an empty set leaves none.
+    fn set_targets(&mut self, id: &[u8], set: PointSet) -> Result<Vec<u8>, AllocError>
+        requires { All (IsOn self.old.turns.size) set }
+        ensures ok { IfOk result (λ bytes. Meets self.old id.now (target_due self.old set) (reply bytes.items) self.new) }
+        ensures err { OnErr result (self.new ≡ self.old) }
+    {
+        if !set.is_empty() && colour_at(&self.turns.colouring(), &set).is_none() {
+            return failure(self.alloc, id, Refusal::BadTargets);
+        }
+        let bytes = success(self.alloc, id, b"")?;
+        self.targets = set;
+        Ok(bytes)
+    }
+
+    /// Sets the region.
+    fn set_region(&mut self, id: &[u8], set: PointSet) -> Result<Vec<u8>, AllocError>
+        ensures ok { IfOk result (λ bytes. Meets self.old id.now (answers [] (with_region self.old set)) (reply bytes.items) self.new) }
+        ensures err { OnErr result (self.new ≡ self.old) }
+    {
+        let bytes = success(self.alloc, id, b"")?;
+        self.region = set;
+        Ok(bytes)
+    }
+
+    /// The problem with this colour to move, if the session has one.
+    fn problem(&self, mover: Colour) -> Result<Option<Problem>, AllocError>
+        ensures value { IfOk result (λ q. q ≡ spec.problem_at self.now mover) }
+        ensures size { IfOk result (λ q. IfSome q (λ p. p.game.size ≡ self.now.turns.size)) }
+    {
+        let history = history_of(self.alloc, self.turns.seen())?;
+        let place = self
+            .turns
+            .seen()
+            .holds(&self.turns.colouring())
+            .unwrap_or(0);
+        let passes = self.turns.passes();
+        Ok(Problem::new(history, place, mover, passes, self.targets, self.region).ok())
+    }
+
+    /// What a search finds for a side, if there is a problem.
+    fn search(&self, colour: Colour) -> Result<Option<Found>, AllocError>
+        ensures { IfOk result (λ f. IsFoundAt self.now.turns.size colour (spec.problem_at self.now colour) f) }
+    {
+        match self.problem(colour)? {
+            Some(problem) => Ok(Some(searched(self.alloc, problem, colour))),
+            None => Ok(None),
+        }
+    }
+
+    /// Tells what a search finds.
+    fn solve(&self, id: &[u8], colour: Colour) -> Result<Vec<u8>, AllocError>
+        ensures { IfOk result (λ bytes. Meets self.now id.now (solve_due colour (spec.problem_at self.now colour)) (reply bytes.items) self.now) }
+    {
+        match self.search(colour)? {
+            Some(Found::Win(turn)) => {
+                let text = with_turn(self.alloc, b"win ", self.size(), &turn)?;
+                success(self.alloc, id, text.as_slice())
+            }
+            Some(Found::Loss) => success(self.alloc, id, b"loss"),
+            Some(Found::Unknown) => success(self.alloc, id, b"unknown"),
+            None => failure(self.alloc, id, Refusal::NoProblem),
+        }
+    }
+
+    /// Plays a turn that a search finds, or else passes.
+    fn genmove(&mut self, id: &[u8], colour: Colour) -> Result<Vec<u8>, AllocError>
+        ensures ok { IfOk result (λ bytes. Meets self.old id.now (plays colour (spec.problem_at self.old colour)) (reply bytes.items) self.new) }
+        ensures err { OnErr result (self.new ≡ self.old) }
+    {
+        let turn = match self.search(colour)? {
+            Some(Found::Win(turn)) => turn,
+            _ => Turn::Pass,
+        };
+        let text = with_turn(self.alloc, b"", self.size(), &turn)?;
+        let bytes = success(self.alloc, id, text.as_slice())?;
+        match self.turns.play(colour, turn) {
+            Ok(()) => Ok(bytes),
+            Err(_) => Err(AllocError),
+        }
+    }
+
+    /// Decides who can force a win within so many turns.
+    fn within(&self, id: &[u8], turns: u32) -> Result<Vec<u8>, AllocError>
+        requires { turns ≤ 200 }
+        ensures { IfOk result (λ bytes. Meets self.now id.now (within_due self.now turns (spec.problem_at self.now (spec.next_mover self.now))) (reply bytes.items) self.now) }
+    {
+        let Some(problem) = self.problem(self.next_mover())? else {
+            return failure(self.alloc, id, Refusal::NoProblem);
+        };
+        let decision = decide_within(self.alloc, &problem, turns, MAX_NODES)?;
+        success(self.alloc, id, within_text(decision))
+    }
+
+    /// The other colour of the last turn that stands, Black where none does.
+    fn next_mover(&self) -> Colour
+        ensures { result ≡ spec.next_mover self.now }
+    {
+        match self.turns.last_colour() {
+            Some(colour) => colour.opponent(),
+            None => Colour::Black,
+        }
+    }
+}
+
+/// So many rows of so many bytes each, each after a line feed.
+fn fed_rows(alloc: Global, rows: usize, cells: &[u8]) -> Result<Vec<u8>, AllocError>
+    requires { length cells.now ≡ rows * rows }
+    ensures { IfOk result (λ text. text.items ≡ fed_rows rows rows cells.now) }
+{
+    let mut text = Vec::new(alloc);
+    for row in 0..rows {
+        text.push(b'\n')?;
+        text.extend_from_slice(&cells[row * rows..row * rows + rows])?;
+    }
+    Ok(text)
+}
+
+/// What is told of a decision.
+fn within_text(decision: Within) -> &'static [u8]
+    ensures { result.now ≡ within_text decision }
+{
+    match decision {
+        Within::Wins(Colour::Black) => b"wins Black",
+        Within::Wins(Colour::White) => b"wins White",
+        Within::Neither => b"neither",
+        Within::Limit => b"limit",
+    }
+}

@@ -1,0 +1,108 @@
+-- What a run of a session leaves is what the command leaves.
+use Rattle.std.proofs.Common.{◌≡◌, ℕ, true, List, [], ◌∷◌, ◌++◌, codes, Option, None, Some, ◌⊎◌, inl, inr, refl, sym, ap, ◌∙◌, subst, append_assoc, append-nil}
+use Rattle.std.specs.Io.KnownBytes.{Appends}
+use Rattle.std.proofs.KnownBytes.{Appends-trans}
+use Rattle.gtp_core.specs.declared.end.GtpEnd.TheVariants as stop
+use Rattle.gtp_core.specs.Lines.{Request, nothing, bad_line, asks, request_of, raw_lines}
+use Rattle.gtp_core.specs.Words.{failure}
+use Rattle.gtp_core.specs.Session.{GtpSession}
+use Rattle.gtp_core.specs.Serving.{Answers, HadNoMemory, Serves, reply}
+use Rattle.gtp_core.specs.Runs as gtp
+use Rattle.gtp_core.specs.Runs.{GoesThrough, IsRun, IsEnded, HasRun, HasStopped, first_session}
+use Rattle.tsumego.specs.CommandLine.{is_session}
+use Rattle.tsumego.specs.declared.command_line.Command.{Command}
+use Rattle.tsumego.specs.declared.command_line.Command.TheVariants.{Check, Within, Audit, Solve, Gtp}
+use Rattle.tsumego.specs.declared.status.Status.{Status}
+use Rattle.tsumego.specs.declared.status.Status.TheVariants.{Answered, Failed}
+use Rattle.tsumego.specs.Texts.{no_read_text}
+use Rattle.tsumego.specs.Answers.{Says}
+use Rattle.tsumego.specs.Outcome.{Tells, Ran}
+use Rattle.tsumego.specs.Replies.{Writes}
+
+-- every session can serve every line
+served : (s : GtpSession) (line : List ℕ) → (bytes : List ℕ) × (new : GtpSession) × Serves s line (reply bytes) new
+served s line = go (request_of line) refl
+  where
+    go : (r : Request) → request_of line ≡ r → (bytes : List ℕ) × (new : GtpSession) × Serves s line (reply bytes) new
+    go nothing e = ([], s, inl (subst (λ r. Answers s r (reply []) s) (sym e) (refl, refl)))
+    go bad_line e = (failure [] (codes "syntax error"), s, inl (subst (λ r. Answers s r (reply (failure [] (codes "syntax error"))) s) (sym e) (refl, refl)))
+    go (asks id words) e =
+        let none : HadNoMemory s (asks id words) (reply (failure [] (codes "out of memory"))) s = record { needed = refl; written = refl; kept = refl } in
+        (failure [] (codes "out of memory"), s, inr (subst (λ r. HadNoMemory s r (reply (failure [] (codes "out of memory"))) s) (sym e) none))
+
+-- and so all lines
+all_served : (s : GtpSession) (ls : List (List ℕ)) → (w : List ℕ) × (t : GtpSession) × GoesThrough s ls w t
+all_served s [] = ([], s, (refl, refl))
+all_served s (l ∷ ls) = let one = served s l in let rest = all_served one.1 ls in (one.0 ++ rest.0, rest.1, (one.0, rest.0, one.1, one.2, refl, rest.2))
+
+joined : (s : GtpSession) (front : List (List ℕ)) (w : List ℕ) (t : GtpSession) (behind : List (List ℕ)) (v : List ℕ) (u : GtpSession)
+    → GoesThrough s front w t → GoesThrough t behind v u → GoesThrough s (front ++ behind) (w ++ v) u
+joined s [] w t behind v u h more =
+    subst (λ x. GoesThrough s behind (x ++ v) u) (sym h.0) (subst (λ x. GoesThrough x behind v u) h.1 more)
+joined s (l ∷ ls) w t behind v u h more =
+    (h.0, h.1 ++ v, h.2, h.3, ap (λ x. x ++ v) h.4 ∙ append_assoc h.0 h.1 v, joined h.2 ls h.1 t behind v u h.5 more)
+
+-- a run over the lines at the front goes on over all
+runs_on : (s : GtpSession) (front behind : List (List ℕ)) (w : List ℕ) → IsRun s front w → (more : List ℕ) × IsRun s (front ++ behind) (w ++ more)
+runs_on s front behind w (inl (t, through)) =
+    let rest = all_served t behind in
+    (rest.0, inl (rest.1, joined s front w t behind rest.0 rest.1 through rest.2))
+runs_on s front behind w (inr ended) = (
+  [],
+  inr (record {
+    front = ended.front;
+    line = ended.line;
+    behind = ended.behind ++ behind;
+    parted = ap (λ ls. ls ++ behind) ended.parted ∙ append_assoc ended.front (ended.line ∷ ended.behind) behind;
+    before = ended.before;
+    mid = ended.mid;
+    through = ended.through;
+    bytes = ended.bytes;
+    last = ended.last;
+    served = ended.served;
+    whole = append-nil w ∙ ended.whole;
+  }),
+)
+
+told_too : (told : Option (List ℕ)) (bytes : List ℕ) → gtp.Tells told bytes → Tells told bytes
+told_too None bytes h = tt
+told_too (Some t) bytes h = h
+
+module _ (told old : Option (List ℕ)) where
+  pub session_ends : (new : Option (List ℕ)) → HasRun told old new → Ran (Some Gtp) told Answered old new
+  session_ends new (bytes, written, tells, taken, run) = (bytes, written, told_too told bytes tells, taken, inl (inl (refl, run)))
+
+  pub session_read_fails : (mid new : Option (List ℕ)) (result : Status) → HasStopped stop.Read told old mid → Writes mid new no_read_text Failed result → Ran (Some Gtp) told result old new
+  session_read_fails mid new result (bytes, written, tells, taken, read) (inl (same, whole)) = (
+    bytes,
+    written ++ no_read_text,
+    told_too told bytes tells,
+    Appends-trans old mid new written no_read_text taken whole,
+    inl (subst (λ s. Says Gtp bytes s (written ++ no_read_text)) (sym same) (inr (refl, (written, read, refl)))),
+  )
+  session_read_fails mid new result (bytes, written, tells, taken, read) (inr (failed, (part, rest, whole, more))) = (
+    bytes,
+    written ++ part,
+    told_too told bytes tells,
+    Appends-trans old mid new written part taken more,
+    inr (failed, inr (rest, inl (Failed, inr (refl, (written, read, append_assoc written part rest ∙ ap (λ x. written ++ x) (sym whole)))))),
+  )
+
+  pub session_write_fails : (new : Option (List ℕ)) → HasStopped stop.Write told old new → Ran (Some Gtp) told Failed old new
+  session_write_fails new (bytes, written, tells, taken, cut) =
+      let on = runs_on first_session cut.front cut.behind (written ++ cut.rest) cut.run in
+      let run : IsRun first_session (raw_lines bytes) (written ++ (cut.rest ++ on.0)) =
+      subst (λ ls. IsRun first_session ls (written ++ (cut.rest ++ on.0))) (sym cut.parted) (subst (IsRun first_session (cut.front ++ cut.behind)) (append_assoc written cut.rest on.0) on.1) in
+      (bytes, written, told_too told bytes tells, taken, inr (refl, inr (cut.rest ++ on.0, inl (Answered, inl (refl, run)))))
+
+-- nothing was written before
+pub writes_after : (old mid new : Option (List ℕ)) (text : List ℕ) (status result : Status) → Appends old mid [] → Writes mid new text status result → Writes old new text status result
+writes_after old mid new text status result none (inl (same, taken)) = inl (same, Appends-trans old mid new [] text none taken)
+writes_after old mid new text status result none (inr (failed, (part, rest, whole, taken))) = inr (failed, (part, rest, whole, Appends-trans old mid new [] part none taken))
+
+pub is_gtp : (command : Command) → is_session command ≡ true → command ≡ Gtp
+is_gtp Gtp e = refl
+is_gtp Check e = absurd (cc e)
+is_gtp (Within turns nodes) e = absurd (cc e)
+is_gtp Audit e = absurd (cc e)
+is_gtp (Solve steps table proof) e = absurd (cc e)

@@ -1,0 +1,110 @@
+-- What a session tells is true.
+use Rattle.std.proofs.Common.{◌≡◌, ℕ, true, false, nat_eq, eq-eqb, get_or, drop, append_assoc, List, [], ◌∷◌, ◌++◌, codes, Option, None, Some, Ok, Err, ◌⊎◌, inl, inr, refl, sym, ap, ◌∙◌, subst}
+use Rattle.go_points.specs.declared.Colour.{Colour}
+use Rattle.target_game.specs.State.{GameProblem, start}
+use Rattle.gtp_core.specs.declared.command.Command.TheVariants as command
+use Rattle.gtp_core.specs.Lines.{Request, asks, request_of, raw_lines}
+use Rattle.gtp_core.specs.Words.{colour_named, failure, spaced_text, success, turn_text}
+use Rattle.gtp_core.specs.Commands.{order_of, solve_order}
+use Rattle.gtp_core.specs.Session.{GtpSession, problem_at, size_of}
+use Rattle.gtp_core.specs.Serving.{Answers, Meets, MayTell, HadNoMemory, Serves, due_of, solve_due, reply, last_reply}
+use Rattle.gtp_core.specs.Runs.{GoesThrough, IsRun, first_session}
+use Rattle.tsumego.specs.Laws.{AllTrue, AnswersTruly, GtpIsTrue, IsTrueEnd, IsTrueOf}
+
+-- texts that begin otherwise are told apart
+apart : (x y : ℕ) → nat_eq x y ≡ false → x ≡ y → ⊥
+apart x y h e = absurd (cc (eq-eqb x y e, h))
+
+heads_apart : (xs ys : List ℕ) → nat_eq (get_or xs 0 0) (get_or ys 0 0) ≡ false → xs ≡ ys → ⊥
+heads_apart xs ys h e = apart (get_or xs 0 0) (get_or ys 0 0) h (ap (λ l. get_or l 0 0) e)
+
+-- and so are texts of replies with one id
+drop_front : (xs ys zs : List ℕ) → xs ++ ys ≡ xs ++ zs → ys ≡ zs
+drop_front [] ys zs e = e
+drop_front (x ∷ xs) ys zs e = drop_front xs ys zs (cc e)
+
+told_same : (xs ys : List ℕ) → spaced_text xs ++ 10 ∷ 10 ∷ [] ≡ spaced_text ys ++ 10 ∷ 10 ∷ [] → xs ≡ ys
+told_same [] [] e = refl
+told_same [] (y ∷ ys) e = absurd (cc e)
+told_same (x ∷ xs) [] e = absurd (cc e)
+told_same (x ∷ xs) (y ∷ ys) e = ends (x ∷ xs) (y ∷ ys) (cc e)
+  where
+    long : (z : ℕ) (zs : List ℕ) → 10 ∷ [] ≡ z ∷ zs ++ 10 ∷ 10 ∷ [] → ⊥
+    long z [] e = absurd (cc e)
+    long z (w ∷ ws) e = absurd (cc e)
+
+    ends : (us vs : List ℕ) → us ++ 10 ∷ 10 ∷ [] ≡ vs ++ 10 ∷ 10 ∷ [] → us ≡ vs
+    ends [] [] e = refl
+    ends [] (v ∷ vs) e = absurd (long_front v vs e)
+      where
+        long_front : (v : ℕ) (vs : List ℕ) → 10 ∷ 10 ∷ [] ≡ v ∷ (vs ++ 10 ∷ 10 ∷ []) → ⊥
+        long_front v [] e = absurd (cc e)
+        long_front v (w ∷ []) e = absurd (cc e)
+        long_front v (w ∷ x ∷ xs) e = absurd (cc e)
+    ends (u ∷ us) [] e = absurd (long_back u us e)
+      where
+        long_back : (v : ℕ) (vs : List ℕ) → v ∷ (vs ++ 10 ∷ 10 ∷ []) ≡ 10 ∷ 10 ∷ [] → ⊥
+        long_back v [] e = absurd (cc e)
+        long_back v (w ∷ []) e = absurd (cc e)
+        long_back v (w ∷ x ∷ xs) e = absurd (cc e)
+    ends (u ∷ us) (v ∷ vs) e =
+        let head : u ≡ v = cc e in
+        let tail : us ++ 10 ∷ 10 ∷ [] ≡ vs ++ 10 ∷ 10 ∷ [] = cc e in
+        let rest = ends us vs tail in
+        λ i. head i ∷ rest i
+
+told_is : (id xs ys : List ℕ) → success id xs ≡ success id ys → xs ≡ ys
+told_is id xs ys e = told_same xs ys (drop_front id (spaced_text xs ++ 10 ∷ 10 ∷ []) (spaced_text ys ++ 10 ∷ 10 ∷ [])
+    (sym (append_assoc id (spaced_text xs) (10 ∷ 10 ∷ [])) ∙ ap (drop 1) e ∙ append_assoc id (spaced_text ys) (10 ∷ 10 ∷ [])))
+
+-- what a search told is true
+told_true : (s : GtpSession) (k : Colour) (q : GameProblem) (told : List ℕ) → problem_at s k ≡ Some q → MayTell (size_of s) k q told → IsTrueOf s k told
+told_true s k q told is (inl (t, wins, e)) = record {
+  wins = λ v same. (q, t, is, drop_front (codes "win ") v (turn_text (size_of s) t) (sym same ∙ e), wins.legal, wins.wins);
+  losses = λ same. absurd (heads_apart (codes "win " ++ turn_text (size_of s) t) (codes "loss") refl (sym e ∙ same));
+}
+told_true s k q told is (inr (inl (loses, e))) = record {
+  wins = λ v same. absurd (heads_apart (codes "win " ++ v) (codes "loss") refl (sym same ∙ e));
+  losses = λ same. (q, is, loses);
+}
+told_true s k q told is (inr (inr e)) = record {
+  wins = λ v same. absurd (heads_apart (codes "win " ++ v) (codes "unknown") refl (sym same ∙ e));
+  losses = λ same. absurd (heads_apart (codes "loss") (codes "unknown") refl (sym same ∙ e));
+}
+
+met_truly : (s new : GtpSession) (id told bytes : List ℕ) (k : Colour) (o : Option GameProblem) → problem_at s k ≡ o → bytes ≡ success id told → Meets s id (solve_due k o) (reply bytes) new → IsTrueOf s k told
+met_truly s new id told bytes k None e is met = absurd (heads_apart (success id told) (failure id (codes "no problem")) refl (sym is ∙ ap (λ out. out.bytes) met.0))
+met_truly s new id told bytes k (Some q) e is (text, may, out, kept) =
+    let same : told ≡ text = told_is id told text (sym is ∙ ap (λ o. o.bytes) out) in
+    told_true s k q told e (subst (MayTell (size_of s) k q) (sym same) may)
+
+answers_truly : (s new : GtpSession) (line bytes : List ℕ) → Serves s line (reply bytes) new → AnswersTruly s line bytes
+answers_truly s new line bytes (inr none) id word told words k asked colour is = absurd (heads_apart (success id told) (failure [] (codes "out of memory")) refl (sym is ∙ ap (λ out. out.bytes) none.written))
+answers_truly s new line bytes (inl answers) id word told words k asked colour is =
+    let met : Meets s id (due_of s (order_of (size_of s) (codes "tsu-solve" ∷ word ∷ words))) (reply bytes) new = subst (λ r. Answers s r (reply bytes) new) asked answers in
+    met_truly s new id told bytes k (problem_at s k) refl is (subst (λ o. Meets s id (due_of s (solve_order o)) (reply bytes) new) colour met)
+
+all_true : (s : GtpSession) (lines : List (List ℕ)) (written : List ℕ) (t : GtpSession) → GoesThrough s lines written t → AllTrue s lines written t
+all_true s [] written t h = h
+all_true s (line ∷ lines) written t h = (h.0, h.1, h.2, h.3, answers_truly s h.2 line h.0 h.3, h.4, all_true h.2 lines h.1 t h.5)
+
+run_is_true : (lines : List (List ℕ)) (written : List ℕ) → IsRun first_session lines written → ((t : GtpSession) × AllTrue first_session lines written t) ⊎ IsTrueEnd lines written
+run_is_true lines written (inl (t, through)) = inl (t, all_true first_session lines written t through)
+run_is_true lines written (inr e) = inr (record {
+  front = e.front;
+  line = e.line;
+  behind = e.behind;
+  parted = e.parted;
+  before = e.before;
+  mid = e.mid;
+  all = all_true first_session e.front e.before e.mid e.through;
+  bytes = e.bytes;
+  last = e.last;
+  served = e.served;
+  whole = e.whole;
+})
+
+pub gtp_is_true : GtpIsTrue
+gtp_is_true bytes written (inl (inl (answered, run))) = run_is_true (raw_lines bytes) written run
+gtp_is_true bytes written (inl (inr (failed, rest))) = absurd (cc failed)
+gtp_is_true bytes written (inr (failed, rest)) = absurd (cc failed)

@@ -1,0 +1,24 @@
+//! A session that serves GTP commands.
+
+ghost use Rattle.std.specs.Prelude.{Some};
+ghost use Rattle.tsumego.specs.Outcome.{Ran};
+
+use crate::answer::write_text;
+use crate::command_line::Command;
+use crate::status::Status;
+use crate::texts::{NO_MEMORY, NO_READ};
+use gtp_core::{GtpEnd, run_gtp};
+use std::alloc::Global;
+use std::io::{Read, Write};
+
+/// Serves GTP commands up to the end of the input, or to `quit`.
+pub fn serve_gtp<R: Read, W: Write>(alloc: Global, reader: &mut R, writer: &mut W) -> Status
+    ensures { Ran (Some Command.Gtp) (R.remaining reader.old) result (W.contents writer.old) (W.contents writer.new) }
+{
+    match run_gtp(alloc, reader, writer) {
+        Ok(()) => Status::Answered,
+        Err(GtpEnd::Read) => write_text(writer, NO_READ, Status::Failed),
+        Err(GtpEnd::Write) => Status::Failed,
+        Err(GtpEnd::Memory) => write_text(writer, NO_MEMORY, Status::Failed),
+    }
+}

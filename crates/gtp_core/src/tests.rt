@@ -208,7 +208,7 @@ fn passes_count(rt: HostRuntime) {
 fn long_line(rt: &impl Abort, alloc: Global, length: usize, wanted: &str) {
     let mut input = Vec::new(alloc);
     input.extend_from_slice(b"name #").expect(rt, "memory");
-    while input.len() < length {
+    for _ in input.len()..length {
         input.push(b'x').expect(rt, "memory");
     }
     input.extend_from_slice(b"\nname\n").expect(rt, "memory");

@@ -78,7 +78,9 @@ fn turns_one_by_one(state: &mut Play) -> ArrayVec<Turn, MAX_TURNS> {
         if state.over().is_none() {
             if let Ok(Some(turn)) = state.after_next(&mut left) {
                 state.back();
-                all.push(turn);
+                if all.try_push(turn).is_err() {
+                    return all;
+                }
             }
         }
     }

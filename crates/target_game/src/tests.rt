@@ -155,7 +155,7 @@ fn the_past_decides_at_a_ko(rt: HostRuntime) {
         turns_one_by_one(&mut barred).as_slice(),
         [Turn::Pass].as_slice()
     );
-    assert_eq!(rt; barred.try_after(turn(&rt, "ba")), Ok(false));
+    assert_eq!(rt; play(&mut barred, turn(&rt, "ba")), false);
     assert_eq!(rt; barred.colouring(), three(&rt, "O.OXO...."));
     assert_eq!(rt; barred.mover(), Colour::Black);
     assert_eq!(rt; barred.child(turn(&rt, "ba")), None);

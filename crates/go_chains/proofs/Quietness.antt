@@ -40,7 +40,7 @@ differ_self i h = elim (or_cases (nat_eq (i + 1) i) (nat_eq (i + 1) i) h) [
 ]
 
 -- no point is adjacent to itself
-beside_not_self : (n p x : ℕ) → adjacent n p x ≡ true → x ≢ p
+pub beside_not_self : (n p x : ℕ) → adjacent n p x ≡ true → x ≢ p
 beside_not_self n p x adj same =
     let self : adjacent n p p ≡ true = subst (λ z. adjacent n p z ≡ true) same adj in
     elim (or_cases (nat_eq (row_of n p) (row_of n p) && differ_by_one (column_of n p) (column_of n p)) (nat_eq (column_of n p) (column_of n p) && differ_by_one (row_of n p) (row_of n p)) (and_right (nat_lt p (n * n) && nat_lt p (n * n)) _ self)) [

@@ -1,4 +1,4 @@
-//! A board takes another colouring over: the chains with a stone that the other does not hold go, and then its stones that are missing are put down.
+//! A board takes another colouring over: its stones that the other does not hold go, and then the other's that are missing are put down.
 
 ghost use Rattle.std.specs.Prelude.{◌≡◌, ◌≢◌, ◌⊎◌, ◌*◌, ◌<◌, ℕ, IsTrue, OnOk, OnErr, IfErr, IfSome, IfNone, Some, None, length, slice_index};
 ghost use Rattle.go_points.specs.declared.Cell.TheVariants.{Empty};
@@ -9,32 +9,31 @@ ghost use Rattle.go_points.specs.Place.{IsOn, number_of};
 ghost use Rattle.go_chains.specs.Chains.{nowhere, IsBoard, IsSettled, TellsLiberties, LivesAround, LivesWhereNew};
 
 use crate::NoLiberty;
-use crate::circles::remove;
+use crate::leaf::take_off;
 use crate::stones::fill;
 use go_points::{Cell, Colouring, MAX_POINTS, Point};
 use stone_key::KeyedColouring;
 
-// Takes the chains off that have a stone where the other colouring holds something else.
+// Takes the stones off where the other colouring holds something else, and of their chains what cannot stay.
 fn remove_changed(
     colouring: &mut KeyedColouring,
     heads: &mut [u16],
-    next: &[u16],
+    next: &mut [u16],
     counts: &mut [u32],
     wanted: &Colouring,
 )
-    requires settled { IsSettled (side_of colouring.old) colouring.old heads.old next.now counts.old }
+    requires settled { IsSettled (side_of colouring.old) colouring.old heads.old next.old counts.old }
     requires same_size { side_of wanted.now ≡ side_of colouring.old }
     ensures size { side_of colouring.new ≡ side_of colouring.old }
-    ensures settled { IsSettled (side_of colouring.old) colouring.new heads.new next.now counts.new }
+    ensures settled { IsSettled (side_of colouring.old) colouring.new heads.new next.new counts.new }
     ensures rest { (p : ℕ) → p < side_of colouring.old * side_of colouring.old → (cell_at colouring.new p ≡ Empty) ⊎ (cell_at colouring.new p ≡ cell_at wanted.now p) }
 {
     let size = colouring.size();
     prove!(size.area() <= MAX_POINTS);
     let mut number = colouring.colouring().next_difference(wanted, 0);
     'changed: while number < size.area() {
-        let head = heads[number];
-        if head != MAX_POINTS as u16 {
-            remove(colouring, heads, next, counts, head);
+        if heads[number] != MAX_POINTS as u16 {
+            take_off(colouring, heads, next, counts, number);
         }
         number = colouring.colouring().next_difference(wanted, number + 1);
     }

@@ -11,8 +11,8 @@ ghost use Rattle.go_chains.specs.Quiet.{has_more as has_more_of, loses_last, let
 use go_points::{Colour, MAX_POINTS, PointSet, Size};
 use stone_key::KeyedColouring;
 
-// How many points beside the point have this head.
-fn shared(heads: &[u16], size: Size, number: usize, head: u16) -> u32
+/// How many points beside the point have this head.
+pub(crate) fn shared(heads: &[u16], size: Size, number: usize, head: u16) -> u32
     requires room { size * size ≤ MAX_POINTS }
     requires heads_full { length heads.now ≡ MAX_POINTS }
     requires on { number < size * size }

@@ -10,8 +10,8 @@ use crate::circles::{merge, take_from};
 use go_points::{Cell, Colour, MAX_POINTS};
 use stone_key::KeyedColouring;
 
-// How many empty points are beside the point.
-fn empties_at(colouring: &KeyedColouring, number: usize) -> u32
+/// How many empty points are beside the point.
+pub(crate) fn empties_at(colouring: &KeyedColouring, number: usize) -> u32
     requires on { number < side_of colouring.now * side_of colouring.now }
     ensures { result ≡ empties_beside (side_of colouring.now) colouring.now number }
 {

@@ -12,7 +12,7 @@ ghost use Rattle.tsumego.specs.Replies.{IsSolutionOf, Writes};
 use crate::status::Status;
 use crate::texts::{NO_MEMORY, TOO_LARGE};
 use cert_check::Checked;
-use cert_check::laws::{accepts_version_one_texts, valid_claims_answer};
+use cert_check::laws::{accepts_valid_texts, valid_claims_answer};
 use proof_cert::write_cert;
 use sgf_text::{Tree, WriteFault, write_bytes, write_tree};
 use solution_tree::laws::expansions_ascend;
@@ -74,7 +74,7 @@ fn answer_with_tree<W: Write>(alloc: Global, checked: &Checked, writer: &mut W) 
 fn answer_with_claim<W: Write>(alloc: Global, checked: &Checked, writer: &mut W) -> Status
     ensures { HasLeft (MayAnswer true checked.now.problem) result (W.contents writer.old) (W.contents writer.new) }
 {
-    accepts_version_one_texts();
+    accepts_valid_texts();
     canonical_reads();
     problems_are_kept(checked.problem());
     let _winner = checked.winner();

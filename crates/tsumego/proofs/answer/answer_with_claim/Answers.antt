@@ -22,7 +22,7 @@ returns-then-is_err g c =
     let kept : IsProblem k.problem = subst IsProblem c.problem.ensures c.problems_are_kept.ensures in
     let whole : IsTrue (is_tree c.in-Ok.tree) = subst (λ t. IsTrue (is_tree t)) c.tree.view_is c.tree.invariant in
     let same : c.in-Ok.tree ≡ canonical k.problem = c.in-Ok.ensures ∙ ap canonical c.problem-3.ensures in
-    let solves : (bytes : List ℕ) → text (claim_of k.certificate) ≡ Some bytes → Solved true k.problem (line (tree_text c.in-Ok.tree) ++ bytes) = λ bytes spelled. claim_solves k c.winner-winner.ensures.checked c.accepts_version_one_texts.ensures c.canonical_reads.ensures kept low high c.in-Ok.tree whole same bytes spelled in
+    let solves : (bytes : List ℕ) → text (claim_of k.certificate) ≡ Some bytes → Solved true k.problem (line (tree_text c.in-Ok.tree) ++ bytes) = λ bytes spelled. claim_solves k c.winner-winner.ensures.checked c.accepts_valid_texts.ensures c.canonical_reads.ensures kept low high c.in-Ok.tree whole same bytes spelled in
     left_front (MayAnswer true k.problem) Answered (g.W.Write.contents c.args.writer.now) (g.W.Write.contents c.write_line.new.writer) (line (tree_text c.in-Ok.tree)) (text (claim_of k.certificate)) (λ bytes spelled. inl (refl, solves bytes spelled))
     c.winner-winner.ensures.checked.valid.spelled c.write_line.result (c.if-is_err.ensures.value) c.write_line.ensures.cut
 
@@ -34,7 +34,7 @@ returns-in-Ok-write_cert g c =
     let kept : IsProblem k.problem = subst IsProblem c.problem.ensures c.problems_are_kept.ensures in
     let whole : IsTrue (is_tree c.in-Ok.tree) = subst (λ t. IsTrue (is_tree t)) c.tree.view_is c.tree.invariant in
     let same : c.in-Ok.tree ≡ canonical k.problem = c.in-Ok.ensures ∙ ap canonical c.problem-3.ensures in
-    let solves : (bytes : List ℕ) → text (claim_of k.certificate) ≡ Some bytes → Solved true k.problem (line (tree_text c.in-Ok.tree) ++ bytes) = λ bytes spelled. claim_solves k c.winner-winner.ensures.checked c.accepts_version_one_texts.ensures c.canonical_reads.ensures kept low high c.in-Ok.tree whole same bytes spelled in
+    let solves : (bytes : List ℕ) → text (claim_of k.certificate) ≡ Some bytes → Solved true k.problem (line (tree_text c.in-Ok.tree) ++ bytes) = λ bytes spelled. claim_solves k c.winner-winner.ensures.checked c.accepts_valid_texts.ensures c.canonical_reads.ensures kept low high c.in-Ok.tree whole same bytes spelled in
     left_claim (MayAnswer true k.problem) Answered (g.W.Write.contents c.args.writer.now) (g.W.Write.contents c.write_line.new.writer) (g.W.Write.contents c.write_cert.new.writer) (line (tree_text c.in-Ok.tree)) (text (claim_of k.certificate))
     (λ bytes spelled. inl (refl, solves bytes spelled)) (front_written c.write_line.result (Appends (g.W.Write.contents c.args.writer.now) (g.W.Write.contents c.write_line.new.writer) (line (tree_text c.in-Ok.tree))) c.if-is_err.ensures.value c.write_line.ensures.written)
     (subst (λ z. IsSomeAnd (text (claim_of z)) (λ bytes. Appends (g.W.Write.contents c.write_line.new.writer) (g.W.Write.contents c.write_cert.new.writer) bytes)) c.certificate.ensures c.in-Ok-write_cert.ensures.written)
@@ -47,7 +47,7 @@ returns g c =
     let kept : IsProblem k.problem = subst IsProblem c.problem.ensures c.problems_are_kept.ensures in
     let whole : IsTrue (is_tree c.in-Ok.tree) = subst (λ t. IsTrue (is_tree t)) c.tree.view_is c.tree.invariant in
     let same : c.in-Ok.tree ≡ canonical k.problem = c.in-Ok.ensures ∙ ap canonical c.problem-3.ensures in
-    let solves : (bytes : List ℕ) → text (claim_of k.certificate) ≡ Some bytes → Solved true k.problem (line (tree_text c.in-Ok.tree) ++ bytes) = λ bytes spelled. claim_solves k c.winner-winner.ensures.checked c.accepts_version_one_texts.ensures c.canonical_reads.ensures kept low high c.in-Ok.tree whole same bytes spelled in
+    let solves : (bytes : List ℕ) → text (claim_of k.certificate) ≡ Some bytes → Solved true k.problem (line (tree_text c.in-Ok.tree) ++ bytes) = λ bytes spelled. claim_solves k c.winner-winner.ensures.checked c.accepts_valid_texts.ensures c.canonical_reads.ensures kept low high c.in-Ok.tree whole same bytes spelled in
     left_by_fault (MayAnswer true k.problem) Answered (g.W.Write.contents c.args.writer.now) (g.W.Write.contents c.write_line.new.writer) (g.W.Write.contents c.write_cert.new.writer) (line (tree_text c.in-Ok.tree)) (text (claim_of k.certificate))
     (λ bytes spelled. inl (refl, solves bytes spelled)) (front_written c.write_line.result (Appends (g.W.Write.contents c.args.writer.now) (g.W.Write.contents c.write_line.new.writer) (line (tree_text c.in-Ok.tree))) c.if-is_err.ensures.value c.write_line.ensures.written)
     c.winner-winner.ensures.checked.valid.spelled c.write_cert.result c.in-Err._fault c.in-Err.is

@@ -3,6 +3,8 @@
 
 mod judged;
 mod run;
+#[cfg(test)]
+mod tests;
 mod told;
 mod words;
 

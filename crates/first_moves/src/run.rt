@@ -85,11 +85,7 @@ fn read_front<R: Read>(reader: &mut R, into: &mut Vec<u8>) -> Result<bool, Alloc
 }
 
 /// What is written for what is asked for and these bytes.
-fn reply_to(
-    alloc: Global,
-    request: Request,
-    bytes: &[u8],
-) -> Result<(String, Status), AllocError> {
+fn reply_to(alloc: Global, request: Request, bytes: &[u8]) -> Result<(String, Status), AllocError> {
     let tree = match read_tree(alloc, bytes) {
         Ok((tree, _end)) => tree,
         Err(SgfFault::Memory) => return Err(AllocError),

@@ -5,14 +5,7 @@ use std::alloc::Global;
 use std::process::Abort;
 
 // What these words and this input give.
-fn gives(
-    rt: &impl Abort,
-    alloc: Global,
-    words: &[&str],
-    input: &str,
-    status: Status,
-    text: &str,
-) {
+fn gives(rt: &impl Abort, alloc: Global, words: &[&str], input: &str, status: Status, text: &str) {
     let mut reader = input.as_bytes();
     let mut writer = Vec::new(alloc);
     let ended = run(alloc, words, &mut reader, &mut writer);
@@ -136,6 +129,20 @@ fn as_json(rt: HostRuntime) {
 #[test]
 fn what_is_refused(rt: HostRuntime) {
     let alloc = rt.alloc();
-    gives(&rt, alloc, &["first_moves"], "", Status::Refused, "refused: no tree\n");
-    gives(&rt, alloc, &["first_moves"], "(;SZ[3])", Status::Refused, "refused: no problem node\n");
+    gives(
+        &rt,
+        alloc,
+        &["first_moves"],
+        "",
+        Status::Refused,
+        "refused: no tree\n",
+    );
+    gives(
+        &rt,
+        alloc,
+        &["first_moves"],
+        "(;SZ[3])",
+        Status::Refused,
+        "refused: no problem node\n",
+    );
 }

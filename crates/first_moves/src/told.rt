@@ -97,7 +97,9 @@ fn tell_tally(
         "several"
     };
     let line = if json {
-        format!(in alloc; "{{\"solution\":\"{word}\",\"winning\":{winning},\"unknown\":{unknown}}}\n")?
+        format!(in alloc;
+            "{{\"solution\":\"{word}\",\"winning\":{winning},\"unknown\":{unknown}}}\n"
+        )?
     } else {
         format!(in alloc; "solution {word}: {winning} winning, {unknown} unknown\n")?
     };

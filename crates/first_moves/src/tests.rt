@@ -100,7 +100,7 @@ fn rabbity_six(rt: HostRuntime) {
     );
 }
 
-// A move of three steps is not found to win with one step.
+// With one state that may be expanded, the capture after a pass is found, and what takes two more turns is not.
 #[test]
 fn what_is_unknown(rt: HostRuntime) {
     gives(
@@ -109,7 +109,7 @@ fn what_is_unknown(rt: HostRuntime) {
         &["first_moves", "--steps", "1"],
         "(;FF[4]GM[1]SZ[3]AB[ab]AW[aa]PL[W]TR[aa]SQ[ba])",
         Status::Answered,
-        "ba unknown\npass unknown\nsolution open: 0 winning, 2 unknown\n",
+        "ba unknown\npass loses\nsolution open: 0 winning, 1 unknown\n",
     );
 }
 

@@ -1,0 +1,26 @@
+# Completions of tsumego for bash: source this file, or install it as PREFIX/share/bash-completion/completions/tsumego.
+
+_tsumego() {
+    local word=${COMP_WORDS[COMP_CWORD]} before=${COMP_WORDS[COMP_CWORD - 1]} command= options= i
+    local commands='check within audit solve gtp help'
+    for ((i = 1; i < COMP_CWORD; i++)); do
+        case ${COMP_WORDS[i]} in
+        check | within | audit | solve | gtp | help)
+            command=${COMP_WORDS[i]}
+            break
+            ;;
+        esac
+    done
+    COMPREPLY=()
+    # What follows these is a number.
+    case $before in --steps | --table | --nodes) return ;; esac
+    case $command in
+    '') options="$commands --help -h" ;;
+    solve) options='--steps --table --proof --help -h' ;;
+    within) options='--nodes --help -h' ;;
+    help) options=$commands ;;
+    *) options='--help -h' ;;
+    esac
+    mapfile -t COMPREPLY < <(compgen -W "$options" -- "$word")
+}
+complete -o default -F _tsumego tsumego

@@ -1,0 +1,26 @@
+//! first_moves: says of each first turn of a problem who wins after it.
+#![tactic(auto)]
+
+mod judged;
+mod run;
+#[cfg(test)]
+mod tests;
+mod told;
+mod words;
+
+use run::{Status, run};
+use std::convert::AsStr;
+use std::env;
+use std::process::ExitCode;
+
+fn main(rt: HostRuntime) -> ExitCode {
+    let alloc = rt.alloc();
+    let Ok(words) = env::args(&rt) else {
+        return ExitCode::from(Status::BadWords.code());
+    };
+    let Ok(words) = words.collect::<Vec<String>>(alloc) else {
+        return ExitCode::from(Status::Failed.code());
+    };
+    let status = run(alloc, words.as_slice(), &mut rt.stdin(), &mut rt.stdout());
+    ExitCode::from(status.code())
+}

@@ -1,0 +1,102 @@
+//! Copies of the parts of a tree, in memory of their own.
+
+ghost use Rattle.std.specs.Prelude.{◌≡◌, ◌++◌, IfOk, OnOk};
+
+use sgf_text::{Bytes, Property, SgfNode, Tree, Values};
+use std::alloc::{AllocError, Global};
+
+/// The same bytes.
+pub(crate) fn copy_bytes(alloc: Global, bytes: &Bytes) -> Result<Bytes, AllocError>
+    ensures { IfOk result (λ copy. copy ≡ bytes.now) }
+{
+    Ok(Bytes::from_vec(bytes.as_slice().to_vec(alloc)?))
+}
+
+/// The same values.
+fn copy_values(alloc: Global, values: &[Bytes]) -> Result<Vec<Bytes>, AllocError>
+    ensures { IfOk result (λ copy. copy.items ≡ values.now) }
+{
+    let mut copy = Vec::new(alloc);
+    for i in 0..values.len() {
+        copy.push(copy_bytes(alloc, &values[i])?)?;
+    }
+    Ok(copy)
+}
+
+/// The same property.
+pub(crate) fn copy_property(alloc: Global, property: &Property) -> Result<Property, AllocError>
+    ensures { IfOk result (λ copy. copy ≡ property.now) }
+{
+    let ident = copy_bytes(alloc, &property.ident)?;
+    let values = copy_values(alloc, property.values.as_slice())?;
+    Ok(Property {
+        ident,
+        values: Values::from_vec(values),
+    })
+}
+
+/// The same properties.
+fn copy_properties(alloc: Global, properties: &[Property]) -> Result<Vec<Property>, AllocError>
+    ensures { IfOk result (λ copy. copy.items ≡ properties.now) }
+{
+    let mut copy = Vec::new(alloc);
+    for i in 0..properties.len() {
+        copy.push(copy_property(alloc, &properties[i])?)?;
+    }
+    Ok(copy)
+}
+
+/// The same node.
+pub(crate) fn copy_node(alloc: Global, node: &SgfNode) -> Result<SgfNode, AllocError>
+    ensures { IfOk result (λ copy. copy ≡ node.now) }
+{
+    let properties = copy_properties(alloc, node.as_slice())?;
+    match SgfNode::new(properties) {
+        Some(copy) => Ok(copy),
+        None => unreachable!(),
+    }
+}
+
+/// Puts the same nodes at the end.
+pub(crate) fn push_nodes(
+    alloc: Global,
+    nodes: &[SgfNode],
+    into: &mut Vec<SgfNode>,
+) -> Result<(), AllocError>
+    ensures { OnOk result (into.new.items ≡ into.old.items ++ nodes.now) }
+{
+    for i in 0..nodes.len() {
+        into.push(copy_node(alloc, &nodes[i])?)?;
+    }
+    Ok(())
+}
+
+/// The same tree. It recurses as deep as trees are nested.
+pub(crate) fn copy_tree(alloc: Global, tree: &Tree) -> Result<Tree, AllocError>
+    ensures { IfOk result (λ copy. copy ≡ tree.now) }
+{
+    let mut nodes = Vec::new(alloc);
+    push_nodes(alloc, tree.nodes(), &mut nodes)?;
+    let mut children = Vec::new(alloc);
+    for child in tree.children() {
+        children.push(copy_tree(alloc, child)?)?;
+    }
+    match Tree::new(nodes, children) {
+        Some(copy) => Ok(copy),
+        None => unreachable!(),
+    }
+}
+
+/// Puts the same trees at the end.
+pub(crate) fn push_trees(
+    alloc: Global,
+    trees: &[Tree],
+    into: &mut Vec<Tree>,
+) -> Result<(), AllocError>
+    ensures { OnOk result (into.new.items ≡ into.old.items ++ trees.now) }
+{
+    for i in 0..trees.len() {
+        into.push(copy_tree(alloc, &trees[i])?)?;
+    }
+    Ok(())
+}

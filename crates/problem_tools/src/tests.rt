@@ -1,0 +1,150 @@
+//! Files in the forms that editors and servers write, and what is made of them. The records that are wanted are written
+//! by hand from the rules of the formats.
+
+use crate::run::{Status, run};
+use std::alloc::Global;
+use std::process::Abort;
+
+// What these words and this input give.
+fn gives(rt: &impl Abort, alloc: Global, words: &[&str], input: &str, status: Status, text: &str) {
+    let mut reader = input.as_bytes();
+    let mut writer = Vec::new(alloc);
+    let mut notes = Vec::new(alloc);
+    let ended = run(alloc, words, &mut reader, &mut writer, &mut notes);
+    let said = String::from_utf8(writer).ok().expect(rt, "a text");
+    assert_eq!(rt; said.as_str(), text);
+    assert_eq!(rt; ended, status);
+}
+
+// Two games in a file, the first with a variation.
+const TWO_GAMES: &str = "(;SZ[9];B[aa](;W[bb])(;W[cc]))\r\n\r\n(;SZ[7]C[two])\n";
+
+#[test]
+fn games_of_a_file(rt: HostRuntime) {
+    let alloc = rt.alloc();
+    gives(
+        &rt,
+        alloc,
+        &["problem_tools", "split", "1"],
+        TWO_GAMES,
+        Status::Answered,
+        "(;SZ[9];B[aa](;W[bb])(;W[cc]))\n",
+    );
+    gives(
+        &rt,
+        alloc,
+        &["problem_tools", "split", "2"],
+        TWO_GAMES,
+        Status::Answered,
+        "(;SZ[7]C[two])\n",
+    );
+    gives(
+        &rt,
+        alloc,
+        &["problem_tools", "split", "3"],
+        TWO_GAMES,
+        Status::Refused,
+        "refused: no tree\n",
+    );
+}
+
+// A setup with old names, a rectangle, no PL and line ends of another system; its comment stays. The chain that can be
+// taken is part of the region.
+#[test]
+fn a_setup_is_marked(rt: HostRuntime) {
+    let alloc = rt.alloc();
+    gives(
+        &rt,
+        alloc,
+        &["problem_tools", "mark", "--target", "aa", "--to-play", "W"],
+        "(;GaMe[1]SiZe[3]AddBlack[ab:bb]\r\nAddWhite[aa]C[who \\] wins?])",
+        Status::Answered,
+        "(;GM[1]SZ[3]AB[ab:bb]AW[aa]C[who \\] wins?]PL[W]TR[aa]SQ[ba][ca][ab][bb][cb][ac][bc][cc])\n",
+    );
+}
+
+// Earlier marks are taken out, later ones and the variation stay; the chain is marked whole.
+#[test]
+fn a_node_of_a_game_is_marked(rt: HostRuntime) {
+    let alloc = rt.alloc();
+    gives(
+        &rt,
+        alloc,
+        &[
+            "problem_tools",
+            "mark",
+            "--node",
+            "2",
+            "--target",
+            "bb",
+            "--region",
+            "cc",
+        ],
+        "(;SZ[5]TR[aa];B[bb]SQ[cc];AB[cb]PL[W]C[here](;W[dd]TR[dd])(;W[ee]))",
+        Status::Answered,
+        "(;SZ[5];B[bb];AB[cb]C[here]PL[W]TR[bb][cb]SQ[cc](;W[dd]TR[dd])(;W[ee]))\n",
+    );
+}
+
+// Beside a move PL counts for nothing: the marks stand in a node of their own.
+#[test]
+fn marks_after_a_move(rt: HostRuntime) {
+    let alloc = rt.alloc();
+    gives(
+        &rt,
+        alloc,
+        &[
+            "problem_tools",
+            "mark",
+            "--target",
+            "bb",
+            "--region",
+            "ab,cb:dc",
+            "--to-play",
+            "B",
+        ],
+        "(;SZ[5];B[bb];W[ee])",
+        Status::Answered,
+        "(;SZ[5];B[bb];W[ee];PL[B]TR[bb]SQ[ab][cb][db][cc][dc])\n",
+    );
+}
+
+#[test]
+fn what_is_refused(rt: HostRuntime) {
+    let alloc = rt.alloc();
+    let words = ["problem_tools", "mark", "--target", "aa", "--node", "1"];
+    gives(
+        &rt,
+        alloc,
+        &words,
+        "(;SZ[3]AW[aa])",
+        Status::Refused,
+        "refused: the main line has no such node\n",
+    );
+    let words = ["problem_tools", "mark", "--target", "a]"];
+    gives(
+        &rt,
+        alloc,
+        &words,
+        "(;SZ[3]AW[aa])",
+        Status::Refused,
+        "refused: the marks are no points\n",
+    );
+    let words = ["problem_tools", "mark", "--target", "bb"];
+    gives(
+        &rt,
+        alloc,
+        &words,
+        "(;SZ[3]AW[aa])",
+        Status::Refused,
+        "refused: bad targets\n",
+    );
+    gives(
+        &rt,
+        alloc,
+        &words,
+        "",
+        Status::Refused,
+        "refused: no tree\n",
+    );
+}

@@ -1,4 +1,4 @@
--- What is left of a text that was written in parts, and what a claim that was found lets be said.
+-- What is left of a text that was written, and what a claim that was found lets be said.
 use Rattle.std.proofs.Common.{◌≡◌, ℕ, ◌<◌, ◌≤◌, Bool, true, false, List, ◌++◌, length, Option, Some, None, Result, Ok, Err, IsTrue, inl, inr, refl, sym, ◌∙◌, ap, subst, append_assoc, ◌⊎◌}
 use Rattle.std.proofs.KnownBytes.{Appends-trans}
 use Rattle.std.specs.Prelude.{IsSomeAnd, IsSome, ◌↔◌, is_err, IfOk, OnOk, OnErr}
@@ -21,31 +21,31 @@ use Rattle.solution_tree.specs.Laws.{ExpansionsAscend}
 use Rattle.tsumego.specs.declared.command_line.Command.{Command}
 use Rattle.tsumego.specs.declared.command_line.Command.TheVariants.{Solve}
 use Rattle.tsumego.specs.declared.reply.Response.{Response}
-use Rattle.tsumego.specs.declared.reply.Response.TheVariants.{Text, Solution}
+use Rattle.tsumego.specs.declared.reply.Response.TheVariants.{Text, Solution, TooLong}
 use Rattle.tsumego.specs.declared.status.Status.{Status}
 use Rattle.tsumego.specs.declared.status.Status.TheVariants.{Answered, Unanswered, Failed}
-use Rattle.tsumego.specs.Texts.{line, too_large_text}
+use Rattle.tsumego.specs.Texts.{line, no_memory_text, no_read_text, too_large_text}
 use Rattle.tsumego.specs.Solutions.{Solved, MayAnswer, Unsolved}
 use Rattle.tsumego.specs.Answers.{IsRecord, Says, SaysFailure}
-use Rattle.tsumego.specs.Outcome.{Saying, HasLeft, Tells, Ran}
+use Rattle.tsumego.specs.Outcome.{Saying, Leaves, HasLeftOn, Outcome, Tells, RanOn}
+use Rattle.tsumego.proofs.Running.{explained}
 use Rattle.tsumego.specs.Replies.{IsSolutionOf, IsReply, IsSearched, Writes}
 
 -- WHAT IS LEFT
 
-module _ (Said : Saying) (old new : Option (List ℕ)) (text : List ℕ) where
-  pub left_whole : (status : Status) → Said status text → Appends old new text → HasLeft Said status old new
-  left_whole status said taken = (text, taken, inl said)
+module _ (Said : Saying) (fails : Type 0) (old new : Option (List ℕ)) (text : List ℕ) where
+  pub left_said : (status result : Status) → Said status text → (status ≡ Failed → ⊥) → Writes fails old new text status result → HasLeftOn Said fails result old new
+  left_said status result said whole (inl (same, taken)) = (text, taken, inl (subst (λ s. Said s text) (sym same) said), λ failed. absurd (whole (sym same ∙ failed)))
+  left_said status result said whole (inr (failed, fault, (part, rest, all, taken))) = (part, taken, inr (failed, inr (rest, inl (status, subst (Said status) all said))), λ e. inr (inr fault))
 
-  pub left_cut : (status : Status) → Said status text → TakesPart old new text → HasLeft Said Failed old new
-  left_cut status said (part, rest, whole, taken) = (part, taken, inr (refl, inr (rest, inl (status, subst (Said status) whole said))))
+  pub left_no_memory : (result : Status) → text ≡ no_memory_text → Writes fails old new text Failed result → HasLeftOn Said fails result old new
+  left_no_memory result is (inl (same, taken)) = (text, taken, inr (same, inl (inl is)), λ e. inl is)
+  left_no_memory result is (inr (failed, fault, (part, rest, all, taken))) = (part, taken, inr (failed, inr (rest, inr (subst SaysFailure all (inl is)))), λ e. inr (inr fault))
 
-  pub left_said : (status result : Status) → Said status text → Writes old new text status result → HasLeft Said result old new
-  left_said status result said (inl (same, taken)) = subst (λ s. HasLeft Said s old new) (sym same) (left_whole status said taken)
-  left_said status result said (inr (failed, part)) = subst (λ s. HasLeft Said s old new) (sym failed) (left_cut status said part)
-
-  pub left_failed : (result : Status) → SaysFailure text → Writes old new text Failed result → HasLeft Said result old new
-  left_failed result says (inl (same, taken)) = (text, taken, inr (same, inl says))
-  left_failed result says (inr (failed, (part, rest, whole, taken))) = (part, taken, inr (failed, inr (rest, inr (subst SaysFailure whole says))))
+-- what may be said of a claim is no failure
+pub answers_no_failure : (proof : Bool) (q : GameProblem) (status : Status) (text : List ℕ) → MayAnswer proof q status text → status ≡ Failed → ⊥
+answers_no_failure proof q status text (inl (answered, solved)) failed = absurd (cc (sym answered ∙ failed))
+answers_no_failure proof q status text (inr (unanswered, as_tree, large, is)) failed = absurd (cc (sym unanswered ∙ failed))
 
 -- WHAT MAY BE SAID
 
@@ -79,6 +79,7 @@ module _ (k : CheckedClaim) (checked : IsChecked k.problem (claim_of k.certifica
 -- A search that found a claim, or did not, answers the command.
 pub searched_says : (budget table : ℕ) (proof : Bool) (bytes : List ℕ) (tree : GameTree) (n : ℕ) (q : GameProblem) (r : Response) → IsRecord bytes tree n q → IsSearched budget proof q r → IsReply (Solve budget table proof) bytes r
 searched_says budget table proof bytes tree n q (Text reply) is (status, unsolved) = inr (q, tree, n, is, inr (status, unsolved))
+searched_says budget table proof bytes tree n q TooLong is none = absurd none
 searched_says budget table proof bytes tree n q (Solution checked as_proof) is (same, kind) = λ status said may. inr (q, tree, n, is, go status said (subst (λ p. MayAnswer p q status said) kind (subst (λ p. MayAnswer as_proof p status said) same may)))
   where
     go : (status : Status) (said : List ℕ) → MayAnswer proof q status said → ((status ≡ Answered) × Solved proof q said) ⊎ ((status ≡ Unanswered) × Unsolved budget proof q said)
@@ -86,41 +87,26 @@ searched_says budget table proof bytes tree n q (Solution checked as_proof) is (
     go status said (inr (unanswered, as_tree, large, is)) = inr (unanswered, inr (as_tree, large, is))
 
 -- What is left of it is left by the run.
-pub ran_left : (command : Command) (told : Option (List ℕ)) (bytes : List ℕ) (q : GameProblem) (proof : Bool) (result : Status) (old new : Option (List ℕ)) → Tells told bytes
-    → ((status : Status) (text : List ℕ) → MayAnswer proof q status text → Says command bytes status text) → HasLeft (MayAnswer proof q) result old new → Ran (Some command) told result old new
-ran_left command told bytes q proof result old new tells says (written, taken, inl may) = (bytes, written, tells, taken, inl (says result written may))
-ran_left command told bytes q proof result old new tells says (written, taken, inr (failed, inl failure)) = (bytes, written, tells, taken, inr (failed, inl failure))
-ran_left command told bytes q proof result old new tells says (written, taken, inr (failed, inr (rest, inl (status, may)))) = (bytes, written, tells, taken, inr (failed, inr (rest, inl (status, says status (written ++ rest) may))))
-ran_left command told bytes q proof result old new tells says (written, taken, inr (failed, inr (rest, inr failure))) = (bytes, written, tells, taken, inr (failed, inr (rest, inr failure)))
-
--- What a claim's text leaves behind the record.
-pub left_claim : (Said : Saying) (status : Status) (old mid new : Option (List ℕ)) (front : List ℕ) (spelled : Option (List ℕ)) → ((bytes : List ℕ) → spelled ≡ Some bytes → Said status (front ++ bytes)) → Appends old mid front
-    → IsSomeAnd spelled (λ bytes. Appends mid new bytes) → HasLeft Said status old new
-left_claim Said status old mid new front None says taken all = absurd all
-left_claim Said status old mid new front (Some bytes) says taken all = left_whole Said old new (front ++ bytes) status (says bytes refl) (Appends-trans old mid new front bytes taken all)
-
-pub left_claim_cut : (Said : Saying) (status : Status) (old mid new : Option (List ℕ)) (front : List ℕ) (spelled : Option (List ℕ)) → ((bytes : List ℕ) → spelled ≡ Some bytes → Said status (front ++ bytes)) → Appends old mid front
-    → IsSomeAnd spelled (λ bytes. TakesPart mid new bytes) → HasLeft Said Failed old new
-left_claim_cut Said status old mid new front None says taken cut = absurd cut
-left_claim_cut Said status old mid new front (Some bytes) says taken (part, rest, whole, more) =
-    left_cut Said old new (front ++ bytes) status (says bytes refl) (front ++ part, rest, ap (λ t. front ++ t) whole ∙ sym (append_assoc front part rest), Appends-trans old mid new front part taken more)
-
--- A claim that is checked has a spelling, so where it was not written the writer failed.
-pub left_by_fault : (Said : Saying) (status : Status) (old mid new : Option (List ℕ)) (front : List ℕ) (spelled : Option (List ℕ)) → ((bytes : List ℕ) → spelled ≡ Some bytes → Said status (front ++ bytes)) → Appends old mid front
-    → IsSome spelled → (r : Result (Unit {0}) CertWrite) (fault : CertWrite) → r ≡ Err fault → ((r ≡ Err NoSpelling) ↔ (spelled ≡ None)) → (r ≡ Err Write → IsSomeAnd spelled (λ bytes. TakesPart mid new bytes))
-    → HasLeft Said Failed old new
-left_by_fault Said status old mid new front spelled says taken some r Write is unspelled cut = left_claim_cut Said status old mid new front spelled says taken (cut is)
-left_by_fault Said status old mid new front spelled says taken some r NoSpelling is unspelled cut = absurd (none (subst IsSome (unspelled.0 is) some))
+pub ran_left : (command : Command) (told : Option (List ℕ)) (read : List ℕ → Type 0) (fails : Type 0) (bytes : List ℕ) (q : GameProblem) (proof : Bool) (result : Status) (old new : Option (List ℕ)) → Tells told bytes
+    → ((status : Status) (text : List ℕ) → MayAnswer proof q status text → Says command bytes status text) → HasLeftOn (MayAnswer proof q) fails result old new → RanOn (Some command) told read fails result old new
+ran_left command told read fails bytes q proof result old new tells says (written, taken, left, why) = (bytes, written, tells, taken, go left, explained (Some command) (λ failed. because (why failed)))
   where
-    none : IsSome {T = List ℕ} None → ⊥
-    none h = cc
+    go : Leaves (MayAnswer proof q) result written → Outcome (Some command) bytes result written
+    go (inl may) = inl (says result written may)
+    go (inr (failed, inl failure)) = inr (failed, inl failure)
+    go (inr (failed, inr (rest, inl (status, may)))) = inr (failed, inr (rest, inl (status, says status (written ++ rest) may)))
+    go (inr (failed, inr (rest, inr failure))) = inr (failed, inr (rest, inr failure))
 
--- Where the record was not written, a part of it was; and where it was, all of it.
-pub left_front : (Said : Saying) (status : Status) (old mid : Option (List ℕ)) (front : List ℕ) (spelled : Option (List ℕ)) → ((bytes : List ℕ) → spelled ≡ Some bytes → Said status (front ++ bytes)) → IsSome spelled
-    → {E : Type 0} (r : Result (Unit {0}) E) → true ≡ is_err r → OnErr r (TakesPart old mid front) → HasLeft Said Failed old mid
-left_front Said status old mid front spelled says some (Ok x) e cut = absurd (cc e)
-left_front Said status old mid front None says some (Err x) e cut = absurd (cc some)
-left_front Said status old mid front (Some bytes) says some (Err x) e cut = left_cut Said old mid (front ++ bytes) status (says bytes refl) (front_cut old mid front front bytes refl cut)
+    because : (written ≡ no_memory_text) ⊎ ((⊥ × (written ≡ no_read_text)) ⊎ fails) → (written ≡ no_memory_text) ⊎ ((read bytes × (written ≡ no_read_text)) ⊎ fails)
+    because (inl is) = inl is
+    because (inr (inl (none, is))) = absurd none
+    because (inr (inr fault)) = inr (inr fault)
+
+-- A claim's text behind the record's.
+pub claim_behind : (Said : Saying) (status : Status) (front old new : List ℕ) (spelled : Option (List ℕ)) → ((bytes : List ℕ) → spelled ≡ Some bytes → Said status (front ++ bytes)) → old ≡ front
+    → IsSomeAnd spelled (λ bytes. new ≡ old ++ bytes) → Said status new
+claim_behind Said status front old new None says is all = absurd all
+claim_behind Said status front old new (Some bytes) says is all = subst (Said status) (sym (all ∙ ap (λ l. l ++ bytes) is)) (says bytes refl)
 
 pub front_written : {E : Type 0} (r : Result (Unit {0}) E) (P : Type 0) → false ≡ is_err r → OnOk r P → P
 front_written (Ok x) P e h = h

@@ -30,7 +30,7 @@ use Rattle.tsumego.specs.Bounds.{front_limit, white_limit, MayAsk}
 use Rattle.tsumego.specs.Answers.{IsRecord, Says, JudgesClaim, check_answer, white_before}
 use Rattle.tsumego.specs.Solutions.{claim_verdict}
 use Rattle.tsumego.specs.Outcome.{Tells}
-use Rattle.tsumego.specs.Replies.{AllWhite, AsksOn, Decides, HasNoRecord, IsReply, IsReplyAfter, IsRejectionOf, IsJudgedAfter, IsCheckedAfter, SaysAfter}
+use Rattle.tsumego.specs.Replies.{AllWhite, AsksOn, Decides, HasNoRecord, IsReply, IsReplyAfter, IsRejectionOf, IsJudged, IsJudgedAfter, IsCheckedAfter, IsPastLimit, IsSaidAfter, SaysAfter}
 use Rattle.tsumego.proofs.Running.{some_bytes}
 
 -- ---- white space
@@ -145,6 +145,49 @@ module _ {E : Type 0} (q : GameProblem) (behind claim : List ℕ) (told : Option
                   (said ∙ ap (λ l. check_answer q.game.size (claim_verdict q l)) tells),
             )
 
+-- ---- more white space than may be
+
+skip_short : (bytes : List ℕ) → length (skip_white bytes) ≤ length bytes
+skip_short [] = omega arith
+skip_short (x ∷ bytes) = go (is_white x) (skip_short bytes)
+  where
+    go : (t : Bool) → length (skip_white bytes) ≤ length bytes → length (if t then skip_white bytes else x ∷ bytes) ≤ length (x ∷ bytes)
+    go true below = omega (arith, below)
+    go false below = omega arith
+
+skip_joined : (bytes rest : List ℕ) → length (skip_white (bytes ++ rest)) ≤ length (skip_white bytes) + length rest
+skip_joined [] rest = let short = skip_short rest in omega (arith, short)
+skip_joined (x ∷ bytes) rest = go (is_white x) (skip_joined bytes rest)
+  where
+    go : (t : Bool) → length (skip_white (bytes ++ rest)) ≤ length (skip_white bytes) + length rest
+        → length (if t then skip_white (bytes ++ rest) else x ∷ bytes ++ rest) ≤ length (if t then skip_white bytes else x ∷ bytes) + length rest
+    go true below = below
+    go false below = let long = length-append bytes rest in omega (arith, long)
+
+pub past_held : (behind claim : List ℕ) (told : Option (List ℕ)) → claim ≡ skip_white behind → white_limit < length behind - length claim → IsPastLimit behind told
+past_held behind claim told skipped many =
+    let b = some_bytes told in
+    let long = length-append behind b.0 in
+    let joined = skip_joined behind b.0 in
+    let same = ap length skipped in
+    (b.0, b.1, omega (arith, long, joined, same, many))
+
+pub past_read : (behind claim : List ℕ) (told next : Option (List ℕ)) (white : List ℕ) → claim ≡ skip_white behind → length claim ≡ 0 → length claim ≤ length behind → AllWhite white
+    → length white ≡ white_limit + 1 - (length behind - length claim) → length behind - length claim ≤ white_limit → Consumes told next white → IsPastLimit behind told
+past_read behind claim told next white skipped none low all count few given =
+    let b = some_bytes next in
+    let nothing : skip_white behind ≡ [] = sym skipped ∙ empty claim none in
+    let skips : skip_white (behind ++ (white ++ b.0)) ≡ skip_white b.0 = skip_none behind (white ++ b.0) nothing ∙ skip_all white b.0 all in
+    let same = ap length skips in
+    let short = skip_short b.0 in
+    let long = length-append behind (white ++ b.0) in
+    let more = length-append white b.0 in
+    (white ++ b.0, told_more told next white b.0 given b.1, omega (arith, same, short, long, more, none, count, few))
+  where
+    empty : (l : List ℕ) → length l ≡ 0 → l ≡ []
+    empty [] e = refl
+    empty (x ∷ l) e = absurd (omega (arith, e))
+
 -- ---- the front of the input
 
 module _ (law : FrontsDecide) (front : List ℕ) where
@@ -177,6 +220,13 @@ pub checked_after : {E : Type 0} (law : FrontsDecide) (front : List ℕ) (told :
 checked_after law front told tree n q (Ok s) found within (rest, tells, said) =
     (rest, tells, inr (q, tree, n, record_more law front rest tree n q found, subst (λ l. JudgesClaim q l s.status (string_bytes s.text)) (sym (drop-append-le n front rest within)) said))
 checked_after law front told tree n q (Err e) found within said = tt
+
+pub judged_after : {E : Type 0} (law : FrontsDecide) (front : List ℕ) (told : Option (List ℕ)) (tree : GameTree) (n : ℕ) (q : GameProblem) (r : Result (Option Reply) E) → IsRecord front tree n q → n ≤ length front
+    → IfOk r (λ o. IsJudged q (drop n front) told o) → IfOk r (λ o. IsSaidAfter Check front told o)
+judged_after law front told tree n q (Ok (Some s)) found within said = checked_after {E = Unit {0}} law front told tree n q (Ok s) found within said
+judged_after law front told tree n q (Ok None) found within (rest, tells, many) =
+    (rest, tells, (q, tree, n, record_more law front rest tree n q found, subst (λ l. white_limit < white_before l) (sym (drop-append-le n front rest within)) many))
+judged_after law front told tree n q (Err e) found within said = tt
 
 -- what is replied after the front is replied to all that the reader told
 pub replied_to_all : {E : Type 0} (command : Command) (old told : Option (List ℕ)) (front : List ℕ) (r : Result Response E) → Consumes old told front → IfOk r (λ s. IsReplyAfter command front told s)

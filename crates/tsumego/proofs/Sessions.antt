@@ -68,11 +68,11 @@ told_too : (told : Option (List ℕ)) (bytes : List ℕ) → gtp.Tells told byte
 told_too None bytes h = tt
 told_too (Some t) bytes h = h
 
-module _ (told old : Option (List ℕ)) where
+module _ (told old : Option (List ℕ)) (fails : Type 0) where
   pub session_ends : (new : Option (List ℕ)) → HasRun told old new → Ran (Some Gtp) told Answered old new
   session_ends new (bytes, written, tells, taken, run) = (bytes, written, told_too told bytes tells, taken, inl (inl (refl, run)))
 
-  pub session_read_fails : (mid new : Option (List ℕ)) (result : Status) → HasStopped stop.Read told old mid → Writes mid new no_read_text Failed result → Ran (Some Gtp) told result old new
+  pub session_read_fails : (mid new : Option (List ℕ)) (result : Status) → HasStopped stop.Read told old mid → Writes fails mid new no_read_text Failed result → Ran (Some Gtp) told result old new
   session_read_fails mid new result (bytes, written, tells, taken, read) (inl (same, whole)) = (
     bytes,
     written ++ no_read_text,
@@ -80,7 +80,7 @@ module _ (told old : Option (List ℕ)) where
     Appends-trans old mid new written no_read_text taken whole,
     inl (subst (λ s. Says Gtp bytes s (written ++ no_read_text)) (sym same) (inr (refl, (written, read, refl)))),
   )
-  session_read_fails mid new result (bytes, written, tells, taken, read) (inr (failed, (part, rest, whole, more))) = (
+  session_read_fails mid new result (bytes, written, tells, taken, read) (inr (failed, fault, (part, rest, whole, more))) = (
     bytes,
     written ++ part,
     told_too told bytes tells,
@@ -96,9 +96,9 @@ module _ (told old : Option (List ℕ)) where
       (bytes, written, told_too told bytes tells, taken, inr (refl, inr (cut.rest ++ on.0, inl (Answered, inl (refl, run)))))
 
 -- nothing was written before
-pub writes_after : (old mid new : Option (List ℕ)) (text : List ℕ) (status result : Status) → Appends old mid [] → Writes mid new text status result → Writes old new text status result
-writes_after old mid new text status result none (inl (same, taken)) = inl (same, Appends-trans old mid new [] text none taken)
-writes_after old mid new text status result none (inr (failed, (part, rest, whole, taken))) = inr (failed, (part, rest, whole, Appends-trans old mid new [] part none taken))
+pub writes_after : (old mid new : Option (List ℕ)) (fails : Type 0) (text : List ℕ) (status result : Status) → Appends old mid [] → Writes fails mid new text status result → Writes fails old new text status result
+writes_after old mid new fails text status result none (inl (same, taken)) = inl (same, Appends-trans old mid new [] text none taken)
+writes_after old mid new fails text status result none (inr (failed, fault, (part, rest, whole, taken))) = inr (failed, fault, (part, rest, whole, Appends-trans old mid new [] part none taken))
 
 pub is_gtp : (command : Command) → is_session command ≡ true → command ≡ Gtp
 is_gtp Gtp e = refl

@@ -1,7 +1,7 @@
 -- What each command answers: the whole text, and the status with it.
 --     check_answer, within_answer, audit_answer      of what the definitions of claims, of winning and of answer trees say
 --     Says command bytes status text      the whole text that the command may have for these bytes
-use Rattle.std.specs.Prelude.{◌≡◌, ℕ, ◌-◌, ◌≤◌, List, ◌++◌, length, drop, Some, Result, Ok, Err, ◌⊎◌}
+use Rattle.std.specs.Prelude.{◌≡◌, ℕ, ◌-◌, ◌<◌, ◌≤◌, List, ◌++◌, length, drop, Some, Result, Ok, Err, ◌⊎◌}
 use Rattle.go_points.specs.declared.Colour.{Colour}
 use Rattle.target_game.specs.State.{GameProblem, start}
 use Rattle.target_game.specs.Within.{decision}
@@ -54,6 +54,15 @@ white_before bytes = length bytes - length (skip_white bytes)
 -- After a record stands white space, no more than may be, and then the claim: what is said is the verdict on it.
 abbrev pub JudgesClaim : GameProblem → List ℕ → Status → List ℕ → Type 0
 JudgesClaim q bytes status text = (white_before bytes ≤ white_limit) × ((status, text) ≡ check_answer q.game.size (claim_verdict q (skip_white bytes)))
+
+-- After a record stands more white space than may be.
+abbrev pub PassesWhite : List ℕ → Type 0
+PassesWhite bytes = (q : GameProblem) × (tree : GameTree) × (n : ℕ) × IsRecord bytes tree n q × (white_limit < white_before (drop n bytes))
+
+-- a bound on what is read is passed, other than that on a session's input
+abbrev pub PassesBound : Command → List ℕ → Type 0
+PassesBound command.Check bytes = PassesWhite bytes
+PassesBound _ bytes = ⊥
 
 -- ---- within
 

@@ -7,3 +7,4 @@ pub mod Outcome
 pub mod Replies
 pub mod Laws
 pub mod Codes
+pub mod Devices

@@ -25,9 +25,13 @@ use Rattle.solution_tree.specs.declared.fault.AuditFault.{AuditFault}
 use Rattle.tsumego.specs.declared.command_line.Command.{Command}
 use Rattle.tsumego.specs.declared.command_line.Command.TheVariants.{Check}
 use Rattle.tsumego.specs.declared.reply.Response.{Response}
-use Rattle.tsumego.specs.declared.reply.Response.TheVariants.{Text, Solution}
+use Rattle.tsumego.specs.declared.reply.Reply.{Reply}
+use Rattle.tsumego.specs.declared.reply.Response.TheVariants.{Text, Solution, TooLong}
+use Rattle.tsumego.specs.declared.input.White.{White}
+use Rattle.tsumego.specs.declared.input.White.TheVariants.{Before, End, TooMuch}
+use Rattle.tsumego.specs.Bounds.{white_limit}
 use Rattle.tsumego.specs.Solutions.{MayAnswer, Unsolved, tree_limit, claim_verdict}
-use Rattle.tsumego.specs.Answers.{Says, check_answer, JudgesClaim}
+use Rattle.tsumego.specs.Answers.{Says, check_answer, JudgesClaim, PassesBound, white_before}
 use Rattle.tsumego.specs.Outcome.{Tells}
 use Rattle.tsumego.specs.Texts.{line, rejected_line_text, rejected_node_text}
 
@@ -41,9 +45,9 @@ abbrev pub IsTold : List ℕ → NoRecord → Type 0
 IsTold wanted (Refused text) = string_bytes text ≡ wanted
 IsTold wanted Memory = Unit {0}
 
--- The whole text was written, and the status is this; or a write failed behind a part of it.
-abbrev pub Writes : Option (List ℕ) → Option (List ℕ) → List ℕ → Status → Status → Type 0
-Writes old new text status result = ((result ≡ status) × Appends old new text) ⊎ ((result ≡ Failed) × TakesPart old new text)
+-- The whole text was written, and the status is this; or a write failed after a part of it.
+abbrev pub Writes : Type 0 → Option (List ℕ) → Option (List ℕ) → List ℕ → Status → Status → Type 0
+Writes failed old new text status result = ((result ≡ status) × Appends old new text) ⊎ ((result ≡ Failed) × failed × TakesPart old new text)
 
 -- the rejection is that of a verdict on a claim for a board of n rows, and this is said of it
 abbrev pub IsRejectionOf : ℕ → Reject → Status → List ℕ → Type 0
@@ -59,10 +63,11 @@ abbrev pub IsSolutionOf : CheckedClaim → Option GameTree → Type 0
 IsSolutionOf k (Some tree) = tree ≡ solution k.problem (claim_of k.certificate).winner (expand (claim_of k.certificate) (start k.problem))
 IsSolutionOf k None = tree_limit < answer_size (expand (claim_of k.certificate) (start k.problem))
 
--- a reply is a text that may be said; or a claim, and then what may be said for its problem
+-- a reply is a text that may be said; or a claim, and then what may be said for its problem; or that a bound is passed
 abbrev pub IsReply : Command → List ℕ → Response → Type 0
 IsReply command bytes (Text reply) = Says command bytes reply.status (string_bytes reply.text)
 IsReply command bytes (Solution checked proof) = (status : Status) (text : List ℕ) → MayAnswer proof checked.problem status text → Says command bytes status text
+IsReply command bytes TooLong = PassesBound command bytes
 
 -- A record is decided by the bytes that were read: there are more of them than a record may have, or the reader has ended.
 abbrev pub Decides : List ℕ → Option (List ℕ) → Type 0
@@ -84,10 +89,11 @@ abbrev pub AllWhite : List ℕ → Type 0
 AllWhite [] = Unit {0}
 AllWhite (x ∷ bytes) = (is_white x ≡ true) × AllWhite bytes
 
--- After less white space than this there is a byte of another kind, or nothing: the bytes were given up to it.
-abbrev pub IsPastWhite : ℕ → Option (List ℕ) → Option (List ℕ) → Option ℕ → Type 0
-IsPastWhite room old new None = (white : List ℕ) × AllWhite white × (length white < room) × Consumes old new white × IsAtEnd new
-IsPastWhite room old new (Some b) = (white : List ℕ) × AllWhite white × (length white < room) × Consumes old new (white ++ b ∷ []) × (is_white b ≡ false)
+-- After less white space than this there is a byte of another kind, or nothing: the bytes were given up to it. Or there is as much.
+abbrev pub IsPastWhite : ℕ → Option (List ℕ) → Option (List ℕ) → White → Type 0
+IsPastWhite room old new End = (white : List ℕ) × AllWhite white × (length white < room) × Consumes old new white × IsAtEnd new
+IsPastWhite room old new TooMuch = (white : List ℕ) × AllWhite white × (length white ≡ room) × Consumes old new white
+IsPastWhite room old new (Before b) = (white : List ℕ) × AllWhite white × (length white < room) × Consumes old new (white ++ b ∷ []) × (is_white b ≡ false)
 
 -- the answer to a claim in these bytes and those that the reader tells after them, where it is judged
 abbrev pub IsJudgedAfter : GameProblem → List ℕ → Option (List ℕ) → Status → List ℕ → Type 0
@@ -97,7 +103,22 @@ IsJudgedAfter q claim told status text = (rest : List ℕ) × Tells told rest ×
 abbrev pub IsCheckedAfter : GameProblem → List ℕ → Option (List ℕ) → Status → List ℕ → Type 0
 IsCheckedAfter q behind told status text = (rest : List ℕ) × Tells told rest × JudgesClaim q (behind ++ rest) status text
 
+-- more white space than may be stands before a claim, in these bytes and those that the reader tells after them
+abbrev pub IsPastLimit : List ℕ → Option (List ℕ) → Type 0
+IsPastLimit behind told = (rest : List ℕ) × Tells told rest × (white_limit < white_before (behind ++ rest))
+
+-- a claim after white space is judged; or there is too much of that
+abbrev pub IsJudged : GameProblem → List ℕ → Option (List ℕ) → Option Reply → Type 0
+IsJudged q behind told (Some r) = IsCheckedAfter q behind told r.status (string_bytes r.text)
+IsJudged q behind told None = IsPastLimit behind told
+
+-- this is said of it, or that a bound is passed
+abbrev pub IsSaidAfter : Command → List ℕ → Option (List ℕ) → Option Reply → Type 0
+IsSaidAfter command front told (Some r) = SaysAfter command front told r.status (string_bytes r.text)
+IsSaidAfter command front told None = (rest : List ℕ) × Tells told rest × PassesBound command (front ++ rest)
+
 -- a search of the problem has this reply
 abbrev pub IsSearched : ℕ → Bool → GameProblem → Response → Type 0
 IsSearched budget proof q (Text reply) = (reply.status ≡ Unanswered) × Unsolved budget proof q (string_bytes reply.text)
 IsSearched budget proof q (Solution checked as_proof) = (checked.problem ≡ q) × (as_proof ≡ proof)
+IsSearched budget proof q TooLong = ⊥

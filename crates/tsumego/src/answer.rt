@@ -6,9 +6,11 @@ ghost use Rattle.sgf_text.specs.Taken.{TakesPart};
 ghost use Rattle.sgf_text.specs.Text.{tree_text};
 ghost use Rattle.tsumego.specs.Texts.{line};
 ghost use Rattle.tsumego.specs.Solutions.{MayAnswer};
-ghost use Rattle.tsumego.specs.Outcome.{HasLeft};
+ghost use Rattle.tsumego.specs.Devices.{HasFailed};
+ghost use Rattle.tsumego.specs.Outcome.{HasLeftOn};
 ghost use Rattle.tsumego.specs.Replies.{IsSolutionOf, Writes};
 
+use crate::counting::Counting;
 use crate::status::Status;
 use crate::texts::{NO_MEMORY, TOO_LARGE};
 use cert_check::Checked;
@@ -25,17 +27,40 @@ use tsumego_problem::problem_tree;
 /// The most turns of an answer tree that is written.
 pub const MAX_TURNS: usize = 90_000;
 
+/// What is written of a claim: the whole text, and the status with it.
+#[derive(Drop)]
+struct Said {
+    status: Status,
+    text: Vec<u8>,
+}
+
 /// Writes the solution record of the claim; or, as a proof, the canonical record of its problem, a line feed, and the claim.
 ///
-/// All that takes memory is made before the first byte. An answer tree of more than `MAX_TURNS` turns is not written, and
-/// the text says so. After a failed write the writer has taken a front of a text that may be written.
-pub fn answer<W: Write>(alloc: Global, checked: &Checked, proof: bool, writer: &mut W) -> Status
-    ensures { HasLeft (MayAnswer proof checked.now.problem) result (W.contents writer.old) (W.contents writer.new) }
+/// The whole text is made before the first byte is written, so that no want of memory cuts it. An answer tree of more than
+/// `MAX_TURNS` turns is not written, and the text says so. After a failed write the writer has taken a front of a text that
+/// may be written.
+pub fn answer<W: Write>(
+    alloc: Global,
+    checked: &Checked,
+    proof: bool,
+    writer: &mut Counting<W>,
+) -> Status
+    ensures { HasLeftOn (MayAnswer proof checked.now.problem) (HasFailed writer.new.faults writer.new.interrupts) result (W.contents writer.old.inner) (W.contents writer.new.inner) }
+{
+    match said_of(alloc, checked, proof) {
+        Ok(said) => write_text(writer, said.text.as_slice(), said.status),
+        Err(_) => write_text(writer, NO_MEMORY, Status::Failed),
+    }
+}
+
+/// What is written of the claim.
+fn said_of(alloc: Global, checked: &Checked, proof: bool) -> Result<Said, AllocError>
+    ensures { IfOk result (λ r. MayAnswer proof checked.now.problem r.status r.text.items) }
 {
     if proof {
-        answer_with_claim(alloc, checked, writer)
+        said_as_claim(alloc, checked)
     } else {
-        answer_with_tree(alloc, checked, writer)
+        said_as_tree(alloc, checked)
     }
 }
 
@@ -50,9 +75,9 @@ fn solution_of(alloc: Global, checked: &Checked) -> Result<Option<Tree>, AllocEr
     }
 }
 
-/// Writes the solution record.
-fn answer_with_tree<W: Write>(alloc: Global, checked: &Checked, writer: &mut W) -> Status
-    ensures { HasLeft (MayAnswer false checked.now.problem) result (W.contents writer.old) (W.contents writer.new) }
+/// The solution record.
+fn said_as_tree(alloc: Global, checked: &Checked) -> Result<Said, AllocError>
+    ensures { IfOk result (λ r. MayAnswer false checked.now.problem r.status r.text.items) }
 {
     valid_claims_answer();
     expansions_ascend();
@@ -60,19 +85,29 @@ fn answer_with_tree<W: Write>(alloc: Global, checked: &Checked, writer: &mut W) 
     problems_are_kept(checked.problem());
     let _winner = checked.winner();
     prove!(checked.problem().place() < checked.problem().history().len());
+    let mut text = Vec::new(alloc);
     match solution_of(alloc, checked) {
-        Ok(Some(tree)) => match write_line(&tree, writer) {
-            Ok(()) => Status::Answered,
-            Err(_) => Status::Failed,
+        Ok(Some(tree)) => match write_line(&tree, &mut text) {
+            Ok(()) => Ok(Said {
+                status: Status::Answered,
+                text,
+            }),
+            Err(_) => Err(AllocError),
         },
-        Ok(None) => write_text(writer, TOO_LARGE, Status::Unanswered),
-        Err(_) => write_text(writer, NO_MEMORY, Status::Failed),
+        Ok(None) => match text.extend_from_slice(TOO_LARGE) {
+            Ok(()) => Ok(Said {
+                status: Status::Unanswered,
+                text,
+            }),
+            Err(_) => Err(AllocError),
+        },
+        Err(_) => Err(AllocError),
     }
 }
 
-/// Writes the canonical record and the claim.
-fn answer_with_claim<W: Write>(alloc: Global, checked: &Checked, writer: &mut W) -> Status
-    ensures { HasLeft (MayAnswer true checked.now.problem) result (W.contents writer.old) (W.contents writer.new) }
+/// The canonical record and the claim.
+fn said_as_claim(alloc: Global, checked: &Checked) -> Result<Said, AllocError>
+    ensures { IfOk result (λ r. MayAnswer true checked.now.problem r.status r.text.items) }
 {
     accepts_valid_texts();
     canonical_reads();
@@ -80,14 +115,18 @@ fn answer_with_claim<W: Write>(alloc: Global, checked: &Checked, writer: &mut W)
     let _winner = checked.winner();
     let _rows = checked.problem().size().rows();
     let Ok(tree) = problem_tree(alloc, checked.problem()) else {
-        return write_text(writer, NO_MEMORY, Status::Failed);
+        return Err(AllocError);
     };
-    if write_line(&tree, writer).is_err() {
-        return Status::Failed;
+    let mut text = Vec::new(alloc);
+    if write_line(&tree, &mut text).is_err() {
+        return Err(AllocError);
     }
-    match write_cert(checked.certificate(), writer) {
-        Ok(()) => Status::Answered,
-        Err(_fault) => Status::Failed,
+    match write_cert(checked.certificate(), &mut text) {
+        Ok(()) => Ok(Said {
+            status: Status::Answered,
+            text,
+        }),
+        Err(_) => Err(AllocError),
     }
 }
 
@@ -102,11 +141,27 @@ fn write_line<W: Write>(tree: &Tree, writer: &mut W) -> Result<(), WriteFault>
     }
 }
 
-/// Writes the whole text; a failed write has a status of its own.
-pub fn write_text<W: Write>(writer: &mut W, text: &[u8], status: Status) -> Status
-    ensures { Writes (W.contents writer.old) (W.contents writer.new) text.now status result }
+/// Writes all the bytes, a piece at a time. After a failure, which the writer has counted, it has taken a front of them.
+fn write_all<W: Write>(bytes: &[u8], writer: &mut Counting<W>) -> Result<(), WriteFault>
+    ensures written { OnOk result (Appends (W.contents writer.old.inner) (W.contents writer.new.inner) bytes.now) }
+    ensures cut { OnErr result (TakesPart (W.contents writer.old.inner) (W.contents writer.new.inner) bytes.now) }
+    ensures failed { OnErr result (HasFailed writer.new.faults writer.new.interrupts) }
 {
-    match write_bytes(text, writer) {
+    let mut done: usize = 0;
+    while done < bytes.len() {
+        match writer.put(&bytes[done..]) {
+            Ok(n) => done += n,
+            Err(_) => return Err(WriteFault::Write),
+        }
+    }
+    Ok(())
+}
+
+/// Writes the whole text; a failed write has a status of its own.
+pub fn write_text<W: Write>(writer: &mut Counting<W>, text: &[u8], status: Status) -> Status
+    ensures { Writes (HasFailed writer.new.faults writer.new.interrupts) (W.contents writer.old.inner) (W.contents writer.new.inner) text.now status result }
+{
+    match write_all(text, writer) {
         Ok(()) => status,
         Err(WriteFault::Write) => Status::Failed,
     }

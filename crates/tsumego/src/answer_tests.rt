@@ -1,6 +1,7 @@
 //! What is written of a claim whose answer tree is large.
 
 use crate::answer::answer;
+use crate::counting::Counting;
 use crate::status::Status;
 use cert_check::{Checked, check_held};
 use proof_cert::read_cert;
@@ -122,18 +123,24 @@ fn checked(rt: &impl Abort, alloc: Global, claim: &[u8]) -> Checked {
 fn a_large_tree_is_not_written_but_its_claim_is(rt: HostRuntime) {
     let claim = claim_text(rt.alloc()).expect(&rt, "memory");
     let checked = checked(&rt, rt.alloc(), claim.as_slice());
-    let mut tree = Vec::new(rt.alloc());
+    let mut tree = Counting::new(Vec::new(rt.alloc()));
     assert_eq!(rt;
         answer(rt.alloc(), &checked, false, &mut tree),
         Status::Unanswered
     );
-    assert_eq!(rt; tree.as_slice(), "unknown: tree too large\n".as_bytes());
-    let mut proof = Vec::new(rt.alloc());
+    assert_eq!(rt;
+        tree.inner.as_slice(),
+        "unknown: tree too large\n".as_bytes()
+    );
+    let mut proof = Counting::new(Vec::new(rt.alloc()));
     assert_eq!(rt;
         answer(rt.alloc(), &checked, true, &mut proof),
         Status::Answered
     );
-    assert!(rt; proof.as_slice().starts_with(CANONICAL));
-    assert!(rt; proof.as_slice().ends_with(claim.as_slice()));
-    assert_eq!(rt; proof.len(), CANONICAL.len().saturating_add(claim.len()));
+    assert!(rt; proof.inner.as_slice().starts_with(CANONICAL));
+    assert!(rt; proof.inner.as_slice().ends_with(claim.as_slice()));
+    assert_eq!(rt;
+        proof.inner.len(),
+        CANONICAL.len().saturating_add(claim.len())
+    );
 }

@@ -1,10 +1,11 @@
 //! What `check` says of the claim after a record.
 
-ghost use Rattle.std.specs.Prelude.{◌≡◌, ◌≤◌, IfOk, length, string_bytes};
+ghost use Rattle.std.specs.Prelude.{◌≡◌, ◌≤◌, ℕ, List, Option, IfOk, length, string_bytes};
+ghost use Rattle.target_game.specs.State.{GameProblem};
 ghost use Rattle.tsumego.specs.Bounds.{white_limit};
-ghost use Rattle.tsumego.specs.Replies.{IsCheckedAfter, IsJudgedAfter, IsRejectionOf};
+ghost use Rattle.tsumego.specs.Replies.{IsCheckedAfter, IsJudged, IsJudgedAfter, IsRejectionOf};
 
-use crate::input::{read_past_white, skip_white};
+use crate::input::{White, read_past_white, skip_white};
 use crate::reply::{Failure, Reply, said};
 use crate::status::Status;
 use crate::texts::{reject_text, wins_text};
@@ -19,30 +20,41 @@ use target_game::Problem;
 /// The most white space between a record and a claim, in bytes.
 pub const MAX_WHITE: usize = 1_048_576;
 
-/// Judges the claim after white space: in the bytes after the record, and in what the reader has after them.
+/// Judges the claim after white space: in the bytes after the record, and in what the reader has after them. None where there is
+/// too much white space.
 pub fn judge<R: Read>(
     alloc: Global,
     problem: &Problem,
     behind: &[u8],
     reader: &mut R,
-) -> Result<Reply, Failure>
-    ensures { IfOk result (λ r. IsCheckedAfter problem.now behind.now (R.remaining reader.old) r.status (string_bytes r.text)) }
+) -> Result<Option<Reply>, Failure>
+    ensures { IfOk result (λ o. IsJudged problem.now behind.now (R.remaining reader.old) o) }
 {
     let claim = skip_white(behind);
     let white = behind.len() - claim.len();
     if white > MAX_WHITE {
-        return Err(Failure::Read);
+        return Ok(None);
     }
     if !claim.is_empty() {
-        return judge_lines(alloc, problem, claim, reader);
+        return as_judged(judge_lines(alloc, problem, claim, reader));
     }
     match read_past_white(reader, MAX_WHITE + 1 - white) {
-        Ok(Some(first)) => judge_lines(alloc, problem, &[first], reader),
-        Ok(None) => {
+        Ok(White::Before(first)) => as_judged(judge_lines(alloc, problem, &[first], reader)),
+        Ok(White::End) => {
             let mut nothing = b"".as_slice();
-            judge_lines(alloc, problem, &[], &mut nothing)
+            as_judged(judge_lines(alloc, problem, &[], &mut nothing))
         }
+        Ok(White::TooMuch) => Ok(None),
         Err(_) => Err(Failure::Read),
+    }
+}
+
+fn as_judged(reply: Result<Reply, Failure>) -> Result<Option<Reply>, Failure>
+    ensures { (q : GameProblem) (behind : List ℕ) (told : Option (List ℕ)) → IfOk reply (λ r. IsCheckedAfter q behind told r.status (string_bytes r.text)) → IfOk result (λ o. IsJudged q behind told o) }
+{
+    match reply {
+        Ok(reply) => Ok(Some(reply)),
+        Err(failure) => Err(failure),
     }
 }
 

@@ -5,6 +5,7 @@ ghost use Rattle.tsumego.specs.Outcome.{Ran};
 
 use crate::answer::write_text;
 use crate::command_line::Command;
+use crate::counting::Counting;
 use crate::status::Status;
 use crate::texts::{NO_MEMORY, NO_READ};
 use gtp_core::{GtpEnd, run_gtp};
@@ -12,8 +13,12 @@ use std::alloc::Global;
 use std::io::{Read, Write};
 
 /// Serves GTP commands up to the end of the input, or to `quit`.
-pub fn serve_gtp<R: Read, W: Write>(alloc: Global, reader: &mut R, writer: &mut W) -> Status
-    ensures { Ran (Some Command.Gtp) (R.remaining reader.old) result (W.contents writer.old) (W.contents writer.new) }
+pub fn serve_gtp<R: Read, W: Write>(
+    alloc: Global,
+    reader: &mut R,
+    writer: &mut Counting<W>,
+) -> Status
+    ensures { Ran (Some Command.Gtp) (R.remaining reader.old) result (W.contents writer.old.inner) (W.contents writer.new.inner) }
 {
     match run_gtp(alloc, reader, writer) {
         Ok(()) => Status::Answered,

@@ -23,9 +23,20 @@ pub enum Reading {
     Failed,
 }
 
-/// A read failed, or there is more white space than may be.
+/// A read failed.
 #[derive(Clone, Copy, Debug)]
 pub struct ReadFailed;
+
+/// What stands after white space.
+#[derive(Clone, Copy, Debug, PartialEq, Eq)]
+pub enum White {
+    /// This byte, which is none.
+    Before(u8),
+    /// Nothing: the reader has ended.
+    End,
+    /// There is more of it than may be.
+    TooMuch,
+}
 
 /// Appends what the reader has, in blocks, until it has ended, a read fails, or there are `limit` bytes. No byte after those is asked for.
 pub fn read_to_limit<R: Read>(
@@ -64,21 +75,21 @@ pub fn skip_white(text: &[u8]) -> &[u8]
     &[]
 }
 
-/// The first byte that is no white space, after fewer than so many that are; none where the reader has ended. It is read byte by byte.
-pub fn read_past_white<R: Read>(reader: &mut R, room: usize) -> Result<Option<u8>, ReadFailed>
+/// The first byte that is no white space, after fewer than so many that are. It is read byte by byte.
+pub fn read_past_white<R: Read>(reader: &mut R, room: usize) -> Result<White, ReadFailed>
     ensures { IfOk result (λ o. IsPastWhite room (R.remaining reader.old) (R.remaining reader.new) o) }
 {
     let mut byte = [0u8; 1];
     for _ in 0..room {
         match reader.read(&mut byte) {
-            Ok(0) => return Ok(None),
+            Ok(0) => return Ok(White::End),
             Ok(_) => {
                 if !is_white(byte[0]) {
-                    return Ok(Some(byte[0]));
+                    return Ok(White::Before(byte[0]));
                 }
             }
             Err(_) => return Err(ReadFailed),
         }
     }
-    Err(ReadFailed)
+    Ok(White::TooMuch)
 }

@@ -12,6 +12,9 @@ mod claim;
 mod command_line;
 #[cfg(test)]
 mod command_line_tests;
+pub mod counting;
+#[cfg(test)]
+mod counting_tests;
 pub mod devices;
 mod gtp;
 #[cfg(test)]
@@ -36,19 +39,29 @@ mod texts;
 #[cfg(test)]
 mod within_tests;
 
+use answer::write_text;
+use counting::Counting;
 use run::run;
 use status::Status;
+use std::alloc::AllocError;
 use std::convert::AsStr;
 use std::env;
+use std::io::ErrorKind;
 use std::process::ExitCode;
+use texts::NO_MEMORY;
 
 fn main(rt: HostRuntime) -> ExitCode {
     let alloc = rt.alloc();
-    let Ok(words) = env::args(&rt) else {
-        return ExitCode::from(Status::BadWords.code());
+    let mut reader = Counting::new(rt.stdin());
+    let mut writer = Counting::new(rt.stdout());
+    let words = match env::args(&rt) {
+        Ok(words) => words.collect::<Vec<String>>(alloc),
+        Err(error) if error.kind() == ErrorKind::OutOfMemory => Err(AllocError),
+        Err(_) => return ExitCode::from(Status::BadWords.code()),
     };
-    let Ok(words) = words.collect::<Vec<String>>(alloc) else {
-        return ExitCode::from(Status::Failed.code());
+    let status = match words {
+        Ok(words) => run(alloc, words.as_slice(), &mut reader, &mut writer),
+        Err(_) => write_text(&mut writer, NO_MEMORY, Status::Failed),
     };
-    ExitCode::from(run(alloc, words.as_slice(), &mut rt.stdin(), &mut rt.stdout()).code())
+    ExitCode::from(status.code())
 }

@@ -7,7 +7,7 @@ ghost use Rattle.tsumego_problem.specs.Walk.{problem_node};
 ghost use Rattle.solution_tree.specs.Audit.{audit};
 ghost use Rattle.tsumego.specs.CommandLine.{FitsRanges, is_session};
 ghost use Rattle.tsumego.specs.declared.command_line.Command.{Command};
-ghost use Rattle.tsumego.specs.Replies.{AsksOn, Decides, HasNoRecord, IsNodeRejectionOf, IsReplyAfter, IsSearched, SaysAfter};
+ghost use Rattle.tsumego.specs.Replies.{AsksOn, Decides, HasNoRecord, IsNodeRejectionOf, IsReplyAfter, IsSaidAfter, IsSearched, SaysAfter};
 ghost use Rattle.tsumego.specs.Answers.{Says, audit_answer, within_answer};
 
 use crate::claim::judge;
@@ -40,13 +40,15 @@ pub enum Response {
     Text(Reply),
     /// What is written of this claim, as a proof or as a tree.
     Solution { checked: Checked, proof: bool },
+    /// What is read has no end in sight: a bound was passed.
+    TooLong,
 }
 
 /// Why there is no answer.
 #[derive(Clone, Copy, Debug, PartialEq, Eq)]
 pub enum Failure {
     Memory,
-    /// A read failed, or what is read has no end in sight.
+    /// A read failed.
     Read,
 }
 
@@ -69,7 +71,9 @@ pub fn reply_to<R: Read>(
         Err(none) => return as_text(refused(none)),
     };
     match command {
-        Command::Check => { as_text(judge(alloc, &record.problem, &front[record.end..], reader)) },
+        Command::Check => {
+            as_response(judge(alloc, &record.problem, &front[record.end..], reader))
+        },
         Command::Within { turns, nodes } => as_text(within(alloc, &record.problem, turns, nodes)),
         Command::Audit => as_text(audited(alloc, &record.problem, &record.tree)),
         Command::Solve {
@@ -86,6 +90,16 @@ fn as_text(reply: Result<Reply, Failure>) -> Result<Response, Failure>
 {
     match reply {
         Ok(reply) => Ok(Response::Text(reply)),
+        Err(failure) => Err(failure),
+    }
+}
+
+fn as_response(reply: Result<Option<Reply>, Failure>) -> Result<Response, Failure>
+    ensures { (command : Command) (front : List ℕ) (told : Option (List ℕ)) → IfOk reply (λ o. IsSaidAfter command front told o) → IfOk result (λ r. IsReplyAfter command front told r) }
+{
+    match reply {
+        Ok(Some(reply)) => Ok(Response::Text(reply)),
+        Ok(None) => Ok(Response::TooLong),
         Err(failure) => Err(failure),
     }
 }

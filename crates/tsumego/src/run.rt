@@ -1,13 +1,15 @@
 //! A run of the program: its words and its input to its answer.
 
-ghost use Rattle.std.specs.Prelude.{ℕ, List, map, Some, IfOk, IsFalse};
+ghost use Rattle.std.specs.Prelude.{◌≡◌, ℕ, List, map, Some, IfOk, IsFalse};
 ghost use Rattle.tsumego.specs.CommandLine.{command_of, is_session, FitsRanges};
 ghost use Rattle.tsumego.specs.Bounds.{MayAsk};
-ghost use Rattle.tsumego.specs.Outcome.{Ran, Tells};
+ghost use Rattle.tsumego.specs.Devices.{HasFailed, ReadFails};
+ghost use Rattle.tsumego.specs.Outcome.{RanOn, Tells};
 ghost use Rattle.tsumego.specs.Replies.{IsReply};
 
 use crate::answer::{answer, write_text};
 use crate::command_line::{Command, NoCommand, read_command};
+use crate::counting::Counting;
 use crate::gtp::serve_gtp;
 use crate::input::{Reading, read_to_limit};
 use crate::reply::{Failure, Response, reply_to};
@@ -20,19 +22,25 @@ use std::io::{Read, Write};
 /// The most bytes that are asked for a record: one more than a record may have.
 pub const MAX_FRONT: usize = 1_048_577;
 
-/// Runs the program on its words, the first of which is its name.
+/// Runs the program on its words, the first of which is its name, on devices of which nothing was counted so far.
 ///
 /// For every list of bytes that the reader tells, the status and the text that the writer has taken are those of the
 /// command that the words give; after a failed write what was taken is a part of such a text. No command but `check` asks for
 /// more bytes than a record may have, and one.
+///
+/// A run of a command but `gtp` that ends as failed tells why: memory was refused, and the text says so; a read failed and was
+/// counted, or a bound on what is read was passed, and it says so; or a write failed and was counted.
 pub fn run<S: AsStr, R: Read, W: Write>(
     alloc: Global,
     words: &[S],
-    reader: &mut R,
-    writer: &mut W,
+    reader: &mut Counting<R>,
+    writer: &mut Counting<W>,
 ) -> Status
-    ensures ran { Ran (command_of (map S.text words.now)) (R.remaining reader.old) result (W.contents writer.old) (W.contents writer.new) }
-    ensures asked { MayAsk (command_of (map S.text words.now)) (R.remaining reader.old) (R.remaining reader.new) }
+    requires reads { (reader.old.faults ≡ 0) × (reader.old.interrupts ≡ 0) }
+    requires writes { (writer.old.faults ≡ 0) × (writer.old.interrupts ≡ 0) }
+    ensures ran { RanOn (command_of (map S.text words.now)) (R.remaining reader.old.inner) (ReadFails (command_of (map S.text words.now)) reader.new.faults reader.new.interrupts)
+        (HasFailed writer.new.faults writer.new.interrupts) result (W.contents writer.old.inner) (W.contents writer.new.inner) }
+    ensures asked { MayAsk (command_of (map S.text words.now)) (R.remaining reader.old.inner) (R.remaining reader.new.inner) }
 {
     match read_command(alloc, words) {
         Ok(command) => obey(alloc, command, reader, writer),
@@ -45,12 +53,13 @@ pub fn run<S: AsStr, R: Read, W: Write>(
 fn obey<R: Read, W: Write>(
     alloc: Global,
     command: Command,
-    reader: &mut R,
-    writer: &mut W,
+    reader: &mut Counting<R>,
+    writer: &mut Counting<W>,
 ) -> Status
     requires { FitsRanges command }
-    ensures ran { Ran (Some command) (R.remaining reader.old) result (W.contents writer.old) (W.contents writer.new) }
-    ensures asked { MayAsk (Some command) (R.remaining reader.old) (R.remaining reader.new) }
+    ensures ran { RanOn (Some command) (R.remaining reader.old.inner) (ReadFails (Some command) reader.new.faults reader.new.interrupts)
+        (HasFailed writer.new.faults writer.new.interrupts) result (W.contents writer.old.inner) (W.contents writer.new.inner) }
+    ensures asked { MayAsk (Some command) (R.remaining reader.old.inner) (R.remaining reader.new.inner) }
 {
     if command.is_session() {
         return serve_gtp(alloc, reader, writer);
@@ -58,8 +67,15 @@ fn obey<R: Read, W: Write>(
     match answer_of(alloc, command, reader) {
         Ok(Response::Text(reply)) => write_text(writer, reply.text.as_bytes(), reply.status),
         Ok(Response::Solution { checked, proof }) => answer(alloc, &checked, proof, writer),
+        Ok(Response::TooLong) => write_text(writer, NO_READ, Status::Failed),
         Err(Failure::Memory) => write_text(writer, NO_MEMORY, Status::Failed),
-        Err(Failure::Read) => write_text(writer, NO_READ, Status::Failed),
+        Err(Failure::Read) => {
+            // A source of lines says so too where it cannot count them any more, and no reader lives to give so many.
+            if reader.has_failed() {
+                return write_text(writer, NO_READ, Status::Failed);
+            }
+            write_text(writer, NO_MEMORY, Status::Failed)
+        }
     }
 }
 

@@ -1,5 +1,6 @@
 //! Records and what `solve` writes for them, from the rules of the game and of solution records.
 
+use crate::counting::Counting;
 use crate::run::run;
 use crate::status::Status;
 use crate::tests::{answers, checks};
@@ -20,14 +21,14 @@ fn solves(rt: &impl Abort, alloc: Global, record: &str, text: &str) {
 
 // What `solve` writes with these words behind it.
 fn written(rt: &impl Abort, alloc: Global, words: &[&str], record: &str) -> String {
-    let mut reader = record.as_bytes();
-    let mut writer = Vec::new(alloc);
+    let mut reader = Counting::new(record.as_bytes());
+    let mut writer = Counting::new(Vec::new(alloc));
     assert_eq!(rt;
         run(alloc, words, &mut reader, &mut writer),
         Status::Answered,
         "{record}"
     );
-    String::from_utf8(writer).ok().expect(rt, "a text")
+    String::from_utf8(writer.inner).ok().expect(rt, "a text")
 }
 
 #[test]

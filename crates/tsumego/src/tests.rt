@@ -1,5 +1,6 @@
 //! Runs over memory and over devices that fail.
 
+use crate::counting::Counting;
 use crate::devices::{Endless, Faulty, Pieces};
 use crate::run::run;
 use crate::status::Status;
@@ -16,31 +17,31 @@ pub fn answers(
     status: Status,
     text: &str,
 ) {
-    let mut reader = input.as_bytes();
-    let mut writer = Vec::new(alloc);
+    let mut reader = Counting::new(input.as_bytes());
+    let mut writer = Counting::new(Vec::new(alloc));
     assert_eq!(rt;
         run(alloc, words, &mut reader, &mut writer),
         status,
         "{input}"
     );
-    assert_eq!(rt; writer.as_slice(), text.as_bytes(), "{input}");
+    assert_eq!(rt; writer.inner.as_slice(), text.as_bytes(), "{input}");
 }
 
 // The same for `check`, whole and in pieces.
 pub fn checks(rt: &impl Abort, alloc: Global, input: &str, status: Status, text: &str) {
     answers(rt, alloc, &["tsumego", "check"], input, status, text);
     for piece in [1, 2, 7, 4_096] {
-        let mut reader = Pieces {
+        let mut reader = Counting::new(Pieces {
             left: input.as_bytes(),
             piece,
-        };
-        let mut writer = Vec::new(alloc);
+        });
+        let mut writer = Counting::new(Vec::new(alloc));
         assert_eq!(rt;
             run(alloc, &["tsumego", "check"], &mut reader, &mut writer),
             status,
             "{input}"
         );
-        assert_eq!(rt; writer.as_slice(), text.as_bytes(), "{input}");
+        assert_eq!(rt; writer.inner.as_slice(), text.as_bytes(), "{input}");
     }
 }
 
@@ -60,14 +61,14 @@ fn each_cut_of_a_claim_is_malformed(rt: HostRuntime) {
             .extend_from_slice(CAPTURE.as_bytes())
             .expect(&rt, "memory");
         input.extend_from_slice(&claim[..cut]).expect(&rt, "memory");
-        let mut writer = Vec::new(alloc);
-        let mut reader = input.as_slice();
+        let mut writer = Counting::new(Vec::new(alloc));
+        let mut reader = Counting::new(input.as_slice());
         let status = run(alloc, &["tsumego", "check"], &mut reader, &mut writer);
         assert_eq!(rt; status, Status::Unanswered);
         let wanted = format!(in alloc; "rejected line {line}: C01 malformed\n").expect(
             &rt, "memory",
         );
-        assert_eq!(rt; writer.as_slice(), wanted.as_bytes());
+        assert_eq!(rt; writer.inner.as_slice(), wanted.as_bytes());
         if claim[cut] == b'\n' {
             line = line.saturating_add(1);
         }
@@ -88,13 +89,13 @@ fn other_words_have_clap_s_text(rt: HostRuntime) {
         &["tsumego", "--help"],
     ];
     for words in asked {
-        let mut reader = "".as_bytes();
-        let mut writer = Vec::new(alloc);
+        let mut reader = Counting::new("".as_bytes());
+        let mut writer = Counting::new(Vec::new(alloc));
         assert_eq!(rt;
             run(alloc, words, &mut reader, &mut writer),
             Status::BadWords
         );
-        assert!(rt; !writer.is_empty());
+        assert!(rt; !writer.inner.is_empty());
     }
 }
 
@@ -117,13 +118,13 @@ fn white_space_past_the_bound_is_a_failed_read(rt: HostRuntime) {
         input
             .extend_from_slice(CAPTURE_CLAIM.as_bytes())
             .expect(&rt, "memory");
-        let mut reader = input.as_slice();
-        let mut writer = Vec::new(alloc);
+        let mut reader = Counting::new(input.as_slice());
+        let mut writer = Counting::new(Vec::new(alloc));
         assert_eq!(rt;
             run(alloc, &["tsumego", "check"], &mut reader, &mut writer),
             status
         );
-        assert_eq!(rt; writer.as_slice(), text.as_bytes());
+        assert_eq!(rt; writer.inner.as_slice(), text.as_bytes());
     }
 }
 
@@ -137,13 +138,13 @@ fn endless(
     status: Status,
     text: &str,
 ) {
-    let mut reader = Endless {
+    let mut reader = Counting::new(Endless {
         left: left.as_bytes(),
         byte,
-    };
-    let mut writer = Vec::new(alloc);
+    });
+    let mut writer = Counting::new(Vec::new(alloc));
     assert_eq!(rt; run(alloc, words, &mut reader, &mut writer), status);
-    assert_eq!(rt; writer.as_slice(), text.as_bytes());
+    assert_eq!(rt; writer.inner.as_slice(), text.as_bytes());
 }
 
 #[test]
@@ -194,21 +195,22 @@ fn a_failed_read_is_told(rt: HostRuntime) {
         .extend_from_slice(CAPTURE_CLAIM.as_bytes())
         .expect(&rt, "memory");
     for call in 0..input.len() {
-        let mut reader = Faulty {
+        let failing = [call as u64];
+        let mut reader = Counting::new(Faulty {
             inner: Pieces {
                 left: input.as_slice(),
                 piece: 1,
             },
             calls: 0,
-            failing: &[call as u64],
+            failing: &failing,
             kind: ErrorKind::Other,
-        };
-        let mut writer = Vec::new(alloc);
+        });
+        let mut writer = Counting::new(Vec::new(alloc));
         assert_eq!(rt;
             run(alloc, &["tsumego", "check"], &mut reader, &mut writer),
             Status::Failed
         );
-        assert_eq!(rt; writer.as_slice(), "failed: read\n".as_bytes());
+        assert_eq!(rt; writer.inner.as_slice(), "failed: read\n".as_bytes());
     }
 }
 
@@ -232,36 +234,36 @@ fn a_failed_read_in_a_claim_is_told(rt: HostRuntime) {
         (&[50], Status::Failed, "failed: read\n"),
     ];
     for (failing, status, text) in rows {
-        let mut reader = Faulty {
+        let mut reader = Counting::new(Faulty {
             inner: Pieces {
                 left: input.as_slice(),
                 piece: 65_536,
             },
             calls: 0,
             failing,
-            kind: ErrorKind::Interrupted,
-        };
-        let mut writer = Vec::new(alloc);
+            kind: ErrorKind::Other,
+        });
+        let mut writer = Counting::new(Vec::new(alloc));
         assert_eq!(rt;
             run(alloc, &["tsumego", "check"], &mut reader, &mut writer),
             status
         );
-        assert_eq!(rt; writer.as_slice(), text.as_bytes());
+        assert_eq!(rt; writer.inner.as_slice(), text.as_bytes());
     }
 }
 
 #[test]
 fn a_failed_write_has_its_status_alone(rt: HostRuntime) {
-    let mut reader = "".as_bytes();
-    let mut writer = Faulty {
+    let mut reader = Counting::new("".as_bytes());
+    let mut writer = Counting::new(Faulty {
         inner: Vec::new(rt.alloc()),
         calls: 0,
         failing: &[0],
         kind: ErrorKind::Other,
-    };
+    });
     assert_eq!(rt;
         run(rt.alloc(), &["tsumego", "check"], &mut reader, &mut writer),
         Status::Failed
     );
-    assert!(rt; writer.inner.is_empty());
+    assert!(rt; writer.inner.inner.is_empty());
 }

@@ -1,12 +1,15 @@
-use Rattle.std.proofs.Common.{sym, subst}
+use Rattle.std.proofs.Common.{subst}
+use Rattle.tsumego.specs.Devices.{HasFailed}
 use Rattle.tsumego.specs.Solutions.{MayAnswer}
-use Rattle.tsumego.specs.Outcome.{HasLeft}
+use Rattle.tsumego.specs.Replies.{Writes}
+use Rattle.tsumego.proofs.Answering.{answers_no_failure, left_said}
 use Rattle.tsumego.proofs.answer.answer.Goals as goal
 
-pub returns-then-proof : goal.returns-then-proof
-returns-then-proof g c =
-    subst (λ p. HasLeft (MayAnswer p c.args.checked.now.problem) c.answer_with_claim.result (g.W.Write.contents c.args.writer.now) (g.W.Write.contents c.answer_with_claim.new.writer)) (sym c.if-proof.true) c.answer_with_claim.ensures
-
-pub returns-else-proof : goal.returns-else-proof
-returns-else-proof g c =
-    subst (λ p. HasLeft (MayAnswer p c.args.checked.now.problem) c.answer_with_tree.result (g.W.Write.contents c.args.writer.now) (g.W.Write.contents c.answer_with_tree.new.writer)) (sym c.if-proof.false) c.answer_with_tree.ensures
+pub returns-in-Ok : goal.returns-in-Ok
+returns-in-Ok g c =
+    let q = c.args.checked.now.problem in
+    let old = g.W.Write.contents c.args.writer.now.inner in let new = g.W.Write.contents c.write_text.new.writer.inner in
+    let fails = HasFailed c.write_text.new.writer.faults c.write_text.new.writer.interrupts in
+    let said = c.in-Ok.said in
+    left_said (MayAnswer c.args.proof q) fails old new said.text.items said.status c.write_text.result c.in-Ok.ensures (answers_no_failure c.args.proof q said.status said.text.items c.in-Ok.ensures)
+    (subst (λ t. Writes fails old new t said.status c.write_text.result) c.as_slice.ensures.value c.write_text.ensures)

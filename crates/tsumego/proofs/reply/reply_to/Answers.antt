@@ -7,10 +7,10 @@ use Rattle.tsumego_problem.specs.Walk.{history_limit}
 use Rattle.tsumego.specs.Answers.{Says, audit_answer, within_answer}
 use Rattle.tsumego.proofs.Records.{has_problem_node}
 use Rattle.tsumego.proofs.Recording.{all_behind}
-use Rattle.tsumego.specs.Replies.{IsCheckedAfter, IsReply, IsReplyAfter, SaysAfter}
+use Rattle.tsumego.specs.Replies.{IsJudged, IsReply, IsReplyAfter, IsSaidAfter, SaysAfter}
 use Rattle.tsumego.proofs.Running.{said_of_record, some_bytes}
 use Rattle.tsumego.proofs.Answering.{searched_for}
-use Rattle.tsumego.proofs.Judged.{record_more, none_after, said_after, replied_after, checked_after}
+use Rattle.tsumego.proofs.Judged.{record_more, none_after, said_after, replied_after, judged_after}
 use Rattle.tsumego.proofs.reply.reply_to.Goals as goal
 
 pub returns-in-Err-clause-reply : goal.returns-in-Err-clause-reply
@@ -22,10 +22,10 @@ returns-in-Err-clause-reply g c =
 pub returns-in-Check-clause-reply : goal.returns-in-Check-clause-reply
 returns-in-Check-clause-reply g c =
     let found = c.in-Ok.record in let front = c.args.front.now in let told = g.R.Read.remaining c.args.reader.now in
-    let judged = subst (λ behind. IfOk c.judge.result (λ r. IsCheckedAfter found.problem behind told r.status (string_bytes r.text))) (all_behind found.end front) c.judge.ensures in
-    c.as_text-in-Check.ensures c.args.command front told
-    (subst (λ k. IfOk c.judge.result (λ r. SaysAfter k front told r.status (string_bytes r.text))) (sym c.in-Check.is)
-    (checked_after c.fronts_decide.ensures front told found.tree found.end found.problem c.judge.result c.in-Ok.ensures.ok c.in-Ok.ensures.within judged))
+    let judged = subst (λ behind. IfOk c.judge.result (λ o. IsJudged found.problem behind told o)) (all_behind found.end front) c.judge.ensures in
+    c.as_response.ensures c.args.command front told
+    (subst (λ k. IfOk c.judge.result (λ o. IsSaidAfter k front told o)) (sym c.in-Check.is)
+    (judged_after c.fronts_decide.ensures front told found.tree found.end found.problem c.judge.result c.in-Ok.ensures.ok c.in-Ok.ensures.within judged))
 
 pub returns-in-Within-clause-reply : goal.returns-in-Within-clause-reply
 returns-in-Within-clause-reply g c =

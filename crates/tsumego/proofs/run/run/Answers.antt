@@ -1,5 +1,6 @@
 use Rattle.std.proofs.Common.{sym, subst, refl, map}
 use Rattle.tsumego.specs.CommandLine.{command_of, IsWordsFault}
+use Rattle.tsumego.specs.Devices.{HasFailed, ReadFails}
 use Rattle.tsumego.specs.Texts.{no_memory_text}
 use Rattle.tsumego.proofs.Judged.{may_ask_nothing}
 use Rattle.tsumego.proofs.Running.{ran_no_words, ran_no_memory}
@@ -7,12 +8,16 @@ use Rattle.tsumego.proofs.run.run.Goals as goal
 
 pub returns-in-Err-Words : goal.returns-in-Err-Words
 returns-in-Err-Words g c =
-    let ran = ran_no_words (g.W.Write.contents c.args.writer.now) (g.W.Write.contents c.write_text.new.writer) c.as_bytes.result.now (g.R.Read.remaining c.args.reader.now) (command_of (map g.S.AsStr.text c.args.words.now)) c.write_text.result
-    (c.in-Err-Words.ensures.refused (subst IsWordsFault (sym c.in-Err-Words.field-0-is) tt)) c.write_text.ensures in
-    record { ran = ran; asked = may_ask_nothing (command_of (map g.S.AsStr.text c.args.words.now)) (g.R.Read.remaining c.args.reader.now) }
+    let reader = c.args.reader.now in let writer = c.write_text.new.writer in
+    let command = command_of (map g.S.AsStr.text c.args.words.now) in
+    let ran = ran_no_words (g.W.Write.contents c.args.writer.now.inner) (g.W.Write.contents writer.inner) c.as_bytes.result.now (HasFailed writer.faults writer.interrupts) (g.R.Read.remaining reader.inner)
+    (ReadFails command reader.faults reader.interrupts) command c.write_text.result (c.in-Err-Words.ensures.refused (subst IsWordsFault (sym c.in-Err-Words.field-0-is) tt)) c.write_text.ensures in
+    record { ran = ran; asked = may_ask_nothing command (g.R.Read.remaining reader.inner) }
 
 pub returns-in-Err-Memory : goal.returns-in-Err-Memory
 returns-in-Err-Memory g c =
-    let ran = ran_no_memory (g.W.Write.contents c.args.writer.now) (g.W.Write.contents c.write_text-in-Err-Memory.new.writer) no_memory_text (g.R.Read.remaining c.args.reader.now) (command_of (map g.S.AsStr.text c.args.words.now)) c.write_text-in-Err-Memory.result
-    refl c.write_text-in-Err-Memory.ensures in
-    record { ran = ran; asked = may_ask_nothing (command_of (map g.S.AsStr.text c.args.words.now)) (g.R.Read.remaining c.args.reader.now) }
+    let reader = c.args.reader.now in let writer = c.write_text-in-Err-Memory.new.writer in
+    let command = command_of (map g.S.AsStr.text c.args.words.now) in
+    let ran = ran_no_memory (g.W.Write.contents c.args.writer.now.inner) (g.W.Write.contents writer.inner) no_memory_text (HasFailed writer.faults writer.interrupts) (g.R.Read.remaining reader.inner)
+    (ReadFails command reader.faults reader.interrupts) command c.write_text-in-Err-Memory.result refl c.write_text-in-Err-Memory.ensures in
+    record { ran = ran; asked = may_ask_nothing command (g.R.Read.remaining reader.inner) }

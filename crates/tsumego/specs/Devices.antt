@@ -1,0 +1,18 @@
+-- When a device counts as failed.
+--     HasFailed faults interrupts      for what was counted
+--     ReadFails command faults interrupts bytes      that, or the bytes pass a bound of the command
+use Rattle.std.specs.Prelude.{ℕ, ◌<◌, List, Option, Some, None, ◌⊎◌}
+use Rattle.tsumego.specs.declared.command_line.Command.{Command}
+use Rattle.tsumego.specs.Answers.{PassesBound}
+
+-- so often a device may be interrupted
+abbrev pub interrupt_limit : ℕ
+interrupt_limit = 1000
+
+-- a call failed, or too many were interrupted
+abbrev pub HasFailed : ℕ → ℕ → Type 0
+HasFailed faults interrupts = (0 < faults) ⊎ (interrupt_limit < interrupts)
+
+abbrev pub ReadFails : Option Command → ℕ → ℕ → List ℕ → Type 0
+ReadFails None faults interrupts bytes = HasFailed faults interrupts
+ReadFails (Some command) faults interrupts bytes = HasFailed faults interrupts ⊎ PassesBound command bytes

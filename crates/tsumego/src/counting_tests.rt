@@ -1,0 +1,87 @@
+//! What is counted of devices that fail, and how often an interrupted one is asked again.
+
+use crate::counting::Counting;
+use crate::devices::Faulty;
+use crate::run::run;
+use crate::status::Status;
+use std::alloc::{AllocError, Global};
+use std::io::{ErrorKind, Read};
+use std::process::Abort;
+
+const INPUT: &str =
+    "(;FF[4]GM[1]SZ[3]AB[ab]AW[aa]PL[B]TR[aa]SQ[ba])\ntsucert 1 3 B\nmain\nplay ba\nwon\nend\n";
+
+// The numbers of the first calls.
+fn first(alloc: Global, count: u64) -> Result<Vec<u64>, AllocError> {
+    let mut calls = Vec::new(alloc);
+    for call in 0..count {
+        calls.push(call)?;
+    }
+    Ok(calls)
+}
+
+// A reader that is interrupted so often, and then gives a claim that is accepted.
+fn reads(rt: &impl Abort, alloc: Global, interrupts: u64, status: Status, text: &str) {
+    let calls = first(alloc, interrupts).expect(rt, "memory");
+    let mut reader = Counting::new(Faulty {
+        inner: INPUT.as_bytes(),
+        calls: 0,
+        failing: calls.as_slice(),
+        kind: ErrorKind::Interrupted,
+    });
+    let mut writer = Counting::new(Vec::new(alloc));
+    assert_eq!(rt;
+        run(alloc, &["tsumego", "check"], &mut reader, &mut writer),
+        status
+    );
+    assert_eq!(rt; writer.inner.as_slice(), text.as_bytes());
+    assert_eq!(rt; reader.faults(), 0);
+    assert_eq!(rt; u64::from(reader.interrupts()), interrupts);
+}
+
+#[test]
+fn a_reader_is_asked_again_a_thousand_times(rt: HostRuntime) {
+    reads(&rt, rt.alloc(), 1_000, Status::Answered, "wins Black\n");
+    reads(&rt, rt.alloc(), 1_001, Status::Failed, "failed: read\n");
+}
+
+// A writer that is interrupted so often.
+fn writes(rt: &impl Abort, alloc: Global, interrupts: u64, status: Status, text: &str) {
+    let calls = first(alloc, interrupts).expect(rt, "memory");
+    let mut reader = Counting::new(INPUT.as_bytes());
+    let mut writer = Counting::new(Faulty {
+        inner: Vec::new(alloc),
+        calls: 0,
+        failing: calls.as_slice(),
+        kind: ErrorKind::Interrupted,
+    });
+    assert_eq!(rt;
+        run(alloc, &["tsumego", "check"], &mut reader, &mut writer),
+        status
+    );
+    assert_eq!(rt; writer.inner.inner.as_slice(), text.as_bytes());
+    assert_eq!(rt; writer.faults(), 0);
+    assert_eq!(rt; u64::from(writer.interrupts()), interrupts);
+}
+
+#[test]
+fn a_writer_is_asked_again_a_thousand_times(rt: HostRuntime) {
+    writes(&rt, rt.alloc(), 1_000, Status::Answered, "wins Black\n");
+    writes(&rt, rt.alloc(), 1_001, Status::Failed, "");
+}
+
+#[test]
+fn each_failed_call_is_counted_once(rt: HostRuntime) {
+    let mut reader = Counting::new(Faulty {
+        inner: "abc".as_bytes(),
+        calls: 0,
+        failing: &[1, 2],
+        kind: ErrorKind::Other,
+    });
+    let mut byte = [0u8; 1];
+    for wanted in [0u64, 1, 2, 2, 2] {
+        let _result = reader.read(&mut byte);
+        assert_eq!(rt; reader.faults(), wanted);
+        assert_eq!(rt; reader.interrupts(), 0);
+    }
+}

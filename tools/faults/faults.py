@@ -1,0 +1,227 @@
+#!/usr/bin/env python3
+"""Runs the program with memory refused, and with reads and writes that fail, are cut short or interrupted: each call in
+turn, until a run meets none of them. Each outcome is compared with what a run may leave.
+
+    tools/faults/faults.py [PATH OF TSUMEGO]
+
+It builds `faults.c` with `cc` into a temporary folder and lays it in front of the C library. It prints a table of runs by
+input and fault, and each finding; the exit code is 1 where there is one.
+"""
+import os
+import pathlib
+import re
+import subprocess
+import sys
+import tempfile
+from concurrent.futures import ThreadPoolExecutor
+
+HERE = pathlib.Path(__file__).parent
+NO_MEMORY = (4, b"failed: memory\n")
+NO_READ = (4, b"failed: read\n")
+REFUSED = b"? out of memory\n\n"
+SECONDS = 60
+
+CAPTURE = "(;FF[4]GM[1]SZ[3]AB[ab]AW[aa]PL[B]TR[aa]SQ[ba])"
+SNAPBACK = "(;FF[4]GM[1]SZ[3]AB[ab]AW[aa][ca][bb]PL[B]TR[aa]SQ[ba])"
+WITH_PAST = "(;FF[4]GM[1]SZ[3]AB[ba][ab]AW[ca][bb]PL[W];W[aa]TR[aa]SQ[ba])"
+TWO_POINTS = WITH_PAST.replace("SQ[ba]", "SQ[ba][cc]")
+ORDERS = "(;FF[4]SZ[3]AW[aa]PL[B]TR[aa]SQ[bc][cc])"
+LISTED = "tsucert 1 3 B|lemma B 0 O.OXO....|not .XOXO....|play ba|won|end|main|use 1|end|".replace("|", "\n")
+MEETING = ("tsucert 1 3 W|lemma W 0 O......XX|play pass|all 1|reply pass|won|end|main|all 3|reply bc|play pass|all 2|"
+           "reply cc|use 1|reply pass|won|reply cc|play pass|all 2|reply bc|use 1|reply pass|won|reply pass|play pass|won|"
+           "end|").replace("|", "\n")
+ANSWERED = ("(;FF[4]GM[1]SZ[3]AB[ba][ab]AW[ca][bb];AW[aa]AE[ba];PL[B]TR[aa]SQ[ba][cc]C[White wins]"
+            "(;B[cc];W[ba];B[];W[])(;B[];W[]))")
+KO_SESSION = ("boardsize 3|play b b3|play w c3|play b a2|play w b2|play w a3|play b b3|undo|play w a3|play b b3|showboard|"
+              "quit|").replace("|", "\n")
+SOLVING_SESSION = ("boardsize 3|play b a2|play w a3|tsu-target a3|tsu-region b3|tsu-solve b|tsu-within 1|4 genmove b|undo|"
+                   "showboard|").replace("|", "\n")
+
+# Name, words, input.
+RUNS = [
+    ("capture", ["solve"], CAPTURE),
+    ("capture", ["solve", "--proof"], CAPTURE),
+    ("capture, White to move", ["solve"], CAPTURE.replace("PL[B]", "PL[W]")),
+    ("snapback", ["solve"], SNAPBACK),
+    ("snapback", ["solve", "--proof"], SNAPBACK),
+    ("ko with its past", ["solve"], WITH_PAST),
+    ("ko with its past", ["solve", "--proof"], WITH_PAST),
+    ("ko, two points", ["solve"], TWO_POINTS),
+    ("ko, two points", ["solve", "--proof"], TWO_POINTS),
+    ("ko, two points, five steps", ["solve", "--steps", "5"], TWO_POINTS),
+    ("two orders", ["solve"], ORDERS),
+    ("two orders", ["solve", "--proof"], ORDERS),
+    ("claim with a list", ["check"], SNAPBACK + "\n" + LISTED),
+    ("the same, rejected", ["check"], WITH_PAST + "\n" + LISTED),
+    ("claim of two orders", ["check"], ORDERS + "\n" + MEETING),
+    ("capture", ["within", "1"], CAPTURE),
+    ("two points, five turns", ["within", "5"], TWO_POINTS),
+    ("answer tree", ["audit"], ANSWERED),
+    ("answer tree that lacks a reply", ["audit"], ANSWERED.replace("(;B[];W[]))", ")")),
+    ("no answer tree", ["audit"], CAPTURE),
+    ("cut off", ["solve"], "(;FF[4]SZ[3]AB[aa)"),
+    ("ko session", ["gtp"], KO_SESSION),
+    ("session that solves", ["gtp"], SOLVING_SESSION),
+]
+
+# Fault, and whether it may change the answer.
+MEMORY = ["memory:N:1", "memory:N:0"]
+DEVICES = ["read:N:1", "read:N:0", "read-short:N:1", "read-short:N:0", "read-interrupt:N:1", "write:N:1", "write:N:0",
+           "write-short:N:1", "write-short:N:0", "write-interrupt:N:1", "write-none:N:1"]
+OFTEN = ["read-interrupt:1:1000", "read-interrupt:1:1001", "write-interrupt:1:1000", "write-interrupt:1:1001"]
+
+
+class Program:
+    def __init__(self, path, library):
+        self.path, self.library = path, library
+        self.known = {}
+
+    def run(self, words, text, fault=None):
+        """The exit code and the output, and whether the fault was met."""
+        told, tell = os.pipe()
+        places = dict(os.environ)
+        if fault:
+            places.update(LD_PRELOAD=self.library, FAULT=fault, FAULT_REPORT=str(tell))
+        try:
+            done = subprocess.run([self.path, *words], input=text, stdout=subprocess.PIPE, stderr=subprocess.STDOUT,
+                                  env=places, pass_fds=(tell,), timeout=SECONDS, check=False)
+        except subprocess.TimeoutExpired:
+            return (None, b""), True
+        finally:
+            os.close(tell)
+            met = bool(os.read(told, 1))
+            os.close(told)
+        return (done.returncode, done.stdout), met
+
+    def answer(self, words, text):
+        """What the run without faults leaves; asked once."""
+        asked = (tuple(words), text)
+        if asked not in self.known:
+            self.known[asked] = self.run(words, text)[0]
+        return self.known[asked]
+
+
+def winner(program, words, input_text, output):
+    """The side that an output of `solve` names, as the program's own judges see it; none where they do not accept it."""
+    judge = "check" if "--proof" in words else "audit"
+    status, text = program.answer([judge], output)
+    return text if status == 0 else None
+
+
+def is_unknown(text):
+    return re.fullmatch(rb"unknown: (memory|step budget|not confirmed|limit), \d+ steps\n", text) is not None
+
+
+def replies_of(output):
+    return [reply + b"\n\n" for reply in output.split(b"\n\n")[:-1]]
+
+
+def session_fits(program, text, got):
+    """Whether the replies are those of a session in which the refused commands were not sent, memory having been refused."""
+    replies = replies_of(got[1])
+    if got == NO_MEMORY:
+        return True
+    if got[0] != 0 or b"".join(replies) != got[1]:
+        return False
+    lines = text.splitlines(keepends=True)
+    sent, wanted = [], []
+    for line, reply in zip(lines, replies):
+        name = line.split()[-2 if len(line.split()) > 1 else -1]
+        if reply == REFUSED:
+            continue
+        if name == b"genmove" and reply.strip().endswith(b" pass"):
+            line = line.replace(b"genmove", b"play").rstrip(b"\n") + b" pass\n"
+            reply = reply.replace(b" pass", b"")
+        if name == b"tsu-solve" and reply.strip() == b"= unknown":
+            continue
+        sent.append(line)
+        wanted.append(reply)
+    return program.answer(["gtp"], b"".join(sent)) == (0, b"".join(wanted)) and len(replies) == len(lines)
+
+
+def fits_memory(program, words, text, own, got):
+    """Whether a run for which memory was refused may end so."""
+    if got == own or got == NO_MEMORY:
+        return True
+    if words[0] == "gtp":
+        return session_fits(program, text, got)
+    if words[0] != "solve":
+        return False
+    if got[0] == 1:
+        return is_unknown(got[1]) and b"step budget" not in got[1]
+    return got[0] == 0 and own[0] == 0 and winner(program, words, text, got[1]) == winner(program, words, text, own[1])
+
+
+def fits_device(words, kind, times, own, got):
+    """Whether a run whose device was faulty may end so."""
+    if kind.endswith("-short") or (kind.endswith("-interrupt") and times <= 1000):
+        return got == own
+    if kind.startswith("read"):
+        if words[0] != "gtp":
+            return got == NO_READ
+        said = got[1][: -len(NO_READ[1])]
+        return got[0] == 4 and got[1].endswith(NO_READ[1]) and own[1].startswith(said) and (not said or said.endswith(b"\n\n"))
+    return got[0] == 4 and own[1].startswith(got[1]) and (not own[1] or got[1] != own[1])
+
+
+def fits(program, words, text, fault, own, got):
+    kind, _, times = fault.split(":")
+    if got[0] is None or got[0] < 0:
+        return False
+    if kind == "memory":
+        return fits_memory(program, words, text, own, got)
+    return fits_device(words, kind, int(times), own, got)
+
+
+def each_call(program, words, text, fault):
+    """Runs with the fault at the first call, the second, and so on. How many runs met it, and those that do not fit."""
+    own = program.answer(words, text)
+    findings, call = [], 1
+    while True:
+        name = fault.replace("N", str(call))
+        got, met = program.run(words, text, name)
+        if not met:
+            if got != own:
+                findings.append((name, got))
+            return call - 1, findings
+        if not fits(program, words, text, name, own, got):
+            findings.append((name, got))
+        call += 1
+
+
+def often(program, words, text, fault):
+    got, met = program.run(words, text, fault)
+    bad = not met or not fits(program, words, text, fault, program.answer(words, text), got)
+    return 1, [(fault, got)] if bad else []
+
+
+def main():
+    path = os.path.abspath(sys.argv[1] if len(sys.argv) > 1 else "crates/tsumego/out/tsumego")
+    with tempfile.TemporaryDirectory() as folder:
+        library = os.path.join(folder, "faults.so")
+        subprocess.run([os.environ.get("CC", "cc"), "-O2", "-shared", "-fPIC", "-o", library, str(HERE / "faults.c")], check=True)
+        program = Program(path, library)
+        jobs = []
+        for name, words, text in RUNS:
+            for fault in MEMORY + DEVICES:
+                jobs.append((each_call, name, words, text.encode(), fault))
+            for fault in OFTEN:
+                jobs.append((often, name, words, text.encode(), fault))
+        with ThreadPoolExecutor(2) as pool:
+            done = list(pool.map(lambda job: job[0](program, *job[2:]), jobs))
+    total, bad, by_run = 0, 0, {}
+    for (_, name, words, _, fault), (count, findings) in zip(jobs, done):
+        counts = by_run.setdefault((name, " ".join(words)), {"memory": 0, "read": 0, "write": 0})
+        counts[re.match("[a-z]+", fault)[0]] += count
+        total += count
+        bad += len(findings)
+        for place, (status, output) in findings:
+            print(f"FINDING: {name}, {' '.join(words)}, {place}: exit code {status}, {output[-200:]!r}")
+    print("| Input | Words | Runs with memory refused | with faulty reads | with faulty writes |\n|---|---|---|---|---|")
+    for (name, words), counts in by_run.items():
+        print(f"| {name} | `{words}` | {counts['memory']:,} | {counts['read']:,} | {counts['write']:,} |")
+    print(f"{total:,} runs that met a fault, {bad} findings")
+    sys.exit(1 if bad else 0)
+
+
+main()

@@ -1,4 +1,4 @@
-use Rattle.std.proofs.Common.{◌+◌, ◌-◌, drop, subst, sym}
+use Rattle.std.proofs.Common.{◌+◌, ◌-◌, subst, sym}
 use Rattle.problem_tools.proofs.Collection.{Decides, decides_later}
 use Rattle.problem_tools.proofs.games.game.Goals as goal
 

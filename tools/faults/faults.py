@@ -64,7 +64,7 @@ RUNS = [
     ("session that solves", ["gtp"], SOLVING_SESSION),
 ]
 
-# Fault, and whether it may change the answer.
+# Each fault; N is the number of the call.
 MEMORY = ["memory:N:1", "memory:N:0"]
 DEVICES = ["read:N:1", "read:N:0", "read-short:N:1", "read-short:N:0", "read-interrupt:N:1", "write:N:1", "write:N:0",
            "write-short:N:1", "write-short:N:0", "write-interrupt:N:1", "write-none:N:1"]
@@ -109,7 +109,7 @@ def winner(program, words, input_text, output):
 
 
 def is_unknown(text):
-    return re.fullmatch(rb"unknown: (memory|step budget|not confirmed|limit), \d+ steps\n", text) is not None
+    return re.fullmatch(rb"unknown: memory, \d+ steps\n", text) is not None
 
 
 def replies_of(output):
@@ -148,7 +148,7 @@ def fits_memory(program, words, text, own, got):
     if words[0] != "solve":
         return False
     if got[0] == 1:
-        return is_unknown(got[1]) and b"step budget" not in got[1]
+        return is_unknown(got[1])
     return got[0] == 0 and own[0] == 0 and winner(program, words, text, got[1]) == winner(program, words, text, own[1])
 
 

@@ -13,7 +13,7 @@ use Rattle.go_points.specs.Grid.{same_cells}
 use Rattle.go_points.specs.Equal.{same_cells_eq, same_cells_symm}
 use Rattle.go_points.specs.Order.{text_order, same_cells_ties}
 use Rattle.go_points.specs.Text.{text_of}
-use Rattle.go_turns.specs.History.{has_occurred}
+use Rattle.go_turns.specs.History.{has_occurred, repeats}
 use Rattle.cert_check.specs.Machine.{last_of}
 use Rattle.cert_check.specs.Ascending.{Ascends}
 
@@ -45,6 +45,15 @@ less_apart c d e = same_cells_ties c d ∙ ap is_eq e
 
 apart_other : (c d : List Cell) → same_cells c d ≡ false → same_cells d c ≡ false
 apart_other c d e = same_cells_symm d c ∙ e
+
+none_among : (c : List Cell) (cs : List (List Cell)) → AllAbove c cs → has_occurred cs c ≡ false
+none_among c [] h = refl
+none_among c (d ∷ cs) h = ap (λ b. b || has_occurred cs c) (less_apart c d h.0) ∙ none_among c cs h.1
+
+-- none stands twice
+pub ascends_once : (cs : List (List Cell)) → Ascends cs → repeats cs ≡ false
+ascends_once [] h = refl
+ascends_once (c ∷ cs) h = ap (λ b. b || repeats cs) (none_among c cs (above_all c cs h)) ∙ ascends_once cs h.1
 
 ascends_drop : (i : ℕ) (cs : List (List Cell)) → Ascends cs → Ascends (drop i cs)
 ascends_drop zero cs h = h

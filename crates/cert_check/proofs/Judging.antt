@@ -5,24 +5,29 @@ use Rattle.std.specs.Ordering.{is_lt}
 use Rattle.std.proofs.Common.{Ordering, Less, Equal, Greater}
 use Rattle.go_points.specs.declared.Cell.{Cell}
 use Rattle.go_points.specs.Order.{text_order}
-use Rattle.target_game.specs.State.{GameState, state_alone}
+use Rattle.target_game.specs.State.{GameState}
 use Rattle.target_game.specs.State as State
-use Rattle.proof_cert.specs.Claim.{max_nodes, max_depth, max_listed}
+use Rattle.target_game.specs.State.{GameProblem}
+use Rattle.std.specs.List.{All}
+use Rattle.std.proofs.lemmas.List.Elements.{All-push}
+use Rattle.go_points.specs.Grid.{side_of}
+use Rattle.go_points.specs.Sides.{side_of-whole}
+use Rattle.proof_cert.specs.Claim.{Head, max_nodes, max_depth, max_listed}
 use Rattle.proof_cert.specs.Lines.{Line, header_line, lemma_line, had_line, not_line, main_line, won_line, use_line, play_line, all_line, reply_line, end_line, line_fits}
 use Rattle.cert_check.specs.declared.judge.Judge.{Judge}
-use Rattle.cert_check.specs.declared.judge.Phase.TheVariants.{Listing, Body}
+use Rattle.cert_check.specs.declared.judge.Phase.TheVariants.{ListingHad, Listing, Body}
 use Rattle.cert_check.specs.declared.judge.Within.{Within}
 use Rattle.cert_check.specs.declared.judge.Within.TheVariants.{Lemma, Main}
 use Rattle.cert_check.specs.declared.open_nodes.Due.{Due}
 use Rattle.cert_check.specs.declared.open_nodes.Due.TheVariants.{Node, Reply}
 use Rattle.cert_check.specs.declared.open_nodes.Open.{Open}
 use Rattle.cert_check.specs.declared.lines.NodeLine.{NodeLine}
-use Rattle.cert_check.specs.Body.{Why, limit, list_order, ask}
-use Rattle.cert_check.specs.Verdict.{not_of, is_after}
-use Rattle.cert_check.specs.Machine.{goes_on, stops, goes_if, last_of, listed_taken, listing_not, not_taken, phase_taken, taken, body_of, node_taken, reply_due}
+use Rattle.cert_check.specs.Body.{Why, limit, list_order, ask, lemma_start}
+use Rattle.cert_check.specs.Verdict.{had_of, not_of, is_after}
+use Rattle.cert_check.specs.Machine.{Machine, Heading, Phase, goes_on, stops, goes_if, last_of, listed_taken, listing_had, listing_not, had_taken, not_taken, phase_taken, taken, body_of, node_taken, reply_due}
 use Rattle.cert_check.specs.Inside.{Inside, phase_of, owed_by, node_fault, node_next}
-use Rattle.cert_check.specs.Parts.{head_of, listed_line, node_line, node_value}
-use Rattle.cert_check.specs.Judging.{GoesOn, IsBehind, machine_of, heading_of, lemma_of, within_of, inside_now, phase_held, IsBehindFor, AwaitsList, AwaitsNode, list_here, node_here, body_here, listed_more}
+use Rattle.cert_check.specs.Parts.{head_of, had_line_of, listed_line, node_line, node_value}
+use Rattle.cert_check.specs.Judging.{GoesOn, IsBehind, machine_of, heading_of, lemma_of, within_of, inside_now, phase_held, IsBehindFor, AwaitsHad, AwaitsList, AwaitsNode, had_here, list_here, node_here, body_here, had_more, listed_more}
 use Rattle.cert_check.specs.Ascending.{Ascends}
 use Rattle.cert_check.proofs.Ascending.{ascends_more}
 use Rattle.cert_check.proofs.Lists.{before_is}
@@ -53,22 +58,65 @@ listed_none end_line e = refl
 pub first_line : (j : Judge) (l : Line) → AwaitsList j → listed_line l ≡ None → list_here j l ≡ node_here j Lemma l
 first_line j l h none =
     ap (λ o. not_taken j.problem.now (machine_of j) (heading_of j) (lemma_of j) (Some l) o) (listed_none l none)
-    ∙ ap (λ ns. node_taken (machine_of j) (heading_of j) (Some (lemma_of j)) 1 (state_alone j.problem.now.game j.root j.mover j.passes) (owed_by [] (reverse ns)) l) (sym h.closed)
+    ∙ ap (λ ns. node_taken (machine_of j) (heading_of j) (Some (lemma_of j)) 1 (lemma_start j.problem.now.game (lemma_of j)) (owed_by [] (reverse ns)) l) (sym h.closed)
     ∙ ap (λ (st : State.Line). node_taken (machine_of j) (heading_of j) (Some (lemma_of j)) (suc (length st.before)) st.state (owed_by st.before (reverse j.open_nodes.items)) l) (sym h.state)
 
--- a line of a list, by its questions
-pub listed_on : (j : Judge) (c : List Cell) → nat_lt j.listed_count max_listed ≡ true → is_after (last_of j.list.items) c ≡ true
-    → listed_taken (machine_of j) (last_of j.list.items) c (listing_not (heading_of j) (listed_more (lemma_of j) c))
-    ≡ goes_on (record (machine_of j) { phase = listing_not (heading_of j) (listed_more (lemma_of j) c); place = suc j.place; listed = suc j.listed_count })
-listed_on j c few after =
-    ap (λ b. goes_if j.place (ask b limit (ask (is_after (last_of j.list.items) c) list_order None)) (record (machine_of j) { phase = listing_not (heading_of j) (listed_more (lemma_of j) c); place = suc j.place; listed = suc j.listed_count })) few
-    ∙ ap (λ b. goes_if j.place (ask b list_order None) (record (machine_of j) { phase = listing_not (heading_of j) (listed_more (lemma_of j) c); place = suc j.place; listed = suc j.listed_count })) after
+had_none : (l : Line) → had_line_of l ≡ None → had_of (Some l) ≡ None
+had_none (had_line c) e = absurd (cc)
+had_none (not_line c) e = refl
+had_none (header_line v n x) e = refl
+had_none (lemma_line m p c) e = refl
+had_none main_line e = refl
+had_none won_line e = refl
+had_none (use_line j) e = refl
+had_none (play_line t) e = refl
+had_none (all_line m) e = refl
+had_none (reply_line t) e = refl
+had_none end_line e = refl
 
-pub listed_off : (j : Judge) (c : List Cell) → nat_lt j.listed_count max_listed ≡ true → is_after (last_of j.list.items) c ≡ false
-    → listed_taken (machine_of j) (last_of j.list.items) c (listing_not (heading_of j) (listed_more (lemma_of j) c)) ≡ stops j.place list_order
-listed_off j c few after =
-    ap (λ b. goes_if j.place (ask b limit (ask (is_after (last_of j.list.items) c) list_order None)) (record (machine_of j) { phase = listing_not (heading_of j) (listed_more (lemma_of j) c); place = suc j.place; listed = suc j.listed_count })) few
-    ∙ ap (λ b. goes_if j.place (ask b list_order None) (record (machine_of j) { phase = listing_not (heading_of j) (listed_more (lemma_of j) c); place = suc j.place; listed = suc j.listed_count })) after
+-- what a line makes of the machine does not depend on which list was due
+module _ (q : GameProblem) (f : Heading) (h : Head) (p r : Phase) (place nodes listed : ℕ) where
+  abbrev m : Machine
+  m = record { phase = p; place = place; nodes = nodes; listed = listed }
+
+  abbrev n : Machine
+  n = record { phase = r; place = place; nodes = nodes; listed = listed }
+
+  node_same : (l : Line) → node_taken m f (Some h) 1 (lemma_start q.game h) [] l ≡ node_taken n f (Some h) 1 (lemma_start q.game h) [] l
+  node_same won_line = refl
+  node_same (use_line j) = refl
+  node_same (play_line t) = refl
+  node_same (all_line k) = refl
+  node_same (had_line c) = refl
+  node_same (not_line c) = refl
+  node_same (header_line v k x) = refl
+  node_same (lemma_line k d c) = refl
+  node_same main_line = refl
+  node_same (reply_line t) = refl
+  node_same end_line = refl
+
+  not_same : (l : Line) (o : Option (List Cell)) → not_taken q m f h (Some l) o ≡ not_taken q n f h (Some l) o
+  not_same l None = node_same l
+  not_same l (Some c) = refl
+
+-- a line that is no colouring that must have occurred is one of the other list, or begins the body
+pub behind_had : (j v : Judge) (l : Line) → had_line_of l ≡ None → v ≡ record j { state = v.state; phase = v.phase } → had_here j l ≡ list_here v l
+behind_had j v l none rest =
+    ap (λ o. had_taken j.problem.now (machine_of j) (heading_of j) (lemma_of j) (Some l) o) (had_none l none)
+    ∙ not_same j.problem.now (heading_of j) (lemma_of j) (phase_held j j.phase) (phase_held (record j { state = v.state; phase = v.phase }) v.phase) j.place j.node_count j.listed_count l (not_of (Some l))
+    ∙ sym (ap (λ (x : Judge). list_here x l) rest)
+
+-- a line of a list, by its questions
+module _ (m : Machine) (last : Option (List Cell)) (c : List Cell) (p : Phase) (few : nat_lt m.listed max_listed ≡ true) where
+  pub listed_passed : is_after last c ≡ true → listed_taken m last c p ≡ goes_on (record m { phase = p; place = suc m.place; listed = suc m.listed })
+  listed_passed after =
+      ap (λ b. goes_if m.place (ask b limit (ask (is_after last c) list_order None)) (record m { phase = p; place = suc m.place; listed = suc m.listed })) few
+      ∙ ap (λ b. goes_if m.place (ask b list_order None) (record m { phase = p; place = suc m.place; listed = suc m.listed })) after
+
+  pub listed_barred : is_after last c ≡ false → listed_taken m last c p ≡ stops m.place list_order
+  listed_barred after =
+      ap (λ b. goes_if m.place (ask b limit (ask (is_after last c) list_order None)) (record m { phase = p; place = suc m.place; listed = suc m.listed })) few
+      ∙ ap (λ b. goes_if m.place (ask b list_order None) (record m { phase = p; place = suc m.place; listed = suc m.listed })) after
 
 -- NODES
 
@@ -143,17 +191,17 @@ last_fits cs c n o is long h = at o (last_of cs) (is ∙ last_get cs) h
     at None b e k = tt
     at (Some d) b e k = let there = subst (λ (x : Option (List Cell)). IfSome x (λ y. length y ≡ n)) (sym e) k in there ∙ sym long
 
-module _ (j : Judge) (c : List Cell) (v : Judge) (count : ℕ) (phase : j.phase ≡ Listing) (pushed : v.list.items ≡ j.list.items ++ c ∷ []) where
-  -- the colouring is behind the last one
-  listed_behind : (o : Option (List Cell)) → IfSome o (λ d. length d ≡ length c) → is_after o c ≡ true → IfSome o (λ d. text_order d c ≡ Less)
-  listed_behind None long after = tt
-  listed_behind (Some d) long after = go (text_order d c) (before_is d c long ∙ after)
-    where
-      go : (o : Ordering) → is_lt o ≡ true → o ≡ Less
-      go Less e = refl
-      go Equal e = absurd (cc)
-      go Greater e = absurd (cc)
+-- a colouring is behind the last one
+listed_behind : (c : List Cell) (o : Option (List Cell)) → IfSome o (λ d. length d ≡ length c) → is_after o c ≡ true → IfSome o (λ d. text_order d c ≡ Less)
+listed_behind c None long after = tt
+listed_behind c (Some d) long after = go (text_order d c) (before_is d c long ∙ after)
+  where
+    go : (o : Ordering) → is_lt o ≡ true → o ≡ Less
+    go Less e = refl
+    go Equal e = absurd (cc)
+    go Greater e = absurd (cc)
 
+module _ (j : Judge) (c : List Cell) (v : Judge) (count : ℕ) (phase : j.phase ≡ Listing) (pushed : v.list.items ≡ j.list.items ++ c ∷ []) where
   pub listed_ready : AwaitsList j → length c ≡ j.problem.now.game.size * j.problem.now.game.size → is_after (last_of j.list.items) c ≡ true → IsBehind (record j { list = v.list; listed_count = count })
   listed_ready h fits after =
       subst (λ p. IsBehindFor (record j { list = v.list; listed_count = count }) p) (sym phase)
@@ -163,14 +211,39 @@ module _ (j : Judge) (c : List Cell) (v : Judge) (count : ℕ) (phase : j.phase 
         fits = subst (λ o. IfSome o (λ d. length d ≡ j.problem.now.game.size * j.problem.now.game.size)) (sym (ap last_of pushed ∙ last_pushed j.list.items c)) fits;
         ascends =
             subst Ascends (sym pushed)
-            (ascends_more j.list.items c h.ascends (listed_behind (last_of j.list.items) (last_fits j.list.items c (j.problem.now.game.size * j.problem.now.game.size) (last_of j.list.items) (sym (last_get j.list.items)) fits h.fits) after));
+            (ascends_more j.list.items c h.ascends (listed_behind c (last_of j.list.items) (last_fits j.list.items c (j.problem.now.game.size * j.problem.now.game.size) (last_of j.list.items) (sym (last_get j.list.items)) fits h.fits) after));
       })
 
   pub listed_goes : nat_lt j.listed_count max_listed ≡ true → is_after (last_of j.list.items) c ≡ true → count ≡ suc j.listed_count
       → GoesOn j (record j { list = v.list; listed_count = count }) (listed_taken (machine_of j) (last_of j.list.items) c (listing_not (heading_of j) (listed_more (lemma_of j) c)))
   listed_goes few after counted =
-      listed_on j c few after
+      listed_passed (machine_of j) (last_of j.list.items) c (listing_not (heading_of j) (listed_more (lemma_of j) c)) few after
       ∙ sym (
       ap (λ p. goes_on (record { phase = phase_held (record j { list = v.list; listed_count = count }) p; place = suc j.place; nodes = j.node_count; listed = count })) phase
-      ∙ ap (λ cs. goes_on (record { phase = listing_not (heading_of j) (head_of j.mover j.passes j.root cs); place = suc j.place; nodes = j.node_count; listed = count })) pushed
-      ∙ ap (λ n. goes_on (record { phase = listing_not (heading_of j) (head_of j.mover j.passes j.root (j.list.items ++ c ∷ [])); place = suc j.place; nodes = j.node_count; listed = n })) counted)
+      ∙ ap (λ cs. goes_on (record { phase = listing_not (heading_of j) (head_of j.mover j.passes j.root j.had.items cs); place = suc j.place; nodes = j.node_count; listed = count })) pushed
+      ∙ ap (λ n. goes_on (record { phase = listing_not (heading_of j) (head_of j.mover j.passes j.root j.had.items (j.list.items ++ c ∷ [])); place = suc j.place; nodes = j.node_count; listed = n })) counted)
+
+module _ (j : Judge) (c : List Cell) (v : Judge) (count : ℕ) (phase : j.phase ≡ ListingHad) (pushed : v.had.items ≡ j.had.items ++ c ∷ []) where
+  pub had_ready : AwaitsHad j → length c ≡ j.problem.now.game.size * j.problem.now.game.size → is_after (last_of j.had.items) c ≡ true → IsBehind (record j { had = v.had; listed_count = count })
+  had_ready h fits after =
+      subst (λ p. IsBehindFor (record j { had = v.had; listed_count = count }) p) (sym phase)
+      (record {
+        root = h.root;
+        few = h.few;
+        closed = h.closed;
+        list = h.list;
+        sizes = subst (All (λ d. side_of d ≡ j.problem.now.game.size)) (sym pushed) (All-push (λ d. side_of d ≡ j.problem.now.game.size) j.had.items c h.sizes (side_of-whole c j.problem.now.game.size fits));
+        fits = subst (λ o. IfSome o (λ d. length d ≡ j.problem.now.game.size * j.problem.now.game.size)) (sym (ap last_of pushed ∙ last_pushed j.had.items c)) fits;
+        ascends =
+            subst Ascends (sym pushed)
+            (ascends_more j.had.items c h.ascends (listed_behind c (last_of j.had.items) (last_fits j.had.items c (j.problem.now.game.size * j.problem.now.game.size) (last_of j.had.items) (sym (last_get j.had.items)) fits h.fits) after));
+      })
+
+  pub had_goes : nat_lt j.listed_count max_listed ≡ true → is_after (last_of j.had.items) c ≡ true → count ≡ suc j.listed_count
+      → GoesOn j (record j { had = v.had; listed_count = count }) (listed_taken (machine_of j) (last_of j.had.items) c (listing_had (heading_of j) (had_more (lemma_of j) c)))
+  had_goes few after counted =
+      listed_passed (machine_of j) (last_of j.had.items) c (listing_had (heading_of j) (had_more (lemma_of j) c)) few after
+      ∙ sym (
+      ap (λ p. goes_on (record { phase = phase_held (record j { had = v.had; listed_count = count }) p; place = suc j.place; nodes = j.node_count; listed = count })) phase
+      ∙ ap (λ cs. goes_on (record { phase = listing_had (heading_of j) (head_of j.mover j.passes j.root cs j.list.items); place = suc j.place; nodes = j.node_count; listed = count })) pushed
+      ∙ ap (λ n. goes_on (record { phase = listing_had (heading_of j) (head_of j.mover j.passes j.root (j.had.items ++ c ∷ []) j.list.items); place = suc j.place; nodes = j.node_count; listed = n })) counted)

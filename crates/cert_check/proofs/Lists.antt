@@ -20,6 +20,15 @@ known_by h c o b at there = occurred_place h c ∙ sym (ap is_none at) ∙ go o 
     go (Some p) true e = refl
     go (Some p) false e = absurd (cc)
 
+not_inverts : (a b : Bool) → not a ≡ not b → a ≡ b
+not_inverts true true e = refl
+not_inverts true false e = absurd (cc)
+not_inverts false true e = absurd (cc)
+not_inverts false false e = refl
+
+pub known_here : (h : List (List Cell)) (c : List Cell) (o : Option ℕ) (b : Bool) → o ≡ place_in h c → is_some o ≡ b → has_occurred h c ≡ b
+known_here h c o b at there = not_inverts (has_occurred h c) b (known_by h c o b at there)
+
 -- the order of colourings of one size
 before_step : (l e : Bool) (o : Ordering) (b : Bool) → is_lt o ≡ b → is_lt (ordering_then (cond l Less (cond e Equal Greater)) o) ≡ (l || (e && b))
 before_step true e o b h = refl

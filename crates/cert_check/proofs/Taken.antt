@@ -2,7 +2,7 @@
 use Rattle.std.proofs.Common.{◌≡◌, ℕ, ◌≤◌, ◌⊎◌, inl, inr, List, ◌++◌, length, Option, None, Ok, ap, ◌∙◌, arith}
 use Rattle.go_points.specs.declared.Colour.{Colour}
 use Rattle.target_game.specs.State.{GameProblem}
-use Rattle.proof_cert.specs.Source.{lines_read}
+use Rattle.proof_cert.specs.Text.{lines}
 use Rattle.proof_cert.specs.Streamed.{Tells, reader_gives, streamed_of, LinesGivenOfReader}
 use Rattle.cert_check.specs.Body.{Why}
 use Rattle.cert_check.specs.Verdict.{verdict, accepted, rejected}
@@ -12,16 +12,16 @@ use Rattle.cert_check.proofs.Faults.{faults_stay}
 use Rattle.cert_check.proofs.Taking.{as_long}
 
 reader_accepted : LinesGivenOfReader → (q : GameProblem) (held : List ℕ) (told : Option (List ℕ)) (x : Colour) → Accepts reader_gives q.game.size q (streamed_of q.game.size held told) x
-    → (bytes : List ℕ) × Tells told bytes × (verdict q (lines_read q.game.size (held ++ bytes)) ≡ accepted x)
+    → (bytes : List ℕ) × Tells told bytes × (verdict q (lines q.game.size (held ++ bytes)) ≡ accepted x)
 reader_accepted law q held told x h =
     let all = (law q.game.size held told (line_values q.game.size h.taken) h.left h.took).all h.ended.0 h.ended.1 in
     (all.0, all.1, ap (verdict q) all.2 ∙ h.accepted)
 
 reader_rejected : LinesGivenOfReader → (q : GameProblem) (held : List ℕ) (told : Option (List ℕ)) (place : ℕ) (why : Why) → RejectsAt reader_gives q.game.size q (streamed_of q.game.size held told) place why
-    → (bytes : List ℕ) × Tells told bytes × (verdict q (lines_read q.game.size (held ++ bytes)) ≡ rejected place why)
+    → (bytes : List ℕ) × Tells told bytes × (verdict q (lines q.game.size (held ++ bytes)) ≡ rejected place why)
 reader_rejected law q held told place why h = side h.there
   where
-    side : Answers reader_gives h.left (Ok None) ⊎ (place ≤ length h.taken) → (bytes : List ℕ) × Tells told bytes × (verdict q (lines_read q.game.size (held ++ bytes)) ≡ rejected place why)
+    side : Answers reader_gives h.left (Ok None) ⊎ (place ≤ length h.taken) → (bytes : List ℕ) × Tells told bytes × (verdict q (lines q.game.size (held ++ bytes)) ≡ rejected place why)
     side (inl a) =
         let all = (law q.game.size held told (line_values q.game.size h.taken) h.left h.took).all a.0 a.1 in
         (all.0, all.1, ap (verdict q) all.2 ∙ h.rejected)

@@ -7,7 +7,7 @@ use Rattle.go_points.specs.declared.Colour.{Colour}
 use Rattle.target_game.specs.State.{GameProblem}
 use Rattle.proof_cert.specs.Lines.{Line}
 use Rattle.proof_cert.specs.Given.{Gave}
-use Rattle.proof_cert.specs.Source.{lines_read}
+use Rattle.proof_cert.specs.Text.{lines}
 use Rattle.proof_cert.specs.Streamed.{Tells, reader_gives, streamed_of}
 use Rattle.proof_cert.specs.declared.line.Line as code
 use Rattle.proof_cert.specs.declared.source.SourceFault.{SourceFault}
@@ -49,9 +49,9 @@ pub record FailsAt {S : Type 0} (gives : S → Result (Option Line) SourceFault 
   pub behind : place ≡ suc (length taken)
   pub faultless : (p : ℕ) (w : Why) → verdict q (line_values q.game.size taken) ≡ rejected p w → length taken < p
 
--- Over some bytes and a reader the answers are those of the verdict on all the lines of those bytes and the reader's, as far as they are read.
+-- Over some bytes and a reader the answers are those of the verdict on all the lines of those bytes and the reader's.
 pub record ReadersJudged : Type 0 where
   pub accepted : (q : GameProblem) (held : List ℕ) (told : Option (List ℕ)) (x : Colour) → Accepts reader_gives q.game.size q (streamed_of q.game.size held told) x
-      → (bytes : List ℕ) × Tells told bytes × (verdict q (lines_read q.game.size (held ++ bytes)) ≡ accepted x)
+      → (bytes : List ℕ) × Tells told bytes × (verdict q (lines q.game.size (held ++ bytes)) ≡ accepted x)
   pub rejected : (q : GameProblem) (held : List ℕ) (told : Option (List ℕ)) (place : ℕ) (why : Why) → RejectsAt reader_gives q.game.size q (streamed_of q.game.size held told) place why
-      → (bytes : List ℕ) × Tells told bytes × (verdict q (lines_read q.game.size (held ++ bytes)) ≡ rejected place why)
+      → (bytes : List ℕ) × Tells told bytes × (verdict q (lines q.game.size (held ++ bytes)) ≡ rejected place why)

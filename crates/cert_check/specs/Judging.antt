@@ -2,34 +2,36 @@
 --     machine_of j      the machine
 --     IsReady j      what the judge keeps from line to line
 --     GoesOn, StopsFor      a call did what the machine does with a line, and a refusal is the machine's
-use Rattle.std.specs.Prelude.{◌≡◌, ℕ, suc, ◌*◌, List, [], ◌∷◌, ◌++◌, length, reverse, Option, Some, None, IfSome}
+use Rattle.std.specs.Prelude.{◌≡◌, ◌≤◌, ℕ, suc, ◌*◌, List, [], ◌∷◌, ◌++◌, length, reverse, Option, Some, None, IfSome}
+use Rattle.std.specs.List.{All}
 use Rattle.go_points.specs.declared.Cell.{Cell}
-use Rattle.target_game.specs.State.{state_alone}
+use Rattle.go_points.specs.Grid.{side_of}
 use Rattle.target_game.specs.Kept.{turn_from}
 use Rattle.proof_cert.specs.Lines as Read
 use Rattle.proof_cert.specs.Claim.{Head}
+use Rattle.proof_cert.specs.Stage.{version_number}
 use Rattle.cert_check.specs.declared.reject.Why as stop
 use Rattle.cert_check.specs.declared.judge.Judge.{Judge}
 use Rattle.cert_check.specs.declared.judge.Phase.{Phase}
-use Rattle.cert_check.specs.declared.judge.Phase.TheVariants.{Header, Opening, Listing, Body, Done}
+use Rattle.cert_check.specs.declared.judge.Phase.TheVariants.{Header, Opening, ListingHad, Listing, Body, Done}
 use Rattle.cert_check.specs.declared.judge.Within.{Within}
 use Rattle.cert_check.specs.declared.judge.Within.TheVariants.{Lemma, Main}
 use Rattle.cert_check.specs.declared.open_nodes.Due.{Due}
 use Rattle.cert_check.specs.declared.open_nodes.Due.TheVariants.{Node, Reply}
-use Rattle.cert_check.specs.Verdict.{not_of}
-use Rattle.cert_check.specs.Body.{Why, malformed, text_after_end}
+use Rattle.cert_check.specs.Verdict.{had_of, not_of}
+use Rattle.cert_check.specs.Body.{Why, malformed, text_after_end, lemma_start}
 use Rattle.cert_check.specs.Stage.{why_value}
-use Rattle.cert_check.specs.Machine.{Machine, Heading, header, opening, listing_not, done, last_of, Step, goes_on, stops, not_taken, node_taken, reply_taken, end_taken}
+use Rattle.cert_check.specs.Machine.{Machine, Heading, header, opening, listing_had, listing_not, done, last_of, Step, goes_on, stops, had_taken, not_taken, node_taken, reply_taken, end_taken}
 use Rattle.cert_check.specs.Machine as machine
 use Rattle.cert_check.specs.Ascending.{Ascends}
 use Rattle.cert_check.specs.Inside.{Follows, Unwon, FitsDepth, Inside, inside_of, phase_of, owed_by, others_after}
 use Rattle.cert_check.specs.Parts.{head_of, IsJudged}
 
 abbrev pub heading_of : Judge → Heading
-heading_of j = record { version = 1; winner = j.winner; heads = j.heads.items }
+heading_of j = record { version = version_number j.version; winner = j.winner; heads = j.heads.items }
 
 abbrev pub lemma_of : Judge → Head
-lemma_of j = head_of j.mover j.passes j.root j.list.items
+lemma_of j = head_of j.mover j.passes j.root j.had.items j.list.items
 
 -- which lemma's body it is, or main
 abbrev pub within_of : Judge → Within → Option Head
@@ -42,6 +44,7 @@ inside_now j due = inside_of due j.state.state j.state.before (reverse j.open_no
 abbrev pub phase_held : Judge → Phase → machine.Phase
 phase_held j Header = header
 phase_held j Opening = opening (heading_of j)
+phase_held j ListingHad = listing_had (heading_of j) (lemma_of j)
 phase_held j Listing = listing_not (heading_of j) (lemma_of j)
 phase_held j (Body within due) = phase_of (heading_of j) (within_of j within) (inside_now j due)
 phase_held j Done = done j.winner
@@ -49,15 +52,30 @@ phase_held j Done = done j.winner
 abbrev pub machine_of : Judge → Machine
 machine_of j = record { phase = phase_held j j.phase; place = j.place; nodes = j.node_count; listed = j.listed_count }
 
+-- no colouring of the present lemma was listed
+pub record HasNoLists (j : Judge) : Type 0 where
+  pub had : j.had.items ≡ []
+  pub list : j.list.items ≡ []
+
 -- before the first line nothing is known
 pub record AwaitsHeader (j : Judge) : Type 0 where
   pub first : j.place ≡ 1
   pub heads : j.heads.items ≡ []
-  pub list : j.list.items ≡ []
+  pub lists : HasNoLists j
 
--- between a lemma's first line and its body: the state is where the body begins, and the colouring listed last is one of the board
+-- among the `had` lines: no turn was made, no other colouring was listed, and those that were are of the board
+pub record AwaitsHad (j : Judge) : Type 0 where
+  pub root : side_of j.root ≡ j.problem.now.game.size
+  pub few : j.passes ≤ 1
+  pub closed : j.open_nodes.items ≡ []
+  pub list : j.list.items ≡ []
+  pub fits : IfSome (last_of j.had.items) (λ c. length c ≡ j.problem.now.game.size * j.problem.now.game.size)
+  pub sizes : All (λ c. side_of c ≡ j.problem.now.game.size) j.had.items
+  pub ascends : Ascends j.had.items
+
+-- between these and the body: the state is where the body begins, and the colouring listed last is one of the board
 pub record AwaitsList (j : Judge) : Type 0 where
-  pub state : j.state ≡ record { state = state_alone j.problem.now.game j.root j.mover j.passes; before = [] }
+  pub state : j.state ≡ record { state = lemma_start j.problem.now.game (lemma_of j); before = [] }
   pub closed : j.open_nodes.items ≡ []
   pub fits : IfSome (last_of j.list.items) (λ c. length c ≡ j.problem.now.game.size * j.problem.now.game.size)
   pub ascends : Ascends j.list.items
@@ -71,7 +89,8 @@ pub record AwaitsNode (j : Judge) (due : Due) : Type 0 where
 
 abbrev pub IsReadyFor : Judge → Phase → Type 0
 IsReadyFor j Header = AwaitsHeader j
-IsReadyFor j Opening = j.list.items ≡ []
+IsReadyFor j Opening = HasNoLists j
+IsReadyFor j ListingHad = AwaitsHad j
 IsReadyFor j Listing = AwaitsList j
 IsReadyFor j (Body within due) = AwaitsNode j due
 IsReadyFor j Done = Unit {0}
@@ -83,6 +102,7 @@ IsReady j = IsReadyFor j j.phase
 abbrev pub IsBehindFor : Judge → Phase → Type 0
 IsBehindFor j Header = ⊥
 IsBehindFor j Opening = IsReadyFor j Opening
+IsBehindFor j ListingHad = IsReadyFor j ListingHad
 IsBehindFor j Listing = IsReadyFor j Listing
 IsBehindFor j (Body within due) = IsReadyFor j (Body within due)
 IsBehindFor j Done = IsReadyFor j Done
@@ -97,7 +117,10 @@ GoesOn old new step = step ≡ goes_on (record (machine_of new) { place = suc ol
 abbrev pub StopsFor : Judge → Step → stop.Why → Type 0
 StopsFor j step why = ((p : Why) → why_value j.problem.now.game.size why ≡ Some p → step ≡ stops j.place p) × IsJudged why
 
--- What the machine does with a line that fits the board: of a list or behind it, of a body's node, of a reply looked for at a place, and of a body.
+-- What the machine does with a line that fits the board: of one of the lists or behind it, of a body's node, of a reply looked for at a place, and of a body.
+abbrev pub had_here : Judge → Read.Line → Step
+had_here j l = had_taken j.problem.now (machine_of j) (heading_of j) (lemma_of j) (Some l) (had_of (Some l))
+
 abbrev pub list_here : Judge → Read.Line → Step
 list_here j l = not_taken j.problem.now (machine_of j) (heading_of j) (lemma_of j) (Some l) (not_of (Some l))
 
@@ -114,6 +137,9 @@ abbrev pub body_here : Judge → Within → Due → Read.Line → Step
 body_here j within Node l = node_here j within l
 body_here j within (Reply (Some place)) l = reply_here j within place l
 body_here j within (Reply None) l = end_taken (machine_of j) (heading_of j) (within_of j within) l
+
+abbrev pub had_more : Head → List Cell → Head
+had_more h c = record h { had = h.had ++ c ∷ [] }
 
 abbrev pub listed_more : Head → List Cell → Head
 listed_more h c = record h { absent = h.absent ++ c ∷ [] }

@@ -1,7 +1,7 @@
 -- The parts of a claim as the program judges them.
---     head_of      what a lemma of version 1 says before its tree
+--     head_of      what a lemma says before its tree
 --     line_values      what lines of the program say
---     header_line_of, opening_line, listed_line, node_line, reply_line_of, end_line_of      the line, where it is of one kind
+--     header_line_of, opening_line, had_line_of, listed_line, node_line, reply_line_of, end_line_of      the line, where it is of one kind
 --     header_value, .., end_value      what the program's parts say, as lines
 use Rattle.std.specs.Prelude.{ℕ, ◌-◌, ◌*◌, Bool, true, false, not, List, [], ◌∷◌, ◌++◌, map, filter, Option, Some, None, option_map}
 use Rattle.std.specs.List.{range_with_len}
@@ -12,8 +12,8 @@ use Rattle.go_points.specs.Ply.{Ply, pass, move, ply_of}
 use Rattle.target_game.specs.State.{GameState}
 use Rattle.target_game.specs.Legal.{legal}
 use Rattle.proof_cert.specs.Claim.{Head}
-use Rattle.proof_cert.specs.Lines.{Line, header_line, lemma_line, not_line, main_line, won_line, use_line, play_line, all_line, reply_line, end_line}
-use Rattle.proof_cert.specs.Stage.{line_value}
+use Rattle.proof_cert.specs.Lines.{Line, header_line, lemma_line, had_line, not_line, main_line, won_line, use_line, play_line, all_line, reply_line, end_line}
+use Rattle.proof_cert.specs.Stage.{line_value, version_number}
 use Rattle.proof_cert.specs.declared.line.Line as code
 use Rattle.cert_check.specs.declared.reject.Why as code_why
 use Rattle.cert_check.specs.declared.reject.Why.TheVariants.{Read}
@@ -29,9 +29,9 @@ abbrev pub IsJudged : code_why.Why → Type 0
 IsJudged Read = ⊥
 IsJudged _ = Unit {0}
 
--- what a lemma of version 1 says before its tree
-abbrev pub head_of : Colour → ℕ → List Cell → List (List Cell) → Head
-head_of mover passes root absent = record { mover = mover; passes = passes; root = root; had = []; absent = absent }
+-- what a lemma says before its tree
+abbrev pub head_of : Colour → ℕ → List Cell → List (List Cell) → List (List Cell) → Head
+head_of mover passes root had absent = record { mover = mover; passes = passes; root = root; had = had; absent = absent }
 
 -- what lines of the program say, None for a malformed one
 abbrev pub line_values : ℕ → List (Option code.Line) → List (Option Line)
@@ -47,7 +47,7 @@ move_fault listed s (move p) =
 
 -- the first line
 abbrev pub header_value : Header → Line
-header_value h = header_line 1 h.size h.winner
+header_value h = header_line (version_number h.version) h.size h.winner
 
 abbrev pub header_line_of : Line → Option Line
 header_line_of (header_line version size winner) = Some (header_line version size winner)
@@ -63,7 +63,14 @@ opening_line (lemma_line mover passes root) = Some (lemma_line mover passes root
 opening_line main_line = Some main_line
 opening_line _ = None
 
--- the lines of a lemma's list
+-- the lines of a lemma's lists
+abbrev pub had_value : List Cell → Line
+had_value c = had_line c
+
+abbrev pub had_line_of : Line → Option Line
+had_line_of (had_line c) = Some (had_line c)
+had_line_of _ = None
+
 abbrev pub listed_value : List Cell → Line
 listed_value c = not_line c
 

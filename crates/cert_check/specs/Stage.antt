@@ -4,9 +4,9 @@
 use Rattle.std.specs.Prelude.{◌≡◌, ℕ, Option, Some, None}
 use Rattle.go_points.specs.Ply.{ply_of}
 use Rattle.cert_check.specs.declared.reject.Why as code
-use Rattle.cert_check.specs.declared.reject.Why.TheVariants.{Malformed, SizeDiffers, RootWithoutLiberty, NotWon, WrongSide, TurnBarred, RepeatsKnown, NotListed, RepliesDiffer, LemmaNotLower, StateDiffers, ListedOccurred, ListedNotPassedOn, ListOrder, Limit, TextAfterEnd, Memory, Read}
+use Rattle.cert_check.specs.declared.reject.Why.TheVariants.{Malformed, SizeDiffers, RootWithoutLiberty, NotWon, WrongSide, TurnBarred, RepeatsKnown, NotListed, RepliesDiffer, LemmaNotLower, StateDiffers, NeededNotOccurred, ListedOccurred, ListedNotPassedOn, ListOrder, Limit, TextAfterEnd, Memory, Read}
 use Rattle.cert_check.specs.declared.reject.Reject.{Reject}
-use Rattle.cert_check.specs.Body.{Why, malformed, size_differs, root_without_liberty, not_won, wrong_side, turn_barred, repeats_known, not_listed, replies_differ, lemma_not_lower, state_differs, listed_occurred, listed_not_passed_on, list_order, limit, text_after_end}
+use Rattle.cert_check.specs.Body.{Why, malformed, size_differs, root_without_liberty, not_won, wrong_side, turn_barred, repeats_known, not_listed, replies_differ, lemma_not_lower, state_differs, needed_not_occurred, listed_occurred, listed_not_passed_on, list_order, limit, text_after_end}
 use Rattle.cert_check.specs.Verdict.{Verdict, rejected}
 
 abbrev pub why_value : ℕ → code.Why → Option Why
@@ -21,6 +21,7 @@ why_value n NotListed = Some not_listed
 why_value n (RepliesDiffer due) = Some (replies_differ (ply_of n due))
 why_value n LemmaNotLower = Some lemma_not_lower
 why_value n StateDiffers = Some state_differs
+why_value n NeededNotOccurred = Some needed_not_occurred
 why_value n ListedOccurred = Some listed_occurred
 why_value n ListedNotPassedOn = Some listed_not_passed_on
 why_value n ListOrder = Some list_order

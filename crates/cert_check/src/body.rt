@@ -1,6 +1,6 @@
 //! What is fixed in a body of a claim: who wins there, the lemmas that it may use, and the results that it may make.
 
-ghost use Rattle.std.specs.Prelude.{◌≡◌, [], Some, not, option_map};
+ghost use Rattle.std.specs.Prelude.{◌≡◌, Some, not, option_map};
 ghost use Rattle.std.specs.List.{list_all};
 ghost use Rattle.cert_check.specs.Ascending.{Ascends};
 ghost use Rattle.cert_check.specs.Body.{is_known, is_listed, lemma_at, main_body, same_state};
@@ -21,6 +21,7 @@ pub(crate) struct Head {
     mover: Colour,
     passes: u8,
     root: Colouring,
+    had: Vec<Colouring>,
     absent: Vec<Colouring>,
 }
 
@@ -30,7 +31,7 @@ impl Model for Head {
 
     ghost Value = { SpecHead };
 
-    ghost view = { λ a. head_of a.mover a.passes a.root a.absent.items };
+    ghost view = { λ a. head_of a.mover a.passes a.root a.had.items a.absent.items };
 
     ghost use Rattle.cert_check.specs.Ascending.{Ascends};
 
@@ -38,14 +39,21 @@ impl Model for Head {
 }
 
 impl Head {
-    pub(crate) fn new(mover: Colour, passes: u8, root: Colouring, absent: Vec<Colouring>) -> Head
+    pub(crate) fn new(
+        mover: Colour,
+        passes: u8,
+        root: Colouring,
+        had: Vec<Colouring>,
+        absent: Vec<Colouring>,
+    ) -> Head
         requires { Ascends absent.items }
-        ensures { result ≡ head_of mover passes root absent.items }
+        ensures { result ≡ head_of mover passes root had.items absent.items }
     {
         Head {
             mover,
             passes,
             root,
+            had,
             absent,
         }
     }
@@ -59,10 +67,16 @@ impl Head {
             && u64::from(self.passes) == state.passes()
     }
 
-    /// The colourings that may not have occurred; none need have occurred.
+    /// The colourings that must have occurred.
+    pub(crate) fn had(&self) -> &[Colouring]
+        ensures { result.now ≡ self.now.had }
+    {
+        self.had.as_slice()
+    }
+
+    /// The colourings that may not have occurred.
     pub(crate) fn absent(&self) -> &[Colouring]
         ensures value { result.now ≡ self.now.absent }
-        ensures had { self.now.had ≡ [] }
         ensures ascends { Ascends result.now }
     {
         self.absent.as_slice()
@@ -89,6 +103,18 @@ impl<'a> Model for Body<'a> {
     ghost use Rattle.cert_check.specs.Ascending.{Ascends};
 
     ghost invariant = { λ a. IfSome a.listed (λ l. Ascends l.now) };
+}
+
+/// Whether each of the colourings is known at the state.
+pub(crate) fn all_known(state: &PlayState, list: &[Colouring]) -> bool
+    ensures { result ≡ list_all (is_known state.now.state) list.now }
+{
+    for colouring in list {
+        if state.holds(colouring).is_none() {
+            return false;
+        }
+    }
+    true
 }
 
 /// Whether none of the colourings is known at the state.

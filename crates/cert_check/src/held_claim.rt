@@ -42,7 +42,8 @@ impl Model for Checked {
 }
 
 impl Checked {
-    /// Who wins the problem. Each lemma of the claim holds whatever the past.
+    /// Who wins the problem. Each lemma of the claim holds whatever the past, as long as what it says must have occurred has, and
+    /// nothing has that it says must not.
     pub fn winner(&self) -> Colour
         ensures winner { result ≡ (claim_of self.now.certificate).winner }
         ensures wins { Wins result (start self.now.problem) }

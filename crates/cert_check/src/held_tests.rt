@@ -3,7 +3,7 @@
 use crate::tests::{point, problem};
 use crate::{Checked, Reject, Why, check_held};
 use go_points::{Colour, Colouring, Size, Turn};
-use proof_cert::{Certificate, Lemma, Node};
+use proof_cert::{Certificate, Lemma, Node, Version};
 use std::alloc::Global;
 use std::process::Abort;
 use std::test::Fail;
@@ -24,10 +24,12 @@ fn takes_ko(alloc: Global, rt: &impl Abort, rows: u8, number: u32) -> Result<Cer
         mover: Colour::Black,
         passes: 0,
         root: Colouring::from_text(three, b"O.OXO....").expect(rt, "a colouring"),
+        had: Vec::new(alloc),
         absent,
         body: Node::Play(Turn::At(point(rt, 3, 1, 0)), Box::new(alloc, Node::Won)?),
     })?;
     Ok(Certificate {
+        version: Version::One,
         size: Size::new(rows).expect(rt, "a size"),
         winner: Colour::Black,
         lemmas,

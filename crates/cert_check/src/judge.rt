@@ -9,8 +9,8 @@ ghost use Rattle.proof_cert.specs.Stage.{line_value};
 ghost use Rattle.cert_check.specs.Ascending.{Ascends};
 ghost use Rattle.cert_check.specs.Body.{Why as SpecWhy};
 ghost use Rattle.cert_check.specs.Inside.{node_fault, node_next, owed_by};
-ghost use Rattle.cert_check.specs.Judging.{AwaitsHeader, AwaitsList, AwaitsNode, GoesOn, IsBehind, IsReady, StopsFor, bad_line, body_here, heading_of, inside_now, lemma_of, list_here, listed_more, machine_of, node_here, reply_here, within_of};
-ghost use Rattle.cert_check.specs.Machine.{begun, body_of, end_taken, ended, goes_on, header_taken, last_of, listed_taken, listing_not, moved, opening, opening_taken, stops, taken};
+ghost use Rattle.cert_check.specs.Judging.{AwaitsHad, AwaitsHeader, AwaitsList, AwaitsNode, GoesOn, HasNoLists, IsBehind, IsReady, StopsFor, bad_line, body_here, had_here, had_more, heading_of, inside_now, lemma_of, list_here, listed_more, machine_of, node_here, reply_here, within_of};
+ghost use Rattle.cert_check.specs.Machine.{begun, body_of, end_taken, ended, goes_on, header_taken, last_of, listed_taken, listing_had, listing_not, moved, opening, opening_taken, stops, taken};
 ghost use Rattle.cert_check.specs.Parts.{IsJudged, node_value};
 ghost use Rattle.cert_check.specs.Stage.{why_value};
 ghost use Rattle.cert_check.specs.Verdict.{accepted, lemma_fault, rejected};
@@ -22,14 +22,14 @@ ghost use Rattle.cert_check.specs.declared.reject.Why.TheVariants.{Memory};
 use crate::body::{Body, Head, PlayState};
 use crate::limits::{MAX_LEMMAS, MAX_LISTED, MAX_NODES};
 use crate::lines::{
-    NodeLine, Opening, header_of, is_after, is_end, line_fits, listed_of, node_of, opening_of,
-    reply_of,
+    NodeLine, Opening, had_of, header_of, is_after, is_end, line_fits, listed_of, node_of,
+    opening_of, reply_of,
 };
 use crate::open_nodes::{Due, MOST_OPEN, Open, take_node, take_reply};
 use crate::reject::{Reject, Why};
 use arrayvec::ArrayVec;
 use go_points::{Colour, Colouring, Turn};
-use proof_cert::Line;
+use proof_cert::{Line, Version};
 use std::alloc::{AllocError, Global};
 use std::mem;
 use target_game::{AtFault, Problem, State};
@@ -41,11 +41,13 @@ pub(crate) enum Within {
     Main,
 }
 
-/// Which line is due: the first; `lemma` or `main`; one of a lemma's list, or its first node; one of a body; or none.
+/// Which line is due: the first; `lemma` or `main`; one of a lemma's two lists, or behind them; one of the second list, or its first node;
+/// one of a body; or none.
 #[derive(Clone, Copy, Debug, PartialEq, Eq)]
 pub(crate) enum Phase {
     Header,
     Opening,
+    ListingHad,
     Listing,
     Body { within: Within, due: Due },
     Done,
@@ -61,11 +63,13 @@ pub(crate) struct Judge<'p> {
     place: u64,
     node_count: u32,
     listed_count: u32,
+    version: Version,
     winner: Colour,
     heads: Vec<Head>,
     mover: Colour,
     passes: u8,
     root: Colouring,
+    had: Vec<Colouring>,
     list: Vec<Colouring>,
     state: PlayState,
     open_nodes: ArrayVec<Open, MOST_OPEN>,
@@ -86,11 +90,13 @@ impl<'p> Judge<'p> {
             place: 1,
             node_count: 0,
             listed_count: 0,
+            version: Version::One,
             winner: problem.mover(),
             heads: Vec::new(alloc),
             mover: problem.mover(),
             passes: 0,
             root: *problem.colouring(),
+            had: Vec::new(alloc),
             list: Vec::new(alloc),
             state,
             open_nodes: ArrayVec::new(),
@@ -123,6 +129,7 @@ impl<'p> Judge<'p> {
         if header.size != u32::from(self.problem.size().rows()) {
             return Err(Why::SizeDiffers);
         }
+        self.version = header.version;
         self.winner = header.winner;
         self.phase = Phase::Opening;
         Ok(())
@@ -141,7 +148,7 @@ impl<'p> Judge<'p> {
     fn lemma(&mut self, mover: Colour, passes: u8, root: Colouring) -> Result<(), Why>
         requires size { side_of root ≡ self.old.problem.now.game.size }
         requires few { passes ≤ 1 }
-        requires list { self.old.list.items ≡ [] }
+        requires lists { HasNoLists self.old }
         ensures place { self.new.place ≡ self.old.place }
         ensures problem { self.new.problem ≡ self.old.problem }
         ensures ready { OnOk result (IsBehind self.new) }
@@ -163,13 +170,21 @@ impl<'p> Judge<'p> {
         self.mover = mover;
         self.passes = passes;
         self.root = root;
-        self.phase = Phase::Listing;
-        Ok(())
+        match self.version {
+            Version::One => {
+                self.phase = Phase::Listing;
+                Ok(())
+            }
+            Version::Two => {
+                self.phase = Phase::ListingHad;
+                Ok(())
+            }
+        }
     }
 
     /// The line `main`.
     fn main(&mut self) -> Result<(), Why>
-        requires list { self.old.list.items ≡ [] }
+        requires lists { HasNoLists self.old }
         ensures place { self.new.place ≡ self.old.place }
         ensures problem { self.new.problem ≡ self.old.problem }
         ensures ready { OnOk result (IsBehind self.new) }
@@ -189,7 +204,7 @@ impl<'p> Judge<'p> {
 
     /// A line before a body, which fits the board.
     fn opening(&mut self, line: &Line) -> Result<(), Why>
-        requires list { self.old.list.items ≡ [] }
+        requires lists { HasNoLists self.old }
         requires fits { IsTrue (fits_board self.old.problem.now.game.size (line_value self.old.problem.now.game.size line.now)) }
         ensures place { self.new.place ≡ self.old.place }
         ensures problem { self.new.problem ≡ self.old.problem }
@@ -210,7 +225,75 @@ impl<'p> Judge<'p> {
         }
     }
 
-    /// A colouring of a lemma's list.
+    /// A colouring that must have occurred.
+    fn had(&mut self, colouring: Colouring) -> Result<(), Why>
+        requires ready { AwaitsHad self.old }
+        requires phase { self.old.phase ≡ phases.ListingHad }
+        requires fits { length colouring ≡ self.old.problem.now.game.size * self.old.problem.now.game.size }
+        ensures place { self.new.place ≡ self.old.place }
+        ensures problem { self.new.problem ≡ self.old.problem }
+        ensures ready { OnOk result (IsBehind self.new) }
+        ensures ok { OnOk result (GoesOn self.old self.new (listed_taken (machine_of self.old) (last_of self.old.had.items) colouring (listing_had (heading_of self.old) (had_more (lemma_of self.old) colouring)))) }
+        ensures err { IfErr result (λ why. StopsFor self.old (listed_taken (machine_of self.old) (last_of self.old.had.items) colouring (listing_had (heading_of self.old) (had_more (lemma_of self.old) colouring))) why) }
+    {
+        if self.listed_count >= MAX_LISTED {
+            return Err(Why::Limit);
+        }
+        if !is_after(self.had.last().copied(), &colouring) {
+            return Err(Why::ListOrder);
+        }
+        if self.had.push(colouring).is_err() {
+            return Err(Why::Memory);
+        }
+        self.listed_count += 1;
+        Ok(())
+    }
+
+    /// Behind the colourings that must have occurred: the body begins where they have.
+    fn remember(&mut self) -> Result<(), Why>
+        requires { AwaitsHad self.old }
+        ensures rest { self.new ≡ record self.old { state = self.new.state; phase = self.new.phase } }
+        ensures phase { OnOk result (self.new.phase ≡ phases.Listing) }
+        ensures ready { OnOk result (AwaitsList self.new) }
+        ensures err { IfErr result (λ why. why ≡ Memory) }
+    {
+        let made = State::at_with(
+            self.alloc,
+            self.problem,
+            &self.root,
+            self.had.as_slice(),
+            self.mover,
+            u64::from(self.passes),
+        );
+        let Ok(remembering) = made else {
+            return Err(Why::Memory);
+        };
+        self.state = remembering;
+        self.phase = Phase::Listing;
+        Ok(())
+    }
+
+    /// A line behind a lemma's first one, or among the colourings that must have occurred.
+    fn listing_had(&mut self, line: &Line) -> Result<(), Why>
+        requires ready { AwaitsHad self.old }
+        requires phase { self.old.phase ≡ phases.ListingHad }
+        requires fits { IsTrue (fits_board self.old.problem.now.game.size (line_value self.old.problem.now.game.size line.now)) }
+        ensures place { self.new.place ≡ self.old.place }
+        ensures problem { self.new.problem ≡ self.old.problem }
+        ensures ready { OnOk result (IsBehind self.new) }
+        ensures ok { OnOk result (GoesOn self.old self.new (had_here self.old (line_value self.old.problem.now.game.size line.now))) }
+        ensures err { IfErr result (λ why. StopsFor self.old (had_here self.old (line_value self.old.problem.now.game.size line.now)) why) }
+    {
+        if let Some(colouring) = had_of(line) {
+            return self.had(colouring);
+        }
+        match self.remember() {
+            Ok(()) => self.listing(line),
+            Err(why) => Err(why),
+        }
+    }
+
+    /// A colouring that must not have occurred.
     fn listed(&mut self, colouring: Colouring) -> Result<(), Why>
         requires ready { AwaitsList self.old }
         requires phase { self.old.phase ≡ phases.Listing }
@@ -369,8 +452,9 @@ impl<'p> Judge<'p> {
         ensures ok { OnOk result (GoesOn self.old self.new (goes_on (moved (machine_of self.old) (opening (record (heading_of self.old) { heads = self.old.heads.items ++ lemma_of self.old ∷ [] }))))) }
         ensures err { IfErr result (λ why. why ≡ Memory) }
     {
+        let had = mem::replace(&mut self.had, Vec::new(self.alloc));
         let list = mem::replace(&mut self.list, Vec::new(self.alloc));
-        let head = Head::new(self.mover, self.passes, self.root, list);
+        let head = Head::new(self.mover, self.passes, self.root, had, list);
         if self.heads.push(head).is_err() {
             return Err(Why::Memory);
         }
@@ -378,7 +462,7 @@ impl<'p> Judge<'p> {
         Ok(())
     }
 
-    /// A line behind a lemma's first one.
+    /// A line behind the colourings that must have occurred.
     fn listing(&mut self, line: &Line) -> Result<(), Why>
         requires ready { AwaitsList self.old }
         requires phase { self.old.phase ≡ phases.Listing }
@@ -437,6 +521,7 @@ impl<'p> Judge<'p> {
         match self.phase {
             Phase::Header => self.header(line),
             Phase::Opening => self.opening(line),
+            Phase::ListingHad => self.listing_had(line),
             Phase::Listing => self.listing(line),
             Phase::Body { within, due } => self.within(within, due, line),
             Phase::Done => Err(Why::TextAfterEnd),

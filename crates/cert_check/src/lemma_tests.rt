@@ -234,16 +234,6 @@ fn every_cut_of_a_claim_with_a_lemma_is_malformed(rt: HostRuntime) {
 }
 
 #[test]
-fn claims_of_version_two_are_malformed(rt: HostRuntime) {
-    let closed = closed_ko(rt.alloc(), &rt);
-    let check = |claim: &[u8]| judged(rt.alloc(), &closed, claim);
-    assert_eq!(rt; check(b"tsucert 2 3 W\nmain\n"), refused(1, Why::Malformed));
-    let had =
-        b"tsucert 1 3 W\nlemma B 0 O.OXO....\nhad .XOXO....\nall 1\nreply pass\nplay pass\nwon\nend\nmain\nuse 1\nend\n";
-    assert_eq!(rt; check(had), refused(3, Why::Malformed));
-}
-
-#[test]
 fn the_size_of_a_claim_with_a_lemma(rt: HostRuntime) {
     let found: Result<Colour, Reject> = judged(
         rt.alloc(),

@@ -5,14 +5,15 @@ ghost use Rattle.go_points.specs.Ply.{ply_of};
 ghost use Rattle.proof_cert.specs.Lines.{turn_fits, line_fits};
 ghost use Rattle.proof_cert.specs.Stage.{line_value};
 ghost use Rattle.cert_check.specs.Verdict.{is_after};
-ghost use Rattle.cert_check.specs.Parts.{header_value, header_line_of, opening_value, opening_line, listed_value, listed_line, node_value, node_line, reply_value, reply_line_of, end_value, end_line_of};
+ghost use Rattle.cert_check.specs.Parts.{header_value, header_line_of, had_value, had_line_of, opening_value, opening_line, listed_value, listed_line, node_value, node_line, reply_value, reply_line_of, end_value, end_line_of};
 
 use go_points::{Colour, Colouring, Size, Turn};
-use proof_cert::Line;
+use proof_cert::{Line, Version};
 
 /// The first line of a claim.
 #[derive(Clone, Copy, Debug, PartialEq, Eq)]
 pub(crate) struct Header {
+    pub(crate) version: Version,
     pub(crate) size: u32,
     pub(crate) winner: Colour,
 }
@@ -42,7 +43,15 @@ pub(crate) fn header_of(line: &Line) -> Option<Header>
     ensures { (n : ℕ) → option_map header_value result ≡ header_line_of (line_value n line.now) }
 {
     match *line {
-        Line::Header { size, winner } => Some(Header { size, winner }),
+        Line::Header {
+            version,
+            size,
+            winner,
+        } => Some(Header {
+            version,
+            size,
+            winner,
+        }),
         _ => None,
     }
 }
@@ -66,7 +75,17 @@ pub(crate) fn opening_of(line: &Line) -> Option<Opening>
     }
 }
 
-/// The colouring of the line, where it is one of a lemma's list.
+/// The colouring of the line, where it must have occurred.
+pub(crate) fn had_of(line: &Line) -> Option<Colouring>
+    ensures { (n : ℕ) → option_map had_value result ≡ had_line_of (line_value n line.now) }
+{
+    match *line {
+        Line::Had(colouring) => Some(colouring),
+        _ => None,
+    }
+}
+
+/// The colouring of the line, where it must not have occurred.
 pub(crate) fn listed_of(line: &Line) -> Option<Colouring>
     ensures { (n : ℕ) → option_map listed_value result ≡ listed_line (line_value n line.now) }
 {
@@ -132,6 +151,7 @@ pub(crate) fn line_fits(size: Size, line: &Line) -> bool
 {
     match *line {
         Line::Lemma { passes, root, .. } => passes <= 1 && colouring_fits(size, &root),
+        Line::Had(colouring) => colouring_fits(size, &colouring),
         Line::Not(colouring) => colouring_fits(size, &colouring),
         Line::Play(turn) => turn_fits(size, turn),
         Line::Reply(turn) => turn_fits(size, turn),

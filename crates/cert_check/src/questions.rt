@@ -7,7 +7,7 @@ ghost use Rattle.go_points.specs.declared.Turn.TheVariants.{At};
 ghost use Rattle.cert_check.specs.Stage.{why_value};
 ghost use Rattle.cert_check.specs.Parts.{move_fault};
 
-use crate::body::{Body, Head, PlayState, none_known};
+use crate::body::{Body, Head, PlayState, all_known, none_known};
 use crate::reject::Why;
 use go_points::{Colour, Point, Turn};
 
@@ -59,12 +59,16 @@ pub(crate) fn play_fault(body: &Body<'_>, state: &PlayState, turn: Turn) -> Opti
     }
 }
 
-/// The lemma speaks of the state: its root is here, none of its colourings is known, and in a lemma each is on its list.
+/// The lemma speaks of the state: its root is here, the colourings that it needs are known, none of those on its list is, and in a
+/// lemma each of these is on its list.
 fn head_fault(body: &Body<'_>, state: &PlayState, head: &Head) -> Option<Why>
     ensures { option_map (why_value state.now.state.game.size) result ≡ option_map Some (head_fault body.now state.now.state (Some head.now)) }
 {
     if !head.is_at(state) {
         return Some(Why::StateDiffers);
+    }
+    if !all_known(state, head.had()) {
+        return Some(Why::NeededNotOccurred);
     }
     if !none_known(state, head.absent()) {
         return Some(Why::ListedOccurred);

@@ -27,6 +27,8 @@ pub enum Why {
     LemmaNotLower,
     /// The root, the mover or the passes of the lemma are not the present ones.
     StateDiffers,
+    /// A colouring that the lemma needs is not known.
+    NeededNotOccurred,
     /// A colouring on the lemma's list is known.
     ListedOccurred,
     /// A colouring on the lemma's list is not on the list of the lemma that uses it.

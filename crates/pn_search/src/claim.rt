@@ -9,7 +9,7 @@ use cert_check::{MAX_LEMMAS, MAX_LISTED};
 use go_points::Colour;
 use indexmap::IndexMap;
 use pn_table::Key;
-use proof_cert::{Certificate, Lemma};
+use proof_cert::{Certificate, Lemma, Version};
 use std::alloc::{AllocError, Global};
 use target_game::Problem;
 
@@ -224,6 +224,7 @@ impl Walk {
             mover: key.mover,
             passes: key.passes,
             root,
+            had: Vec::new(alloc),
             absent,
             body,
         };
@@ -297,6 +298,7 @@ fn claim(
     let mut writer = Writer::of_main(alloc, play, shared.winner);
     let main = writer.write(alloc, &shared.proofs, &lemmas, shared.root)?;
     Ok(Certificate {
+        version: Version::One,
         size: problem.size(),
         winner: shared.winner,
         lemmas: lemmas.made,

@@ -3,7 +3,7 @@
 use crate::full_search::full_search;
 use crate::{Budget, Verdict, solve};
 use go_points::{Colour, Colouring, PointSet, Size, sgf_point};
-use proof_cert::{Certificate, write_cert};
+use proof_cert::{Certificate, Version, write_cert};
 use std::alloc::Global;
 use std::num::NonZeroUsize;
 use std::process::Abort;
@@ -72,6 +72,7 @@ fn finds(alloc: Global, problem: &Problem, steps: u64, text: &str) -> Result<boo
         return Ok(false);
     };
     let certificate = Certificate {
+        version: Version::One,
         size: problem.size(),
         winner,
         lemmas: Vec::new(alloc),

@@ -18,7 +18,7 @@ use crate::smaller::Smaller;
 use crate::verdict::{Budget, Cause, Verdict};
 use cert_check::{Checked, Why, check_held};
 use go_points::Colour;
-use proof_cert::{Certificate, Node};
+use proof_cert::{Certificate, Node, Version};
 use std::alloc::Global;
 use target_game::Problem;
 
@@ -242,6 +242,7 @@ fn confirmed_plainly(alloc: Global, problem: Problem, winner: Colour, main: Node
 {
     prove!(problem.size().rows() <= 25);
     let certificate = Certificate {
+        version: Version::One,
         size: problem.size(),
         winner,
         lemmas: Vec::new(alloc),

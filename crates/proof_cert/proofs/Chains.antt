@@ -4,7 +4,6 @@ use Rattle.go_points.specs.declared.Cell.{Cell}
 use Rattle.go_points.specs.Text.{colouring_from_text}
 use Rattle.proof_cert.specs.Lines.{Line, had_line, not_line, main_line, won_line, use_line, play_line, all_line, reply_line, end_line}
 use Rattle.proof_cert.specs.Text.{after_word, at_end, number_of, vertex_of, header_tail, lemma_tail, or_else, line_of}
-use Rattle.proof_cert.specs.Stage.{version_one}
 
 or_none : {A : Type 0} (o : Option A) → or_else o None ≡ o
 or_none None = refl
@@ -27,6 +26,14 @@ line_lemma n (x ∷ b) r e = go (nat_eq 108 x) refl e
     go : (t : Bool) → nat_eq 108 x ≡ t → elim t [ true ↦ after_word (codes "emma ") b | false ↦ None ] ≡ Some r → line_of n (x ∷ b) ≡ lemma_tail n r
     go false t e' = absurd (cc)
     go true t e' = rw (sym (eqb-true 108 x t), e') (or_none (lemma_tail n r))
+
+pub line_had : (n : ℕ) (b r : List ℕ) → after_word (codes "had ") b ≡ Some r → line_of n b ≡ option_map had_line (colouring_from_text n r)
+line_had n [] r e = absurd (cc)
+line_had n (x ∷ b) r e = go (nat_eq 104 x) refl e
+  where
+    go : (t : Bool) → nat_eq 104 x ≡ t → elim t [ true ↦ after_word (codes "ad ") b | false ↦ None ] ≡ Some r → line_of n (x ∷ b) ≡ option_map had_line (colouring_from_text n r)
+    go false t e' = absurd (cc)
+    go true t e' = rw (sym (eqb-true 104 x t), e') (or_none (option_map had_line (colouring_from_text n r)))
 
 pub line_not : (n : ℕ) (b r : List ℕ) → after_word (codes "not ") b ≡ Some r → line_of n b ≡ option_map not_line (colouring_from_text n r)
 line_not n [] r e = absurd (cc)
@@ -79,50 +86,9 @@ word_no a None e = refl
 word_no a (Some []) e = absurd (cc)
 word_no a (Some (x ∷ b)) e = refl
 
-abbrev plain_words : Option (List ℕ) → Option (List ℕ) → Option (List ℕ) → Option Line
-plain_words m w e = or_else (at_end main_line m) (or_else (at_end won_line w) (at_end end_line e))
-
-plain_stays : (m w e : Option (List ℕ)) → version_one (plain_words m w e) ≡ plain_words m w e
-plain_stays (Some []) w e = refl
-plain_stays None (Some []) e = refl
-plain_stays None None (Some []) = refl
-plain_stays None None None = refl
-plain_stays None None (Some (x ∷ b)) = refl
-plain_stays None (Some (x ∷ b)) (Some []) = refl
-plain_stays None (Some (x ∷ b)) None = refl
-plain_stays None (Some (x ∷ b)) (Some (y ∷ c)) = refl
-plain_stays (Some (x ∷ b)) (Some []) e = refl
-plain_stays (Some (x ∷ b)) None (Some []) = refl
-plain_stays (Some (x ∷ b)) None None = refl
-plain_stays (Some (x ∷ b)) None (Some (y ∷ c)) = refl
-plain_stays (Some (x ∷ b)) (Some (y ∷ c)) (Some []) = refl
-plain_stays (Some (x ∷ b)) (Some (y ∷ c)) None = refl
-plain_stays (Some (x ∷ b)) (Some (y ∷ c)) (Some (z ∷ d)) = refl
-
--- the word `had` at the front, which is not read so far
-had_first : (b r : List ℕ) (o : Option (List Cell)) → after_word (codes "had ") b ≡ Some r
-    → version_one (or_else (option_map had_line o) (plain_words (after_word (codes "main") b) (after_word (codes "won") b) (after_word (codes "end") b))) ≡ plain_words (after_word (codes "main") b) (after_word (codes "won") b) (after_word (codes "end") b)
-had_first [] r o e = absurd (cc)
-had_first (x ∷ b) r o e = go (nat_eq 104 x) refl e
-  where
-    go : (t : Bool) → nat_eq 104 x ≡ t → elim t [ true ↦ after_word (codes "ad ") b | false ↦ None ] ≡ Some r
-        → version_one (or_else (option_map had_line o) (plain_words (after_word (codes "main") (x ∷ b)) (after_word (codes "won") (x ∷ b)) (after_word (codes "end") (x ∷ b)))) ≡ plain_words (after_word (codes "main") (x ∷ b)) (after_word (codes "won") (x ∷ b)) (after_word (codes "end") (x ∷ b))
-    go false t e' = absurd (cc)
-    go true t e' = rw (sym (eqb-true 104 x t)) (none o)
-      where
-        none : (o : Option (List Cell)) → version_one (or_else (option_map had_line o) None) ≡ None
-        none None = refl
-        none (Some c) = refl
-
 -- where none of the other words stands at the front
 pub line_word : (n : ℕ) (b : List ℕ)
-    → after_word (codes "tsucert ") b ≡ None → after_word (codes "lemma ") b ≡ None → after_word (codes "not ") b ≡ None
+    → after_word (codes "tsucert ") b ≡ None → after_word (codes "lemma ") b ≡ None → after_word (codes "had ") b ≡ None → after_word (codes "not ") b ≡ None
     → after_word (codes "use ") b ≡ None → after_word (codes "play ") b ≡ None → after_word (codes "all ") b ≡ None → after_word (codes "reply ") b ≡ None
-    → version_one (line_of n b) ≡ or_else (at_end main_line (after_word (codes "main") b)) (or_else (at_end won_line (after_word (codes "won") b)) (at_end end_line (after_word (codes "end") b)))
-line_word n b t l o u p a r = rw (t, l, o, u, p, a, r) (had_aside (after_word (codes "had ") b) refl)
-  where
-    had_aside : (h : Option (List ℕ)) → after_word (codes "had ") b ≡ h
-        → version_one (or_else (option_and_then (λ r. option_map had_line (colouring_from_text n r)) h) (or_else (at_end main_line (after_word (codes "main") b)) (or_else (at_end won_line (after_word (codes "won") b)) (at_end end_line (after_word (codes "end") b)))))
-        ≡ or_else (at_end main_line (after_word (codes "main") b)) (or_else (at_end won_line (after_word (codes "won") b)) (at_end end_line (after_word (codes "end") b)))
-    had_aside None e = plain_stays (after_word (codes "main") b) (after_word (codes "won") b) (after_word (codes "end") b)
-    had_aside (Some r) e = had_first b r (colouring_from_text n r) e
+    → line_of n b ≡ or_else (at_end main_line (after_word (codes "main") b)) (or_else (at_end won_line (after_word (codes "won") b)) (at_end end_line (after_word (codes "end") b)))
+line_word n b t l h o u p a r = rw (t, l, h, o, u, p, a, r) refl

@@ -3,9 +3,7 @@ use Rattle.std.proofs.Common.{◌≡◌, ℕ, suc, ◌+◌, ◌-◌, ◌<◌, �
 use Rattle.std.specs.List.{position_or_len}
 use Rattle.std.proofs.lemmas.List.{length-drop}
 use Rattle.std.proofs.Math.Seq.{drop-length, take-length}
-use Rattle.proof_cert.specs.Stage.{version_one}
-use Rattle.proof_cert.specs.Source.{lines_read}
-use Rattle.proof_cert.specs.Text.{with_byte, pieces, line_of_piece, line_of}
+use Rattle.proof_cert.specs.Text.{with_byte, lines, pieces, line_of_piece, line_of}
 
 abbrev pub place : List ℕ → ℕ
 place b = position_or_len (λ x. nat_eq x 10) b
@@ -34,22 +32,22 @@ pieces_none (x ∷ b) h some = go (nat_eq x 10) h (λ h'. rest b (pieces_none b 
     go true h' more = absurd (omega arith)
     go false h' more = more (omega arith)
 
-pub first_read : (n : ℕ) (b : List ℕ) (k : ℕ) → position (λ x. nat_eq x 10) b ≡ Some k → lines_read n b ≡ version_one (line_of n (take k b)) ∷ lines_read n (drop (k + 1) b)
+pub first_read : (n : ℕ) (b : List ℕ) (k : ℕ) → position (λ x. nat_eq x 10) b ≡ Some k → lines n b ≡ line_of n (take k b) ∷ lines n (drop (k + 1) b)
 first_read n b k e = go (nat_lt (place b) (length b)) refl e
   where
-    go : (t : Bool) → nat_lt (place b) (length b) ≡ t → cond t (Some (place b)) None ≡ Some k → lines_read n b ≡ version_one (line_of n (take k b)) ∷ lines_read n (drop (k + 1) b)
+    go : (t : Bool) → nat_lt (place b) (length b) ≡ t → cond t (Some (place b)) None ≡ Some k → lines n b ≡ line_of n (take k b) ∷ lines n (drop (k + 1) b)
     go false low e' = absurd (cc)
     go true low e' =
         let same : place b ≡ k = cc e' in
         let next : suc k ≡ k + 1 = omega arith in
-        ap (λ ps. map version_one (map (line_of_piece n) ps)) (pieces_at b (ltb-true (place b) (length b) low) ∙ ap (λ j. (take j b, true) ∷ pieces (drop (suc j) b)) same ∙ ap (λ j. (take k b, true) ∷ pieces (drop j b)) next)
+        ap (λ ps. map (line_of_piece n) ps) (pieces_at b (ltb-true (place b) (length b) low) ∙ ap (λ j. (take j b, true) ∷ pieces (drop (suc j) b)) same ∙ ap (λ j. (take k b, true) ∷ pieces (drop j b)) next)
 
-pub unended_read : (n : ℕ) (b : List ℕ) → position (λ x. nat_eq x 10) b ≡ None → 0 < length b → lines_read n b ≡ None ∷ []
+pub unended_read : (n : ℕ) (b : List ℕ) → position (λ x. nat_eq x 10) b ≡ None → 0 < length b → lines n b ≡ None ∷ []
 unended_read n b e some = go (nat_lt (place b) (length b)) refl e
   where
-    go : (t : Bool) → nat_lt (place b) (length b) ≡ t → ◌≡◌ {A = Option ℕ} (cond t (Some (place b)) None) None → lines_read n b ≡ None ∷ []
+    go : (t : Bool) → nat_lt (place b) (length b) ≡ t → ◌≡◌ {A = Option ℕ} (cond t (Some (place b)) None) None → lines n b ≡ None ∷ []
     go true low e' = absurd (cc)
-    go false low e' = ap (λ ps. map version_one (map (line_of_piece n) ps)) (pieces_none b (ltb-false (place b) (length b) low) some)
+    go false low e' = ap (λ ps. map (line_of_piece n) ps) (pieces_none b (ltb-false (place b) (length b) low) some)
 
 pub rest_whole : (b : List ℕ) (k : ℕ) → take (length b - k) (drop k b) ≡ drop k b
 rest_whole b k = rw (← length-drop k b) (take-length (drop k b))

@@ -1,14 +1,14 @@
 -- What is read has these lines, and keeps the limits.
-use Rattle.std.proofs.Common.{◌≡◌, ℕ, suc, zero, ◌+◌, ◌-◌, ◌<◌, ◌≤◌, Bool, true, false, cond, ◌&&◌, nat_lt, nat_eq, ltb-true, eqb-true, List, [], ◌∷◌, ◌++◌, map, length, max, sum_by, Option, Some, None, refl, sym, ap, ◌∙◌, subst, append_assoc, arith}
+use Rattle.std.proofs.Common.{◌≡◌, ◌⊎◌, inl, inr, ℕ, suc, zero, ◌+◌, ◌-◌, ◌<◌, ◌≤◌, Bool, true, false, cond, ◌&&◌, nat_lt, nat_eq, ltb-true, eqb-true, List, [], ◌∷◌, ◌++◌, map, length, max, sum_by, Option, Some, None, refl, sym, ap, ◌∙◌, subst, append_assoc, arith}
 use Rattle.std.specs.Prelude.{option_map, option_and_then}
 use Rattle.std.proofs.lemmas.List.Sums.{sum_by-cons}
 use Rattle.go_points.specs.declared.Cell.{Cell}
 use Rattle.go_points.specs.declared.Colour.{Colour}
 use Rattle.go_points.specs.Ply.{Ply}
 use Rattle.proof_cert.specs.Claim.{Node, won, by_lemma, play, all, Branches, no_branch, branch, branch_turns, node_count, node_count_below, depth_of, depth_below, Lemma, Claim, max_nodes, listed_count, IsWithinLimits, AreShallow}
-use Rattle.proof_cert.specs.Lines.{Line, header_line, lemma_line, had_line, not_line, main_line, won_line, use_line, play_line, all_line, reply_line, end_line, node_lines, branch_lines, lemma_lines, lemmas_lines, lines_of}
-use Rattle.proof_cert.proofs.Words.{and_first, and_second}
-use Rattle.proof_cert.specs.Reading.{Left, first_of, line_read, line_as, as_step, as_reply, as_end, as_not, as_header, opened, counted, reply_read, replies_read, below_read, tree_read, listed_more, listed_read, lists_read, body_read, lemma_made, lemma_read, lemma_of_line, main_test, lemmas_more, lemmas_read, all_lemmas_read, claim_made, main_read, is_ended, claim_read}
+use Rattle.proof_cert.specs.Lines.{Line, header_line, lemma_line, had_line, not_line, main_line, won_line, use_line, play_line, all_line, reply_line, end_line, node_lines, branch_lines, had_spelled, lemma_lines, lemmas_lines, lines_of}
+use Rattle.proof_cert.proofs.Unique.{Writes, AllWrite}
+use Rattle.proof_cert.specs.Reading.{Left, first_of, line_read, line_as, as_step, as_reply, as_end, as_not, as_had, as_header, opened, counted, reply_read, replies_read, below_read, tree_read, listed_more, listed_read, list_read, lists_read, body_read, lemma_made, lemma_read, lemma_of_line, main_test, lemmas_more, lemmas_read, all_lemmas_read, claim_made, main_read, is_ended, claim_read}
 
 -- ---- steps that may fail
 
@@ -269,83 +269,139 @@ as_not_is (had_line d) c e = cc
 as_not_is main_line c e = cc
 as_not_is (reply_line u) c e = cc
 
-pub record AreListed (room : ℕ) (s : Left) (cs : List (List Cell)) (l : Line) (t : Left) : Type 0 where
-  pub lines : s.lines ≡ map (λ c. Some (not_line c)) cs ++ Some l ∷ t.lines
+as_had_is : (v : ℕ) (l : Line) (c : List Cell) → as_had v l ≡ Some c → (l ≡ had_line c) × (nat_eq v 2 ≡ true)
+as_had_is v (had_line d) c e =
+    let both = test_is (nat_eq v 2) (Some d) c e in
+    (ap had_line (cc both.1), both.0)
+as_had_is v end_line c e = cc
+as_had_is v won_line c e = cc
+as_had_is v (use_line j) c e = cc
+as_had_is v (play_line u) c e = cc
+as_had_is v (all_line m) c e = cc
+as_had_is v (header_line w n x) c e = cc
+as_had_is v (lemma_line j p d) c e = cc
+as_had_is v (not_line d) c e = cc
+as_had_is v main_line c e = cc
+as_had_is v (reply_line u) c e = cc
+
+-- the lines of a list, of which the first, or the line behind them, is given
+pub record AreListed (line : List Cell → Line) (allows : Type 0) (room : ℕ) (first : Line) (s : Left) (cs : List (List Cell)) (l : Line) (t : Left) : Type 0 where
+  pub lines : Some first ∷ s.lines ≡ map (λ c. Some (line c)) cs ++ Some l ∷ t.lines
   pub nodes : t.nodes ≡ s.nodes
   pub listed : t.listed ≡ s.listed + length cs
   pub few : length cs < room
+  pub allowed : allows ⊎ (cs ≡ [])
 
-listed_sound : (room : ℕ) (s : Left) (cs : List (List Cell)) (l : Line) (t : Left) → listed_read room s ≡ Some ((cs, l), t) → AreListed room s cs l t
-listed_sound zero s cs l t e = cc
-listed_sound (suc room) s cs l t e =
-    let one = bind_is (λ (p : Line × Left). listed_more (listed_read room) (as_not p.0) p.0 p.1) (line_read s) ((cs, l), t) e in
-    let line = line_is s one.0.0 one.0.1 one.1 in
-    go one.0.0 one.0.1 line.0 line.1 (as_not one.0.0) refl one.2 (λ u ds k v f. listed_sound room u ds k v f)
-  where
-    go : (k : Line) (u : Left) → s.lines ≡ Some k ∷ u.lines → Follows s u → (o : Option (List Cell)) → as_not k ≡ o → listed_more (listed_read room) o k u ≡ Some ((cs, l), t)
-        → ((v : Left) (ds : List (List Cell)) (j : Line) (w : Left) → listed_read room v ≡ Some ((ds, j), w) → AreListed room v ds j w) → AreListed (suc room) s cs l t
-    go k u first follows None is f more =
-        let both = pair_is ([], k) (cs, l) u t f in
-        let none : [] ≡ cs = ap (λ p. p.0) both.0 in
-        let same : k ≡ l = ap (λ p. p.1) both.0 in
-        let whole : AreListed (suc room) s [] k u = record { lines = first; nodes = follows.nodes; listed = follows.listed ∙ omega arith; few = omega arith } in
-        subst (λ (x : Left). AreListed (suc room) s cs l x) both.1 (subst (λ (x : Line). AreListed (suc room) s cs x u) same (subst (λ (x : List (List Cell)). AreListed (suc room) s x k u) none whole))
-    go k u first follows (Some c) is f more =
-        let two = map_is (λ (q : (List (List Cell) × Line) × Left). ((c ∷ q.0.0, q.0.1), q.1)) (listed_read room (record u { listed = u.listed + 1 })) ((cs, l), t) f in
-        let rest = more (record u { listed = u.listed + 1 }) two.0.0.0 two.0.0.1 two.0.1 two.1 in
-        let list : c ∷ two.0.0.0 ≡ cs = ap (λ p. p.0.0) two.2 in
-        let same : two.0.0.1 ≡ l = ap (λ p. p.0.1) two.2 in
-        let left : two.0.1 ≡ t = ap (λ p. p.1) two.2 in
-        let whole : AreListed (suc room) s (c ∷ two.0.0.0) two.0.0.1 two.0.1 = record {
-          lines = first ∙ ap (λ x. Some x ∷ u.lines) (as_not_is k c is) ∙ ap (λ x. Some (not_line c) ∷ x) rest.lines;
-          nodes = rest.nodes ∙ follows.nodes;
-          listed = let a = rest.listed in let b = follows.listed in omega arith;
-          few = let a = rest.few in omega arith;
-        } in
-        subst (λ (x : Left). AreListed (suc room) s cs l x) left (subst (λ (x : Line). AreListed (suc room) s cs x two.0.1) same (subst (λ (x : List (List Cell)). AreListed (suc room) s x two.0.0.1 two.0.1) list whole))
+module _ (pick : Line → Option (List Cell)) (line : List Cell → Line) (allows : Type 0) (picked : (l : Line) (c : List Cell) → pick l ≡ Some c → (l ≡ line c) × allows) where
+  listed_sound : (room : ℕ) (first : Line) (s : Left) (cs : List (List Cell)) (l : Line) (t : Left) → listed_read pick room first s ≡ Some ((cs, l), t) → AreListed line allows room first s cs l t
+  listed_sound zero first s cs l t e = cc
+  listed_sound (suc room) first s cs l t e = go (pick first) refl e (λ k u ds j v f. listed_sound room k u ds j v f)
+    where
+      go : (o : Option (List Cell)) → pick first ≡ o → listed_more (listed_read pick room) o first s ≡ Some ((cs, l), t)
+          → ((k : Line) (u : Left) (ds : List (List Cell)) (j : Line) (v : Left) → listed_read pick room k u ≡ Some ((ds, j), v) → AreListed line allows room k u ds j v) → AreListed line allows (suc room) first s cs l t
+      go None is f more =
+          let both = pair_is ([], first) (cs, l) s t f in
+          let none : [] ≡ cs = ap (λ p. p.0) both.0 in
+          let same : first ≡ l = ap (λ p. p.1) both.0 in
+          let whole : AreListed line allows (suc room) first s [] first s = record { lines = refl; nodes = refl; listed = omega arith; few = omega arith; allowed = inr refl } in
+          subst (λ (x : Left). AreListed line allows (suc room) first s cs l x) both.1
+          (subst (λ (x : Line). AreListed line allows (suc room) first s cs x s) same (subst (λ (x : List (List Cell)). AreListed line allows (suc room) first s x first s) none whole))
+      go (Some c) is f more =
+          let s1 : Left = record s { listed = s.listed + 1 } in
+          let two = map_is (λ (q : (List (List Cell) × Line) × Left). ((c ∷ q.0.0, q.0.1), q.1)) (option_and_then (λ (p : Line × Left). listed_read pick room p.0 p.1) (line_read s1)) ((cs, l), t) f in
+          let one = bind_is (λ (p : Line × Left). listed_read pick room p.0 p.1) (line_read s1) two.0 two.1 in
+          let next = line_is s1 one.0.0 one.0.1 one.1 in
+          let rest = more one.0.0 one.0.1 two.0.0.0 two.0.0.1 two.0.1 one.2 in
+          let here = picked first c is in
+          let list : c ∷ two.0.0.0 ≡ cs = ap (λ p. p.0.0) two.2 in
+          let same : two.0.0.1 ≡ l = ap (λ p. p.0.1) two.2 in
+          let left : two.0.1 ≡ t = ap (λ p. p.1) two.2 in
+          let whole : AreListed line allows (suc room) first s (c ∷ two.0.0.0) two.0.0.1 two.0.1 = record {
+            lines = ap (λ x. Some x ∷ s.lines) here.0 ∙ ap (λ x. Some (line c) ∷ x) (next.0 ∙ rest.lines);
+            nodes = rest.nodes ∙ next.1.nodes;
+            listed = let a = rest.listed in let b = next.1.listed in omega arith;
+            few = let a = rest.few in omega arith;
+            allowed = inl here.1;
+          } in
+          subst (λ (x : Left). AreListed line allows (suc room) first s cs l x) left
+          (subst (λ (x : Line). AreListed line allows (suc room) first s cs x two.0.1) same (subst (λ (x : List (List Cell)). AreListed line allows (suc room) first s x two.0.0.1 two.0.1) list whole))
 
-abbrev pub HaveNoPast : List Lemma → Type 0
-HaveNoPast [] = Unit {0}
-HaveNoPast (z ∷ zs) = (z.head.had ≡ []) × HaveNoPast zs
+-- where a list may be written in this version, these are its lines
+pub had_lines : (v : ℕ) (cs : List (List Cell)) → Writes v cs → map (had_spelled v) cs ≡ map (λ c. Some (had_line c)) cs
+had_lines v [] w = refl
+had_lines v (c ∷ cs) (inl two) = ap (λ b. cond b (Some (had_line c)) None ∷ map (had_spelled v) cs) two ∙ ap (λ x. Some (had_line c) ∷ x) (had_lines v cs (inl two))
+had_lines v (c ∷ cs) (inr none) = absurd (cc)
 
-pub record IsLemmaRead (first : Line) (s : Left) (z : Lemma) (t : Left) : Type 0 where
-  pub lines : Some first ∷ s.lines ≡ lemma_lines 1 z ++ t.lines
-  pub past : z.head.had ≡ []
+pub record AreLists (v : ℕ) (first : Line) (s : Left) (had absent : List (List Cell)) (l : Line) (t : Left) : Type 0 where
+  pub lines : Some first ∷ s.lines ≡ map (had_spelled v) had ++ (map (λ c. Some (not_line c)) absent ++ Some l ∷ t.lines)
+  pub nodes : t.nodes ≡ s.nodes
+  pub listed : t.listed ≡ s.listed + (length had + length absent)
+  pub few : t.listed ≤ 1000000
+  pub writes : Writes v had
+
+lists_sound : (v : ℕ) (first : Line) (s : Left) (had absent : List (List Cell)) (l : Line) (t : Left) → s.listed ≤ 1000000 → lists_read v first s ≡ Some (((had, absent), l), t) → AreLists v first s had absent l t
+unfolding lists_read list_read
+lists_sound v first s had absent l t few e =
+    let one = bind_is (λ (h : (List (List Cell) × Line) × Left). option_map (λ (a : (List (List Cell) × Line) × Left). (((h.0.0, a.0.0), a.0.1), a.1)) (list_read as_not h.0.1 h.1)) (list_read (as_had v) first s) (((had, absent), l), t) e in
+    let two = map_is (λ (a : (List (List Cell) × Line) × Left). (((one.0.0.0, a.0.0), a.0.1), a.1)) (list_read as_not one.0.0.1 one.0.1) (((had, absent), l), t) one.2 in
+    let hads = listed_sound (as_had v) had_line (nat_eq v 2 ≡ true) (λ k c is. as_had_is v k c is) (1000001 - s.listed) first s one.0.0.0 one.0.0.1 one.0.1 one.1 in
+    let nots = listed_sound as_not not_line (Unit {0}) (λ k c is. (as_not_is k c is, tt)) (1000001 - one.0.1.listed) one.0.0.1 one.0.1 two.0.0.0 two.0.0.1 two.0.1 two.1 in
+    let h : one.0.0.0 ≡ had = ap (λ q. q.0.0.0) two.2 in
+    let a : two.0.0.0 ≡ absent = ap (λ q. q.0.0.1) two.2 in
+    let k : two.0.0.1 ≡ l = ap (λ q. q.0.1) two.2 in
+    let u : two.0.1 ≡ t = ap (λ q. q.1) two.2 in
+    let whole : AreLists v first s one.0.0.0 two.0.0.0 two.0.0.1 two.0.1 = record {
+      lines = hads.lines ∙ ap (λ x. x ++ Some one.0.0.1 ∷ one.0.1.lines) (sym (had_lines v one.0.0.0 hads.allowed)) ∙ ap (λ x. map (had_spelled v) one.0.0.0 ++ x) nots.lines;
+      nodes = nots.nodes ∙ hads.nodes;
+      listed = let p = nots.listed in let q = hads.listed in omega arith;
+      few = let p = nots.listed in let q = nots.few in let r = hads.listed in let w = hads.few in omega arith;
+      writes = hads.allowed;
+    } in
+    subst (λ (x : Left). AreLists v first s had absent l x) u
+    (subst (λ (x : Line). AreLists v first s had absent x two.0.1) k (subst (λ (x : List (List Cell)). AreLists v first s had x two.0.0.1 two.0.1) a (subst (λ (x : List (List Cell)). AreLists v first s x two.0.0.0 two.0.0.1 two.0.1) h whole)))
+
+pub record IsLemmaRead (v : ℕ) (first : Line) (s : Left) (z : Lemma) (t : Left) : Type 0 where
+  pub lines : Some first ∷ s.lines ≡ lemma_lines v z ++ t.lines
+  pub writes : Writes v z.head.had
   pub nodes : t.nodes ≡ s.nodes + node_count z.body
   pub most : t.nodes ≤ max_nodes
   pub deep : depth_of z.body ≤ 2000
   pub listed : t.listed ≡ s.listed + listed_count z
   pub few : t.listed ≤ 1000000
 
-lemma_text_is : (a b : List (Option Line)) (e : Option Line) (rest : List (Option Line)) → a ++ (b ++ (e ∷ rest)) ≡ ((a ++ b) ++ e ∷ []) ++ rest
-lemma_text_is a b e rest = sym (append_assoc (a ++ b) (e ∷ []) rest ∙ append_assoc a b (e ∷ rest))
+lemma_text_is : (h a b : List (Option Line)) (e : Option Line) (rest : List (Option Line)) → h ++ (a ++ (b ++ (e ∷ rest))) ≡ (((h ++ a) ++ b) ++ e ∷ []) ++ rest
+lemma_text_is h a b e rest = sym (append_assoc ((h ++ a) ++ b) (e ∷ []) rest ∙ append_assoc (h ++ a) b (e ∷ rest) ∙ append_assoc h a (b ++ (e ∷ rest)))
 
-pub lemma_sound : (k : Colour) (p : ℕ) (root : List Cell) (s : Left) (z : Lemma) (t : Left) → s.listed ≤ 1000000 → lemma_read k p root s ≡ Some (z, t) → IsLemmaRead (lemma_line k p root) s z t
-unfolding lemma_read lists_read
-lemma_sound k p root s z t few e =
-    let one = bind_is (λ (q : (List (List Cell) × Line) × Left). option_map (λ (r : Node × Left). (lemma_made k p root q.0.0 r.0, r.1)) (body_read q.0.1 q.1)) (lists_read s) (z, t) e in
-    let two = map_is (λ (r : Node × Left). (lemma_made k p root one.0.0.0 r.0, r.1)) (body_read one.0.0.1 one.0.1) (z, t) one.2 in
-    let lists = listed_sound (1000001 - s.listed) s one.0.0.0 one.0.0.1 one.0.1 one.1 in
+pub lemma_sound : (v : ℕ) (k : Colour) (p : ℕ) (root : List Cell) (s : Left) (z : Lemma) (t : Left) → s.listed ≤ 1000000 → lemma_read v k p root s ≡ Some (z, t) → IsLemmaRead v (lemma_line k p root) s z t
+unfolding lemma_read
+lemma_sound v k p root s z t few e =
+    let zero = bind_is (λ (f : Line × Left). option_and_then (λ (q : ((List (List Cell) × List (List Cell)) × Line) × Left). option_map (λ (r : Node × Left). (lemma_made k p root q.0.0.0 q.0.0.1 r.0, r.1)) (body_read q.0.1 q.1)) (lists_read v f.0 f.1)) (line_read s) (z, t) e in
+    let first = line_is s zero.0.0 zero.0.1 zero.1 in
+    let one = bind_is (λ (q : ((List (List Cell) × List (List Cell)) × Line) × Left). option_map (λ (r : Node × Left). (lemma_made k p root q.0.0.0 q.0.0.1 r.0, r.1)) (body_read q.0.1 q.1)) (lists_read v zero.0.0 zero.0.1) (z, t) zero.2 in
+    let two = map_is (λ (r : Node × Left). (lemma_made k p root one.0.0.0.0 one.0.0.0.1 r.0, r.1)) (body_read one.0.0.1 one.0.1) (z, t) one.2 in
+    let begun = first.1.listed in
+    let lists = lists_sound v zero.0.0 zero.0.1 one.0.0.0.0 one.0.0.0.1 one.0.0.1 one.0.1 (omega arith) one.1 in
     let body = body_sound one.0.0.1 one.0.1 two.0.0 two.0.1 two.1 in
-    let value : lemma_made k p root one.0.0.0 two.0.0 ≡ z = ap (λ q. q.0) two.2 in
+    let value : lemma_made k p root one.0.0.0.0 one.0.0.0.1 two.0.0 ≡ z = ap (λ q. q.0) two.2 in
     let rest : two.0.1 ≡ t = ap (λ q. q.1) two.2 in
-    let nots = map (λ c. Some (not_line c)) one.0.0.0 in
-    let whole : IsLemmaRead (lemma_line k p root) s (lemma_made k p root one.0.0.0 two.0.0) two.0.1 = record {
-      lines = ap (λ x. Some (lemma_line k p root) ∷ x) (lists.lines ∙ ap (λ x. nots ++ x) body.lines ∙ lemma_text_is nots (node_lines two.0.0) (Some end_line) two.0.1.lines);
-      past = refl;
-      nodes = let a = body.nodes in let b = lists.nodes in omega arith;
+    let hads = map (had_spelled v) one.0.0.0.0 in
+    let nots = map (λ c. Some (not_line c)) one.0.0.0.1 in
+    let whole : IsLemmaRead v (lemma_line k p root) s (lemma_made k p root one.0.0.0.0 one.0.0.0.1 two.0.0) two.0.1 = record {
+      lines = ap (λ x. Some (lemma_line k p root) ∷ x) (first.0 ∙ lists.lines ∙ ap (λ x. hads ++ (nots ++ x)) body.lines ∙ lemma_text_is hads nots (node_lines two.0.0) (Some end_line) two.0.1.lines);
+      writes = lists.writes;
+      nodes = let a = body.nodes in let b = lists.nodes in let c = first.1.nodes in omega arith;
       most = body.most;
       deep = body.deep;
       listed = let a = body.listed in let b = lists.listed in omega arith;
-      few = let a = body.listed in let b = lists.listed in let c = lists.few in omega arith;
+      few = let a = body.listed in let c = lists.few in omega arith;
     } in
-    subst (λ (x : Left). IsLemmaRead (lemma_line k p root) s z x) rest (subst (λ (x : Lemma). IsLemmaRead (lemma_line k p root) s x two.0.1) value whole)
+    subst (λ (x : Left). IsLemmaRead v (lemma_line k p root) s z x) rest (subst (λ (x : Lemma). IsLemmaRead v (lemma_line k p root) s x two.0.1) value whole)
 
 -- ---- claims
 
-pub record AreLemmas (room : ℕ) (s : Left) (zs : List Lemma) (t : Left) : Type 0 where
-  pub lines : s.lines ≡ lemmas_lines 1 zs ++ Some main_line ∷ t.lines
-  pub past : HaveNoPast zs
+pub record AreLemmas (v room : ℕ) (s : Left) (zs : List Lemma) (t : Left) : Type 0 where
+  pub lines : s.lines ≡ lemmas_lines v zs ++ Some main_line ∷ t.lines
+  pub writes : AllWrite v zs
   pub nodes : t.nodes ≡ s.nodes + sum_by (λ l. node_count l.body) zs
   pub most : t.nodes ≤ max_nodes
   pub shallow : AreShallow zs
@@ -366,35 +422,35 @@ main_test_is (had_line d) e = cc
 main_test_is (not_line d) e = cc
 main_test_is (reply_line u) e = cc
 
-lemma_line_sound : (l : Line) (s : Left) (z : Lemma) (t : Left) → s.listed ≤ 1000000 → lemma_of_line l s ≡ Some (z, t) → IsLemmaRead l s z t
-lemma_line_sound (lemma_line k p root) s z t few e = lemma_sound k p root s z t few e
-lemma_line_sound main_line s z t few e = cc
-lemma_line_sound end_line s z t few e = cc
-lemma_line_sound won_line s z t few e = cc
-lemma_line_sound (use_line j) s z t few e = cc
-lemma_line_sound (play_line u) s z t few e = cc
-lemma_line_sound (all_line m) s z t few e = cc
-lemma_line_sound (header_line v n x) s z t few e = cc
-lemma_line_sound (had_line d) s z t few e = cc
-lemma_line_sound (not_line d) s z t few e = cc
-lemma_line_sound (reply_line u) s z t few e = cc
+lemma_line_sound : (v : ℕ) (l : Line) (s : Left) (z : Lemma) (t : Left) → s.listed ≤ 1000000 → lemma_of_line v l s ≡ Some (z, t) → IsLemmaRead v l s z t
+lemma_line_sound v (lemma_line k p root) s z t few e = lemma_sound v k p root s z t few e
+lemma_line_sound v main_line s z t few e = cc
+lemma_line_sound v end_line s z t few e = cc
+lemma_line_sound v won_line s z t few e = cc
+lemma_line_sound v (use_line j) s z t few e = cc
+lemma_line_sound v (play_line u) s z t few e = cc
+lemma_line_sound v (all_line m) s z t few e = cc
+lemma_line_sound v (header_line w n x) s z t few e = cc
+lemma_line_sound v (had_line d) s z t few e = cc
+lemma_line_sound v (not_line d) s z t few e = cc
+lemma_line_sound v (reply_line u) s z t few e = cc
 
-lemmas_sound : (room : ℕ) (s : Left) (zs : List Lemma) (t : Left) → s.nodes ≤ max_nodes → s.listed ≤ 1000000 → lemmas_read room s ≡ Some (zs, t) → AreLemmas room s zs t
-lemmas_sound zero s zs t most few e = cc
-lemmas_sound (suc room) s zs t most few e =
-    let one = bind_is (λ (p : Line × Left). lemmas_more (lemmas_read room) (main_test p.0) p.0 p.1) (line_read s) (zs, t) e in
+lemmas_sound : (v room : ℕ) (s : Left) (zs : List Lemma) (t : Left) → s.nodes ≤ max_nodes → s.listed ≤ 1000000 → lemmas_read v room s ≡ Some (zs, t) → AreLemmas v room s zs t
+lemmas_sound v zero s zs t most few e = cc
+lemmas_sound v (suc room) s zs t most few e =
+    let one = bind_is (λ (p : Line × Left). lemmas_more v (lemmas_read v room) (main_test p.0) p.0 p.1) (line_read s) (zs, t) e in
     let line = line_is s one.0.0 one.0.1 one.1 in
-    go one.0.0 one.0.1 line.0 line.1 (main_test one.0.0) refl one.2 (λ u ys v p q f. lemmas_sound room u ys v p q f)
+    go one.0.0 one.0.1 line.0 line.1 (main_test one.0.0) refl one.2 (λ u ys w p q f. lemmas_sound v room u ys w p q f)
   where
-    go : (k : Line) (u : Left) → s.lines ≡ Some k ∷ u.lines → Follows s u → (b : Bool) → main_test k ≡ b → lemmas_more (lemmas_read room) b k u ≡ Some (zs, t)
-        → ((v : Left) (ys : List Lemma) (w : Left) → v.nodes ≤ max_nodes → v.listed ≤ 1000000 → lemmas_read room v ≡ Some (ys, w) → AreLemmas room v ys w) → AreLemmas (suc room) s zs t
+    go : (k : Line) (u : Left) → s.lines ≡ Some k ∷ u.lines → Follows s u → (b : Bool) → main_test k ≡ b → lemmas_more v (lemmas_read v room) b k u ≡ Some (zs, t)
+        → ((j : Left) (ys : List Lemma) (w : Left) → j.nodes ≤ max_nodes → j.listed ≤ 1000000 → lemmas_read v room j ≡ Some (ys, w) → AreLemmas v room j ys w) → AreLemmas v (suc room) s zs t
     go k u first follows true is f more =
         let both = pair_is [] zs u t f in
         let a = follows.nodes in
         let b = follows.listed in
-        let whole : AreLemmas (suc room) s [] u = record {
+        let whole : AreLemmas v (suc room) s [] u = record {
           lines = first ∙ ap (λ x. Some x ∷ u.lines) (main_test_is k is);
-          past = tt;
+          writes = tt;
           nodes = omega arith;
           most = omega arith;
           shallow = tt;
@@ -402,19 +458,19 @@ lemmas_sound (suc room) s zs t most few e =
           few = omega arith;
           count = omega arith;
         } in
-        subst (λ (x : Left). AreLemmas (suc room) s zs x) both.1 (subst (λ (x : List Lemma). AreLemmas (suc room) s x u) both.0 whole)
+        subst (λ (x : Left). AreLemmas v (suc room) s zs x) both.1 (subst (λ (x : List Lemma). AreLemmas v (suc room) s x u) both.0 whole)
     go k u first follows false is f more =
-        let two = bind_is (λ (q : Lemma × Left). option_map (λ (r : List Lemma × Left). (q.0 ∷ r.0, r.1)) (lemmas_read room q.1)) (lemma_of_line k u) (zs, t) f in
-        let three = map_is (λ (r : List Lemma × Left). (two.0.0 ∷ r.0, r.1)) (lemmas_read room two.0.1) (zs, t) two.2 in
+        let two = bind_is (λ (q : Lemma × Left). option_map (λ (r : List Lemma × Left). (q.0 ∷ r.0, r.1)) (lemmas_read v room q.1)) (lemma_of_line v k u) (zs, t) f in
+        let three = map_is (λ (r : List Lemma × Left). (two.0.0 ∷ r.0, r.1)) (lemmas_read v room two.0.1) (zs, t) two.2 in
         let a = follows.nodes in
         let b = follows.listed in
-        let lemma = lemma_line_sound k u two.0.0 two.0.1 (omega arith) two.1 in
+        let lemma = lemma_line_sound v k u two.0.0 two.0.1 (omega arith) two.1 in
         let rest = more two.0.1 three.0.0 three.0.1 lemma.most lemma.few three.1 in
         let list : two.0.0 ∷ three.0.0 ≡ zs = ap (λ p. p.0) three.2 in
         let left : three.0.1 ≡ t = ap (λ p. p.1) three.2 in
-        let whole : AreLemmas (suc room) s (two.0.0 ∷ three.0.0) three.0.1 = record {
-          lines = first ∙ lemma.lines ∙ ap (λ x. lemma_lines 1 two.0.0 ++ x) rest.lines ∙ sym (append_assoc (lemma_lines 1 two.0.0) (lemmas_lines 1 three.0.0) (Some main_line ∷ three.0.1.lines));
-          past = (lemma.past, rest.past);
+        let whole : AreLemmas v (suc room) s (two.0.0 ∷ three.0.0) three.0.1 = record {
+          lines = first ∙ lemma.lines ∙ ap (λ x. lemma_lines v two.0.0 ++ x) rest.lines ∙ sym (append_assoc (lemma_lines v two.0.0) (lemmas_lines v three.0.0) (Some main_line ∷ three.0.1.lines));
+          writes = (lemma.writes, rest.writes);
           nodes = let c = lemma.nodes in let d = rest.nodes in let f' = sum_by-cons (λ (l : Lemma). node_count l.body) two.0.0 three.0.0 in omega arith;
           most = rest.most;
           shallow = (lemma.deep, rest.shallow);
@@ -422,15 +478,14 @@ lemmas_sound (suc room) s zs t most few e =
           few = rest.few;
           count = let c = rest.count in omega arith;
         } in
-        subst (λ (x : Left). AreLemmas (suc room) s zs x) left (subst (λ (x : List Lemma). AreLemmas (suc room) s x three.0.1) list whole)
+        subst (λ (x : Left). AreLemmas v (suc room) s zs x) left (subst (λ (x : List Lemma). AreLemmas v (suc room) s x three.0.1) list whole)
 
-as_header_is : (n : ℕ) (l : Line) (x : Colour) → as_header n l ≡ Some x → l ≡ header_line 1 n x
+as_header_is : (n : ℕ) (l : Line) (x : ℕ × Colour) → as_header n l ≡ Some x → l ≡ header_line x.0 n x.1
 as_header_is n (header_line v m y) x e =
-    let both = test_is (nat_eq v 1 && nat_eq m n) (Some y) x e in
-    let version : v ≡ 1 = eqb-true v 1 (and_first (nat_eq v 1) (nat_eq m n) both.0) in
-    let size : m ≡ n = eqb-true m n (and_second (nat_eq v 1) (nat_eq m n) both.0) in
-    let winner : y ≡ x = cc both.1 in
-    ap (λ k. header_line k m y) version ∙ ap (λ k. header_line 1 k y) size ∙ ap (header_line 1 n) winner
+    let both = test_is (nat_eq m n) (Some (v, y)) x e in
+    let size : m ≡ n = eqb-true m n both.0 in
+    let head : ◌≡◌ {A = ℕ × Colour} (v, y) x = cc both.1 in
+    ap (λ k. header_line v k y) size ∙ ap (λ (h : ℕ × Colour). header_line h.0 n h.1) head
 as_header_is n main_line x e = cc
 as_header_is n end_line x e = cc
 as_header_is n won_line x e = cc
@@ -448,10 +503,9 @@ ended_is (l ∷ ls) e = cc
 
 pub record IsClaimRead (n : ℕ) (ls : List (Option Line)) (z : Claim) : Type 0 where
   pub lines : ls ≡ lines_of z
-  pub past : HaveNoPast z.lemmas
+  pub writes : AllWrite z.version z.lemmas
   pub within : IsWithinLimits z
   pub size : z.size ≡ n
-  pub version : z.version ≡ 1
 
 claim_lines : (lemmas main : List (Option Line)) → lemmas ++ (Some main_line ∷ (main ++ Some end_line ∷ [])) ≡ (lemmas ++ Some main_line ∷ main) ++ Some end_line ∷ []
 claim_lines lemmas main = sym (append_assoc lemmas (Some main_line ∷ main) (Some end_line ∷ []))
@@ -460,15 +514,15 @@ pub claim_sound : (n : ℕ) (ls : List (Option Line)) (z : Claim) → claim_read
 unfolding claim_read all_lemmas_read
 claim_sound n ls z e =
     let s : Left = record { lines = ls; nodes = 0; listed = 0 } in
-    let one = bind_is (λ (h : Colour × Left). option_and_then (λ (m : List Lemma × Left). option_and_then (λ (k : Node × Left). cond (is_ended k.1.lines) (Some (claim_made n h.0 m.0 k.0)) None) (main_read m.1)) (all_lemmas_read h.1)) (line_as (as_header n) s) z e in
-    let two = bind_is (λ (m : List Lemma × Left). option_and_then (λ (k : Node × Left). cond (is_ended k.1.lines) (Some (claim_made n one.0.0 m.0 k.0)) None) (main_read m.1)) (all_lemmas_read one.0.1) z one.2 in
+    let one = bind_is (λ (h : (ℕ × Colour) × Left). option_and_then (λ (m : List Lemma × Left). option_and_then (λ (k : Node × Left). cond (is_ended k.1.lines) (Some (claim_made n h.0 m.0 k.0)) None) (main_read m.1)) (all_lemmas_read h.0.0 h.1)) (line_as (as_header n) s) z e in
+    let two = bind_is (λ (m : List Lemma × Left). option_and_then (λ (k : Node × Left). cond (is_ended k.1.lines) (Some (claim_made n one.0.0 m.0 k.0)) None) (main_read m.1)) (all_lemmas_read one.0.0.0 one.0.1) z one.2 in
     let three = bind_is (λ (k : Node × Left). cond (is_ended k.1.lines) (Some (claim_made n one.0.0 two.0.0 k.0)) None) (main_read two.0.1) z two.2 in
     let four = test_is (is_ended three.0.1.lines) (Some (claim_made n one.0.0 two.0.0 three.0.0)) z three.2 in
     let five = bind_is (λ (p : Line × Left). body_read p.0 p.1) (line_read two.0.1) three.0 three.1 in
     let header = as_is (as_header n) s one.0.0 one.0.1 one.1 in
     let a = header.3.nodes in
     let b = header.3.listed in
-    let lemmas = lemmas_sound 65536 one.0.1 two.0.0 two.0.1 (omega arith) (omega arith) two.1 in
+    let lemmas = lemmas_sound one.0.0.0 65536 one.0.1 two.0.0 two.0.1 (omega arith) (omega arith) two.1 in
     let first = line_is two.0.1 five.0.0 five.0.1 five.1 in
     let body = body_sound five.0.0 five.0.1 three.0.0 three.0.1 five.2 in
     let behind = ended_is three.0.1.lines four.0 in
@@ -477,8 +531,8 @@ claim_sound n ls z e =
     let whole : IsClaimRead n ls (claim_made n one.0.0 two.0.0 three.0.0) = record {
       lines =
           header.1 ∙ ap (λ x. Some x ∷ one.0.1.lines) (as_header_is n header.0 one.0.0 header.2)
-          ∙ ap (λ x. Some (header_line 1 n one.0.0) ∷ x) (lemmas.lines ∙ ap (λ x. lemmas_lines 1 two.0.0 ++ Some main_line ∷ x) tree ∙ claim_lines (lemmas_lines 1 two.0.0) (node_lines three.0.0));
-      past = lemmas.past;
+          ∙ ap (λ x. Some (header_line one.0.0.0 n one.0.0.1) ∷ x) (lemmas.lines ∙ ap (λ x. lemmas_lines one.0.0.0 two.0.0 ++ Some main_line ∷ x) tree ∙ claim_lines (lemmas_lines one.0.0.0 two.0.0) (node_lines three.0.0));
+      writes = lemmas.writes;
       within = record {
         lemmas = let c = lemmas.count in omega arith;
         nodes = let c = lemmas.nodes in let d = body.nodes in let f = body.most in let g = first.1.nodes in omega arith;
@@ -487,6 +541,5 @@ claim_sound n ls z e =
         listed = let c = lemmas.listed in let d = lemmas.few in omega arith;
       };
       size = refl;
-      version = refl;
     } in
     subst (IsClaimRead n ls) value whole

@@ -11,7 +11,7 @@ use Rattle.proof_cert.specs.Certificate.{node_of, replies_of, lemma_of}
 use Rattle.proof_cert.specs.Claim.{Node, Branches, no_branch, branch, Lemma, max_nodes}
 use Rattle.proof_cert.specs.declared.source.SourceFault.{SourceFault}
 use Rattle.proof_cert.specs.Source.{Source, answer, answer_from, later, later_from}
-use Rattle.proof_cert.specs.Reading.{Left, left_of, first_of, line_read, opened, counted, reply_read, replies_read, below_read, tree_read, as_not, listed_more, listed_read, is_ended, main_test, lemma_of_line, lemmas_more, lemmas_read}
+use Rattle.proof_cert.specs.Reading.{Left, left_of, first_of, line_read, opened, counted, reply_read, replies_read, below_read, tree_read, listed_more, listed_read, is_ended, main_test, lemma_of_line, lemmas_more, lemmas_read}
 
 line_given : (s : Source) (nodes listed : ℕ) (failed : Bool) (left : List (Option Line)) (l : Line) → s.has_failed ≡ failed → Ok (Some l) ≡ answer_from failed left
     → first_of (record { lines = cond failed (None ∷ []) left; nodes = nodes; listed = listed }) (cond failed (None ∷ []) left)
@@ -116,20 +116,30 @@ front_more : (cs : List (List Cell)) (c : List Cell) (o : Option ((List (List Ce
 front_more cs c None = refl
 front_more cs c (Some q) = ap (λ x. Some ((x, q.0.1), q.1)) (sym (append_assoc cs (c ∷ []) q.0.0))
 
-module _ (s t : Left) (few : s.listed ≤ 1000000) (same : t.listed ≡ s.listed) where
-  next_listed : listed_read (1000001 - s.listed) s ≡ option_and_then (λ (p : Line × Left). listed_more (listed_read (1000001 - (s.listed + 1))) (as_not p.0) p.0 p.1) (line_read s)
-  next_listed = let one : 1000001 - s.listed ≡ suc (1000001 - (s.listed + 1)) = omega arith in ap (λ k. listed_read k s) one
+module _ (pick : Line → Option (List Cell)) (s : Left) where
+  abbrev later_listed : Line → Left → Option ((List (List Cell) × Line) × Left)
+  later_listed = listed_read pick (1000001 - (s.listed + 1))
 
-  pub listed_is_read : (cs : List (List Cell)) (l : Line) (c : List Cell) → line_read s ≡ Some (l, t) → as_not l ≡ Some c
-      → listed_front cs (listed_read (1000001 - s.listed) s) ≡ listed_front (cs ++ c ∷ []) (listed_read (1000001 - (s.listed + 1)) (record t { listed = t.listed + 1 }))
-  listed_is_read cs l c e is =
-      ap (listed_front cs) (next_listed ∙ ap (option_and_then (λ (p : Line × Left). listed_more (listed_read (1000001 - (s.listed + 1))) (as_not p.0) p.0 p.1)) e ∙ ap (λ o. listed_more (listed_read (1000001 - (s.listed + 1))) o l t) is)
-      ∙ front_more cs c (listed_read (1000001 - (s.listed + 1)) (record t { listed = t.listed + 1 }))
+  next_listed : (l : Line) → s.listed ≤ 1000000 → listed_read pick (1000001 - s.listed) l s ≡ listed_more later_listed (pick l) l s
+  next_listed l few = let one : 1000001 - s.listed ≡ suc (1000001 - (s.listed + 1)) = omega arith in ap (λ k. listed_read pick k l s) one
 
-  pub listed_is_done : (cs : List (List Cell)) (l : Line) → line_read s ≡ Some (l, t) → as_not l ≡ None → listed_front cs (listed_read (1000001 - s.listed) s) ≡ Some ((cs, l), t)
-  listed_is_done cs l e is =
-      ap (listed_front cs) (next_listed ∙ ap (option_and_then (λ (p : Line × Left). listed_more (listed_read (1000001 - (s.listed + 1))) (as_not p.0) p.0 p.1)) e ∙ ap (λ o. listed_more (listed_read (1000001 - (s.listed + 1))) o l t) is)
-      ∙ ap (λ x. Some ((x, l), t)) (append-nil cs)
+  pub listed_is_read : (cs : List (List Cell)) (l : Line) (c : List Cell) (k : Line) (t : Left) → s.listed ≤ 1000000 → pick l ≡ Some c → line_read (record s { listed = s.listed + 1 }) ≡ Some (k, t)
+      → listed_front cs (listed_read pick (1000001 - s.listed) l s) ≡ listed_front (cs ++ c ∷ []) (listed_read pick (1000001 - (s.listed + 1)) k t)
+  listed_is_read cs l c k t few is e =
+      ap (listed_front cs) (next_listed l few ∙ ap (λ o. listed_more later_listed o l s) is
+      ∙ ap (λ o. option_map (λ (q : (List (List Cell) × Line) × Left). ((c ∷ q.0.0, q.0.1), q.1)) (option_and_then (λ (p : Line × Left). later_listed p.0 p.1) o)) e)
+      ∙ front_more cs c (later_listed k t)
+
+  pub listed_is_cut : (cs : List (List Cell)) (l : Line) (c : List Cell) → s.listed ≤ 1000000 → pick l ≡ Some c → line_read (record s { listed = s.listed + 1 }) ≡ None
+      → listed_front cs (listed_read pick (1000001 - s.listed) l s) ≡ None
+  listed_is_cut cs l c few is e =
+      ap (listed_front cs) (next_listed l few ∙ ap (λ o. listed_more later_listed o l s) is
+      ∙ ap (λ o. option_map (λ (q : (List (List Cell) × Line) × Left). ((c ∷ q.0.0, q.0.1), q.1)) (option_and_then (λ (p : Line × Left). later_listed p.0 p.1) o)) e)
+
+  pub listed_is_done : (cs : List (List Cell)) (l : Line) → s.listed ≤ 1000000 → pick l ≡ None → listed_front cs (listed_read pick (1000001 - s.listed) l s) ≡ Some ((cs, l), s)
+  listed_is_done cs l few is =
+      ap (listed_front cs) (next_listed l few ∙ ap (λ o. listed_more later_listed o l s) is)
+      ∙ ap (λ x. Some ((x, l), s)) (append-nil cs)
 
 -- ---- lemmas one by one
 
@@ -144,20 +154,25 @@ lemmas_front_more : (ls : List Lemma) (l : Lemma) (o : Option (List Lemma × Lef
 lemmas_front_more ls l None = refl
 lemmas_front_more ls l (Some q) = ap (λ x. Some (x, q.1)) (sym (append_assoc ls (l ∷ []) q.0))
 
-module _ (s t : Left) (k : ℕ) (few : k ≤ 65535) where
-  next_lemma : lemmas_read (65536 - k) s ≡ option_and_then (λ (p : Line × Left). lemmas_more (lemmas_read (65536 - (k + 1))) (main_test p.0) p.0 p.1) (line_read s)
-  next_lemma = let one : 65536 - k ≡ suc (65536 - (k + 1)) = omega arith in ap (λ r. lemmas_read r s) one
+module _ (v : ℕ) (s t : Left) (k : ℕ) (few : k ≤ 65535) where
+  next_lemma : lemmas_read v (65536 - k) s ≡ option_and_then (λ (p : Line × Left). lemmas_more v (lemmas_read v (65536 - (k + 1))) (main_test p.0) p.0 p.1) (line_read s)
+  next_lemma = let one : 65536 - k ≡ suc (65536 - (k + 1)) = omega arith in ap (λ r. lemmas_read v r s) one
 
-  behind_line : (ls : List Lemma) (l : Line) (b : Bool) → line_read s ≡ Some (l, t) → main_test l ≡ b → lemmas_front ls (lemmas_read (65536 - k) s) ≡ lemmas_front ls (lemmas_more (lemmas_read (65536 - (k + 1))) b l t)
+  behind_line : (ls : List Lemma) (l : Line) (b : Bool) → line_read s ≡ Some (l, t) → main_test l ≡ b → lemmas_front ls (lemmas_read v (65536 - k) s) ≡ lemmas_front ls (lemmas_more v (lemmas_read v (65536 - (k + 1))) b l t)
   behind_line ls l b e is =
-      ap (lemmas_front ls) (next_lemma ∙ ap (option_and_then (λ (p : Line × Left). lemmas_more (lemmas_read (65536 - (k + 1))) (main_test p.0) p.0 p.1)) e ∙ ap (λ x. lemmas_more (lemmas_read (65536 - (k + 1))) x l t) is)
+      ap (lemmas_front ls) (next_lemma ∙ ap (option_and_then (λ (p : Line × Left). lemmas_more v (lemmas_read v (65536 - (k + 1))) (main_test p.0) p.0 p.1)) e ∙ ap (λ x. lemmas_more v (lemmas_read v (65536 - (k + 1))) x l t) is)
 
-  pub lemma_is_read : (ls : List Lemma) (l : Line) (z : Lemma) (u : Left) → line_read s ≡ Some (l, t) → main_test l ≡ false → lemma_of_line l t ≡ Some (z, u)
-      → lemmas_front ls (lemmas_read (65536 - k) s) ≡ lemmas_front (ls ++ z ∷ []) (lemmas_read (65536 - (k + 1)) u)
+  pub lemma_is_read : (ls : List Lemma) (l : Line) (z : Lemma) (u : Left) → line_read s ≡ Some (l, t) → main_test l ≡ false → lemma_of_line v l t ≡ Some (z, u)
+      → lemmas_front ls (lemmas_read v (65536 - k) s) ≡ lemmas_front (ls ++ z ∷ []) (lemmas_read v (65536 - (k + 1)) u)
   lemma_is_read ls l z u e is there =
       behind_line ls l false e is
-      ∙ ap (λ o. lemmas_front ls (option_and_then (λ (q : Lemma × Left). option_map (λ (r : List Lemma × Left). (q.0 ∷ r.0, r.1)) (lemmas_read (65536 - (k + 1)) q.1)) o)) there
-      ∙ lemmas_front_more ls z (lemmas_read (65536 - (k + 1)) u)
+      ∙ ap (λ o. lemmas_front ls (option_and_then (λ (q : Lemma × Left). option_map (λ (r : List Lemma × Left). (q.0 ∷ r.0, r.1)) (lemmas_read v (65536 - (k + 1)) q.1)) o)) there
+      ∙ lemmas_front_more ls z (lemmas_read v (65536 - (k + 1)) u)
+
+  pub lemma_is_missing : (ls : List Lemma) (l : Line) → line_read s ≡ Some (l, t) → main_test l ≡ false → lemma_of_line v l t ≡ None → lemmas_front ls (lemmas_read v (65536 - k) s) ≡ None
+  lemma_is_missing ls l e is there =
+      behind_line ls l false e is
+      ∙ ap (λ o. lemmas_front ls (option_and_then (λ (q : Lemma × Left). option_map (λ (r : List Lemma × Left). (q.0 ∷ r.0, r.1)) (lemmas_read v (65536 - (k + 1)) q.1)) o)) there
 
 pub lemmas_pushed : (n : ℕ) (ls : List code_lemma.Lemma) (l : code_lemma.Lemma) → map (lemma_of n) (ls ++ l ∷ []) ≡ map (lemma_of n) ls ++ lemma_of n l ∷ []
 lemmas_pushed n [] l = refl

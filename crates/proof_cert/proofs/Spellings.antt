@@ -7,8 +7,9 @@ use Rattle.std.proofs.lemmas.Bool.{false≢true}
 use Rattle.go_points.specs.declared.Cell.{Cell}
 use Rattle.go_points.specs.declared.Turn.{Turn}
 use Rattle.go_points.specs.Ply.{ply_of}
-use Rattle.proof_cert.specs.Lines.{Line, play_line, all_line, use_line, won_line, reply_line, not_line, lemma_line, header_line, main_line, end_line, node_lines, branch_lines, lemma_lines, lemmas_lines, lines_of, turn_fits}
+use Rattle.proof_cert.specs.Lines.{Line, play_line, all_line, use_line, won_line, reply_line, had_spelled, not_line, lemma_line, header_line, main_line, end_line, node_lines, branch_lines, lemma_lines, lemmas_lines, lines_of, turn_fits}
 use Rattle.proof_cert.specs.Text.{is_spelled, line_bytes, line_feed, with_line, text_of_lines}
+use Rattle.proof_cert.specs.Stage.{version_number}
 use Rattle.proof_cert.specs.Certificate.{node_of, replies_of, lemma_of, claim_of}
 use Rattle.proof_cert.specs.Taken.{line_text, lines_text}
 use Rattle.proof_cert.specs.declared.certificate.Node.{Node}
@@ -86,18 +87,24 @@ not_text n cs i c within is =
     at_drop_more (λ ds. lines_text n (map (λ d. Some (not_line d)) ds)) cs i c within
     ∙ ap (λ d. line_text n (Some (not_line d)) ++ lines_text n (map (λ e. Some (not_line e)) (drop (i + 1) cs))) (sym is)
 
-pub lemmas_text : (n : ℕ) (ls : List Lemma) (i : ℕ) (l : Lemma) → i < length ls → l ≡ get_or ls i l
-    → lines_text n (lemmas_lines 1 (map (lemma_of n) (drop i ls))) ≡ lines_text n (lemma_lines 1 (lemma_of n l)) ++ lines_text n (lemmas_lines 1 (map (lemma_of n) (drop (i + 1) ls)))
-lemmas_text n ls i l within is =
-    at_drop_more (λ ds. lines_text n (lemmas_lines 1 (map (lemma_of n) ds))) ls i l within
-    ∙ ap (λ d. lines_text n (lemma_lines 1 (lemma_of n d) ++ lemmas_lines 1 (map (lemma_of n) (drop (i + 1) ls)))) (sym is)
-    ∙ lines_text_joined n (lemma_lines 1 (lemma_of n l)) (lemmas_lines 1 (map (lemma_of n) (drop (i + 1) ls)))
+pub had_text : (v n : ℕ) (cs : List (List Cell)) (i : ℕ) (c : List Cell) → i < length cs → c ≡ get_or cs i c
+    → lines_text n (map (had_spelled v) (drop i cs)) ≡ line_text n (had_spelled v c) ++ lines_text n (map (had_spelled v) (drop (i + 1) cs))
+had_text v n cs i c within is =
+    at_drop_more (λ ds. lines_text n (map (had_spelled v) ds)) cs i c within
+    ∙ ap (λ d. line_text n (had_spelled v d) ++ lines_text n (map (had_spelled v) (drop (i + 1) cs))) (sym is)
 
-pub lemmas_spelled : (n : ℕ) (ls : List Lemma) (i : ℕ) (l : Lemma) → i < length ls → l ≡ get_or ls i l
-    → AreSpelled n (lemmas_lines 1 (map (lemma_of n) (drop i ls))) → AreSpelled n (lemma_lines 1 (lemma_of n l) ++ lemmas_lines 1 (map (lemma_of n) (drop (i + 1) ls)))
-lemmas_spelled n ls i l within is h =
+pub lemmas_text : (v n : ℕ) (ls : List Lemma) (i : ℕ) (l : Lemma) → i < length ls → l ≡ get_or ls i l
+    → lines_text n (lemmas_lines v (map (lemma_of n) (drop i ls))) ≡ lines_text n (lemma_lines v (lemma_of n l)) ++ lines_text n (lemmas_lines v (map (lemma_of n) (drop (i + 1) ls)))
+lemmas_text v n ls i l within is =
+    at_drop_more (λ ds. lines_text n (lemmas_lines v (map (lemma_of n) ds))) ls i l within
+    ∙ ap (λ d. lines_text n (lemma_lines v (lemma_of n d) ++ lemmas_lines v (map (lemma_of n) (drop (i + 1) ls)))) (sym is)
+    ∙ lines_text_joined n (lemma_lines v (lemma_of n l)) (lemmas_lines v (map (lemma_of n) (drop (i + 1) ls)))
+
+pub lemmas_spelled : (v n : ℕ) (ls : List Lemma) (i : ℕ) (l : Lemma) → i < length ls → l ≡ get_or ls i l
+    → AreSpelled n (lemmas_lines v (map (lemma_of n) (drop i ls))) → AreSpelled n (lemma_lines v (lemma_of n l) ++ lemmas_lines v (map (lemma_of n) (drop (i + 1) ls)))
+lemmas_spelled v n ls i l within is h =
     subst (AreSpelled n)
-    (at_drop_more (λ ds. lemmas_lines 1 (map (lemma_of n) ds)) ls i l within ∙ ap (λ d. lemma_lines 1 (lemma_of n d) ++ lemmas_lines 1 (map (lemma_of n) (drop (i + 1) ls))) (sym is)) h
+    (at_drop_more (λ ds. lemmas_lines v (map (lemma_of n) ds)) ls i l within ∙ ap (λ d. lemma_lines v (lemma_of n d) ++ lemmas_lines v (map (lemma_of n) (drop (i + 1) ls))) (sym is)) h
 
 -- three lists behind a first line
 three : (n : ℕ) (a b c : List (Option Line)) → lines_text n ((a ++ b) ++ c) ≡ lines_text n a ++ (lines_text n b ++ lines_text n c)
@@ -105,27 +112,42 @@ three n a b c =
     lines_text_joined n (a ++ b) c ∙ ap (λ x. x ++ lines_text n c) (lines_text_joined n a b)
     ∙ append_assoc (lines_text n a) (lines_text n b) (lines_text n c)
 
-module _ (n : ℕ) (l : Lemma) where
-  pub lemma_text : lines_text n (lemma_lines 1 (lemma_of n l))
-      ≡ line_text n (Some (lemma_line l.mover l.passes l.root)) ++ (lines_text n (map (λ c. Some (not_line c)) l.absent.items) ++ (lines_text n (node_lines (node_of n l.body)) ++ line_text n (Some end_line)))
-  lemma_text = ap (λ x. line_text n (Some (lemma_line l.mover l.passes l.root)) ++ x) (three n (map (λ c. Some (not_line c)) l.absent.items) (node_lines (node_of n l.body)) (Some end_line ∷ []))
+four : (n : ℕ) (h a b c : List (Option Line)) → lines_text n (((h ++ a) ++ b) ++ c) ≡ lines_text n h ++ (lines_text n a ++ (lines_text n b ++ lines_text n c))
+four n h a b c =
+    three n (h ++ a) b c ∙ ap (λ x. x ++ (lines_text n b ++ lines_text n c)) (lines_text_joined n h a)
+    ∙ append_assoc (lines_text n h) (lines_text n a) (lines_text n b ++ lines_text n c)
 
-  pub body_is_spelled : AreSpelled n (lemma_lines 1 (lemma_of n l)) → AreSpelled n (node_lines (node_of n l.body))
+module _ (v n : ℕ) (l : Lemma) where
+  abbrev had_lines : List (Option Line)
+  had_lines = map (had_spelled v) l.had.items
+
+  abbrev not_lines : List (Option Line)
+  not_lines = map (λ c. Some (not_line c)) l.absent.items
+
+  pub lemma_text : lines_text n (lemma_lines v (lemma_of n l))
+      ≡ line_text n (Some (lemma_line l.mover l.passes l.root)) ++ (lines_text n (map (had_spelled v) l.had.items) ++ (lines_text n (map (λ c. Some (not_line c)) l.absent.items) ++ (lines_text n (node_lines (node_of n l.body)) ++ line_text n (Some end_line))))
+  lemma_text = ap (λ x. line_text n (Some (lemma_line l.mover l.passes l.root)) ++ x) (four n had_lines not_lines (node_lines (node_of n l.body)) (Some end_line ∷ []))
+
+  pub body_is_spelled : AreSpelled n (lemma_lines v (lemma_of n l)) → AreSpelled n (node_lines (node_of n l.body))
   body_is_spelled h =
-      let behind = and_second (is_spelled n (Some (lemma_line l.mover l.passes l.root))) (list_all (is_spelled n) ((map (λ c. Some (not_line c)) l.absent.items ++ node_lines (node_of n l.body)) ++ Some end_line ∷ [])) h in
-      spelled_rest n (map (λ c. Some (not_line c)) l.absent.items) (node_lines (node_of n l.body))
-      (spelled_front n (map (λ c. Some (not_line c)) l.absent.items ++ node_lines (node_of n l.body)) (Some end_line ∷ []) behind)
+      let lists : List (Option Line) = had_lines ++ not_lines in
+      let behind = and_second (is_spelled n (Some (lemma_line l.mover l.passes l.root))) (list_all (is_spelled n) ((lists ++ node_lines (node_of n l.body)) ++ Some end_line ∷ [])) h in
+      spelled_rest n lists (node_lines (node_of n l.body))
+      (spelled_front n (lists ++ node_lines (node_of n l.body)) (Some end_line ∷ []) behind)
 
 module _ (c : Certificate) where
+  abbrev version : ℕ
+  version = version_number c.version
+
   pub claim_text : lines_text c.size (lines_of (claim_of c))
-      ≡ line_text c.size (Some (header_line 1 c.size c.winner)) ++ (lines_text c.size (lemmas_lines 1 (map (lemma_of c.size) c.lemmas.items)) ++ (line_text c.size (Some main_line) ++ (lines_text c.size (node_lines (node_of c.size c.main)) ++ line_text c.size (Some end_line))))
-  claim_text = ap (λ x. line_text c.size (Some (header_line 1 c.size c.winner)) ++ x) (three c.size (lemmas_lines 1 (map (lemma_of c.size) c.lemmas.items)) (Some main_line ∷ node_lines (node_of c.size c.main)) (Some end_line ∷ []))
+      ≡ line_text c.size (Some (header_line (version_number c.version) c.size c.winner)) ++ (lines_text c.size (lemmas_lines (version_number c.version) (map (lemma_of c.size) c.lemmas.items)) ++ (line_text c.size (Some main_line) ++ (lines_text c.size (node_lines (node_of c.size c.main)) ++ line_text c.size (Some end_line))))
+  claim_text = ap (λ x. line_text c.size (Some (header_line version c.size c.winner)) ++ x) (three c.size (lemmas_lines version (map (lemma_of c.size) c.lemmas.items)) (Some main_line ∷ node_lines (node_of c.size c.main)) (Some end_line ∷ []))
 
   pub main_is_spelled : AreSpelled c.size (lines_of (claim_of c)) → AreSpelled c.size (node_lines (node_of c.size c.main))
   main_is_spelled h =
       let n = c.size in
-      let lemmas = lemmas_lines 1 (map (lemma_of n) c.lemmas.items) in
-      let behind = and_second (is_spelled n (Some (header_line 1 n c.winner))) (list_all (is_spelled n) ((lemmas ++ Some main_line ∷ node_lines (node_of n c.main)) ++ Some end_line ∷ [])) h in
+      let lemmas = lemmas_lines version (map (lemma_of n) c.lemmas.items) in
+      let behind = and_second (is_spelled n (Some (header_line version n c.winner))) (list_all (is_spelled n) ((lemmas ++ Some main_line ∷ node_lines (node_of n c.main)) ++ Some end_line ∷ [])) h in
       spelled_rest n lemmas (Some main_line ∷ node_lines (node_of n c.main))
       (spelled_front n (lemmas ++ Some main_line ∷ node_lines (node_of n c.main)) (Some end_line ∷ []) behind)
 

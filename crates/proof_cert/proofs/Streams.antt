@@ -9,8 +9,7 @@ use Rattle.proof_cert.proofs.Pieces.{place}
 use Rattle.std.proofs.KnownBytes.{Consumes-nil, Consumes-trans}
 use Rattle.proof_cert.specs.Lines.{Line}
 use Rattle.proof_cert.specs.Text.{pieces, with_byte, line_of, line_of_piece, line_feed, max_line}
-use Rattle.proof_cert.specs.Stage.{version_one}
-use Rattle.proof_cert.specs.Source.{lines_read}
+use Rattle.proof_cert.specs.Text.{lines}
 use Rattle.proof_cert.specs.declared.source.SourceFault.TheVariants.{Malformed}
 use Rattle.proof_cert.specs.Given.{Gave}
 use Rattle.proof_cert.specs.Streamed.{Unread, Streamed, IsRead, streamed_of, Tells, told_bytes, bytes_left, Uses, HasEnded, HasNoFeed, reader_gives, LinesGivenOfReader}
@@ -45,18 +44,18 @@ no_feed_more (y ∷ b) x h e = (h.0, no_feed_more b x h.1 e)
 
 -- LINES
 
-pub line_fed : (n : ℕ) (b more : List ℕ) → HasNoFeed b → lines_read n ((b ++ line_feed ∷ []) ++ more) ≡ version_one (line_of n b) ∷ lines_read n more
-line_fed n b more h = ap (lines_read n) (append_assoc b (line_feed ∷ []) more) ∙ ap (λ ps. map version_one (map (line_of_piece n) ps)) (pieces_fed b more h)
+pub line_fed : (n : ℕ) (b more : List ℕ) → HasNoFeed b → lines n ((b ++ line_feed ∷ []) ++ more) ≡ line_of n b ∷ lines n more
+line_fed n b more h = ap (lines n) (append_assoc b (line_feed ∷ []) more) ∙ ap (λ ps. map (line_of_piece n) ps) (pieces_fed b more h)
 
-pub line_cut : (n : ℕ) (b : List ℕ) → 0 < length b → HasNoFeed b → lines_read n (b ++ []) ≡ None ∷ []
+pub line_cut : (n : ℕ) (b : List ℕ) → 0 < length b → HasNoFeed b → lines n (b ++ []) ≡ None ∷ []
 line_cut n [] some h = absurd (omega arith)
-line_cut n (x ∷ b) some h = ap (lines_read n) (append-nil (x ∷ b)) ∙ ap (λ ps. map version_one (map (line_of_piece n) ps)) (pieces_cut x b h)
+line_cut n (x ∷ b) some h = ap (lines n) (append-nil (x ∷ b)) ∙ ap (λ ps. map (line_of_piece n) ps) (pieces_cut x b h)
 
-pub line_long : (n : ℕ) → n ≤ 19 → (b more : List ℕ) → max_line < length b → HasNoFeed b → (rest : List (Option Line)) × (lines_read n (b ++ more) ≡ None ∷ rest)
+pub line_long : (n : ℕ) → n ≤ 19 → (b more : List ℕ) → max_line < length b → HasNoFeed b → (rest : List (Option Line)) × (lines n (b ++ more) ≡ None ∷ rest)
 line_long n small [] more long h = absurd (omega arith)
 line_long n small (x ∷ b) more long h =
     let first = pieces_long x b more h in
-    (map version_one (map (line_of_piece n) first.2), ap (λ ps. map version_one (map (line_of_piece n) ps)) first.3 ∙ ap (λ l. version_one l ∷ map version_one (map (line_of_piece n) first.2)) (none first.0 first.1))
+    (map (line_of_piece n) first.2, ap (λ ps. map (line_of_piece n) ps) first.3 ∙ ap (λ l. l ∷ map (line_of_piece n) first.2) (none first.0 first.1))
   where
     none : (tail : List ℕ) (fed : Bool) → line_of_piece n (x ∷ b ++ tail, fed) ≡ None
     none tail true = let whole = length-append (x ∷ b) tail in long_none n small (x ∷ b ++ tail) (omega (arith, long, whole))
@@ -101,16 +100,16 @@ none_left b (none, end) = ap (λ l. l ++ told_bytes b.told) none ∙ end_told b.
 pub record GaveOf (s : Streamed) (ls : List (Option Line)) (t : Streamed) : Type 0 where
   pub used : List ℕ
   pub taken : Uses s.left t.left used
-  pub whole : t.fault ≡ None → (more : List ℕ) → lines_read s.size (used ++ more) ≡ ls ++ lines_read s.size more
+  pub whole : t.fault ≡ None → (more : List ℕ) → lines s.size (used ++ more) ≡ ls ++ lines s.size more
   pub rest : List (Option Line)
-  pub front : lines_read s.size (used ++ bytes_left t.left) ≡ ls ++ rest
+  pub front : lines s.size (used ++ bytes_left t.left) ≡ ls ++ rest
 
 gave_of : (s : Streamed) (ls : List (Option Line)) (t : Streamed) → Gave reader_gives s ls t → GaveOf s ls t
 gave_of s [] t e = record {
   used = [];
   taken = subst (λ (x : Streamed). Uses s.left x.left []) e (uses_none s.left);
   whole = λ free more. refl;
-  rest = lines_read s.size (bytes_left t.left);
+  rest = lines s.size (bytes_left t.left);
   front = refl;
 }
 gave_of s (Some l ∷ ls) t (u, g, more) =
@@ -120,12 +119,12 @@ gave_of s (Some l ∷ ls) t (u, g, more) =
       used = one.0 ++ below.used;
       taken = uses_then s.left u.left t.left one.0 below.used one.1 below.taken;
       whole = λ free behind.
-          ap (lines_read s.size) (append_assoc one.0 below.used behind) ∙ one.2 (below.used ++ behind)
-          ∙ ap (λ k. Some l ∷ k) (subst (λ (m : ℕ). lines_read m (below.used ++ behind) ≡ ls ++ lines_read m behind) size (below.whole free behind));
+          ap (lines s.size) (append_assoc one.0 below.used behind) ∙ one.2 (below.used ++ behind)
+          ∙ ap (λ k. Some l ∷ k) (subst (λ (m : ℕ). lines m (below.used ++ behind) ≡ ls ++ lines m behind) size (below.whole free behind));
       rest = below.rest;
       front =
-          ap (lines_read s.size) (append_assoc one.0 below.used (bytes_left t.left)) ∙ one.2 (below.used ++ bytes_left t.left)
-          ∙ ap (λ k. Some l ∷ k) (subst (λ (m : ℕ). lines_read m (below.used ++ bytes_left t.left) ≡ ls ++ below.rest) size below.front);
+          ap (lines s.size) (append_assoc one.0 below.used (bytes_left t.left)) ∙ one.2 (below.used ++ bytes_left t.left)
+          ∙ ap (λ k. Some l ∷ k) (subst (λ (m : ℕ). lines m (below.used ++ bytes_left t.left) ≡ ls ++ below.rest) size below.front);
     }
 gave_of s (None ∷ []) t (u, g, e) =
     let one = g.3 in record {
@@ -133,7 +132,7 @@ gave_of s (None ∷ []) t (u, g, e) =
       taken = subst (λ (x : Streamed). Uses s.left x.left one.0) e one.1;
       whole = λ free. absurd (cc (sym free ∙ ap (λ (x : Streamed). x.fault) (sym e) ∙ g.2));
       rest = one.2;
-      front = subst (λ (x : Streamed). lines_read s.size (one.0 ++ bytes_left x.left) ≡ None ∷ one.2) e one.3;
+      front = subst (λ (x : Streamed). lines s.size (one.0 ++ bytes_left x.left) ≡ None ∷ one.2) e one.3;
     }
 gave_of s (None ∷ (k ∷ ls)) t (u, g, (v, f, more)) = absurd (cc (sym f.0 ∙ g.2))
 
@@ -142,10 +141,10 @@ lines_given_of_reader n held told ls t h =
     let s = streamed_of n held told in
     let all = gave_of s ls t h in
     let one = used_whole s.left t.left all.used all.taken in record {
-      front = (one.0, one.1, all.rest, ap (lines_read n) one.2 ∙ all.front);
+      front = (one.0, one.1, all.rest, ap (lines n) one.2 ∙ all.front);
       all = λ u g.
           let end = used_whole s.left u.left (all.used ++ []) (uses_then s.left t.left u.left all.used [] all.taken g.3.0) in
-          (end.0, end.1, ap (lines_read n) (end.2 ∙ append_assoc all.used [] (bytes_left u.left) ∙ ap (λ l. all.used ++ l) (none_left u.left g.3.1)) ∙ all.whole g.0 [] ∙ append-nil ls);
+          (end.0, end.1, ap (lines n) (end.2 ∙ append_assoc all.used [] (bytes_left u.left) ∙ ap (λ l. all.used ++ l) (none_left u.left g.3.1)) ∙ all.whole g.0 [] ∙ append-nil ls);
     }
 
 -- THE BLOCK
@@ -242,19 +241,19 @@ module _ (told : Option (List ℕ)) (front : List ℕ) (s e k : ℕ) (block : Li
   line_used = record { read = []; told = Consumes-nil told; bytes = append-nil (drop s (take e block) ++ front) ∙ block_line }
 
   -- a line that is spelled, and one that is not
-  module _ (n : ℕ) (line : Option Line) (spelled : line ≡ version_one (line_of n (take (s + k - s) (drop s block)))) where
-    is_line : (more : List ℕ) → lines_read n ((take k piece ++ line_feed ∷ []) ++ more) ≡ line ∷ lines_read n more
-    is_line more = line_fed n (take k piece) more line_clean ∙ ap (λ (l : Option Line). l ∷ lines_read n more) (sym (spelled ∙ ap (λ b. version_one (line_of n b)) line_there))
+  module _ (n : ℕ) (line : Option Line) (spelled : line ≡ line_of n (take (s + k - s) (drop s block))) where
+    is_line : (more : List ℕ) → lines n ((take k piece ++ line_feed ∷ []) ++ more) ≡ line ∷ lines n more
+    is_line more = line_fed n (take k piece) more line_clean ∙ ap (λ (l : Option Line). l ∷ lines n more) (sym (spelled ∙ ap (λ b. line_of n b) line_there))
 
     pub line_read : (l : Line) → line ≡ Some l → IsRead n (record { held = drop s (take e block) ++ front; told = told }) (record { held = drop (s + k + 1) (take e block) ++ front; told = told }) (Ok (Some l))
-    line_read l is = (take k piece ++ line_feed ∷ [], line_used, λ more. is_line more ∙ ap (λ (l : Option Line). l ∷ lines_read n more) is)
+    line_read l is = (take k piece ++ line_feed ∷ [], line_used, λ more. is_line more ∙ ap (λ (l : Option Line). l ∷ lines n more) is)
 
     pub line_unread : line ≡ None → IsRead n (record { held = drop s (take e block) ++ front; told = told }) (record { held = drop s (take e block) ++ front; told = told }) (Err Malformed)
     line_unread is =
         let more = (drop (s + k + 1) (take e block) ++ front) ++ told_bytes told in (
           [],
           uses_none (record { held = drop s (take e block) ++ front; told = told }),
-          lines_read n more,
-          ap (lines_read n) (ap (λ l. l ++ told_bytes told) block_line ∙ append_assoc (take k piece ++ line_feed ∷ []) (drop (s + k + 1) (take e block) ++ front) (told_bytes told))
-              ∙ is_line more ∙ ap (λ (l : Option Line). l ∷ lines_read n more) is,
+          lines n more,
+          ap (lines n) (ap (λ l. l ++ told_bytes told) block_line ∙ append_assoc (take k piece ++ line_feed ∷ []) (drop (s + k + 1) (take e block) ++ front) (told_bytes told))
+              ∙ is_line more ∙ ap (λ (l : Option Line). l ∷ lines n more) is,
         )

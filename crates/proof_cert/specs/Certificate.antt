@@ -6,6 +6,7 @@ use Rattle.std.specs.Prelude.{ℕ, List, [], ◌∷◌, map}
 use Rattle.go_points.specs.declared.Turn.{Turn}
 use Rattle.go_points.specs.Ply.{ply_of}
 use Rattle.proof_cert.specs.Claim.{Node, won, by_lemma, play, all, Branches, no_branch, branch, Lemma, Claim}
+use Rattle.proof_cert.specs.Stage.{version_number}
 use Rattle.proof_cert.specs.declared.certificate.Certificate.{Certificate}
 use Rattle.proof_cert.specs.declared.certificate.Lemma as lemma
 use Rattle.proof_cert.specs.declared.certificate.Node as code
@@ -29,12 +30,11 @@ node_of n = fold-Node Node (node_step n)
 abbrev pub replies_of : ℕ → List (Turn × code.Node) → Branches
 replies_of n rs = branches_of n (map (λ r. (r.0, node_of n r.1)) rs)
 
--- A lemma of the program asks for no colouring but its root.
 abbrev pub lemma_of : ℕ → lemma.Lemma → Lemma
 lemma_of n l = record {
-  head = record { mover = l.mover; passes = l.passes; root = l.root; had = []; absent = l.absent.items };
+  head = record { mover = l.mover; passes = l.passes; root = l.root; had = l.had.items; absent = l.absent.items };
   body = node_of n l.body;
 }
 
 abbrev pub claim_of : Certificate → Claim
-claim_of c = record { version = 1; size = c.size; winner = c.winner; lemmas = map (lemma_of c.size) c.lemmas.items; main = node_of c.size c.main }
+claim_of c = record { version = version_number c.version; size = c.size; winner = c.winner; lemmas = map (lemma_of c.size) c.lemmas.items; main = node_of c.size c.main }

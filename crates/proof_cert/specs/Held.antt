@@ -7,14 +7,15 @@ use Rattle.std.specs.Prelude.{◌≡◌, ℕ, ◌-◌, ◌^◌, List, [], ◌∷
 use Rattle.go_points.specs.declared.Turn.{Turn}
 use Rattle.go_points.specs.Ply.{ply_of}
 use Rattle.proof_cert.specs.Claim.{Claim}
-use Rattle.proof_cert.specs.Lines.{Line, node_lines, branch_lines, lemmas_lines, lines_of, not_line, main_line, reply_line, end_line}
+use Rattle.proof_cert.specs.Lines.{Line, node_lines, branch_lines, lemmas_lines, lines_of, had_spelled, not_line, main_line, reply_line, end_line}
 use Rattle.proof_cert.specs.Text.{is_spelled}
+use Rattle.proof_cert.specs.Stage.{version_number}
 use Rattle.proof_cert.specs.Certificate.{node_of, replies_of, lemma_of}
 use Rattle.proof_cert.specs.declared.source.SourceFault.{SourceFault}
 use Rattle.proof_cert.specs.declared.source.SourceFault.TheVariants.{Malformed, Memory, Read}
 use Rattle.proof_cert.specs.declared.certificate.Node.{Node}
 use Rattle.proof_cert.specs.declared.task.Task.{Task}
-use Rattle.proof_cert.specs.declared.task.Task.TheVariants.{Lemmas, Listed, Main, Tree, Replies, End}
+use Rattle.proof_cert.specs.declared.task.Task.TheVariants.{Lemmas, Had, Listed, Main, Tree, Replies, End}
 
 -- the line, unless it has no spelling
 abbrev pub spelled_line : ℕ → Option Line → Option Line
@@ -46,7 +47,8 @@ reply_lines n r = Some (reply_line (ply_of n r.0)) ∷ node_lines (node_of n r.1
 
 -- the lines of what is still to be given; the last is given first
 abbrev pub task_lines : ℕ → Task → List (Option Line)
-task_lines n (Lemmas lemmas) = lemmas_lines 1 (map (lemma_of n) lemmas.now)
+task_lines n (Lemmas version lemmas) = lemmas_lines (version_number version) (map (lemma_of n) lemmas.now)
+task_lines n (Had version had) = map (had_spelled (version_number version)) had.now
 task_lines n (Listed listed) = map (λ c. Some (not_line c)) listed.now
 task_lines n (Main tree) = Some main_line ∷ node_lines (node_of n tree.now)
 task_lines n (Tree tree) = node_lines (node_of n tree.now)

@@ -4,10 +4,10 @@
 --     source_of n text      before the first call
 --     answer s, later s      what a call gives, and the source behind it
 --     answer_value n r      what a call of the program gave
-use Rattle.std.specs.Prelude.{ℕ, suc, Bool, true, false, List, [], ◌∷◌, map, Option, Some, None, Result, Ok, Err, option_map}
+use Rattle.std.specs.Prelude.{ℕ, suc, Bool, true, false, List, [], ◌∷◌, Option, Some, None, Result, Ok, Err, option_map}
 use Rattle.proof_cert.specs.Lines.{Line}
 use Rattle.proof_cert.specs.Text.{lines}
-use Rattle.proof_cert.specs.Stage.{line_value, version_one}
+use Rattle.proof_cert.specs.Stage.{line_value}
 use Rattle.proof_cert.specs.declared.line.Line as code
 use Rattle.proof_cert.specs.declared.source.SourceFault.{SourceFault}
 use Rattle.proof_cert.specs.declared.source.SourceFault.TheVariants.{Malformed}
@@ -18,12 +18,8 @@ pub record Source : Type 0 where
   pub number : ℕ
   pub has_failed : Bool
 
--- the lines of a text that are read so far
-abbrev pub lines_read : ℕ → List ℕ → List (Option Line)
-lines_read n text = map version_one (lines n text)
-
 abbrev pub source_of : ℕ → List ℕ → Source
-source_of n text = record { size = n; left = lines_read n text; number = 0; has_failed = false }
+source_of n text = record { size = n; left = lines n text; number = 0; has_failed = false }
 
 -- A line; None behind the last; and at a malformed line a fault, which stays.
 abbrev pub answer_from : Bool → List (Option Line) → Result (Option Line) SourceFault

@@ -8,8 +8,7 @@
 use Rattle.std.specs.Prelude.{◌≡◌, ℕ, false, nat_eq, length, List, [], ◌∷◌, ◌++◌, Option, Some, None, Result, Ok, Err}
 use Rattle.std.specs.Io.KnownBytes.{Consumes, IsAtEnd}
 use Rattle.proof_cert.specs.Lines.{Line}
-use Rattle.proof_cert.specs.Text.{line_feed, max_line}
-use Rattle.proof_cert.specs.Source.{lines_read}
+use Rattle.proof_cert.specs.Text.{line_feed, lines, max_line}
 use Rattle.proof_cert.specs.declared.reader_source.Ending.{Ending}
 use Rattle.proof_cert.specs.declared.reader_source.Ending.TheVariants.{LineFeed, End, TooLong}
 use Rattle.proof_cert.specs.Given.{Gave, fault_of}
@@ -70,9 +69,9 @@ IsPiece old new b TooLong = (x : ℕ) × HasNoFeed (b ++ x ∷ []) × Uses old n
 -- A line: the bytes that were used give it, whatever follows. None: there are no more bytes. A malformed line: the bytes that were
 -- used and those that are left begin with it. A read may always fail, and no memory is taken.
 abbrev pub IsRead : ℕ → Unread → Unread → Result (Option Line) SourceFault → Type 0
-IsRead n old new (Ok (Some l)) = (used : List ℕ) × Uses old new used × ((more : List ℕ) → lines_read n (used ++ more) ≡ Some l ∷ lines_read n more)
+IsRead n old new (Ok (Some l)) = (used : List ℕ) × Uses old new used × ((more : List ℕ) → lines n (used ++ more) ≡ Some l ∷ lines n more)
 IsRead n old new (Ok None) = Uses old new [] × HasEnded new
-IsRead n old new (Err Malformed) = (used : List ℕ) × Uses old new used × (rest : List (Option Line)) × (lines_read n (used ++ bytes_left new) ≡ None ∷ rest)
+IsRead n old new (Err Malformed) = (used : List ℕ) × Uses old new used × (rest : List (Option Line)) × (lines n (used ++ bytes_left new) ≡ None ∷ rest)
 IsRead n old new (Err Memory) = ⊥
 IsRead n old new (Err Read) = Unit {0}
 
@@ -81,8 +80,8 @@ reader_gives s r t = (s.fault ≡ None) × (t.size ≡ s.size) × (t.fault ≡ f
 
 -- A source gives the lines of its bytes in their order, and all of them where it has ended.
 pub record IsFrontOfReader (n : ℕ) (held : List ℕ) (told : Option (List ℕ)) (ls : List (Option Line)) (t : Streamed) : Type 0 where
-  pub front : (bytes : List ℕ) × Tells told bytes × (rest : List (Option Line)) × (lines_read n (held ++ bytes) ≡ ls ++ rest)
-  pub all : (u : Streamed) → reader_gives t (Ok None) u → (bytes : List ℕ) × Tells told bytes × (lines_read n (held ++ bytes) ≡ ls)
+  pub front : (bytes : List ℕ) × Tells told bytes × (rest : List (Option Line)) × (lines n (held ++ bytes) ≡ ls ++ rest)
+  pub all : (u : Streamed) → reader_gives t (Ok None) u → (bytes : List ℕ) × Tells told bytes × (lines n (held ++ bytes) ≡ ls)
 
 abbrev pub LinesGivenOfReader : Type 0
 LinesGivenOfReader = (n : ℕ) (held : List ℕ) (told : Option (List ℕ)) (ls : List (Option Line)) (t : Streamed) → Gave reader_gives (streamed_of n held told) ls t → IsFrontOfReader n held told ls t

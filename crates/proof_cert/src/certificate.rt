@@ -1,5 +1,6 @@
 //! Claims that are held: who wins, with the trees that show it.
 
+use crate::version::Version;
 use go_points::{Colour, Colouring, Size, Turn};
 
 /// A proof tree: at a state it says why the winner wins there.
@@ -18,19 +19,22 @@ pub enum Node {
     All(Vec<(Turn, Node)>),
 }
 
-/// A position that is won under every past which holds the root and none of the colourings of `absent`.
+/// A position that is won under every past which holds the root and the colourings of `had`, and none of those of `absent`.
 #[derive(Debug, Drop)]
 pub struct Lemma {
     pub mover: Colour,
     pub passes: u8,
     pub root: Colouring,
+    pub had: Vec<Colouring>,
     pub absent: Vec<Colouring>,
     pub body: Node,
 }
 
-/// A claim: the winner of a problem on a board of this size, with the lemmas and the tree that show it.
+/// A claim: the winner of a problem on a board of this size, with the lemmas and the tree that show it. In version 1 no lemma may
+/// have colourings of `had`.
 #[derive(Debug, Drop)]
 pub struct Certificate {
+    pub version: Version,
     pub size: Size,
     pub winner: Colour,
     pub lemmas: Vec<Lemma>,

@@ -3,14 +3,18 @@
 ghost use Rattle.std.specs.Prelude.{◌≡◌, ◌++◌, ◌↔◌, IsTrue, IsSomeAnd, OnOk, OnErr, Err, None, Some, map};
 ghost use Rattle.std.specs.List.{list_all};
 ghost use Rattle.std.specs.Io.KnownBytes.{Appends};
-ghost use Rattle.proof_cert.specs.Lines.{node_lines, branch_lines, lemma_lines, lemmas_lines, lines_of, not_line};
+ghost use Rattle.proof_cert.specs.Lines.{node_lines, branch_lines, lemma_lines, lemmas_lines, lines_of, had_spelled, not_line};
+ghost use Rattle.proof_cert.specs.Stage.{version_number};
 ghost use Rattle.proof_cert.specs.Text.{is_spelled, text};
 ghost use Rattle.proof_cert.specs.Certificate.{node_of, replies_of, lemma_of, claim_of};
 ghost use Rattle.proof_cert.specs.Taken.{TakesPart, Puts, lines_text};
 
 use crate::certificate::{Certificate, Lemma, Node};
-use crate::line_text::{put_header, put_lemma_line, put_not, put_number, put_turn, put_word};
+use crate::line_text::{
+    put_had, put_header, put_lemma_line, put_not, put_number, put_turn, put_word,
+};
 use crate::spelled::is_spelled_claim;
+use crate::version::Version;
 use crate::write::{CertWrite, Held, WriteFault, write_bytes};
 use arrayvec::ArrayVec;
 use go_points::{Colouring, Size, Turn};
@@ -54,43 +58,63 @@ fn put_claim<W: Write>(
     ensures cut { OnErr result (TakesPart (W.contents writer.old) (W.contents writer.new) (held.old.items ++ lines_text certificate.now.size (lines_of (claim_of certificate.now)))) }
 {
     let size = certificate.size;
-    put_header(size, certificate.winner, held, writer)?;
-    put_lemmas(size, certificate.lemmas.as_slice(), held, writer)?;
+    let version = certificate.version;
+    put_header(version, size, certificate.winner, held, writer)?;
+    put_lemmas(version, size, certificate.lemmas.as_slice(), held, writer)?;
     put_word(b"main", held, writer)?;
     put_node(size, &certificate.main, held, writer)?;
     put_word(b"end", held, writer)
 }
 
 fn put_lemmas<W: Write>(
+    version: Version,
     size: Size,
     lemmas: &[Lemma],
     held: &mut Held,
     writer: &mut W,
 ) -> Result<(), WriteFault>
-    requires { IsTrue (list_all (is_spelled size) (lemmas_lines 1 (map (lemma_of size) lemmas.now))) }
-    ensures put { OnOk result (Puts (W.contents writer.old) (W.contents writer.new) held.old.items held.new.items (lines_text size (lemmas_lines 1 (map (lemma_of size) lemmas.now)))) }
-    ensures cut { OnErr result (TakesPart (W.contents writer.old) (W.contents writer.new) (held.old.items ++ lines_text size (lemmas_lines 1 (map (lemma_of size) lemmas.now)))) }
+    requires { IsTrue (list_all (is_spelled size) (lemmas_lines (version_number version) (map (lemma_of size) lemmas.now))) }
+    ensures put { OnOk result (Puts (W.contents writer.old) (W.contents writer.new) held.old.items held.new.items (lines_text size (lemmas_lines (version_number version) (map (lemma_of size) lemmas.now)))) }
+    ensures cut { OnErr result (TakesPart (W.contents writer.old) (W.contents writer.new) (held.old.items ++ lines_text size (lemmas_lines (version_number version) (map (lemma_of size) lemmas.now)))) }
 {
     for lemma in lemmas {
-        put_lemma(size, lemma, held, writer)?;
+        put_lemma(version, size, lemma, held, writer)?;
     }
     Ok(())
 }
 
 fn put_lemma<W: Write>(
+    version: Version,
     size: Size,
     lemma: &Lemma,
     held: &mut Held,
     writer: &mut W,
 ) -> Result<(), WriteFault>
-    requires { IsTrue (list_all (is_spelled size) (lemma_lines 1 (lemma_of size lemma.now))) }
-    ensures put { OnOk result (Puts (W.contents writer.old) (W.contents writer.new) held.old.items held.new.items (lines_text size (lemma_lines 1 (lemma_of size lemma.now)))) }
-    ensures cut { OnErr result (TakesPart (W.contents writer.old) (W.contents writer.new) (held.old.items ++ lines_text size (lemma_lines 1 (lemma_of size lemma.now)))) }
+    requires { IsTrue (list_all (is_spelled size) (lemma_lines (version_number version) (lemma_of size lemma.now))) }
+    ensures put { OnOk result (Puts (W.contents writer.old) (W.contents writer.new) held.old.items held.new.items (lines_text size (lemma_lines (version_number version) (lemma_of size lemma.now)))) }
+    ensures cut { OnErr result (TakesPart (W.contents writer.old) (W.contents writer.new) (held.old.items ++ lines_text size (lemma_lines (version_number version) (lemma_of size lemma.now)))) }
 {
     put_lemma_line(size, lemma, held, writer)?;
+    put_all_had(version, size, lemma.had.as_slice(), held, writer)?;
     put_listed(size, lemma.absent.as_slice(), held, writer)?;
     put_node(size, &lemma.body, held, writer)?;
     put_word(b"end", held, writer)
+}
+
+fn put_all_had<W: Write>(
+    version: Version,
+    size: Size,
+    had: &[Colouring],
+    held: &mut Held,
+    writer: &mut W,
+) -> Result<(), WriteFault>
+    ensures put { OnOk result (Puts (W.contents writer.old) (W.contents writer.new) held.old.items held.new.items (lines_text size (map (had_spelled (version_number version)) had.now))) }
+    ensures cut { OnErr result (TakesPart (W.contents writer.old) (W.contents writer.new) (held.old.items ++ lines_text size (map (had_spelled (version_number version)) had.now))) }
+{
+    for colouring in had {
+        put_had(version, size, colouring, held, writer)?;
+    }
+    Ok(())
 }
 
 fn put_listed<W: Write>(

@@ -57,8 +57,9 @@ fn begin<'a>(certificate: &'a Certificate, tasks: &mut Vec<Task<'a>>) -> Result<
     let rows = certificate.size.rows();
     tasks.push(Task::End)?;
     tasks.push(Task::Main(&certificate.main))?;
-    tasks.push(Task::Lemmas(certificate.lemmas.as_slice()))?;
+    tasks.push(Task::Lemmas(certificate.version, certificate.lemmas.as_slice()))?;
     Ok(Line::Header {
+        version: certificate.version,
         size: u32::from(rows),
         winner: certificate.winner,
     })

@@ -4,15 +4,17 @@ ghost use Rattle.std.specs.Prelude.{◌≡◌, ◌<◌, ℕ, true, codes, option
 ghost use Rattle.go_points.specs.Ply.{ply_of};
 ghost use Rattle.proof_cert.specs.Text.{after_word, at_end, at_space, number_of, colour_of, vertex_of, header_tail, lemma_tail, or_else, line_of};
 ghost use Rattle.proof_cert.specs.Lines.{main_line, won_line, end_line};
-ghost use Rattle.proof_cert.specs.Stage.{line_value, version_one};
+ghost use Rattle.proof_cert.specs.Stage.{line_value};
 
 use crate::cells::read_cells;
+use crate::version::Version;
 use go_points::{Colour, Colouring, Size, Turn, sgf_point};
 
 /// One line of a claim.
 #[derive(Clone, Copy, Debug, PartialEq, Eq)]
 pub enum Line {
     Header {
+        version: Version,
         size: u32,
         winner: Colour,
     },
@@ -21,6 +23,7 @@ pub enum Line {
         passes: u8,
         root: Colouring,
     },
+    Had(Colouring),
     Not(Colouring),
     Main,
     Won,
@@ -107,15 +110,26 @@ fn parts_at_space(text: &[u8]) -> Option<(&[u8], &[u8])>
     Some((&text[..space], &text[space + 1..]))
 }
 
-/// A claim's first line behind its word: the version, which is 1, the size and the winner.
+/// A claim's first line behind its word: the version, the size and the winner.
 fn read_header(text: &[u8]) -> Option<Line>
-    ensures { (n : ℕ) → option_map (line_value n) result ≡ version_one (header_tail text.now) }
+    ensures { (n : ℕ) → option_map (line_value n) result ≡ header_tail text.now }
 {
-    let rest = behind_word(b"1 ", text)?;
-    let (size, winner) = parts_at_space(rest)?;
+    if text.len() < 2 || text[1] != b' ' {
+        return None;
+    }
+    let version = match text[0] {
+        b'1' => Version::One,
+        b'2' => Version::Two,
+        _ => return None,
+    };
+    let (size, winner) = parts_at_space(&text[2..])?;
     let size = read_number(size)?;
     let winner = read_colour(winner)?;
-    Some(Line::Header { size, winner })
+    Some(Line::Header {
+        version,
+        size,
+        winner,
+    })
 }
 
 /// A lemma's first line behind its word: the mover, the passes and the root.
@@ -142,13 +156,16 @@ fn read_lemma(size: Size, text: &[u8]) -> Option<Line>
 impl Line {
     /// The line that these bytes spell, without their line feed, for a board of this size; `None` where they spell none.
     pub fn from_text(size: Size, text: &[u8]) -> Option<Line>
-        ensures { option_map (line_value size) result ≡ version_one (line_of size text.now) }
+        ensures { option_map (line_value size) result ≡ line_of size text.now }
     {
         if let Some(rest) = behind_word(b"tsucert ", text) {
             return read_header(rest);
         }
         if let Some(rest) = behind_word(b"lemma ", text) {
             return read_lemma(size, rest);
+        }
+        if let Some(rest) = behind_word(b"had ", text) {
+            return Some(Line::Had(read_cells(size, rest)?));
         }
         if let Some(rest) = behind_word(b"not ", text) {
             return Some(Line::Not(read_cells(size, rest)?));

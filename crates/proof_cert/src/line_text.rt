@@ -4,17 +4,16 @@ ghost use Rattle.std.specs.Prelude.{◌≡◌, ◌+◌, ◌≤◌, ◌++◌, [],
 ghost use Rattle.arrayvec.specs.ArrayVec.{array_vec_len};
 ghost use Rattle.go_points.specs.Ply.{ply_of};
 ghost use Rattle.go_points.specs.Text.{cell_code, text_of};
-ghost use Rattle.proof_cert.specs.Lines.{turn_fits, lemma_line, not_line, header_line};
+ghost use Rattle.proof_cert.specs.Lines.{turn_fits, lemma_line, had_line, had_spelled, not_line, header_line};
+ghost use Rattle.proof_cert.specs.Stage.{version_number};
 ghost use Rattle.proof_cert.specs.Text.{colour_letter, vertex_text, line_feed};
 ghost use Rattle.proof_cert.specs.Taken.{TakesPart, Puts, line_text};
 
 use crate::certificate::Lemma;
+use crate::version::Version;
 use crate::write::{Held, MOST_HELD, WriteFault, hold, make_room};
 use go_points::{Cell, Colour, Colouring, Size, Turn, to_sgf};
 use std::io::Write;
-
-/// The version of claims.
-const VERSION: usize = 1;
 
 /// The most digits of a number.
 const MOST_DIGITS: usize = 20;
@@ -144,6 +143,42 @@ pub(crate) fn put_not<W: Write>(
     Ok(())
 }
 
+/// Puts the line of a colouring that must have occurred, for claims of version 2.
+fn put_had_line<W: Write>(
+    size: Size,
+    colouring: &Colouring,
+    held: &mut Held,
+    writer: &mut W,
+) -> Result<(), WriteFault>
+    ensures put { OnOk result (Puts (W.contents writer.old) (W.contents writer.new) held.old.items held.new.items (line_text size (Some (had_line colouring.now)))) }
+    ensures cut { OnErr result (TakesPart (W.contents writer.old) (W.contents writer.new) (held.old.items ++ line_text size (Some (had_line colouring.now)))) }
+{
+    prove!(colouring.size().area() <= 361);
+    make_room(held, writer)?;
+    hold(b"had ", held);
+    hold_cells(colouring, held);
+    hold(b"\n", held);
+    Ok(())
+}
+
+/// Puts the line of a colouring that must have occurred; it has none in a claim of version 1.
+#[tactic(auto, using(crate::proofs::Takings::puts_none))]
+pub(crate) fn put_had<W: Write>(
+    version: Version,
+    size: Size,
+    colouring: &Colouring,
+    held: &mut Held,
+    writer: &mut W,
+) -> Result<(), WriteFault>
+    ensures put { OnOk result (Puts (W.contents writer.old) (W.contents writer.new) held.old.items held.new.items (line_text size (had_spelled (version_number version) colouring.now))) }
+    ensures cut { OnErr result (TakesPart (W.contents writer.old) (W.contents writer.new) (held.old.items ++ line_text size (had_spelled (version_number version) colouring.now))) }
+{
+    match version {
+        Version::One => Ok(()),
+        Version::Two => put_had_line(size, colouring, held, writer),
+    }
+}
+
 /// Puts the first line of a lemma.
 pub(crate) fn put_lemma_line<W: Write>(
     size: Size,
@@ -168,17 +203,18 @@ pub(crate) fn put_lemma_line<W: Write>(
 
 /// Puts the first line of a claim.
 pub(crate) fn put_header<W: Write>(
+    version: Version,
     size: Size,
     winner: Colour,
     held: &mut Held,
     writer: &mut W,
 ) -> Result<(), WriteFault>
-    ensures put { OnOk result (Puts (W.contents writer.old) (W.contents writer.new) held.old.items held.new.items (line_text size (Some (header_line 1 size winner)))) }
-    ensures cut { OnErr result (TakesPart (W.contents writer.old) (W.contents writer.new) (held.old.items ++ line_text size (Some (header_line 1 size winner)))) }
+    ensures put { OnOk result (Puts (W.contents writer.old) (W.contents writer.new) held.old.items held.new.items (line_text size (Some (header_line (version_number version) size winner)))) }
+    ensures cut { OnErr result (TakesPart (W.contents writer.old) (W.contents writer.new) (held.old.items ++ line_text size (Some (header_line (version_number version) size winner)))) }
 {
     make_room(held, writer)?;
     hold(b"tsucert ", held);
-    hold_number(VERSION, held);
+    hold_number(version.number(), held);
     hold(b" ", held);
     hold_number(size.rows() as usize, held);
     hold(b" ", held);

@@ -4,13 +4,14 @@ ghost use Rattle.std.specs.Prelude.{◌≡◌, ◌+◌, ◌-◌, ◌⊎◌, ℕ,
 ghost use Rattle.go_points.specs.Ply.{ply_of};
 ghost use Rattle.proof_cert.specs.Claim.{Claim, IsWithinLimits};
 ghost use Rattle.proof_cert.specs.Text.{text};
-ghost use Rattle.proof_cert.specs.Stage.{line_value};
+ghost use Rattle.proof_cert.specs.Stage.{line_value, version_number};
 ghost use Rattle.proof_cert.specs.Certificate.{node_of, replies_of, lemma_of, claim_of};
-ghost use Rattle.proof_cert.specs.Reading.{with_rest, left_of, line_read, line_as, as_reply, reply_read, replies_read, below_read, tree_read, step_line, as_step, reply_value, as_not, lists_read, listed_value, as_end, body_read, lemma_read, lemma_of_line, main_test, all_lemmas_read, as_header, main_read, claim_read, is_ended};
+ghost use Rattle.proof_cert.specs.Reading.{with_rest, left_of, line_read, line_as, as_reply, reply_read, replies_read, below_read, tree_read, step_line, as_step, reply_value, as_not, as_had, picks, list_read, lists_read, listed_value, lists_value, header_value, as_end, body_read, lemma_read, lemma_of_line, main_test, all_lemmas_read, as_header, main_read, claim_read, is_ended};
 
 use crate::certificate::{Certificate, Lemma, Node};
 use crate::line::Line;
 use crate::source::{SourceFault, TextSource};
+use crate::version::Version;
 use go_points::{Colour, Colouring, Size, Turn};
 use std::alloc::{AllocError, Global};
 
@@ -33,6 +34,13 @@ pub(crate) enum Step {
     Use(u32),
     Play(Turn),
     All(u32),
+}
+
+/// A list of a lemma: of the colourings that must have occurred, in a claim of this version, or of those that must not.
+#[derive(Clone, Copy)]
+pub(crate) enum Listing {
+    Had(Version),
+    Not,
 }
 
 /// The lines that are left, and how many nodes and listed colourings the claim has had so far.
@@ -202,26 +210,73 @@ fn not_of(line: &Line) -> Option<Colouring>
     }
 }
 
-/// The listed colourings, and the line behind them.
+/// The colouring of a `had` line, which a claim of version 1 does not have.
+fn had_of(version: Version, line: &Line) -> Option<Colouring>
+    ensures { (n : ℕ) → result ≡ as_had (version_number version) (line_value n line.now) }
+{
+    match version {
+        Version::One => None,
+        Version::Two => match line {
+            Line::Had(colouring) => Some(*colouring),
+            _ => None,
+        },
+    }
+}
+
+/// The colouring of a line of the list.
+fn listed_of(listing: Listing, line: &Line) -> Option<Colouring>
+    ensures { (n : ℕ) → result ≡ picks listing (line_value n line.now) }
+{
+    match listing {
+        Listing::Had(version) => had_of(version, line),
+        Listing::Not => not_of(line),
+    }
+}
+
+/// The listed colourings, of which the first line is given, and the line behind them.
 fn read_listed(
     alloc: Global,
     reading: &mut Reading<'_>,
+    listing: Listing,
+    first: Line,
 ) -> Result<Option<(Vec<Colouring>, Line)>, AllocError>
-    ensures read { IfOk result (λ read. with_rest (listed_value reading.old.source.size) read (left_of reading.new.source reading.new.nodes reading.new.listed) ≡ lists_read (left_of reading.old.source reading.old.nodes reading.old.listed)) }
+    ensures read { IfOk result (λ read. with_rest (listed_value reading.old.source.size) read (left_of reading.new.source reading.new.nodes reading.new.listed) ≡ list_read (picks listing) (line_value reading.old.source.size first) (left_of reading.old.source reading.old.nodes reading.old.listed)) }
     ensures size { reading.new.source.size ≡ reading.old.source.size }
 {
     let mut listed = Vec::new(alloc);
+    let mut line = first;
     while reading.listed <= MAX_LISTED {
-        let Some(line) = next_line(reading) else {
-            return Ok(None);
-        };
-        let Some(colouring) = not_of(&line) else {
+        let Some(colouring) = listed_of(listing, &line) else {
             return Ok(Some((listed, line)));
         };
         reading.listed += 1;
         listed.push(colouring)?;
+        let Some(next) = next_line(reading) else {
+            return Ok(None);
+        };
+        line = next;
     }
     Ok(None)
+}
+
+/// Both lists of a lemma, of which the first line is given, and the line behind them.
+#[tactic(auto, unfolding(crate::specs::Reading::lists_read))]
+fn read_lists(
+    alloc: Global,
+    reading: &mut Reading<'_>,
+    version: Version,
+    first: Line,
+) -> Result<Option<((Vec<Colouring>, Vec<Colouring>), Line)>, AllocError>
+    ensures read { IfOk result (λ read. with_rest (lists_value reading.old.source.size) read (left_of reading.new.source reading.new.nodes reading.new.listed) ≡ lists_read (version_number version) (line_value reading.old.source.size first) (left_of reading.old.source reading.old.nodes reading.old.listed)) }
+    ensures size { reading.new.source.size ≡ reading.old.source.size }
+{
+    let Some((had, line)) = read_listed(alloc, reading, Listing::Had(version), first)? else {
+        return Ok(None);
+    };
+    let Some((absent, line)) = read_listed(alloc, reading, Listing::Not, line)? else {
+        return Ok(None);
+    };
+    Ok(Some(((had, absent), line)))
 }
 
 /// Whether the line is `end`.
@@ -273,14 +328,18 @@ fn read_body(
 fn read_lemma(
     alloc: Global,
     reading: &mut Reading<'_>,
+    version: Version,
     mover: Colour,
     passes: u8,
     root: Colouring,
 ) -> Result<Option<Lemma>, AllocError>
-    ensures read { IfOk result (λ read. with_rest (lemma_of reading.old.source.size) read (left_of reading.new.source reading.new.nodes reading.new.listed) ≡ lemma_read mover passes root (left_of reading.old.source reading.old.nodes reading.old.listed)) }
+    ensures read { IfOk result (λ read. with_rest (lemma_of reading.old.source.size) read (left_of reading.new.source reading.new.nodes reading.new.listed) ≡ lemma_read (version_number version) mover passes root (left_of reading.old.source reading.old.nodes reading.old.listed)) }
     ensures size { reading.new.source.size ≡ reading.old.source.size }
 {
-    let Some((absent, line)) = read_listed(alloc, reading)? else {
+    let Some(first) = next_line(reading) else {
+        return Ok(None);
+    };
+    let Some(((had, absent), line)) = read_lists(alloc, reading, version, first)? else {
         return Ok(None);
     };
     let Some(body) = read_body(alloc, reading, &line)? else {
@@ -290,6 +349,7 @@ fn read_lemma(
         mover,
         passes,
         root,
+        had,
         absent,
         body,
     }))
@@ -299,9 +359,10 @@ fn read_lemma(
 fn read_lemma_of(
     alloc: Global,
     reading: &mut Reading<'_>,
+    version: Version,
     line: &Line,
 ) -> Result<Option<Lemma>, AllocError>
-    ensures read { IfOk result (λ read. with_rest (lemma_of reading.old.source.size) read (left_of reading.new.source reading.new.nodes reading.new.listed) ≡ lemma_of_line (line_value reading.old.source.size line.now) (left_of reading.old.source reading.old.nodes reading.old.listed)) }
+    ensures read { IfOk result (λ read. with_rest (lemma_of reading.old.source.size) read (left_of reading.new.source reading.new.nodes reading.new.listed) ≡ lemma_of_line (version_number version) (line_value reading.old.source.size line.now) (left_of reading.old.source reading.old.nodes reading.old.listed)) }
     ensures size { reading.new.source.size ≡ reading.old.source.size }
 {
     match line {
@@ -309,7 +370,7 @@ fn read_lemma_of(
             mover,
             passes,
             root,
-        } => read_lemma(alloc, reading, *mover, *passes, *root),
+        } => read_lemma(alloc, reading, version, *mover, *passes, *root),
         _ => Ok(None),
     }
 }
@@ -322,8 +383,12 @@ fn is_main(line: &Line) -> bool
 }
 
 /// The lemmas up to the line `main`.
-fn read_lemmas(alloc: Global, reading: &mut Reading<'_>) -> Result<Option<Vec<Lemma>>, AllocError>
-    ensures read { IfOk result (λ read. with_rest (λ lemmas. map (lemma_of reading.old.source.size) lemmas.items) read (left_of reading.new.source reading.new.nodes reading.new.listed) ≡ all_lemmas_read (left_of reading.old.source reading.old.nodes reading.old.listed)) }
+fn read_lemmas(
+    alloc: Global,
+    reading: &mut Reading<'_>,
+    version: Version,
+) -> Result<Option<Vec<Lemma>>, AllocError>
+    ensures read { IfOk result (λ read. with_rest (λ lemmas. map (lemma_of reading.old.source.size) lemmas.items) read (left_of reading.new.source reading.new.nodes reading.new.listed) ≡ all_lemmas_read (version_number version) (left_of reading.old.source reading.old.nodes reading.old.listed)) }
     ensures size { reading.new.source.size ≡ reading.old.source.size }
 {
     let mut lemmas = Vec::new(alloc);
@@ -334,7 +399,7 @@ fn read_lemmas(alloc: Global, reading: &mut Reading<'_>) -> Result<Option<Vec<Le
         if is_main(&line) {
             return Ok(Some(lemmas));
         }
-        let Some(lemma) = read_lemma_of(alloc, reading, &line)? else {
+        let Some(lemma) = read_lemma_of(alloc, reading, version, &line)? else {
             return Ok(None);
         };
         lemmas.push(lemma)?;
@@ -342,17 +407,18 @@ fn read_lemmas(alloc: Global, reading: &mut Reading<'_>) -> Result<Option<Vec<Le
     Ok(None)
 }
 
-/// The winner of a header for this size.
-fn header_of(size: Size, line: &Line) -> Option<Colour>
-    ensures { (n : ℕ) → result ≡ as_header size (line_value n line.now) }
+/// The version and the winner of a header for this size.
+fn header_of(size: Size, line: &Line) -> Option<(Version, Colour)>
+    ensures { (n : ℕ) → option_map header_value result ≡ as_header size (line_value n line.now) }
 {
     match line {
         Line::Header {
+            version,
             size: named,
             winner,
         } => {
             if *named == u32::from(size.rows()) {
-                Some(*winner)
+                Some((*version, *winner))
             } else {
                 None
             }
@@ -361,10 +427,10 @@ fn header_of(size: Size, line: &Line) -> Option<Colour>
     }
 }
 
-/// The winner, from the first line.
+/// The version and the winner, from the first line.
 #[tactic(auto, unfolding(crate::specs::Reading::line_as))]
-fn next_header(reading: &mut Reading<'_>, size: Size) -> Option<Colour>
-    ensures read { with_rest (λ winner. winner) result (left_of reading.new.source reading.new.nodes reading.new.listed) ≡ line_as (as_header size) (left_of reading.old.source reading.old.nodes reading.old.listed) }
+fn next_header(reading: &mut Reading<'_>, size: Size) -> Option<(Version, Colour)>
+    ensures read { with_rest header_value result (left_of reading.new.source reading.new.nodes reading.new.listed) ≡ line_as (as_header size) (left_of reading.old.source reading.old.nodes reading.old.listed) }
     ensures size { reading.new.source.size ≡ reading.old.source.size }
 {
     match next_line(reading) {
@@ -394,10 +460,10 @@ fn read_claim(
     requires { reading.old.source.size ≡ size }
     ensures { IfOk result (λ read. option_map claim_of read ≡ claim_read size (left_of reading.old.source reading.old.nodes reading.old.listed)) }
 {
-    let Some(winner) = next_header(reading, size) else {
+    let Some((version, winner)) = next_header(reading, size) else {
         return Ok(None);
     };
-    let Some(lemmas) = read_lemmas(alloc, reading)? else {
+    let Some(lemmas) = read_lemmas(alloc, reading, version)? else {
         return Ok(None);
     };
     let Some(main) = read_main(alloc, reading)? else {
@@ -407,6 +473,7 @@ fn read_claim(
         return Ok(None);
     }
     Ok(Some(Certificate {
+        version,
         size,
         winner,
         lemmas,
@@ -433,7 +500,7 @@ pub fn read_cert(alloc: Global, size: Size, bytes: &[u8]) -> Result<Certificate,
     ensures text { IfOk result (λ certificate. text (claim_of certificate) ≡ Some bytes.now) }
     ensures size { IfOk result (λ certificate. certificate.size ≡ size) }
     ensures within { IfOk result (λ certificate. IsWithinLimits (claim_of certificate)) }
-    ensures malformed { result ≡ Err SourceFault.Malformed → (z : Claim) → z.version ≡ 1 → z.size ≡ size → text z ≡ Some bytes.now → ¬ IsWithinLimits z }
+    ensures malformed { result ≡ Err SourceFault.Malformed → (z : Claim) → z.size ≡ size → text z ≡ Some bytes.now → ¬ IsWithinLimits z }
     ensures fault { IfErr result (λ fault. (fault ≡ SourceFault.Malformed) ⊎ (fault ≡ SourceFault.Memory)) }
 {
     let mut reading = Reading {

@@ -1,6 +1,6 @@
 //! Lines that a reader gives, however it cuts its bytes, and where it fails.
 
-use crate::{Line, MAX_LINE, NodeSource, ReaderSource, SourceFault};
+use crate::{Line, MAX_LINE, NodeSource, ReaderSource, SourceFault, Version};
 use go_points::{Colour, Size, Turn};
 use std::io;
 use std::io::{ErrorKind, Read};
@@ -64,6 +64,7 @@ fn the_same_lines_however_the_bytes_are_cut(rt: HostRuntime) {
         assert_eq!(rt;
             source.next(),
             Ok(Some(Line::Header {
+                version: Version::One,
                 size: 3,
                 winner: Colour::Black
             }))

@@ -2,7 +2,8 @@
 
 ghost use Rattle.std.specs.Prelude.{◌≡◌, ◌<◌, ◌^◌, ◌∷◌, length, option_map};
 ghost use Rattle.proof_cert.specs.Stage.{line_value};
-ghost use Rattle.proof_cert.specs.Source.{lines_read, source_of, answer, answer_value, later};
+ghost use Rattle.proof_cert.specs.Source.{source_of, answer, answer_value, later};
+ghost use Rattle.proof_cert.specs.Text.{lines};
 
 use crate::line::{Line, place_of_byte};
 use go_points::Size;
@@ -34,11 +35,12 @@ pub(crate) struct TextSource<'a> {
 
 impl<'a> Model for TextSource<'a> {
     ghost use Rattle.std.specs.Prelude.{◌+◌, ◌^◌, ◌<◌, length};
-    ghost use Rattle.proof_cert.specs.Source.{Source, lines_read};
+    ghost use Rattle.proof_cert.specs.Source.{Source};
+    ghost use Rattle.proof_cert.specs.Text.{lines};
 
     ghost Value = { Source };
 
-    ghost view = { λ a. record { size = a.size; left = lines_read a.size a.left.now; number = a.number; has_failed = a.has_failed } };
+    ghost view = { λ a. record { size = a.size; left = lines a.size a.left.now; number = a.number; has_failed = a.has_failed } };
 
     ghost invariant = { λ a. a.number + length a.left.now < 2 ^ 63 };
 }
@@ -46,7 +48,7 @@ impl<'a> Model for TextSource<'a> {
 /// The first line of a text that is not empty, if its bytes spell one and a line feed ends it; and what stands behind it.
 fn first_line<'a>(size: Size, text: &'a [u8]) -> (Option<Line>, &'a [u8])
     requires { 0 < length text.now }
-    ensures lines { lines_read size text.now ≡ option_map (line_value size) result.0 ∷ lines_read size result.1.now }
+    ensures lines { lines size text.now ≡ option_map (line_value size) result.0 ∷ lines size result.1.now }
     ensures shorter { length result.1.now < length text.now }
 {
     match place_of_byte(text, b'\n') {

@@ -3,14 +3,15 @@
 ghost use Rattle.std.specs.Prelude.{◌≡◌, ◌*◌, length, map, Some, nat_eq};
 ghost use Rattle.std.specs.List.{list_all};
 ghost use Rattle.go_points.specs.Ply.{ply_of};
-ghost use Rattle.proof_cert.specs.Lines.{turn_fits, node_lines, branch_lines, lemma_lines, lemmas_lines, lines_of, not_line};
+ghost use Rattle.proof_cert.specs.Lines.{turn_fits, node_lines, branch_lines, lemma_lines, lemmas_lines, lines_of, had_spelled, not_line};
 ghost use Rattle.proof_cert.specs.Text.{is_spelled};
 ghost use Rattle.proof_cert.specs.Text.{is_spelled_number as number_test};
-ghost use Rattle.proof_cert.specs.Stage.{line_value};
+ghost use Rattle.proof_cert.specs.Stage.{line_value, version_number};
 ghost use Rattle.proof_cert.specs.Certificate.{node_of, replies_of, lemma_of, claim_of};
 
 use crate::certificate::{Certificate, Lemma, Node};
 use crate::line::Line;
+use crate::version::Version;
 use go_points::{Colouring, Size, Turn};
 
 /// The first number that has more than 8 digits.
@@ -45,12 +46,17 @@ pub(crate) fn is_spelled_line(size: Size, line: &Line) -> bool
     ensures { result ≡ is_spelled size (Some (line_value size line.now)) }
 {
     match line {
-        Line::Header { size, winner: _ } => is_spelled_number(*size as usize),
+        Line::Header {
+            version: _,
+            size,
+            winner: _,
+        } => is_spelled_number(*size as usize),
         Line::Lemma {
             mover: _,
             passes,
             root,
         } => *passes <= 1 && is_of_size(size, root),
+        Line::Had(colouring) => is_of_size(size, colouring),
         Line::Not(colouring) => is_of_size(size, colouring),
         Line::Use(lemma) => is_spelled_number(*lemma as usize),
         Line::Play(turn) => is_turn_on(size, *turn),
@@ -101,23 +107,46 @@ fn are_spelled_colourings(size: Size, listed: &[Colouring]) -> bool
     true
 }
 
+/// Whether the `had` line of the colouring has a spelling in a claim of this version.
+fn is_spelled_had(version: Version, size: Size, colouring: &Colouring) -> bool
+    ensures { result ≡ is_spelled size (had_spelled (version_number version) colouring.now) }
+{
+    match version {
+        Version::One => false,
+        Version::Two => is_of_size(size, colouring),
+    }
+}
+
+/// Whether the lines of the colourings that must have occurred have a spelling.
+fn are_spelled_had(version: Version, size: Size, had: &[Colouring]) -> bool
+    ensures { result ≡ list_all (is_spelled size) (map (had_spelled (version_number version)) had.now) }
+{
+    for colouring in had {
+        if !is_spelled_had(version, size, colouring) {
+            return false;
+        }
+    }
+    true
+}
+
 /// Whether the lines of the lemma have a spelling.
 #[tactic(auto, using(crate::proofs::Certificates::list_all_joined))]
-fn is_spelled_lemma(size: Size, lemma: &Lemma) -> bool
-    ensures { result ≡ list_all (is_spelled size) (lemma_lines 1 (lemma_of size lemma.now)) }
+fn is_spelled_lemma(version: Version, size: Size, lemma: &Lemma) -> bool
+    ensures { result ≡ list_all (is_spelled size) (lemma_lines (version_number version) (lemma_of size lemma.now)) }
 {
     lemma.passes <= 1
         && is_of_size(size, &lemma.root)
+        && are_spelled_had(version, size, lemma.had.as_slice())
         && are_spelled_colourings(size, lemma.absent.as_slice())
         && is_spelled_node(size, &lemma.body)
 }
 
 /// Whether the lines of the lemmas have a spelling.
-fn are_spelled_lemmas(size: Size, lemmas: &[Lemma]) -> bool
-    ensures { result ≡ list_all (is_spelled size) (lemmas_lines 1 (map (lemma_of size) lemmas.now)) }
+fn are_spelled_lemmas(version: Version, size: Size, lemmas: &[Lemma]) -> bool
+    ensures { result ≡ list_all (is_spelled size) (lemmas_lines (version_number version) (map (lemma_of size) lemmas.now)) }
 {
     for lemma in lemmas {
-        if !is_spelled_lemma(size, lemma) {
+        if !is_spelled_lemma(version, size, lemma) {
             return false;
         }
     }
@@ -131,6 +160,10 @@ pub(crate) fn is_spelled_claim(certificate: &Certificate) -> bool
 {
     let rows = certificate.size.rows() as usize;
     is_spelled_number(rows)
-        && are_spelled_lemmas(certificate.size, certificate.lemmas.as_slice())
+        && are_spelled_lemmas(
+            certificate.version,
+            certificate.size,
+            certificate.lemmas.as_slice(),
+        )
         && is_spelled_node(certificate.size, &certificate.main)
 }

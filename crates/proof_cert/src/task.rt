@@ -1,21 +1,23 @@
 //! What a certificate has still to give, line by line.
 
 ghost use Rattle.std.specs.Prelude.{◌≡◌, ◌∷◌, ◌++◌, [], IfOk, IfSome, IfNone, Some, map, option_map};
-ghost use Rattle.proof_cert.specs.Lines.{node_lines, lemma_lines};
-ghost use Rattle.proof_cert.specs.Stage.{line_value};
+ghost use Rattle.proof_cert.specs.Lines.{node_lines, lemma_lines, had_spelled};
+ghost use Rattle.proof_cert.specs.Stage.{line_value, version_number};
 ghost use Rattle.proof_cert.specs.Certificate.{node_of, lemma_of};
 ghost use Rattle.proof_cert.specs.Held.{spelled_line, reply_lines, task_lines, lines_left};
 
 use crate::certificate::{Lemma, Node};
 use crate::line::Line;
 use crate::spelled::{is_spelled_line, is_spelled_number};
+use crate::version::Version;
 use go_points::{Colouring, Size, Turn};
 use std::alloc::AllocError;
 
 /// A part of a certificate.
 #[derive(Clone, Copy)]
 pub(crate) enum Task<'a> {
-    Lemmas(&'a [Lemma]),
+    Lemmas(Version, &'a [Lemma]),
+    Had(Version, &'a [Colouring]),
     Listed(&'a [Colouring]),
     Main(&'a Node),
     Tree(&'a Node),
@@ -31,6 +33,16 @@ fn if_spelled(size: Size, line: Line) -> Option<Line>
         Some(line)
     } else {
         None
+    }
+}
+
+/// The line of a colouring that must have occurred, unless it has no spelling in a claim of this version.
+fn had_line(version: Version, size: Size, colouring: &Colouring) -> Option<Line>
+    ensures { option_map (line_value size) result ≡ spelled_line size (had_spelled (version_number version) colouring.now) }
+{
+    match version {
+        Version::One => None,
+        Version::Two => if_spelled(size, Line::Had(*colouring)),
     }
 }
 
@@ -64,15 +76,17 @@ fn open_node<'a>(
 /// The first line of the lemma; the rest becomes tasks.
 #[tactic(auto, using(crate::proofs::Tasks::left_pushed, crate::proofs::Tasks::lemma_left))]
 fn open_lemma<'a>(
+    version: Version,
     size: Size,
     lemma: &'a Lemma,
     tasks: &mut Vec<Task<'a>>,
 ) -> Result<Option<Line>, AllocError>
-    ensures { IfOk result (λ line. map (spelled_line size) (lemma_lines 1 (lemma_of size lemma.now) ++ lines_left size tasks.old.items) ≡ option_map (line_value size) line ∷ map (spelled_line size) (lines_left size tasks.new.items)) }
+    ensures { IfOk result (λ line. map (spelled_line size) (lemma_lines (version_number version) (lemma_of size lemma.now) ++ lines_left size tasks.old.items) ≡ option_map (line_value size) line ∷ map (spelled_line size) (lines_left size tasks.new.items)) }
 {
     tasks.push(Task::End)?;
     tasks.push(Task::Tree(&lemma.body))?;
     tasks.push(Task::Listed(lemma.absent.as_slice()))?;
+    tasks.push(Task::Had(version, lemma.had.as_slice()))?;
     Ok(if_spelled(
         size,
         Line::Lemma {
@@ -97,7 +111,7 @@ fn open_reply<'a>(
 }
 
 /// The first line of the task, if it has one; the rest becomes tasks.
-#[tactic(auto, using(crate::proofs::Tasks::left_pushed, crate::proofs::Tasks::lemmas_first, crate::proofs::Tasks::listed_first, crate::proofs::Tasks::reply_first, crate::proofs::Tasks::lemmas_none, crate::proofs::Tasks::listed_none, crate::proofs::Tasks::replies_none))]
+#[tactic(auto, using(crate::proofs::Tasks::left_pushed, crate::proofs::Tasks::lemmas_first, crate::proofs::Tasks::had_first, crate::proofs::Tasks::listed_first, crate::proofs::Tasks::reply_first, crate::proofs::Tasks::lemmas_none, crate::proofs::Tasks::had_none, crate::proofs::Tasks::listed_none, crate::proofs::Tasks::replies_none))]
 pub(crate) fn open<'a>(
     size: Size,
     task: Task<'a>,
@@ -107,12 +121,19 @@ pub(crate) fn open<'a>(
     ensures first { IfOk result (λ first. IfSome first (λ line. map (spelled_line size) (task_lines size task.entry ++ lines_left size tasks.old.items) ≡ option_map (line_value size) line ∷ map (spelled_line size) (lines_left size tasks.new.items))) }
 {
     match task {
-        Task::Lemmas(lemmas) => {
+        Task::Lemmas(version, lemmas) => {
             let Some((lemma, others)) = lemmas.split_first() else {
                 return Ok(None);
             };
-            tasks.push(Task::Lemmas(others))?;
-            Ok(Some(open_lemma(size, lemma, tasks)?))
+            tasks.push(Task::Lemmas(version, others))?;
+            Ok(Some(open_lemma(version, size, lemma, tasks)?))
+        }
+        Task::Had(version, had) => {
+            let Some((colouring, others)) = had.split_first() else {
+                return Ok(None);
+            };
+            tasks.push(Task::Had(version, others))?;
+            Ok(Some(had_line(version, size, colouring)))
         }
         Task::Listed(listed) => {
             let Some((colouring, others)) = listed.split_first() else {

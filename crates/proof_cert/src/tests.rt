@@ -34,6 +34,7 @@ fn play(alloc: Global, turn: Turn, below: Node) -> Result<Node, Fail> {
 
 fn claim(rt: &impl Abort, winner: Colour, lemmas: Vec<Lemma>, main: Node) -> Certificate {
     Certificate {
+        version: Version::One,
         size: size_of(rt, 3),
         winner,
         lemmas,
@@ -53,6 +54,7 @@ fn one_lemma(
         mover: Colour::Black,
         passes,
         root: colouring(rt, 3, "O.OXO...."),
+        had: Vec::new(alloc),
         absent: listed.to_vec(alloc)?,
         body: play(alloc, at(rt, 1, 0), Node::Won)?,
     })?;
@@ -71,6 +73,7 @@ fn answered(alloc: Global, rt: &impl Abort) -> Result<Certificate, Fail> {
         mover: Colour::Black,
         passes: 0,
         root: colouring(rt, 3, "O.OXO...."),
+        had: Vec::new(alloc),
         absent: Vec::new(alloc),
         body: Node::All(replies),
     })?;
@@ -93,6 +96,7 @@ fn meeting(alloc: Global, rt: &impl Abort) -> Result<Certificate, Fail> {
         mover: Colour::White,
         passes: 0,
         root: colouring(rt, 3, "O......XX"),
+        had: Vec::new(alloc),
         absent: Vec::new(alloc),
         body: play(alloc, Turn::Pass, Node::All(passed))?,
     })?;
@@ -341,7 +345,9 @@ fn reads_no_other_bytes(rt: HostRuntime) -> Result<(), Fail> {
         "tsucert 1 3 B\nmain\nplay ba\nend\n",
         "tsucert 1 3 B\nplay ba\nwon\nend\n",
         "tsucert 1 4 B\nmain\nplay ba\nwon\nend\n",
-        "tsucert 2 3 B\nmain\nplay ba\nwon\nend\n",
+        "tsucert 3 3 B\nmain\nplay ba\nwon\nend\n",
+        "tsucert 02 3 B\nmain\nplay ba\nwon\nend\n",
+        "tsucert 3 B\nmain\nplay ba\nwon\nend\n",
         "tsucert 1 03 B\nmain\nplay ba\nwon\nend\n",
         "tsucert 1 3 B \nmain\nplay ba\nwon\nend\n",
         "tsucert 1 3 B\r\nmain\r\nwon\r\nend\r\n",

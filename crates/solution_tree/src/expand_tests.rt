@@ -3,7 +3,7 @@
 use crate::{Answer, Expand, expand};
 use cert_check::{Checked, check_held};
 use go_points::{Colour, Colouring, Point, PointSet, Size, Turn};
-use proof_cert::{Certificate, Lemma, Node};
+use proof_cert::{Certificate, Lemma, Node, Version};
 use std::alloc::{AllocError, Global};
 use std::process::Abort;
 use std::test::Fail;
@@ -114,12 +114,14 @@ fn a_lemma_for_each_set(alloc: Global, rt: &impl Abort, columns: u8) -> Result<C
             mover: Colour::Black,
             passes: 1,
             root: root(rt, *stones),
+            had: Vec::new(alloc),
             absent: Vec::new(alloc),
             body: replies(alloc, rt, order.as_slice(), columns, *stones)?,
         })?;
     }
     let main = replies(alloc, rt, order.as_slice(), columns, 0)?;
     let certificate = Certificate {
+        version: Version::One,
         size: nine(rt),
         winner: Colour::White,
         lemmas,

@@ -1,21 +1,23 @@
 //! States of the target game, and the play from them.
 
-ghost use Rattle.std.specs.Prelude.{◌≡◌, ◌≤◌, ◌<◌, ◌&&◌, true, false, [], ◌∷◌, IsTrue, IfOk, IfErr, IfSome, IfNone, OnOk, OnErr, None, ◌*◌, length};
+ghost use Rattle.std.specs.Prelude.{◌≡◌, ◌⊎◌, ◌≤◌, ◌<◌, ◌&&◌, true, false, [], ◌∷◌, IsTrue, IsFalse, IfOk, IfErr, IfSome, IfNone, OnOk, OnErr, None, ◌*◌, length};
+ghost use Rattle.std.specs.List.{All};
 ghost use Rattle.go_points.specs.Grid.{cell_at, same_cell, side_of};
 ghost use Rattle.go_points.specs.Liberty.{first_without_liberty};
 ghost use Rattle.go_points.specs.Move.{after_move};
 ghost use Rattle.go_points.specs.Place.{IsOn, number_of};
 ghost use Rattle.go_points.specs.Ply.{ply_of, move, pass};
 ghost use Rattle.go_points.specs.declared.Cell.TheVariants.{Empty};
-ghost use Rattle.go_turns.specs.History.{place_in, has_occurred};
+ghost use Rattle.go_turns.specs.History.{place_in, has_occurred, repeats};
 ghost use Rattle.stone_key.specs.Key.{key_of};
-ghost use Rattle.target_game.specs.State.{Game, GameState, GameProblem, Line, start, state_alone};
+ghost use Rattle.target_game.specs.State.{Game, GameState, GameProblem, Line, start, state_alone, state_with};
 ghost use Rattle.target_game.specs.Legal.{legal, holds_point};
 ghost use Rattle.target_game.specs.Left.{IsNextOpen, NoneLegal, is_repeat, line_if};
 ghost use Rattle.target_game.specs.Next.{next};
 ghost use Rattle.target_game.specs.Over.{over, targets_stand};
 ghost use Rattle.target_game.specs.Kept.{at_fault, IsAtFault};
 
+use crate::history::with_others;
 use crate::problem::Problem;
 use crate::questions::all_hold;
 use go_points::{Cell, Colour, Colouring, Point, PointSet, Size, Turn};
@@ -110,6 +112,38 @@ impl<B: Board, S: Seen> State<B, S> {
         ensures err { IfErr result (λ e. IsAtFault problem.now.game.size (first_without_liberty problem.now.game.size colouring.now) e) }
     {
         match Record::with_history(alloc, &[*colouring], 0, passes) {
+            Ok(played) => Ok(State {
+                played,
+                mover,
+                targets: *problem.targets(),
+                defender: problem.defender(),
+                region: *problem.region(),
+            }),
+            Err(fault) => Err(at_fault(fault)),
+        }
+    }
+
+    /// The same, with these other colourings in the history too, where they are there once. They are only remembered.
+    pub fn at_with(
+        alloc: Global,
+        problem: &Problem,
+        colouring: &Colouring,
+        others: &[Colouring],
+        mover: Colour,
+        passes: u64,
+    ) -> Result<State<B, S>, AtFault>
+        requires size { side_of colouring.now ≡ problem.now.game.size }
+        requires sizes { All (λ c. side_of c ≡ problem.now.game.size) others.now }
+        requires once { IsFalse (repeats others.now) }
+        requires few { passes ≤ 1 }
+        ensures ok { IfOk result (λ s. s ≡ record { state = state_with problem.now.game colouring.now others.now mover passes; before = [] }) }
+        ensures liberties { OnOk result (first_without_liberty problem.now.game.size colouring.now ≡ None) }
+        ensures err { IfErr result (λ e. (e ≡ AtFault.Memory) ⊎ IsAtFault problem.now.game.size (first_without_liberty problem.now.game.size colouring.now) e) }
+    {
+        let Ok(history) = with_others(alloc, colouring, others) else {
+            return Err(AtFault::Memory);
+        };
+        match Record::with_history(alloc, history.as_slice(), 0, passes) {
             Ok(played) => Ok(State {
                 played,
                 mover,

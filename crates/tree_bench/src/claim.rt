@@ -3,7 +3,7 @@
 use crate::places::{Places, board, colouring, holds, problem, sets, with};
 use cert_check::{Checked, check_held};
 use go_points::{Colour, Size, Turn};
-use proof_cert::{Certificate, Lemma, Node};
+use proof_cert::{Certificate, Lemma, Node, Version};
 use std::alloc::{AllocError, Global};
 use std::io;
 use std::io::ErrorKind;
@@ -13,6 +13,7 @@ pub fn checked_claim(alloc: Global, columns: u8) -> io::Result<Checked> {
     let size = board()?;
     let order = sets(alloc, columns)?;
     let certificate = Certificate {
+        version: Version::One,
         size,
         winner: Colour::White,
         lemmas: lemmas(alloc, size, order.as_slice(), columns)?,
@@ -37,6 +38,7 @@ fn lemmas(
             mover: Colour::Black,
             passes: 1,
             root: colouring(size, *stones),
+            had: Vec::new(alloc),
             absent: Vec::new(alloc),
             body: replies(alloc, size, sets, columns, *stones)?,
         })?;

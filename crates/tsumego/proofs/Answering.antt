@@ -16,7 +16,7 @@ use Rattle.proof_cert.specs.declared.write.CertWrite.TheVariants.{NoSpelling, Wr
 use Rattle.proof_cert.specs.Text.{text}
 use Rattle.cert_check.specs.Checked.{CheckedClaim, IsChecked}
 use Rattle.cert_check.specs.Expand.{expand}
-use Rattle.cert_check.specs.Laws.{AcceptsVersionOneTexts, ValidClaimsAnswer}
+use Rattle.cert_check.specs.Laws.{AcceptsValidTexts, ValidClaimsAnswer}
 use Rattle.solution_tree.specs.Laws.{ExpansionsAscend}
 use Rattle.tsumego.specs.declared.command_line.Command.{Command}
 use Rattle.tsumego.specs.declared.command_line.Command.TheVariants.{Solve}
@@ -64,14 +64,14 @@ module _ (k : CheckedClaim) (checked : IsChecked k.problem (claim_of k.certifica
   pub too_large : IsSolutionOf k None → MayAnswer false k.problem Unanswered too_large_text
   too_large large = inr (refl, refl, (claim_of k.certificate, checked.valid, large), refl)
 
-  pub claim_solves : AcceptsVersionOneTexts → CanonicalReads → IsProblem k.problem → 1 ≤ k.problem.game.size → k.problem.game.size ≤ 25 → (tree : GameTree) → IsTrue (is_tree tree) → tree ≡ canonical k.problem
+  pub claim_solves : AcceptsValidTexts → CanonicalReads → IsProblem k.problem → 1 ≤ k.problem.game.size → k.problem.game.size ≤ 25 → (tree : GameTree) → IsTrue (is_tree tree) → tree ≡ canonical k.problem
       → (bytes : List ℕ) → claim_text k ≡ Some bytes → Solved true k.problem (line (tree_text tree) ++ bytes)
   claim_solves accepts read kept low high tree whole is bytes spelled =
       let q = k.problem in
       let z = claim_of k.certificate in (
         z.winner,
         bytes,
-        (accepts q bytes z.winner low high).1 (z, spelled, refl, checked.limits, checked.valid, refl),
+        (accepts q bytes z.winner low high).1 (z, spelled, checked.limits, checked.valid, refl),
         record { whole = subst (λ t. IsTrue (is_tree t)) is whole; problem = read q kept },
         ap (λ t. line (tree_text t) ++ bytes) is,
       )

@@ -11,7 +11,7 @@ use Rattle.target_game.specs.declared.within.Within.TheVariants as within
 use Rattle.sgf_text.specs.Trees.{GameTree}
 use Rattle.tsumego_problem.specs.Values.{skip_white}
 use Rattle.tsumego_problem.specs.Walk.{history_limit}
-use Rattle.proof_cert.specs.Source.{lines_read}
+use Rattle.proof_cert.specs.Text.{lines}
 use Rattle.cert_check.specs.Verdict.{Verdict, accepted, rejected}
 use Rattle.cert_check.proofs.ReadingClaims.{accepted_sides_win}
 use Rattle.sgf_text.specs.Text.{tree_text}
@@ -43,7 +43,7 @@ check_is_true bytes written (inr (failed, _)) = absurd cc
 check_is_true bytes written (inl (inl (refusal, r, e, t))) = absurd cc
 check_is_true bytes written (inl (inr (q, tree, n, r, h))) =
     let (x, e, t) = accepts q.game.size (claim_verdict q (skip_white (drop n bytes))) written h.1 in
-    (q, x, t, side_wins bytes tree n q x r (accepted_sides_win q (lines_read q.game.size (skip_white (drop n bytes))) x (placed history_limit tree q r.problem).place e))
+    (q, x, t, side_wins bytes tree n q x r (accepted_sides_win q (lines q.game.size (skip_white (drop n bytes))) x (placed history_limit tree q r.problem).place e))
 
 apart : true ≡ false → ⊥
 apart h = absurd (cc h)
@@ -128,7 +128,7 @@ proof_is_true steps table bytes written (inl (inr (q, tree, n, r, inl (e, (x, cl
     let whole : written ≡ front ++ 10 ∷ claim = text ∙ append_assoc front (10 ∷ []) claim in (
       q,
       x,
-      side_wins bytes tree n q x r (accepted_sides_win q (lines_read q.game.size claim) x (placed history_limit tree q r.problem).place judged),
+      side_wins bytes tree n q x r (accepted_sides_win q (lines q.game.size claim) x (placed history_limit tree q r.problem).place judged),
       record {
         tree = canonical q;
         end = length front;

@@ -12,7 +12,7 @@ use Rattle.sgf_text.specs.Followers.{byte_limit}
 use Rattle.sgf_text.specs.Laws.{FrontsDecide}
 use Rattle.tsumego_problem.specs.Values.{skip_white}
 use Rattle.tsumego_problem.specs.Refusals.{Refuses}
-use Rattle.proof_cert.specs.Source.{lines_read}
+use Rattle.proof_cert.specs.Text.{lines}
 use Rattle.cert_check.specs.Body.{Why}
 use Rattle.cert_check.specs.Stage.{why_value}
 use Rattle.cert_check.specs.Verdict.{verdict, accepted, rejected}
@@ -70,13 +70,13 @@ told_none (Some x) end = sym end
 -- ---- the claim
 
 pub accepted_after : {E : Type 0} (q : GameProblem) (front : List ℕ) (told : Option (List ℕ)) (x : Colour) (r : Result Reply E)
-    → (bytes : List ℕ) × Tells told bytes × (verdict q (lines_read q.game.size (front ++ bytes)) ≡ accepted x)
+    → (bytes : List ℕ) × Tells told bytes × (verdict q (lines q.game.size (front ++ bytes)) ≡ accepted x)
     → IfOk r (λ s. (s.status ≡ Answered) × (string_bytes s.text ≡ wins_text x)) → IfOk r (λ s. IsJudgedAfter q front told s.status (string_bytes s.text))
 accepted_after q front told x (Ok s) (bytes, tells, is) (status, text) = (bytes, tells, ap₂ (λ a b. (a, b)) status text ∙ sym (ap (check_answer q.game.size) is))
 accepted_after q front told x (Err e) all said = tt
 
 pub rejected_after : {E : Type 0} (q : GameProblem) (front : List ℕ) (told : Option (List ℕ)) (e : Reject) (r : Result Reply E) → IfOk r (λ s. IsRejectionOf q.game.size e s.status (string_bytes s.text))
-    → ((why : Why) → why_value q.game.size e.why ≡ Some why → (bytes : List ℕ) × Tells told bytes × (verdict q (lines_read q.game.size (front ++ bytes)) ≡ rejected e.place why))
+    → ((why : Why) → why_value q.game.size e.why ≡ Some why → (bytes : List ℕ) × Tells told bytes × (verdict q (lines q.game.size (front ++ bytes)) ≡ rejected e.place why))
     → IfOk r (λ s. IsJudgedAfter q front told s.status (string_bytes s.text))
 rejected_after q front told e (Ok s) (why, given, status, text) all =
     let (bytes, tells, is) = all why given in

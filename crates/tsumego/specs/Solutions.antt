@@ -12,7 +12,7 @@ use Rattle.tsumego_problem.specs.Walk.{problem_of}
 use Rattle.tsumego_problem.specs.Below.{Below}
 use Rattle.tsumego_problem.specs.Canonical.{canonical, solution, ascends}
 use Rattle.proof_cert.specs.Claim.{Claim}
-use Rattle.proof_cert.specs.Source.{lines_read}
+use Rattle.proof_cert.specs.Text.{lines}
 use Rattle.cert_check.specs.Verdict.{Verdict, accepted, verdict}
 use Rattle.cert_check.specs.Validity.{IsValid}
 use Rattle.cert_check.specs.Expand.{expand}
@@ -23,9 +23,9 @@ use Rattle.tsumego.specs.declared.status.Status.{Status}
 use Rattle.tsumego.specs.declared.status.Status.TheVariants.{Answered, Unanswered}
 use Rattle.tsumego.specs.Texts.{line, unknown_text, too_large_text}
 
--- the verdict on a claim's lines, of which those of version 2 count as malformed so far
+-- the verdict on a claim's lines
 abbrev pub claim_verdict : GameProblem → List ℕ → Verdict
-claim_verdict q claim = verdict q (lines_read q.game.size claim)
+claim_verdict q claim = verdict q (lines q.game.size claim)
 
 -- A tree as records have it, of this same problem, the order of the history included.
 pub record IsRecordOf (q : GameProblem) (tree : GameTree) : Type 0 where

@@ -14,7 +14,7 @@ use crate::counting::Counting;
 use crate::status::Status;
 use crate::texts::{NO_MEMORY, TOO_LARGE};
 use cert_check::Checked;
-use cert_check::laws::{accepts_version_one_texts, valid_claims_answer};
+use cert_check::laws::{accepts_valid_texts, valid_claims_answer};
 use proof_cert::write_cert;
 use sgf_text::{Tree, WriteFault, write_bytes, write_tree};
 use solution_tree::laws::expansions_ascend;
@@ -109,7 +109,7 @@ fn said_as_tree(alloc: Global, checked: &Checked) -> Result<Said, AllocError>
 fn said_as_claim(alloc: Global, checked: &Checked) -> Result<Said, AllocError>
     ensures { IfOk result (λ r. MayAnswer true checked.now.problem r.status r.text.items) }
 {
-    accepts_version_one_texts();
+    accepts_valid_texts();
     canonical_reads();
     problems_are_kept(checked.problem());
     let _winner = checked.winner();

@@ -54,7 +54,7 @@ fn claims_without_lemmas(rt: HostRuntime) {
             "rejected line 1: C01 malformed\n",
         ),
         (
-            "(;FF[4]GM[1]SZ[3]AB[ab]AW[aa]PL[B]TR[aa]SQ[ba])\ntsucert 2 3 B\nmain\n",
+            "(;FF[4]GM[1]SZ[3]AB[ab]AW[aa]PL[B]TR[aa]SQ[ba])\ntsucert 3 3 B\nmain\n",
             Status::Unanswered,
             "rejected line 1: C01 malformed\n",
         ),

@@ -21,6 +21,8 @@ mod gtp;
 mod gtp_tests;
 mod input;
 pub mod laws;
+#[cfg(test)]
+mod past_tests;
 mod record;
 #[cfg(test)]
 mod record_tests;

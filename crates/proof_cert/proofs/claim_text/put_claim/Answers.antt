@@ -1,5 +1,6 @@
 use Rattle.std.proofs.Common.{◌++◌, map, Some}
 use Rattle.proof_cert.specs.Lines.{header_line, main_line, end_line, node_lines, lemmas_lines, lines_of}
+use Rattle.proof_cert.specs.Stage.{version_number}
 use Rattle.proof_cert.specs.Certificate.{node_of, lemma_of, claim_of}
 use Rattle.proof_cert.specs.Taken.{line_text, lines_text}
 use Rattle.proof_cert.proofs.Takings.{nothing_put, part_put, part_cut, renamed, last_put, end_cut}
@@ -12,8 +13,8 @@ returns-in_err-put_header-clause-cut g c =
     let n = z.size in
     let whole = lines_text n (lines_of (claim_of z)) in
     let spelled = main_is_spelled z c.requires in
-    let first = line_text n (Some (header_line 1 n z.winner)) in
-    let lemmas = lines_text n (lemmas_lines 1 (map (lemma_of n) z.lemmas.items)) in
+    let first = line_text n (Some (header_line (version_number z.version) n z.winner)) in
+    let lemmas = lines_text n (lemmas_lines (version_number z.version) (map (lemma_of n) z.lemmas.items)) in
     let main = line_text n (Some main_line) in
     let body = lines_text n (node_lines (node_of n z.main)) in
     let end = line_text n (Some end_line) in
@@ -26,8 +27,8 @@ returns-in_err-put_lemmas-clause-cut g c =
     let n = z.size in
     let whole = lines_text n (lines_of (claim_of z)) in
     let spelled = main_is_spelled z c.requires in
-    let first = line_text n (Some (header_line 1 n z.winner)) in
-    let lemmas = lines_text n (lemmas_lines 1 (map (lemma_of n) z.lemmas.items)) in
+    let first = line_text n (Some (header_line (version_number z.version) n z.winner)) in
+    let lemmas = lines_text n (lemmas_lines (version_number z.version) (map (lemma_of n) z.lemmas.items)) in
     let main = line_text n (Some main_line) in
     let body = lines_text n (node_lines (node_of n z.main)) in
     let end = line_text n (Some end_line) in
@@ -41,8 +42,8 @@ returns-in_err-put_word-clause-cut g c =
     let n = z.size in
     let whole = lines_text n (lines_of (claim_of z)) in
     let spelled = main_is_spelled z c.requires in
-    let first = line_text n (Some (header_line 1 n z.winner)) in
-    let lemmas = lines_text n (lemmas_lines 1 (map (lemma_of n) z.lemmas.items)) in
+    let first = line_text n (Some (header_line (version_number z.version) n z.winner)) in
+    let lemmas = lines_text n (lemmas_lines (version_number z.version) (map (lemma_of n) z.lemmas.items)) in
     let main = line_text n (Some main_line) in
     let body = lines_text n (node_lines (node_of n z.main)) in
     let end = line_text n (Some end_line) in
@@ -57,8 +58,8 @@ returns-in_err-put_node-clause-cut g c =
     let n = z.size in
     let whole = lines_text n (lines_of (claim_of z)) in
     let spelled = main_is_spelled z c.requires in
-    let first = line_text n (Some (header_line 1 n z.winner)) in
-    let lemmas = lines_text n (lemmas_lines 1 (map (lemma_of n) z.lemmas.items)) in
+    let first = line_text n (Some (header_line (version_number z.version) n z.winner)) in
+    let lemmas = lines_text n (lemmas_lines (version_number z.version) (map (lemma_of n) z.lemmas.items)) in
     let main = line_text n (Some main_line) in
     let body = lines_text n (node_lines (node_of n z.main)) in
     let end = line_text n (Some end_line) in
@@ -74,8 +75,8 @@ returns-clause-put g c =
     let n = z.size in
     let whole = lines_text n (lines_of (claim_of z)) in
     let spelled = main_is_spelled z c.requires in
-    let first = line_text n (Some (header_line 1 n z.winner)) in
-    let lemmas = lines_text n (lemmas_lines 1 (map (lemma_of n) z.lemmas.items)) in
+    let first = line_text n (Some (header_line (version_number z.version) n z.winner)) in
+    let lemmas = lines_text n (lemmas_lines (version_number z.version) (map (lemma_of n) z.lemmas.items)) in
     let main = line_text n (Some main_line) in
     let body = lines_text n (node_lines (node_of n z.main)) in
     let end = line_text n (Some end_line) in
@@ -92,8 +93,8 @@ returns-clause-cut g c =
     let n = z.size in
     let whole = lines_text n (lines_of (claim_of z)) in
     let spelled = main_is_spelled z c.requires in
-    let first = line_text n (Some (header_line 1 n z.winner)) in
-    let lemmas = lines_text n (lemmas_lines 1 (map (lemma_of n) z.lemmas.items)) in
+    let first = line_text n (Some (header_line (version_number z.version) n z.winner)) in
+    let lemmas = lines_text n (lemmas_lines (version_number z.version) (map (lemma_of n) z.lemmas.items)) in
     let main = line_text n (Some main_line) in
     let body = lines_text n (node_lines (node_of n z.main)) in
     let end = line_text n (Some end_line) in

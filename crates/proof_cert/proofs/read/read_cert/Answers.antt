@@ -29,9 +29,9 @@ returns-in-Ok-Some-clause-within c =
     (read_has_text n c.args.bytes.now (claim_of c.in-Ok-Some.certificate) found).1
 
 pub returns-in-Ok-None-clause-malformed : goal.returns-in-Ok-None-clause-malformed
-returns-in-Ok-None-clause-malformed c = λ malformed z version size text within.
+returns-in-Ok-None-clause-malformed c = λ malformed z size text within.
     let n = c.args.size in
     let missing : claim_read n (left_of (source_of n c.args.bytes.now) 0 0) ≡ None =
     ap (λ (s : Source). claim_read n (left_of s 0 0)) (sym c.new.ensures) ∙ sym c.in-Ok-None.ensures ∙ ap (λ (o : Option Certificate). option_map claim_of o) c.in-Ok-None.field-0-is in
-    let found = text_is_read n c.args.bytes.now z version size text within in
+    let found = text_is_read n c.args.bytes.now z size text within in
     cc

@@ -1,11 +1,13 @@
 use Rattle.std.proofs.Common.{◌≡◌, ◌-◌}
-use Rattle.proof_cert.specs.Reading.{left_of, listed_read, lists_read}
+use Rattle.proof_cert.specs.Stage.{line_value}
+use Rattle.proof_cert.specs.Reading.{left_of, picks, listed_read, list_read}
 use Rattle.proof_cert.proofs.ReadTrees.{listed_front}
 use Rattle.proof_cert.proofs.read.read_listed.Given as goal
 
 abbrev pub invariant-loop-reading : goal.invariant-loop-reading
 invariant-loop-reading l = record {
-  read : lists_read (left_of l.fn.reading.source l.fn.reading.nodes l.fn.reading.listed) ≡ listed_front l.listed.items (listed_read (1000001 - l.reading.listed) (left_of l.reading.source l.reading.nodes l.reading.listed));
+  read : list_read (picks l.fn.listing) (line_value l.fn.reading.source.size l.fn.first) (left_of l.fn.reading.source l.fn.reading.nodes l.fn.reading.listed)
+      ≡ listed_front l.listed.items (listed_read (picks l.fn.listing) (1000001 - l.reading.listed) (line_value l.fn.reading.source.size l.line) (left_of l.reading.source l.reading.nodes l.reading.listed));
   size : l.reading.source.size ≡ l.fn.reading.source.size;
 }
 

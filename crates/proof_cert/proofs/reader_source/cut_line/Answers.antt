@@ -1,9 +1,8 @@
 use Rattle.std.proofs.Common.{rules, arith, ◌≡◌, ◌≤◌, ◌<◌, ◌++◌, [], ◌∷◌, ℕ, List, Option, option_map, length, sym, ap, ◌∙◌, subst, length-append}
 use Rattle.proof_cert.specs.Lines.{Line}
-use Rattle.proof_cert.specs.Stage.{line_value, version_one}
-use Rattle.proof_cert.specs.Source.{lines_read}
+use Rattle.proof_cert.specs.Stage.{line_value}
 use Rattle.proof_cert.specs.Streamed.{IsPiece, bytes_left}
-use Rattle.proof_cert.specs.Text.{line_of}
+use Rattle.proof_cert.specs.Text.{line_of, lines}
 use Rattle.proof_cert.specs.declared.reader_source.Ending.{Ending}
 use Rattle.proof_cert.proofs.Streams.{line_fed, line_cut, line_long, none_left}
 use Rattle.proof_cert.proofs.reader_source.cut_line.Goals as goal
@@ -13,8 +12,8 @@ returns-in-Some g c =
     let n = c.args.size in
     let b = c.read_piece.new.line.items in
     let piece = subst (λ (e : Ending). IsPiece c.args.bytes.now c.read_piece.new.bytes b e) c.in-Ok-LineFeed.field-0-is c.in-Ok-LineFeed.ensures in
-    let spelled = ap (λ (t : List ℕ). version_one (line_of n t)) (sym c.as_slice.ensures.value) ∙ sym c.from_text.ensures ∙ ap (option_map (line_value n)) c.in-Some.is in
-    (b ++ 10 ∷ [], piece.1, λ more. line_fed n b more piece.0 ∙ ap (λ (l : Option Line). l ∷ lines_read n more) spelled)
+    let spelled = ap (λ (t : List ℕ). line_of n t) (sym c.as_slice.ensures.value) ∙ sym c.from_text.ensures ∙ ap (option_map (line_value n)) c.in-Some.is in
+    (b ++ 10 ∷ [], piece.1, λ more. line_fed n b more piece.0 ∙ ap (λ (l : Option Line). l ∷ lines n more) spelled)
 
 pub returns-in-None : goal.returns-in-None
 returns-in-None g c =
@@ -22,8 +21,8 @@ returns-in-None g c =
     let b = c.read_piece.new.line.items in
     let more = bytes_left c.read_piece.new.bytes in
     let piece = subst (λ (e : Ending). IsPiece c.args.bytes.now c.read_piece.new.bytes b e) c.in-Ok-LineFeed.field-0-is c.in-Ok-LineFeed.ensures in
-    let spelled = ap (λ (t : List ℕ). version_one (line_of n t)) (sym c.as_slice.ensures.value) ∙ sym c.from_text.ensures ∙ ap (option_map (line_value n)) c.in-None.is in
-    (b ++ 10 ∷ [], piece.1, lines_read n more, line_fed n b more piece.0 ∙ ap (λ (l : Option Line). l ∷ lines_read n more) spelled)
+    let spelled = ap (λ (t : List ℕ). line_of n t) (sym c.as_slice.ensures.value) ∙ sym c.from_text.ensures ∙ ap (option_map (line_value n)) c.in-None.is in
+    (b ++ 10 ∷ [], piece.1, lines n more, line_fed n b more piece.0 ∙ ap (λ (l : Option Line). l ∷ lines n more) spelled)
 
 pub returns-else-is_empty : goal.returns-else-is_empty
 returns-else-is_empty g c =
@@ -31,7 +30,7 @@ returns-else-is_empty g c =
     let b = c.read_piece.new.line.items in
     let piece = subst (λ (e : Ending). IsPiece c.args.bytes.now c.read_piece.new.bytes b e) c.in-Ok-End.field-0-is c.in-Ok-End.ensures in
     let some : 0 < length b = search rules in
-    (b, piece.1, [], ap (λ (t : List ℕ). lines_read n (b ++ t)) (none_left c.read_piece.new.bytes piece.2) ∙ line_cut n b some piece.0)
+    (b, piece.1, [], ap (λ (t : List ℕ). lines n (b ++ t)) (none_left c.read_piece.new.bytes piece.2) ∙ line_cut n b some piece.0)
 
 pub returns-in-Ok-TooLong : goal.returns-in-Ok-TooLong
 returns-in-Ok-TooLong g c =

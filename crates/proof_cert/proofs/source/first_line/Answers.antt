@@ -1,7 +1,7 @@
 use Rattle.std.proofs.Common.{◌+◌, ◌∷◌, ◌∙◌, sym, ap, drop, Option, None, option_map}
 use Rattle.proof_cert.specs.Lines.{Line}
 use Rattle.proof_cert.specs.Stage.{line_value}
-use Rattle.proof_cert.specs.Source.{lines_read}
+use Rattle.proof_cert.specs.Text.{lines}
 use Rattle.proof_cert.proofs.Pieces.{first_read, unended_read, rest_whole, rest_none}
 use Rattle.proof_cert.proofs.source.first_line.Goals as goal
 
@@ -11,12 +11,12 @@ returns-in-Some-clause-lines c =
     let text = c.args.text.now in
     let k = c.in-Some.end in
     first_read n text k (sym c.place_of_byte.ensures ∙ c.in-Some.is)
-    ∙ ap (λ (l : Option Line). l ∷ lines_read n (drop (k + 1) text)) (sym c.from_text.ensures)
-    ∙ ap (λ rest. option_map (line_value n) c.from_text.result ∷ lines_read n rest) (sym (rest_whole text (k + 1)))
+    ∙ ap (λ (l : Option Line). l ∷ lines n (drop (k + 1) text)) (sym c.from_text.ensures)
+    ∙ ap (λ rest. option_map (line_value n) c.from_text.result ∷ lines n rest) (sym (rest_whole text (k + 1)))
 
 pub returns-in-None-clause-lines : goal.returns-in-None-clause-lines
 returns-in-None-clause-lines c =
     let n = c.args.size in
     let text = c.args.text.now in
     unended_read n text (sym c.place_of_byte.ensures ∙ c.in-None.is) c.requires
-    ∙ ap (λ rest. None ∷ lines_read n rest) (sym (rest_none text))
+    ∙ ap (λ rest. None ∷ lines n rest) (sym (rest_none text))

@@ -1,5 +1,6 @@
 use Rattle.std.proofs.Common.{◌≡◌, ◌++◌, ◌∷◌, [], Option, List, map, sym, ap, ◌∙◌, rules, append_assoc}
 use Rattle.proof_cert.specs.Lines.{Line, lemma_lines}
+use Rattle.proof_cert.specs.Stage.{version_number}
 use Rattle.proof_cert.specs.Certificate.{lemma_of}
 use Rattle.proof_cert.specs.Held.{spelled_line, reply_lines, task_lines, lines_left}
 use Rattle.proof_cert.specs.declared.task.Task.TheVariants.{Lemmas, Replies}
@@ -10,10 +11,11 @@ pub returns-in_ok-open_lemma-in-Lemmas-clause-first : goal.returns-in_ok-open_le
 returns-in_ok-open_lemma-in-Lemmas-clause-first c =
     let n = c.args.size in
     let old = c.args.tasks.now.items in
-    let l = lemma_lines 1 (lemma_of n c.in-Some.lemma.now) in
-    let others = Lemmas c.in-Some.others in
+    let v = c.in-Lemmas.version in
+    let l = lemma_lines (version_number v) (lemma_of n c.in-Some.lemma.now) in
+    let others = Lemmas v c.in-Some.others in
     let first : c.in-Lemmas.lemmas.now ≡ c.in-Some.lemma.now ∷ c.in-Some.others.now = search rules in
-    let a : task_lines n c.args.task ≡ l ++ task_lines n others = ap (task_lines n) c.in-Lemmas.is ∙ lemmas_first n c.in-Lemmas.lemmas.now c.in-Some.lemma.now c.in-Some.others.now first in
+    let a : task_lines n c.args.task ≡ l ++ task_lines n others = ap (task_lines n) c.in-Lemmas.is ∙ lemmas_first n (version_number v) c.in-Lemmas.lemmas.now c.in-Some.lemma.now c.in-Some.others.now first in
     let items : c.push.new.self.items ≡ old ++ others ∷ [] = search rules in
     let b : lines_left n c.push.new.self.items ≡ task_lines n others ++ lines_left n old = ap (lines_left n) items ∙ left_pushed n old others in
     ap (λ (x : List (Option Line)). map (spelled_line n) (x ++ lines_left n old)) a
@@ -24,10 +26,10 @@ pub returns-in_ok-open_reply-in-Replies-clause-first : goal.returns-in_ok-open_r
 returns-in_ok-open_reply-in-Replies-clause-first c =
     let n = c.args.size in
     let old = c.args.tasks.now.items in
-    let r = c.in-Some-split_first-2.reply.now in
-    let others = Replies c.in-Some-split_first-2.others in
-    let first : c.in-Replies.replies.now ≡ r ∷ c.in-Some-split_first-2.others.now = search rules in
-    let a : task_lines n c.args.task ≡ reply_lines n r ++ task_lines n others = ap (task_lines n) c.in-Replies.is ∙ reply_first n c.in-Replies.replies.now r c.in-Some-split_first-2.others.now first in
+    let r = c.in-Some-split_first-3.reply.now in
+    let others = Replies c.in-Some-split_first-3.others in
+    let first : c.in-Replies.replies.now ≡ r ∷ c.in-Some-split_first-3.others.now = search rules in
+    let a : task_lines n c.args.task ≡ reply_lines n r ++ task_lines n others = ap (task_lines n) c.in-Replies.is ∙ reply_first n c.in-Replies.replies.now r c.in-Some-split_first-3.others.now first in
     let items : c.push-in-Replies.new.self.items ≡ old ++ others ∷ [] = search rules in
     let b : lines_left n c.push-in-Replies.new.self.items ≡ task_lines n others ++ lines_left n old = ap (lines_left n) items ∙ left_pushed n old others in
     ap (λ (x : List (Option Line)). map (spelled_line n) (x ++ lines_left n old)) a

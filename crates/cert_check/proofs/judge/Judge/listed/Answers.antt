@@ -2,9 +2,10 @@ use Rattle.std.proofs.Common.{arith, rules, ◌≡◌, ◌-◌, ◌+◌, ◌++�
 use Rattle.std.specs.Prelude.{slice_get}
 use Rattle.proof_cert.specs.Claim.{max_listed}
 use Rattle.cert_check.specs.Body.{list_order}
-use Rattle.cert_check.specs.Machine.{last_of}
+use Rattle.cert_check.specs.Machine.{last_of, listing_not}
+use Rattle.cert_check.specs.Judging.{machine_of, heading_of, lemma_of, listed_more}
 use Rattle.cert_check.specs.Verdict.{is_after}
-use Rattle.cert_check.proofs.Judging.{last_get, last_fits, listed_off, listed_ready, listed_goes}
+use Rattle.cert_check.proofs.Judging.{last_get, last_fits, listed_barred, listed_ready, listed_goes}
 use Rattle.cert_check.proofs.Replies.{stops_said}
 use Rattle.cert_check.proofs.judge.Judge.listed.Goals as goal
 
@@ -21,7 +22,7 @@ returns-then-not-is_after-clause-err c =
     let last : c.copied.result ≡ slice_get cs (length cs - 1) = c.copied.ensures ∙ c.last.ensures.value ∙ ap (λ s. slice_get s (length s - 1)) c.deref.ensures.value in
     let few : nat_lt j.listed_count max_listed ≡ true = lt-ltb j.listed_count max_listed c.if-self-ge-MAX_LISTED.false in
     let after : is_after (last_of cs) c.args.colouring ≡ false = ap (λ o. is_after o c.args.colouring) (sym (last ∙ last_get cs)) ∙ sym c.is_after.ensures ∙ c.if-not-is_after.true in
-    (λ p said. listed_off j c.args.colouring few after ∙ stops_said j.place list_order p said, tt)
+    (λ p said. listed_barred (machine_of j) (last_of cs) c.args.colouring (listing_not (heading_of j) (listed_more (lemma_of j) c.args.colouring)) few after ∙ stops_said j.place list_order p said, tt)
 
 pub returns-clause-ready : goal.returns-clause-ready
 returns-clause-ready c =

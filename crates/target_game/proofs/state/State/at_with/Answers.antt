@@ -1,0 +1,25 @@
+use Rattle.std.proofs.Common.{◌≡◌, ◌∷◌, [], List, ap, sym, ◌∙◌, subst, false, filter}
+use Rattle.std.specs.List.{All}
+use Rattle.std.specs.Prelude.{slice_index_or}
+use Rattle.go_points.specs.declared.Cell.{Cell}
+use Rattle.go_points.specs.Grid.{side_of}
+use Rattle.go_turns.specs.History.{repeats}
+use Rattle.target_game.proofs.Histories.{differs, once_with, all_with}
+use Rattle.target_game.proofs.state.State.at_with.Goals as goal
+
+pub with_history-requires-clause-sizes : goal.with_history-requires-clause-sizes
+with_history-requires-clause-sizes g c =
+    let n = c.args.problem.now.game.size in
+    let first = c.args.colouring.now in
+    let all = first ∷ filter (differs first) c.args.others.now in
+    let is : c.as_slice.result.now ≡ all = c.as_slice.ensures.value ∙ c.in-Ok.ensures in
+    let here : side_of (slice_index_or all 0 []) ≡ n = c.requires.size in
+    subst (λ (xs : List (List Cell)). All (λ d. side_of d ≡ side_of (slice_index_or xs 0 [])) xs) (sym is)
+    (all_with (λ d. side_of d ≡ side_of first) first c.args.others.now (λ i. side_of first)
+    (λ k d low. c.requires.sizes k d low ∙ sym here))
+
+pub with_history-requires-clause-once : goal.with_history-requires-clause-once
+with_history-requires-clause-once g c =
+    let first = c.args.colouring.now in
+    let is : c.as_slice.result.now ≡ first ∷ filter (differs first) c.args.others.now = c.as_slice.ensures.value ∙ c.in-Ok.ensures in
+    ap repeats is ∙ once_with first c.args.others.now c.requires.once

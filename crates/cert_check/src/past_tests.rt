@@ -144,11 +144,12 @@ fn version_two_needs_no_such_line(rt: HostRuntime) {
 #[test]
 fn a_claim_cut_off_in_such_a_line(rt: HostRuntime) {
     let alloc = rt.alloc();
+    let claim = MAY_NOT_TAKE;
     let mut place = 1u64;
-    for length in 0..MAY_NOT_TAKE.len() {
-        let cut = closed(alloc, &rt, &MAY_NOT_TAKE[..length]);
+    for length in 0..claim.len() {
+        let cut = closed(alloc, &rt, &claim[..length]);
         assert_eq!(rt; cut, refused(place, Why::Malformed));
-        if MAY_NOT_TAKE[length] == b'\n' {
+        if claim[length] == b'\n' {
             place = place.saturating_add(1);
         }
     }

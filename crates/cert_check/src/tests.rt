@@ -92,7 +92,8 @@ fn lines_that_are_malformed(rt: HostRuntime) {
     let quiet = quiet(rt.alloc(), &rt);
     let check = |claim: &[u8]| judged(rt.alloc(), &quiet, claim);
     assert_eq!(rt; check(b""), refused(1, Why::Malformed));
-    assert_eq!(rt; check(b"tsucert 2 2 B\n"), refused(1, Why::Malformed));
+    assert_eq!(rt; check(b"tsucert 3 2 B\n"), refused(1, Why::Malformed));
+    assert_eq!(rt; check(b"tsucert 2 2 B\n"), refused(2, Why::Malformed));
     assert_eq!(rt; check(b"tsucert 1 02 B\n"), refused(1, Why::Malformed));
     assert_eq!(rt; check(b"tsucert 1 2 B\nmain\n"), refused(3, Why::Malformed));
     assert_eq!(rt;

@@ -13,6 +13,8 @@ use Rattle.proof_cert.specs.Claim.{Node, won, by_lemma, play, all, Branches, no_
 use Rattle.proof_cert.specs.Lines.{Line, end_line, node_lines, branch_lines, lines_of, line_fits, turn_fits}
 use Rattle.proof_cert.specs.Text.{numbers_spelled, is_spelled}
 use Rattle.proof_cert.specs.Certificate.{node_of, lemma_of, claim_of}
+use Rattle.proof_cert.specs.Stage.{version_number}
+use Rattle.proof_cert.specs.declared.version.Version.TheVariants.{One}
 use Rattle.proof_cert.specs.declared.certificate.Certificate.{Certificate}
 use Rattle.cert_check.specs.Body.{Body, main_body, is_open, result_of}
 use Rattle.cert_check.specs.Checked.{IsChecked}
@@ -83,7 +85,7 @@ checked_plain q x n low high fits count depth = record {
 }
 
 -- the certificate of a tree, without lemmas
-pub checked_certificate : (q : GameProblem) (c : Certificate) → c.size ≡ q.game.size → c.lemmas.items ≡ [] → 1 ≤ q.game.size → q.game.size ≤ 25 → IsConfirmable q c.winner c.main → IsChecked q (claim_of c)
-checked_certificate q c size none low high h =
-    let plain : plain_claim q c.winner (node_of q.game.size c.main) ≡ claim_of c = λ i. record { version = 1; size = (sym size) i; winner = c.winner; lemmas = (sym (ap (map (lemma_of c.size)) none)) i; main = node_of ((sym size) i) c.main } in
+pub checked_certificate : (q : GameProblem) (c : Certificate) → c.version ≡ One → c.size ≡ q.game.size → c.lemmas.items ≡ [] → 1 ≤ q.game.size → q.game.size ≤ 25 → IsConfirmable q c.winner c.main → IsChecked q (claim_of c)
+checked_certificate q c version size none low high h =
+    let plain : plain_claim q c.winner (node_of q.game.size c.main) ≡ claim_of c = λ i. record { version = (sym (ap version_number version)) i; size = (sym size) i; winner = c.winner; lemmas = (sym (ap (map (lemma_of c.size)) none)) i; main = node_of ((sym size) i) c.main } in
     subst (λ (z : Claim). IsChecked q z) plain (checked_plain q c.winner (node_of q.game.size c.main) low high h.fits h.count h.depth)

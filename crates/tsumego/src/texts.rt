@@ -146,9 +146,7 @@ fn why_text(alloc: Global, size: Size, why: Why) -> Result<String, AllocError>
         }
         Why::LemmaNotLower => format!(in alloc; "C10 lemma number not lower"),
         Why::StateDiffers => format!(in alloc; "C11 state differs"),
-        Why::NeededNotOccurred => {
-            format!(in alloc; "C19 needed position has not occurred")
-        }
+        Why::NeededNotOccurred => { format!(in alloc; "C19 needed position has not occurred") }
         Why::ListedOccurred => format!(in alloc; "C12 listed position has occurred"),
         Why::ListedNotPassedOn => format!(in alloc; "C13 listed position not passed on"),
         Why::ListOrder => format!(in alloc; "C14 list order"),

@@ -1,4 +1,5 @@
-use Rattle.std.proofs.Common.{◌≡◌, ◌≤◌, ◌∙◌, ap, inl, inr, arith}
+use Rattle.std.proofs.Common.{◌≡◌, ◌≤◌, ◌∙◌, refl, ap, inl, inr, arith}
+use Rattle.proof_cert.specs.declared.version.Version.TheVariants.{One}
 use Rattle.pn_search.specs.Search.{cause_told}
 use Rattle.pn_search.proofs.Confirming.{checked_certificate}
 use Rattle.pn_search.proofs.search.confirmed_plainly.Goals as goal
@@ -13,5 +14,5 @@ returns-clause-refused c =
     let high : q.game.size ≤ 25 = omega (arith, rows, most) in
     λ not_memory h. elim c.in-Err.ensures.err [
       | inl memory ↦ not_memory (c.cause_of.ensures ∙ ap cause_told memory)
-      | inr refused ↦ refused (checked_certificate q (record { size = c.size-2.result; winner = c.args.winner; lemmas = c.new.result; main = c.args.main }) c.size-2.ensures c.new.ensures.items low high h)
+      | inr refused ↦ refused (checked_certificate q (record { version = One; size = c.size-2.result; winner = c.args.winner; lemmas = c.new.result; main = c.args.main }) refl c.size-2.ensures c.new.ensures.items low high h)
     ]

@@ -20,7 +20,7 @@ returns-in-Ok-write_cert c =
     let whole : IsTrue (is_tree c.in-Ok.tree) = subst (λ t. IsTrue (is_tree t)) c.tree.view_is c.tree.invariant in
     let same : c.in-Ok.tree ≡ canonical k.problem = c.in-Ok.ensures ∙ ap canonical c.problem-3.ensures in
     let front = line (tree_text c.in-Ok.tree) in
-    let solves : (bytes : List ℕ) → text (claim_of k.certificate) ≡ Some bytes → Solved true k.problem (line (tree_text c.in-Ok.tree) ++ bytes) = λ bytes spelled. claim_solves k c.winner-winner.ensures.checked c.accepts_version_one_texts.ensures c.canonical_reads.ensures kept low high c.in-Ok.tree whole same bytes spelled in
+    let solves : (bytes : List ℕ) → text (claim_of k.certificate) ≡ Some bytes → Solved true k.problem (line (tree_text c.in-Ok.tree) ++ bytes) = λ bytes spelled. claim_solves k c.winner-winner.ensures.checked c.accepts_valid_texts.ensures c.canonical_reads.ensures kept low high c.in-Ok.tree whole same bytes spelled in
     let before : c.write_line.new.writer.items ≡ line (tree_text c.in-Ok.tree) =
     front_written c.write_line.result (c.write_line.new.writer.items ≡ c.new-text.result.items ++ line (tree_text c.in-Ok.tree)) c.if-is_err.ensures.value c.write_line.ensures.written ∙ ap (λ xs. xs ++ line (tree_text c.in-Ok.tree)) c.new-text.ensures.items in
     claim_behind (MayAnswer true k.problem) Answered front c.write_line.new.writer.items c.write_cert.new.writer.items (text (claim_of k.certificate)) (λ bytes spelled. inl (refl, solves bytes spelled)) before

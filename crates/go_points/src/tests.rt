@@ -338,17 +338,24 @@ fn the_widest_board_full_but_for_a_point(rt: HostRuntime) -> Result<(), Fail> {
     let size = board(&rt, MAX_SIZE);
     let mut text = Vec::new(rt.alloc());
     for number in 0..size.area() {
-        text.push(if number % 2 == 0 { b'X' } else { b'O' })?;
+        text.push(if number == 312 {
+            b'.'
+        } else if number % 2 == 0 {
+            b'X'
+        } else {
+            b'O'
+        })?;
     }
-    text[312] = b'.';
     let colouring = Colouring::from_text(size, text.as_slice()).ok_or("text")?;
     let back = colouring.to_text(rt.alloc())?;
     assert_eq!(rt; back.as_slice(), text.as_slice());
     let mut full = colouring;
-    full.set(at(&rt, size, 12, 12), Cell::Stone(Colour::Black));
+    let middle = at(&rt, full.size(), 12, 12);
+    full.set(middle, Cell::Stone(Colour::White));
     assert_ne!(rt; full, colouring);
     assert!(rt; colouring < full);
-    full.set(at(&rt, size, 12, 12), Cell::Empty);
+    let middle = at(&rt, full.size(), 12, 12);
+    full.set(middle, Cell::Empty);
     assert_eq!(rt; full, colouring);
     Ok(())
 }

@@ -136,7 +136,11 @@ fn the_upper_right_corner_of_the_widest_board(rt: HostRuntime) {
     for _ in 0..23 {
         add(&rt, &mut wanted, ".........................\n");
     }
-    add(&rt, &mut wanted, ".........................\n\n? illegal move\n\n");
+    add(
+        &rt,
+        &mut wanted,
+        ".........................\n\n? illegal move\n\n",
+    );
     answers(
         &rt,
         rt.alloc(),
@@ -145,9 +149,16 @@ fn the_upper_right_corner_of_the_widest_board(rt: HostRuntime) {
     );
 }
 
+// On one point a stone has no liberty.
 #[test]
 fn a_stone_at_every_vertex_of_every_board(rt: HostRuntime) {
-    for rows in 1..26usize {
+    answers(
+        &rt,
+        rt.alloc(),
+        b"boardsize 1\nplay w a1\n",
+        "=\n\n? illegal move\n\n",
+    );
+    for rows in 2..26usize {
         let mut input = format!(in rt.alloc(); "boardsize {rows}\n").expect(&rt, "memory");
         let mut wanted = String::new(rt.alloc());
         add(&rt, &mut wanted, "=\n\n");

@@ -47,7 +47,7 @@ cells_most : (n : ℕ) (c : List Cell) → n ≤ MAX_SIZE → IsTrue (nat_eq (le
 cells_most n c small h =
     let same : length c ≡ n * n = eqb-true (length c) (n * n) h in
     let long = cells_long c in
-    let square : n * n ≤ MAX_SIZE * 19 = mul-le-mul small small in
+    let square : n * n ≤ MAX_SIZE * MAX_SIZE = mul-le-mul small small in
     omega (arith, same, long, square)
 
 -- two parts, and their lengths

@@ -411,7 +411,12 @@ fn a_history_has_a_thousand_colourings_at_most(rt: HostRuntime) {
 }
 
 // The start of a problem on the widest board with this colouring, where every point is in the region.
-fn start_on_the_widest(rt: &impl Abort, alloc: Global, colouring: Colouring, target: Point) -> Play {
+fn start_on_the_widest(
+    rt: &impl Abort,
+    alloc: Global,
+    colouring: Colouring,
+    target: Point,
+) -> Play {
     let mut targets = PointSet::new();
     targets.insert(target);
     let mut region = PointSet::new();
@@ -437,7 +442,10 @@ fn turns_on_the_widest_board(rt: HostRuntime) {
     assert_eq!(rt; turns.len(), 625);
     assert_eq!(rt; turns.as_slice().last(), Some(&Turn::Pass));
     for number in 1..size.area() {
-        assert_eq!(rt; turns.as_slice().get(number - 1), Some(&Turn::At(size.point_at(number))));
+        assert_eq!(rt;
+            turns.as_slice().get(number - 1),
+            Some(&Turn::At(size.point_at(number)))
+        );
     }
 }
 
@@ -454,7 +462,10 @@ fn a_capture_of_all_the_widest_board_holds(rt: HostRuntime) {
     }
     let last = size.point_at(size.area() - 1);
     let mut state = start_on_the_widest(&rt, rt.alloc(), colouring, size.point_at(0));
-    assert_eq!(rt; state.turns().as_slice(), [Turn::At(last), Turn::Pass].as_slice());
+    assert_eq!(rt;
+        state.turns().as_slice(),
+        [Turn::At(last), Turn::Pass].as_slice()
+    );
     assert!(rt; play(&mut state, Turn::At(last)));
     assert_eq!(rt; state.over(), Some(Colour::Black));
     let mut left = Colouring::empty(size);

@@ -265,7 +265,11 @@ fn add_cells(rt: &impl Abort, text: &mut String, black: &[usize], white: Option<
 // A capture in the lower right corner of the widest board, as a lemma. The stones are at yx (599), xy (623) and yy (624).
 fn widest_lines(alloc: Global, rt: &impl Abort, header: &str, more: &str) -> String {
     let mut input = String::new(alloc);
-    for part in ["(;SZ[25]AB[yx]AW[yy]PL[B]TR[yy]SQ[xy])\n", header, "\nlemma B 0 "] {
+    for part in [
+        "(;SZ[25]AB[yx]AW[yy]PL[B]TR[yy]SQ[xy])\n",
+        header,
+        "\nlemma B 0 ",
+    ] {
         input.push_str(part).expect(rt, "memory");
     }
     add_cells(rt, &mut input, &[599], Some(624));

@@ -20,11 +20,20 @@ fn is_a_capture(rt: &impl Abort, alloc: Global, rows: &str, setup: &str, marks: 
             text,
         );
     }
-    let start = format!(in alloc; "(;FF[4]GM[1]SZ[{rows}]{setup};PL[B]{marks}").expect(rt, "memory");
+    let start = format!(in alloc; "(;FF[4]GM[1]SZ[{rows}]{setup};PL[B]{marks}").expect(
+        rt, "memory",
+    );
     let start = start.as_str();
     let solution = format!(in alloc; "{start}C[Black wins];B[{turn}])\n").expect(rt, "memory");
     let solve = ["tsumego", "solve"];
-    answers(rt, alloc, &solve, record, Status::Answered, solution.as_str());
+    answers(
+        rt,
+        alloc,
+        &solve,
+        record,
+        Status::Answered,
+        solution.as_str(),
+    );
     answers(
         rt,
         alloc,

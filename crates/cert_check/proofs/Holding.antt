@@ -1,6 +1,7 @@
 -- A certificate that is held: what is answered of its lines, and whether it is valid.
 use Rattle.std.proofs.Common.{◌≡◌, ℕ, ◌-◌, ◌^◌, ◌≤◌, ◌⊎◌, inl, inr, Bool, true, false, List, [], ◌∷◌, ◌++◌, length, map, Option, Some, None, IsTrue, IsSome, Ok, refl, sym, ap, ◌∙◌, subst, arith, if◌then◌else◌}
 use Rattle.std.specs.List.{list_all}
+use Rattle.go_points.specs.declared.TheConstants.{MAX_SIZE}
 use Rattle.go_points.specs.declared.Colour.{Colour}
 use Rattle.target_game.specs.State.{GameProblem}
 use Rattle.proof_cert.specs.Claim.{Claim, IsWithinLimits}
@@ -50,7 +51,7 @@ some_text : (o : Option (List ℕ)) → IsSome o → (b : List ℕ) × (o ≡ So
 some_text None h = absurd (cc)
 some_text (Some b) h = (b, refl)
 
-module _ (q : GameProblem) (z : Claim) (low : 1 ≤ q.game.size) (high : q.game.size ≤ 25) (size : z.size ≡ q.game.size) where
+module _ (q : GameProblem) (z : Claim) (low : 1 ≤ q.game.size) (high : q.game.size ≤ MAX_SIZE) (size : z.size ≡ q.game.size) where
   -- a claim with the same lines is the same
   same_claim : OneClaimOfText → (y : Claim) → IsValid q y → map (spelled_line z.size) (lines_of z) ≡ lines_of y → y ≡ z
   same_claim one y v e =

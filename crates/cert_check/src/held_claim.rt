@@ -10,7 +10,7 @@ ghost use Rattle.cert_check.specs.Checked.{IsChecked};
 
 use crate::checker::check;
 use crate::reject::{Reject, Why};
-use go_points::Colour;
+use go_points::{Colour, MAX_SIZE};
 use proof_cert::laws::{lines_given_of_claim, one_claim_of_text};
 use proof_cert::{Certificate, HeldSource};
 use std::alloc::Global;
@@ -72,7 +72,7 @@ fn judge_held(alloc: Global, problem: &Problem, certificate: &Certificate) -> Re
     ensures ok { IfOk result (λ x. IsChecked problem.now (claim_of certificate.now) × ((claim_of certificate.now).winner ≡ x)) }
     ensures err { IfErr result (λ e. (e.why ≡ Memory) ⊎ (IsChecked problem.now (claim_of certificate.now) → ⊥)) }
 {
-    prove!(problem.size().rows() <= 25);
+    prove!(problem.size().rows() <= MAX_SIZE);
     if certificate.size != problem.size() {
         return Err(Reject {
             place: 1,

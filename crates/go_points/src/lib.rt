@@ -5,8 +5,8 @@ ghost use Rattle.std.specs.Prelude.{◌≡◌};
 ghost use Rattle.go_points.specs.declared.Cell.TheVariants.{Empty, Stone};
 ghost use Rattle.go_points.specs.Grid.{opponent_of, same_cell};
 
-/// The greatest number of rows and columns of a board.
-pub const MAX_SIZE: u8 = 19;
+/// The greatest number of rows and columns of a board: GTP 2 has no columns past it.
+pub const MAX_SIZE: u8 = 25;
 
 /// The number of points of that board.
 pub const MAX_POINTS: usize = MAX_SIZE as usize * MAX_SIZE as usize;

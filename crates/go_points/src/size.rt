@@ -91,7 +91,7 @@ impl Size {
 /// 2^16 divided by each number of rows, rounded up.
 const RECIPROCALS: [usize; MAX_SIZE as usize + 1] = [
     0, 65536, 32768, 21846, 16384, 13108, 10923, 9363, 8192, 7282, 6554, 5958, 5462, 5042, 4682,
-    4370, 4096, 3856, 3641, 3450,
+    4370, 4096, 3856, 3641, 3450, 3277, 3121, 2979, 2850, 2731, 2622,
 ];
 
 // The row of the point with this number: the quotient by the rows, by a multiplication, which takes a fraction of a division's time.

@@ -151,6 +151,28 @@ fn letters(rt: HostRuntime) {
 }
 
 #[test]
+fn letters_of_every_point_of_every_board(rt: HostRuntime) {
+    for rows in 1..MAX_SIZE + 1 {
+        let size = board(&rt, rows);
+        for row in 0..rows {
+            for column in 0..rows {
+                let point = at(&rt, size, column, row);
+                assert_eq!(rt; sgf_point(size, &to_sgf(point)), Some(point));
+            }
+        }
+    }
+}
+
+#[test]
+fn letters_of_a_pass_name_a_point_on_boards_over_nineteen_rows(rt: HostRuntime) {
+    for rows in 1..MAX_SIZE + 1 {
+        let size = board(&rt, rows);
+        assert_eq!(rt; sgf_point(size, b"tt"), size.point(19, 19));
+        assert_eq!(rt; sgf_point(size, b"tt").is_some(), rows >= 20);
+    }
+}
+
+#[test]
 fn sets(rt: HostRuntime) {
     let size = board(&rt, MAX_SIZE);
     let last = MAX_SIZE - 1;
@@ -261,25 +283,37 @@ fn texts_of_vertices(rt: HostRuntime) {
     );
     let size = board(&rt, MAX_SIZE);
     assert_eq!(rt;
-        to_gtp(size, at(&rt, size, 8, 0)).as_slice(),
-        b"J19".as_slice()
+        to_gtp(size, at(&rt, size, 24, 0)).as_slice(),
+        b"Z25".as_slice()
     );
     assert_eq!(rt;
-        to_gtp(size, at(&rt, size, 7, 9)).as_slice(),
+        to_gtp(size, at(&rt, size, 7, 15)).as_slice(),
         b"H10".as_slice()
     );
     assert_eq!(rt;
-        to_gtp(size, at(&rt, size, 0, 18)).as_slice(),
+        to_gtp(size, at(&rt, size, 0, 24)).as_slice(),
         b"A1".as_slice()
     );
-    for row in 0..MAX_SIZE {
-        for column in 0..MAX_SIZE {
-            let text = to_gtp(size, at(&rt, size, column, row));
-            let vertex = Vertex::At {
-                column,
-                row: MAX_SIZE - 1 - row,
-            };
-            assert_eq!(rt; gtp_vertex(text.as_slice()), Some(vertex));
+    let nineteen = board(&rt, 19);
+    assert_eq!(rt;
+        to_gtp(nineteen, at(&rt, nineteen, 8, 0)).as_slice(),
+        b"J19".as_slice()
+    );
+}
+
+#[test]
+fn vertices_of_every_point_of_every_board(rt: HostRuntime) {
+    for rows in 1..MAX_SIZE + 1 {
+        let size = board(&rt, rows);
+        for row in 0..rows {
+            for column in 0..rows {
+                let text = to_gtp(size, at(&rt, size, column, row));
+                let vertex = Vertex::At {
+                    column,
+                    row: rows - 1 - row,
+                };
+                assert_eq!(rt; gtp_vertex(text.as_slice()), Some(vertex));
+            }
         }
     }
 }
@@ -294,7 +328,34 @@ fn colourings_differ_from_a_point_on(rt: HostRuntime) {
     other.set(at(&rt, size, 2, 0), Cell::Stone(Colour::White));
     other.set(at(&rt, size, last, last), Cell::Stone(Colour::White));
     assert_eq!(rt; one.next_difference(&other, 0), 2);
-    assert_eq!(rt; one.next_difference(&other, 3), 360);
-    assert!(rt; one.next_difference(&other, 361) >= size.area());
+    assert_eq!(rt; one.next_difference(&other, 3), 624);
+    assert!(rt; one.next_difference(&other, 625) >= size.area());
     assert!(rt; one.next_difference(&one, 0) >= size.area());
+}
+
+#[test]
+fn the_widest_board_full_but_for_a_point(rt: HostRuntime) -> Result<(), Fail> {
+    let size = board(&rt, MAX_SIZE);
+    let mut text = Vec::new(rt.alloc());
+    for number in 0..size.area() {
+        text.push(if number == 312 {
+            b'.'
+        } else if number % 2 == 0 {
+            b'X'
+        } else {
+            b'O'
+        })?;
+    }
+    let colouring = Colouring::from_text(size, text.as_slice()).ok_or("text")?;
+    let back = colouring.to_text(rt.alloc())?;
+    assert_eq!(rt; back.as_slice(), text.as_slice());
+    let mut full = colouring;
+    let middle = at(&rt, full.size(), 12, 12);
+    full.set(middle, Cell::Stone(Colour::White));
+    assert_ne!(rt; full, colouring);
+    assert!(rt; colouring < full);
+    let middle = at(&rt, full.size(), 12, 12);
+    full.set(middle, Cell::Empty);
+    assert_eq!(rt; full, colouring);
+    Ok(())
 }

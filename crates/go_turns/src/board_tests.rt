@@ -2,7 +2,7 @@
 
 use crate::*;
 use go_chains::ChainBoard;
-use go_points::{Cell, Colour, Colouring, Point, Size};
+use go_points::{Cell, Colour, Colouring, MAX_SIZE, Point, Size};
 use std::test::Fail;
 
 // The next number of a linear congruential generator (Knuth's MMIX).
@@ -100,6 +100,6 @@ fn both_boards_answer_alike_on_two_and_three_rows(rt: HostRuntime) -> Result<(),
 
 #[test]
 fn both_boards_answer_alike_on_the_widest(rt: HostRuntime) -> Result<(), Fail> {
-    assert!(rt; agree(19, 1_500, 5));
+    assert!(rt; agree(MAX_SIZE, 1_500, 5));
     Ok(())
 }

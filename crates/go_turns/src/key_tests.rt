@@ -1,7 +1,7 @@
 //! Keys. The words were drawn by another program, from its own PCG64 made by the number 1.
 
 use crate::*;
-use go_points::{Colour, Colouring, Size, Turn, sgf_point};
+use go_points::{Colour, Colouring, MAX_SIZE, Size, Turn, sgf_point};
 use std::test::Fail;
 
 const FIRST_BLACK: u64 = 15_492_934_433_077_865_799;
@@ -14,9 +14,14 @@ const SECOND_WHITE: u64 = 18_133_442_382_907_303_891;
 
 const THIRD_WHITE: u64 = 8_777_885_780_164_965_128;
 
-const LAST_BLACK: u64 = 5_808_706_097_955_543_340;
+// The words of the point with the number 360, which is the last of 19 rows.
+const BLACK_AT_360: u64 = 5_808_706_097_955_543_340;
 
-const LAST_WHITE: u64 = 5_035_746_336_245_120_834;
+const WHITE_AT_360: u64 = 5_035_746_336_245_120_834;
+
+const LAST_BLACK: u64 = 1_197_968_238_866_613_284;
+
+const LAST_WHITE: u64 = 3_273_342_464_610_144_078;
 
 fn at(size: Size, letters: &str) -> Turn {
     match sgf_point(size, letters.as_bytes()) {
@@ -37,7 +42,7 @@ fn key_after(rt: HostRuntime, rows: u8, moves: &[(Colour, &str)]) -> Result<u64,
 
 #[test]
 fn the_empty_board_has_the_key_zero(rt: HostRuntime) -> Result<(), Fail> {
-    for rows in 1..20u8 {
+    for rows in 1..MAX_SIZE + 1 {
         let size = Size::new(rows).ok_or("size")?;
         assert_eq!(rt; PlainBoard::new(size).key(), 0);
     }
@@ -48,8 +53,10 @@ fn the_empty_board_has_the_key_zero(rt: HostRuntime) -> Result<(), Fail> {
 fn one_stone_gives_its_word(rt: HostRuntime) -> Result<(), Fail> {
     assert_eq!(rt; key_after(rt, 9, &[(Colour::Black, "aa")])?, FIRST_BLACK);
     assert_eq!(rt; key_after(rt, 9, &[(Colour::White, "aa")])?, FIRST_WHITE);
-    assert_eq!(rt; key_after(rt, 19, &[(Colour::Black, "ss")])?, LAST_BLACK);
-    assert_eq!(rt; key_after(rt, 19, &[(Colour::White, "ss")])?, LAST_WHITE);
+    assert_eq!(rt; key_after(rt, 19, &[(Colour::Black, "ss")])?, BLACK_AT_360);
+    assert_eq!(rt; key_after(rt, 19, &[(Colour::White, "ss")])?, WHITE_AT_360);
+    assert_eq!(rt; key_after(rt, 25, &[(Colour::Black, "yy")])?, LAST_BLACK);
+    assert_eq!(rt; key_after(rt, 25, &[(Colour::White, "yy")])?, LAST_WHITE);
     Ok(())
 }
 
@@ -57,6 +64,7 @@ fn one_stone_gives_its_word(rt: HostRuntime) -> Result<(), Fail> {
 fn the_words_are_the_same_on_all_boards(rt: HostRuntime) -> Result<(), Fail> {
     assert_eq!(rt; key_after(rt, 2, &[(Colour::Black, "ba")])?, SECOND_BLACK);
     assert_eq!(rt; key_after(rt, 19, &[(Colour::Black, "ba")])?, SECOND_BLACK);
+    assert_eq!(rt; key_after(rt, 25, &[(Colour::Black, "ko")])?, BLACK_AT_360);
     Ok(())
 }
 

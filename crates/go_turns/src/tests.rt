@@ -1,7 +1,7 @@
 //! Games on small boards and on the widest, with results worked out by the rules.
 
 use crate::*;
-use go_points::{Cell, Colour, Colouring, Point, Size, Turn, sgf_point};
+use go_points::{Cell, Colour, Colouring, MAX_SIZE, Point, Size, Turn, sgf_point};
 use std::alloc::{AllocError, Global};
 use std::test::Fail;
 use stone_key::key_of;
@@ -219,12 +219,13 @@ fn taken<B: Board>(board: &mut B, colour: Colour, point: Point) -> Option<u16> {
 
 #[test]
 fn moves_on_the_widest_board_count_what_they_take(rt: HostRuntime) -> Result<(), Fail> {
-    let size = Size::new(19).ok_or("size")?;
-    let corner = size.point(18, 18).ok_or("point")?;
-    let left = size.point(17, 18).ok_or("point")?;
-    let above = size.point(18, 17).ok_or("point")?;
-    let beyond = size.point(18, 16).ok_or("point")?;
-    let beside = size.point(17, 17).ok_or("point")?;
+    let size = Size::new(MAX_SIZE).ok_or("size")?;
+    let last = MAX_SIZE - 1;
+    let corner = size.point(last, last).ok_or("point")?;
+    let left = size.point(last - 1, last).ok_or("point")?;
+    let above = size.point(last, last - 1).ok_or("point")?;
+    let beyond = size.point(last, last - 2).ok_or("point")?;
+    let beside = size.point(last - 1, last - 1).ok_or("point")?;
     let mut board = PlayBoard::new(size);
     assert_eq!(rt; taken(&mut board, Colour::White, corner), Some(0));
     assert_eq!(rt; taken(&mut board, Colour::White, corner), None);
@@ -236,6 +237,45 @@ fn moves_on_the_widest_board_count_what_they_take(rt: HostRuntime) -> Result<(),
     assert_eq!(rt; taken(&mut board, Colour::White, corner), Some(1));
     assert_eq!(rt; taken(&mut board, Colour::Black, corner), None);
     assert_eq!(rt; taken(&mut board, Colour::Black, above), Some(1));
+    Ok(())
+}
+
+// The widest board, full of black stones but for the point in its middle.
+fn nearly_full() -> Option<Colouring> {
+    let size = Size::new(MAX_SIZE)?;
+    let mut colouring = Colouring::empty(size);
+    for number in 0..size.area() {
+        let size = colouring.size();
+        if number != size.area() / 2 && number < size.area() {
+            colouring.set(size.point_at(number), Cell::Stone(Colour::Black));
+        }
+    }
+    Some(colouring)
+}
+
+// What a move in the middle of that board takes off.
+fn taken_in_the_middle<B: Board>(board: &mut B, colour: Colour) -> Option<u16> {
+    let wanted = nearly_full()?;
+    let size = board.size();
+    if wanted.size() == size && board.assign(&wanted).is_ok() {
+        taken(board, colour, size.point(MAX_SIZE / 2, MAX_SIZE / 2)?)
+    } else {
+        None
+    }
+}
+
+#[test]
+fn a_move_empties_the_widest_board(rt: HostRuntime) -> Result<(), Fail> {
+    let size = Size::new(MAX_SIZE).ok_or("size")?;
+    let mut board = PlayBoard::new(size);
+    assert_eq!(rt; taken_in_the_middle(&mut board, Colour::White), Some(624));
+    let mut plain = PlainBoard::new(size);
+    assert_eq!(rt; taken_in_the_middle(&mut plain, Colour::White), Some(624));
+    assert_eq!(rt; board.colouring(), plain.colouring());
+    assert_eq!(rt; taken_in_the_middle(&mut board, Colour::Black), Some(625));
+    assert_eq!(rt; taken_in_the_middle(&mut plain, Colour::Black), Some(625));
+    assert_eq!(rt; board.colouring(), Colouring::empty(size));
+    assert_eq!(rt; plain.colouring(), Colouring::empty(size));
     Ok(())
 }
 

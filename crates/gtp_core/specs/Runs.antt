@@ -4,6 +4,7 @@
 --     HasRun, HasStopped      what a run over a reader leaves with the writer
 use Rattle.std.specs.Prelude.{◌≡◌, ℕ, List, [], ◌∷◌, ◌++◌, Option, Some, None, ◌⊎◌}
 use Rattle.std.specs.Io.KnownBytes.{Appends}
+use Rattle.gtp_core.specs.declared.session.TheConstants.{FIRST_SIZE}
 use Rattle.gtp_core.specs.declared.end.GtpEnd.{GtpEnd}
 use Rattle.gtp_core.specs.declared.end.GtpEnd.TheVariants.{Read, Write, Memory}
 use Rattle.gtp_core.specs.Lines.{raw_lines}
@@ -32,12 +33,8 @@ pub record IsEnded (s : GtpSession) (lines : List (List ℕ)) (written : List �
 abbrev pub IsRun : GtpSession → List (List ℕ) → List ℕ → Type 0
 IsRun s lines written = ((t : GtpSession) × GoesThrough s lines written t) ⊎ IsEnded s lines written
 
--- The size of the first board.
-abbrev pub first_size : ℕ
-first_size = 19
-
 abbrev pub first_session : GtpSession
-first_session = new_session first_size
+first_session = new_session FIRST_SIZE
 
 -- The bytes are those that the reader tells, where it tells them.
 abbrev pub Tells : Option (List ℕ) → List ℕ → Type 0

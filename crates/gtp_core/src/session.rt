@@ -7,6 +7,7 @@ ghost use Rattle.go_points.specs.declared.Colour.{Colour};
 ghost use Rattle.target_game.specs.State.{GameProblem};
 ghost use Rattle.gtp_core.specs.Lines.{request_of, request_with, words_of, bad_line, max_line};
 ghost use Rattle.gtp_core.specs.Words.{turn_at};
+ghost use Rattle.gtp_core.specs.Runs.{first_session};
 ghost use Rattle.gtp_core.specs.Session as spec;
 ghost use Rattle.gtp_core.specs.Serving.{Answers, Due, Meets, answers, board_text, command_due, due_of, fed_rows, needs_memory, output_of, plays, record_due, refuses, reply, solve_due, target_due, turn_due, with_region, within_due, within_text};
 ghost use Rattle.gtp_core.specs.declared.refusal.Refusal.TheVariants as refusal;
@@ -31,8 +32,8 @@ use tsumego_problem::{all_points, history_of};
 /// The longest raw line, without its line feed, in bytes.
 pub const MAX_LINE: usize = 4096;
 
-/// The size of the first board.
-const FIRST_SIZE: u8 = 19;
+/// The number of rows of the first board, before any is asked for: the usual one.
+pub(crate) const FIRST_SIZE: u8 = 19;
 
 /// The most states of a decision.
 const MAX_NODES: u64 = 1_000_000;
@@ -74,9 +75,9 @@ fn with_board(alloc: Global, size: Size) -> Result<Session, AllocError>
 }
 
 impl Session {
-    /// The session with a new board of 19 rows.
+    /// The session with a new board of the usual size.
     pub fn new(alloc: Global) -> Result<Session, AllocError>
-        ensures { IfOk result (λ s. s ≡ spec.new_session 19) }
+        ensures { IfOk result (λ s. s ≡ first_session) }
     {
         match Size::new(FIRST_SIZE) {
             Some(size) => with_board(alloc, size),

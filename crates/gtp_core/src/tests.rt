@@ -109,9 +109,67 @@ fn refusals_with_ids(rt: HostRuntime) {
     answers(
         &rt,
         rt.alloc(),
-        b"# hello\n\n7 boardsize 20\n8 undo\n9 nosuch\n10 protocol_version\n",
-        "?7 unacceptable size\n\n?8 cannot undo\n\n?9 unknown command\n\n=10 2\n\n",
+        b"# hello\n\n7 boardsize 20\n8 undo\n9 nosuch\n10 protocol_version\nboardsize 26\n",
+        "=7\n\n?8 cannot undo\n\n?9 unknown command\n\n=10 2\n\n? unacceptable size\n\n",
     );
+}
+
+const LETTERS: &str = "ABCDEFGHJKLMNOPQRSTUVWXYZ";
+
+fn add(rt: &impl Abort, text: &mut String, part: &str) {
+    text.push_str(part).expect(rt, "memory");
+}
+
+// One stone at a vertex of the board, taken back again.
+fn add_stone(rt: &impl Abort, input: &mut String, column: usize, row: usize) {
+    let letter = LETTERS.as_bytes().get(column).expect(rt, "a column");
+    add(rt, input, "play w ");
+    input.push(char::from(*letter)).expect(rt, "memory");
+    let number = format!(in *input.allocator(); "{row}\nundo\n").expect(rt, "memory");
+    add(rt, input, number.as_str());
+}
+
+#[test]
+fn the_upper_right_corner_of_the_widest_board(rt: HostRuntime) {
+    let mut wanted = String::new(rt.alloc());
+    add(&rt, &mut wanted, "=\n\n=\n\n= ........................X\n");
+    for _ in 0..23 {
+        add(&rt, &mut wanted, ".........................\n");
+    }
+    add(
+        &rt,
+        &mut wanted,
+        ".........................\n\n? illegal move\n\n",
+    );
+    answers(
+        &rt,
+        rt.alloc(),
+        b"boardsize 25\nplay b z25\nshowboard\nplay w z25\n",
+        wanted.as_str(),
+    );
+}
+
+// On one point a stone has no liberty.
+#[test]
+fn a_stone_at_every_vertex_of_every_board(rt: HostRuntime) {
+    answers(
+        &rt,
+        rt.alloc(),
+        b"boardsize 1\nplay w a1\n",
+        "=\n\n? illegal move\n\n",
+    );
+    for rows in 2..26usize {
+        let mut input = format!(in rt.alloc(); "boardsize {rows}\n").expect(&rt, "memory");
+        let mut wanted = String::new(rt.alloc());
+        add(&rt, &mut wanted, "=\n\n");
+        for row in 1..rows + 1 {
+            for column in 0..rows {
+                add_stone(&rt, &mut input, column, row);
+                add(&rt, &mut wanted, "=\n\n=\n\n");
+            }
+        }
+        answers(&rt, rt.alloc(), input.as_bytes(), wanted.as_str());
+    }
 }
 
 #[test]

@@ -1,6 +1,7 @@
 -- A tree that shows a win is a valid claim, which the checker refuses for want of memory alone.
 use Rattle.std.proofs.Common.{◌≡◌, ℕ, ◌*◌, ◌≤◌, not, ◌&&◌, nat_lt, List, [], ◌∷◌, ◌++◌, Option, Some, None, IsTrue, refl, sym, ap, ◌∙◌, subst, inl, inr, arith, map}
 use Rattle.std.specs.List.{list_all}
+use Rattle.go_points.specs.declared.TheConstants.{MAX_SIZE}
 use Rattle.go_points.specs.declared.Colour.{Colour}
 use Rattle.go_points.specs.declared.Cell.TheVariants.{Empty}
 use Rattle.go_points.specs.Grid.{same_cell, cell_at}
@@ -71,21 +72,21 @@ both_spelled n (Some l ∷ ls) h g = and_both (line_fits n l && numbers_spelled 
 abbrev plain_claim : GameProblem → Colour → Node → Claim
 plain_claim q x n = record { version = 1; size = q.game.size; winner = x; lemmas = []; main = n }
 
-valid_plain : (q : GameProblem) (x : Colour) (n : Node) → 1 ≤ q.game.size → q.game.size ≤ 25 → FitsNode (main_body x []) (start q) n → IsValid q (plain_claim q x n)
+valid_plain : (q : GameProblem) (x : Colour) (n : Node) → 1 ≤ q.game.size → q.game.size ≤ MAX_SIZE → FitsNode (main_body x []) (start q) n → IsValid q (plain_claim q x n)
 valid_plain q x n low high fits =
     let z : Claim = plain_claim q x n in
     let fitting : AllFitting q.game.size (lines_of z) = (refl, (refl, AllFitting-append q.game.size (node_lines n) (Some end_line ∷ []) (node_fitting n q.game (main_body x []) (start q) refl fits) (refl, tt))) in
     let good : AllGood (lines_of z) = (small_number q.game.size low (omega arith), (refl, AllGood-append (node_lines n) (Some end_line ∷ []) (node_good n (main_body x []) (start q) (omega arith) high fits) (refl, tt))) in
     record { spelled = spelled_text q.game.size (lines_of z) (both_spelled q.game.size (lines_of z) fitting good); size = refl; lemmas = tt; main = fits }
 
-checked_plain : (q : GameProblem) (x : Colour) (n : Node) → 1 ≤ q.game.size → q.game.size ≤ 25 → FitsNode (main_body x []) (start q) n → node_count n ≤ max_nodes → depth_of n ≤ max_depth → IsChecked q (plain_claim q x n)
+checked_plain : (q : GameProblem) (x : Colour) (n : Node) → 1 ≤ q.game.size → q.game.size ≤ MAX_SIZE → FitsNode (main_body x []) (start q) n → node_count n ≤ max_nodes → depth_of n ≤ max_depth → IsChecked q (plain_claim q x n)
 checked_plain q x n low high fits count depth = record {
   valid = valid_plain q x n low high fits;
   limits = record { lemmas = omega arith; nodes = omega arith; shallow = tt; shallow_main = depth; listed = omega arith };
 }
 
 -- the certificate of a tree, without lemmas
-pub checked_certificate : (q : GameProblem) (c : Certificate) → c.version ≡ One → c.size ≡ q.game.size → c.lemmas.items ≡ [] → 1 ≤ q.game.size → q.game.size ≤ 25 → IsConfirmable q c.winner c.main → IsChecked q (claim_of c)
+pub checked_certificate : (q : GameProblem) (c : Certificate) → c.version ≡ One → c.size ≡ q.game.size → c.lemmas.items ≡ [] → 1 ≤ q.game.size → q.game.size ≤ MAX_SIZE → IsConfirmable q c.winner c.main → IsChecked q (claim_of c)
 checked_certificate q c version size none low high h =
     let plain : plain_claim q c.winner (node_of q.game.size c.main) ≡ claim_of c = λ i. record { version = (sym (ap version_number version)) i; size = (sym size) i; winner = c.winner; lemmas = (sym (ap (map (lemma_of c.size)) none)) i; main = node_of ((sym size) i) c.main } in
     subst (λ (z : Claim). IsChecked q z) plain (checked_plain q c.winner (node_of q.game.size c.main) low high h.fits h.count h.depth)

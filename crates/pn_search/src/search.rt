@@ -17,7 +17,7 @@ use crate::share::Sharing;
 use crate::smaller::Smaller;
 use crate::verdict::{Budget, Cause, Verdict};
 use cert_check::{Checked, Why, check_held};
-use go_points::Colour;
+use go_points::{Colour, MAX_SIZE};
 use proof_cert::{Certificate, Node, Version};
 use std::alloc::Global;
 use target_game::Problem;
@@ -240,7 +240,7 @@ fn confirmed_plainly(alloc: Global, problem: Problem, winner: Colour, main: Node
     ensures cause { IfErr result (λ r. r.1 ≢ Steps) }
     ensures refused { IfErr result (λ r. r.1 ≢ Memory → IsConfirmable problem winner main → ⊥) }
 {
-    prove!(problem.size().rows() <= 25);
+    prove!(problem.size().rows() <= MAX_SIZE);
     let certificate = Certificate {
         version: Version::One,
         size: problem.size(),

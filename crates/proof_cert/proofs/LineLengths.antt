@@ -1,7 +1,8 @@
--- No line is longer than the longest line of a board of 19 rows.
+-- No line is longer than the longest line of the widest board.
 use Rattle.std.proofs.Common.{◌≡◌, ℕ, suc, ◌+◌, ◌*◌, ◌<◌, ◌≤◌, ◌⊎◌, inl, inr, Bool, true, false, ◌||◌, nat_eq, nat_le, nat_lt, eqb-true, leb-true, ltb-true, List, [], ◌∷◌, ◌++◌, length, Option, Some, None, IsTrue, codes, decimal, refl, ap, arith, length-append}
 use Rattle.std.proofs.lemmas.Fmt.{length-decimal-le}
 use Rattle.std.proofs.Math.Nat.{mul-le-mul}
+use Rattle.go_points.specs.declared.TheConstants.{MAX_SIZE, MAX_POINTS}
 use Rattle.go_points.specs.declared.Colour.{Colour}
 use Rattle.go_points.specs.declared.Colour.TheVariants.{Black, White}
 use Rattle.go_points.specs.declared.Cell.{Cell}
@@ -42,18 +43,18 @@ two_versions v h = at (or_true (nat_eq v 1) (nat_eq v 2) h)
     at (inl e) = let is : v ≡ 1 = eqb-true v 1 e in small_number v (omega (arith, is))
     at (inr e) = let is : v ≡ 2 = eqb-true v 2 e in small_number v (omega (arith, is))
 
-cells_most : (n : ℕ) (c : List Cell) → n ≤ 19 → IsTrue (nat_eq (length c) (n * n)) → length (text_of c) ≤ 361
+cells_most : (n : ℕ) (c : List Cell) → n ≤ MAX_SIZE → IsTrue (nat_eq (length c) (n * n)) → length (text_of c) ≤ MAX_POINTS
 cells_most n c small h =
     let same : length c ≡ n * n = eqb-true (length c) (n * n) h in
     let long = cells_long c in
-    let square : n * n ≤ 19 * 19 = mul-le-mul small small in
+    let square : n * n ≤ MAX_SIZE * MAX_SIZE = mul-le-mul small small in
     omega (arith, same, long, square)
 
 -- two parts, and their lengths
 joined : (a b : List ℕ) (k m : ℕ) → length a ≤ k → length b ≤ m → length (a ++ b) ≤ k + m
 joined a b k m h h' = let both = length-append a b in omega (arith, both)
 
-pub line_length : (n : ℕ) → n ≤ 19 → (l : Line) → IsTrue (is_spelled n (Some l)) → length (line_bytes n l) ≤ max_line
+pub line_length : (n : ℕ) → n ≤ MAX_SIZE → (l : Line) → IsTrue (is_spelled n (Some l)) → length (line_bytes n l) ≤ max_line
 line_length n small (header_line v size x) h =
     let spelled = and_second (line_fits n (header_line v size x)) (numbers_spelled (header_line v size x)) h in
     let version = two_versions v (and_first (nat_eq v 1 || nat_eq v 2) (is_spelled_number size) spelled) in
@@ -75,15 +76,15 @@ line_length n small (lemma_line k passes c) h =
     let second = joined (codes "lemma " ++ colour_letter k) (codes " ") 7 1 first (omega arith) in
     let third = joined (codes "lemma " ++ colour_letter k ++ codes " ") (decimal passes) 8 1 second digit in
     let fourth = joined (codes "lemma " ++ colour_letter k ++ codes " " ++ decimal passes) (codes " ") 9 1 third (omega arith) in
-    let whole = joined (codes "lemma " ++ colour_letter k ++ codes " " ++ decimal passes ++ codes " ") (text_of c) 10 361 fourth cells in
+    let whole = joined (codes "lemma " ++ colour_letter k ++ codes " " ++ decimal passes ++ codes " ") (text_of c) 10 MAX_POINTS fourth cells in
     omega (arith, whole)
 line_length n small (had_line c) h =
     let cells = cells_most n c small (and_first (line_fits n (had_line c)) true h) in
-    let whole = joined (codes "had ") (text_of c) 4 361 (omega arith) cells in
+    let whole = joined (codes "had ") (text_of c) 4 MAX_POINTS (omega arith) cells in
     omega (arith, whole)
 line_length n small (not_line c) h =
     let cells = cells_most n c small (and_first (line_fits n (not_line c)) true h) in
-    let whole = joined (codes "not ") (text_of c) 4 361 (omega arith) cells in
+    let whole = joined (codes "not ") (text_of c) 4 MAX_POINTS (omega arith) cells in
     omega (arith, whole)
 line_length n small main_line h = omega arith
 line_length n small won_line h = omega arith
@@ -106,7 +107,7 @@ line_length n small (reply_line t) h =
 line_length n small end_line h = omega arith
 
 -- longer bytes spell no line
-pub long_none : (n : ℕ) → n ≤ 19 → (b : List ℕ) → max_line < length b → line_of n b ≡ None
+pub long_none : (n : ℕ) → n ≤ MAX_SIZE → (b : List ℕ) → max_line < length b → line_of n b ≡ None
 long_none n small b long = at (line_of n b) refl
   where
     at : (o : Option Line) → line_of n b ≡ o → o ≡ None

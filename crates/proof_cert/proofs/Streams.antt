@@ -5,6 +5,7 @@ use Rattle.std.specs.Io.KnownBytes.{Consumes, IsAtEnd}
 use Rattle.std.proofs.lemmas.List.{length-take, get_or-take, drop-take, drop-drop, take-take, take-append-drop}
 use Rattle.std.proofs.Math.Seq.{drop-cons}
 use Rattle.std.proofs.Math.ListN.{drop_of_length-le}
+use Rattle.go_points.specs.declared.TheConstants.{MAX_SIZE}
 use Rattle.proof_cert.proofs.Pieces.{place}
 use Rattle.std.proofs.KnownBytes.{Consumes-nil, Consumes-trans}
 use Rattle.proof_cert.specs.Lines.{Line}
@@ -51,7 +52,7 @@ pub line_cut : (n : ℕ) (b : List ℕ) → 0 < length b → HasNoFeed b → lin
 line_cut n [] some h = absurd (omega arith)
 line_cut n (x ∷ b) some h = ap (lines n) (append-nil (x ∷ b)) ∙ ap (λ ps. map (line_of_piece n) ps) (pieces_cut x b h)
 
-pub line_long : (n : ℕ) → n ≤ 19 → (b more : List ℕ) → max_line < length b → HasNoFeed b → (rest : List (Option Line)) × (lines n (b ++ more) ≡ None ∷ rest)
+pub line_long : (n : ℕ) → n ≤ MAX_SIZE → (b more : List ℕ) → max_line < length b → HasNoFeed b → (rest : List (Option Line)) × (lines n (b ++ more) ≡ None ∷ rest)
 line_long n small [] more long h = absurd (omega arith)
 line_long n small (x ∷ b) more long h =
     let first = pieces_long x b more h in

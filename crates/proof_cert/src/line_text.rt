@@ -12,11 +12,11 @@ ghost use Rattle.proof_cert.specs.Taken.{TakesPart, Puts, line_text};
 use crate::certificate::Lemma;
 use crate::version::Version;
 use crate::write::{Held, MOST_HELD, WriteFault, hold, make_room};
-use go_points::{Cell, Colour, Colouring, Size, Turn, to_sgf};
+use go_points::{Cell, Colour, Colouring, MAX_POINTS, Size, Turn, to_sgf};
 use std::io::Write;
 
 /// The most digits of a number.
-const MOST_DIGITS: usize = 20;
+pub(crate) const MOST_DIGITS: usize = 20;
 
 /// Holds the digits of the number, the highest first.
 fn hold_number(number: usize, held: &mut Held)
@@ -135,7 +135,7 @@ pub(crate) fn put_not<W: Write>(
     ensures put { OnOk result (Puts (W.contents writer.old) (W.contents writer.new) held.old.items held.new.items (line_text size (Some (not_line colouring.now)))) }
     ensures cut { OnErr result (TakesPart (W.contents writer.old) (W.contents writer.new) (held.old.items ++ line_text size (Some (not_line colouring.now)))) }
 {
-    prove!(colouring.size().area() <= 361);
+    prove!(colouring.size().area() <= MAX_POINTS);
     make_room(held, writer)?;
     hold(b"not ", held);
     hold_cells(colouring, held);
@@ -153,7 +153,7 @@ fn put_had_line<W: Write>(
     ensures put { OnOk result (Puts (W.contents writer.old) (W.contents writer.new) held.old.items held.new.items (line_text size (Some (had_line colouring.now)))) }
     ensures cut { OnErr result (TakesPart (W.contents writer.old) (W.contents writer.new) (held.old.items ++ line_text size (Some (had_line colouring.now)))) }
 {
-    prove!(colouring.size().area() <= 361);
+    prove!(colouring.size().area() <= MAX_POINTS);
     make_room(held, writer)?;
     hold(b"had ", held);
     hold_cells(colouring, held);
@@ -189,7 +189,7 @@ pub(crate) fn put_lemma_line<W: Write>(
     ensures put { OnOk result (Puts (W.contents writer.old) (W.contents writer.new) held.old.items held.new.items (line_text size (Some (lemma_line lemma.now.mover lemma.now.passes lemma.now.root)))) }
     ensures cut { OnErr result (TakesPart (W.contents writer.old) (W.contents writer.new) (held.old.items ++ line_text size (Some (lemma_line lemma.now.mover lemma.now.passes lemma.now.root)))) }
 {
-    prove!(lemma.root.size().area() <= 361);
+    prove!(lemma.root.size().area() <= MAX_POINTS);
     make_room(held, writer)?;
     hold(b"lemma ", held);
     hold_letter(lemma.mover, held);

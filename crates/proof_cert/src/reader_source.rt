@@ -10,12 +10,12 @@ use crate::node_source::NodeSource;
 use crate::source::SourceFault;
 use crate::told_bytes::{ReadFailed, ToldBytes};
 use arrayvec::ArrayVec;
-use go_points::Size;
+use go_points::{MAX_POINTS, MAX_SIZE, Size};
 use std::io::Read;
 use std::marker::Model;
 
-/// The longest line, without its line feed, in bytes.
-pub const MAX_LINE: usize = 371;
+/// The longest line, without its line feed, in bytes: `lemma B 0 ` and the cells of the widest board.
+pub const MAX_LINE: usize = 10 + MAX_POINTS;
 
 /// More lines than a source gives.
 const TOO_MANY: u64 = 18_446_744_073_709_551_614;
@@ -83,7 +83,7 @@ fn cut_line<R: Read + Drop>(
 ) -> Result<Option<Line>, SourceFault>
     ensures { IsRead size bytes.old bytes.new (answer_value size result) }
 {
-    prove!(size.rows() <= 19);
+    prove!(size.rows() <= MAX_SIZE);
     let mut line = ArrayVec::new();
     match read_piece(bytes, &mut line) {
         Ok(Ending::LineFeed) => match Line::from_text(size, line.as_slice()) {

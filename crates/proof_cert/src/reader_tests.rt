@@ -1,7 +1,7 @@
 //! Lines that a reader gives, however it cuts its bytes, and where it fails.
 
 use crate::{Line, MAX_LINE, NodeSource, ReaderSource, SourceFault, Version};
-use go_points::{Colour, Size, Turn};
+use go_points::{Colour, MAX_POINTS, MAX_SIZE, Size, Turn};
 use std::io;
 use std::io::{ErrorKind, Read};
 use std::process::Abort;
@@ -115,21 +115,23 @@ fn a_reader_that_fails(rt: HostRuntime) {
 
 #[test]
 fn the_longest_line(rt: HostRuntime) -> Result<(), Fail> {
-    let size = Size::new(19).expect(&rt, "a size");
+    let size = Size::new(MAX_SIZE).expect(&rt, "a size");
     let mut text = Vec::new(rt.alloc());
     text.extend_from_slice(b"lemma B 0 ")?;
-    for _ in 0..361 {
+    for _ in 0..MAX_POINTS {
         text.push(b'.')?;
     }
-    assert_eq!(rt; text.len(), MAX_LINE);
+    assert_eq!(rt; text.len(), 635);
+    assert_eq!(rt; MAX_LINE, 635);
     let mut longer = text.clone()?;
     text.push(b'\n')?;
-    longer.extend_from_slice(b".\n")?;
+    let malformed = (0, Some(SourceFault::Malformed));
+    assert_eq!(rt; count(size, longer.as_slice()), malformed);
+    longer.push(b'.')?;
+    assert_eq!(rt; count(size, longer.as_slice()), malformed);
+    longer.push(b'\n')?;
     assert_eq!(rt; count(size, text.as_slice()), (1, None));
-    assert_eq!(rt;
-        count(size, longer.as_slice()),
-        (0, Some(SourceFault::Malformed))
-    );
+    assert_eq!(rt; count(size, longer.as_slice()), malformed);
     Ok(())
 }
 

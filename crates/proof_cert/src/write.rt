@@ -7,6 +7,8 @@ ghost use Rattle.std.specs.Io.KnownBytes.{Appends};
 ghost use Rattle.arrayvec.specs.ArrayVec.{array_vec_len};
 ghost use Rattle.proof_cert.specs.Taken.{TakesPart, Puts};
 
+use crate::line_text::MOST_DIGITS;
+use crate::reader_source::MAX_LINE;
 use arrayvec::ArrayVec;
 use std::io::Write;
 use thiserror::Error;
@@ -30,8 +32,8 @@ pub(crate) struct WriteFault;
 /// How many bytes are gathered before they are written.
 pub(crate) const MOST_HELD: usize = 4096;
 
-/// Room for any line: the longest has 372 bytes, and a number is given room for all digits that it could have.
-pub(crate) const LINE_ROOM: usize = 400;
+/// Room for any line, with its line feed: the longest, and for a number in it all the digits that it could have.
+pub(crate) const LINE_ROOM: usize = MAX_LINE + 1 + MOST_DIGITS;
 
 /// Bytes that are still to be written.
 pub(crate) type Held = ArrayVec<u8, MOST_HELD>;

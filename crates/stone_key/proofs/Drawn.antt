@@ -4,6 +4,7 @@ use Rattle.rand_core.specs.Steps.{first_words}
 use Rattle.rand_core.specs.Pcg32Seed.{pcg32_seed}
 use Rattle.rand_pcg.specs.Lcg.{Lcg}
 use Rattle.rand_pcg.specs.Pcg.{pcg64, pcg64_of_seed}
+use Rattle.stone_key.specs.declared.words.TheConstants.{WORD_COUNT}
 use Rattle.stone_key.specs.Key.{generator_after, word_after}
 use Rattle.stone_key.proofs.Table.{table}
 
@@ -26,5 +27,5 @@ word_at (suc count) (suc k) i h =
     ∙ word_at count k (suc i) (omega (arith, h))
     ∙ ap word_after (omega arith)
 
-pub drawn_at : (k : ℕ) → k < 722 → slice_index (first_words pcg64 722 (pcg64_of_seed (pcg32_seed 32 1))) k ≡ word_after k
-drawn_at k h = ap (λ g. slice_index (first_words pcg64 722 g) k) (sym first_generator) ∙ word_at 722 k 0 h ∙ ap word_after (omega arith)
+pub drawn_at : (k : ℕ) → k < WORD_COUNT → slice_index (first_words pcg64 WORD_COUNT (pcg64_of_seed (pcg32_seed 32 1))) k ≡ word_after k
+drawn_at k h = ap (λ g. slice_index (first_words pcg64 WORD_COUNT g) k) (sym first_generator) ∙ word_at WORD_COUNT k 0 h ∙ ap word_after (omega arith)

@@ -410,6 +410,69 @@ fn a_history_has_a_thousand_colourings_at_most(rt: HostRuntime) {
     }
 }
 
+// The start of a problem on the widest board with this colouring, where every point is in the region.
+fn start_on_the_widest(
+    rt: &impl Abort,
+    alloc: Global,
+    colouring: Colouring,
+    target: Point,
+) -> Play {
+    let mut targets = PointSet::new();
+    targets.insert(target);
+    let mut region = PointSet::new();
+    for point in Size::new(MAX_SIZE).expect(rt, "a size").points() {
+        region.insert(point);
+    }
+    let mut history = Vec::new(alloc);
+    history.push(colouring).expect(rt, "memory");
+    let problem = Problem::new(history, 0, Colour::Black, 0, targets, region);
+    State::of(alloc, &problem.expect(rt, "a problem")).expect(rt, "memory")
+}
+
+#[test]
+fn turns_on_the_widest_board(rt: HostRuntime) {
+    let size = Size::new(MAX_SIZE).expect(&rt, "a size");
+    let first = size.point(0, 0).expect(&rt, "a point");
+    let mut colouring = Colouring::empty(size);
+    if colouring.size().holds(first) {
+        colouring.set(first, Cell::Stone(Colour::White));
+    }
+    let state = start_on_the_widest(&rt, rt.alloc(), colouring, first);
+    let turns = state.turns();
+    assert_eq!(rt; turns.len(), 625);
+    assert_eq!(rt; turns.as_slice().last(), Some(&Turn::Pass));
+    for number in 1..size.area() {
+        assert_eq!(rt;
+            turns.as_slice().get(number - 1),
+            Some(&Turn::At(size.point_at(number)))
+        );
+    }
+}
+
+// White's stones fill the widest board but for the last point, where Black takes all of them.
+#[test]
+fn a_capture_of_all_the_widest_board_holds(rt: HostRuntime) {
+    let size = Size::new(MAX_SIZE).expect(&rt, "a size");
+    let mut colouring = Colouring::empty(size);
+    for number in 0..size.area() - 1 {
+        let size = colouring.size();
+        if number < size.area() {
+            colouring.set(size.point_at(number), Cell::Stone(Colour::White));
+        }
+    }
+    let last = size.point_at(size.area() - 1);
+    let mut state = start_on_the_widest(&rt, rt.alloc(), colouring, size.point_at(0));
+    assert_eq!(rt;
+        state.turns().as_slice(),
+        [Turn::At(last), Turn::Pass].as_slice()
+    );
+    assert!(rt; play(&mut state, Turn::At(last)));
+    assert_eq!(rt; state.over(), Some(Colour::Black));
+    let mut left = Colouring::empty(size);
+    left.set(last, Cell::Stone(Colour::Black));
+    assert_eq!(rt; state.colouring(), left);
+}
+
 #[test]
 fn a_problem_tells_its_parts(rt: HostRuntime) {
     let all = history(&rt, rt.alloc(), &[".XOXO....", "O.OXO...."]);

@@ -3,6 +3,7 @@ use Rattle.std.proofs.Common.{◌≡◌, ℕ, ◌<◌, ◌≤◌, Bool, true, fa
 use Rattle.std.proofs.KnownBytes.{Appends-trans}
 use Rattle.std.specs.Prelude.{IsSomeAnd, IsSome, ◌↔◌, is_err, IfOk, OnOk, OnErr}
 use Rattle.std.specs.Io.KnownBytes.{Appends}
+use Rattle.go_points.specs.declared.TheConstants.{MAX_SIZE}
 use Rattle.target_game.specs.State.{GameProblem, start}
 use Rattle.sgf_text.specs.Taken.{TakesPart}
 use Rattle.sgf_text.proofs.TakenLemmas.{front_cut}
@@ -64,7 +65,7 @@ module _ (k : CheckedClaim) (checked : IsChecked k.problem (claim_of k.certifica
   pub too_large : IsSolutionOf k None → MayAnswer false k.problem Unanswered too_large_text
   too_large large = inr (refl, refl, (claim_of k.certificate, checked.valid, large), refl)
 
-  pub claim_solves : AcceptsValidTexts → CanonicalReads → IsProblem k.problem → 1 ≤ k.problem.game.size → k.problem.game.size ≤ 25 → (tree : GameTree) → IsTrue (is_tree tree) → tree ≡ canonical k.problem
+  pub claim_solves : AcceptsValidTexts → CanonicalReads → IsProblem k.problem → 1 ≤ k.problem.game.size → k.problem.game.size ≤ MAX_SIZE → (tree : GameTree) → IsTrue (is_tree tree) → tree ≡ canonical k.problem
       → (bytes : List ℕ) → claim_text k ≡ Some bytes → Solved true k.problem (line (tree_text tree) ++ bytes)
   claim_solves accepts read kept low high tree whole is bytes spelled =
       let q = k.problem in

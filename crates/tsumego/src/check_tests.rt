@@ -2,6 +2,7 @@
 
 use crate::status::Status;
 use crate::tests::{answers, checks};
+use go_points::MAX_POINTS;
 use std::alloc::Global;
 use std::process::Abort;
 
@@ -247,9 +248,9 @@ fn a_claim_has_at_most_65535_lemmas(rt: HostRuntime) {
     );
 }
 
-// The points of a board of 19 rows: these hold black stones, this one a white one, the others nothing.
+// The points of the widest board: these hold black stones, this one a white one, the others nothing.
 fn add_cells(rt: &impl Abort, text: &mut String, black: &[usize], white: Option<usize>) {
-    for number in 0..361 {
+    for number in 0..MAX_POINTS {
         let cell = if black.contains(&number) {
             'X'
         } else if white == Some(number) {
@@ -261,39 +262,45 @@ fn add_cells(rt: &impl Abort, text: &mut String, black: &[usize], white: Option<
     }
 }
 
-// A capture in the lower right corner of the greatest board, as a lemma. The stones are at sr (341), rs (359) and ss (360).
-fn widest_lines(alloc: Global, rt: &impl Abort, behind: &str) -> String {
+// A capture in the lower right corner of the widest board, as a lemma. The stones are at yx (599), xy (623) and yy (624).
+fn widest_lines(alloc: Global, rt: &impl Abort, header: &str, more: &str) -> String {
     let mut input = String::new(alloc);
-    input
-        .push_str("(;AB[sr]AW[ss]PL[B]TR[ss]SQ[rs])\ntsucert 1 19 B\nlemma B 0 ")
-        .expect(rt, "memory");
-    add_cells(rt, &mut input, &[341], Some(360));
-    input.push_str(behind).expect(rt, "memory");
+    for part in [
+        "(;SZ[25]AB[yx]AW[yy]PL[B]TR[yy]SQ[xy])\n",
+        header,
+        "\nlemma B 0 ",
+    ] {
+        input.push_str(part).expect(rt, "memory");
+    }
+    add_cells(rt, &mut input, &[599], Some(624));
+    input.push_str(more).expect(rt, "memory");
     input.push_str("\nnot ").expect(rt, "memory");
-    add_cells(rt, &mut input, &[341, 359], None);
+    add_cells(rt, &mut input, &[599, 623], None);
     input
-        .push_str("\nplay rs\nwon\nend\nmain\nuse 1\nend\n")
+        .push_str("\nplay xy\nwon\nend\nmain\nuse 1\nend\n")
         .expect(rt, "memory");
     input
 }
 
-// The longest line has 371 bytes.
+// The longest line has 635 bytes, in both versions.
 #[test]
-fn a_line_has_at_most_371_bytes(rt: HostRuntime) {
-    let widest = widest_lines(rt.alloc(), &rt, "");
-    checks(
-        &rt,
-        rt.alloc(),
-        widest.as_str(),
-        Status::Answered,
-        "wins Black\n",
-    );
-    let wider = widest_lines(rt.alloc(), &rt, ".");
-    checks(
-        &rt,
-        rt.alloc(),
-        wider.as_str(),
-        Status::Unanswered,
-        "rejected line 2: C01 malformed\n",
-    );
+fn a_line_has_at_most_635_bytes(rt: HostRuntime) {
+    for header in ["tsucert 1 25 B", "tsucert 2 25 B"] {
+        let widest = widest_lines(rt.alloc(), &rt, header, "");
+        checks(
+            &rt,
+            rt.alloc(),
+            widest.as_str(),
+            Status::Answered,
+            "wins Black\n",
+        );
+        let wider = widest_lines(rt.alloc(), &rt, header, ".");
+        checks(
+            &rt,
+            rt.alloc(),
+            wider.as_str(),
+            Status::Unanswered,
+            "rejected line 2: C01 malformed\n",
+        );
+    }
 }

@@ -37,6 +37,8 @@ mod status;
 mod tests;
 mod texts;
 #[cfg(test)]
+mod widest_tests;
+#[cfg(test)]
 mod within_tests;
 
 use answer::write_text;

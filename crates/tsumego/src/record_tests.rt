@@ -60,7 +60,7 @@ fn records_are_refused(rt: HostRuntime) {
             "refused: sgf 2 syntax at 18\n",
         ),
         (
-            "(;SZ[20]AW[aa]TR[aa])",
+            "(;SZ[26]AW[aa]TR[aa])",
             Status::Refused,
             "refused: problem 2 size\n",
         ),
@@ -177,10 +177,13 @@ fn records_are_refused(rt: HostRuntime) {
 
 #[test]
 fn records_have_problems(rt: HostRuntime) {
-    let records: [&str; 12] = [
+    let records: [&str; 15] = [
         "(;GM[1]SZ[3]AW[aa]HA[2]KO[]KM[6.5]C[a\\]: x]PL[W]TR[aa](;B[ba])(;B[ca]))",
         "(;SZ[3]AW[aa](;PL[W]TR[aa])(;TR[dd]))",
         "(;SZ[19:19]AW[ss]PL[W]TR[ss])",
+        "(;SZ[20]AW[aa]PL[W]TR[aa])",
+        "(;SZ[25:+25]AW[yy]PL[W]TR[yy])",
+        "(;SZ[20]AW[tt]PL[W]TR[tt]SQ[ss:tt])",
         "(;SZ[+009]AW[ii]PL[W]TR[ii])",
         "(;AW[ss]PL[W]TR[ss])",
         "(;SZ[ 3 ]AW[ aa ]PL[ White\n]TR[\taa])",

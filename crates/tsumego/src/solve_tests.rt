@@ -148,7 +148,7 @@ fn no_record_is_refused(rt: HostRuntime) {
         ("", "refused: sgf 1 no tree\n"),
         ("(;", "refused: sgf 2 syntax at 2\n"),
         ("(;FF[4]SZ[3]AB[aa)", "refused: sgf 2 syntax at 18\n"),
-        ("(;SZ[20]AW[aa]TR[aa])", "refused: problem 2 size\n"),
+        ("(;SZ[26]AW[aa]TR[aa])", "refused: problem 2 size\n"),
         ("(;SZ[3]AW[aa])", "refused: problem 3 no problem node\n"),
         (
             "(;SZ[3]AB[aa]AW[aa]TR[aa])",

@@ -13,7 +13,7 @@ ghost use Rattle.tsumego_problem.specs.Refusals.{sgf_refusal, problem_refusal, p
 ghost use Rattle.tsumego.specs.Texts.{line, wins_text, rejected_line_text, claim_fault_text, rejected_node_text, audit_fault_text, no_memory_text, no_read_text, search_cause_text, unknown_text};
 
 use cert_check::{Reject, Why};
-use go_points::{Colour, Point, Size, Turn, to_sgf};
+use go_points::{Colour, MAX_SIZE, Point, Size, Turn, to_sgf};
 use pn_search::Cause;
 use sgf_text::SgfFault;
 use solution_tree::{AuditFault, AuditWhy};
@@ -206,7 +206,7 @@ fn letters_of(size: Size, point: Point) -> [u8; 2]
     ensures value { result ≡ vertex_text size (ply_of size (At point)) }
     ensures ascii { All (λ letter. letter < 128) result }
 {
-    prove!(size.area() > 0 && point.col() < 19 && point.row() < 19);
+    prove!(size.area() > 0 && point.col() < MAX_SIZE && point.row() < MAX_SIZE);
     if size.holds(point) {
         to_sgf(point)
     } else {

@@ -4,6 +4,7 @@ use Rattle.std.specs.Prelude.{Bool, true, false, not, ◌&&◌, ◌==◌, cond, 
 use Rattle.std.specs.List.{list_all}
 use Rattle.std.specs.Str.{bytes_eq}
 use Rattle.std.proofs.lemmas.List.{append_assoc}
+use Rattle.go_points.specs.declared.TheConstants.{MAX_SIZE}
 use Rattle.go_points.specs.declared.Colour.{Colour}
 use Rattle.go_points.specs.declared.Colour.TheVariants.{Black, White}
 use Rattle.go_points.specs.declared.Cell.TheVariants.{Empty}
@@ -65,7 +66,7 @@ below_past (m ∷ ms) node nodes children deeper h g =
 
 -- ---- turns and their nodes
 
-module _ (n : ℕ) (low : 1 ≤ n) (high : n ≤ 19) where
+module _ (n : ℕ) (low : 1 ≤ n) (high : n ≤ MAX_SIZE) where
   move_reads : (p : ℕ) → p < n * n → turn_in n (point_value n p) ≡ Some (move p)
   move_reads p h =
       ap (turn_named n) (trim_two (97 + p % n) (97 + p / n) (letter_white (p % n)) (letter_white (p / n)))

@@ -18,6 +18,7 @@ use Rattle.target_game.specs.State.{GameProblem}
 use Rattle.sgf_text.specs.Trees.{Node, Forest, no_tree, tree_then, GameTree}
 use Rattle.sgf_text.specs.Nodes.{values_at}
 use Rattle.tsumego_problem.specs.Values.{points_of, turn_in, size_in, colour_in, trim}
+use Rattle.tsumego_problem.specs.declared.read.TheConstants.{DEFAULT_SIZE}
 use Rattle.tsumego_problem.specs.declared.fault.SingleProperty.TheVariants as single
 use Rattle.tsumego_problem.specs.declared.fault.TurnFaultCause.TheVariants.{Occupied, Repeats}
 use Rattle.tsumego_problem.specs.declared.fault.ProblemFault.{ProblemFault}
@@ -219,7 +220,7 @@ walk limit n k (node ∷ nodes) w = walk_node limit n k node w >>= (λ v. walk l
 
 -- ---- the problem
 
--- FF[4], GM and SZ, of the root alone: 1 and 19 where they are not given
+-- FF[4], GM and SZ, of the root alone: 1 and the default size where they are not given
 abbrev pub is_one : List (List ℕ) → Bool
 is_one [] = true
 is_one (value ∷ values) = is_empty values && bytes_eq (trim value) (codes "1")
@@ -232,7 +233,7 @@ abbrev pub board_of : ℕ → Option ℕ
 board_of n = if nat_le 1 n && nat_le n MAX_SIZE then Some n else None
 
 abbrev pub size_of : List (List ℕ) → Option ℕ
-size_of [] = Some 19
+size_of [] = Some DEFAULT_SIZE
 size_of (value ∷ []) = option_and_then board_of (size_in value)
 size_of (value ∷ other ∷ values) = None
 

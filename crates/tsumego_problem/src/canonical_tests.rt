@@ -25,7 +25,7 @@ fn canonical(alloc: Global, text: &[u8], same: &mut bool) -> Result<Vec<u8>, Fai
 #[test]
 fn writes_canonical_records(rt: HostRuntime) -> Result<(), Fail> {
     let alloc = rt.alloc();
-    let rows: [(&[u8], &[u8]); 6] = [
+    let rows: [(&[u8], &[u8]); 9] = [
         (
             b"(;FF[4]SZ[3]AB[ba:ca][ab:cb][ac:bc]PL[W]TR[bb]SQ[aa][cc])",
             b"(;FF[4]GM[1]SZ[3]AB[ba][ca][ab][bb][cb][ac][bc];PL[W]TR[bb]SQ[aa][cc])",
@@ -50,6 +50,19 @@ fn writes_canonical_records(rt: HostRuntime) -> Result<(), Fail> {
             b"(;FF[4]GM[1]SZ[2];AW[ba];W[];PL[B]TR[ba])",
         ),
         (b"(;AB[sa]TR[sa])", b"(;FF[4]GM[1]SZ[19]AB[sa];PL[B]TR[sa])"),
+        // The letters of a pass are a point's on boards over 19 rows.
+        (
+            b"(;SZ[20]AB[st]AW[tt]PL[B]TR[tt]SQ[ts:tt])",
+            b"(;FF[4]GM[1]SZ[20]AB[st]AW[tt];PL[B]TR[tt]SQ[ts][tt])",
+        ),
+        (
+            b"(;SZ[25:25];B[tt];W[yy]TR[yy]SQ[ay:by][ya:yb])",
+            b"(;FF[4]GM[1]SZ[25];AB[tt];AW[yy];PL[B]TR[yy]SQ[ya][yb][ay][by])",
+        ),
+        (
+            b"(;SZ[20]AW[aa];W[];B[tt]TR[aa])",
+            b"(;FF[4]GM[1]SZ[20]AW[aa];AB[tt];PL[W]TR[aa])",
+        ),
     ];
     for (text, expected) in rows {
         let mut same = false;

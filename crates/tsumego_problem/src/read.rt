@@ -33,12 +33,15 @@ fn is_go(root: &SgfNode) -> bool
     }
 }
 
-/// The size that the root gives: 19 where SZ is absent.
+/// The number of rows of a board whose record does not say it, as SGF FF[4] has it for Go ("Root properties", SZ).
+pub(crate) const DEFAULT_SIZE: u8 = 19;
+
+/// The size that the root gives: the default where SZ is absent.
 fn board_size(root: &SgfNode) -> Option<Size>
     ensures { result ≡ board_size root.now }
 {
     match values_at(b"SZ", root) {
-        [] => Size::new(19),
+        [] => Size::new(DEFAULT_SIZE),
         [value] => read_size(value.as_slice()),
         _ => None,
     }

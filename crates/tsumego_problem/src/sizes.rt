@@ -16,8 +16,12 @@ fn with_digit(number: u8, digit: u8) -> Option<u8>
     if !digit.is_ascii_digit() {
         return None;
     }
-    let next = 10 * number + (digit - b'0');
-    if next <= MAX_SIZE { Some(next) } else { None }
+    let next = 10 * number as u16 + (digit - b'0') as u16;
+    if next <= MAX_SIZE as u16 {
+        Some(next as u8)
+    } else {
+        None
+    }
 }
 
 /// The board with so many rows as these digits say.

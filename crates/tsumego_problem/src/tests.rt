@@ -5,7 +5,7 @@ use crate::named_points::read_points;
 use crate::sizes::read_size;
 use crate::values::read_colour;
 use crate::{ProblemFault, SingleProperty, TurnFaultCause, problem_node, read_problem, read_turn};
-use go_points::{Colour, Size, Turn, sgf_point};
+use go_points::{Colour, MAX_SIZE, Size, Turn, sgf_point, to_sgf};
 use sgf_text::read_tree;
 use std::alloc::Global;
 use std::process::Abort;
@@ -34,15 +34,42 @@ fn reads_turns(rt: HostRuntime) {
 }
 
 #[test]
+fn reads_moves_at_every_point_of_every_board(rt: HostRuntime) {
+    for rows in 1..MAX_SIZE + 1 {
+        let size = Size::new(rows).expect(&rt, "a size");
+        for number in 0..size.area() {
+            let point = size.point_at(number);
+            assert_eq!(rt; read_turn(size, &to_sgf(point)), Some(Turn::At(point)));
+        }
+    }
+}
+
+#[test]
+fn reads_tt_as_a_point_where_it_is_one(rt: HostRuntime) {
+    for rows in 1..MAX_SIZE + 1 {
+        let size = Size::new(rows).expect(&rt, "a size");
+        let turn = match size.point(19, 19) {
+            Some(point) => Turn::At(point),
+            None => Turn::Pass,
+        };
+        assert_eq!(rt; read_turn(size, b"tt"), Some(turn));
+        assert_eq!(rt; read_turn(size, b" tt "), Some(turn));
+        assert_eq!(rt; turn == Turn::Pass, rows <= 19);
+    }
+}
+
+#[test]
 fn reads_sizes(rt: HostRuntime) {
-    let rows: [(&[u8], Option<u8>); 15] = [
+    let rows: [(&[u8], Option<u8>); 17] = [
         (b"9", Some(9)),
         (b"+009", Some(9)),
         (b"19:19", Some(19)),
         (b" 3:+03 ", Some(3)),
         (b"1", Some(1)),
         (b"0", None),
-        (b"20", None),
+        (b"20", Some(20)),
+        (b"+025:25", Some(25)),
+        (b"26", None),
         (b"256", None),
         (b"18446744073709551625", None),
         (b"9:19", None),
@@ -142,7 +169,7 @@ fn finds_the_problem_node(rt: HostRuntime) -> Result<(), Fail> {
 #[test]
 fn walks_along_the_main_line(rt: HostRuntime) -> Result<(), Fail> {
     let alloc = rt.alloc();
-    let rows: [(&[u8], usize, usize, Colour, u64); 5] = [
+    let rows: [(&[u8], usize, usize, Colour, u64); 7] = [
         (b"(;SZ[3]AW[aa]TR[aa])", 1, 0, Colour::Black, 0),
         (
             b"(;SZ[3]AW[aa];B[bb];W[];PL[B]TR[aa])",
@@ -172,6 +199,8 @@ fn walks_along_the_main_line(rt: HostRuntime) -> Result<(), Fail> {
             Colour::Black,
             1,
         ),
+        (b"(;SZ[19]AW[aa];W[tt]TR[aa])", 1, 0, Colour::Black, 1),
+        (b"(;SZ[20]AW[aa];W[tt]TR[tt])", 2, 1, Colour::Black, 0),
     ];
     for (text, colourings, place, mover, passes) in rows {
         let (tree, _end) = read_tree(alloc, text)?;

@@ -1,8 +1,8 @@
-//! The problems that are measured: one corner, on boards of three sizes, and after many positions.
+//! The problems that are measured: one corner, on boards of five sizes, and after many positions.
 
 ghost use Rattle.std.specs.Prelude.{◌≤◌};
 
-use go_points::{Cell, Colour, Colouring, PointSet, Size, sgf_point};
+use go_points::{Cell, Colour, Colouring, MAX_SIZE, PointSet, Size, sgf_point};
 use std::alloc::Global;
 use std::io;
 use std::io::ErrorKind;
@@ -29,7 +29,7 @@ pub struct Sample {
 }
 
 /// All of them.
-pub fn samples() -> [Sample; 4] {
+pub fn samples() -> [Sample; 6] {
     [
         Sample {
             rows: 5,
@@ -47,7 +47,17 @@ pub fn samples() -> [Sample; 4] {
             past: LONG_PAST,
         },
         Sample {
+            rows: 13,
+            turns: 8,
+            past: 0,
+        },
+        Sample {
             rows: 19,
+            turns: 8,
+            past: 0,
+        },
+        Sample {
+            rows: MAX_SIZE,
             turns: 8,
             past: 0,
         },

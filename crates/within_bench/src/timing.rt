@@ -4,6 +4,7 @@ ghost use Rattle.std.specs.Prelude.{◌≤◌};
 
 use crate::samples::Sample;
 use crate::tape::Step;
+use go_points::MAX_SIZE;
 use go_turns::{PlayBoard, PlaySeen, Record};
 use std::io;
 use std::io::ErrorKind;
@@ -30,7 +31,7 @@ pub fn time_deciding<R: Clock + AllocGlobal>(
 /// How long it takes to make the problem of the widest board with this many positions before, on average.
 pub fn time_making<R: Clock + AllocGlobal>(rt: &R, past: u16) -> io::Result<Duration> {
     let sample = Sample {
-        rows: 19,
+        rows: MAX_SIZE,
         turns: 0,
         past,
     };

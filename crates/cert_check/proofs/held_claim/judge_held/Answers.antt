@@ -1,4 +1,5 @@
 use Rattle.std.proofs.Common.{rules, arith, ◌≡◌, ◌≤◌, Some, None, IfOk, IfErr, ◌∙◌, subst, refl}
+use Rattle.go_points.specs.declared.TheConstants.{MAX_SIZE}
 use Rattle.proof_cert.specs.Certificate.{claim_of}
 use Rattle.proof_cert.specs.Held.{Held, held_gives}
 use Rattle.cert_check.specs.declared.reject.Why.TheVariants as stops
@@ -15,9 +16,9 @@ returns-clause-ok c =
     let z = claim_of c.args.certificate.now in
     let rows : c.rows.result ≡ q.game.size = c.rows.ensures.value ∙ c.size.ensures in
     let least : 1 ≤ c.rows.result = c.rows.ensures.least in
-    let most : c.rows.result ≤ 19 = c.rows.ensures.most in
+    let most : c.rows.result ≤ MAX_SIZE = c.rows.ensures.most in
     let low : 1 ≤ q.game.size = omega (arith, rows, least) in
-    let high : q.game.size ≤ 25 = omega (arith, rows, most) in
+    let high : q.game.size ≤ MAX_SIZE = omega (arith, rows, most) in
     let named : z.size ≡ c.size-2.result = search rules in
     let size : z.size ≡ q.game.size = named ∙ c.size-2.ensures in
     let checked = subst (λ (h : Held). IfOk c.check.result (λ x. Accepts held_gives h.size q h x)) c.new.ensures c.check.ensures.ok in
@@ -29,9 +30,9 @@ returns-clause-err c =
     let z = claim_of c.args.certificate.now in
     let rows : c.rows.result ≡ q.game.size = c.rows.ensures.value ∙ c.size.ensures in
     let least : 1 ≤ c.rows.result = c.rows.ensures.least in
-    let most : c.rows.result ≤ 19 = c.rows.ensures.most in
+    let most : c.rows.result ≤ MAX_SIZE = c.rows.ensures.most in
     let low : 1 ≤ q.game.size = omega (arith, rows, least) in
-    let high : q.game.size ≤ 25 = omega (arith, rows, most) in
+    let high : q.game.size ≤ MAX_SIZE = omega (arith, rows, most) in
     let named : z.size ≡ c.size-2.result = search rules in
     let size : z.size ≡ q.game.size = named ∙ c.size-2.ensures in
     let rejects = subst (λ (h : Held). h.fault ≡ None → IfErr c.check.result (λ e. (w : Why) → why_value q.game.size e.why ≡ Some w → RejectsAt held_gives h.size q h e.place w)) c.new.ensures c.check.ensures.err refl in

@@ -1,4 +1,5 @@
 use Rattle.std.proofs.Common.{rules, arith, ◌≡◌, ◌≤◌, ◌<◌, ◌++◌, [], ◌∷◌, ℕ, List, Option, option_map, length, sym, ap, ◌∙◌, subst, length-append}
+use Rattle.go_points.specs.declared.TheConstants.{MAX_SIZE}
 use Rattle.proof_cert.specs.Lines.{Line}
 use Rattle.proof_cert.specs.Stage.{line_value}
 use Rattle.proof_cert.specs.Streamed.{IsPiece, bytes_left}
@@ -39,7 +40,7 @@ returns-in-Ok-TooLong g c =
     let more = bytes_left c.read_piece.new.bytes in
     let piece = subst (λ (e : Ending). IsPiece c.args.bytes.now c.read_piece.new.bytes b e) c.in-Ok-TooLong.field-0-is c.in-Ok-TooLong.ensures in
     let rows : c.rows.result ≡ n = c.rows.ensures.value in
-    let most : c.rows.result ≤ 19 = c.rows.ensures.most in
+    let most : c.rows.result ≤ MAX_SIZE = c.rows.ensures.most in
     let whole = length-append b (piece.0 ∷ []) in
     let long = piece.3 in
     let first = line_long n (omega (arith, rows, most)) (b ++ piece.0 ∷ []) more (omega (arith, whole, long)) piece.1 in

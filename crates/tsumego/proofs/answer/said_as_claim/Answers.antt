@@ -1,5 +1,6 @@
 use Rattle.std.proofs.Common.{◌≡◌, ◌≤◌, ◌∙◌, ◌++◌, true, refl, inl, rules, ap, subst, ℕ, List, Some, IsTrue}
 use Rattle.std.specs.Prelude.{IsSomeAnd}
+use Rattle.go_points.specs.declared.TheConstants.{MAX_SIZE}
 use Rattle.sgf_text.specs.Text.{is_tree, tree_text}
 use Rattle.tsumego_problem.specs.Laws.{IsProblem}
 use Rattle.tsumego_problem.specs.Canonical.{canonical}
@@ -15,7 +16,7 @@ pub returns-in-Ok-write_cert : goal.returns-in-Ok-write_cert
 returns-in-Ok-write_cert c =
     let k = c.args.checked.now in
     let low : 1 ≤ k.problem.game.size = search rules in
-    let high : k.problem.game.size ≤ 25 = search rules in
+    let high : k.problem.game.size ≤ MAX_SIZE = search rules in
     let kept : IsProblem k.problem = subst IsProblem c.problem.ensures c.problems_are_kept.ensures in
     let whole : IsTrue (is_tree c.in-Ok.tree) = subst (λ t. IsTrue (is_tree t)) c.tree.view_is c.tree.invariant in
     let same : c.in-Ok.tree ≡ canonical k.problem = c.in-Ok.ensures ∙ ap canonical c.problem-3.ensures in

@@ -1,5 +1,6 @@
 use Rattle.std.proofs.Common.{◌≡◌, ◌≢◌, ◌*◌, ◌<◌, ℕ, List, slice_index, ◌∙◌, ap, subst}
 use Rattle.go_points.specs.declared.Cell.{Cell}
+use Rattle.go_points.specs.declared.TheConstants.{MAX_POINTS}
 use Rattle.go_points.specs.Grid.{side_of}
 use Rattle.go_points.specs.Place.{number_of}
 use Rattle.go_chains.specs.Joined.{HoldsThose, AreLibertiesOf}
@@ -17,6 +18,6 @@ returns-clause-liberties c =
     let here : c.number.result ≡ p = c.number.ensures.value ∙ ap (λ (m : ℕ). number_of m c.args.point) c.size-size.ensures.value in
     let those : HoldsThose n (is_liberty n cells heads (slice_index heads p)) set = subst (λ (i : ℕ). HoldsThose n (is_liberty n cells heads (slice_index heads i)) set) here c.liberties_of.ensures in
     let on : p < n * n = subst (λ (i : ℕ). i < n * n) here (subst (λ (m : ℕ). c.number.result < m * m) c.size-size.ensures.value c.number.ensures.within) in
-    let stone : slice_index heads p ≢ 361 = λ e. c.if-head-eq-NOWHERE.false (ap (slice_index heads) here ∙ e) in
+    let stone : slice_index heads p ≢ MAX_POINTS = λ e. c.if-head-eq-NOWHERE.false (ap (slice_index heads) here ∙ e) in
     subst (λ (v : List Cell). AreLibertiesOf (side_of v) v (number_of (side_of v) c.args.point) set) c.self.view_is
     (liberties_are n cells heads c.self.inside.next p set c.self.invariant.settled.chains c.self.invariant.settled.closed on stone those)

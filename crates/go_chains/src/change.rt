@@ -9,7 +9,7 @@ ghost use Rattle.go_points.specs.Place.{IsOn, number_of};
 ghost use Rattle.go_chains.specs.Chains.{nowhere, IsBoard, IsSettled, TellsLiberties, LivesAround, LivesWhereNew};
 
 use crate::NoLiberty;
-use crate::leaf::take_off;
+use crate::cut_point::take_off;
 use crate::stones::fill;
 use go_points::{Cell, Colouring, MAX_POINTS, Point};
 use stone_key::KeyedColouring;

@@ -2,18 +2,20 @@
 //!
 //! The line of play that is searched stands on a stack of frames, with the children of all of them in one list. The work
 //! goes down to the child with the least number for its mover, and comes back where the child is settled or its numbers
-//! reach their thresholds. A settled state becomes a proof, which is used again wherever its conditions on the past hold.
+//! reach their thresholds; its own children are kept, so that it need not be expanded again where the work comes back to
+//! it. A settled state becomes a proof, which is used again wherever its conditions on the past hold.
 //!
 //! Nothing is promised of the numbers: what is found is put to the checker.
 
 ghost use Rattle.std.specs.Prelude.{◌≡◌, ◌≤◌, ◌<◌, ◌+◌, IfErr};
 ghost use Rattle.pn_search.specs.declared.verdict.Cause.TheVariants.{Steps};
 
-use crate::frame::{Child, Frame, Outcome, Standing, standing_of, winning_child};
+use crate::frame::{Child, Frame, Outcome, Standing, standing_of};
+use crate::kept::{KeptChildren, KeptState};
 use crate::line::{Line, key_after};
 use crate::numbers::{Count, MoverNumbers, Thresholds};
 use crate::play::Move;
-use crate::proofs::{Below, Branch, Form, MAX_LINE, Proof, Proofs, Settled};
+use crate::proofs::{Below, Branch, Form, MAX_LINE, Proofs};
 use crate::refusal::{Refusal, cause_of_refusal};
 use crate::verdict::Cause;
 use go_points::{Colour, Turn};
@@ -22,7 +24,8 @@ use std::alloc::{AllocError, Global};
 use std::num::NonZeroUsize;
 use target_game::Problem;
 
-/// The most rounds between two steps. Each takes a frame away or settles a child, and there are fewer of them.
+/// The most rounds between two steps. Each takes a frame away, settles a child, or goes down to one whose children were
+/// kept and whose numbers are below its thresholds, so there are fewer of them.
 const MAX_ROUNDS: u32 = 1_000_000;
 
 /// A search, between two steps.
@@ -33,13 +36,14 @@ pub(crate) struct Search {
     table: Table,
     attacker: Colour,
     frames: Vec<Frame>,
-    children: Vec<Child>,
+    pub(crate) children: Vec<Child>,
+    kept: KeptChildren,
     /// The moves of one state.
     pub(crate) moves: Vec<Move>,
     /// The branches of one proof.
-    branches: Vec<Branch>,
+    pub(crate) branches: Vec<Branch>,
     /// The barred positions of one state.
-    barred: Vec<u64>,
+    pub(crate) barred: Vec<u64>,
 }
 
 /// What is to be done after a round.
@@ -67,6 +71,7 @@ impl Search {
             attacker: problem.defender().opponent(),
             frames: Vec::new(alloc),
             children: Vec::new(alloc),
+            kept: KeptChildren::new(alloc),
             moves: Vec::new(alloc),
             branches: Vec::new(alloc),
             barred: Vec::new(alloc),
@@ -153,15 +158,30 @@ impl Search {
         } else if key.passes >= 2 {
             outcome_by(!is_attacker, Below::Won)
         } else {
-            match self.proved(key) {
-                Some((winner, number)) => outcome_by(winner == end.mover, Below::Proof(number)),
-                None => match self.table.look(key) {
-                    Some(numbers) => Outcome::Open(MoverNumbers::from_table(numbers, is_attacker)),
-                    None => Outcome::Open(MoverNumbers::unknown()),
-                },
+            match self.known(key) {
+                Some(outcome) => outcome,
+                None => Outcome::Open(MoverNumbers::unknown()),
             }
         };
-        Child { turn, key, outcome }
+        Child {
+            turn,
+            key,
+            outcome,
+            kept: None,
+        }
+    }
+
+    /// What is known of a state one turn further, as the mover before it sees it: a proof that holds there, or its numbers.
+    fn known(&mut self, key: Key) -> Option<Outcome> {
+        let mover = key.mover.opponent();
+        if let Some((winner, number)) = self.proved(key) {
+            return Some(outcome_by(winner == mover, Below::Proof(number)));
+        }
+        let is_attacker = mover == self.attacker;
+        match self.table.look(key) {
+            Some(numbers) => Some(Outcome::Open(MoverNumbers::from_table(numbers, is_attacker))),
+            None => None,
+        }
     }
 
     /// The proof of a state one turn further that holds there, and who wins by it.
@@ -186,7 +206,7 @@ impl Search {
     }
 
     /// The children of the frame, which is the last.
-    fn children_of(&self, frame: Frame) -> &[Child] {
+    pub(crate) fn children_of(&self, frame: Frame) -> &[Child] {
         if frame.first <= self.children.len() {
             &self.children[frame.first..]
         } else {
@@ -225,7 +245,7 @@ impl Search {
             None => Ok(Round::Settled(number)),
             Some(above) => {
                 let outcome = outcome_by(winner == above.key.mover, Below::Proof(number));
-                self.set_outcome(above.current, outcome);
+                self.set_outcome(above.current, outcome, None);
                 Ok(Round::Again)
             }
         }
@@ -244,16 +264,29 @@ impl Search {
     fn leave_open(&mut self, frame: Frame, numbers: MoverNumbers) {
         let is_attacker = frame.key.mover == self.attacker;
         // Where memory is refused the table does without.
-        let _kept = self.table.store(frame.key, numbers.for_table(is_attacker));
+        let _stored = self.table.store(frame.key, numbers.for_table(is_attacker));
+        let kept = self.keep_children(frame).ok();
         self.leave(frame);
         if let Some(above) = self.frames.last().copied() {
-            self.set_outcome(above.current, Outcome::Open(numbers.turned()));
+            self.set_outcome(above.current, Outcome::Open(numbers.turned()), kept);
         }
     }
 
-    fn set_outcome(&mut self, place: usize, outcome: Outcome) {
+    /// Keeps the children of the last frame.
+    fn keep_children(&mut self, frame: Frame) -> Result<KeptState, AllocError> {
+        let mut state = self.kept.state(frame.is_barred);
+        for place in frame.first..self.children.len() {
+            if let Some(child) = self.children.get(place).copied() {
+                state = self.kept.add(state, child)?;
+            }
+        }
+        Ok(state)
+    }
+
+    fn set_outcome(&mut self, place: usize, outcome: Outcome, kept: Option<KeptState>) {
         if place < self.children.len() {
             self.children[place].outcome = outcome;
+            self.children[place].kept = kept;
         }
     }
 
@@ -265,7 +298,7 @@ impl Search {
         };
         if let Some((winner, number)) = self.proved(child.key) {
             let outcome = outcome_by(winner == frame.key.mover, Below::Proof(number));
-            self.set_outcome(place, outcome);
+            self.set_outcome(place, outcome, None);
             return Ok(Round::Again);
         }
         let Outcome::Open(numbers) = child.outcome else {
@@ -282,75 +315,45 @@ impl Search {
         let thresholds = frame
             .thresholds
             .below(count.numbers(), numbers, count.second);
+        if let Some(kept) = child.kept {
+            if self.open_again(kept, thresholds)? {
+                return Ok(Round::Again);
+            }
+        }
         Ok(Round::Expand(thresholds))
     }
 
-    /// Makes the proof of the last frame.
-    fn prove(&mut self, frame: Frame, winner: Colour, form: Form) -> Result<u32, AllocError> {
-        self.branches.clear();
-        self.barred.clear();
-        let mut result = None;
-        match form {
-            Form::Turn => {
-                if let Some(child) = winning_child(self.children_of(frame), &self.proofs) {
-                    if child.turn != Turn::Pass {
-                        result = Some(child.key.position);
-                    }
-                    self.add_branch(child)?;
-                }
-            }
-            Form::Replies => {
-                for place in frame.first..self.children.len() {
-                    if let Some(child) = self.children.get(place).copied() {
-                        self.add_branch(child)?;
-                    }
-                }
-                if frame.is_barred {
-                    self.line.list_moves(&mut self.moves)?;
-                    self.list_barred()?;
-                }
-            }
+    /// Adds the frame of the state at the end of the line with the children that were kept of it, and with what has become
+    /// known of them; whether they all still are. It is no step: nothing is expanded.
+    fn open_again(&mut self, kept: KeptState, thresholds: Thresholds) -> Result<bool, AllocError> {
+        let first = self.children.len();
+        for place in 0..kept.count {
+            let Some(child) = self.kept.get(kept, place) else {
+                self.children.truncate(first);
+                return Ok(false);
+            };
+            let child = self.renewed(child);
+            self.children.push(child)?;
         }
-        let settled = Settled {
-            key: frame.key,
-            winner,
-            form,
-        };
-        self.add_proof(settled, result)
+        self.frames.push(Frame {
+            key: self.line.end(),
+            thresholds,
+            first,
+            current: first,
+            is_barred: kept.is_barred,
+        })?;
+        Ok(true)
     }
 
-    /// Adds the branch to a settled child.
-    fn add_branch(&mut self, child: Child) -> Result<(), AllocError> {
-        match child.outcome {
-            Outcome::Open(_) => Ok(()),
-            Outcome::Wins(below) | Outcome::Loses(below) => {
-                self.branches.push(Branch {
-                    turn: child.turn,
-                    below,
-                })?;
-                Ok(())
+    /// The child with what is known of it now.
+    fn renewed(&mut self, child: Child) -> Child {
+        let mut renewed = child;
+        if matches!(child.outcome, Outcome::Open(_)) {
+            if let Some(outcome) = self.known(child.key) {
+                renewed.outcome = outcome;
             }
         }
-    }
-
-    /// Lists the positions that are barred among the moves.
-    fn list_barred(&mut self) -> Result<(), AllocError> {
-        for place in 0..self.moves.len() {
-            let found = self.moves[place];
-            if found.is_barred {
-                self.barred.push(found.position)?;
-            }
-        }
-        Ok(())
-    }
-
-    fn add_proof(&mut self, settled: Settled, reached: Option<u64>) -> Result<u32, AllocError> {
-        self.proofs.add(
-            settled,
-            self.branches.as_slice(),
-            reached,
-            self.barred.as_slice(),
-        )
+        renewed
     }
 }
 

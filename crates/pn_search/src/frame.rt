@@ -1,5 +1,6 @@
 //! One state of the line of play that is searched, with its children.
 
+use crate::kept::KeptState;
 use crate::numbers::{Count, MoverNumbers, Thresholds};
 use crate::proofs::{Below, Proofs};
 use go_points::Turn;
@@ -19,9 +20,11 @@ pub(crate) struct Child {
     pub(crate) turn: Turn,
     pub(crate) key: Key,
     pub(crate) outcome: Outcome,
+    /// Its own children, where it was left unsettled.
+    pub(crate) kept: Option<KeptState>,
 }
 
-/// A state of the line. Its children stand behind those of the states above it, in one list for all.
+/// A state of the line. Its children stand after those of the states above it, in one list for all.
 #[derive(Clone, Copy)]
 pub(crate) struct Frame {
     pub(crate) key: Key,

@@ -10,6 +10,7 @@ mod full_search;
 #[cfg(test)]
 mod full_tests;
 mod full_tree;
+mod kept;
 mod line;
 mod numbers;
 mod past;
@@ -17,6 +18,7 @@ mod play;
 mod proofs;
 mod refusal;
 mod search;
+mod settled;
 mod share;
 mod smaller;
 mod tree;

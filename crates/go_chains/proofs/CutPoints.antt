@@ -1,4 +1,4 @@
--- A leaf is taken off, and the rest of its chain stays a chain.
+-- A stone that is no cut point is taken off, and the rest of its chain stays a chain.
 use Rattle.std.proofs.Common.{◌≡◌, ◌≢◌, ℕ, ◌+◌, ◌*◌, ◌<◌, ◌≤◌, true, false, cond, inl, inr, nat_eq, eq-eqb, List, [], ◌∷◌, length, slice_index, set, refl, sym, ◌∙◌, ap, subst, arith}
 use Rattle.std.proofs.lemmas.Bool.{cases_eq}
 use Rattle.std.proofs.lemmas.List.{get_or-set_same, get_or-set_other}
@@ -6,22 +6,16 @@ use Rattle.go_points.specs.declared.TheConstants.{MAX_POINTS}
 use Rattle.go_points.specs.declared.Cell.{Cell}
 use Rattle.go_points.specs.declared.Cell.TheVariants.{Empty, Stone}
 use Rattle.go_points.specs.Grid.{same_cell, adjacent, neighbours, cell_at}
-use Rattle.go_points.proofs.Cells.{adjacent_back, member_neighbours, neighbours_member}
+use Rattle.go_points.proofs.Cells.{adjacent_on_board, adjacent_back, member_neighbours}
 use Rattle.go_chains.specs.Joined.{IsWay, Joined}
-use Rattle.go_chains.specs.Chains.{nowhere, IsIn, Follows, Lists, total, HasCircle, HasCircles, HasCounts, IsClosed, IsLeaf, touches, liberty_count, empties_beside}
-use Rattle.go_chains.proofs.Totals.{total_from, total_same}
+use Rattle.go_chains.specs.Chains.{nowhere, IsIn, Follows, Lists, total, HasCircle, HasCircles, HasCounts, IsClosed, IsBridged, Meet, IsNoCutPoint, touches, liberty_count, empties_beside}
+use Rattle.go_chains.proofs.Totals.{total_same}
+use Rattle.go_chains.proofs.Joins.{joined_holds, way_on}
 use Rattle.go_chains.proofs.Exchange.{follows_kept}
-use Rattle.go_chains.proofs.Counts.{is_head, member_in, in_member, touches_is, count_merged, count_filled, count_emptied}
+use Rattle.go_chains.proofs.Counts.{is_head, in_member, count_merged, count_filled, count_emptied}
 use Rattle.go_chains.proofs.Merging.{off, circle_begins}
 use Rattle.go_chains.proofs.Placing.{count_alone}
 use Rattle.go_chains.proofs.Quietness.{beside_not_self}
-
-total_two : (f : ℕ → ℕ) (a b : ℕ) (xs : List ℕ) → IsIn a xs → IsIn b xs → a ≢ b → f a + f b ≤ total f xs
-total_two f a b [] m w ne = absurd m
-total_two f a b (x ∷ xs) (inl e) (inl g) ne = absurd (ne (e ∙ sym g))
-total_two f a b (x ∷ xs) (inl e) (inr w) ne = let same : f a ≡ f x = ap f e in omega (arith, same, total_from f b xs w)
-total_two f a b (x ∷ xs) (inr m) (inl g) ne = let same : f b ≡ f x = ap f g in omega (arith, same, total_from f a xs m)
-total_two f a b (x ∷ xs) (inr m) (inr w) ne = omega (arith, total_two f a b xs m w ne)
 
 way_first : (n : ℕ) (c : List Cell) (own : Cell) (p q : ℕ) (rs : List ℕ) → IsWay n c own p q rs → cell_at c p ≡ own
 way_first n c own p q [] w = w.0
@@ -32,7 +26,7 @@ stone_test Empty ne = absurd (ne refl)
 stone_test (Stone k) ne = refl
 
 module _ (n : ℕ) (c d : List Cell) (heads next : List ℕ) (h p : ℕ) (room : n * n ≤ MAX_POINTS) (heads_long : length heads ≡ MAX_POINTS) (next_long : length next ≡ MAX_POINTS) (chains : HasCircles n c heads next) (closed : IsClosed n c heads)
-    (on : p < n * n) (stone : slice_index heads p ≢ nowhere) (here : slice_index heads p ≡ h) (leaf : IsLeaf n heads next h p) (is : cell_at d p ≡ Empty) (others : (q : ℕ) → q ≢ p → cell_at d q ≡ cell_at c q) where
+    (on : p < n * n) (stone : slice_index heads p ≢ nowhere) (here : slice_index heads p ≡ h) (whole : IsNoCutPoint n heads next h p) (is : cell_at d p ≡ Empty) (others : (q : ℕ) → q ≢ p → cell_at d q ≡ cell_at c q) where
   gone : List ℕ
   gone = set heads p nowhere
 
@@ -60,47 +54,64 @@ module _ (n : ℕ) (c d : List Cell) (heads next : List ℕ) (h p : ℕ) (room :
   headed : (q : ℕ) → slice_index gone q ≢ nowhere → q ≢ p
   headed q ne e = ne (ap (slice_index gone) e ∙ at_p)
 
-  -- one stone alone of the chain is beside p
-  only : (a b : ℕ) → adjacent n p a ≡ true → adjacent n p b ≡ true → slice_index heads a ≡ h → slice_index heads b ≡ h → a ≡ b
-  only a b beside_a beside_b head_a head_b = elim (cases_eq a b) [
-    | inl same ↦ same
-    | inr apart ↦ absurd (
-        let one : is_head heads h a ≡ 1 = ap (λ t. cond {A = ℕ} t 1 0) (eq-eqb (slice_index heads a) h head_a) in
-        let two : is_head heads h b ≡ 1 = ap (λ t. cond {A = ℕ} t 1 0) (eq-eqb (slice_index heads b) h head_b) in
-        let both = total_two (is_head heads h) a b (neighbours n p) (member_in a (neighbours n p) (neighbours_member n p a beside_a)) (member_in b (neighbours n p) (neighbours_member n p b beside_b)) apart in
-        omega (arith, one, two, both, touches_is n heads h p, leaf.single))
-  ]
+  -- the stones of the chain hold what its head holds
+  holds_as_head : (q : ℕ) → q < n * n → slice_index heads q ≡ h → cell_at c q ≡ cell_at c h
+  holds_as_head q q_on e = subst (λ z. cell_at c q ≡ cell_at c z) e (joined_holds n c (slice_index heads q) q (chains.joined q q_on (λ f. no_head h h_on (sym e ∙ f))))
 
-  -- a way that goes over p comes back to the stone before it
-  way_short : (own : Cell) (a b : ℕ) (rs : List ℕ) → own ≢ Empty → a ≢ p → b ≢ p → IsWay n c own a b rs → (us : List ℕ) × IsWay n d own a b us
-  way_short own a b [] ne na nb w = ([], (others a na ∙ w.0, w.1))
-  way_short own a b (r ∷ []) ne na nb w =
+  -- two stones of the chain that meet are joined by a way without p
+  over : (own : Cell) (a b : ℕ) → cell_at d a ≡ own → cell_at d b ≡ own → own ≡ cell_at c h → Meet n heads h p a b → (us : List ℕ) × IsWay n d own a b us
+  over own a b at_a at_b is_own (inl same) = ([], (at_a, same))
+  over own a b at_a at_b is_own (inr r) =
+      let m_on = (adjacent_on_board n a r.middle r.first).1 in
+      let at_m : cell_at d r.middle ≡ own = others r.middle r.other ∙ holds_as_head r.middle m_on r.own ∙ sym is_own in
+      (r.middle ∷ b ∷ [], (at_a, r.first, (at_m, r.second, (at_b, refl))))
+
+  meet_back : (a b : ℕ) → Meet n heads h p a b → Meet n heads h p b a
+  meet_back a b (inl same) = inl (sym same)
+  meet_back a b (inr r) = inr (record { middle = r.middle; other = r.other; own = r.own; first = adjacent_back n r.middle b r.second; second = adjacent_back n a r.middle r.first })
+
+  -- the stones of the chain beside p are joined by ways without p
+  bypass : (own : Cell) (a b : ℕ) → own ≡ cell_at c h → adjacent n p a ≡ true → adjacent n p b ≡ true → slice_index heads a ≡ h → slice_index heads b ≡ h → (us : List ℕ) × IsWay n d own a b us
+  bypass own a b is_own beside_a beside_b head_a head_b =
+      let held : (q : ℕ) → adjacent n p q ≡ true → slice_index heads q ≡ h → cell_at d q ≡ own = λ q adj e. others q (beside_not_self n p q adj) ∙ holds_as_head q (adjacent_on_board n p q adj).1 e ∙ sym is_own in
+      let at_a = held a beside_a head_a in
+      let at_b = held b beside_b head_b in
+      let at_m = held whole.centre whole.beside whole.own in
+      let first = over own a whole.centre at_a at_m is_own (whole.meet a beside_a head_a) in
+      let second = over own whole.centre b at_m at_b is_own (meet_back b whole.centre (whole.meet b beside_b head_b)) in
+      way_on n d own a whole.centre b first.0 second.0 first.1 second.1
+
+  -- a way that goes over p goes round it
+  way_round : (own : Cell) (a b : ℕ) (rs : List ℕ) → own ≢ Empty → a ≢ p → b ≢ p → IsWay n c own a b rs → (us : List ℕ) × IsWay n d own a b us
+  way_round own a b [] ne na nb w = ([], (others a na ∙ w.0, w.1))
+  way_round own a b (r ∷ []) ne na nb w =
       let away : r ≢ p = λ e. nb (sym w.2.1 ∙ e) in
       (r ∷ [], (others a na ∙ w.0, w.1, (others r away ∙ w.2.0, w.2.1)))
-  way_short own a b (r ∷ s ∷ rs) ne na nb w = elim (cases_eq r p) [
+  way_round own a b (r ∷ s ∷ rs) ne na nb w = elim (cases_eq r p) [
     | inl same ↦
         (let head_r : slice_index heads r ≡ h = ap (slice_index heads) same ∙ here in
         let head_a : slice_index heads a ≡ h = closed.same a r w.1 (λ e. ne (sym w.0 ∙ e)) (w.2.0 ∙ sym w.0) ∙ head_r in
         let head_s : slice_index heads s ≡ h = sym (closed.same r s w.2.1 (λ e. ne (sym w.2.0 ∙ e)) (way_first n c own s b rs w.2.2 ∙ sym w.2.0)) ∙ head_r in
         let beside_a : adjacent n p a ≡ true = subst (λ z. adjacent n z a ≡ true) same (adjacent_back n a r w.1) in
         let beside_s : adjacent n p s ≡ true = subst (λ z. adjacent n z s ≡ true) same w.2.1 in
-        let e : a ≡ s = only a s beside_a beside_s head_a head_s in
-        let rest = way_short own s b rs ne (λ f. na (e ∙ f)) nb w.2.2 in
-        (rest.0, subst (λ z. IsWay n d own z b rest.0) (sym e) rest.1))
-    | inr other ↦ (let rest = way_short own r b (s ∷ rs) ne other nb w.2 in (r ∷ rest.0, (others a na ∙ w.0, w.1, rest.1)))
+        let is_own : own ≡ cell_at c h = sym w.0 ∙ holds_as_head a (adjacent_on_board n p a beside_a).1 head_a in
+        let front = bypass own a s is_own beside_a beside_s head_a head_s in
+        let rest = way_round own s b rs ne (beside_not_self n p s beside_s) nb w.2.2 in
+        way_on n d own a s b front.0 rest.0 front.1 rest.1)
+    | inr other ↦ (let rest = way_round own r b (s ∷ rs) ne other nb w.2 in (r ∷ rest.0, (others a na ∙ w.0, w.1, rest.1)))
   ]
 
   -- the circle of the chain goes on from the head to what came after p
   circle_from : (xs : List ℕ) → Lists n heads next h h (h ∷ xs) → HasCircle n gone tied h
   unfolding gone tied
-  circle_from [] l = absurd (leaf.other (sym l.follows.1 ∙ leaf.after))
+  circle_from [] l = absurd (whole.other (sym l.follows.1 ∙ whole.after))
   circle_from (x ∷ ys) l = (
     h ∷ ys,
     record {
       follows = (refl, subst (λ z. Follows tied z h ys) (sym tied_h) (follows_kept next tied (slice_index next p) h ys (λ q m. get_or-set_other next h q (slice_index next p) 0 (λ e. l.once.0 (inr (subst (λ z. IsIn z ys) e m)))) (subst (λ z. Follows next (slice_index next z) h ys) first l.follows.1.1)));
       once = (λ m. l.once.0 (inr m), l.once.1.1);
       inside = λ q m. elim m [
-        | inl e ↦ stays q (inl e) (λ f. leaf.other (sym e ∙ f))
+        | inl e ↦ stays q (inl e) (λ f. whole.other (sym e ∙ f))
         | inr m' ↦ stays q (inr (inr m')) (λ f. l.once.1.0 (subst (λ z. IsIn z ys) (f ∙ sym first) m'))
       ];
       all = λ q q_on e.
@@ -113,7 +124,7 @@ module _ (n : ℕ) (c d : List Cell) (heads next : List ℕ) (h p : ℕ) (room :
   )
     where
       first : x ≡ p
-      first = l.follows.1.0 ∙ leaf.after
+      first = l.follows.1.0 ∙ whole.after
 
       tied_h : slice_index tied h ≡ slice_index next p
       tied_h = get_or-set_same next h (slice_index next p) 0 (omega (arith, h_on, room, next_long))
@@ -148,7 +159,7 @@ module _ (n : ℕ) (c d : List Cell) (heads next : List ℕ) (h p : ℕ) (room :
     was f = ne (at_others q apart ∙ f)
 
     head_apart : slice_index heads q ≢ p
-    head_apart e = leaf.other (sym here ∙ ap (slice_index heads) (sym e) ∙ chains.own q q_on was ∙ e)
+    head_apart e = whole.other (sym here ∙ ap (slice_index heads) (sym e) ∙ chains.own q q_on was ∙ e)
 
     joined_still : Joined n d (slice_index gone q) q
     joined_still =
@@ -156,15 +167,15 @@ module _ (n : ℕ) (c d : List Cell) (heads next : List ℕ) (h p : ℕ) (room :
         let own = chains.own q q_on was in
         let way = chains.joined q q_on was in
         let firm = chains.stones head (chains.within q q_on was) (λ f. was (sym own ∙ f)) in
-        let short = way_short (cell_at c head) head q way.0 firm head_apart apart way.1 in
+        let short = way_round (cell_at c head) head q way.0 firm head_apart apart way.1 in
         subst (λ z. Joined n d z q) (sym (at_others q apart)) (short.0, subst (λ o. IsWay n d o head q short.0) (sym (others head head_apart)) short.1)
 
     own_still : slice_index gone (slice_index gone q) ≡ slice_index gone q
     own_still = ap (slice_index gone) (at_others q apart) ∙ at_others (slice_index heads q) head_apart ∙ chains.own q q_on was ∙ sym (at_others q apart)
 
-  pub leaf_circles : HasCircles n d (set heads p nowhere) (set next h (slice_index next p))
+  pub rest_circles : HasCircles n d (set heads p nowhere) (set next h (slice_index next p))
   unfolding gone tied
-  leaf_circles = record {
+  rest_circles = record {
     empties = λ q q_on e. elim (cases_eq q p) [
       | inl same ↦ ap (cell_at d) same ∙ is
       | inr other ↦ others q other ∙ chains.empties q q_on (sym (at_others q other) ∙ e)
@@ -179,9 +190,9 @@ module _ (n : ℕ) (c d : List Cell) (heads next : List ℕ) (h p : ℕ) (room :
     own = λ q q_on ne. own_still q q_on ne;
   }
 
-  pub leaf_closed : IsClosed n d (set heads p nowhere)
+  pub rest_closed : IsClosed n d (set heads p nowhere)
   unfolding gone
-  leaf_closed = record {
+  rest_closed = record {
     same = λ a b adj ne e.
         let na : a ≢ p = λ f. ne (ap (cell_at d) f ∙ is) in
         let nb : b ≢ p = λ f. ne (sym e ∙ ap (cell_at d) f ∙ is) in
@@ -202,7 +213,7 @@ module _ (n : ℕ) (c d : List Cell) (heads next : List ℕ) (h p : ℕ) (room :
 
   -- no stone has p as its head
   not_headed : (q : ℕ) → q < n * n → slice_index heads q ≢ p
-  not_headed q q_on e = leaf.other (sym here ∙ ap (slice_index heads) (sym e) ∙ chains.own q q_on (λ f. no_head p on (sym e ∙ f)) ∙ e)
+  not_headed q q_on e = whole.other (sym here ∙ ap (slice_index heads) (sym e) ∙ chains.own q q_on (λ f. no_head p on (sym e ∙ f)) ∙ e)
 
   touches_gone : touches n gone h p ≡ touches n heads h p
   unfolding touches
@@ -213,13 +224,13 @@ module _ (n : ℕ) (c d : List Cell) (heads next : List ℕ) (h p : ℕ) (room :
   was_stone : same_cell (cell_at c p) Empty ≡ false
   was_stone = stone_test (cell_at c p) (chains.stones p on stone)
 
-  pub leaf_count : liberty_count n d (set heads p nowhere) h + empties_beside n c p ≡ liberty_count n c heads h + 1
+  pub rest_count : liberty_count n d (set heads p nowhere) h + empties_beside n c p ≡ liberty_count n c heads h + touches n heads h p
   unfolding gone
-  leaf_count =
-      let whole : liberty_count n c heads h ≡ liberty_count n c lone h + liberty_count n c lone p = count_merged n c lone heads h p leaf.other renamed in
+  rest_count =
+      let both : liberty_count n c heads h ≡ liberty_count n c lone h + liberty_count n c lone p = count_merged n c lone heads h p whole.other renamed in
       let alone : liberty_count n c lone p ≡ empties_beside n c p = count_alone n c lone p on lone_p (λ q q_on ne e. not_headed q q_on (sym (lone_others q ne) ∙ e)) in
       let without : liberty_count n c lone h + touches n gone h p ≡ liberty_count n d gone h = count_filled n d c gone lone h p on same_heads (λ q ne. sym (others q ne)) is was_stone in
-      omega (arith, whole, alone, without, touches_gone, leaf.single)
+      omega (arith, both, alone, without, touches_gone)
     where
       renamed : (q : ℕ) → q < n * n → slice_index heads q ≡ cond {A = ℕ} (nat_eq (slice_index lone q) p) h (slice_index lone q)
       renamed q q_on = elim (cases_eq q p) [
@@ -229,16 +240,16 @@ module _ (n : ℕ) (c d : List Cell) (heads next : List ℕ) (h p : ℕ) (room :
 
       same_heads : (q : ℕ) → q < n * n → nat_eq (slice_index lone q) h ≡ nat_eq (slice_index gone q) h
       same_heads q q_on = elim (cases_eq q p) [
-        | inl same ↦ off (slice_index lone q) h (λ e. leaf.other (sym e ∙ ap (slice_index lone) same ∙ lone_p)) ∙ sym (off (slice_index gone q) h (λ e. no_head h h_on (sym e ∙ ap (slice_index gone) same ∙ at_p)))
+        | inl same ↦ off (slice_index lone q) h (λ e. whole.other (sym e ∙ ap (slice_index lone) same ∙ lone_p)) ∙ sym (off (slice_index gone q) h (λ e. no_head h h_on (sym e ∙ ap (slice_index gone) same ∙ at_p)))
         | inr other ↦ ap (λ z. nat_eq z h) (lone_others q other ∙ sym (at_others q other))
       ]
 
-  pub leaf_counts : (counts more : List ℕ) → HasCounts n c heads counts nowhere → slice_index more h + empties_beside n c p ≡ slice_index counts h + 1
+  pub rest_counts : (counts more : List ℕ) → HasCounts n c heads counts nowhere → slice_index more h + empties_beside n c p ≡ slice_index counts h + touches n heads h p
       → ((j : ℕ) → j < n * n → j ≢ h → slice_index more j ≡ slice_index counts j + touches n heads j p) → HasCounts n d (set heads p nowhere) more nowhere
   unfolding gone
-  leaf_counts counts more counted at_head given = record {
+  rest_counts counts more counted at_head given = record {
     right = λ j j_on ne own. elim (cases_eq j h) [
-      | inl same ↦ subst (λ z. slice_index more z ≡ liberty_count n d gone z) (sym same) (let before = counted.right h h_on (no_head h h_on) h_own in omega (arith, before, at_head, leaf_count))
+      | inl same ↦ subst (λ z. slice_index more z ≡ liberty_count n d gone z) (sym same) (let before = counted.right h h_on (no_head h h_on) h_own in omega (arith, before, at_head, rest_count))
       | inr other ↦
           (let away = headed j (λ f. no_head j j_on (sym own ∙ f)) in
           given j j_on other ∙ ap (λ z. z + touches n heads j p) (counted.right j j_on ne (sym (at_others j away) ∙ own)) ∙ sym (count_emptied n c d heads gone j p on (same_heads j j_on other) others was_stone is))

@@ -6,10 +6,10 @@ use Rattle.go_points.specs.declared.TheConstants.{MAX_POINTS}
 use Rattle.go_points.specs.Grid.{cell_at, side_of}
 use Rattle.go_points.specs.Place.{number_of}
 use Rattle.go_chains.specs.Chains.{touches}
-use Rattle.go_chains.proofs.Counts.{count_most}
+use Rattle.go_chains.proofs.Counts.{count_most, touches_most}
 use Rattle.go_chains.proofs.Removing.{set_empty}
-use Rattle.go_chains.proofs.Leaves.{leaf_circles, leaf_closed, leaf_count, leaf_counts}
-use Rattle.go_chains.proofs.leaf.remove_leaf.Goals as goal
+use Rattle.go_chains.proofs.CutPoints.{rest_circles, rest_closed, rest_count, rest_counts}
+use Rattle.go_chains.proofs.cut_point.remove_stone.Goals as goal
 
 pub give_back-requires-clause-small : goal.give_back-requires-clause-small
 give_back-requires-clause-small c = λ j on ne own.
@@ -32,7 +32,8 @@ overflow_add-left c =
     let on : h < n * n = subst (λ (m : ℕ). m < n * n) c.requires.here (settled.chains.within c.args.number c.requires.on c.requires.stone) in
     let own : slice_index heads h ≡ h = subst (λ (m : ℕ). slice_index heads m ≡ m) c.requires.here (settled.chains.own c.args.number c.requires.on c.requires.stone) in
     let right = settled.counted.right h on (λ e. omega (arith, on, room, e)) own in
-    omega (arith, right, count_most n cells heads h room)
+    let beside : c.shared-beside.result ≡ touches n heads h c.args.number = c.shared-beside.ensures ∙ ap (λ (m : ℕ). touches m heads h c.args.number) c.size-size.ensures.value in
+    omega (arith, right, beside, room, touches_most n heads h c.args.number, count_most n cells heads h room)
 
 pub overflow_sub-left : goal.overflow_sub-left
 overflow_sub-left c =
@@ -47,7 +48,8 @@ overflow_sub-left c =
     let own : slice_index heads h ≡ h = subst (λ (m : ℕ). slice_index heads m ≡ m) c.requires.here (settled.chains.own p c.requires.on c.requires.stone) in
     let right = settled.counted.right h on (λ e. omega (arith, on, room, e)) own in
     let others : (q : ℕ) → q ≢ p → cell_at (slice_set cells p Empty) q ≡ cell_at cells q = λ q ne. get_or-set_other cells p q Empty Empty ne in
-    omega (arith, right, c.empties_at.ensures, leaf_count n cells (slice_set cells p Empty) heads c.args.next.now h p room settled.full.heads_full settled.full.next_full settled.chains settled.closed c.requires.on c.requires.stone c.requires.here c.requires.leaf (set_empty cells p) others)
+    let beside : c.shared-beside.result ≡ touches n heads h p = c.shared-beside.ensures ∙ ap (λ (m : ℕ). touches m heads h p) c.size-size.ensures.value in
+    omega (arith, right, beside, c.empties_at.ensures, rest_count n cells (slice_set cells p Empty) heads c.args.next.now h p room settled.full.heads_full settled.full.next_full settled.chains settled.closed c.requires.on c.requires.stone c.requires.here c.requires.whole (set_empty cells p) others)
 
 pub returns-clause-settled : goal.returns-clause-settled
 returns-clause-settled c =
@@ -66,15 +68,16 @@ returns-clause-settled c =
     let others : (q : ℕ) → q ≢ p → cell_at c.set.new.self q ≡ cell_at cells q = λ q ne. ap (λ (l : List Cell). cell_at l q) put ∙ get_or-set_other cells p q Empty Empty ne in
     let given : (j : ℕ) → j < n * n → j ≢ h → slice_index c.give_back.new.counts j ≡ slice_index c.args.counts.now j + touches n heads j p =
     subst (λ (m : ℕ). (j : ℕ) → j < m * m → j ≢ h → slice_index c.give_back.new.counts j ≡ slice_index c.args.counts.now j + touches m heads j p) c.size-size.ensures.value c.give_back.ensures.given in
-    let less = leaf_count n cells c.set.new.self heads c.args.next.now h p room settled.full.heads_full settled.full.next_full settled.chains settled.closed c.requires.on c.requires.stone c.requires.here c.requires.leaf is others in
+    let less = rest_count n cells c.set.new.self heads c.args.next.now h p room settled.full.heads_full settled.full.next_full settled.chains settled.closed c.requires.on c.requires.stone c.requires.here c.requires.whole is others in
     let right = settled.counted.right h on (λ e. omega (arith, on, room, e)) own in
-    let left = slice_index c.args.counts.now h + 1 - c.empties_at.result in
+    let beside : c.shared-beside.result ≡ touches n heads h p = c.shared-beside.ensures ∙ ap (λ (m : ℕ). touches m heads h p) c.size-size.ensures.value in
+    let left = slice_index c.args.counts.now h + c.shared-beside.result - c.empties_at.result in
     let more = slice_set c.give_back.new.counts h left in
     let at_head = get_or-set_same c.give_back.new.counts h left 0 (omega (arith, on, room, c.give_back.ensures.full)) in
     record {
       full = search rules;
-      chains = leaf_circles n cells c.set.new.self heads c.args.next.now h p room settled.full.heads_full settled.full.next_full settled.chains settled.closed c.requires.on c.requires.stone c.requires.here c.requires.leaf is others;
-      closed = leaf_closed n cells c.set.new.self heads c.args.next.now h p room settled.full.heads_full settled.full.next_full settled.chains settled.closed c.requires.on c.requires.stone c.requires.here c.requires.leaf is others;
-      counted = leaf_counts n cells c.set.new.self heads c.args.next.now h p room settled.full.heads_full settled.full.next_full settled.chains settled.closed c.requires.on c.requires.stone c.requires.here c.requires.leaf is others
-          c.args.counts.now more settled.counted (omega (arith, at_head, c.empties_at.ensures, less, right)) (λ j j_on ne. get_or-set_other c.give_back.new.counts h j left 0 ne ∙ given j j_on ne);
+      chains = rest_circles n cells c.set.new.self heads c.args.next.now h p room settled.full.heads_full settled.full.next_full settled.chains settled.closed c.requires.on c.requires.stone c.requires.here c.requires.whole is others;
+      closed = rest_closed n cells c.set.new.self heads c.args.next.now h p room settled.full.heads_full settled.full.next_full settled.chains settled.closed c.requires.on c.requires.stone c.requires.here c.requires.whole is others;
+      counted = rest_counts n cells c.set.new.self heads c.args.next.now h p room settled.full.heads_full settled.full.next_full settled.chains settled.closed c.requires.on c.requires.stone c.requires.here c.requires.whole is others
+          c.args.counts.now more settled.counted (omega (arith, at_head, beside, c.empties_at.ensures, less, right)) (λ j j_on ne. get_or-set_other c.give_back.new.counts h j left 0 ne ∙ given j j_on ne);
     }

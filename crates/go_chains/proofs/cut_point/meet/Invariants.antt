@@ -1,0 +1,5 @@
+use Rattle.std.specs.Bool.{⊤}
+use Rattle.go_chains.proofs.cut_point.meet.Given as goal
+
+abbrev pub invariant-loop-neighbour : goal.invariant-loop-neighbour
+invariant-loop-neighbour l = ⊤

@@ -1,0 +1,7 @@
+use Rattle.std.proofs.Common.{◌≡◌, ℕ, map, take, slice_index}
+use Rattle.go_points.specs.Place.{number_of}
+use Rattle.go_chains.specs.Chains.{IsIn, Meet}
+use Rattle.go_chains.proofs.cut_point.meet_at.Given as goal
+
+abbrev pub invariant-loop-neighbour : goal.invariant-loop-neighbour
+invariant-loop-neighbour l = (a : ℕ) → IsIn a (map (number_of l.size) (take l.neighbour-index l.neighbour-items)) → slice_index l.heads a ≡ l.head → Meet l.size l.heads l.head l.number a l.centre

@@ -1,5 +1,5 @@
 -- Colourings put in order, each once: what a sort and a drop of equals leave, and that it is known by what stands on it.
-use Rattle.std.proofs.Common.{◌≡◌, ℕ, suc, ◌*◌, Bool, true, false, ◌&&◌, ◌||◌, cond, List, [], ◌∷◌, length, IsTrue, Ordering, Less, Equal, Greater, refl, sym, ap, ◌∙◌, subst, inl, inr, absurd}
+use Rattle.std.proofs.Common.{◌≡◌, ℕ, suc, ◌*◌, Bool, true, false, ◌&&◌, ◌||◌, cond, List, [], ◌∷◌, length, IsTrue, Ordering, Less, Equal, Greater, refl, sym, ap, ◌∙◌, subst, inl, inr}
 use Rattle.std.specs.List.{dedup, dedup_from}
 use Rattle.std.specs.List.Sorted.{IsStrictlySortedBy, IsSorted, IsPermutation}
 use Rattle.std.specs.Ordering.{is_lt, ordering_reverse}
@@ -40,8 +40,8 @@ occurred_from k (d ∷ cs) c = at (same_cells d k) refl (occurred_from k cs c) (
         ∙ ap (λ (x : List Cell). same_cells c k || (same_cells c x || has_occurred cs c)) (sym (same_cells_eq d k e))
     at false e here there = ap (λ b. same_cells c k || b) there
 
-pub in_order : (cs xs ds : List (List Cell)) → IsSorted text_order xs → ds ≡ dedup same_cells xs → Ascends ds
-in_order cs xs ds up is = subst Ascends (sym is) (ascends_strict (dedup same_cells xs) (IsStrictlySortedBy-dedup order same_cells_ties xs up))
+pub in_order : (xs ds : List (List Cell)) → IsSorted text_order xs → ds ≡ dedup same_cells xs → Ascends ds
+in_order xs ds up is = subst Ascends (sym is) (ascends_strict (dedup same_cells xs) (IsStrictlySortedBy-dedup order same_cells_ties xs up))
 
 pub same_left : (cs xs ds : List (List Cell)) → IsPermutation cs xs → ds ≡ dedup same_cells xs → (c : List Cell) → has_occurred ds c ≡ has_occurred cs c
 same_left cs xs ds moved is c = ap (λ (l : List (List Cell)). has_occurred l c) is ∙ dropped xs ∙ sym (list_any-IsPermutation (same_cells c) cs xs moved)

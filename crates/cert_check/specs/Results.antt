@@ -1,10 +1,11 @@
 -- What a walk over a tree gathers: the results of moves, in the order of the tree. No public clause rests on these words.
 --     Gathered      what was gathered, or is still to be gathered
 --     of_node past s n, of_branches past s bs      all that a tree, or the trees of replies, give from the state s on
---     left_at past line ls part, due_at past line ls rs      all that is left at a tree, or at replies, with the open replies of the states before
+--     node_at past line ls node, due_at past line ls rs      all that is left at a tree, or at replies, with the open replies of the states before
 --     claim_with q x had absent body      the claim of one lemma that is made of it
 --     IsPlayable s n      each turn of the tree is legal where it is made, and nobody has won there
-use Rattle.std.specs.Prelude.{◌≡◌, ℕ, ◌+◌, Bool, not, ◌&&◌, List, [], ◌∷◌, ◌++◌, filter, Option, Some, None, IsTrue, Bor, reverse}
+use Rattle.std.specs.Prelude.{◌≡◌, ℕ, ◌+◌, Bool, not, ◌&&◌, List, [], ◌∷◌, ◌++◌, filter, Option, Some, None, IsTrue, reverse}
+use Rattle.std.specs.Borrow.{Bor}
 
 use Rattle.go_points.specs.declared.Cell.{Cell}
 use Rattle.go_points.specs.declared.Turn.{Turn}
@@ -55,9 +56,12 @@ of_later past [] ss = nothing
 of_later past (l ∷ ls) [] = nothing
 of_later past (l ∷ ls) (s ∷ ss) = joined (of_branches past s (replies_of s.game.size l.replies.now)) (of_later past ls ss)
 
+abbrev pub node_at : GameState → Line → List Later → code.Node → Gathered
+node_at past line ls node = joined (of_node past line.state (node_of line.state.game.size node)) (of_later past (reversed ls) line.before)
+
 abbrev pub left_at : GameState → Line → List Later → Option (Bor code.Node) → Gathered
 left_at past line ls None = nothing
-left_at past line ls (Some node) = joined (of_node past line.state (node_of line.state.game.size node.now)) (of_later past (reversed ls) line.before)
+left_at past line ls (Some node) = node_at past line ls node.now
 
 abbrev pub due_at : GameState → Line → List Later → List (Turn × code.Node) → Gathered
 due_at past line ls rs = joined (of_branches past line.state (replies_of line.state.game.size rs)) (of_later past (reversed ls) line.before)

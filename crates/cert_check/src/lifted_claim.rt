@@ -7,12 +7,12 @@ ghost use Rattle.cert_check.specs.Checked.{IsChecked};
 ghost use Rattle.cert_check.specs.Lift.{IsLifted};
 ghost use Rattle.cert_check.specs.Results.{claim_with};
 
-use crate::ascending::put_in_order;
 use crate::held_claim::Checked;
 use crate::laws::lifted_claims_are_right;
 use crate::lift_fault::Lift;
 use crate::limits::{MAX_LISTED, MAX_NODES};
 use crate::results::{Results, results_of};
+use crate::sorting::put_in_order;
 use go_points::Colouring;
 use proof_cert::laws::one_claim_of_text;
 use proof_cert::{Certificate, Lemma, Node, Version, read_cert, write_cert};

@@ -101,7 +101,7 @@ fn step<'a>(
     requires opened { AreOpen (reversed opened.old.items) state.old.before }
     ensures playable { IfOk result (λ part. IsPlayablePart state.new.state part) }
     ensures opened { IfOk result (λ part. AreOpen (reversed opened.new.items) state.new.before) }
-    ensures left { IfOk result (λ part. joined (gathered plays.new.items barred.new.items 1) (left_at past.now.state state.new opened.new.items part) ≡ joined (gathered plays.old.items barred.old.items 0) (left_at past.now.state state.old opened.old.items (Some node))) }
+    ensures left { IfOk result (λ part. joined (gathered plays.new.items barred.new.items 1) (left_at past.now.state state.new opened.new.items part) ≡ joined (gathered plays.old.items barred.old.items 0) (left_at past.now.state state.old opened.old.items (Some node.entry))) }
 {
     match node {
         Node::Won => next_reply(&[], state, opened),
@@ -109,8 +109,9 @@ fn step<'a>(
         Node::Play(turn, below) => {
             opened.push(Later { replies: &[] })?;
             state.after(*turn)?;
-            if let Turn::At(_) = turn {
-                plays.push(state.colouring())?;
+            match turn {
+                Turn::Pass => {}
+                Turn::At(_) => plays.push(state.colouring())?,
             }
             Ok(Some(below))
         }

@@ -1,5 +1,6 @@
 -- A claim that was lifted: its lists are the only ones, it is valid, and whether it is within the limits.
 use Rattle.std.proofs.Common.{◌≡◌, ℕ, zero, suc, ◌+◌, ◌*◌, ◌<◌, ◌≤◌, ◌⊎◌, Bool, true, false, not, ◌&&◌, ◌||◌, cond, nat_eq, nat_le, List, [], ◌∷◌, ◌++◌, map, filter, length, Option, Some, None, IsTrue, IsSome, refl, sym, ap, ◌∙◌, subst, inl, inr, arith, eq-eqb, le-leb, sum_by, append-nil}
+use Rattle.std.specs.Prelude.{IsSomeAnd}
 use Rattle.std.specs.List.{All, AllByRecursion, list_all}
 use Rattle.std.proofs.lemmas.List.Elements.{recursion_from_All}
 use Rattle.std.proofs.lemmas.List.Sums.{sum_by-cons}
@@ -16,6 +17,14 @@ use Rattle.target_game.specs.Next.{next}
 use Rattle.target_game.proofs.States.{length-after_move}
 use Rattle.proof_cert.specs.Claim.{Node, won, by_lemma, play, all, Branches, no_branch, branch, Head, Claim, Lemma, heads_of, node_count, depth_of, listed_count, is_ascending, max_nodes, max_listed, IsWithinLimits}
 use Rattle.proof_cert.specs.Lines.{Line, had_spelled, not_line, end_line, main_line, lemma_line, lines_of, lemmas_lines, lemma_lines, node_lines, line_fits}
+use Rattle.proof_cert.specs.Text.{text, OneClaimOfText}
+use Rattle.proof_cert.specs.Stage.{version_number}
+use Rattle.proof_cert.specs.Certificate.{claim_of, lemma_of, node_of}
+use Rattle.proof_cert.specs.declared.certificate.Certificate.{Certificate}
+use Rattle.proof_cert.specs.declared.certificate.Lemma as code_lemma
+use Rattle.proof_cert.specs.declared.certificate.Node as code
+use Rattle.proof_cert.specs.declared.certificate.Node.TheVariants.{Use}
+use Rattle.proof_cert.proofs.Certificates.{node_of_use}
 use Rattle.cert_check.specs.Body.{lemma_body, lemma_start, main_body, result_of}
 use Rattle.cert_check.specs.Ascending.{Ascends}
 use Rattle.cert_check.specs.Checked.{IsChecked}
@@ -58,6 +67,43 @@ mutual
       side : Member c (play_results (next s t) n) ⊎ Member c (play_results_below s bs) → AreLong (k * k) (play_results (next s t) n) → AreLong (k * k) (play_results_below s bs) → length c ≡ k * k
       side (inl a) f g = f c a
       side (inr b) f g = g c b
+
+-- HOW IT IS MADE
+
+pub none_needed : (hs : List (List Cell)) → length hs ≡ 0 → version_for hs ≡ 1
+none_needed [] e = refl
+none_needed (c ∷ hs) e = absurd (omega (arith, e))
+
+pub some_needed : (hs : List (List Cell)) → (length hs ≡ 0 → ⊥) → version_for hs ≡ 2
+some_needed [] e = absurd (e refl)
+some_needed (c ∷ hs) e = refl
+
+pub made_claim : (q : GameProblem) (x : Colour) (hs bs : List (List Cell)) (body : code.Node) (cert : Certificate) (l : code_lemma.Lemma)
+    → cert.size ≡ q.game.size → version_number cert.version ≡ version_for hs → cert.winner ≡ x → cert.lemmas.items ≡ l ∷ [] → cert.main ≡ Use 1
+    → l.mover ≡ q.mover → l.passes ≡ q.passes → l.root ≡ (start q).colouring → l.had.items ≡ hs → l.absent.items ≡ bs → l.body ≡ body
+    → claim_of cert ≡ claim_with q x hs bs (node_of q.game.size body)
+made_claim q x hs bs body cert l size version winner lemmas main mover passes root had absent tree =
+    ap (λ (ls : List code_lemma.Lemma). record { version = version_number cert.version; size = cert.size; winner = cert.winner; lemmas = map (lemma_of cert.size) ls; main = node_of cert.size cert.main }) lemmas
+    ∙ ap (λ (m : code.Node). record { version = version_number cert.version; size = cert.size; winner = cert.winner; lemmas = lemma_of cert.size l ∷ []; main = node_of cert.size m }) main
+    ∙ ap (λ (m : Node). record { version = version_number cert.version; size = cert.size; winner = cert.winner; lemmas = lemma_of cert.size l ∷ []; main = m }) (node_of_use cert.size 1)
+    ∙ (λ i. record {
+      version = version i;
+      size = size i;
+      winner = winner i;
+      lemmas = record { head = head_of (mover i) (passes i) (root i) (had i) (absent i); body = node_of (size i) (tree i) } ∷ [];
+      main = by_lemma 1;
+    })
+
+pub empty_list : {A : Type 0} (xs : List A) → length xs ≡ 0 → xs ≡ []
+empty_list [] e = refl
+empty_list (x ∷ xs) e = absurd (omega (arith, e))
+
+pub read_again : OneClaimOfText → (z y : Claim) (xs : List ℕ) → IsSomeAnd (text z) (λ spelled. xs ≡ spelled) → text y ≡ Some xs → y.size ≡ z.size → y ≡ z
+read_again law z y xs written read size = go (text z) refl written
+  where
+    go : (o : Option (List ℕ)) → text z ≡ o → IsSomeAnd o (λ spelled. xs ≡ spelled) → y ≡ z
+    go None e h = absurd h
+    go (Some b) e h = law y z b size (read ∙ ap Some h) e
 
 -- WHAT A TEST LEAVES
 
@@ -196,7 +242,7 @@ module _ (q : GameProblem) (z : Claim) (sound : IsProblem q) (had absent : List 
   not_fitting (c ∷ cs) long = (eq-eqb (length c) most (long c (inl refl)), not_fitting cs (λ d m. long d (inr m)))
 
   module _ (checked : IsChecked q z) (none : z.lemmas ≡ []) (low : 1 ≤ q.game.size) (high : q.game.size ≤ 25) (small : node_count z.main < max_nodes) (few : length had + length absent ≤ max_listed) (law : LiftedClaimsAreRight) where
-    item : Lemma
+    abbrev item : Lemma
     item = record { head = head; body = z.main }
 
     right : IsRight q made

@@ -1,11 +1,13 @@
 //! A claim without lemmas, made into one lemma with a past.
 
-ghost use Rattle.std.specs.Prelude.{◌≡◌, ◌<◌, ◌↔◌, Err, IfOk, length};
+ghost use Rattle.std.specs.Prelude.{◌≡◌, ◌<◌, ◌↔◌, Err, IfOk, IsSomeAnd, length};
 ghost use Rattle.proof_cert.specs.Certificate.{claim_of, node_of};
 ghost use Rattle.proof_cert.specs.Claim.{Claim, IsWithinLimits};
+ghost use Rattle.proof_cert.specs.Stage.{version_number};
+ghost use Rattle.proof_cert.specs.Text.{text};
 ghost use Rattle.cert_check.specs.Checked.{IsChecked};
 ghost use Rattle.cert_check.specs.Lift.{IsLifted};
-ghost use Rattle.cert_check.specs.Results.{claim_with};
+ghost use Rattle.cert_check.specs.Results.{claim_with, version_for};
 
 use crate::held_claim::Checked;
 use crate::laws::lifted_claims_are_right;
@@ -18,6 +20,17 @@ use proof_cert::laws::one_claim_of_text;
 use proof_cert::{Certificate, Lemma, Node, Version, read_cert, write_cert};
 use std::alloc::{AllocError, Global};
 
+/// The claim's text, where it has one.
+fn text_of(alloc: Global, certificate: &Certificate) -> Result<Vec<u8>, AllocError>
+    ensures { IfOk result (λ bytes. IsSomeAnd (text (claim_of certificate.now)) (λ spelled. bytes.items ≡ spelled)) }
+{
+    let mut bytes = Vec::new(alloc);
+    match write_cert(certificate, &mut bytes) {
+        Ok(()) => Ok(bytes),
+        Err(_) => Err(AllocError),
+    }
+}
+
 /// The claim's main tree once more, in memory of its own: it is read from the claim's text.
 fn main_again(alloc: Global, checked: &Checked) -> Result<Node, AllocError>
     ensures { IfOk result (λ node. node_of checked.now.certificate.size node ≡ (claim_of checked.now.certificate).main) }
@@ -25,14 +38,21 @@ fn main_again(alloc: Global, checked: &Checked) -> Result<Node, AllocError>
     one_claim_of_text();
     let _winner = checked.winner();
     let certificate = checked.certificate();
-    let mut text = Vec::new(alloc);
-    if write_cert(certificate, &mut text).is_err() {
-        return Err(AllocError);
-    }
+    let text = text_of(alloc, certificate)?;
     match read_cert(alloc, certificate.size, text.as_slice()) {
         Ok(again) => Ok(again.main),
         Err(_) => Err(AllocError),
     }
+}
+
+/// The version of a claim whose lemmas need these colourings.
+fn version_with(had: &[Colouring]) -> Version
+    ensures { version_number result ≡ version_for had.now }
+{
+    if had.is_empty() {
+        return Version::One;
+    }
+    Version::Two
 }
 
 /// The claim of one lemma, at the problem's state, with these lists and this tree.
@@ -46,11 +66,7 @@ fn claim_of_lemma(
     ensures { IfOk result (λ c. claim_of c ≡ claim_with checked.now.problem checked.now.certificate.winner had.items absent.items (node_of checked.now.problem.game.size body)) }
 {
     let problem = checked.problem();
-    let version = if had.is_empty() {
-        Version::One
-    } else {
-        Version::Two
-    };
+    let version = version_with(had.as_slice());
     let mut lemmas = Vec::new(alloc);
     lemmas.push(Lemma {
         mover: problem.mover(),
@@ -85,6 +101,9 @@ pub fn lift(alloc: Global, checked: &Checked) -> Result<Certificate, Lift>
     ensures limit { result ≡ Err Lift.Limit → (y : Claim) → IsLifted checked.now.problem (claim_of checked.now.certificate) y → IsWithinLimits y → ⊥ }
 {
     let _winner = checked.winner();
+    let problem = checked.problem();
+    prove!(problem.size().rows() <= 25);
+    prove!(problem.place() < problem.history().len());
     if !checked.certificate().lemmas.is_empty() {
         return Err(Lift::HasLemmas);
     }

@@ -1,5 +1,5 @@
 -- A claim that was lifted: its lists are the only ones, it is valid, and whether it is within the limits.
-use Rattle.std.proofs.Common.{◌≡◌, ℕ, zero, suc, ◌+◌, ◌*◌, ◌<◌, ◌≤◌, ◌⊎◌, Bool, true, false, not, ◌&&◌, ◌||◌, cond, nat_eq, nat_le, List, [], ◌∷◌, ◌++◌, map, filter, length, Option, Some, None, IsTrue, IsSome, refl, sym, ap, ◌∙◌, subst, inl, inr, arith, eq-eqb, le-leb, sum_by, append-nil}
+use Rattle.std.proofs.Common.{◌≡◌, ℕ, zero, suc, ◌+◌, ◌*◌, ◌<◌, ◌≤◌, ◌⊎◌, Bool, true, false, not, ◌&&◌, ◌||◌, cond, nat_eq, nat_le, List, [], ◌∷◌, ◌++◌, map, filter, length, Option, Some, None, IsTrue, IsSome, refl, sym, ap, ◌∙◌, subst, inl, inr, arith, eq-eqb, le-leb, leb-true, leb-false, ltb-true, ltb-false, nat_lt, sum_by, append-nil}
 use Rattle.std.specs.Prelude.{IsSomeAnd}
 use Rattle.std.specs.List.{All, AllByRecursion, list_all}
 use Rattle.std.proofs.lemmas.List.Elements.{recursion_from_All}
@@ -36,7 +36,7 @@ use Rattle.cert_check.specs.Validity.{FitsNode, AreValidLemmas, IsValid}
 use Rattle.cert_check.proofs.Claiming.{AllFitting, AllFitting-append, node_fitting, both_spelled}
 use Rattle.cert_check.proofs.Game.{occurred-member, member-occurred}
 use Rattle.cert_check.proofs.InOrder.{SameMembers, AreLong, same_list, ascending_is, ascends_is, long_left}
-use Rattle.cert_check.proofs.Members.{Member, and_both, Member-append_cases}
+use Rattle.cert_check.proofs.Members.{Member, and_both, or_cases, Member-append_cases}
 use Rattle.cert_check.proofs.ReadingClaims.{HadFits}
 use Rattle.cert_check.proofs.Soundness.{game-next, present-place}
 use Rattle.cert_check.proofs.Spelling.{AllGood, claim_good, spelled_text}
@@ -97,6 +97,22 @@ made_claim q x hs bs body cert l size version winner lemmas main mover passes ro
 pub empty_list : {A : Type 0} (xs : List A) → length xs ≡ 0 → xs ≡ []
 empty_list [] e = refl
 empty_list (x ∷ xs) e = absurd (omega (arith, e))
+
+pub over_cases : (a b : ℕ) → (nat_le max_nodes a || nat_lt max_listed b) ≡ true → (max_nodes ≤ a) ⊎ (max_listed < b)
+over_cases a b h = side (or_cases (nat_le max_nodes a) (nat_lt max_listed b) h)
+  where
+    side : IsTrue (nat_le max_nodes a) ⊎ IsTrue (nat_lt max_listed b) → (max_nodes ≤ a) ⊎ (max_listed < b)
+    side (inl e) = inl (leb-true max_nodes a e)
+    side (inr e) = inr (ltb-true max_listed b e)
+
+neither : (a b : Bool) → (a || b) ≡ false → (a ≡ false) × (b ≡ false)
+neither true b h = absurd (cc)
+neither false b h = (refl, h)
+
+pub under_both : (a b : ℕ) → (nat_le max_nodes a || nat_lt max_listed b) ≡ false → (a < max_nodes) × (b ≤ max_listed)
+under_both a b h =
+    let r = neither (nat_le max_nodes a) (nat_lt max_listed b) h in
+    (leb-false max_nodes a r.0, ltb-false max_listed b r.1)
 
 pub read_again : OneClaimOfText → (z y : Claim) (xs : List ℕ) → IsSomeAnd (text z) (λ spelled. xs ≡ spelled) → text y ≡ Some xs → y.size ≡ z.size → y ≡ z
 read_again law z y xs written read size = go (text z) refl written

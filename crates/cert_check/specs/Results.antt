@@ -6,7 +6,6 @@
 --     IsPlayable s n      each turn of the tree is legal where it is made, and nobody has won there
 use Rattle.std.specs.Prelude.{◌≡◌, ℕ, ◌+◌, Bool, not, ◌&&◌, List, [], ◌∷◌, ◌++◌, filter, Option, Some, None, IsTrue, reverse}
 use Rattle.std.specs.Borrow.{Bor}
-
 use Rattle.go_points.specs.declared.Cell.{Cell}
 use Rattle.go_points.specs.declared.Turn.{Turn}
 use Rattle.go_points.specs.Grid.{same_cells}

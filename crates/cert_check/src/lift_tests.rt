@@ -1,8 +1,9 @@
 //! Claims that are made into one lemma, as the format's rules give them.
 
+use crate::lifted_claim::passes_limit;
 use crate::tests::problem;
 use crate::{Lift, check_held, lift};
-use go_points::{Colour, Size};
+use go_points::Colour;
 use proof_cert::{read_cert, write_cert};
 use std::alloc::Global;
 use std::process::Abort;
@@ -140,4 +141,11 @@ fn claims_with_lemmas_are_not_lifted(rt: HostRuntime) -> Result<(), Fail> {
         Err(fault) => assert_eq!(rt; fault, Lift::HasLemmas),
     }
     Ok(())
+}
+
+#[test]
+fn the_limits_of_a_lifted_claim(rt: HostRuntime) {
+    assert!(rt; !passes_limit(9_999_999, 1_000_000));
+    assert!(rt; passes_limit(10_000_000, 0));
+    assert!(rt; passes_limit(1, 1_000_001));
 }

@@ -1,8 +1,8 @@
 //! A claim without lemmas, made into one lemma with a past.
 
-ghost use Rattle.std.specs.Prelude.{◌≡◌, ◌<◌, ◌↔◌, Err, IfOk, IsSomeAnd, length};
+ghost use Rattle.std.specs.Prelude.{◌≡◌, ◌<◌, ◌↔◌, ◌||◌, Err, IfOk, IsSomeAnd, length, nat_le, nat_lt};
 ghost use Rattle.proof_cert.specs.Certificate.{claim_of, node_of};
-ghost use Rattle.proof_cert.specs.Claim.{Claim, IsWithinLimits};
+ghost use Rattle.proof_cert.specs.Claim.{Claim, IsWithinLimits, max_listed, max_nodes};
 ghost use Rattle.proof_cert.specs.Stage.{version_number};
 ghost use Rattle.proof_cert.specs.Text.{text};
 ghost use Rattle.cert_check.specs.Checked.{IsChecked};
@@ -85,6 +85,13 @@ fn claim_of_lemma(
     })
 }
 
+/// Whether a claim of one lemma would pass a limit, whose tree has so many nodes and whose lists so many colourings: main has one node more.
+pub(crate) fn passes_limit(nodes: u32, listed: usize) -> bool
+    ensures { result ≡ (nat_le max_nodes nodes || nat_lt max_listed listed) }
+{
+    nodes >= MAX_NODES || listed > MAX_LISTED as usize
+}
+
 /// The claim as one lemma that main uses: it may be shared wherever the position of the problem comes about again with a like past.
 ///
 /// The lemma has the claim's tree. It must not have occurred what a move of the winner's there gives, and it must have
@@ -117,7 +124,7 @@ pub fn lift(alloc: Global, checked: &Checked) -> Result<Certificate, Lift>
     } = results;
     put_in_order(&mut had);
     put_in_order(&mut absent);
-    if nodes >= MAX_NODES || had.len() + absent.len() > MAX_LISTED as usize {
+    if passes_limit(nodes, had.len() + absent.len()) {
         return Err(Lift::Limit);
     }
     lifted_claims_are_right();

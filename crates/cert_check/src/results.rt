@@ -60,7 +60,7 @@ fn next_reply<'a>(
     }
 }
 
-/// Whether the colouring had occurred before the present one of this state, or after it and is another.
+/// Whether the colouring has occurred at the problem's start, and is not the one that stands there.
 fn is_other_past(past: &PlayState, colouring: &Colouring) -> bool
     ensures { result ≡ is_past past.now.state colouring.now }
 {

@@ -1,4 +1,4 @@
-use Rattle.std.proofs.Common.{◌≡◌, ℕ, ◌+◌, ◌<◌, ◌≤◌, List, [], map, filter, length, sym, ap, ◌∙◌, subst, rules, arith}
+use Rattle.std.proofs.Common.{◌≡◌, ℕ, ◌+◌, ◌<◌, ◌≤◌, ◌⊎◌, inl, inr, List, [], map, filter, length, sym, ap, ◌∙◌, subst, rules, arith}
 use Rattle.go_points.specs.declared.Cell.{Cell}
 use Rattle.go_turns.specs.History.{has_occurred}
 use Rattle.target_game.specs.Laws.{IsProblem}
@@ -9,12 +9,15 @@ use Rattle.cert_check.specs.Checked.{CheckedClaim, IsChecked}
 use Rattle.cert_check.specs.Lift.{IsLifted, play_results, reply_results}
 use Rattle.cert_check.specs.Results.{is_past, claim_with}
 use Rattle.cert_check.proofs.InOrder.{SameMembers}
-use Rattle.cert_check.proofs.Lifted.{empty_list, past_nodes, past_listed, lifted, lifted_checked}
-use Rattle.cert_check.proofs.lifted_claim.lift.Goals.{then-nodes-ge-MAX_NODES-via-then-nodes-ge-MAX_NODES, then-nodes-ge-MAX_NODES-via-else-nodes-ge-MAX_NODES+then-len}
+use Rattle.cert_check.proofs.Lifted.{empty_list, over_cases, under_both, past_nodes, past_listed, lifted, lifted_checked}
 use Rattle.cert_check.proofs.lifted_claim.lift.Goals as goal
 
-pub returns-then-nodes-ge-MAX_NODES-clause-limit : goal.returns-then-nodes-ge-MAX_NODES-clause-limit
-returns-then-nodes-ge-MAX_NODES-clause-limit c =
+either : {A B : Type 0} → A ⊎ B → (A → ⊥) → (B → ⊥) → ⊥
+either (inl a) f g = f a
+either (inr b) f g = g b
+
+pub returns-then-passes_limit-clause-limit : goal.returns-then-passes_limit-clause-limit
+returns-then-passes_limit-clause-limit c =
     let k : CheckedClaim = c.args.checked.now in
     let q : GameProblem = k.problem in
     let z : Claim = claim_of k.certificate in
@@ -24,14 +27,10 @@ returns-then-nodes-ge-MAX_NODES-clause-limit c =
     let had_same : SameMembers had (filter (is_past (start q)) (reply_results (start q) z.main)) = λ d. c.put_in_order.ensures.same d ∙ ap (λ (l : List (List Cell)). has_occurred l d) c.in-Ok.ensures.barred in
     let absent_same : SameMembers absent (play_results (start q) z.main) = λ d. c.put_in_order-2.ensures.same d ∙ ap (λ (l : List (List Cell)). has_occurred l d) c.in-Ok.ensures.plays in
     let counted : c.in-Ok.results.nodes ≡ node_count z.main = c.in-Ok.ensures.nodes in
-    (λ _. elim c.then-nodes-ge-MAX_NODES.branch [
-      | then-nodes-ge-MAX_NODES-via-then-nodes-ge-MAX_NODES w ↦
-          let over : max_nodes ≤ c.in-Ok.results.nodes = search rules in
-          past_nodes q z sound had absent c.put_in_order.ensures.order c.put_in_order-2.ensures.order had_same absent_same (omega (arith, over, counted))
-      | then-nodes-ge-MAX_NODES-via-else-nodes-ge-MAX_NODES+then-len w ↦
-          let over : max_listed < length had + length absent = search rules in
-          past_listed q z sound had absent c.put_in_order.ensures.order c.put_in_order-2.ensures.order had_same absent_same over
-    ])
+    let listed : c.len.result + c.len-2.result ≡ length had + length absent = search rules in
+    (λ _ y l w. either (over_cases c.in-Ok.results.nodes (c.len.result + c.len-2.result) (sym c.passes_limit.ensures ∙ c.if-passes_limit.true))
+    (λ over. past_nodes q z sound had absent c.put_in_order.ensures.order c.put_in_order-2.ensures.order had_same absent_same (omega (arith, over, counted)) y l w)
+    (λ over. past_listed q z sound had absent c.put_in_order.ensures.order c.put_in_order-2.ensures.order had_same absent_same (omega (arith, over, listed)) y l w))
 
 -- the claim that was made
 made : (c : goal.In-Ok-claim_of_lemma) → claim_of c.in-Ok-claim_of_lemma.certificate ≡ claim_with c.args.checked.now.problem c.args.checked.now.certificate.winner c.put_in_order.new.list.items c.put_in_order-2.new.list.items (claim_of c.args.checked.now.certificate).main
@@ -71,8 +70,10 @@ returns-in-Ok-claim_of_lemma-clause-valid c =
     let least : 1 ≤ c.rows.result = c.rows.ensures.least in
     let most : c.rows.result ≤ 19 = c.rows.ensures.most in
     let counted : c.in-Ok.results.nodes ≡ node_count z.main = c.in-Ok.ensures.nodes in
-    let under : c.in-Ok.results.nodes < max_nodes = search rules in
-    let few : length had + length absent ≤ max_listed = search rules in
+    let listed : c.len.result + c.len-2.result ≡ length had + length absent = search rules in
+    let under = under_both c.in-Ok.results.nodes (c.len.result + c.len-2.result) (sym c.passes_limit.ensures ∙ c.if-passes_limit.false) in
+    let small = under.0 in
+    let few = under.1 in
     let zero : length k.certificate.lemmas.items ≡ 0 = search rules in
     let none : z.lemmas ≡ [] = ap (map (lemma_of k.certificate.size)) (empty_list k.certificate.lemmas.items zero) in
-    subst (IsChecked q) (sym (made c)) (lifted_checked q z sound had absent c.put_in_order.ensures.order c.put_in_order-2.ensures.order had_same absent_same checked none (omega (arith, rows, least)) (omega (arith, rows, most)) (omega (arith, counted, under)) few c.lifted_claims_are_right.ensures)
+    subst (IsChecked q) (sym (made c)) (lifted_checked q z sound had absent c.put_in_order.ensures.order c.put_in_order-2.ensures.order had_same absent_same checked none (omega (arith, rows, least)) (omega (arith, rows, most)) (omega (arith, counted, small)) (omega (arith, few, listed)) c.lifted_claims_are_right.ensures)

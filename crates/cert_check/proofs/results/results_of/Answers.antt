@@ -96,8 +96,7 @@ loop-barred-preserved c =
     let k : CheckedClaim = c.args.checked.now in
     let past : c.in_ok-past.past.state ≡ start k.problem = ap (λ (l : Line). l.state) (start_is k c.problem-problem.result.now c.in_ok-past.past c.problem-problem.ensures c.in_ok-past.ensures) in
     let left = next_left k c.in_ok-past.past.state c.step.new.state c.step.new.opened.items c.in_ok-next.next c.in-Some.below (gathered c.step.new.plays.items c.step.new.barred.items 1) (joined (gathered c.loop-barred.plays.items c.loop-barred.barred.items 0) (node_at c.in_ok-past.past.state c.loop-barred.state c.loop-barred.opened.items c.loop-barred.node.now)) past c.in-Some.is c.in_ok-next.ensures.left in
-    let next : Gathered = node_at (start k.problem) c.step.new.state c.step.new.opened.items c.in-Some.below.now in
-    (
+    let next : Gathered = node_at (start k.problem) c.step.new.state c.step.new.opened.items c.in-Some.below.now in (
       walked c.in_ok-past.past.state (start k.problem) c.loop-barred.state c.loop-barred.opened.items c.loop-barred.node.now c.loop-barred.plays.items c.loop-barred.barred.items c.step.new.plays.items c.step.new.barred.items next past left c.loop-barred.nodes (whole k) c.loop-barred.invariant.0,
       subst (IsPlayablePart c.step.new.state.state) c.in-Some.is c.in_ok-next.ensures.playable,
       c.in_ok-next.ensures.opened,

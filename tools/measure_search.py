@@ -1,12 +1,13 @@
 #!/usr/bin/env python3
 """Measures `tsumego solve` on a folder of problems beside another solver of the same game.
 
-    tools/measure_search.py PROGRAM PEER FOLDER INDEX [--steps N,N..] [--every K] [--first K] [--table N]
+    tools/measure_search.py PROGRAM PEER FOLDER INDEX [--steps N,N..] [--every K] [--from K] [--table N] [--rows N]
 
 PROGRAM is the built tsumego, PEER a program that is called as `PEER run --design c --eps 1/2 --steps N --noclaim FILE` and
 prints the file, the winner or `unknown`, and its steps and seconds. INDEX has a line for each record of FOLDER: its name, and in the
 fourth column who wins. For each number of steps the shares that are solved, steps a second where neither solves, times where both do,
-sizes of claims and memory are printed, and each winner is compared. `not confirmed` has to stay 0.
+sizes of claims and memory are printed, and each winner is compared. `not confirmed` has to stay 0. With --rows the records of
+smaller boards are written anew with so many rows, their stones and region in the same corner, and no winner is compared.
 """
 import argparse
 import os
@@ -17,7 +18,7 @@ import sys
 import tempfile
 
 
-def run(words, stdin=None, seconds=900):
+def run(words, stdin=None):
     """The output, the processor seconds, and the greatest memory in MB."""
     with tempfile.TemporaryFile() as out, open(stdin or os.devnull, "rb") as given:
         started = subprocess.Popen(words, stdin=given, stdout=out, stderr=subprocess.DEVNULL)
@@ -72,10 +73,23 @@ def median(values):
     return statistics.median(values) if values else float("nan")
 
 
-def measure(args, names, known, steps):
+def with_rows(record, rows, folder):
+    """The path of the same record on a board of so many rows, where it has fewer."""
+    with open(record) as lines:
+        text = lines.read()
+    size = re.search(r"SZ\[(\d+)\]", text)
+    path = os.path.join(folder, os.path.basename(record))
+    with open(path, "w") as wider:
+        wider.write(text.replace(size[0], f"SZ[{max(rows, int(size[1]))}]"))
+    return path
+
+
+def measure(args, names, known, steps, folder):
     rows = []
     for name in names:
         record = os.path.join(args.folder, name)
+        if args.rows:
+            record = with_rows(record, args.rows, folder)
         own = ours(args.program, record, steps, args.table)
         peer = theirs(args.peer, record, steps)
         rows.append((name, own, peer))
@@ -87,7 +101,8 @@ def measure(args, names, known, steps):
     print("  only ours:", " ".join(r[0] for r in rows if r[1]["winner"] and not r[2]["winner"]) or "none")
     print("  only the peer's:", " ".join(r[0] for r in rows if r[2]["winner"] and not r[1]["winner"]) or "none")
     wrong = [r[0] for r in solved if known[r[0]][0] not in ("?", r[1]["winner"])]
-    print("  other winners than known:", " ".join(wrong) or "none")
+    if not args.rows:
+        print("  other winners than known:", " ".join(wrong) or "none")
     print("  not confirmed:", sum(1 for r in rows if "not confirmed" in r[1]["text"]),
           "; limit:", sum(1 for r in rows if "limit" in r[1]["text"]), "; memory:", sum(1 for r in rows if "memory" in r[1]["text"]),
           "; ended otherwise:", sum(1 for r in rows if r[1]["code"] not in (0, 1)))
@@ -117,12 +132,14 @@ def main():
     parser.add_argument("--every", type=int, default=1, help="each K-th problem alone")
     parser.add_argument("--from", dest="start", type=int, default=0, help="the first of them")
     parser.add_argument("--table", type=int, default=0)
+    parser.add_argument("--rows", type=int, default=0, help="at least so many rows")
     parser.add_argument("--verbose", action="store_true")
     args = parser.parse_args()
     known = winners(args.index)
     names = sorted(known)[args.start::args.every]
-    for steps in args.steps.split(","):
-        measure(args, names, known, int(steps))
+    with tempfile.TemporaryDirectory() as folder:
+        for steps in args.steps.split(","):
+            measure(args, names, known, int(steps), folder)
 
 
 if __name__ == "__main__":

@@ -228,24 +228,12 @@ fn many_lemmas(alloc: Global, rt: &impl Abort, count: usize) -> String {
 
 #[test]
 fn a_claim_has_at_most_65535_lemmas(rt: HostRuntime) {
-    let most = many_lemmas(rt.alloc(), &rt, 65_535);
-    answers(
-        &rt,
-        rt.alloc(),
-        &["tsumego", "check"],
-        most.as_str(),
-        Status::Answered,
-        "wins Black\n",
-    );
-    let more = many_lemmas(rt.alloc(), &rt, 65_536);
-    answers(
-        &rt,
-        rt.alloc(),
-        &["tsumego", "check"],
-        more.as_str(),
-        Status::Unanswered,
-        "rejected line 196607: C15 limit\n",
-    );
+    let alloc = rt.alloc();
+    let most = many_lemmas(alloc, &rt, 65_535);
+    checks(&rt, alloc, most.as_str(), Status::Answered, "wins Black\n");
+    let more = many_lemmas(alloc, &rt, 65_536);
+    let refused = "rejected line 196607: C15 limit\n";
+    checks(&rt, alloc, more.as_str(), Status::Unanswered, refused);
 }
 
 // The points of the widest board: these hold black stones, this one a white one, the others nothing.

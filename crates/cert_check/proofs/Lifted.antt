@@ -4,6 +4,7 @@ use Rattle.std.specs.Prelude.{IsSomeAnd}
 use Rattle.std.specs.List.{All, AllByRecursion, list_all}
 use Rattle.std.proofs.lemmas.List.Elements.{recursion_from_All}
 use Rattle.std.proofs.lemmas.List.Sums.{sum_by-cons}
+use Rattle.go_points.specs.declared.TheConstants.{MAX_SIZE}
 use Rattle.go_points.specs.declared.Cell.{Cell}
 use Rattle.go_points.specs.declared.Colour.{Colour}
 use Rattle.go_points.specs.Grid.{same_cells}
@@ -257,7 +258,7 @@ module _ (q : GameProblem) (z : Claim) (sound : IsProblem q) (had absent : List 
   not_fitting [] long = tt
   not_fitting (c ∷ cs) long = (eq-eqb (length c) most (long c (inl refl)), not_fitting cs (λ d m. long d (inr m)))
 
-  module _ (checked : IsChecked q z) (none : z.lemmas ≡ []) (low : 1 ≤ q.game.size) (high : q.game.size ≤ 25) (small : node_count z.main < max_nodes) (few : length had + length absent ≤ max_listed) (law : LiftedClaimsAreRight) where
+  module _ (checked : IsChecked q z) (none : z.lemmas ≡ []) (low : 1 ≤ q.game.size) (high : q.game.size ≤ MAX_SIZE) (small : node_count z.main < max_nodes) (few : length had + length absent ≤ max_listed) (law : LiftedClaimsAreRight) where
     abbrev item : Lemma
     item = record { head = head; body = z.main }
 

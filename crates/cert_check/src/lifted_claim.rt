@@ -15,7 +15,7 @@ use crate::lift_fault::Lift;
 use crate::limits::{MAX_LISTED, MAX_NODES};
 use crate::results::{Results, results_of};
 use crate::sorting::put_in_order;
-use go_points::Colouring;
+use go_points::{Colouring, MAX_SIZE};
 use proof_cert::laws::one_claim_of_text;
 use proof_cert::{Certificate, Lemma, Node, Version, read_cert, write_cert};
 use std::alloc::{AllocError, Global};
@@ -109,7 +109,7 @@ pub fn lift(alloc: Global, checked: &Checked) -> Result<Certificate, Lift>
 {
     let _winner = checked.winner();
     let problem = checked.problem();
-    prove!(problem.size().rows() <= 25);
+    prove!(problem.size().rows() <= MAX_SIZE);
     prove!(problem.place() < problem.history().len());
     if !checked.certificate().lemmas.is_empty() {
         return Err(Lift::HasLemmas);

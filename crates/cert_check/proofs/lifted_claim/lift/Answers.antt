@@ -1,4 +1,5 @@
 use Rattle.std.proofs.Common.{◌≡◌, ℕ, ◌+◌, ◌<◌, ◌≤◌, ◌⊎◌, inl, inr, List, [], map, filter, length, sym, ap, ◌∙◌, subst, rules, arith}
+use Rattle.go_points.specs.declared.TheConstants.{MAX_SIZE}
 use Rattle.go_points.specs.declared.Cell.{Cell}
 use Rattle.go_turns.specs.History.{has_occurred}
 use Rattle.target_game.specs.Laws.{IsProblem}
@@ -68,7 +69,7 @@ returns-in-Ok-claim_of_lemma-clause-valid c =
     let checked : IsChecked q z = c.winner-winner.ensures.checked in
     let rows : c.rows.result ≡ q.game.size = c.rows.ensures.value ∙ c.size.ensures ∙ ap (λ (p : GameProblem). p.game.size) c.problem-problem.ensures in
     let least : 1 ≤ c.rows.result = c.rows.ensures.least in
-    let most : c.rows.result ≤ 19 = c.rows.ensures.most in
+    let most : c.rows.result ≤ MAX_SIZE = c.rows.ensures.most in
     let counted : c.in-Ok.results.nodes ≡ node_count z.main = c.in-Ok.ensures.nodes in
     let listed : c.len.result + c.len-2.result ≡ length had + length absent = search rules in
     let under = under_both c.in-Ok.results.nodes (c.len.result + c.len-2.result) (sym c.passes_limit.ensures ∙ c.if-passes_limit.false) in

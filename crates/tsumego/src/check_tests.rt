@@ -1,7 +1,7 @@
 //! Records and claims with what `check` says of them, from the rules and the formats.
 
 use crate::status::Status;
-use crate::tests::{answers, checks};
+use crate::tests::checks;
 use go_points::MAX_POINTS;
 use std::alloc::Global;
 use std::process::Abort;

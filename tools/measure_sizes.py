@@ -3,31 +3,31 @@
 
     tools/measure_sizes.py [PATH OF TSUMEGO]
 
-Three white stones stand round a corner point, shut in by six black ones; six points are played at, Black to move. It
-prints the least processor time of several runs for each size, and how many times that of 9 rows it is: by the number of
-points that would be 7.7 for 25 rows.
+The fight is that of examples/bulky-five.sgf at the upper edge: on each board the same stones, marks and moves. It prints
+the least processor time of several runs for each size, and how many times that of 9 rows it is; the greatest board has
+7.7 times as many points.
 """
+import pathlib
 import resource
 import subprocess
 import sys
 
-RUNS = 7
+RUNS = 15
 SIZES = (9, 13, 19, 25)
-WORDS = (("within", "8", "--nodes", "4294967295"), ("solve", "--steps", "100000"))
+WORDS = (("within", "14", "--nodes", "4294967295"), ("solve",))
+FIGHT = pathlib.Path(__file__).resolve().parent.parent / "examples" / "bulky-five.sgf"
 
 
 def record(rows):
-    """The fight in the upper left corner, and a stone in the lower right one."""
-    last = chr(96 + rows) * 2
-    return f"(;SZ[{rows}]AB[da][db][dc][cd][bd][ad]AW[ba][bb][ab][{last}]PL[B]TR[ba][bb][ab]SQ[aa][ca][cb][bc][ac][cc])"
+    return FIGHT.read_text().replace("SZ[9]", f"SZ[{rows}]")
 
 
 def seconds(path, words, text):
-    """The processor time of one run, and what it printed."""
+    """The processor time of one run."""
     before = resource.getrusage(resource.RUSAGE_CHILDREN)
-    done = subprocess.run([path, *words], input=text.encode(), stdout=subprocess.PIPE, check=False)
+    subprocess.run([path, *words], input=text.encode(), stdout=subprocess.DEVNULL, check=True)
     after = resource.getrusage(resource.RUSAGE_CHILDREN)
-    return after.ru_utime + after.ru_stime - before.ru_utime - before.ru_stime, done
+    return after.ru_utime + after.ru_stime - before.ru_utime - before.ru_stime
 
 
 def main():
@@ -36,10 +36,9 @@ def main():
         first = None
         for rows in SIZES:
             runs = [seconds(path, words, record(rows)) for _ in range(RUNS)]
-            least = min(run[0] for run in runs)
+            least = min(runs)
             first = first or least
-            said = runs[0][1].stdout.split(b"\n")[0][-40:].decode()
-            print(f"{words[0]}, {rows} rows: {least:.2f} s, {least / first:.2f} times that of {SIZES[0]} rows; {said}")
+            print(f"{words[0]}, {rows} rows: {least:.3f} s, {least / first:.2f} times that of {SIZES[0]} rows")
 
 
 main()

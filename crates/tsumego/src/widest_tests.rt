@@ -5,48 +5,36 @@ use crate::tests::{answers, checks};
 use std::alloc::Global;
 use std::process::Abort;
 
+// With these words the program answers this input by this text.
+fn says(rt: &impl Abort, alloc: Global, words: &[&str], input: &str, text: &str) {
+    answers(rt, alloc, words, input, Status::Answered, text);
+}
+
 // For this record all commands give the answers of a capture in one turn, which is written at the end of the solution.
 fn is_a_capture(rt: &impl Abort, alloc: Global, rows: &str, setup: &str, marks: &str, turn: &str) {
     let record = format!(in alloc; "(;SZ[{rows}]{setup}PL[B]{marks})").expect(rt, "memory");
     let record = record.as_str();
-    let within: [(&str, &str); 2] = [("0", "neither\n"), ("1", "wins Black\n")];
-    for (turns, text) in within {
-        answers(
-            rt,
-            alloc,
-            &["tsumego", "within", turns],
-            record,
-            Status::Answered,
-            text,
-        );
-    }
+    says(rt, alloc, &["tsumego", "within", "0"], record, "neither\n");
+    says(
+        rt,
+        alloc,
+        &["tsumego", "within", "1"],
+        record,
+        "wins Black\n",
+    );
     let start = format!(in alloc; "(;FF[4]GM[1]SZ[{rows}]{setup};PL[B]{marks}").expect(
         rt, "memory",
     );
     let start = start.as_str();
     let solution = format!(in alloc; "{start}C[Black wins];B[{turn}])\n").expect(rt, "memory");
-    let solve = ["tsumego", "solve"];
-    answers(
-        rt,
-        alloc,
-        &solve,
-        record,
-        Status::Answered,
-        solution.as_str(),
-    );
-    answers(
-        rt,
-        alloc,
-        &["tsumego", "audit"],
-        solution.as_str(),
-        Status::Answered,
-        "wins Black\n",
-    );
+    let solution = solution.as_str();
+    says(rt, alloc, &["tsumego", "solve"], record, solution);
+    says(rt, alloc, &["tsumego", "audit"], solution, "wins Black\n");
     let claim = format!(in alloc; "{start})\ntsucert 1 {rows} B\nmain\nplay {turn}\nwon\nend\n");
     let claim = claim.expect(rt, "memory");
-    checks(rt, alloc, claim.as_str(), Status::Answered, "wins Black\n");
-    let proof = ["tsumego", "solve", "--proof"];
-    answers(rt, alloc, &proof, record, Status::Answered, claim.as_str());
+    let claim = claim.as_str();
+    says(rt, alloc, &["tsumego", "solve", "--proof"], record, claim);
+    checks(rt, alloc, claim, Status::Answered, "wins Black\n");
 }
 
 #[test]

@@ -17,7 +17,7 @@ use Rattle.go_turns.specs.History.{has_occurred, repeats}
 use Rattle.cert_check.specs.Machine.{last_of}
 use Rattle.cert_check.specs.Ascending.{Ascends}
 
-order : IsTotalOrder text_order
+pub order : IsTotalOrder text_order
 order = on_texts text_of
 
 -- ONE MORE
@@ -28,15 +28,15 @@ ascends_more (d ∷ []) c h last = (last, (tt, tt))
 ascends_more (d ∷ e ∷ cs) c h last = (h.0, ascends_more (e ∷ cs) c h.1 last)
 
 -- each is before all behind it
-abbrev AllAbove : List Cell → List (List Cell) → Type 0
+abbrev pub AllAbove : List Cell → List (List Cell) → Type 0
 AllAbove c [] = Unit {0}
 AllAbove c (d ∷ cs) = (text_order c d ≡ Less) × AllAbove c cs
 
-above_from : (c d : List Cell) (cs : List (List Cell)) → text_order c d ≡ Less → AllAbove d cs → AllAbove c cs
+pub above_from : (c d : List Cell) (cs : List (List Cell)) → text_order c d ≡ Less → AllAbove d cs → AllAbove c cs
 above_from c d [] e h = tt
 above_from c d (x ∷ cs) e h = (order.trans c d x e h.0, above_from c d cs e h.1)
 
-above_all : (c : List Cell) (cs : List (List Cell)) → Ascends (c ∷ cs) → AllAbove c cs
+pub above_all : (c : List Cell) (cs : List (List Cell)) → Ascends (c ∷ cs) → AllAbove c cs
 above_all c [] h = tt
 above_all c (d ∷ cs) h = (h.0, above_from c d cs h.0 (above_all d cs h.1))
 
@@ -46,7 +46,7 @@ less_apart c d e = same_cells_ties c d ∙ ap is_eq e
 apart_other : (c d : List Cell) → same_cells c d ≡ false → same_cells d c ≡ false
 apart_other c d e = same_cells_symm d c ∙ e
 
-none_among : (c : List Cell) (cs : List (List Cell)) → AllAbove c cs → has_occurred cs c ≡ false
+pub none_among : (c : List Cell) (cs : List (List Cell)) → AllAbove c cs → has_occurred cs c ≡ false
 none_among c [] h = refl
 none_among c (d ∷ cs) h = ap (λ b. b || has_occurred cs c) (less_apart c d h.0) ∙ none_among c cs h.1
 
@@ -89,7 +89,7 @@ none_at : (f : List Cell → Bool) (cs : List (List Cell)) → ((k : ℕ) (d : L
 none_at f [] h = refl
 none_at f (c ∷ cs) h = ap (λ b. b || list_any f cs) (h 0 c (omega arith)) ∙ none_at f cs (λ k d low. h (suc k) d (omega arith))
 
-same_from : (c d : List Cell) → text_order d c ≡ Equal → same_cells c d ≡ true
+pub same_from : (c d : List Cell) → text_order d c ≡ Equal → same_cells c d ≡ true
 same_from c d e = same_cells_symm c d ∙ same_cells_ties d c ∙ ap is_eq e
 
 pub searched_list : (cs : List (List Cell)) (c : List Cell) (r : Result ℕ ℕ) → Ascends cs → IsSearchInRange r (length cs) → IsBinarySearchResult (λ d. text_order d c) cs r → is_ok r ≡ has_occurred cs c

@@ -107,13 +107,13 @@ fn colourings_of_the_past_that_no_reply_gives_stay_out(rt: HostRuntime) -> Resul
 #[test]
 fn a_suicide_of_one_stone_is_no_past(rt: HostRuntime) -> Result<(), Fail> {
     let alloc = rt.alloc();
-    let shut = problem(alloc, &rt, 2, &["X.XX"], Colour::White, &[(1, 0)]);
+    let shut = problem(alloc, &rt, 3, &["X.XXXX.XX"], Colour::White, &[(1, 0)]);
     becomes(
         alloc,
         &rt,
         shut,
-        "tsucert 1 2 B\nmain\nall 1\nreply pass\nplay pass\nwon\nend\n",
-        "tsucert 1 2 B\nlemma W 0 X.XX\nall 1\nreply pass\nplay pass\nwon\nend\nmain\nuse 1\nend\n",
+        "tsucert 1 3 B\nmain\nall 1\nreply pass\nplay pass\nwon\nend\n",
+        "tsucert 1 3 B\nlemma W 0 X.XXXX.XX\nall 1\nreply pass\nplay pass\nwon\nend\nmain\nuse 1\nend\n",
     )
 }
 

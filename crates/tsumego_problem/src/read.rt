@@ -34,7 +34,7 @@ fn is_go(root: &SgfNode) -> bool
 }
 
 /// The size that the root gives: 19 where SZ is absent.
-fn board_size(root: &SgfNode) -> Option<Size>
+pub fn board_size(root: &SgfNode) -> Option<Size>
     ensures { result ≡ board_size root.now }
 {
     match values_at(b"SZ", root) {

@@ -94,7 +94,7 @@ fn tell<N: Write>(
 }
 
 /// What the turns say of the solution.
-pub(crate) fn tally(found: &[Found]) -> Tally
+pub(crate) fn counted(found: &[Found]) -> Tally
     ensures winning { result.winning ≡ count_by (λ f. is_right f.judged) found.now }
     ensures unknown { result.unknown ≡ count_by (λ f. is_unknown f.judged) found.now }
     ensures solution { result.solution ≡ solution_of result.winning result.unknown }

@@ -46,7 +46,10 @@ pub(crate) fn json_lines(
         let name = turn_name(alloc, one.turn)?;
         let worth = worth_name(&one.judged);
         let refutation = refutation(alloc, &one.judged)?;
-        write!(text, "{{\"turn\":\"{name}\",\"mover\":\"{worth}\"{refutation}}}\n")?;
+        write!(
+            text,
+            "{{\"turn\":\"{name}\",\"mover\":\"{worth}\"{refutation}}}\n"
+        )?;
     }
     let word = solution_name(tally.solution);
     let winning = tally.winning;

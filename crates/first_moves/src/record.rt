@@ -173,7 +173,9 @@ fn first_below(nodes: &[SgfNode], skipped: usize) -> usize
     ensures { result ≤ length nodes.now }
 {
     match first_marked(nodes) {
-        Some(at) => nodes.len().min(at.saturating_add(1).saturating_add(skipped)),
+        Some(at) => nodes
+            .len()
+            .min(at.saturating_add(1).saturating_add(skipped)),
         None => nodes.len(),
     }
 }

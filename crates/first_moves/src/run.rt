@@ -1,6 +1,6 @@
 //! A run of the program: its words and its input to its answer.
 
-use crate::found::{judge_turns, tally};
+use crate::found::{counted, judge_turns};
 use crate::list::{json_lines, listed};
 use crate::record::moves_record;
 use crate::words::{Form, Request, read_request};
@@ -86,7 +86,7 @@ fn answered<N: Write>(
         table,
     };
     let found = judge_turns(alloc, problem, budget, request.progress, notes)?;
-    let tally = tally(found.as_slice());
+    let tally = counted(found.as_slice());
     match request.form {
         Form::Record => {
             let tree = moves_record(alloc, problem, found.as_slice(), tally)?;

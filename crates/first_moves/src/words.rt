@@ -46,13 +46,13 @@ pub(crate) fn read_request<'a, S: AsStr>(
 fn chosen(given: &ArgMatches<'_>) -> Request {
     Request {
         steps: given.get_one::<u64>("steps").unwrap_or(1),
-        form: form(given),
+        form: chosen_form(given),
         progress: given.get_one::<bool>("progress").unwrap_or(false),
     }
 }
 
 /// The form that is asked for; JSON where both others are named.
-fn form(given: &ArgMatches<'_>) -> Form {
+fn chosen_form(given: &ArgMatches<'_>) -> Form {
     if given.get_one::<bool>("json").unwrap_or(false) {
         return Form::Json;
     }

@@ -51,9 +51,5 @@ fn empty_shown(drawing: &Drawing, point: Point) -> char {
             return first;
         }
     }
-    if drawing.squares.has(point) {
-        '+'
-    } else {
-        '.'
-    }
+    if drawing.squares.has(point) { '+' } else { '.' }
 }

@@ -59,7 +59,7 @@ pub(crate) struct Drawing {
 
 /// The drawing of a record: the board at the node of the view, by the setups and the moves of the main line up to it. A move
 /// that the rules refuse puts its stone down all the same.
-pub(crate) fn drawing(alloc: Global, tree: &Tree, view: View) -> Result<Drawing, NoPicture> {
+pub(crate) fn drawing_of(alloc: Global, tree: &Tree, view: View) -> Result<Drawing, NoPicture> {
     let Some(size) = board_size(&tree.nodes()[0]) else {
         return Err(NoPicture::BadSize);
     };

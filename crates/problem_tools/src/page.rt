@@ -109,10 +109,14 @@ fn verdict(winner: Colour) -> &'static [u8] {
     }
 }
 
-fn node_with(properties: Vec<Property>) -> Result<SgfNode, NoPage> {
-    match SgfNode::new(properties) {
-        Some(node) => Ok(node),
-        None => Err(NoPage::NotThePage),
+/// Puts the node of these properties at the end.
+fn push_node(properties: Vec<Property>, into: &mut Vec<SgfNode>) -> Result<(), NoPage> {
+    let Some(node) = SgfNode::new(properties) else {
+        return Err(NoPage::NotThePage);
+    };
+    match into.push(node) {
+        Ok(()) => Ok(()),
+        Err(_) => Err(NoPage::Memory),
     }
 }
 
@@ -183,11 +187,11 @@ fn front_nodes(
         if is_joined {
             open = properties;
         } else {
-            nodes.push(node_with(properties)?)?;
+            push_node(properties, &mut nodes)?;
         }
     }
     push_marks(alloc, problem, winner, original, is_joined, &mut open)?;
-    nodes.push(node_with(open)?)?;
+    push_node(open, &mut nodes)?;
     Ok(nodes)
 }
 
@@ -213,7 +217,7 @@ fn page_tree(
 /// of another record with the same problem.
 ///
 /// What is made is read again: it has the same problem, and where nothing is left out the audit says the same of it.
-pub(crate) fn page(
+pub(crate) fn page_of(
     alloc: Global,
     answer: &Tree,
     original: Option<&Tree>,

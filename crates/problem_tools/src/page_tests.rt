@@ -5,9 +5,11 @@ use crate::tests::gives;
 use tool_parts::Status;
 
 // White has just taken the ko: Black may threaten at cc, or pass.
-const AFTER_A_KO: &str = "(;FF[4]GM[1]SZ[3]AB[ba][ab]AW[ca][bb];AW[aa]AE[ba];PL[B]TR[aa]SQ[ba][cc]C[White wins](;B[];W[])(;B[cc];W[ba];B[];W[]))";
+const AFTER_A_KO: &str =
+    "(;FF[4]GM[1]SZ[3]AB[ba][ab]AW[ca][bb];AW[aa]AE[ba];PL[B]TR[aa]SQ[ba][cc]C[White wins](;B[];W[])(;B[cc];W[ba];B[];W[]))";
 
-const THREE: &str = "(;FF[4]GM[1]SZ[7]AB[aa][ea][ab][bb][cb][db][eb]AW[fa][fb][ac][bc][cc][dc][ec];PL[W]TR[aa][ea][ab][bb][cb][db][eb]SQ[ba][ca][da];W[ca](;B[ba];W[da])(;B[da];W[ba])(;B[];W[ba](;B[da];W[ba](;B[ca];W[ba])(;B[];W[ca]))(;B[];W[da])))";
+const THREE: &str =
+    "(;FF[4]GM[1]SZ[7]AB[aa][ea][ab][bb][cb][db][eb]AW[fa][fb][ac][bc][cc][dc][ec];PL[W]TR[aa][ea][ab][bb][cb][db][eb]SQ[ba][ca][da];W[ca](;B[ba];W[da])(;B[da];W[ba])(;B[];W[ba](;B[da];W[ba](;B[ca];W[ba])(;B[];W[ca]))(;B[];W[da])))";
 
 // One position: the marks, the side to move and the comment are in the root.
 #[test]
@@ -114,6 +116,8 @@ fn no_page(rt: HostRuntime) {
 
 #[test]
 fn greatest_first(rt: HostRuntime) {
-    let order = descending(rt.alloc(), &[1, 3, 0, 3, 2]).ok().expect(&rt, "memory");
+    let order = descending(rt.alloc(), &[1, 3, 0, 3, 2])
+        .ok()
+        .expect(&rt, "memory");
     assert_eq!(rt; order.as_slice(), [1, 3, 4, 0, 2].as_slice());
 }

@@ -1,11 +1,11 @@
 //! A run of the program: its words and its input to its answer.
 
 use crate::ascii::ascii;
-use crate::drawing::{NoPicture, View, drawing};
+use crate::drawing::{NoPicture, View, drawing_of};
 use crate::games::game;
 use crate::lines::Cut;
 use crate::marked_record::{Marks, Refusal, Region, marked_record};
-use crate::page::{NoPage, page};
+use crate::page::{NoPage, page_of};
 use crate::svg::svg;
 use crate::words::{Request, read_request};
 use sgf_text::{SgfFault, Tree, read_tree, write_bytes};
@@ -131,7 +131,7 @@ fn paged(
     original: Option<&Tree>,
     cut: Cut,
 ) -> Result<Output, AllocError> {
-    match page(alloc, answer, original, cut) {
+    match page_of(alloc, answer, original, cut) {
         Ok(page) => Ok(Output::Record(page.tree)),
         Err(refusal) => no_page(alloc, refusal),
     }
@@ -148,7 +148,7 @@ fn output_picture(
         Ok((tree, _end)) => tree,
         Err(fault) => return no_tree(alloc, fault),
     };
-    let drawing = match drawing(alloc, &tree, view) {
+    let drawing = match drawing_of(alloc, &tree, view) {
         Ok(drawing) => drawing,
         Err(refusal) => return no_picture(alloc, refusal),
     };

@@ -93,7 +93,10 @@ fn push_point(text: &mut String, drawing: &Drawing, point: Point) -> Result<(), 
     match cell_at(&drawing.stones, point) {
         Cell::Stone(colour) => {
             let name = colour_name(colour);
-            write!(text, "<circle class=\"{name}\" cx=\"{x}\" cy=\"{y}\" r=\"11\"/>\n")?;
+            write!(
+                text,
+                "<circle class=\"{name}\" cx=\"{x}\" cy=\"{y}\" r=\"11\"/>\n"
+            )?;
             match label {
                 Some(label) => push_number(text, name, x, y, label)?,
                 None => push_marks(text, drawing, point, x, y, on_stone(colour))?,
@@ -143,7 +146,10 @@ fn push_number(
     requires { y ≤ 1000 }
 {
     let base = y + 4;
-    write!(text, "<text class=\"n{name}\" x=\"{x}\" y=\"{base}\">{label}</text>\n")?;
+    write!(
+        text,
+        "<text class=\"n{name}\" x=\"{x}\" y=\"{base}\">{label}</text>\n"
+    )?;
     Ok(())
 }
 
@@ -152,8 +158,14 @@ fn push_letter(text: &mut String, x: usize, y: usize, label: &str) -> Result<(),
     requires { y ≤ 1000 }
 {
     let base = y + 5;
-    write!(text, "<circle class=\"wood\" cx=\"{x}\" cy=\"{y}\" r=\"9\"/>")?;
-    write!(text, "<text class=\"letter\" x=\"{x}\" y=\"{base}\">{label}</text>\n")?;
+    write!(
+        text,
+        "<circle class=\"wood\" cx=\"{x}\" cy=\"{y}\" r=\"9\"/>"
+    )?;
+    write!(
+        text,
+        "<text class=\"letter\" x=\"{x}\" y=\"{base}\">{label}</text>\n"
+    )?;
     Ok(())
 }
 
@@ -173,15 +185,30 @@ fn push_marks(
     let top = y - 4;
     if drawing.triangles.has(point) {
         let apex = y - 7;
-        write!(text, "<path class=\"{class}\" d=\"M{x} {apex}l6 10h-12z\"/>\n")?;
+        write!(
+            text,
+            "<path class=\"{class}\" d=\"M{x} {apex}l6 10h-12z\"/>\n"
+        )?;
     } else if drawing.squares.has(point) && class == "mark" {
-        write!(text, "<rect class=\"region\" x=\"{left}\" y=\"{top}\" width=\"8\" height=\"8\"/>\n")?;
+        write!(
+            text,
+            "<rect class=\"region\" x=\"{left}\" y=\"{top}\" width=\"8\" height=\"8\"/>\n"
+        )?;
     } else if drawing.squares.has(point) {
-        write!(text, "<rect class=\"{class}\" x=\"{left}\" y=\"{top}\" width=\"8\" height=\"8\"/>\n")?;
+        write!(
+            text,
+            "<rect class=\"{class}\" x=\"{left}\" y=\"{top}\" width=\"8\" height=\"8\"/>\n"
+        )?;
     } else if drawing.circles.has(point) {
-        write!(text, "<circle class=\"{class}\" cx=\"{x}\" cy=\"{y}\" r=\"5\"/>\n")?;
+        write!(
+            text,
+            "<circle class=\"{class}\" cx=\"{x}\" cy=\"{y}\" r=\"5\"/>\n"
+        )?;
     } else if drawing.crosses.has(point) {
-        write!(text, "<path class=\"{class}\" d=\"M{left} {top}l8 8m0 -8l-8 8\"/>\n")?;
+        write!(
+            text,
+            "<path class=\"{class}\" d=\"M{left} {top}l8 8m0 -8l-8 8\"/>\n"
+        )?;
     }
     Ok(())
 }

@@ -7,7 +7,14 @@ use std::process::Abort;
 use tool_parts::Status;
 
 // What these words and this input give.
-pub(crate) fn gives(rt: &impl Abort, alloc: Global, words: &[&str], input: &str, status: Status, text: &str) {
+pub(crate) fn gives(
+    rt: &impl Abort,
+    alloc: Global,
+    words: &[&str],
+    input: &str,
+    status: Status,
+    text: &str,
+) {
     let mut reader = input.as_bytes();
     let mut writer = Vec::new(alloc);
     let mut notes = Vec::new(alloc);

@@ -204,7 +204,9 @@ fn page_command<'a>(alloc: Global) -> Result<clap::Command<'a>, AllocError> {
 
 fn short_argument<'a>(alloc: Global) -> Arg<'a> {
     Arg::new(alloc, "short")
-        .help("Leaves out replies whose lines end within N turns, but for the first of each branching")
+        .help(
+            "Leaves out replies whose lines end within N turns, but for the first of each branching",
+        )
         .long("short")
         .value_name("N")
         .value_parser(ValueParser::unsigned(0, MOST))
@@ -219,8 +221,9 @@ fn depth_argument<'a>(alloc: Global) -> Arg<'a> {
 }
 
 fn picture_command<'a>(alloc: Global) -> Result<clap::Command<'a>, AllocError> {
-    let picture = clap::Command::new(alloc, "picture")
-        .about("Writes a picture (SVG) of the problem of a record, or of a node of its main line.");
+    let picture = clap::Command::new(alloc, "picture").about(
+        "Writes a picture (SVG) of the problem of a record, or of a node of its main line.",
+    );
     let picture = picture.arg(pictured_argument(alloc))?;
     let picture = picture.arg(numbers_argument(alloc))?;
     let picture = picture.arg(plain_argument(alloc))?;

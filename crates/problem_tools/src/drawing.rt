@@ -136,13 +136,21 @@ fn after_node(stones: &Colouring, node: &SgfNode) -> Colouring {
     let size = stones.size();
     let set = assigned(size, node, stones);
     match turn_at(size, node) {
-        Some((colour, Turn::At(point))) => after_turn(&set, colour, point),
-        _ => set,
+        Some(played) => after_turn(&set, played.0, played.1),
+        None => set,
+    }
+}
+
+/// The stones after a turn.
+fn after_turn(stones: &Colouring, colour: Colour, turn: Turn) -> Colouring {
+    match turn {
+        Turn::Pass => *stones,
+        Turn::At(point) => after_move(stones, colour, point),
     }
 }
 
 /// The stones after a move. Where the rules refuse it, its stone is put down alone.
-fn after_turn(stones: &Colouring, colour: Colour, point: Point) -> Colouring {
+fn after_move(stones: &Colouring, colour: Colour, point: Point) -> Colouring {
     if let Ok(board) = ChainBoard::from_colouring(stones) {
         let mut board = board;
         if board.size().holds(point) && board.play(colour, point).is_ok() {
@@ -182,16 +190,32 @@ fn numbered(
     let size = stones.size();
     let mut more = *stones;
     for i in 0..count.min(nodes.len()) {
-        if let Some((colour, Turn::At(point))) = turn_at(size, &nodes[i]) {
-            if cell_at(&more, point) == Cell::Empty {
-                more = with_stone(&more, colour, point);
-                let number = i + 1;
-                let text = format!(in alloc; "{number}")?;
-                labels.push(Label { point, text })?;
-            }
+        if let Some(played) = turn_at(size, &nodes[i]) {
+            more = with_number(alloc, &more, i, played.0, played.1, labels)?;
         }
     }
     Ok(more)
+}
+
+/// The stones with that of a turn, which gets a label with its number; the first has the number 1, after 0 others.
+fn with_number(
+    alloc: Global,
+    stones: &Colouring,
+    others: usize,
+    colour: Colour,
+    turn: Turn,
+    labels: &mut Vec<Label>,
+) -> Result<Colouring, AllocError> {
+    let Turn::At(point) = turn else {
+        return Ok(*stones);
+    };
+    if cell_at(stones, point) != Cell::Empty {
+        return Ok(*stones);
+    }
+    let number = others.saturating_add(1);
+    let text = format!(in alloc; "{number}")?;
+    labels.push(Label { point, text })?;
+    Ok(with_stone(stones, colour, point))
 }
 
 /// Puts the labels of the node at the end (SGF FF[4], LB): of each the letters and digits.

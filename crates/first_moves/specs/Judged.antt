@@ -1,6 +1,5 @@
 -- What is found of a first turn.
-use Rattle.std.specs.Prelude.{◌≡◌, ℕ, ◌+◌, List, [], ◌∷◌, ◌++◌, length, map, true, false, Some, Ok}
-use Rattle.go_points.specs.declared.Colour.{Colour}
+use Rattle.std.specs.Prelude.{◌≡◌, ℕ, ◌+◌, List, [], ◌∷◌, ◌++◌, length, map, nat_lt, nat_eq, if◌then◌else◌, Some, Ok}
 use Rattle.go_points.specs.declared.Cell.{Cell}
 use Rattle.go_points.specs.Grid.{opponent_of}
 use Rattle.go_points.specs.Move.{after_move}
@@ -8,11 +7,14 @@ use Rattle.go_points.specs.Place.{Place, number_of}
 use Rattle.go_points.specs.Ply.{Ply, pass, move}
 use Rattle.target_game.specs.State.{GameProblem, start}
 use Rattle.target_game.specs.Problem.{problem_of}
-use Rattle.target_game.specs.Legal.{legal}
 use Rattle.target_game.specs.Next.{next}
 use Rattle.target_game.specs.Over.{over}
+use Rattle.proof_cert.specs.Certificate.{claim_of}
+use Rattle.cert_check.specs.Expand.{first_turn}
 use Rattle.first_moves.specs.declared.judged.Judged.{Judged}
 use Rattle.first_moves.specs.declared.judged.Judged.TheVariants as judged
+use Rattle.first_moves.specs.declared.found.Solution.{Solution}
+use Rattle.first_moves.specs.declared.found.Solution.TheVariants as solutions
 
 -- the problem of this history and this place, the other side to move, with the targets and the region of another problem
 abbrev pub IsProblemWith : GameProblem → List (List Cell) → ℕ → ℕ → GameProblem → Type 0
@@ -27,17 +29,22 @@ IsProblemAfter q pass later = IsProblemWith q q.history q.place (q.passes + 1) l
 IsProblemAfter q (move p) later =
     IsProblemWith q (q.history ++ after_move q.game.size (start q).colouring q.mover p ∷ []) (length q.history) 0 later
 
--- A turn that is barred is not legal; one that ends the game is legal, and this side has then won; one that is judged is
--- legal, and what was checked is of the problem after it. Of one that is unknown nothing is said.
+-- A turn by which the mover wins has a checked claim of the problem itself that begins with it. One that is refuted has a
+-- checked claim of the other side, of the problem after it; one that ends the game has lost it at once. Of one that is
+-- unknown nothing is said.
 abbrev pub IsJudged : GameProblem → Ply → Judged → Type 0
-IsJudged q t judged.Barred = legal (start q) t ≡ false
-IsJudged q t (judged.Ends x) = (legal (start q) t ≡ true) × (over (next (start q) t) ≡ Some x)
-IsJudged q t (judged.After checked) = (legal (start q) t ≡ true) × IsProblemAfter q t checked.problem
+IsJudged q t (judged.Right checked) =
+    (checked.problem ≡ q) × ((claim_of checked.certificate).winner ≡ q.mover) × (first_turn (claim_of checked.certificate) (start q) ≡ Some t)
+IsJudged q t (judged.Refuted checked) =
+    IsProblemAfter q t checked.problem × ((claim_of checked.certificate).winner ≡ opponent_of q.mover)
+IsJudged q t judged.Ends = over (next (start q) t) ≡ Some (opponent_of q.mover)
 IsJudged q t judged.Unknown = Unit
 
--- what was checked is of this problem
-abbrev pub IsSearched : GameProblem → Judged → Type 0
-IsSearched later judged.Barred = ⊥
-IsSearched later (judged.Ends x) = ⊥
-IsSearched later (judged.After checked) = checked.problem ≡ later
-IsSearched later judged.Unknown = Unit
+-- What is known of the solution, by how many turns win and how many are unknown: it is unique where one turn wins, and
+-- every other turn is known to lose.
+abbrev pub solution_of : ℕ → ℕ → Solution
+solution_of winning unknown =
+    if nat_lt 0 unknown then solutions.Open
+    else (if nat_eq winning 0 then solutions.Lost
+    else (if nat_eq winning 1 then solutions.Unique
+    else solutions.Several))

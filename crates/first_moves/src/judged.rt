@@ -5,28 +5,30 @@ ghost use Rattle.go_points.specs.Move.{after_move};
 ghost use Rattle.go_points.specs.Place.{IsOn, number_of};
 ghost use Rattle.go_points.specs.Ply.{ply_of};
 ghost use Rattle.target_game.specs.State.{start};
-ghost use Rattle.target_game.specs.Over.{over};
-ghost use Rattle.first_moves.specs.Judged.{IsProblemWith, IsProblemAfter, IsJudged, IsSearched};
+ghost use Rattle.first_moves.specs.declared.judged.Judged.TheVariants.{Unknown};
+ghost use Rattle.first_moves.specs.Judged.{IsProblemWith, IsProblemAfter, IsJudged};
 
-use cert_check::Checked;
-use go_points::{Colour, Colouring, Point, Turn};
+use crate::claim::{turn_before, winning_turn};
+use cert_check::{Checked, Why, check_held};
+use go_points::{Colouring, Point, Turn};
 use go_turns::{PlayBoard, PlaySeen};
-use pn_search::{Budget, Verdict, solve};
+use pn_search::{Budget, Cause, Verdict, solve};
+use proof_cert::Certificate;
 use std::alloc::{AllocError, Global};
 use target_game::{Problem, State};
 
 /// The state that first turns are asked of.
 pub(crate) type First = State<PlayBoard, PlaySeen>;
 
-/// What is found of a first turn.
+/// What is found of a legal first turn.
 #[derive(Drop)]
 pub(crate) enum Judged {
-    /// It is not legal.
-    Barred,
-    /// It ends the game, and this side has won.
-    Ends(Colour),
-    /// A claim for the problem after the turn, which the checker has accepted.
-    After(Checked),
+    /// The mover wins by it: a claim for the problem itself, which begins with the turn.
+    Right(Checked),
+    /// The other side wins: a claim for the problem after the turn.
+    Refuted(Checked),
+    /// The turn ends the game, and the other side has won.
+    Ends,
     /// The search found no claim.
     Unknown,
 }
@@ -101,24 +103,87 @@ pub(crate) fn judge(
 {
     // The prover takes a turn that was passed on as moved.
     let same = turn;
+    let again = turn;
     let Some(child) = state.child(turn) else {
-        return Ok(Judged::Barred);
+        return Ok(Judged::Unknown);
     };
+    let mover = problem.mover();
     if let Some(winner) = child.winner {
-        return Ok(Judged::Ends(winner));
+        if winner == mover.opponent() {
+            return Ok(Judged::Ends);
+        }
+        let claim = winning_turn(alloc, problem.size(), mover, same)?;
+        return confirmed(alloc, problem, again, claim);
     }
     match problem_after(alloc, problem, state, same)? {
-        Some(later) => Ok(searched(alloc, later, budget)),
+        Some(later) => searched(alloc, problem, again, later, budget),
         None => Ok(Judged::Unknown),
     }
 }
 
 /// What a search finds of the problem after a turn.
-fn searched(alloc: Global, later: Problem, budget: Budget) -> Judged
-    ensures { IsSearched later result }
+fn searched(
+    alloc: Global,
+    problem: &Problem,
+    turn: Turn,
+    later: Problem,
+    budget: Budget,
+) -> Result<Judged, AllocError>
+    requires { IsProblemAfter problem.now (ply_of problem.now.game.size turn) later }
+    ensures { IfOk result (λ found. IsJudged problem.now (ply_of problem.now.game.size turn) found) }
 {
     match solve(alloc, later, budget) {
-        Verdict::Wins(checked) => Judged::After(checked),
-        Verdict::Unknown { .. } => Judged::Unknown,
+        Verdict::Wins(checked) => {
+            if checked.winner() == problem.mover().opponent() {
+                return Ok(Judged::Refuted(checked));
+            }
+            let same = turn;
+            let claim = turn_before(alloc, same, checked.certificate())?;
+            confirmed(alloc, problem, turn, claim)
+        }
+        Verdict::Unknown { cause, .. } => match cause {
+            Cause::Memory => Err(AllocError),
+            _ => Ok(Judged::Unknown),
+        },
     }
+}
+
+/// The claim as one for the problem itself, where the checker accepts it, the mover wins by it, and it begins with the turn.
+fn confirmed(
+    alloc: Global,
+    problem: &Problem,
+    turn: Turn,
+    claim: Certificate,
+) -> Result<Judged, AllocError>
+    ensures { IfOk result (λ found. IsJudged problem.now (ply_of problem.now.game.size turn) found) }
+{
+    let same = problem.copy(alloc)?;
+    match check_held(alloc, same, claim) {
+        Ok(checked) => Ok(begun(problem, turn, checked)),
+        Err((reject, _same, _claim)) => without_claim(reject.why),
+    }
+}
+
+/// What is found where the checker refuses a claim: nothing, unless memory was refused.
+fn without_claim(why: Why) -> Result<Judged, AllocError>
+    ensures { IfOk result (λ found. found ≡ Unknown) }
+{
+    match why {
+        Why::Memory => Err(AllocError),
+        _ => Ok(Judged::Unknown),
+    }
+}
+
+/// The same, where it is accepted.
+fn begun(problem: &Problem, turn: Turn, checked: Checked) -> Judged
+    requires { checked.problem ≡ problem.now }
+    ensures { IsJudged problem.now (ply_of problem.now.game.size turn) result }
+{
+    let Some(first) = checked.first_turn() else {
+        return Judged::Unknown;
+    };
+    if first == turn && checked.winner() == problem.mover() {
+        return Judged::Right(checked);
+    }
+    Judged::Unknown
 }

@@ -1,17 +1,22 @@
 //! first_moves: says of each first turn of a problem who wins after it.
 #![tactic(auto)]
 
+mod claim;
+mod found;
 mod judged;
+mod list;
+mod names;
+mod record;
 mod run;
 #[cfg(test)]
 mod tests;
-mod told;
 mod words;
 
-use run::{Status, run};
+use run::run;
 use std::convert::AsStr;
 use std::env;
 use std::process::ExitCode;
+use tool_parts::Status;
 
 fn main(rt: HostRuntime) -> ExitCode {
     let alloc = rt.alloc();
@@ -21,6 +26,12 @@ fn main(rt: HostRuntime) -> ExitCode {
     let Ok(words) = words.collect::<Vec<String>>(alloc) else {
         return ExitCode::from(Status::Failed.code());
     };
-    let status = run(alloc, words.as_slice(), &mut rt.stdin(), &mut rt.stdout());
+    let status = run(
+        alloc,
+        words.as_slice(),
+        &mut rt.stdin(),
+        &mut rt.stdout(),
+        &mut rt.stderr(),
+    );
     ExitCode::from(status.code())
 }

@@ -1,110 +1,104 @@
 //! A run of the program: its words and its input to its answer.
 
-use crate::told::told;
-use crate::words::{NoRequest, Request, read_request};
-use sgf_text::{SgfFault, read_tree, write_bytes};
+use crate::found::{counted, judge_turns};
+use crate::list::{json_lines, listed};
+use crate::record::moves_record;
+use crate::words::{Form, Request, read_request};
+use pn_search::Budget;
+use sgf_text::{SgfFault, read_tree};
 use std::alloc::{AllocError, Global};
 use std::convert::AsStr;
 use std::io::{Read, Write};
+use std::num::NonZeroUsize;
+use target_game::Problem;
+use tool_parts::{Output, Status, read_whole, without_input, without_request, write_output};
 use tsumego_problem::{ProblemFault, read_problem};
 
-/// The most bytes of an input: one more than a record may have.
-const MAX_INPUT: usize = 1_048_577;
+/// The most entries of the search's table.
+const TABLE: usize = 65_536;
 
-/// How many bytes are asked of a reader at once.
-const BLOCK: usize = 65_536;
-
-/// How a run ended.
-#[derive(Clone, Copy, Debug, PartialEq, Eq)]
-pub(crate) enum Status {
-    Answered,
-    /// The input is refused.
-    Refused,
-    /// The words ask for nothing.
-    BadWords,
-    /// Memory was refused, or a read or a write failed.
-    Failed,
-}
-
-impl Status {
-    pub(crate) fn code(self) -> u8 {
-        match self {
-            Status::Answered => 0,
-            Status::Refused => 2,
-            Status::BadWords => 3,
-            Status::Failed => 4,
-        }
-    }
-}
-
-/// Runs the program on its words, the first of which is its name.
-pub(crate) fn run<S: AsStr, R: Read, W: Write>(
+/// Runs the program on its words, the first of which is its name. How far it is goes to `notes`.
+pub(crate) fn run<S: AsStr, R: Read, W: Write, N: Write>(
     alloc: Global,
     words: &[S],
     reader: &mut R,
     writer: &mut W,
+    notes: &mut N,
 ) -> Status {
-    match reply(alloc, words, reader) {
-        Ok((text, status)) => write_text(writer, text.as_bytes(), status),
-        Err(_) => write_text(writer, b"failed: memory\n", Status::Failed),
-    }
+    write_output(writer, output(alloc, words, reader, notes))
 }
 
 /// What is written for the words and the input.
-fn reply<S: AsStr, R: Read>(
+fn output<S: AsStr, R: Read, N: Write>(
     alloc: Global,
     words: &[S],
     reader: &mut R,
-) -> Result<(String, Status), AllocError> {
+    notes: &mut N,
+) -> Result<Output, AllocError> {
     let request = match read_request(alloc, words) {
         Ok(request) => request,
-        Err(NoRequest::Words(text)) => return Ok((text, Status::BadWords)),
-        Err(NoRequest::Memory) => return Err(AllocError),
+        Err(none) => return without_request(none),
     };
     let mut bytes = Vec::new(alloc);
-    if !read_front(reader, &mut bytes)? {
-        return Ok((format!(in alloc; "failed: read\n")?, Status::Failed));
+    if !read_whole(reader, &mut bytes)? {
+        return without_input(alloc);
     }
-    reply_to(alloc, request, bytes.as_slice())
-}
-
-/// Appends what the reader has, at most so much that a record fits. False where a read fails.
-fn read_front<R: Read>(reader: &mut R, into: &mut Vec<u8>) -> Result<bool, AllocError> {
-    let mut block = [0u8; BLOCK];
-    for _ in 0..u64::MAX {
-        if into.len() >= MAX_INPUT {
-            break;
-        }
-        match reader.read(&mut block) {
-            Ok(0) => break,
-            Ok(count) => into.extend_from_slice(&block[..count])?,
-            Err(_) => return Ok(false),
-        }
-    }
-    Ok(true)
+    output_of(alloc, request, bytes.as_slice(), notes)
 }
 
 /// What is written for what is asked for and these bytes.
-fn reply_to(alloc: Global, request: Request, bytes: &[u8]) -> Result<(String, Status), AllocError> {
+fn output_of<N: Write>(
+    alloc: Global,
+    request: Request,
+    bytes: &[u8],
+    notes: &mut N,
+) -> Result<Output, AllocError> {
     let tree = match read_tree(alloc, bytes) {
         Ok((tree, _end)) => tree,
         Err(SgfFault::Memory) => return Err(AllocError),
-        Err(fault) => return Ok((format!(in alloc; "refused: {fault}\n")?, Status::Refused)),
+        Err(fault) => {
+            let text = format!(in alloc; "refused: {fault}\n")?;
+            return Ok(Output::Text(text, Status::Refused));
+        }
     };
     match read_problem(alloc, &tree) {
-        Ok(problem) => {
-            let text = told(alloc, &problem, request.steps, request.json)?;
-            Ok((text, Status::Answered))
-        }
+        Ok(problem) => answered(alloc, &problem, request, notes),
         Err(ProblemFault::Memory) => Err(AllocError),
-        Err(fault) => Ok((format!(in alloc; "refused: {fault}\n")?, Status::Refused)),
+        Err(fault) => {
+            let text = format!(in alloc; "refused: {fault}\n")?;
+            Ok(Output::Text(text, Status::Refused))
+        }
     }
 }
 
-/// Writes the whole text; a failed write has a status of its own.
-fn write_text<W: Write>(writer: &mut W, text: &[u8], status: Status) -> Status {
-    match write_bytes(text, writer) {
-        Ok(()) => status,
-        Err(_) => Status::Failed,
+/// What is found of the problem, in the form that is asked for.
+fn answered<N: Write>(
+    alloc: Global,
+    problem: &Problem,
+    request: Request,
+    notes: &mut N,
+) -> Result<Output, AllocError> {
+    let Some(table) = NonZeroUsize::new(TABLE) else {
+        return Err(AllocError);
+    };
+    let budget = Budget {
+        steps: request.steps,
+        table,
+    };
+    let found = judge_turns(alloc, problem, budget, request.progress, notes)?;
+    let tally = counted(found.as_slice());
+    match request.form {
+        Form::Record => {
+            let tree = moves_record(alloc, problem, found.as_slice(), tally)?;
+            Ok(Output::Record(tree))
+        }
+        Form::List => {
+            let text = listed(alloc, found.as_slice(), tally)?;
+            Ok(Output::Text(text, Status::Answered))
+        }
+        Form::Json => {
+            let text = json_lines(alloc, found.as_slice(), tally)?;
+            Ok(Output::Text(text, Status::Answered))
+        }
     }
 }

@@ -1,16 +1,34 @@
-//! Shapes whose vital point every book on dead shapes names: with the attacker to move it is the one turn that wins.
+//! The six shapes with one vital point, as Sensei's Library lists them ("Nakade", senseis.xmp.net): straight three, bent
+//! three, pyramid four, bulky five, crossed five and rabbity six. With the attacker to move, the point that the page names
+//! is the one turn that wins. Then what is written for problems so small that it was worked out by hand.
 
-use crate::run::{Status, run};
+use crate::run::run;
 use std::alloc::Global;
 use std::process::Abort;
+use tool_parts::Status;
 
 // What these words and this input give.
 fn gives(rt: &impl Abort, alloc: Global, words: &[&str], input: &str, status: Status, text: &str) {
+    gives_with_notes(rt, alloc, words, input, status, text, "");
+}
+
+// The same, with what is said on standard error.
+fn gives_with_notes(
+    rt: &impl Abort,
+    alloc: Global,
+    words: &[&str],
+    input: &str,
+    status: Status,
+    text: &str,
+    notes: &str,
+) {
     let mut reader = input.as_bytes();
     let mut writer = Vec::new(alloc);
-    let ended = run(alloc, words, &mut reader, &mut writer);
+    let mut noted = Vec::new(alloc);
+    let ended = run(alloc, words, &mut reader, &mut writer, &mut noted);
     let said = String::from_utf8(writer).ok().expect(rt, "a text");
     assert_eq!(rt; said.as_str(), text);
+    assert_eq!(rt; noted.as_slice(), notes.as_bytes());
     assert_eq!(rt; ended, status);
 }
 
@@ -19,7 +37,7 @@ fn has_one_answer(rt: &impl Abort, alloc: Global, record: &str, text: &str) {
     gives(
         rt,
         alloc,
-        &["first_moves", "--steps", "20000"],
+        &["first_moves", "--list", "--steps", "20000"],
         record,
         Status::Answered,
         text,
@@ -106,23 +124,64 @@ fn what_is_unknown(rt: HostRuntime) {
     gives(
         &rt,
         rt.alloc(),
-        &["first_moves", "--steps", "1"],
+        &["first_moves", "--list", "--steps", "1"],
         "(;FF[4]GM[1]SZ[3]AB[ab]AW[aa]PL[W]TR[aa]SQ[ba])",
         Status::Answered,
         "ba unknown\npass loses\nsolution open: 0 winning, 1 unknown\n",
     );
 }
 
-// The capture wins at once; after the pass White fills the point and passes.
+// Black captures at ba; after a pass White passes too, and its stone has been kept.
+const CAPTURE: &str = "(;FF[4]GM[1]SZ[3]AB[ab]AW[aa]PL[B]TR[aa]SQ[ba])";
+
 #[test]
 fn as_json(rt: HostRuntime) {
     gives(
         &rt,
         rt.alloc(),
         &["first_moves", "--json"],
-        "(;FF[4]GM[1]SZ[3]AB[ab]AW[aa]PL[B]TR[aa]SQ[ba])",
+        CAPTURE,
         Status::Answered,
-        "{\"turn\":\"ba\",\"mover\":\"wins\"}\n{\"turn\":\"pass\",\"mover\":\"loses\"}\n{\"solution\":\"unique\",\"winning\":1,\"unknown\":0}\n",
+        "{\"turn\":\"ba\",\"mover\":\"wins\"}\n{\"turn\":\"pass\",\"mover\":\"loses\",\"refutation\":\"pass\"}\n{\"solution\":\"unique\",\"winning\":1,\"unknown\":0}\n",
+    );
+}
+
+#[test]
+fn as_a_record(rt: HostRuntime) {
+    gives_with_notes(
+        &rt,
+        rt.alloc(),
+        &["first_moves", "--progress"],
+        CAPTURE,
+        Status::Answered,
+        "(;FF[4]GM[1]SZ[3]AB[ab]AW[aa];PL[B]TR[aa]SQ[ba]C[solution unique: 1 winning, 0 unknown](;B[ba]TE[1]C[right: Black wins])(;B[]BM[1]C[wrong: White wins];W[]))\n",
+        "first_moves: 1 of 2: ba wins\nfirst_moves: 2 of 2: pass loses\n",
+    );
+}
+
+// White has passed before the problem, so Black's pass ends the game.
+#[test]
+fn a_turn_that_ends_the_game(rt: HostRuntime) {
+    gives(
+        &rt,
+        rt.alloc(),
+        &["first_moves"],
+        "(;FF[4]GM[1]SZ[3]AB[ab]AW[aa];W[];TR[aa]SQ[ba])",
+        Status::Answered,
+        "(;FF[4]GM[1]SZ[3]AB[ab]AW[aa];W[];PL[B]TR[aa]SQ[ba]C[solution unique: 1 winning, 0 unknown](;B[ba]TE[1]C[right: Black wins])(;B[]BM[1]C[wrong: White wins]))\n",
+    );
+}
+
+// White saves its stone at ba, and after Black's pass it passes; its own pass first lets Black capture.
+#[test]
+fn a_winning_turn_with_its_tree(rt: HostRuntime) {
+    gives(
+        &rt,
+        rt.alloc(),
+        &["first_moves"],
+        "(;FF[4]GM[1]SZ[3]AB[ab]AW[aa]PL[W]TR[aa]SQ[ba])",
+        Status::Answered,
+        "(;FF[4]GM[1]SZ[3]AB[ab]AW[aa];PL[W]TR[aa]SQ[ba]C[solution unique: 1 winning, 0 unknown](;W[ba]TE[1]C[right: White wins];B[];W[])(;W[]BM[1]C[wrong: Black wins];B[ba]))\n",
     );
 }
 

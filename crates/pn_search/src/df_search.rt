@@ -265,7 +265,7 @@ impl Search {
         let is_attacker = frame.key.mover == self.attacker;
         // Where memory is refused the table does without.
         let _stored = self.table.store(frame.key, numbers.for_table(is_attacker));
-        let kept = self.keep_children(frame).ok();
+        let kept = self.keep_children(frame);
         self.leave(frame);
         if let Some(above) = self.frames.last().copied() {
             self.set_outcome(above.current, Outcome::Open(numbers.turned()), kept);
@@ -273,14 +273,14 @@ impl Search {
     }
 
     /// Keeps the children of the last frame.
-    fn keep_children(&mut self, frame: Frame) -> Result<KeptState, AllocError> {
-        let mut state = self.kept.state(frame.is_barred);
+    fn keep_children(&mut self, frame: Frame) -> Option<KeptState> {
+        let mut state = self.kept.begin(frame.is_barred);
         for place in frame.first..self.children.len() {
             if let Some(child) = self.children.get(place).copied() {
                 state = self.kept.add(state, child)?;
             }
         }
-        Ok(state)
+        Some(state)
     }
 
     fn set_outcome(&mut self, place: usize, outcome: Outcome, kept: Option<KeptState>) {
@@ -328,12 +328,10 @@ impl Search {
     fn open_again(&mut self, kept: KeptState, thresholds: Thresholds) -> Result<bool, AllocError> {
         let first = self.children.len();
         for place in 0..kept.count {
-            let Some(child) = self.kept.get(kept, place) else {
+            if !self.add_kept(kept, place)? {
                 self.children.truncate(first);
                 return Ok(false);
-            };
-            let child = self.renewed(child);
-            self.children.push(child)?;
+            }
         }
         self.frames.push(Frame {
             key: self.line.end(),
@@ -345,15 +343,33 @@ impl Search {
         Ok(true)
     }
 
-    /// The child with what is known of it now.
-    fn renewed(&mut self, child: Child) -> Child {
-        let mut renewed = child;
-        if matches!(child.outcome, Outcome::Open(_)) {
-            if let Some(outcome) = self.known(child.key) {
-                renewed.outcome = outcome;
-            }
+    /// Adds the child of this place with what is known of it now, if it is still kept.
+    fn add_kept(&mut self, kept: KeptState, place: usize) -> Result<bool, AllocError> {
+        let Some(child) = self.kept.get(kept, place) else {
+            return Ok(false);
+        };
+        let turn = child.turn;
+        let key = child.key;
+        let kept = child.kept;
+        let outcome = self.outcome_now(key, child.outcome);
+        self.children.push(Child {
+            turn,
+            key,
+            outcome,
+            kept,
+        })?;
+        Ok(true)
+    }
+
+    /// What is known of a child now that had this outcome.
+    fn outcome_now(&mut self, key: Key, outcome: Outcome) -> Outcome {
+        if !matches!(outcome, Outcome::Open(_)) {
+            return outcome;
         }
-        renewed
+        match self.known(key) {
+            Some(known) => known,
+            None => outcome,
+        }
     }
 }
 

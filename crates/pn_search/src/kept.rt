@@ -1,57 +1,75 @@
 //! The children of states that were left unsettled, so that the work there goes on where it stood.
 
 use crate::frame::Child;
-use std::alloc::{AllocError, Global};
+use go_points::Turn;
+use std::alloc::Global;
+use std::mem;
 
-/// How many children are kept; those that were left the longest ago make room.
-const ROOM: u64 = 1_000_000;
+/// How many children a list takes before the next is begun.
+const ROOM: usize = 500_000;
 
 /// The children of a state that was left.
 #[derive(Clone, Copy)]
 pub(crate) struct KeptState {
-    /// How many children had been kept before its own.
-    before: u64,
+    /// The number of the list that they stand in, and the place of the first.
+    list: u32,
+    first: usize,
     pub(crate) count: usize,
     /// Whether the past bars a move there.
     pub(crate) is_barred: bool,
 }
 
-/// The latest children of states that were left, in a circle.
+/// The latest children of states that were left, in two lists: where the newer is full it becomes the older, and what that held is
+/// forgotten.
 #[derive(Drop)]
 pub(crate) struct KeptChildren {
-    children: Vec<Child>,
-    /// How many have been kept in all.
-    total: u64,
+    alloc: Global,
+    newer: Vec<Child>,
+    older: Vec<Child>,
+    /// The number of the newer list.
+    list: u32,
 }
 
 impl KeptChildren {
     pub(crate) fn new(alloc: Global) -> KeptChildren {
         KeptChildren {
-            children: Vec::new(alloc),
-            total: 0,
+            alloc,
+            newer: Vec::new(alloc),
+            older: Vec::new(alloc),
+            list: 0,
         }
     }
 
     /// A state whose children are to be added, and none of them yet.
-    pub(crate) fn state(&self, is_barred: bool) -> KeptState {
+    pub(crate) fn begin(&mut self, is_barred: bool) -> KeptState {
+        if self.newer.len() >= ROOM {
+            self.older = mem::replace(&mut self.newer, Vec::new(self.alloc));
+            self.list = self.list.wrapping_add(1);
+        }
         KeptState {
-            before: self.total,
+            list: self.list,
+            first: self.newer.len(),
             count: 0,
             is_barred,
         }
     }
 
-    /// Adds a child of the state that is kept last. Where memory is refused, nothing changes.
-    pub(crate) fn add(&mut self, state: KeptState, child: Child) -> Result<KeptState, AllocError> {
-        let place = (self.total % ROOM) as usize;
-        if place < self.children.len() {
-            self.children[place] = child;
-        } else {
-            self.children.push(child)?;
+    /// Adds a child of the state that was begun last; none where memory is refused, and then nothing changes.
+    pub(crate) fn add(&mut self, state: KeptState, child: Child) -> Option<KeptState> {
+        // Its parts are named, since the prover has to meet the type of its turn here.
+        let turn: Turn = child.turn;
+        let copy = Child {
+            turn,
+            key: child.key,
+            outcome: child.outcome,
+            kept: child.kept,
+        };
+        if self.newer.push(copy).is_err() {
+            return None;
         }
-        self.total = self.total.saturating_add(1);
-        Ok(KeptState {
-            before: state.before,
+        Some(KeptState {
+            list: state.list,
+            first: state.first,
             count: state.count.saturating_add(1),
             is_barred: state.is_barred,
         })
@@ -59,10 +77,13 @@ impl KeptChildren {
 
     /// The child of this place of the state, if it is still kept.
     pub(crate) fn get(&self, state: KeptState, place: usize) -> Option<Child> {
-        if self.total.saturating_sub(state.before) > ROOM {
-            return None;
+        let at = state.first.saturating_add(place);
+        if state.list == self.list {
+            return self.newer.get(at).copied();
         }
-        let number = state.before.saturating_add(place as u64);
-        self.children.get((number % ROOM) as usize).copied()
+        if state.list.wrapping_add(1) == self.list {
+            return self.older.get(at).copied();
+        }
+        None
     }
 }

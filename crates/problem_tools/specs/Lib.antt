@@ -1,2 +1,3 @@
 pub mod Games
 pub mod Marked
+pub mod Page

@@ -1,20 +1,31 @@
-//! problem_tools: takes the games of a file apart, and marks the problem of a record.
+//! problem_tools: takes the games of a file apart, marks the problem of a record, draws it, and makes a page of its answer.
 #![tactic(auto)]
 
-mod copies;
+mod ascii;
+mod drawing;
 mod games;
+mod lines;
 mod mark;
 mod marked_record;
+mod page;
+#[cfg(test)]
+mod page_tests;
+#[cfg(test)]
+mod picture_tests;
 mod region;
 mod run;
+mod same;
+mod svg;
 #[cfg(test)]
 mod tests;
+mod titles;
 mod words;
 
-use run::{Status, run};
+use run::run;
 use std::convert::AsStr;
 use std::env;
 use std::process::ExitCode;
+use tool_parts::Status;
 
 fn main(rt: HostRuntime) -> ExitCode {
     let alloc = rt.alloc();

@@ -6,9 +6,9 @@ ghost use Rattle.sgf_text.specs.Trees.{tree_of};
 ghost use Rattle.tsumego_problem.specs.Walk.{has_turn};
 ghost use Rattle.problem_tools.specs.Marked.{unmarked, marked_here, marked_front, marked_nodes, marked, unplayed};
 
-use crate::copies::{copy_node, copy_property, push_nodes, push_trees};
 use sgf_text::{Property, SgfNode, Tree};
 use std::alloc::{AllocError, Global};
+use tool_parts::{copy_node, copy_property, push_nodes, push_trees};
 use tsumego_problem::values_at;
 
 /// Why no record was made.

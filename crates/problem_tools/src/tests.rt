@@ -1,12 +1,20 @@
 //! Files in the forms that editors and servers write, and what is made of them. The records that are wanted are written
 //! by hand from the rules of the formats.
 
-use crate::run::{Status, run};
+use crate::run::run;
 use std::alloc::Global;
 use std::process::Abort;
+use tool_parts::Status;
 
 // What these words and this input give.
-fn gives(rt: &impl Abort, alloc: Global, words: &[&str], input: &str, status: Status, text: &str) {
+pub(crate) fn gives(
+    rt: &impl Abort,
+    alloc: Global,
+    words: &[&str],
+    input: &str,
+    status: Status,
+    text: &str,
+) {
     let mut reader = input.as_bytes();
     let mut writer = Vec::new(alloc);
     let mut notes = Vec::new(alloc);

@@ -2,12 +2,14 @@
 //!
 //! The words are read by `clap`. Its check is dear, so each part of the grammar has a function of its own.
 
+use crate::drawing::View;
+use crate::lines::Cut;
 use clap::builder::ValueParser;
-use clap::error::ErrorKind;
-use clap::{Arg, ArgMatches, Error};
+use clap::{Arg, ArgAction, ArgMatches};
 use go_points::Colour;
 use std::alloc::{AllocError, Global};
 use std::convert::AsStr;
+use tool_parts::{NoRequest, no_request};
 
 /// The greatest number of a node or a game: more than a record may have.
 const MOST: u64 = 1_000_000;
@@ -26,20 +28,13 @@ pub(crate) enum Request {
         region: String,
         mover: Option<Colour>,
     },
-}
-
-/// Why nothing is asked for.
-#[derive(Debug, Drop)]
-pub(crate) enum NoRequest {
-    /// The words have a fault, or call for help: this is the text.
-    Words(String),
-    Memory,
-}
-
-impl From<AllocError> for NoRequest {
-    fn from(_: AllocError) -> NoRequest {
-        NoRequest::Memory
-    }
+    /// A reader's copy of a solution record.
+    Page(Cut),
+    /// A picture, or a drawing for a terminal.
+    Picture {
+        view: View,
+        ascii: bool,
+    },
 }
 
 /// What the words ask for, the first of which is the program's name.
@@ -47,23 +42,10 @@ pub(crate) fn read_request<'a, S: AsStr>(
     alloc: Global,
     words: &'a [S],
 ) -> Result<Request, NoRequest> {
-    let Ok(program) = program(alloc) else {
-        return Err(NoRequest::Memory);
-    };
+    let program = program(alloc)?;
     match program.try_get_matches_from(words) {
         Ok(matches) => chosen(alloc, &matches),
-        Err(error) => Err(fault(alloc, &error)),
-    }
-}
-
-/// What a parse that failed says.
-fn fault(alloc: Global, error: &Error) -> NoRequest {
-    if let ErrorKind::OutOfMemory = error.kind() {
-        return NoRequest::Memory;
-    }
-    match format!(in alloc; "{error}") {
-        Ok(text) => NoRequest::Words(text),
-        Err(_) => NoRequest::Memory,
+        Err(error) => Err(no_request(alloc, &error)),
     }
 }
 
@@ -72,10 +54,21 @@ fn chosen(alloc: Global, matches: &ArgMatches<'_>) -> Result<Request, NoRequest>
     let Some((name, given)) = matches.subcommand() else {
         return Err(NoRequest::Words(String::new(alloc)));
     };
-    if name == "split" {
-        let number = number(given, "N").unwrap_or(1);
-        return Ok(Request::Split { number });
+    match name {
+        "split" => Ok(Request::Split {
+            number: number(given, "N").unwrap_or(1),
+        }),
+        "mark" => chosen_marks(alloc, given),
+        "page" => Ok(Request::Page(Cut {
+            short: number(given, "short").unwrap_or(0),
+            depth: number(given, "depth").unwrap_or(usize::MAX),
+        })),
+        _ => Ok(chosen_picture(given)),
     }
+}
+
+/// The marks that are asked for.
+fn chosen_marks(alloc: Global, given: &ArgMatches<'_>) -> Result<Request, NoRequest> {
     let node = number(given, "node");
     let targets = text(alloc, given, "target", "")?;
     let region = text(alloc, given, "region", "auto")?;
@@ -86,6 +79,19 @@ fn chosen(alloc: Global, matches: &ArgMatches<'_>) -> Result<Request, NoRequest>
         region,
         mover,
     })
+}
+
+/// The picture that is asked for.
+fn chosen_picture(given: &ArgMatches<'_>) -> Request {
+    let view = View {
+        node: number(given, "node"),
+        numbers: number(given, "numbers").unwrap_or(0),
+        is_plain: given.get_one::<bool>("plain").unwrap_or(false),
+    };
+    Request::Picture {
+        view,
+        ascii: given.get_one::<bool>("ascii").unwrap_or(false),
+    }
 }
 
 /// The number of an argument.
@@ -125,10 +131,12 @@ fn mover(alloc: Global, given: &ArgMatches<'_>) -> Result<Option<Colour>, NoRequ
 /// The program with its subcommands, one of which has to be named.
 fn program<'a>(alloc: Global) -> Result<clap::Command<'a>, AllocError> {
     let program = clap::Command::new(alloc, "problem_tools")
-        .about("Makes problems of records, read from standard input.")
+        .about("Makes problems of records, read from standard input, and shows them.")
         .subcommand_required(true);
     let program = program.subcommand(split_command(alloc)?)?;
-    program.subcommand(mark_command(alloc)?)
+    let program = program.subcommand(mark_command(alloc)?)?;
+    let program = program.subcommand(page_command(alloc)?)?;
+    program.subcommand(picture_command(alloc)?)
 }
 
 fn split_command<'a>(alloc: Global) -> Result<clap::Command<'a>, AllocError> {
@@ -184,4 +192,70 @@ fn mover_argument<'a>(alloc: Global) -> Arg<'a> {
         .help("Who is to move, B or W [default: as the record says]")
         .long("to-play")
         .value_name("COLOUR")
+}
+
+fn page_command<'a>(alloc: Global) -> Result<clap::Command<'a>, AllocError> {
+    let page = clap::Command::new(alloc, "page").about(
+        "Writes a reader's copy of a solution record. A second record after it, with the same problem, gives titles and comments.",
+    );
+    let page = page.arg(short_argument(alloc))?;
+    page.arg(depth_argument(alloc))
+}
+
+fn short_argument<'a>(alloc: Global) -> Arg<'a> {
+    Arg::new(alloc, "short")
+        .help(
+            "Leaves out replies whose lines end within N turns, but for the first of each branching",
+        )
+        .long("short")
+        .value_name("N")
+        .value_parser(ValueParser::unsigned(0, MOST))
+}
+
+fn depth_argument<'a>(alloc: Global) -> Arg<'a> {
+    Arg::new(alloc, "depth")
+        .help("Shows at most N turns of each line")
+        .long("depth")
+        .value_name("N")
+        .value_parser(ValueParser::unsigned(0, MOST))
+}
+
+fn picture_command<'a>(alloc: Global) -> Result<clap::Command<'a>, AllocError> {
+    let picture = clap::Command::new(alloc, "picture").about(
+        "Writes a picture (SVG) of the problem of a record, or of a node of its main line.",
+    );
+    let picture = picture.arg(pictured_argument(alloc))?;
+    let picture = picture.arg(numbers_argument(alloc))?;
+    let picture = picture.arg(plain_argument(alloc))?;
+    picture.arg(ascii_argument(alloc))
+}
+
+fn pictured_argument<'a>(alloc: Global) -> Arg<'a> {
+    Arg::new(alloc, "node")
+        .help("The node of the main line, from 0 [default: the problem's]")
+        .long("node")
+        .value_name("N")
+        .value_parser(ValueParser::unsigned(0, MOST))
+}
+
+fn numbers_argument<'a>(alloc: Global) -> Arg<'a> {
+    Arg::new(alloc, "numbers")
+        .help("Shows the first N turns after that node too, with their numbers")
+        .long("numbers")
+        .value_name("N")
+        .value_parser(ValueParser::unsigned(0, MOST))
+}
+
+fn plain_argument<'a>(alloc: Global) -> Arg<'a> {
+    Arg::new(alloc, "plain")
+        .help("Leaves marks and labels out")
+        .long("plain")
+        .action(ArgAction::SetTrue)
+}
+
+fn ascii_argument<'a>(alloc: Global) -> Arg<'a> {
+    Arg::new(alloc, "ascii")
+        .help("Draws for a terminal: X, O stones, #, @ targets, + region")
+        .long("ascii")
+        .action(ArgAction::SetTrue)
 }

@@ -108,7 +108,7 @@ pub(crate) fn read_points(size: Size, values: &[Bytes]) -> Option<PointSet>
 }
 
 /// The points of a property whose values have been found good. Bad values count as none.
-pub(crate) fn points_at(size: Size, name: &[u8], node: &SgfNode) -> PointSet
+pub fn points_at(size: Size, name: &[u8], node: &SgfNode) -> PointSet
     ensures value { map (number_of size) result ≡ points_at size name.now node.now }
     ensures on_board { All (IsOn size) result }
 {

@@ -73,7 +73,7 @@ fn cell_after(
 }
 
 /// The colouring with the node's setup assigned.
-pub(crate) fn assigned(size: Size, node: &SgfNode, colouring: &Colouring) -> Colouring
+pub fn assigned(size: Size, node: &SgfNode, colouring: &Colouring) -> Colouring
     requires { side_of colouring.now ≡ size }
     ensures value { result ≡ assigned size node.now colouring.now }
     ensures size { side_of result ≡ size }

@@ -36,8 +36,8 @@ fn is_go(root: &SgfNode) -> bool
 /// The number of rows of a board whose record does not say it, as SGF FF[4] has it for Go ("Root properties", SZ).
 pub(crate) const DEFAULT_SIZE: u8 = 19;
 
-/// The size that the root gives: the default where SZ is absent.
-fn board_size(root: &SgfNode) -> Option<Size>
+/// The size that the root gives: the default, 19 rows, where SZ is absent.
+pub fn board_size(root: &SgfNode) -> Option<Size>
     ensures { result ≡ board_size root.now }
 {
     match values_at(b"SZ", root) {

@@ -1,7 +1,7 @@
 use Rattle.std.proofs.Common.{◌<◌, arith}
 use Rattle.sgf_text.specs.Trees.{tree_count}
 use Rattle.sgf_text.proofs.TreeTextLemmas.{kid_is_smaller}
-use Rattle.problem_tools.proofs.copies.+copy_tree.Goals as goal
+use Rattle.tool_parts.proofs.copies.+copy_tree.Goals as goal
 
 pub copy_tree-requires : goal.copy_tree-requires
 copy_tree-requires t c =

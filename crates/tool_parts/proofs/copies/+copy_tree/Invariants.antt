@@ -1,6 +1,6 @@
 use Rattle.std.proofs.Common.{◌≡◌, take}
 use Rattle.sgf_text.specs.Trees.{tree_count}
-use Rattle.problem_tools.proofs.copies.+copy_tree.Given as goal
+use Rattle.tool_parts.proofs.copies.+copy_tree.Given as goal
 
 abbrev pub decreases-copy_tree : goal.decreases-copy_tree
 decreases-copy_tree l = tree_count l.tree.now

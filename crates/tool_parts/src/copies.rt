@@ -1,12 +1,12 @@
-//! Copies of the parts of a tree, in memory of their own.
+//! Copies of the parts of a tree, in memory of their own. Only memory is refused.
 
-ghost use Rattle.std.specs.Prelude.{◌≡◌, ◌++◌, IfOk, OnOk};
+ghost use Rattle.std.specs.Prelude.{◌≡◌, ◌++◌, ◌∷◌, [], IfOk, OnOk};
 
 use sgf_text::{Bytes, Property, SgfNode, Tree, Values};
 use std::alloc::{AllocError, Global};
 
 /// The same bytes.
-pub(crate) fn copy_bytes(alloc: Global, bytes: &Bytes) -> Result<Bytes, AllocError>
+pub fn copy_bytes(alloc: Global, bytes: &Bytes) -> Result<Bytes, AllocError>
     ensures { IfOk result (λ copy. copy ≡ bytes.now) }
 {
     Ok(Bytes::from_vec(bytes.as_slice().to_vec(alloc)?))
@@ -24,7 +24,7 @@ fn copy_values(alloc: Global, values: &[Bytes]) -> Result<Vec<Bytes>, AllocError
 }
 
 /// The same property.
-pub(crate) fn copy_property(alloc: Global, property: &Property) -> Result<Property, AllocError>
+pub fn copy_property(alloc: Global, property: &Property) -> Result<Property, AllocError>
     ensures { IfOk result (λ copy. copy ≡ property.now) }
 {
     let ident = copy_bytes(alloc, &property.ident)?;
@@ -36,7 +36,7 @@ pub(crate) fn copy_property(alloc: Global, property: &Property) -> Result<Proper
 }
 
 /// The same properties.
-fn copy_properties(alloc: Global, properties: &[Property]) -> Result<Vec<Property>, AllocError>
+pub fn copy_properties(alloc: Global, properties: &[Property]) -> Result<Vec<Property>, AllocError>
     ensures { IfOk result (λ copy. copy.items ≡ properties.now) }
 {
     let mut copy = Vec::new(alloc);
@@ -47,7 +47,7 @@ fn copy_properties(alloc: Global, properties: &[Property]) -> Result<Vec<Propert
 }
 
 /// The same node.
-pub(crate) fn copy_node(alloc: Global, node: &SgfNode) -> Result<SgfNode, AllocError>
+pub fn copy_node(alloc: Global, node: &SgfNode) -> Result<SgfNode, AllocError>
     ensures { IfOk result (λ copy. copy ≡ node.now) }
 {
     let properties = copy_properties(alloc, node.as_slice())?;
@@ -58,7 +58,7 @@ pub(crate) fn copy_node(alloc: Global, node: &SgfNode) -> Result<SgfNode, AllocE
 }
 
 /// Puts the same nodes at the end.
-pub(crate) fn push_nodes(
+pub fn push_nodes(
     alloc: Global,
     nodes: &[SgfNode],
     into: &mut Vec<SgfNode>,
@@ -72,7 +72,7 @@ pub(crate) fn push_nodes(
 }
 
 /// The same tree. It recurses as deep as trees are nested.
-pub(crate) fn copy_tree(alloc: Global, tree: &Tree) -> Result<Tree, AllocError>
+pub fn copy_tree(alloc: Global, tree: &Tree) -> Result<Tree, AllocError>
     ensures { IfOk result (λ copy. copy ≡ tree.now) }
 {
     let mut nodes = Vec::new(alloc);
@@ -88,15 +88,23 @@ pub(crate) fn copy_tree(alloc: Global, tree: &Tree) -> Result<Tree, AllocError>
 }
 
 /// Puts the same trees at the end.
-pub(crate) fn push_trees(
-    alloc: Global,
-    trees: &[Tree],
-    into: &mut Vec<Tree>,
-) -> Result<(), AllocError>
+pub fn push_trees(alloc: Global, trees: &[Tree], into: &mut Vec<Tree>) -> Result<(), AllocError>
     ensures { OnOk result (into.new.items ≡ into.old.items ++ trees.now) }
 {
     for i in 0..trees.len() {
         into.push(copy_tree(alloc, &trees[i])?)?;
     }
     Ok(())
+}
+
+/// The property of this name with one value.
+pub fn single(alloc: Global, name: &[u8], value: &[u8]) -> Result<Property, AllocError>
+    ensures { IfOk result (λ p. (p.ident ≡ name.now) × (p.values ≡ value.now ∷ [])) }
+{
+    let mut values = Vec::new(alloc);
+    values.push(Bytes::from_vec(value.to_vec(alloc)?))?;
+    Ok(Property {
+        ident: Bytes::from_vec(name.to_vec(alloc)?),
+        values: Values::from_vec(values),
+    })
 }

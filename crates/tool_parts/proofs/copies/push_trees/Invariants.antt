@@ -1,5 +1,5 @@
 use Rattle.std.proofs.Common.{◌≡◌, ◌++◌, take}
-use Rattle.problem_tools.proofs.copies.push_trees.Given as goal
+use Rattle.tool_parts.proofs.copies.push_trees.Given as goal
 
 abbrev pub invariant-loop-i : goal.invariant-loop-i
 invariant-loop-i l = l.into.items ≡ l.fn.into.items ++ take l.i l.trees

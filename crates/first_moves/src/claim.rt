@@ -1,0 +1,77 @@
+//! Claims that begin with a turn.
+
+use go_points::{Colour, Size, Turn};
+use proof_cert::{Certificate, Lemma, Node, Version};
+use std::alloc::{AllocError, Global};
+
+/// The claim that this side wins by the turn, after which it has won.
+pub(crate) fn winning_turn(
+    alloc: Global,
+    size: Size,
+    winner: Colour,
+    turn: Turn,
+) -> Result<Certificate, AllocError> {
+    Ok(Certificate {
+        version: Version::One,
+        size,
+        winner,
+        lemmas: Vec::new(alloc),
+        main: Node::Play(turn, Box::new(alloc, Node::Won)?),
+    })
+}
+
+/// The claim that begins with the turn and goes on as another.
+pub(crate) fn turn_before(
+    alloc: Global,
+    turn: Turn,
+    later: &Certificate,
+) -> Result<Certificate, AllocError> {
+    let main = copy_node(alloc, &later.main)?;
+    Ok(Certificate {
+        version: later.version,
+        size: later.size,
+        winner: later.winner,
+        lemmas: copy_lemmas(alloc, later.lemmas.as_slice())?,
+        main: Node::Play(turn, Box::new(alloc, main)?),
+    })
+}
+
+/// The same lemmas.
+fn copy_lemmas(alloc: Global, lemmas: &[Lemma]) -> Result<Vec<Lemma>, AllocError> {
+    let mut copy = Vec::new(alloc);
+    for i in 0..lemmas.len() {
+        copy.push(copy_lemma(alloc, &lemmas[i])?)?;
+    }
+    Ok(copy)
+}
+
+/// The same lemma.
+fn copy_lemma(alloc: Global, lemma: &Lemma) -> Result<Lemma, AllocError> {
+    Ok(Lemma {
+        mover: lemma.mover,
+        passes: lemma.passes,
+        root: lemma.root,
+        had: lemma.had.as_slice().to_vec(alloc)?,
+        absent: lemma.absent.as_slice().to_vec(alloc)?,
+        body: copy_node(alloc, &lemma.body)?,
+    })
+}
+
+/// The same tree. It recurses as deep as the claim is, which is 2,000 at most.
+fn copy_node(alloc: Global, node: &Node) -> Result<Node, AllocError> {
+    match node {
+        Node::Won => Ok(Node::Won),
+        Node::Use(number) => Ok(Node::Use(*number)),
+        Node::Play(turn, below) => {
+            let below = copy_node(alloc, below)?;
+            Ok(Node::Play(*turn, Box::new(alloc, below)?))
+        }
+        Node::All(replies) => {
+            let mut copy = Vec::new(alloc);
+            for (turn, below) in replies {
+                copy.push((*turn, copy_node(alloc, below)?))?;
+            }
+            Ok(Node::All(copy))
+        }
+    }
+}

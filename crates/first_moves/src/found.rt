@@ -1,0 +1,118 @@
+//! What is found of all first turns, and of the solution.
+
+ghost use Rattle.std.specs.Prelude.{◌≡◌};
+ghost use Rattle.first_moves.specs.Judged.{solution_of};
+
+use crate::judged::{First, Judged, judge};
+use crate::names::{turn_name, worth_name};
+use go_points::Turn;
+use pn_search::Budget;
+use sgf_text::write_bytes;
+use std::alloc::{AllocError, Global};
+use std::io::Write;
+use target_game::Problem;
+
+/// A legal first turn, and what is found of it.
+#[derive(Drop)]
+pub(crate) struct Found {
+    pub(crate) turn: Turn,
+    pub(crate) judged: Judged,
+}
+
+/// What is known of the solution.
+#[derive(Clone, Copy, Debug, PartialEq, Eq)]
+pub(crate) enum Solution {
+    /// One turn wins, and every other turn is known to lose.
+    Unique,
+    /// Several turns win, and of every turn it is known who does.
+    Several,
+    /// Every turn is known to lose.
+    Lost,
+    /// Of some turn nothing is known.
+    Open,
+}
+
+/// How many of the turns win, of how many nothing is known, and what that says of the solution.
+#[derive(Clone, Copy, Debug)]
+pub(crate) struct Tally {
+    pub(crate) solution: Solution,
+    pub(crate) winning: usize,
+    pub(crate) unknown: usize,
+}
+
+/// What is found of each legal first turn of the problem, points ascending and then the pass, with a budget for each.
+/// With `is_told` a line for each goes to `notes` at once.
+pub(crate) fn judge_turns<N: Write>(
+    alloc: Global,
+    problem: &Problem,
+    budget: Budget,
+    is_told: bool,
+    notes: &mut N,
+) -> Result<Vec<Found>, AllocError> {
+    prove!(problem.place() < problem.history().len());
+    let state = First::of(alloc, problem)?;
+    let turns = state.turns();
+    let mut found = Vec::new(alloc);
+    for i in 0..turns.len() {
+        let turn = turns[i];
+        let judged = judge(alloc, problem, &state, turn, budget)?;
+        if is_told {
+            tell(alloc, i, turns.len(), turns[i], &judged, notes)?;
+        }
+        found.push(Found {
+            turn: turns[i],
+            judged,
+        })?;
+    }
+    Ok(found)
+}
+
+/// Says on `notes` how far the run is; that a note cannot be written counts for nothing.
+fn tell<N: Write>(
+    alloc: Global,
+    done: usize,
+    count: usize,
+    turn: Turn,
+    judged: &Judged,
+    notes: &mut N,
+) -> Result<(), AllocError> {
+    let name = turn_name(alloc, turn)?;
+    let worth = worth_name(judged);
+    let number = done.saturating_add(1);
+    let line = format!(in alloc; "first_moves: {number} of {count}: {name} {worth}\n")?;
+    let _ = write_bytes(line.as_bytes(), notes);
+    Ok(())
+}
+
+/// What the turns say of the solution.
+pub(crate) fn counted(found: &[Found]) -> Tally {
+    let mut winning: usize = 0;
+    let mut unknown: usize = 0;
+    for i in 0..found.len() {
+        match &found[i].judged {
+            Judged::Right(_) => winning = winning.saturating_add(1),
+            Judged::Unknown => unknown = unknown.saturating_add(1),
+            Judged::Refuted(_) => {}
+            Judged::Ends => {}
+        }
+    }
+    Tally {
+        solution: solution_of(winning, unknown),
+        winning,
+        unknown,
+    }
+}
+
+/// What so many winning and so many unknown turns say of the solution.
+fn solution_of(winning: usize, unknown: usize) -> Solution
+    ensures { result ≡ solution_of winning unknown }
+{
+    if unknown > 0 {
+        return Solution::Open;
+    }
+    match winning {
+        0 => Solution::Lost,
+        1 => Solution::Unique,
+        _ => Solution::Several,
+    }
+}

@@ -1,0 +1,20 @@
+//! What the helper programs share: copies of trees, and how a run reads its input, writes, and ends.
+#![tactic(auto)]
+
+mod copies;
+mod input;
+mod output;
+mod status;
+mod words;
+
+pub use copies::{
+    copy_bytes, copy_node, copy_properties, copy_property, copy_tree, push_nodes, push_trees,
+    single,
+};
+pub use input::read_whole;
+pub use output::{Output, without_input, without_request, write_output};
+pub use status::{Status, write_record, write_text};
+pub use words::{NoRequest, no_request};
+
+#[cfg(test)]
+mod tests;

@@ -1,0 +1,43 @@
+//! What a run writes.
+
+ghost use Rattle.std.specs.Prelude.{◌≡◌, IfOk, Ok, IsErr};
+ghost use Rattle.tool_parts.specs.declared.output.Output.TheVariants.{Text};
+ghost use Rattle.tool_parts.specs.declared.status.Status.TheVariants.{BadWords, Failed};
+ghost use Rattle.tool_parts.specs.declared.words.NoRequest.TheVariants.{Words};
+
+use crate::status::{Status, write_record, write_text};
+use crate::words::NoRequest;
+use sgf_text::Tree;
+use std::alloc::{AllocError, Global};
+use std::io::Write;
+
+/// What a run writes: a record and a line feed, or a text with the status that belongs to it.
+#[derive(Drop)]
+pub enum Output {
+    Record(Tree),
+    Text(String, Status),
+}
+
+/// Writes what there is; that memory was refused has a text of its own. The answer is how the run ends.
+pub fn write_output<W: Write>(writer: &mut W, output: Result<Output, AllocError>) -> Status {
+    match output {
+        Ok(Output::Record(tree)) => write_record(writer, &tree),
+        Ok(Output::Text(text, status)) => write_text(writer, text.as_bytes(), status),
+        Err(_) => write_text(writer, b"failed: memory\n", Status::Failed),
+    }
+}
+
+/// What is written where the words ask for nothing.
+pub fn without_request(none: NoRequest) -> Result<Output, AllocError>
+    ensures { (text : _) → none ≡ Words text → result ≡ Ok (Text text BadWords) }
+{
+    match none {
+        NoRequest::Words(text) => Ok(Output::Text(text, Status::BadWords)),
+        NoRequest::Memory => Err(AllocError),
+    }
+}
+
+/// What is written where the input was not read to its end.
+pub fn without_input(alloc: Global) -> Result<Output, AllocError> {
+    Ok(Output::Text(format!(in alloc; "failed: read\n")?, Status::Failed))
+}

@@ -1,0 +1,58 @@
+//! What is copied, read and written, over memory.
+
+use crate::{Output, Status, copy_tree, read_whole, write_output};
+use sgf_text::read_tree;
+use std::alloc::AllocError;
+
+const RECORD: &str = "(;SZ[9]C[a\\]b];B[aa](;W[bb](;B[])(;B[cc]LB[dd:A][ee:B]))(;W[]))";
+
+#[test]
+fn a_copy_has_the_same_text(rt: HostRuntime) {
+    let alloc = rt.alloc();
+    let (tree, _end) = read_tree(alloc, RECORD.as_bytes())
+        .ok()
+        .expect(&rt, "a tree");
+    let copy = copy_tree(alloc, &tree).ok().expect(&rt, "memory");
+    let mut writer = Vec::new(alloc);
+    let ended = write_output(&mut writer, Ok(Output::Record(copy)));
+    assert_eq!(rt; ended, Status::Answered);
+    let said = String::from_utf8(writer).ok().expect(&rt, "a text");
+    let wanted = format!(in alloc; "{RECORD}\n").ok().expect(&rt, "memory");
+    assert_eq!(rt; said.as_str(), wanted.as_str());
+}
+
+#[test]
+fn the_input_is_read_to_its_end(rt: HostRuntime) {
+    let alloc = rt.alloc();
+    let mut long = Vec::new(alloc);
+    for i in 0..200_000u32 {
+        long.push((i % 251) as u8).ok().expect(&rt, "memory");
+    }
+    let mut reader = long.as_slice();
+    let mut bytes = Vec::new(alloc);
+    let whole = read_whole(&mut reader, &mut bytes)
+        .ok()
+        .expect(&rt, "memory");
+    assert!(rt; whole);
+    assert_eq!(rt; bytes.as_slice(), long.as_slice());
+}
+
+#[test]
+fn what_failed_is_said(rt: HostRuntime) {
+    let mut writer = Vec::new(rt.alloc());
+    let ended = write_output(&mut writer, Err(AllocError));
+    assert_eq!(rt; ended, Status::Failed);
+    assert_eq!(rt; writer.as_slice(), b"failed: memory\n".as_slice());
+}
+
+#[test]
+fn exit_codes(rt: HostRuntime) {
+    let codes = [
+        Status::Answered.code(),
+        Status::Rejected.code(),
+        Status::Refused.code(),
+        Status::BadWords.code(),
+        Status::Failed.code(),
+    ];
+    assert_eq!(rt; codes, [0, 1, 2, 3, 4]);
+}

@@ -220,6 +220,44 @@ fn six_points_in_a_corner_are_the_movers(rt: HostRuntime) {
     }
 }
 
+// Whether an earlier proof is of the same state.
+fn is_proved_before(search: &Search, place: usize) -> bool {
+    let Some(proof) = search.proofs.at(place) else {
+        return false;
+    };
+    for earlier in 0..place {
+        if let Some(other) = search.proofs.at(earlier) {
+            if other.key == proof.key {
+                return true;
+            }
+        }
+    }
+    false
+}
+
+fn is_a_state_proved_twice(search: &Search) -> bool {
+    for place in 0..search.proofs.len() {
+        if is_proved_before(search, place) {
+            return true;
+        }
+    }
+    false
+}
+
+// In a ko a proof of a state does not hold where what it forbids has occurred, or what it needs has not: the state is proved
+// anew there. The search would make claims that the checker refuses if it used the first proof again.
+#[test]
+fn a_state_is_proved_anew_where_its_proof_does_not_hold(rt: HostRuntime) {
+    let alloc = rt.alloc();
+    let corner = six_points(&rt, alloc, Colour::Black);
+    let budget = budget(&rt, 200_000, 10_000);
+    let mut left = budget.steps;
+    let mut search = Search::of(alloc, &corner, budget.table).expect(&rt, "memory");
+    assert!(&rt; search.settle(0, &mut left).is_ok());
+    assert!(&rt; is_a_state_proved_twice(&search));
+    assert!(&rt; wins(&rt, alloc, &corner, Colour::Black, 10_000) > 0);
+}
+
 // What a table of one entry forgets is searched in another order.
 #[test]
 fn the_table_has_an_effect(rt: HostRuntime) {

@@ -19,9 +19,9 @@ loop-neighbour-preserved c = λ a m own.
     elim (in_more (number_of n) items c.loop-neighbour.neighbour-index x c.loop-neighbour-test.true c.neighbour-item.is a m) [
       | inl before ↦ c.loop-neighbour.invariant a before own
       | inr e ↦ elim c.else-heads-stone.branch [
-          | else-heads-stone-via-then-heads-stone+else-not-meet w ↦ subst (λ z. Meet n heads c.args.head c.args.number z c.args.centre) (stone ∙ sym e) (w.meet.ensures w.if-not-meet.false)
-          | else-heads-stone-via-else-heads-stone w ↦ absurd (w.if-heads-stone.false (ap (slice_index heads) (stone ∙ sym e) ∙ own))
-        ]
+        | else-heads-stone-via-then-heads-stone+else-not-meet w ↦ subst (λ z. Meet n heads c.args.head c.args.number z c.args.centre) (stone ∙ sym e) (w.meet.ensures w.if-not-meet.false)
+        | else-heads-stone-via-else-heads-stone w ↦ absurd (w.if-heads-stone.false (ap (slice_index heads) (stone ∙ sym e) ∙ own))
+      ]
     ]
 
 pub returns : goal.returns

@@ -1,10 +1,10 @@
 -- What is found of a first turn.
-use Rattle.std.specs.Prelude.{◌≡◌, ℕ, ◌+◌, List, [], ◌∷◌, ◌++◌, length, map, nat_lt, nat_eq, if◌then◌else◌, Some, Ok}
+use Rattle.std.specs.Prelude.{◌≡◌, ℕ, ◌+◌, Bool, true, false, List, [], ◌∷◌, ◌++◌, length, map, nat_lt, nat_eq, if◌then◌else◌, Some, Ok}
 use Rattle.go_points.specs.declared.Cell.{Cell}
 use Rattle.go_points.specs.Grid.{opponent_of}
 use Rattle.go_points.specs.Move.{after_move}
 use Rattle.go_points.specs.Place.{Place, number_of}
-use Rattle.go_points.specs.Ply.{Ply, pass, move}
+use Rattle.go_points.specs.Ply.{Ply, pass, move, ply_of}
 use Rattle.target_game.specs.State.{GameProblem, start}
 use Rattle.target_game.specs.Problem.{problem_of}
 use Rattle.target_game.specs.Next.{next}
@@ -13,6 +13,7 @@ use Rattle.proof_cert.specs.Certificate.{claim_of}
 use Rattle.cert_check.specs.Expand.{first_turn}
 use Rattle.first_moves.specs.declared.judged.Judged.{Judged}
 use Rattle.first_moves.specs.declared.judged.Judged.TheVariants as judged
+use Rattle.first_moves.specs.declared.found.Found.{Found}
 use Rattle.first_moves.specs.declared.found.Solution.{Solution}
 use Rattle.first_moves.specs.declared.found.Solution.TheVariants as solutions
 
@@ -39,6 +40,31 @@ IsJudged q t (judged.Refuted checked) =
     IsProblemAfter q t checked.problem × ((claim_of checked.certificate).winner ≡ opponent_of q.mover)
 IsJudged q t judged.Ends = over (next (start q) t) ≡ Some (opponent_of q.mover)
 IsJudged q t judged.Unknown = Unit
+
+-- Each of these turns was judged, in this order, and nothing else was.
+abbrev pub AreJudged : GameProblem → List Ply → List Found → Type 0
+AreJudged q [] [] = Unit
+AreJudged q (t ∷ ts) (f ∷ fs) = (ply_of q.game.size f.turn ≡ t) × IsJudged q t f.judged × AreJudged q ts fs
+AreJudged q [] (f ∷ fs) = ⊥
+AreJudged q (t ∷ ts) [] = ⊥
+
+-- Whether the mover wins by a turn, and whether nothing is known of it.
+abbrev pub is_right : Judged → Bool
+is_right (judged.Right checked) = true
+is_right (judged.Refuted checked) = false
+is_right judged.Ends = false
+is_right judged.Unknown = false
+
+abbrev pub is_unknown : Judged → Bool
+is_unknown (judged.Right checked) = false
+is_unknown (judged.Refuted checked) = false
+is_unknown judged.Ends = false
+is_unknown judged.Unknown = true
+
+-- How many of the turns were judged so.
+abbrev pub count : (Judged → Bool) → List Found → ℕ
+count test [] = 0
+count test (f ∷ fs) = (if test f.judged then 1 else 0) + count test fs
 
 -- What is known of the solution, by how many turns win and how many are unknown: it is unique where one turn wins, and
 -- every other turn is known to lose.

@@ -1,7 +1,9 @@
 //! What is found of all first turns, and of the solution.
 
-ghost use Rattle.std.specs.Prelude.{◌≡◌};
-ghost use Rattle.first_moves.specs.Judged.{solution_of};
+ghost use Rattle.std.specs.Prelude.{◌≡◌, IfOk};
+ghost use Rattle.target_game.specs.Legal.{legal_turns};
+ghost use Rattle.target_game.specs.State.{start};
+ghost use Rattle.first_moves.specs.Judged.{AreJudged, count, is_right, is_unknown, solution_of};
 
 use crate::judged::{First, Judged, judge};
 use crate::names::{turn_name, worth_name};
@@ -10,7 +12,7 @@ use pn_search::Budget;
 use sgf_text::write_bytes;
 use std::alloc::{AllocError, Global};
 use std::io::Write;
-use target_game::Problem;
+use target_game::{Problem, TurnsLeft};
 
 /// A legal first turn, and what is found of it.
 #[derive(Drop)]
@@ -48,19 +50,24 @@ pub(crate) fn judge_turns<N: Write>(
     budget: Budget,
     is_told: bool,
     notes: &mut N,
-) -> Result<Vec<Found>, AllocError> {
+) -> Result<Vec<Found>, AllocError>
+    ensures { IfOk result (λ found. AreJudged problem.now (legal_turns (start problem.now)) found.items) }
+{
     prove!(problem.place() < problem.history().len());
     let state = First::of(alloc, problem)?;
-    let turns = state.turns();
+    let count = state.turns().len();
     let mut found = Vec::new(alloc);
-    for i in 0..turns.len() {
-        let turn = turns[i];
+    let mut turns_left = TurnsLeft::all();
+    while let Some(turn) = state.next_left(&mut turns_left) {
+        // The prover takes a turn that was passed on as moved.
+        let same = turn;
+        let again = turn;
         let judged = judge(alloc, problem, &state, turn, budget)?;
         if is_told {
-            tell(alloc, i, turns.len(), turns[i], &judged, notes)?;
+            tell(alloc, found.len(), count, same, &judged, notes)?;
         }
         found.push(Found {
-            turn: turns[i],
+            turn: again,
             judged,
         })?;
     }
@@ -85,13 +92,17 @@ fn tell<N: Write>(
 }
 
 /// What the turns say of the solution.
-pub(crate) fn counted(found: &[Found]) -> Tally {
+pub(crate) fn counted(found: &[Found]) -> Tally
+    ensures winning { result.winning ≡ count is_right found.now }
+    ensures unknown { result.unknown ≡ count is_unknown found.now }
+    ensures solution { result.solution ≡ solution_of (count is_right found.now) (count is_unknown found.now) }
+{
     let mut winning: usize = 0;
     let mut unknown: usize = 0;
     for i in 0..found.len() {
         match &found[i].judged {
-            Judged::Right(_) => winning = winning.saturating_add(1),
-            Judged::Unknown => unknown = unknown.saturating_add(1),
+            Judged::Right(_) => winning += 1,
+            Judged::Unknown => unknown += 1,
             Judged::Refuted(_) => {}
             Judged::Ends => {}
         }

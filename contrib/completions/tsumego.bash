@@ -16,7 +16,7 @@ _tsumego() {
     case $before in --steps | --table | --nodes) return ;; esac
     case $command in
     '') options="$commands --help -h" ;;
-    solve) options='--steps --table --proof --help -h' ;;
+    solve) options='--steps --table --proof --lift --help -h' ;;
     within) options='--nodes --help -h' ;;
     help) options=$commands ;;
     *) options='--help -h' ;;

@@ -10,5 +10,6 @@ complete -c tsumego -n __fish_use_subcommand -f -a help -d 'Print the commands, 
 complete -c tsumego -n '__fish_seen_subcommand_from solve' -l steps -x -d 'The most steps of the search'
 complete -c tsumego -n '__fish_seen_subcommand_from solve' -l table -x -d 'The most entries of the table'
 complete -c tsumego -n '__fish_seen_subcommand_from solve' -l proof -d 'Write the record and a claim in place of the tree'
+complete -c tsumego -n '__fish_seen_subcommand_from solve' -l lift -d 'With --proof, write the claim as one lemma'
 complete -c tsumego -n '__fish_seen_subcommand_from within' -l nodes -x -d 'The most states of the tree'
 complete -c tsumego -n '__fish_seen_subcommand_from help' -f -a 'check within audit solve gtp'

@@ -46,6 +46,7 @@ RUNS = [
     ("snapback", ["solve", "--proof"], SNAPBACK),
     ("ko with its past", ["solve"], WITH_PAST),
     ("ko with its past", ["solve", "--proof"], WITH_PAST),
+    ("ko with its past", ["solve", "--proof", "--lift"], WITH_PAST),
     ("ko, two points", ["solve"], TWO_POINTS),
     ("ko, two points", ["solve", "--proof"], TWO_POINTS),
     ("ko, two points, five steps", ["solve", "--steps", "5"], TWO_POINTS),
@@ -149,6 +150,8 @@ def fits_memory(program, words, text, own, got):
         return False
     if got[0] == 1:
         return is_unknown(got[1])
+    if "--lift" in words and b"\nlemma " not in got[1]:
+        return False
     return got[0] == 0 and own[0] == 0 and winner(program, words, text, got[1]) == winner(program, words, text, own[1])
 
 

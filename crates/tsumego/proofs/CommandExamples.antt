@@ -64,13 +64,21 @@ word_behind_audit : command_of (codes "tsumego" ∷ codes "audit" ∷ codes "3" 
 unfolding clap_on_literals command_of
 word_behind_audit = refl
 
-solve_asked : command_of (codes "tsumego" ∷ codes "solve" ∷ []) ≡ Some (Solve 1000000 100000 false)
+solve_asked : command_of (codes "tsumego" ∷ codes "solve" ∷ []) ≡ Some (Solve 1000000 100000 false false)
 unfolding clap_on_literals command_of
 solve_asked = refl
 
-solve_with_all : command_of (codes "tsumego" ∷ codes "solve" ∷ codes "--proof" ∷ codes "--steps" ∷ codes "10000000" ∷ codes "--table=1" ∷ []) ≡ Some (Solve 10000000 1 true)
+solve_with_all : command_of (codes "tsumego" ∷ codes "solve" ∷ codes "--proof" ∷ codes "--steps" ∷ codes "10000000" ∷ codes "--table=1" ∷ []) ≡ Some (Solve 10000000 1 true false)
 unfolding clap_on_literals command_of
 solve_with_all = refl
+
+lemma_asked : command_of (codes "tsumego" ∷ codes "solve" ∷ codes "--lift" ∷ codes "--proof" ∷ []) ≡ Some (Solve 1000000 100000 true true)
+unfolding clap_on_literals command_of
+lemma_asked = refl
+
+lemma_asked_without_proof : command_of (codes "tsumego" ∷ codes "solve" ∷ codes "--lift" ∷ []) ≡ Some (Solve 1000000 100000 false true)
+unfolding clap_on_literals command_of
+lemma_asked_without_proof = refl
 
 no_steps : command_of (codes "tsumego" ∷ codes "solve" ∷ codes "--steps" ∷ codes "0" ∷ []) ≡ None
 unfolding clap_on_literals command_of
@@ -91,6 +99,10 @@ too_large_table = refl
 flag_given_twice : command_of (codes "tsumego" ∷ codes "solve" ∷ codes "--proof" ∷ codes "--proof" ∷ []) ≡ None
 unfolding clap_on_literals command_of
 flag_given_twice = refl
+
+lemma_asked_twice : command_of (codes "tsumego" ∷ codes "solve" ∷ codes "--lift" ∷ codes "--lift" ∷ []) ≡ None
+unfolding clap_on_literals command_of
+lemma_asked_twice = refl
 
 flag_with_a_value : command_of (codes "tsumego" ∷ codes "solve" ∷ codes "--proof=true" ∷ []) ≡ None
 unfolding clap_on_literals command_of

@@ -101,10 +101,10 @@ audit_is_true bytes written (inl (inr (q, tree, n, r, h))) =
 
 -- what the search has written, as the outcome has it
 pub solve_is_true : SolveIsTrue
-solve_is_true steps table bytes written (inr (failed, _)) = absurd cc
-solve_is_true steps table bytes written (inl (inl (refusal, r, e, t))) = absurd cc
-solve_is_true steps table bytes written (inl (inr (q, tree, n, r, inr (e, unsolved)))) = absurd cc
-solve_is_true steps table bytes written (inl (inr (q, tree, n, r, inl (e, (x, a, answer, ascend, is, below, text))))) =
+solve_is_true steps table lift bytes written (inr (failed, _)) = absurd cc
+solve_is_true steps table lift bytes written (inl (inl (refusal, r, e, t))) = absurd cc
+solve_is_true steps table lift bytes written (inl (inr (q, tree, n, r, inr (e, unsolved)))) = absurd cc
+solve_is_true steps table lift bytes written (inl (inr (q, tree, n, r, inl (e, (x, a, answer, ascend, is, below, text))))) =
     let s = solution q x a in
     let read = written_reads s (10 ∷ []) is.whole in (
       q,
@@ -120,22 +120,23 @@ behind_front [] rest = refl
 behind_front (b ∷ front) rest = behind_front front rest
 
 pub proof_is_true : ProofIsTrue
-proof_is_true steps table bytes written (inr (failed, _)) = absurd cc
-proof_is_true steps table bytes written (inl (inl (refusal, r, e, t))) = absurd cc
-proof_is_true steps table bytes written (inl (inr (q, tree, n, r, inr (e, unsolved)))) = absurd cc
-proof_is_true steps table bytes written (inl (inr (q, tree, n, r, inl (e, (x, claim, judged, is, text))))) =
+proof_is_true steps table lift bytes written (inr (failed, _)) = absurd cc
+proof_is_true steps table lift bytes written (inl (inl (refusal, r, e, t))) = absurd cc
+proof_is_true steps table lift bytes written (inl (inr (q, tree, n, r, inr (e, unsolved)))) = absurd cc
+proof_is_true steps table lift bytes written (inl (inr (q, tree, n, r, inl (e, (z, by_claim))))) =
     let front = tree_text (canonical q) in
-    let whole : written ≡ front ++ 10 ∷ claim = text ∙ append_assoc front (10 ∷ []) claim in (
+    let claim = by_claim.spelling in
+    let whole : written ≡ front ++ 10 ∷ claim = by_claim.whole ∙ append_assoc front (10 ∷ []) claim in (
       q,
-      x,
-      side_wins bytes tree n q x r (accepted_sides_win q (lines q.game.size claim) x (placed history_limit tree q r.problem).place judged),
+      z.winner,
+      side_wins bytes tree n q z.winner r (accepted_sides_win q (lines q.game.size claim) z.winner (placed history_limit tree q r.problem).place by_claim.judged),
       record {
         tree = canonical q;
         end = length front;
         claim = claim;
-        reads = subst (λ w. Reads w (canonical q) (length front)) (sym whole) (written_reads (canonical q) (10 ∷ claim) is.whole);
-        problem = is.problem;
+        reads = subst (λ w. Reads w (canonical q) (length front)) (sym whole) (written_reads (canonical q) (10 ∷ claim) by_claim.kept.whole);
+        problem = by_claim.kept.problem;
         behind = ap (drop (length front)) whole ∙ behind_front front (10 ∷ claim);
-        judged = judged;
+        judged = by_claim.judged;
       },
     )

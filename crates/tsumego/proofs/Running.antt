@@ -47,7 +47,7 @@ explained None e = e
 explained (Some Check) e = e
 explained (Some (Within turns nodes)) e = e
 explained (Some Audit) e = e
-explained (Some (Solve steps table proof)) e = e
+explained (Some (Solve steps table proof lift)) e = e
 explained (Some Gtp) e = tt
 
 check_answers : (n : ℕ) (v : Verdict) (text : List ℕ) → (Failed, text) ≡ check_answer n v → ⊥
@@ -72,9 +72,9 @@ says_no_failure (Within turns nodes) bytes text whole (inl (refusal, refuses, e,
 says_no_failure (Within turns nodes) bytes text whole (inr (q, tree, n, is, said)) = within_answers (decision (start q) turns nodes) text said
 says_no_failure Audit bytes text whole (inl (refusal, refuses, e, is)) = absurd (cc e)
 says_no_failure Audit bytes text whole (inr (q, tree, n, is, said)) = audit_answers q.game.size (audit q tree) text said
-says_no_failure (Solve steps table proof) bytes text whole (inl (refusal, refuses, e, is)) = absurd (cc e)
-says_no_failure (Solve steps table proof) bytes text whole (inr (q, tree, n, is, inl (e, solved))) = absurd (cc e)
-says_no_failure (Solve steps table proof) bytes text whole (inr (q, tree, n, is, inr (e, unsolved))) = absurd (cc e)
+says_no_failure (Solve steps table proof lift) bytes text whole (inl (refusal, refuses, e, is)) = absurd (cc e)
+says_no_failure (Solve steps table proof lift) bytes text whole (inr (q, tree, n, is, inl (e, solved))) = absurd (cc e)
+says_no_failure (Solve steps table proof lift) bytes text whole (inr (q, tree, n, is, inr (e, unsolved))) = absurd (cc e)
 
 -- ---- what is written
 
@@ -168,5 +168,5 @@ pub refused_says : (command : Command) (bytes text : List ℕ) → is_session co
 refused_says Check bytes text whole (refusal, refuses, is) = inl (refusal, refuses, refl, is)
 refused_says (Within turns nodes) bytes text whole (refusal, refuses, is) = inl (refusal, refuses, refl, is)
 refused_says Audit bytes text whole (refusal, refuses, is) = inl (refusal, refuses, refl, is)
-refused_says (Solve steps table proof) bytes text whole (refusal, refuses, is) = inl (refusal, refuses, refl, is)
+refused_says (Solve steps table proof lift) bytes text whole (refusal, refuses, is) = inl (refusal, refuses, refl, is)
 refused_says Gtp bytes text whole h = absurd (cc whole)

@@ -105,4 +105,4 @@ is_gtp Gtp e = refl
 is_gtp Check e = absurd (cc e)
 is_gtp (Within turns nodes) e = absurd (cc e)
 is_gtp Audit e = absurd (cc e)
-is_gtp (Solve steps table proof) e = absurd (cc e)
+is_gtp (Solve steps table proof lift) e = absurd (cc e)

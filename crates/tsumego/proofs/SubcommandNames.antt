@@ -119,10 +119,10 @@ within_some (Some t) (Some n) h k = refl
 within_some (Some t) None h k = absurd (cc)
 within_some None n h k = absurd (cc)
 
-solve_some : (s t : Option ℕ) (proof : Bool) → is_some s ≡ true → is_some t ≡ true → is_some (solve_of s t proof) ≡ true
-solve_some (Some s) (Some t) proof h k = refl
-solve_some (Some s) None proof h k = absurd (cc)
-solve_some None t proof h k = absurd (cc)
+solve_some : (s t : Option ℕ) (proof lift : Bool) → is_some s ≡ true → is_some t ≡ true → is_some (solve_of s t proof lift) ≡ true
+solve_some (Some s) (Some t) proof lift h k = refl
+solve_some (Some s) None proof lift h k = absurd (cc)
+solve_some None t proof lift h k = absurd (cc)
 
 -- a subcommand that is required was named
 named : (s : Shape) (rows : List Row) (has : Bool) → s.subcommand_required ≡ true → check_fault s rows has ≡ [] → has ≡ true
@@ -153,7 +153,7 @@ stop_gives (Some (name, rest)) asked some none = go asked
     go (inr (inr (inr (inr e)))) = subst Gives (sym e) refl
     go (inr (inr (inr (inl e)))) =
         let found = solve_found _ refl rest (fault (codes "solve") e) in
-        subst Gives (sym e) (solve_some _ _ _ found.0 found.1)
+        subst Gives (sym e) (solve_some _ _ _ _ found.0 found.1)
 
 pub parse_gives : (ws : List Text) → fault_of grammar ws ≡ [] → is_some (command_of ws) ≡ true
 unfolding command_of

@@ -22,7 +22,7 @@ use Rattle.clap.specs.declared.builder.value_parser.ValueParser.TheVariants.{Uns
 use Rattle.clap.specs.declared.parser.matches.ValueSource.{ValueSource}
 use Rattle.clap.specs.declared.parser.matches.ValueSource.TheVariants.{CommandLine, DefaultValue}
 use Rattle.go_points.proofs.Lists.{Member, and_left, and_right, and_both, or_cases, or_left, or_right}
-use Rattle.tsumego.specs.CommandLine.{most_entries, most_nodes, most_steps, most_turns, number_in, number_of, proof_rule}
+use Rattle.tsumego.specs.CommandLine.{most_entries, most_nodes, most_steps, most_turns, flag_rule, lift_rule, number_in, number_of, proof_rule}
 use Rattle.tsumego.proofs.SubcommandWalks.{first_none, then_none, walk_fine, end_fine}
 
 -- a row of this argument has a number that fits first
@@ -108,7 +108,7 @@ abbrev table_built : Rule
 table_built = number_rule (codes "table") (Some (codes "table")) None 1 (codes "100000" ∷ []) 1 most_entries false
 
 abbrev solve_rules : List Rule
-solve_rules = steps_built ∷ table_built ∷ filled proof_rule ∷ filled help_rule ∷ []
+solve_rules = steps_built ∷ table_built ∷ filled proof_rule ∷ filled lift_rule ∷ filled help_rule ∷ []
 
 -- each use of this argument that has no fault keeps the rows fine, and so does its default
 abbrev UseKeeps : Text → ℕ → ℕ → Rule → Type 0
@@ -154,10 +154,10 @@ other_used : (id : Text) (least most : ℕ) (at : Text) (long : Option Text) (in
 other_used id least most at long index names defaults l m required other =
     number_used at long index names defaults l m required id least most (λ v taken. other_row id least most at other CommandLine (v ∷ []))
 
-flag_used : (id : Text) (least most : ℕ) → bytes_eq (codes "proof") id ≡ false → UseKeeps id least most (filled proof_rule)
-flag_used id least most other again values rows none fine =
-    with_values_fine id least most (codes "proof") CommandLine (values_or_missing (filled proof_rule) values) (other_row id least most (codes "proof") other CommandLine (values_or_missing (filled proof_rule) values))
-    (without (codes "proof") rows) (without_fine id least most (codes "proof") rows fine)
+flag_used : (at id : Text) (least most : ℕ) → bytes_eq at id ≡ false → UseKeeps id least most (filled (flag_rule at))
+flag_used at id least most other again values rows none fine =
+    with_values_fine id least most at CommandLine (values_or_missing (filled (flag_rule at)) values) (other_row id least most at other CommandLine (values_or_missing (filled (flag_rule at)) values))
+    (without at rows) (without_fine id least most at rows fine)
 
 -- a default of one value
 abbrev with_one_default : Text → Text → List Row → List Row
@@ -211,9 +211,13 @@ steps_kept = (
     other_used (codes "steps") 1 most_steps (codes "table") (Some (codes "table")) None 1 (codes "100000" ∷ []) 1 most_entries false refl,
     default_fine (codes "steps") 1 most_steps (codes "table") (codes "100000") refl,
     (
-      flag_used (codes "steps") 1 most_steps refl,
+      flag_used (codes "proof") (codes "steps") 1 most_steps refl,
       default_fine (codes "steps") 1 most_steps (codes "proof") (codes "false") refl,
-      help_keeps (codes "steps") 1 most_steps,
+      (
+        flag_used (codes "lift") (codes "steps") 1 most_steps refl,
+        default_fine (codes "steps") 1 most_steps (codes "lift") (codes "false") refl,
+        help_keeps (codes "steps") 1 most_steps,
+      ),
     ),
   ),
 )
@@ -226,9 +230,13 @@ table_kept = (
     own_used (codes "table") (Some (codes "table")) None 1 (codes "100000" ∷ []) 1 most_entries false,
     default_fine (codes "table") 1 most_entries (codes "table") (codes "100000") refl,
     (
-      flag_used (codes "table") 1 most_entries refl,
+      flag_used (codes "proof") (codes "table") 1 most_entries refl,
       default_fine (codes "table") 1 most_entries (codes "proof") (codes "false") refl,
-      help_keeps (codes "table") 1 most_entries,
+      (
+        flag_used (codes "lift") (codes "table") 1 most_entries refl,
+        default_fine (codes "table") 1 most_entries (codes "lift") (codes "false") refl,
+        help_keeps (codes "table") 1 most_entries,
+      ),
     ),
   ),
 )
@@ -288,11 +296,11 @@ nodes_there rows =
 
 steps_there : (rows : List Row) → has_row (codes "steps") (fold with_default rows solve_rules) ≡ true
 steps_there rows =
-    defaults_keep (codes "steps") (table_built ∷ filled proof_rule ∷ filled help_rule ∷ []) (with_default rows steps_built) (default_there (codes "steps") (codes "1000000") refl rows)
+    defaults_keep (codes "steps") (table_built ∷ filled proof_rule ∷ filled lift_rule ∷ filled help_rule ∷ []) (with_default rows steps_built) (default_there (codes "steps") (codes "1000000") refl rows)
 
 table_there : (rows : List Row) → has_row (codes "table") (fold with_default rows solve_rules) ≡ true
 table_there rows =
-    defaults_keep (codes "table") (filled proof_rule ∷ filled help_rule ∷ []) (with_default (with_default rows steps_built) table_built)
+    defaults_keep (codes "table") (filled proof_rule ∷ filled lift_rule ∷ filled help_rule ∷ []) (with_default (with_default rows steps_built) table_built)
     (default_there (codes "table") (codes "100000") refl (with_default rows steps_built))
 
 -- a row that is there is read

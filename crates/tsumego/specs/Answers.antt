@@ -91,8 +91,8 @@ abbrev pub Says : Command → List ℕ → Status → List ℕ → Type 0
 Says command.Check bytes = RefusedOr (λ q tree n status text. JudgesClaim q (drop n bytes) status text) bytes
 Says (command.Within turns nodes) bytes = RefusedOr (λ q tree n status text. (status, text) ≡ within_answer (decision (start q) turns nodes)) bytes
 Says command.Audit bytes = RefusedOr (λ q tree n status text. (status, text) ≡ audit_answer q.game.size (audit q tree)) bytes
-Says (command.Solve steps table proof) bytes =
-    RefusedOr (λ q tree n status text. ((status ≡ Answered) × Solved proof q text) ⊎ ((status ≡ Unanswered) × Unsolved steps proof q text)) bytes
+Says (command.Solve steps table proof lift) bytes =
+    RefusedOr (λ q tree n status text. ((status ≡ Answered) × Solved proof lift q text) ⊎ ((status ≡ Unanswered) × Unsolved steps proof q text)) bytes
 Says command.Gtp bytes = SessionSays bytes
 
 -- Memory was refused, or a read failed, or the input has no end in sight.

@@ -39,7 +39,7 @@ nodes_rule = record (new_rule (codes "nodes")) {
   parser = Some (Unsigned 0 most_nodes);
 }
 
--- `solve` has an option for the number of steps, one for the entries of the table, and a flag that asks for the claim.
+-- `solve` has an option for the number of steps, one for the entries of the table, a flag that asks for the claim, and one that asks for it as one lemma.
 abbrev pub steps_rule : Rule
 steps_rule = record (new_rule (codes "steps")) {
   long = Some (codes "steps");
@@ -56,8 +56,14 @@ table_rule = record (new_rule (codes "table")) {
   parser = Some (Unsigned 1 most_entries);
 }
 
+abbrev pub flag_rule : Text → Rule
+flag_rule name = record (new_rule name) { long = Some name; action = Some SetTrue }
+
 abbrev pub proof_rule : Rule
-proof_rule = record (new_rule (codes "proof")) { long = Some (codes "proof"); action = Some SetTrue }
+proof_rule = flag_rule (codes "proof")
+
+abbrev pub lift_rule : Rule
+lift_rule = flag_rule (codes "lift")
 
 abbrev pub check_shape : Shape
 check_shape = new_shape (codes "check")
@@ -69,7 +75,7 @@ abbrev pub audit_shape : Shape
 audit_shape = new_shape (codes "audit")
 
 abbrev pub solve_shape : Shape
-solve_shape = record (new_shape (codes "solve")) { rules = steps_rule ∷ table_rule ∷ proof_rule ∷ [] }
+solve_shape = record (new_shape (codes "solve")) { rules = steps_rule ∷ table_rule ∷ proof_rule ∷ lift_rule ∷ [] }
 
 abbrev pub gtp_shape : Shape
 gtp_shape = new_shape (codes "gtp")
@@ -97,9 +103,9 @@ abbrev pub within_of : Option ℕ → Option ℕ → Option Command
 within_of (Some turns) (Some nodes) = Some (Within turns nodes)
 within_of _ _ = None
 
-abbrev pub solve_of : Option ℕ → Option ℕ → Bool → Option Command
-solve_of (Some steps) (Some table) proof = Some (Solve steps table proof)
-solve_of _ _ proof = None
+abbrev pub solve_of : Option ℕ → Option ℕ → Bool → Bool → Option Command
+solve_of (Some steps) (Some table) proof lift = Some (Solve steps table proof lift)
+solve_of _ _ proof lift = None
 
 -- The command that a subcommand and its matches name.
 abbrev pub command_named : Text → List Row → Option Command
@@ -107,7 +113,7 @@ command_named name rows =
     (if bytes_eq name (codes "check") then Some Check
     else (if bytes_eq name (codes "within") then within_of (number_of (codes "K") 0 most_turns rows) (number_of (codes "nodes") 0 most_nodes rows)
     else (if bytes_eq name (codes "audit") then Some Audit
-    else (if bytes_eq name (codes "solve") then solve_of (number_of (codes "steps") 1 most_steps rows) (number_of (codes "table") 1 most_entries rows) (flag_of (codes "proof") rows)
+    else (if bytes_eq name (codes "solve") then solve_of (number_of (codes "steps") 1 most_steps rows) (number_of (codes "table") 1 most_entries rows) (flag_of (codes "proof") rows) (flag_of (codes "lift") rows)
     else (if bytes_eq name (codes "gtp") then Some Gtp
     else None)))))
 
@@ -129,7 +135,7 @@ abbrev pub FitsRanges : Command → Type 0
 FitsRanges Check = Unit {0}
 FitsRanges (Within turns nodes) = (turns ≤ most_turns) × (nodes ≤ most_nodes)
 FitsRanges Audit = Unit {0}
-FitsRanges (Solve steps table proof) = (1 ≤ steps) × (steps ≤ most_steps) × (1 ≤ table) × (table ≤ most_entries)
+FitsRanges (Solve steps table proof lift) = (1 ≤ steps) × (steps ≤ most_steps) × (1 ≤ table) × (table ≤ most_entries)
 FitsRanges Gtp = Unit {0}
 
 -- The command serves a session, and answers each line by itself.

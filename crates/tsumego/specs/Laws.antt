@@ -1,5 +1,5 @@
 -- What the outcome of a run says of the game.
-use Rattle.std.specs.Prelude.{◌≡◌, ℕ, true, false, List, [], ◌∷◌, ◌++◌, codes, drop, IsTrue, Some, Ok, ◌⊎◌}
+use Rattle.std.specs.Prelude.{◌≡◌, ℕ, Bool, true, false, List, [], ◌∷◌, ◌++◌, codes, drop, IsTrue, Some, Ok, ◌⊎◌}
 use Rattle.go_points.specs.declared.Colour.{Colour}
 use Rattle.go_points.specs.Grid.{opponent_of}
 use Rattle.go_points.specs.Ply.{Ply}
@@ -63,7 +63,7 @@ NamesWinner bytes q x = (a : AnswerTree) × (bytes ≡ line (tree_text (solution
 
 -- Where `solve` writes a record, it names a side, and that side wins the problem of the record that was read; what is written holds the same problem, with a legal answer of that side to every legal reply.
 abbrev pub SolveIsTrue : Type 0
-SolveIsTrue = (steps table : ℕ) (bytes written : List ℕ) → Outcome (Some (command.Solve steps table false)) bytes Answered written →
+SolveIsTrue = (steps table : ℕ) (lift : Bool) (bytes written : List ℕ) → Outcome (Some (command.Solve steps table false lift)) bytes Answered written →
     (q : GameProblem) × (x : Colour) × NamesWinner written q x × SideWins bytes q x × HasAnswers written q x
 
 -- The bytes are a record of the problem, a line feed, and a claim that names this side and is accepted for the problem.
@@ -78,7 +78,7 @@ pub record HasClaim (bytes : List ℕ) (q : GameProblem) (x : Colour) : Type 0 w
 
 -- Where `solve --proof` writes a claim, some side wins the problem of the record that was read, and what is written holds the same problem with an accepted claim that names that side.
 abbrev pub ProofIsTrue : Type 0
-ProofIsTrue = (steps table : ℕ) (bytes written : List ℕ) → Outcome (Some (command.Solve steps table true)) bytes Answered written →
+ProofIsTrue = (steps table : ℕ) (lift : Bool) (bytes written : List ℕ) → Outcome (Some (command.Solve steps table true lift)) bytes Answered written →
     (q : GameProblem) × (x : Colour) × SideWins bytes q x × HasClaim written q x
 
 -- What a session told of the colour k is true: `win V` names a legal turn after which k wins the session's problem with k to move, and `loss` says that the other side wins it.

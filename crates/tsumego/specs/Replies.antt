@@ -66,7 +66,7 @@ IsSolutionOf k None = tree_limit < answer_size (expand (claim_of k.certificate) 
 -- a reply is a text that may be said; or a claim, and then what may be said for its problem; or that a bound is passed
 abbrev pub IsReply : Command → List ℕ → Response → Type 0
 IsReply command bytes (Text reply) = Says command bytes reply.status (string_bytes reply.text)
-IsReply command bytes (Solution checked proof) = (status : Status) (text : List ℕ) → MayAnswer proof checked.problem status text → Says command bytes status text
+IsReply command bytes (Solution checked proof lift) = (status : Status) (text : List ℕ) → MayAnswer proof lift checked status text → Says command bytes status text
 IsReply command bytes TooLong = PassesBound command bytes
 
 -- A record is decided by the bytes that were read: there are more of them than a record may have, or the reader has ended.
@@ -118,7 +118,7 @@ IsSaidAfter command front told (Some r) = SaysAfter command front told r.status 
 IsSaidAfter command front told None = (rest : List ℕ) × Tells told rest × PassesBound command (front ++ rest)
 
 -- a search of the problem has this reply
-abbrev pub IsSearched : ℕ → Bool → GameProblem → Response → Type 0
-IsSearched budget proof q (Text reply) = (reply.status ≡ Unanswered) × Unsolved budget proof q (string_bytes reply.text)
-IsSearched budget proof q (Solution checked as_proof) = (checked.problem ≡ q) × (as_proof ≡ proof)
-IsSearched budget proof q TooLong = ⊥
+abbrev pub IsSearched : ℕ → Bool → Bool → GameProblem → Response → Type 0
+IsSearched budget proof lift q (Text reply) = (reply.status ≡ Unanswered) × Unsolved budget proof q (string_bytes reply.text)
+IsSearched budget proof lift q (Solution checked as_proof as_lifted) = (checked.problem ≡ q) × (as_proof ≡ proof) × (as_lifted ≡ lift)
+IsSearched budget proof lift q TooLong = ⊥

@@ -1,11 +1,13 @@
 //! What is written where a search has found a claim.
 
-ghost use Rattle.std.specs.Prelude.{IfOk, OnOk, OnErr, true, false};
+ghost use Rattle.std.specs.Prelude.{◌≡◌, Bool, IfOk, OnOk, OnErr, true, false};
 ghost use Rattle.std.specs.Io.KnownBytes.{Appends};
 ghost use Rattle.sgf_text.specs.Taken.{TakesPart};
 ghost use Rattle.sgf_text.specs.Text.{tree_text};
 ghost use Rattle.tsumego.specs.Texts.{line};
-ghost use Rattle.tsumego.specs.Solutions.{MayAnswer};
+ghost use Rattle.proof_cert.specs.Certificate.{claim_of};
+ghost use Rattle.cert_check.specs.Checked.{IsChecked};
+ghost use Rattle.tsumego.specs.Solutions.{IsWritten, MayAnswer};
 ghost use Rattle.tsumego.specs.Devices.{HasFailed};
 ghost use Rattle.tsumego.specs.Outcome.{HasLeftOn};
 ghost use Rattle.tsumego.specs.Replies.{IsSolutionOf, Writes};
@@ -13,9 +15,9 @@ ghost use Rattle.tsumego.specs.Replies.{IsSolutionOf, Writes};
 use crate::counting::Counting;
 use crate::status::Status;
 use crate::texts::{NO_MEMORY, TOO_LARGE};
-use cert_check::Checked;
 use cert_check::laws::{accepts_valid_texts, valid_claims_answer};
-use proof_cert::write_cert;
+use cert_check::{Checked, Lift, lift};
+use proof_cert::{Certificate, write_cert};
 use sgf_text::{Tree, WriteFault, write_bytes, write_tree};
 use solution_tree::laws::expansions_ascend;
 use solution_tree::{Expand, expand, to_sgf};
@@ -35,6 +37,7 @@ struct Said {
 }
 
 /// Writes the solution record of the claim; or, as a proof, the canonical record of its problem, a line feed, and the claim.
+/// With `lift` a proof has the claim as one lemma, or as it is where it has lemmas or would pass a limit.
 ///
 /// The whole text is made before the first byte is written, so that no want of memory cuts it. An answer tree of more than
 /// `MAX_TURNS` turns is not written, and the text says so. After a failed write the writer has taken a front of a text that
@@ -43,25 +46,29 @@ pub fn answer<W: Write>(
     alloc: Global,
     checked: &Checked,
     proof: bool,
+    lift: bool,
     writer: &mut Counting<W>,
 ) -> Status
-    ensures { HasLeftOn (MayAnswer proof checked.now.problem) (HasFailed writer.new.faults writer.new.interrupts) result (W.contents writer.old.inner) (W.contents writer.new.inner) }
+    ensures { HasLeftOn (MayAnswer proof lift checked.now) (HasFailed writer.new.faults writer.new.interrupts)
+        result (W.contents writer.old.inner) (W.contents writer.new.inner) }
 {
-    match said_of(alloc, checked, proof) {
+    match said_of(alloc, checked, proof, lift) {
         Ok(said) => write_text(writer, said.text.as_slice(), said.status),
         Err(_) => write_text(writer, NO_MEMORY, Status::Failed),
     }
 }
 
 /// What is written of the claim.
-fn said_of(alloc: Global, checked: &Checked, proof: bool) -> Result<Said, AllocError>
-    ensures { IfOk result (λ r. MayAnswer proof checked.now.problem r.status r.text.items) }
+fn said_of(alloc: Global, checked: &Checked, proof: bool, lift: bool) -> Result<Said, AllocError>
+    ensures { IfOk result (λ r. MayAnswer proof lift checked.now r.status r.text.items) }
 {
-    if proof {
-        said_as_claim(alloc, checked)
-    } else {
-        said_as_tree(alloc, checked)
+    if !proof {
+        return said_as_tree(alloc, checked, lift);
     }
+    if lift {
+        return said_as_lemma(alloc, checked);
+    }
+    said_as_claim(alloc, checked)
 }
 
 /// The record of the claim's answer tree; none where the tree has more turns than are written.
@@ -76,8 +83,8 @@ fn solution_of(alloc: Global, checked: &Checked) -> Result<Option<Tree>, AllocEr
 }
 
 /// The solution record.
-fn said_as_tree(alloc: Global, checked: &Checked) -> Result<Said, AllocError>
-    ensures { IfOk result (λ r. MayAnswer false checked.now.problem r.status r.text.items) }
+fn said_as_tree(alloc: Global, checked: &Checked, lift: bool) -> Result<Said, AllocError>
+    ensures { IfOk result (λ r. MayAnswer false lift checked.now r.status r.text.items) }
 {
     valid_claims_answer();
     expansions_ascend();
@@ -105,9 +112,38 @@ fn said_as_tree(alloc: Global, checked: &Checked) -> Result<Said, AllocError>
     }
 }
 
-/// The canonical record and the claim.
+/// The canonical record and the claim as it was found.
 fn said_as_claim(alloc: Global, checked: &Checked) -> Result<Said, AllocError>
-    ensures { IfOk result (λ r. MayAnswer true checked.now.problem r.status r.text.items) }
+    ensures { IfOk result (λ r. MayAnswer true false checked.now r.status r.text.items) }
+{
+    let _winner = checked.winner();
+    said_with(alloc, checked, checked.certificate())
+}
+
+/// The canonical record and the claim as one lemma; or as it was found, where it has lemmas or would pass a limit.
+fn said_as_lemma(alloc: Global, checked: &Checked) -> Result<Said, AllocError>
+    ensures { IfOk result (λ r. MayAnswer true true checked.now r.status r.text.items) }
+{
+    let _winner = checked.winner();
+    match lift(alloc, checked) {
+        Ok(lifted) => said_with(alloc, checked, &lifted),
+        Err(Lift::HasLemmas) => said_with(alloc, checked, checked.certificate()),
+        Err(Lift::Limit) => said_with(alloc, checked, checked.certificate()),
+        Err(Lift::Memory) => Err(AllocError),
+    }
+}
+
+/// The canonical record and this claim, which is written of the one that was found.
+fn said_with(
+    alloc: Global,
+    checked: &Checked,
+    certificate: &Certificate,
+) -> Result<Said, AllocError>
+    requires valid { IsChecked checked.now.problem (claim_of certificate.now) }
+    requires winner { certificate.now.winner ≡ checked.now.certificate.winner }
+    ensures { (lift : Bool)
+        → IsWritten lift checked.now.problem (claim_of checked.now.certificate) (claim_of certificate.now)
+        → IfOk result (λ r. MayAnswer true lift checked.now r.status r.text.items) }
 {
     accepts_valid_texts();
     canonical_reads();
@@ -121,7 +157,7 @@ fn said_as_claim(alloc: Global, checked: &Checked) -> Result<Said, AllocError>
     if write_line(&tree, &mut text).is_err() {
         return Err(AllocError);
     }
-    match write_cert(checked.certificate(), &mut text) {
+    match write_cert(certificate, &mut text) {
         Ok(()) => Ok(Said {
             status: Status::Answered,
             text,

@@ -125,22 +125,25 @@ fn a_large_tree_is_not_written_but_its_claim_is(rt: HostRuntime) {
     let checked = checked(&rt, rt.alloc(), claim.as_slice());
     let mut tree = Counting::new(Vec::new(rt.alloc()));
     assert_eq!(rt;
-        answer(rt.alloc(), &checked, false, &mut tree),
+        answer(rt.alloc(), &checked, false, false, &mut tree),
         Status::Unanswered
     );
     assert_eq!(rt;
         tree.inner.as_slice(),
         "unknown: tree too large\n".as_bytes()
     );
-    let mut proof = Counting::new(Vec::new(rt.alloc()));
-    assert_eq!(rt;
-        answer(rt.alloc(), &checked, true, &mut proof),
-        Status::Answered
-    );
-    assert!(rt; proof.inner.as_slice().starts_with(CANONICAL));
-    assert!(rt; proof.inner.as_slice().ends_with(claim.as_slice()));
-    assert_eq!(rt;
-        proof.inner.len(),
-        CANONICAL.len().saturating_add(claim.len())
-    );
+    // A claim that has lemmas is not made into one lemma.
+    for lift in [false, true] {
+        let mut proof = Counting::new(Vec::new(rt.alloc()));
+        assert_eq!(rt;
+            answer(rt.alloc(), &checked, true, lift, &mut proof),
+            Status::Answered
+        );
+        assert!(rt; proof.inner.as_slice().starts_with(CANONICAL));
+        assert!(rt; proof.inner.as_slice().ends_with(claim.as_slice()));
+        assert_eq!(rt;
+            proof.inner.len(),
+            CANONICAL.len().saturating_add(claim.len())
+        );
+    }
 }

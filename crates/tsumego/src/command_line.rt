@@ -6,7 +6,7 @@
 ghost use Rattle.std.specs.Prelude.{◌≡◌, ◌≤◌, false, Some, None, codes, IfOk, IfErr, IfSome, option_and_then, map};
 ghost use Rattle.clap.specs.Words.{app_of, found_of, kind_of, new_app, rows_of, rule_of, subcommand_rows_of, with_rule, with_subcommand};
 ghost use Rattle.clap.specs.declared.builder.command.Command.TheViews.{out-Command as fields_of};
-ghost use Rattle.tsumego.specs.CommandLine.{FitsRanges, HasFault, IsWordsFault, command_named, command_of, flag_of, grammar, gtp_shape, is_session, nodes_rule, number_of, proof_rule, solve_shape, steps_rule, table_rule, turns_rule};
+ghost use Rattle.tsumego.specs.CommandLine.{FitsRanges, HasFault, IsWordsFault, command_named, command_of, flag_of, grammar, gtp_shape, is_session, lift_rule, nodes_rule, number_of, proof_rule, solve_shape, steps_rule, table_rule, turns_rule};
 
 use clap::builder::ValueParser;
 use clap::error::ErrorKind;
@@ -38,11 +38,13 @@ pub enum Command {
     },
     /// Judge the answer tree below a record's problem node.
     Audit,
-    /// Search for a solution by at most so many steps, with a table of so many entries; and write it as a claim, or as a tree.
+    /// Search for a solution by at most so many steps, with a table of so many entries; and write it as a tree, or as a
+    /// claim, which may be made into one lemma.
     Solve {
         steps: u64,
         table: usize,
         proof: bool,
+        lift: bool,
     },
     /// Serve GTP commands.
     Gtp,
@@ -132,6 +134,7 @@ fn chosen(matches: &ArgMatches<'_>) -> Option<Command>
             steps,
             table: table as usize,
             proof: flag(given, "proof"),
+            lift: flag(given, "lift"),
         });
     }
     if name == "gtp" {
@@ -213,7 +216,7 @@ fn audit_command<'a>(alloc: Global) -> clap::Command<'a>
 }
 
 fn solve_command<'a>(alloc: Global) -> Result<clap::Command<'a>, AllocError>
-    ensures app { IfOk result (λ c. app_of c ≡ with_rule (with_rule (with_rule (new_app (codes "solve")) steps_rule) table_rule) proof_rule) }
+    ensures app { IfOk result (λ c. app_of c ≡ with_rule (with_rule (with_rule (with_rule (new_app (codes "solve")) steps_rule) table_rule) proof_rule) lift_rule) }
     ensures local { IfOk result (λ c. (fields_of c).has_globals ≡ false) }
 {
     let solve = clap::Command::new(alloc, "solve").about(
@@ -221,7 +224,8 @@ fn solve_command<'a>(alloc: Global) -> Result<clap::Command<'a>, AllocError>
     );
     let solve = solve.arg(steps_argument(alloc))?;
     let solve = solve.arg(table_argument(alloc))?;
-    solve.arg(proof_argument(alloc))
+    let solve = solve.arg(proof_argument(alloc))?;
+    solve.arg(lift_argument(alloc))
 }
 
 fn gtp_command<'a>(alloc: Global) -> clap::Command<'a>
@@ -284,5 +288,15 @@ fn proof_argument<'a>(alloc: Global) -> Arg<'a>
     Arg::new(alloc, "proof")
         .help("Writes the record and the claim of the solution in place of the tree")
         .long("proof")
+        .action(ArgAction::SetTrue)
+}
+
+fn lift_argument<'a>(alloc: Global) -> Arg<'a>
+    ensures rule { rule_of result ≡ lift_rule }
+    ensures local { result.global ≡ false }
+{
+    Arg::new(alloc, "lift")
+        .help("With --proof, writes the claim as one lemma where it has none")
+        .long("lift")
         .action(ArgAction::SetTrue)
 }

@@ -65,30 +65,43 @@ fn a_subcommand_gives_the_command(rt: HostRuntime) {
 }
 
 #[test]
-fn solve_has_two_numbers_and_a_flag(rt: HostRuntime) {
+fn solve_has_two_numbers_and_two_flags(rt: HostRuntime) {
     let alloc = rt.alloc();
-    let solve = |steps: u64, table: usize, proof: bool| Command::Solve {
+    let solve = |steps: u64, table: usize, proof: bool, lift: bool| Command::Solve {
         steps,
         table,
         proof,
+        lift,
     };
     gives(
         &rt,
         alloc,
         &["tsumego", "solve"],
-        solve(1_000_000, 100_000, false),
+        solve(1_000_000, 100_000, false, false),
     );
     gives(
         &rt,
         alloc,
         &["tsumego", "solve", "--proof"],
-        solve(1_000_000, 100_000, true),
+        solve(1_000_000, 100_000, true, false),
+    );
+    gives(
+        &rt,
+        alloc,
+        &["tsumego", "solve", "--lift", "--proof"],
+        solve(1_000_000, 100_000, true, true),
+    );
+    gives(
+        &rt,
+        alloc,
+        &["tsumego", "solve", "--lift"],
+        solve(1_000_000, 100_000, false, true),
     );
     gives(
         &rt,
         alloc,
         &["tsumego", "solve", "--steps", "1", "--table", "2"],
-        solve(1, 2, false),
+        solve(1, 2, false, false),
     );
     gives(
         &rt,
@@ -100,14 +113,14 @@ fn solve_has_two_numbers_and_a_flag(rt: HostRuntime) {
             "--proof",
             "--steps=10000000",
         ],
-        solve(10_000_000, 1_000_000, true),
+        solve(10_000_000, 1_000_000, true, false),
     );
 }
 
 #[test]
 fn faulty_words_of_solve_are_refused(rt: HostRuntime) {
     let alloc = rt.alloc();
-    let faults: [(&[&str], &str); 10] = [
+    let faults: [(&[&str], &str); 12] = [
         (&["--steps", "0"], "0 is not in 1..=10000000"),
         (&["--steps", "10000001"], "10000001 is not in 1..=10000000"),
         (&["--table", "0"], "0 is not in 1..=1000000"),
@@ -122,6 +135,8 @@ fn faulty_words_of_solve_are_refused(rt: HostRuntime) {
         ),
         (&["--proof", "--proof"], "cannot be used multiple times"),
         (&["--proof=true"], "unexpected value"),
+        (&["--lift", "--lift"], "cannot be used multiple times"),
+        (&["--lift=true"], "unexpected value"),
         (&["--steps"], "value is required"),
         (&["3"], "unexpected argument"),
     ];
@@ -245,5 +260,6 @@ fn help_is_a_text_and_no_command(rt: HostRuntime) {
     refuses(&rt, alloc, &["tsumego", "within", "--help"], "--nodes <N>");
     refuses(&rt, alloc, &["tsumego", "solve", "--help"], "--steps <N>");
     refuses(&rt, alloc, &["tsumego", "solve", "--help"], "--table <N>");
+    refuses(&rt, alloc, &["tsumego", "solve", "--help"], "as one lemma");
     refuses(&rt, alloc, &["tsumego", "help", "within"], "--nodes <N>");
 }

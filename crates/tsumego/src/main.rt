@@ -22,6 +22,8 @@ mod gtp_tests;
 mod input;
 pub mod laws;
 #[cfg(test)]
+mod lift_tests;
+#[cfg(test)]
 mod past_tests;
 mod record;
 #[cfg(test)]

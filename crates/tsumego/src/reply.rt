@@ -38,8 +38,12 @@ pub struct Reply {
 pub enum Response {
     /// This text.
     Text(Reply),
-    /// What is written of this claim, as a proof or as a tree.
-    Solution { checked: Checked, proof: bool },
+    /// What is written of this claim: as a tree, or as a proof, for which the claim may be made into one lemma.
+    Solution {
+        checked: Checked,
+        proof: bool,
+        lift: bool,
+    },
     /// What is read has no end in sight: a bound was passed.
     TooLong,
 }
@@ -80,7 +84,8 @@ pub fn reply_to<R: Read>(
             steps,
             table,
             proof,
-        } => searched(alloc, record.problem, steps, table, proof),
+            lift,
+        } => searched(alloc, record.problem, steps, table, proof, lift),
         Command::Gtp => unreachable!(),
     }
 }
@@ -164,15 +169,20 @@ fn searched(
     steps: u64,
     table: usize,
     proof: bool,
+    lift: bool,
 ) -> Result<Response, Failure>
     requires { 1 ≤ table }
-    ensures { IfOk result (λ r. IsSearched steps proof problem r) }
+    ensures { IfOk result (λ r. IsSearched steps proof lift problem r) }
 {
     let Some(table) = NonZeroUsize::new(table) else {
         unreachable!()
     };
     match solve(alloc, problem, Budget { steps, table }) {
-        Verdict::Wins(checked) => Ok(Response::Solution { checked, proof }),
+        Verdict::Wins(checked) => Ok(Response::Solution {
+            checked,
+            proof,
+            lift,
+        }),
         Verdict::Unknown { cause, steps, .. } => match unknown_text(alloc, cause, steps) {
             Ok(text) => Ok(Response::Text(Reply {
                 status: Status::Unanswered,

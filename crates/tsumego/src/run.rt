@@ -66,7 +66,13 @@ fn obey<R: Read, W: Write>(
     }
     match answer_of(alloc, command, reader) {
         Ok(Response::Text(reply)) => write_text(writer, reply.text.as_bytes(), reply.status),
-        Ok(Response::Solution { checked, proof }) => answer(alloc, &checked, proof, writer),
+        Ok(
+            Response::Solution {
+                checked,
+                proof,
+                lift,
+            },
+        ) => answer(alloc, &checked, proof, lift, writer),
         Ok(Response::TooLong) => write_text(writer, NO_READ, Status::Failed),
         Err(Failure::Memory) => write_text(writer, NO_MEMORY, Status::Failed),
         Err(Failure::Read) => {

@@ -7,9 +7,9 @@ use Rattle.tsumego.proofs.answer.answer.Goals as goal
 
 pub returns-in-Ok : goal.returns-in-Ok
 returns-in-Ok g c =
-    let q = c.args.checked.now.problem in
+    let k = c.args.checked.now in
     let old = g.W.Write.contents c.args.writer.now.inner in let new = g.W.Write.contents c.write_text.new.writer.inner in
     let fails = HasFailed c.write_text.new.writer.faults c.write_text.new.writer.interrupts in
     let said = c.in-Ok.said in
-    left_said (MayAnswer c.args.proof q) fails old new said.text.items said.status c.write_text.result c.in-Ok.ensures (answers_no_failure c.args.proof q said.status said.text.items c.in-Ok.ensures)
+    left_said (MayAnswer c.args.proof c.args.lift k) fails old new said.text.items said.status c.write_text.result c.in-Ok.ensures (answers_no_failure c.args.proof c.args.lift k said.status said.text.items c.in-Ok.ensures)
     (subst (λ t. Writes fails old new t said.status c.write_text.result) c.as_slice.ensures.value c.write_text.ensures)

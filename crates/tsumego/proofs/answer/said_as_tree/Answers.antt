@@ -14,6 +14,6 @@ returns-in-Ok c =
     let kept : IsProblem k.problem = subst IsProblem c.problem.ensures c.problems_are_kept.ensures in
     let whole : IsTrue (is_tree c.in-Ok-Some.tree) = subst (λ t. IsTrue (is_tree t)) c.tree.view_is c.tree.invariant in
     let is : IsSolutionOf k (Some c.in-Ok-Some.tree) = subst (IsSolutionOf k) c.in-Ok-Some.field-0-is c.in-Ok-Some.ensures in
-    let solved : Solved false k.problem (line (tree_text c.in-Ok-Some.tree)) = tree_solves k c.winner-winner.ensures.checked c.expansions_ascend.ensures c.valid_claims_answer.ensures c.solution_reads.ensures kept place c.in-Ok-Some.tree whole is in
+    let solved : Solved false c.args.lift k.problem (line (tree_text c.in-Ok-Some.tree)) = tree_solves k c.winner-winner.ensures.checked c.expansions_ascend.ensures c.valid_claims_answer.ensures c.solution_reads.ensures kept place c.in-Ok-Some.tree whole is c.args.lift in
     let written : c.write_line.new.writer.items ≡ line (tree_text c.in-Ok-Some.tree) = c.in-Ok.ensures.written ∙ ap (λ xs. xs ++ line (tree_text c.in-Ok-Some.tree)) c.new-text.ensures.items in
-    inl (refl, subst (Solved false k.problem) (sym written) solved)
+    inl (refl, subst (Solved false c.args.lift k.problem) (sym written) solved)

@@ -59,4 +59,4 @@ returns-in-Solve-clause-reply g c =
     let read = record_more c.fronts_decide.ensures front rest.0 found.tree found.end found.problem c.in-Ok.ensures.ok in
     replied_after c.args.command front rest.0 told c.searched.result rest.1
     (subst (λ k. IfOk c.searched.result (λ r. IsReply k (front ++ rest.0) r)) (sym asked.is)
-    (searched_for asked.steps asked.table asked.proof (front ++ rest.0) found.tree found.end found.problem c.searched.result read c.searched.ensures))
+    (searched_for asked.steps asked.table asked.proof asked.lift (front ++ rest.0) found.tree found.end found.problem c.searched.result read c.searched.ensures))

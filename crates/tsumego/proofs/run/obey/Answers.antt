@@ -40,7 +40,7 @@ returns-in-Ok-Solution g c =
     let told = g.R.Read.remaining c.args.reader.now.inner in let old = g.W.Write.contents c.args.writer.now.inner in let new = g.W.Write.contents c.answer.new.writer.inner in
     let reader = c.answer_of.new.reader in let writer = c.answer.new.writer in
     let said = c.in-Ok-Solution.ensures.reply in
-    let ran = ran_left c.args.command told (ReadFails (Some c.args.command) reader.faults reader.interrupts) (HasFailed writer.faults writer.interrupts) said.0 c.in-Ok-Solution.checked.problem c.in-Ok-Solution.proof c.answer.result old new said.1
+    let ran = ran_left c.args.command told (ReadFails (Some c.args.command) reader.faults reader.interrupts) (HasFailed writer.faults writer.interrupts) said.0 c.in-Ok-Solution.checked c.in-Ok-Solution.proof c.in-Ok-Solution.lift c.answer.result old new said.1
     (subst (IsReply c.args.command said.0) c.in-Ok-Solution.field-0-is said.2) c.answer.ensures in
     record { ran = ran; asked = c.answer_of.ensures.asked }
 

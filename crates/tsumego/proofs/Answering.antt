@@ -14,8 +14,8 @@ use Rattle.cert_check.specs.Checked.{CheckedClaim, IsChecked}
 use Rattle.cert_check.specs.Expand.{expand}
 use Rattle.cert_check.specs.Laws.{AcceptsValidTexts, ValidClaimsAnswer}
 use Rattle.solution_tree.specs.Laws.{ExpansionsAscend}
-use Rattle.tsumego.specs.declared.command_line.Command.{Command}
-use Rattle.tsumego.specs.declared.command_line.Command.TheVariants.{Solve}
+use Rattle.tsumego_words.specs.declared.command_line.Command.{Command}
+use Rattle.tsumego_words.specs.declared.command_line.Command.TheVariants.{Solve}
 use Rattle.tsumego.specs.declared.reply.Response.{Response}
 use Rattle.tsumego.specs.declared.reply.Response.TheVariants.{Text, Solution, TooLong}
 use Rattle.tsumego.specs.declared.status.Status.{Status}

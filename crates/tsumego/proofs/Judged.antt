@@ -17,8 +17,8 @@ use Rattle.cert_check.specs.Body.{Why}
 use Rattle.cert_check.specs.Stage.{why_value}
 use Rattle.cert_check.specs.Verdict.{verdict, accepted, rejected}
 use Rattle.cert_check.specs.declared.reject.Reject.{Reject}
-use Rattle.tsumego.specs.declared.command_line.Command.{Command}
-use Rattle.tsumego.specs.declared.command_line.Command.TheVariants.{Check, Within, Audit, Solve, Gtp}
+use Rattle.tsumego_words.specs.declared.command_line.Command.{Command}
+use Rattle.tsumego_words.specs.declared.command_line.Command.TheVariants.{Check, Within, Audit, Solve, Gtp}
 use Rattle.tsumego.specs.declared.record.NoRecord.{NoRecord}
 use Rattle.tsumego.specs.declared.record.NoRecord.TheVariants.{Refused, Memory}
 use Rattle.tsumego.specs.declared.reply.Reply.{Reply}

@@ -1,5 +1,3 @@
-pub mod CommandLines
-pub mod CommandExamples
 pub mod Records
 pub mod Headline
 pub mod Recording
@@ -8,8 +6,5 @@ pub mod Running
 pub mod Answering
 pub mod Judged
 pub mod Front
-pub mod SubcommandWalks
-pub mod SubcommandRows
-pub mod SubcommandNames
 pub mod Sessions
 pub mod Telling

@@ -18,11 +18,11 @@ use Rattle.solution_tree.specs.Audit.{Fault, audit}
 use Rattle.solution_tree.specs.Faults.{IsFaultOf, IsFault}
 use Rattle.solution_tree.specs.declared.fault.AuditFault.{AuditFault}
 use Rattle.tsumego_problem.specs.Refusals.{Refuses}
-use Rattle.tsumego.specs.declared.command_line.Command.{Command}
-use Rattle.tsumego.specs.declared.command_line.Command.TheVariants.{Check, Within, Audit, Solve, Gtp}
+use Rattle.tsumego_words.specs.declared.command_line.Command.{Command}
+use Rattle.tsumego_words.specs.declared.command_line.Command.TheVariants.{Check, Within, Audit, Solve, Gtp}
 use Rattle.tsumego.specs.declared.status.Status.{Status}
 use Rattle.tsumego.specs.declared.status.Status.TheVariants.{Refused, BadWords, Failed}
-use Rattle.tsumego.specs.CommandLine.{is_session}
+use Rattle.tsumego_words.specs.CommandLine.{is_session}
 use Rattle.tsumego.specs.Texts.{line, no_memory_text, no_read_text}
 use Rattle.tsumego.specs.Solutions.{claim_verdict}
 use Rattle.tsumego.specs.Answers.{IsRecord, RefusedOr, Says, SaysFailure, check_answer, audit_answer, within_answer}

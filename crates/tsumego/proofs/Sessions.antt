@@ -1,5 +1,5 @@
 -- What a run of a session leaves is what the command leaves.
-use Rattle.std.proofs.Common.{◌≡◌, ℕ, true, List, [], ◌∷◌, ◌++◌, codes, Option, None, Some, ◌⊎◌, inl, inr, refl, sym, ap, ◌∙◌, subst, append_assoc, append-nil}
+use Rattle.std.proofs.Common.{◌≡◌, ℕ, true, List, [], ◌∷◌, ◌++◌, codes, Option, None, Some, inl, inr, refl, sym, ap, ◌∙◌, subst, append_assoc, append-nil}
 use Rattle.std.specs.Io.KnownBytes.{Appends}
 use Rattle.std.proofs.KnownBytes.{Appends-trans}
 use Rattle.gtp_core.specs.declared.end.GtpEnd.TheVariants as stop
@@ -9,9 +9,9 @@ use Rattle.gtp_core.specs.Session.{GtpSession}
 use Rattle.gtp_core.specs.Serving.{Answers, HadNoMemory, Serves, reply}
 use Rattle.gtp_core.specs.Runs as gtp
 use Rattle.gtp_core.specs.Runs.{GoesThrough, IsRun, IsEnded, HasRun, HasStopped, first_session}
-use Rattle.tsumego.specs.CommandLine.{is_session}
-use Rattle.tsumego.specs.declared.command_line.Command.{Command}
-use Rattle.tsumego.specs.declared.command_line.Command.TheVariants.{Check, Within, Audit, Solve, Gtp}
+use Rattle.tsumego_words.specs.CommandLine.{is_session}
+use Rattle.tsumego_words.specs.declared.command_line.Command.{Command}
+use Rattle.tsumego_words.specs.declared.command_line.Command.TheVariants.{Check, Within, Audit, Solve, Gtp}
 use Rattle.tsumego.specs.declared.status.Status.{Status}
 use Rattle.tsumego.specs.declared.status.Status.TheVariants.{Answered, Failed}
 use Rattle.tsumego.specs.Texts.{no_read_text}

@@ -1,13 +1,12 @@
 -- What a session tells is true.
-use Rattle.std.proofs.Common.{◌≡◌, ℕ, true, false, nat_eq, eq-eqb, get_or, drop, append_assoc, List, [], ◌∷◌, ◌++◌, codes, Option, None, Some, Ok, Err, ◌⊎◌, inl, inr, refl, sym, ap, ◌∙◌, subst}
+use Rattle.std.proofs.Common.{◌≡◌, ℕ, false, nat_eq, eq-eqb, get_or, drop, append_assoc, List, [], ◌∷◌, ◌++◌, codes, Option, None, Some, ◌⊎◌, inl, inr, refl, sym, ap, ◌∙◌, subst}
 use Rattle.go_points.specs.declared.Colour.{Colour}
-use Rattle.target_game.specs.State.{GameProblem, start}
-use Rattle.gtp_core.specs.declared.command.Command.TheVariants as command
-use Rattle.gtp_core.specs.Lines.{Request, asks, request_of, raw_lines}
-use Rattle.gtp_core.specs.Words.{colour_named, failure, spaced_text, success, turn_text}
+use Rattle.target_game.specs.State.{GameProblem}
+use Rattle.gtp_core.specs.Lines.{raw_lines}
+use Rattle.gtp_core.specs.Words.{failure, spaced_text, success, turn_text}
 use Rattle.gtp_core.specs.Commands.{order_of, solve_order}
 use Rattle.gtp_core.specs.Session.{GtpSession, problem_at, size_of}
-use Rattle.gtp_core.specs.Serving.{Answers, Meets, MayTell, HadNoMemory, Serves, due_of, solve_due, reply, last_reply}
+use Rattle.gtp_core.specs.Serving.{Answers, Meets, MayTell, Serves, due_of, solve_due, reply}
 use Rattle.gtp_core.specs.Runs.{GoesThrough, IsRun, first_session}
 use Rattle.tsumego.specs.Laws.{AllTrue, AnswersTruly, GtpIsTrue, IsTrueEnd, IsTrueOf}
 

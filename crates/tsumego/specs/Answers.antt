@@ -17,8 +17,8 @@ use Rattle.cert_check.specs.Verdict.{Verdict, accepted, rejected}
 use Rattle.gtp_core.specs.Lines.{raw_lines}
 use Rattle.gtp_core.specs.Runs.{IsRun, IsReadTo, first_session}
 use Rattle.solution_tree.specs.Audit.{Fault, audit}
-use Rattle.tsumego.specs.declared.command_line.Command.{Command}
-use Rattle.tsumego.specs.declared.command_line.Command.TheVariants as command
+use Rattle.tsumego_words.specs.declared.command_line.Command.{Command}
+use Rattle.tsumego_words.specs.declared.command_line.Command.TheVariants as command
 use Rattle.tsumego.specs.declared.status.Status.{Status}
 use Rattle.tsumego.specs.declared.status.Status.TheVariants.{Answered, Unanswered, Refused, Failed}
 use Rattle.tsumego.specs.Bounds.{white_limit}

@@ -4,8 +4,8 @@
 --     MayAsk command old new      what the reader gave between old and new is within the bound of the command
 use Rattle.std.specs.Prelude.{ℕ, ◌≤◌, List, length, Option, Some}
 use Rattle.std.specs.Io.KnownBytes.{Consumes}
-use Rattle.tsumego.specs.declared.command_line.Command.{Command}
-use Rattle.tsumego.specs.declared.command_line.Command.TheVariants.{Check, Gtp}
+use Rattle.tsumego_words.specs.declared.command_line.Command.{Command}
+use Rattle.tsumego_words.specs.declared.command_line.Command.TheVariants.{Check, Gtp}
 
 abbrev pub front_limit : ℕ
 front_limit = 1048577

@@ -2,7 +2,7 @@
 --     HasFailed faults interrupts      for what was counted
 --     ReadFails command faults interrupts bytes      that, or the bytes pass a bound of the command
 use Rattle.std.specs.Prelude.{ℕ, ◌<◌, List, Option, Some, None, ◌⊎◌}
-use Rattle.tsumego.specs.declared.command_line.Command.{Command}
+use Rattle.tsumego_words.specs.declared.command_line.Command.{Command}
 use Rattle.tsumego.specs.Answers.{PassesBound}
 
 -- so often a device may be interrupted

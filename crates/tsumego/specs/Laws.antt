@@ -14,7 +14,7 @@ use Rattle.sgf_text.specs.Text.{tree_text}
 use Rattle.tsumego_problem.specs.Walk.{problem_of}
 use Rattle.tsumego_problem.specs.Below.{Below}
 use Rattle.tsumego_problem.specs.Canonical.{solution}
-use Rattle.tsumego.specs.declared.command_line.Command.TheVariants as command
+use Rattle.tsumego_words.specs.declared.command_line.Command.TheVariants as command
 use Rattle.tsumego.specs.declared.status.Status.TheVariants.{Answered}
 use Rattle.cert_check.specs.Verdict.{accepted}
 use Rattle.gtp_core.specs.Lines.{asks, raw_lines, request_of}

@@ -1,4 +1,3 @@
-pub mod CommandLine
 pub mod Bounds
 pub mod Texts
 pub mod Solutions

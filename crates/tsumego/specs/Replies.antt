@@ -22,8 +22,8 @@ use Rattle.cert_check.specs.declared.reject.Reject.{Reject}
 use Rattle.solution_tree.specs.Audit as audit
 use Rattle.solution_tree.specs.Faults as fault
 use Rattle.solution_tree.specs.declared.fault.AuditFault.{AuditFault}
-use Rattle.tsumego.specs.declared.command_line.Command.{Command}
-use Rattle.tsumego.specs.declared.command_line.Command.TheVariants.{Check}
+use Rattle.tsumego_words.specs.declared.command_line.Command.{Command}
+use Rattle.tsumego_words.specs.declared.command_line.Command.TheVariants.{Check}
 use Rattle.tsumego.specs.declared.reply.Response.{Response}
 use Rattle.tsumego.specs.declared.reply.Reply.{Reply}
 use Rattle.tsumego.specs.declared.reply.Response.TheVariants.{Text, Solution, TooLong}

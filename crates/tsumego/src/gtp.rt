@@ -4,13 +4,13 @@ ghost use Rattle.std.specs.Prelude.{Some};
 ghost use Rattle.tsumego.specs.Outcome.{Ran};
 
 use crate::answer::write_text;
-use crate::command_line::Command;
 use crate::counting::Counting;
 use crate::status::Status;
 use crate::texts::{NO_MEMORY, NO_READ};
 use gtp_core::{GtpEnd, run_gtp};
 use std::alloc::Global;
 use std::io::{Read, Write};
+use tsumego_words::Command;
 
 /// Serves GTP commands up to the end of the input, or to `quit`.
 pub fn serve_gtp<R: Read, W: Write>(

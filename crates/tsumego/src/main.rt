@@ -9,9 +9,6 @@ mod audit_tests;
 #[cfg(test)]
 mod check_tests;
 mod claim;
-mod command_line;
-#[cfg(test)]
-mod command_line_tests;
 pub mod counting;
 #[cfg(test)]
 mod counting_tests;

@@ -5,13 +5,12 @@ ghost use Rattle.target_game.specs.State.{start};
 ghost use Rattle.target_game.specs.Within.{decision};
 ghost use Rattle.tsumego_problem.specs.Walk.{problem_node};
 ghost use Rattle.solution_tree.specs.Audit.{audit};
-ghost use Rattle.tsumego.specs.CommandLine.{FitsRanges, is_session};
-ghost use Rattle.tsumego.specs.declared.command_line.Command.{Command};
+ghost use Rattle.tsumego_words.specs.CommandLine.{FitsRanges, is_session};
+ghost use Rattle.tsumego_words.specs.declared.command_line.Command.{Command};
 ghost use Rattle.tsumego.specs.Replies.{AsksOn, Decides, HasNoRecord, IsNodeRejectionOf, IsReplyAfter, IsSaidAfter, IsSearched, SaysAfter};
 ghost use Rattle.tsumego.specs.Answers.{Says, audit_answer, within_answer};
 
 use crate::claim::judge;
-use crate::command_line::Command;
 use crate::record::{NoRecord, read_record};
 use crate::status::Status;
 use crate::texts::{node_reject_text, unknown_text, wins_text};
@@ -25,6 +24,7 @@ use std::alloc::Global;
 use std::io::Read;
 use std::num::NonZeroUsize;
 use target_game::{Problem, Within, decide_within};
+use tsumego_words::Command;
 
 /// A whole answer.
 #[derive(Debug, Drop)]

@@ -1,14 +1,13 @@
 //! A run of the program: its words and its input to its answer.
 
 ghost use Rattle.std.specs.Prelude.{◌≡◌, ℕ, List, map, Some, IfOk, IsFalse};
-ghost use Rattle.tsumego.specs.CommandLine.{command_of, is_session, FitsRanges};
+ghost use Rattle.tsumego_words.specs.CommandLine.{command_of, is_session, FitsRanges};
 ghost use Rattle.tsumego.specs.Bounds.{MayAsk};
 ghost use Rattle.tsumego.specs.Devices.{HasFailed, ReadFails};
 ghost use Rattle.tsumego.specs.Outcome.{RanOn, Tells};
 ghost use Rattle.tsumego.specs.Replies.{IsReply};
 
 use crate::answer::{answer, write_text};
-use crate::command_line::{Command, NoCommand, read_command};
 use crate::counting::Counting;
 use crate::gtp::serve_gtp;
 use crate::input::{Reading, read_to_limit};
@@ -18,6 +17,7 @@ use crate::texts::{NO_MEMORY, NO_READ};
 use std::alloc::Global;
 use std::convert::AsStr;
 use std::io::{Read, Write};
+use tsumego_words::{Command, NoCommand, read_command};
 
 /// The most bytes that are asked for a record: one more than a record may have.
 pub const MAX_FRONT: usize = 1_048_577;

@@ -1,4 +1,4 @@
-use Rattle.std.proofs.Common.{rules, ◌≡◌, ◌+◌, ◌-◌, ◌≤◌, ℕ, [], length, Option, Some, subst, arith}
+use Rattle.std.proofs.Common.{rules, ◌≡◌, ◌+◌, ◌-◌, ◌≤◌, [], length, Some, subst, arith}
 use Rattle.std.specs.Prelude.{IfOk, string_bytes}
 use Rattle.tsumego.specs.declared.input.White.{White}
 use Rattle.tsumego.specs.Bounds.{white_limit}

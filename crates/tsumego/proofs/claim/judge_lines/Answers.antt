@@ -1,8 +1,7 @@
-use Rattle.std.proofs.Common.{◌≡◌, ◌∙◌, ap, sym, subst, refl}
+use Rattle.std.proofs.Common.{◌≡◌, ◌∙◌, ap, subst}
 use Rattle.std.specs.Prelude.{string_bytes, IfOk}
 use Rattle.proof_cert.specs.Streamed.{streamed_of, reader_gives}
 use Rattle.cert_check.specs.Checks.{Accepts, RejectsAt}
-use Rattle.tsumego.specs.Answers.{check_answer}
 use Rattle.tsumego.specs.declared.status.Status.TheVariants.{Answered}
 use Rattle.tsumego.specs.Replies.{IsRejectionOf}
 use Rattle.tsumego.proofs.Judged.{accepted_after, rejected_after}

@@ -1,7 +1,7 @@
 use Rattle.std.proofs.Common.{subst, refl, inl}
 use Rattle.gtp_core.specs.declared.end.GtpEnd.{GtpEnd}
 use Rattle.gtp_core.specs.Runs.{HasStopped}
-use Rattle.tsumego.specs.declared.command_line.Command.TheVariants.{Gtp}
+use Rattle.tsumego_words.specs.declared.command_line.Command.TheVariants.{Gtp}
 use Rattle.tsumego.specs.declared.status.Status.TheVariants.{Failed}
 use Rattle.tsumego.specs.Devices.{HasFailed}
 use Rattle.tsumego.specs.Texts.{no_memory_text}

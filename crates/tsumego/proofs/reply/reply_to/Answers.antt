@@ -7,7 +7,7 @@ use Rattle.tsumego_problem.specs.Walk.{history_limit}
 use Rattle.tsumego.specs.Answers.{Says, audit_answer, within_answer}
 use Rattle.tsumego.proofs.Records.{has_problem_node}
 use Rattle.tsumego.proofs.Recording.{all_behind}
-use Rattle.tsumego.specs.Replies.{IsJudged, IsReply, IsReplyAfter, IsSaidAfter, SaysAfter}
+use Rattle.tsumego.specs.Replies.{IsJudged, IsReply, IsSaidAfter}
 use Rattle.tsumego.proofs.Running.{said_of_record, some_bytes}
 use Rattle.tsumego.proofs.Answering.{searched_for}
 use Rattle.tsumego.proofs.Judged.{record_more, none_after, said_after, replied_after, judged_after}

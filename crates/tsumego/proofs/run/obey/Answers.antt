@@ -1,6 +1,6 @@
-use Rattle.std.proofs.Common.{◌≡◌, List, ℕ, subst, refl, inl, inr, sym, ◌∙◌, Some}
-use Rattle.tsumego.specs.declared.command_line.Command.{Command}
-use Rattle.tsumego.specs.declared.command_line.Command.TheVariants.{Gtp}
+use Rattle.std.proofs.Common.{◌≡◌, subst, refl, inl, inr, sym, ◌∙◌, Some}
+use Rattle.tsumego_words.specs.declared.command_line.Command.{Command}
+use Rattle.tsumego_words.specs.declared.command_line.Command.TheVariants.{Gtp}
 use Rattle.tsumego.specs.Bounds.{MayAsk}
 use Rattle.tsumego.specs.Devices.{HasFailed, ReadFails}
 use Rattle.tsumego.specs.Outcome.{RanOn}

@@ -1,5 +1,5 @@
 use Rattle.std.proofs.Common.{sym, subst, refl, map}
-use Rattle.tsumego.specs.CommandLine.{command_of, IsWordsFault}
+use Rattle.tsumego_words.specs.CommandLine.{command_of, IsWordsFault}
 use Rattle.tsumego.specs.Devices.{HasFailed, ReadFails}
 use Rattle.tsumego.specs.Texts.{no_memory_text}
 use Rattle.tsumego.proofs.Judged.{may_ask_nothing}

@@ -8,10 +8,10 @@ use Rattle.clap.specs.Simple.{new_shape}
 use Rattle.clap.specs.ValueTests.{is_unsigned_in}
 use Rattle.clap.specs.declared.builder.action.ArgAction.TheVariants.{SetTrue}
 use Rattle.clap.specs.declared.builder.value_parser.ValueParser.TheVariants.{Unsigned}
-use Rattle.tsumego.specs.declared.command_line.Command.{Command}
-use Rattle.tsumego.specs.declared.command_line.Command.TheVariants.{Check, Within, Audit, Solve, Gtp}
-use Rattle.tsumego.specs.declared.command_line.NoCommand.{NoCommand}
-use Rattle.tsumego.specs.declared.command_line.NoCommand.TheVariants.{Words, Memory}
+use Rattle.tsumego_words.specs.declared.command_line.Command.{Command}
+use Rattle.tsumego_words.specs.declared.command_line.Command.TheVariants.{Check, Within, Audit, Solve, Gtp}
+use Rattle.tsumego_words.specs.declared.command_line.NoCommand.{NoCommand}
+use Rattle.tsumego_words.specs.declared.command_line.NoCommand.TheVariants.{Words, Memory}
 
 -- The most turns, and the most states, that may be asked for.
 abbrev pub most_turns : ℕ

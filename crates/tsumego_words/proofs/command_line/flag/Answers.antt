@@ -3,8 +3,8 @@ use Rattle.std.specs.Option.{option_map_or}
 use Rattle.std.specs.Str.{bytes_eq}
 use Rattle.clap.specs.Words.{found_of, one_text}
 use Rattle.clap.proofs.WalkLemmas.{one_text-rows}
-use Rattle.tsumego.proofs.CommandLines.{reads_flag}
-use Rattle.tsumego.proofs.command_line.flag.Goals as goal
+use Rattle.tsumego_words.proofs.CommandLines.{reads_flag}
+use Rattle.tsumego_words.proofs.command_line.flag.Goals as goal
 
 pub returns-in-Some : goal.returns-in-Some
 returns-in-Some c =

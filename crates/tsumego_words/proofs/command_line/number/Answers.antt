@@ -2,9 +2,9 @@ use Rattle.std.proofs.Common.{Some, None, option_and_then, sym, ap, ◌∙◌, a
 use Rattle.std.specs.Str.Parse.{ParsesUnsigned, ExplainsUnsignedError, HasUnsignedDigitsIfOk}
 use Rattle.clap.specs.Words.{found_of, one_text}
 use Rattle.clap.proofs.WalkLemmas.{one_text-rows}
-use Rattle.tsumego.specs.CommandLine.{number_in}
-use Rattle.tsumego.proofs.CommandLines.{reads_number, fits_between, not_between}
-use Rattle.tsumego.proofs.command_line.number.Goals as goal
+use Rattle.tsumego_words.specs.CommandLine.{number_in}
+use Rattle.tsumego_words.proofs.CommandLines.{reads_number, fits_between, not_between}
+use Rattle.tsumego_words.proofs.command_line.number.Goals as goal
 
 pub returns-in-Some-clause-value : goal.returns-in-Some-clause-value
 returns-in-Some-clause-value c =

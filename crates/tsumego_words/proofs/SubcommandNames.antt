@@ -12,9 +12,9 @@ use Rattle.clap.specs.Takes.{is_given}
 use Rattle.clap.specs.Facts.{explicit_source}
 use Rattle.clap.specs.Simple.{argument_words, entered}
 use Rattle.clap.specs.declared.error.kind.ErrorKind.TheVariants.{DisplayHelp, InvalidSubcommand}
-use Rattle.tsumego.specs.CommandLine.{command_named, command_of, grammar, solve_of, unless_faulty, within_of}
-use Rattle.tsumego.proofs.SubcommandWalks.{first_none, then_none}
-use Rattle.tsumego.proofs.SubcommandRows.{check_none, solve_found, within_found}
+use Rattle.tsumego_words.specs.CommandLine.{command_named, command_of, grammar, solve_of, unless_faulty, within_of}
+use Rattle.tsumego_words.proofs.SubcommandWalks.{first_none, then_none}
+use Rattle.tsumego_words.proofs.SubcommandRows.{check_none, solve_found, within_found}
 
 -- the names of the subcommands, `help` among them
 abbrev names : Names

@@ -22,8 +22,8 @@ use Rattle.clap.specs.declared.builder.value_parser.ValueParser.TheVariants.{Uns
 use Rattle.clap.specs.declared.parser.matches.ValueSource.{ValueSource}
 use Rattle.clap.specs.declared.parser.matches.ValueSource.TheVariants.{CommandLine, DefaultValue}
 use Rattle.go_points.proofs.Lists.{Member, and_left, and_right, and_both, or_cases, or_left, or_right}
-use Rattle.tsumego.specs.CommandLine.{most_entries, most_nodes, most_steps, most_turns, flag_rule, lift_rule, number_in, number_of, proof_rule}
-use Rattle.tsumego.proofs.SubcommandWalks.{first_none, then_none, walk_fine, end_fine}
+use Rattle.tsumego_words.specs.CommandLine.{most_entries, most_nodes, most_steps, most_turns, flag_rule, lift_rule, number_in, number_of, proof_rule}
+use Rattle.tsumego_words.proofs.SubcommandWalks.{first_none, then_none, walk_fine, end_fine}
 
 -- a row of this argument has a number that fits first
 abbrev pub fine_row : Text → ℕ → ℕ → Row → Bool

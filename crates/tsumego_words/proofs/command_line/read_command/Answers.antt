@@ -1,7 +1,7 @@
 use Rattle.std.proofs.Common.{map, sym, ◌∙◌}
 use Rattle.clap.specs.Words.{app_of}
-use Rattle.tsumego.proofs.CommandLines.{command_found, command_faulty, no_command_faulty, error_faulty}
-use Rattle.tsumego.proofs.command_line.read_command.Goals as goal
+use Rattle.tsumego_words.proofs.CommandLines.{command_found, command_faulty, no_command_faulty, error_faulty}
+use Rattle.tsumego_words.proofs.command_line.read_command.Goals as goal
 
 pub returns-in-Some-clause-ok : goal.returns-in-Some-clause-ok
 returns-in-Some-clause-ok g c =

@@ -6,7 +6,7 @@
 ghost use Rattle.std.specs.Prelude.{◌≡◌, ◌≤◌, false, Some, None, codes, IfOk, IfErr, IfSome, option_and_then, map};
 ghost use Rattle.clap.specs.Words.{app_of, found_of, kind_of, new_app, rows_of, rule_of, subcommand_rows_of, with_rule, with_subcommand};
 ghost use Rattle.clap.specs.declared.builder.command.Command.TheViews.{out-Command as fields_of};
-ghost use Rattle.tsumego.specs.CommandLine.{FitsRanges, HasFault, IsWordsFault, command_named, command_of, flag_of, grammar, gtp_shape, is_session, lift_rule, nodes_rule, number_of, proof_rule, solve_shape, steps_rule, table_rule, turns_rule};
+ghost use Rattle.tsumego_words.specs.CommandLine.{FitsRanges, HasFault, IsWordsFault, command_named, command_of, flag_of, grammar, gtp_shape, is_session, lift_rule, nodes_rule, number_of, proof_rule, solve_shape, steps_rule, table_rule, turns_rule};
 
 use clap::builder::ValueParser;
 use clap::error::ErrorKind;

@@ -13,8 +13,8 @@ use Rattle.clap.specs.declared.parser.matches.ArgMatches.{ArgMatches}
 use Rattle.clap.proofs.ValueTestLemmas.{accepts-Accepts, Accepts-accepts}
 use Rattle.go_points.proofs.Lists.{and_left, and_right, and_both}
 use Rattle.sgf_text.proofs.AddedLemmas.{same_name}
-use Rattle.tsumego.specs.CommandLine.{HasFault, command_named, command_of, grammar, number_in, unless_faulty}
-use Rattle.tsumego.proofs.SubcommandNames.{parse_gives}
+use Rattle.tsumego_words.specs.CommandLine.{HasFault, command_named, command_of, grammar, number_in, unless_faulty}
+use Rattle.tsumego_words.proofs.SubcommandNames.{parse_gives}
 
 -- a number that was read, where it is at least so much and at most so much
 abbrev pub between : ℕ → ℕ → Option ℕ → Option ℕ

@@ -1,0 +1,5 @@
+pub mod CommandLines
+pub mod CommandExamples
+pub mod SubcommandWalks
+pub mod SubcommandRows
+pub mod SubcommandNames

@@ -1,6 +1,8 @@
 //! What a run writes.
 
-ghost use Rattle.std.specs.Prelude.{◌≡◌, IfOk, Ok, IsErr};
+ghost use Rattle.std.specs.Prelude.{◌≡◌, ◌≢◌, codes, IfOk, IsErr, IsTrue, Ok, is_err};
+ghost use Rattle.std.specs.Io.KnownBytes.{Appends};
+ghost use Rattle.tool_parts.specs.Written.{bytes_of, end_of};
 ghost use Rattle.tool_parts.specs.declared.output.Output.TheVariants.{Text};
 ghost use Rattle.tool_parts.specs.declared.status.Status.TheVariants.{BadWords, Failed};
 ghost use Rattle.tool_parts.specs.declared.words.NoRequest.TheVariants.{Words};
@@ -19,7 +21,11 @@ pub enum Output {
 }
 
 /// Writes what there is; that memory was refused has a text of its own. The answer is how the run ends.
-pub fn write_output<W: Write>(writer: &mut W, output: Result<Output, AllocError>) -> Status {
+pub fn write_output<W: Write>(writer: &mut W, output: Result<Output, AllocError>) -> Status
+    ensures written { IfOk output (λ o. result ≢ Failed → Appends (W.contents writer.old) (W.contents writer.new) (bytes_of o)) }
+    ensures status { IfOk output (λ o. result ≢ Failed → result ≡ end_of o) }
+    ensures memory { IsTrue (is_err output) → result ≡ Failed }
+{
     match output {
         Ok(Output::Record(tree)) => write_record(writer, &tree),
         Ok(Output::Text(text, status)) => write_text(writer, text.as_bytes(), status),
@@ -38,6 +44,9 @@ pub fn without_request(none: NoRequest) -> Result<Output, AllocError>
 }
 
 /// What is written where the input was not read to its end.
-pub fn without_input(alloc: Global) -> Result<Output, AllocError> {
+pub fn without_input(alloc: Global) -> Result<Output, AllocError>
+    ensures text { IfOk result (λ o. bytes_of o ≡ codes "failed: read\n") }
+    ensures status { IfOk result (λ o. end_of o ≡ Failed) }
+{
     Ok(Output::Text(format!(in alloc; "failed: read\n")?, Status::Failed))
 }

@@ -4,7 +4,7 @@ ghost use Rattle.std.specs.Prelude.{◌≡◌, ◌≢◌, ◌⊎◌, ◌++◌, �
 ghost use Rattle.std.specs.Io.KnownBytes.{Appends};
 ghost use Rattle.sgf_text.specs.Text.{tree_text};
 ghost use Rattle.tool_parts.specs.Codes.{code_of};
-ghost use Rattle.tool_parts.specs.declared.status.Status.TheVariants.{Failed};
+ghost use Rattle.tool_parts.specs.declared.status.Status.TheVariants.{Answered, Failed};
 
 use sgf_text::{Tree, write_bytes, write_tree};
 use std::io::Write;
@@ -52,6 +52,7 @@ pub fn write_text<W: Write>(writer: &mut W, text: &[u8], status: Status) -> Stat
 /// Writes the record and a line feed. `Failed` where a write fails.
 pub fn write_record<W: Write>(writer: &mut W, tree: &Tree) -> Status
     ensures written { result ≢ Failed → Appends (W.contents writer.old) (W.contents writer.new) (tree_text tree.now ++ 10 ∷ []) }
+    ensures status { (result ≡ Answered) ⊎ (result ≡ Failed) }
 {
     match write_tree(tree, writer) {
         Ok(()) => write_text(writer, b"\n", Status::Answered),

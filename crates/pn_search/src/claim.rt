@@ -6,7 +6,7 @@ use crate::proofs::{Below, Branch, Proof, Proofs};
 use crate::refusal::Refusal;
 use crate::tree::Writer;
 use cert_check::{MAX_LEMMAS, MAX_LISTED};
-use go_points::Colour;
+use go_points::{Colour, Colouring};
 use indexmap::IndexMap;
 use pn_table::Key;
 use proof_cert::{Certificate, Lemma, Version};
@@ -28,10 +28,28 @@ enum Places {
     Several,
 }
 
+/// Which proofs may become lemmas.
+#[derive(Clone, Copy, Debug, PartialEq, Eq)]
+pub(crate) enum Pasts {
+    /// Those too that leave out a move which the past bars.
+    Needed,
+    /// Those alone that need no past.
+    None,
+}
+
+/// Which proofs become lemmas.
+#[derive(Clone, Copy)]
+pub(crate) struct Choice {
+    pub(crate) pasts: Pasts,
+    /// The fewest turns of such a proof.
+    pub(crate) least: u64,
+}
+
 /// The lemmas, and which proof each is of.
 #[derive(Drop)]
 pub(crate) struct Lemmas {
     pub(crate) made: Vec<Lemma>,
+    version: Version,
     /// For each proof the number of its lemma, counted from 1.
     numbers: Vec<u32>,
     /// How many colourings are listed.
@@ -96,10 +114,11 @@ fn count_place(
 struct Walk {
     line: Line,
     places: IndexMap<Key, Places>,
+    /// The colourings that have occurred at the end of the line, in the order of the line's past.
+    occurred: Vec<Colouring>,
     /// Whether a proof was met.
     met: Vec<bool>,
-    /// The fewest turns of a proof that is to be a lemma.
-    least: u64,
+    choice: Choice,
     visits: Vec<Visit>,
     lemmas: Lemmas,
 }
@@ -115,10 +134,10 @@ struct Visit {
 impl Walk {
     fn new(
         alloc: Global,
-        line: Line,
+        problem: &Problem,
         proofs: &Proofs,
         root: u32,
-        least: u64,
+        choice: Choice,
     ) -> Result<Walk, AllocError> {
         let mut met = Vec::with_capacity(alloc, proofs.len())?;
         let mut numbers = Vec::with_capacity(alloc, proofs.len())?;
@@ -127,13 +146,15 @@ impl Walk {
             numbers.push(0)?;
         }
         Ok(Walk {
-            line,
+            line: Line::of(alloc, problem)?,
             places: count_places(alloc, proofs, root)?,
+            occurred: problem.history().to_vec(alloc)?,
             met,
-            least,
+            choice,
             visits: Vec::new(alloc),
             lemmas: Lemmas {
                 made: Vec::new(alloc),
+                version: Version::One,
                 numbers,
                 listed: 0,
             },
@@ -174,13 +195,16 @@ impl Walk {
             return Err(Refusal::Fault);
         };
         self.line.go(branch.turn, proof.key)?;
+        if self.line.past().len() > self.occurred.len() {
+            self.occurred.push(self.line.play().colouring())?;
+        }
         self.enter(proofs, number)
     }
 
-    /// Whether the proof is to be a lemma: its state stands at several places, it is not too small, and needs no past.
+    /// Whether the proof is to be a lemma: its state stands at several places, and it is one of those that are chosen.
     fn is_lemma(&self, proofs: &Proofs, proof: Proof) -> bool {
-        proof.turns >= self.least
-            && !proofs.needs_a_past(proof)
+        proof.turns >= self.choice.least
+            && (self.choice.pasts == Pasts::Needed || !proofs.needs_a_past(proof))
             && matches!(self.places.get(&proof.key), Some(Places::Several))
     }
 
@@ -197,7 +221,28 @@ impl Walk {
             self.add_lemma(alloc, problem, proofs, visit)?;
         }
         self.line.back();
+        self.occurred.truncate(self.line.past().len());
         Ok(())
+    }
+
+    /// The colourings that the proof of the state at the end of the line needs to have occurred, ascending.
+    fn had(&self, alloc: Global, proofs: &Proofs, proof: Proof) -> Result<Vec<Colouring>, Refusal> {
+        let mut had = Vec::new(alloc);
+        for position in proofs.had(proof) {
+            match self.occurred_at(*position) {
+                Some(colouring) => had.push(colouring)?,
+                None => return Err(Refusal::Fault),
+            }
+        }
+        had.sort_unstable();
+        had.dedup();
+        Ok(had)
+    }
+
+    /// The colouring of the position, where it has occurred.
+    fn occurred_at(&self, position: u64) -> Option<Colouring> {
+        let place = self.line.past().place_of(position)?;
+        self.occurred.get(place).copied()
     }
 
     /// Makes the lemma of the proof of the state at the end of the line.
@@ -213,18 +258,23 @@ impl Walk {
         let Some(play) = Play::at(alloc, problem, &root, key.mover, key.passes) else {
             return Err(Refusal::Memory);
         };
-        let mut writer = Writer::of_lemma(alloc, play, visit.proof.winner);
+        let mut writer = Writer::of_lemma(alloc, play, visit.proof);
         let body = writer.write(alloc, proofs, &self.lemmas, visit.number)?;
+        let had = self.had(alloc, proofs, visit.proof)?;
         let absent = writer.absent();
-        let listed = self.lemmas.listed.saturating_add(absent.len());
+        let own = had.len().saturating_add(absent.len());
+        let listed = self.lemmas.listed.saturating_add(own);
         if self.lemmas.made.len() >= MAX_LEMMAS || listed > MAX_LISTED as usize {
             return Err(Refusal::Limit);
+        }
+        if !had.is_empty() {
+            self.lemmas.version = Version::Two;
         }
         let lemma = Lemma {
             mover: key.mover,
             passes: key.passes,
             root,
-            had: Vec::new(alloc),
+            had,
             absent,
             body,
         };
@@ -244,10 +294,9 @@ fn lemmas_of(
     problem: &Problem,
     proofs: &Proofs,
     root: u32,
-    least: u64,
+    choice: Choice,
 ) -> Result<Lemmas, Refusal> {
-    let line = Line::of(alloc, problem)?;
-    let mut walk = Walk::new(alloc, line, proofs, root, least)?;
+    let mut walk = Walk::new(alloc, problem, proofs, root, choice)?;
     walk.enter(proofs, root)?;
     for _ in 0..u64::MAX {
         let Some(visit) = walk.visits.last().copied() else {
@@ -261,15 +310,15 @@ fn lemmas_of(
     Err(Refusal::Fault)
 }
 
-/// The claim of the proof in which each state that stands at several places is a lemma, for each of its proofs. A proof
-/// that needs a past, or has fewer turns than `least`, stands in line. Refused past the limits of claims.
+/// The claim of the proof in which each state that stands at several places is a lemma, for each of its proofs that is
+/// chosen; others stand in line. A lemma needs what its proof needs to have occurred. Refused past the limits of claims.
 pub(crate) fn claim_with_lemmas(
     alloc: Global,
     problem: &Problem,
     shared: &Shared,
-    least: u64,
+    choice: Choice,
 ) -> Result<Certificate, Refusal> {
-    let lemmas = lemmas_of(alloc, problem, &shared.proofs, shared.root, least)?;
+    let lemmas = lemmas_of(alloc, problem, &shared.proofs, shared.root, choice)?;
     claim(alloc, problem, shared, lemmas)
 }
 
@@ -281,6 +330,7 @@ pub(crate) fn claim_without_lemmas(
 ) -> Result<Certificate, Refusal> {
     let lemmas = Lemmas {
         made: Vec::new(alloc),
+        version: Version::One,
         numbers: Vec::new(alloc),
         listed: 0,
     };
@@ -298,7 +348,7 @@ fn claim(
     let mut writer = Writer::of_main(alloc, play, shared.winner);
     let main = writer.write(alloc, &shared.proofs, &lemmas, shared.root)?;
     Ok(Certificate {
-        version: Version::One,
+        version: lemmas.version,
         size: problem.size(),
         winner: shared.winner,
         lemmas: lemmas.made,

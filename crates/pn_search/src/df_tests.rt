@@ -1,12 +1,12 @@
 //! What the search by proof numbers finds, put to the checker.
 
-use crate::claim::{Shared, claim_with_lemmas, claim_without_lemmas};
+use crate::claim::{Choice, Pasts, Shared, claim_with_lemmas, claim_without_lemmas};
 use crate::df_search::Search;
 use crate::search::{shared_by_numbers, shared_from_tree};
 use crate::{Budget, Cause};
 use cert_check::check_held;
 use go_points::{Colour, Colouring, PointSet, Size, sgf_point};
-use proof_cert::{Certificate, read_cert, write_cert};
+use proof_cert::{Certificate, Version, read_cert, write_cert};
 use std::alloc::Global;
 use std::num::NonZeroUsize;
 use std::process::Abort;
@@ -89,7 +89,18 @@ fn accepted(rt: &impl Abort, alloc: Global, problem: &Problem, claim: Certificat
     lemmas
 }
 
-// This side wins; the claim with lemmas is accepted, and so is the one without: how many lemmas there are.
+// All proofs of states that stand at several places; or those of them that need no past.
+const ALL: Choice = Choice {
+    pasts: Pasts::Needed,
+    least: 0,
+};
+const WITHOUT_PASTS: Choice = Choice {
+    pasts: Pasts::None,
+    least: 0,
+};
+
+// This side wins; the claims with all lemmas, with those that need no past, and without any are accepted: how many lemmas
+// there are.
 fn wins(rt: &impl Abort, alloc: Global, problem: &Problem, winner: Colour, table: usize) -> usize {
     let shared = found(rt, alloc, problem, table);
     assert_eq!(rt; shared.winner, winner);
@@ -97,7 +108,14 @@ fn wins(rt: &impl Abort, alloc: Global, problem: &Problem, winner: Colour, table
         Ok(claim) => assert_eq!(rt; accepted(rt, alloc, problem, claim), 0),
         Err(_) => assert!(rt; false, "a claim"),
     }
-    match claim_with_lemmas(alloc, problem, &shared, 0) {
+    match claim_with_lemmas(alloc, problem, &shared, WITHOUT_PASTS) {
+        Ok(claim) => {
+            assert_eq!(rt; claim.version, Version::One);
+            let _fewer = accepted(rt, alloc, problem, claim);
+        }
+        Err(_) => assert!(rt; false, "a claim with lemmas"),
+    }
+    match claim_with_lemmas(alloc, problem, &shared, ALL) {
         Ok(claim) => accepted(rt, alloc, problem, claim),
         Err(_) => panic!(rt; "a claim with lemmas"),
     }
@@ -287,14 +305,21 @@ fn a_capture_shares_no_state(rt: HostRuntime) {
     assert_eq!(&rt; wins(&rt, alloc, &corner, Colour::Black, 1_000), 0);
 }
 
-// The tree of this text for the problem gives the claim of that text, which the checker accepts.
-fn becomes(rt: &impl Abort, alloc: Global, problem: Problem, tree: &[u8], expected: &[u8]) {
+// The tree of this text for the problem gives the claim of that text, with these lemmas, which the checker accepts.
+fn becomes(
+    rt: &impl Abort,
+    alloc: Global,
+    problem: Problem,
+    choice: Choice,
+    tree: &[u8],
+    expected: &[u8],
+) {
     let size = problem.size();
     let given = read_cert(alloc, size, tree).expect(rt, "a claim");
     let mut text = Vec::new(alloc);
     match shared_from_tree(alloc, &problem, given.winner, &given.main) {
         Err(_) => assert!(rt; false, "a tree of legal turns"),
-        Ok(shared) => match claim_with_lemmas(alloc, &problem, &shared, 0) {
+        Ok(shared) => match claim_with_lemmas(alloc, &problem, &shared, choice) {
             Err(_) => assert!(rt; false, "a claim"),
             Ok(claim) => {
                 assert!(rt; write_cert(&claim, &mut text).is_ok());
@@ -321,7 +346,7 @@ fn what_is_inside_one_lemma_alone_stays_in_line(rt: HostRuntime) {
         reply bc\nplay pass\nall 2\nreply cc\nuse 1\nreply pass\nwon\n\
         reply cc\nplay pass\nall 2\nreply bc\nuse 1\nreply pass\nwon\n\
         reply pass\nplay pass\nwon\nend\n";
-    becomes(&rt, alloc, far, tree.as_bytes(), expected.as_bytes());
+    becomes(&rt, alloc, far, ALL, tree.as_bytes(), expected.as_bytes());
 }
 
 // White fills its eye aa once Black has played at bc and cc: the lemma lists what comes of it. Black may never play at
@@ -340,5 +365,63 @@ fn a_lemma_lists_the_results_of_the_winners_moves(rt: HostRuntime) {
         reply bc\nplay pass\nall 2\nreply cc\nuse 1\nreply pass\nwon\n\
         reply cc\nplay pass\nall 2\nreply bc\nuse 1\nreply pass\nwon\n\
         reply pass\nplay pass\nwon\nend\n";
-    becomes(&rt, alloc, eye, tree.as_bytes(), expected.as_bytes());
+    becomes(&rt, alloc, eye, ALL, tree.as_bytes(), expected.as_bytes());
+}
+
+// White always passes. Black may play at two of cb, bc and cc, and never at the third, since that has occurred. Each pair is
+// reached by two orders, and the proof there leaves out the third.
+#[test]
+fn lemmas_that_need_a_past(rt: HostRuntime) {
+    let alloc = rt.alloc();
+    let texts = ["O....X.XX", "O........"];
+    let pair = "play pass\nall 1\nreply pass\nwon\n";
+    let three = |first: &str, second: &str, third: &str, fourth: &str, fifth: &str, sixth: &str| {
+        format!(in alloc; "main\nall 4\n\
+            reply cb\nplay pass\nall 3\nreply bc\n{first}reply cc\n{second}reply pass\nwon\n\
+            reply bc\nplay pass\nall 3\nreply cb\n{third}reply cc\n{fourth}reply pass\nwon\n\
+            reply cc\nplay pass\nall 3\nreply cb\n{fifth}reply bc\n{sixth}reply pass\nwon\n\
+            reply pass\nplay pass\nwon\nend\n")
+    };
+    let tree = three(pair, pair, pair, pair, pair, pair).expect(&rt, "memory");
+    let plain = format!(in alloc; "tsucert 1 3 W\n{tree}").expect(&rt, "memory");
+    let main = three("use 1\n", "use 2\n", "use 1\n", "use 3\n", "use 2\n", "use 3\n").expect(
+        &rt, "memory",
+    );
+    let expected = format!(in alloc; "tsucert 2 3 W\n\
+        lemma W 0 O....X.X.\nhad O....X.XX\n{pair}end\n\
+        lemma W 0 O....X..X\nhad O....X.XX\n{pair}end\n\
+        lemma W 0 O......XX\nhad O....X.XX\n{pair}end\n{main}").expect(&rt, "memory");
+    let all = problem(&rt, alloc, 3, &texts, Colour::Black, "aa", "cbbccc");
+    let text = plain.as_bytes();
+    becomes(&rt, alloc, all, ALL, text, expected.as_bytes());
+    // Without such lemmas each pair stands in line.
+    let fewer = problem(&rt, alloc, 3, &texts, Colour::Black, "aa", "cbbccc");
+    becomes(&rt, alloc, fewer, WITHOUT_PASTS, text, text);
+}
+
+// Whether a lemma needs what stands in no history of the problem: what was played above its first place.
+fn needs_what_was_played(problem: &Problem, claim: &Certificate) -> bool {
+    for lemma in claim.lemmas.as_slice() {
+        for colouring in lemma.had.as_slice() {
+            if !problem.history().contains(colouring) {
+                return true;
+            }
+        }
+    }
+    false
+}
+
+#[test]
+fn a_lemma_may_need_what_was_played_above_it(rt: HostRuntime) {
+    let alloc = rt.alloc();
+    let corner = six_points(&rt, alloc, Colour::Black);
+    let shared = found(&rt, alloc, &corner, 10_000);
+    match claim_with_lemmas(alloc, &corner, &shared, ALL) {
+        Ok(claim) => {
+            assert_eq!(&rt; claim.version, Version::Two);
+            assert!(&rt; needs_what_was_played(&corner, &claim));
+            assert!(&rt; accepted(&rt, alloc, &corner, claim) > 0);
+        }
+        Err(_) => assert!(&rt; false, "a claim with lemmas"),
+    }
 }

@@ -16,6 +16,16 @@ impl Past {
         }
     }
 
+    /// How many positions have occurred.
+    pub(crate) fn len(&self) -> usize {
+        self.positions.len()
+    }
+
+    /// The place of the position in the order of first occurrence; none, where it has not occurred.
+    pub(crate) fn place_of(&self, position: u64) -> Option<usize> {
+        self.positions.get_index_of(&position)
+    }
+
     pub(crate) fn has(&self, position: u64) -> bool {
         self.positions.contains(&position)
     }

@@ -132,9 +132,14 @@ impl Proofs {
         proof.had.from < proof.had.to
     }
 
+    /// The positions that must have occurred, ascending.
+    pub(crate) fn had(&self, proof: Proof) -> &[u64] {
+        part(self.positions.as_slice(), proof.had)
+    }
+
     /// Whether the proof holds where this has occurred.
     fn holds(&self, proof: Proof, past: &Past) -> bool {
-        past.has_all(part(self.positions.as_slice(), proof.had))
+        past.has_all(self.had(proof))
             && !past.has_any(part(self.positions.as_slice(), proof.not))
     }
 

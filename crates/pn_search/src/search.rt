@@ -5,7 +5,7 @@ ghost use Rattle.pn_search.specs.Search.{IfWins, IfUnknown, IsHard, cause_told, 
 ghost use Rattle.pn_search.specs.Shown.{IsConfirmable};
 ghost use Rattle.pn_search.specs.declared.verdict.Cause.TheVariants.{Steps, Memory};
 
-use crate::claim::{Shared, claim_with_lemmas, claim_without_lemmas};
+use crate::claim::{Choice, Pasts, Shared, claim_with_lemmas, claim_without_lemmas};
 use crate::df_search::Search;
 use crate::full_search::full_search;
 use crate::full_tree::note_tree;
@@ -161,31 +161,60 @@ fn confirmed(alloc: Global, problem: Problem, winner: Colour, main: Node) -> Fou
 {
     match shared_from_tree(alloc, &problem, winner, &main) {
         Err(_) => confirmed_plainly(alloc, problem, winner, main),
-        Ok(shared) => match confirmed_with_lemmas(alloc, problem, &shared, 0) {
+        Ok(shared) => match confirmed_by_lemmas(alloc, problem, &shared, 1) {
             Ok(checked) => Ok(checked),
             Err((problem, _)) => confirmed_plainly(alloc, problem, winner, main),
         },
     }
 }
 
-/// The claim of the proofs with lemmas, where the checker accepts it, else without. Where the claim would pass a limit
-/// larger proofs alone become lemmas.
+/// The claim of the proofs with lemmas, where the checker accepts it, else without.
 fn confirmed_in_turn(alloc: Global, problem: Problem, shared: Shared) -> Found
+    ensures ok { IfOk result (λ c. c.problem ≡ problem) }
+    ensures err { IfErr result (λ r. r.0 ≡ problem) }
+    ensures cause { IfErr result (λ r. r.1 ≢ Steps) }
+{
+    match confirmed_by_lemmas(alloc, problem, &shared, LEMMA_SIZES) {
+        Ok(checked) => Ok(checked),
+        Err((problem, _)) => confirmed_without_lemmas(alloc, problem, &shared),
+    }
+}
+
+/// The claim of the proofs with lemmas, where the checker accepts it: with lemmas that may need a past, else with others alone.
+fn confirmed_by_lemmas(alloc: Global, problem: Problem, shared: &Shared, sizes: u32) -> Found
+    ensures ok { IfOk result (λ c. c.problem ≡ problem) }
+    ensures err { IfErr result (λ r. r.0 ≡ problem) }
+    ensures cause { IfErr result (λ r. r.1 ≢ Steps) }
+{
+    match confirmed_in_sizes(alloc, problem, shared, Pasts::Needed, sizes) {
+        Ok(checked) => Ok(checked),
+        Err((problem, _)) => confirmed_in_sizes(alloc, problem, shared, Pasts::None, sizes),
+    }
+}
+
+/// The same with lemmas of one kind. Where the claim would pass a limit larger proofs alone become lemmas.
+fn confirmed_in_sizes(
+    alloc: Global,
+    problem: Problem,
+    shared: &Shared,
+    pasts: Pasts,
+    sizes: u32,
+) -> Found
     ensures ok { IfOk result (λ c. c.problem ≡ problem) }
     ensures err { IfErr result (λ r. r.0 ≡ problem) }
     ensures cause { IfErr result (λ r. r.1 ≢ Steps) }
 {
     let mut rest = problem;
     let mut least = 0;
-    for _ in 0..LEMMA_SIZES {
-        match confirmed_with_lemmas(alloc, rest, &shared, least) {
+    for _ in 0..sizes {
+        match confirmed_with_lemmas(alloc, rest, shared, Choice { pasts, least }) {
             Ok(checked) => return Ok(checked),
             Err((problem, Cause::Limit)) => rest = problem,
-            Err((problem, _)) => return confirmed_without_lemmas(alloc, problem, &shared),
+            Err((problem, cause)) => return Err((problem, cause)),
         }
         least = larger(least);
     }
-    confirmed_without_lemmas(alloc, rest, &shared)
+    Err((rest, Cause::Limit))
 }
 
 /// The next size of lemmas that is tried.
@@ -209,13 +238,13 @@ fn confirmed_without_lemmas(alloc: Global, problem: Problem, shared: &Shared) ->
     }
 }
 
-/// The claim of the proofs with lemmas of so many turns at least.
-fn confirmed_with_lemmas(alloc: Global, problem: Problem, shared: &Shared, least: u64) -> Found
+/// The claim of the proofs with lemmas of those that are chosen.
+fn confirmed_with_lemmas(alloc: Global, problem: Problem, shared: &Shared, choice: Choice) -> Found
     ensures ok { IfOk result (λ c. c.problem ≡ problem) }
     ensures err { IfErr result (λ r. r.0 ≡ problem) }
     ensures cause { IfErr result (λ r. r.1 ≢ Steps) }
 {
-    match claim_with_lemmas(alloc, &problem, shared, least) {
+    match claim_with_lemmas(alloc, &problem, shared, choice) {
         Ok(certificate) => accepted(alloc, problem, certificate),
         Err(refusal) => Err((problem, cause_of_refusal(refusal))),
     }

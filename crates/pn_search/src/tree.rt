@@ -24,7 +24,8 @@ struct Visit {
 pub(crate) struct Writer {
     play: Play,
     winner: Colour,
-    is_lemma: bool,
+    /// The proof that the lemma is of.
+    lemma: Option<Proof>,
     visits: Vec<Visit>,
     /// The nodes that are written, each with the turn before it.
     written: Vec<(Turn, Node)>,
@@ -38,7 +39,7 @@ impl Writer {
         Writer {
             play,
             winner,
-            is_lemma: false,
+            lemma: None,
             visits: Vec::new(alloc),
             written: Vec::new(alloc),
             nodes: 0,
@@ -46,11 +47,12 @@ impl Writer {
         }
     }
 
-    pub(crate) fn of_lemma(alloc: Global, play: Play, winner: Colour) -> Writer {
+    /// The writer of the body of this proof's lemma. What the proof needs to have occurred is known there.
+    pub(crate) fn of_lemma(alloc: Global, play: Play, proof: Proof) -> Writer {
         Writer {
             play,
-            winner,
-            is_lemma: true,
+            winner: proof.winner,
+            lemma: Some(proof),
             visits: Vec::new(alloc),
             written: Vec::new(alloc),
             nodes: 0,
@@ -74,7 +76,7 @@ impl Writer {
         lemmas: &Lemmas,
         root: u32,
     ) -> Result<Node, Refusal> {
-        if !self.is_lemma {
+        if self.lemma.is_none() {
             if let Some(number) = lemmas.of_proof(root) {
                 return Ok(Node::Use(number));
             }
@@ -141,6 +143,11 @@ impl Writer {
             }
             return Err(Refusal::Fault);
         }
+        if self.has_occurred(proofs, visit, branch.turn) {
+            self.play.back();
+            self.pass_on();
+            return Ok(());
+        }
         self.list_result(visit, branch.turn)?;
         match branch.below {
             Below::Won => self.write_leaf(branch.turn, Node::Won),
@@ -151,6 +158,20 @@ impl Writer {
                     self.write_leaf(branch.turn, Node::Use(lemma))
                 }
             },
+        }
+    }
+
+    /// Whether the reply that was just made leads to what must have occurred before the lemma.
+    fn has_occurred(&self, proofs: &Proofs, visit: Visit, turn: Turn) -> bool {
+        if visit.proof.form != Form::Replies || turn == Turn::Pass {
+            return false;
+        }
+        match self.lemma {
+            Some(lemma) => {
+                let position = self.play.key().position;
+                proofs.had(lemma).binary_search(&position).is_ok()
+            }
+            None => false,
         }
     }
 
@@ -165,7 +186,7 @@ impl Writer {
 
     /// Lists the colouring that the winner's move has led to.
     fn list_result(&mut self, visit: Visit, turn: Turn) -> Result<(), Refusal> {
-        if self.is_lemma && turn != Turn::Pass && visit.proof.key.mover == self.winner {
+        if self.lemma.is_some() && turn != Turn::Pass && visit.proof.key.mover == self.winner {
             self.absent.push(self.play.colouring())?;
         }
         Ok(())
@@ -173,7 +194,7 @@ impl Writer {
 
     /// Lists what the lemma lists, which is used.
     fn list_lemma(&mut self, lemmas: &Lemmas, number: u32) -> Result<(), Refusal> {
-        if self.is_lemma {
+        if self.lemma.is_some() {
             if let Some(lemma) = lemmas.get(number) {
                 self.absent.extend_from_slice(lemma.absent.as_slice())?;
             }

@@ -1,13 +1,12 @@
 -- Lines and words, parted at a byte.
-use Rattle.std.proofs.Common.{◌≡◌, ℕ, suc, ◌+◌, ◌<◌, ◌≤◌, Bool, true, false, nat_eq, eqb-true, eq-eqb, List, [], ◌∷◌, ◌++◌, length, take, drop, Option, inl, inr, refl, sym, ap, ◌∙◌, subst, arith}
+use Rattle.std.proofs.Common.{◌≡◌, ℕ, ◌<◌, Bool, true, false, nat_eq, eqb-true, eq-eqb, List, [], ◌∷◌, ◌++◌, length, take, inl, inr, refl, sym, ap, ◌∙◌, subst, arith}
 use Rattle.std.proofs.lemmas.Bool.{cases_lt}
 use Rattle.std.proofs.lemmas.List.{append-nil, length-append, length-take-le, take_all, take-append-le}
-use Rattle.std.specs.Io.KnownBytes.{Consumes}
 use Rattle.std.proofs.KnownBytes.{Consumes-trans}
 use Rattle.gtp_core.specs.declared.input.Ending.TheVariants.{LineFeed}
-use Rattle.gtp_core.specs.Taking.{kept, IsRawLine}
-use Rattle.gtp_core.specs.Lines.{with_byte, parted_at, raw_lines, whole_words, words_of}
-use Rattle.gtp_core.specs.Pieces.{HasNone, IsAtSpace, BeginsWord}
+use Rattle.gtp_core.specs.Taking.{Bounded, CannotGoOn, Gives, kept, IsRawLine}
+use Rattle.gtp_core.specs.Lines.{with_byte, parted_at, whole_words, words_of}
+use Rattle.gtp_core.specs.Pieces.{HasNone, IsAtSpace}
 
 -- one byte more, without and with a piece's end
 pub parted_other : (k c : ℕ) (rest : List ℕ) → nat_eq c k ≡ false → parted_at k (c ∷ rest) ≡ with_byte c (parted_at k rest)
@@ -62,13 +61,27 @@ kept_more line b = elim (cases_lt 4097 (length line)) [
   | inr short ↦ ap (λ xs. kept (xs ++ b ∷ [])) (take_all 4097 line short)
 ]
 
--- a byte more of a raw line
-pub line_more : (old left new : Option (List ℕ)) (items next : List ℕ) (b : ℕ) → (line : List ℕ) × HasNone 10 line × (items ≡ kept line) × Consumes old left line → nat_eq b 10 ≡ false
-    → Consumes left new (b ∷ []) → next ≡ kept (items ++ b ∷ []) → (line : List ℕ) × HasNone 10 line × (next ≡ kept line) × Consumes old new line
-line_more old left new items next b (line, none, is, consumed) other one more =
-    (line ++ b ∷ [], none_more 10 line b none other, more ∙ ap (λ xs. kept (xs ++ b ∷ [])) is ∙ kept_more line b, Consumes-trans old left new line (b ∷ []) consumed one)
+-- ---- what is taken of an input
 
-pub line_fed : (old left new : Option (List ℕ)) (items : List ℕ) (b : ℕ) → (line : List ℕ) × HasNone 10 line × (items ≡ kept line) × Consumes old left line → b ≡ 10
-    → Consumes left new (b ∷ []) → IsRawLine old new items LineFeed
-line_fed old left new items b (line, none, is, consumed) feed one =
-    (line, none, is, Consumes-trans old left new line (10 ∷ []) consumed (subst (λ x. Consumes left new (x ∷ [])) feed one))
+pub gives_all : (old mid new : Bounded) (xs ys : List ℕ) → Gives old mid xs → Gives mid new ys → Gives old new (xs ++ ys)
+gives_all old mid new xs ys h k =
+    let a = h.1 in let b = k.1 in
+    (Consumes-trans old.left mid.left new.left xs ys h.0 k.0, omega (arith, a, b, length-append xs ys))
+
+-- what can go on no further could not after a part more
+pub no_further : (failed : Type 0) (old new : Bounded) (xs : List ℕ) → Gives old new xs → CannotGoOn failed new → CannotGoOn failed old
+no_further failed old new xs h (inl known) = inl known
+no_further failed old new xs h (inr (bytes, left, consumed, long)) =
+    let a = h.1 in
+    inr (xs ++ bytes, left, Consumes-trans old.left new.left left xs bytes h.0 consumed, omega (arith, a, long, length-append xs bytes))
+
+-- a byte more of a raw line
+pub line_more : (old left new : Bounded) (items next : List ℕ) (b : ℕ) → (line : List ℕ) × HasNone 10 line × (items ≡ kept line) × Gives old left line → nat_eq b 10 ≡ false
+    → Gives left new (b ∷ []) → next ≡ kept (items ++ b ∷ []) → (line : List ℕ) × HasNone 10 line × (next ≡ kept line) × Gives old new line
+line_more old left new items next b (line, none, is, given) other one more =
+    (line ++ b ∷ [], none_more 10 line b none other, more ∙ ap (λ xs. kept (xs ++ b ∷ [])) is ∙ kept_more line b, gives_all old left new line (b ∷ []) given one)
+
+pub line_fed : (old left new : Bounded) (items : List ℕ) (b : ℕ) → (line : List ℕ) × HasNone 10 line × (items ≡ kept line) × Gives old left line → b ≡ 10
+    → Gives left new (b ∷ []) → IsRawLine old new items LineFeed
+line_fed old left new items b (line, none, is, given) feed one =
+    (line, none, is, gives_all old left new line (10 ∷ []) given (subst (λ x. Gives left new (x ∷ [])) feed one))

@@ -1,20 +1,20 @@
 -- Runs, line by line, over a reader and a writer.
-use Rattle.std.proofs.Common.{◌≡◌, ℕ, ◌+◌, ◌<◌, ◌≤◌, Bool, true, false, not, IsTrue, codes, cond, nat_eq, nat_lt, lt-ltb, List, [], ◌∷◌, ◌++◌, length, take, Option, None, Some, ◌⊎◌, inl, inr, refl, sym, ap, ◌∙◌, subst, arith, append_assoc, append-nil}
+use Rattle.std.proofs.Common.{◌≡◌, ℕ, ◌+◌, ◌<◌, Bool, true, false, IsTrue, codes, cond, nat_eq, lt-ltb, List, [], ◌∷◌, ◌++◌, length, Option, None, Some, ◌⊎◌, inl, inr, refl, sym, ap, ◌∙◌, subst, arith, append_assoc, append-nil}
 use Rattle.std.proofs.lemmas.Bool.{cases_lt}
-use Rattle.std.proofs.lemmas.List.{length-take-le, take_all}
-use Rattle.std.specs.Io.KnownBytes.{Appends, Consumes, IsAtEnd}
+use Rattle.std.proofs.lemmas.List.{length-append, length-take-le, take_all}
+use Rattle.std.specs.Io.KnownBytes.{Consumes, IsAtEnd}
 use Rattle.std.proofs.KnownBytes.{Appends-nil, Appends-trans, Consumes-nil, Consumes-trans}
 use Rattle.sgf_text.specs.Taken.{TakesPart}
 use Rattle.gtp_core.specs.declared.end.GtpEnd.TheVariants.{Read, Write}
 use Rattle.gtp_core.specs.declared.input.Ending.{Ending}
 use Rattle.gtp_core.specs.declared.input.Ending.TheVariants.{LineFeed, End}
-use Rattle.gtp_core.specs.Lines.{Request, bad_line, request_of, request_with, cleaned, words_of, raw_lines, parted_at, with_byte}
+use Rattle.gtp_core.specs.Lines.{bad_line, request_of, request_with, cleaned, words_of, raw_lines, with_byte}
 use Rattle.gtp_core.specs.Pieces.{HasNone}
 use Rattle.gtp_core.specs.Session.{GtpSession}
 use Rattle.gtp_core.specs.Words.{failure}
 use Rattle.gtp_core.specs.Serving.{Output, needs_memory, reply, last_reply, Answers, HadNoMemory, Serves}
-use Rattle.gtp_core.specs.Runs.{GoesThrough, IsEnded, IsRun, first_session, Tells, IsReadTo, IsCut, HasRun, HasStopped}
-use Rattle.gtp_core.specs.Taking.{kept, IsRawLine, IsServed, IsPartServed, IsUnderWay}
+use Rattle.gtp_core.specs.Runs.{GoesThrough, IsRun, first_session, input_limit, Tells, IsReadTo, HasRun, HasStoppedOn}
+use Rattle.gtp_core.specs.Taking.{Bounded, CannotGoOn, kept, IsRawLine, IsServed, IsPartServed, IsUnderWay}
 use Rattle.gtp_core.proofs.Pieces.{parted_one, parted_more}
 
 -- one line more
@@ -64,10 +64,22 @@ some_line (c ∷ cs) = go (nat_eq c 10) (some_line cs)
     go true rest = ([], raw_lines cs, refl)
     go false (l, ls, is) = (c ∷ l, ls, ap (with_byte c) is)
 
-pub begins : (told old : Option (List ℕ)) → IsUnderWay told told old old first_session
-begins told old = record { used = []; front = []; parted = λ more. refl; consumed = Consumes-nil told; written = []; appended = Appends-nil old; through = (refl, refl) }
+room_left : (used more : List ℕ) (room new : ℕ) → length used + room ≡ input_limit → length more + new ≡ room → length (used ++ more) + new ≡ input_limit
+room_left used more room new h k = omega (arith, h, k, length-append used more)
 
-module _ (told left mid old now : Option (List ℕ)) (s : GtpSession) (run : IsUnderWay told left old now s) where
+pub begins : (told old : Option (List ℕ)) (left : Bounded) → left.left ≡ told → left.room ≡ input_limit → IsUnderWay told left old old first_session
+begins told old left is room = record {
+  used = [];
+  front = [];
+  parted = λ more. refl;
+  consumed = subst (λ o. Consumes told o []) (sym is) (Consumes-nil told);
+  spent = omega (arith, room);
+  written = [];
+  appended = Appends-nil old;
+  through = (refl, refl);
+}
+
+module _ (told : Option (List ℕ)) (left mid : Bounded) (old now : Option (List ℕ)) (s : GtpSession) (run : IsUnderWay told left old now s) where
   -- a line that a line feed ended
   fed : (line more : List ℕ) → HasNone 10 line → raw_lines ((run.used ++ (line ++ 10 ∷ [])) ++ more) ≡ (run.front ++ line ∷ []) ++ raw_lines more
   fed line more none =
@@ -86,7 +98,8 @@ module _ (told left mid old now : Option (List ℕ)) (s : GtpSession) (run : IsU
         used = run.used ++ (line ++ 10 ∷ []);
         front = run.front ++ line ∷ [];
         parted = λ more. fed line more raw.1;
-        consumed = Consumes-trans told left mid run.used (line ++ 10 ∷ []) run.consumed raw.3;
+        consumed = Consumes-trans told left.left mid.left run.used (line ++ 10 ∷ []) run.consumed raw.3.0;
+        spent = room_left run.used (line ++ 10 ∷ []) left.room mid.room run.spent raw.3.1;
         written = run.written ++ bytes;
         appended = Appends-trans old now new run.written bytes run.appended served.2;
         through = through_more first_session run.front run.written s line bytes t run.through serves;
@@ -105,12 +118,12 @@ module _ (told left mid old now : Option (List ℕ)) (s : GtpSession) (run : IsU
   taken : (front : List ℕ) (e : Ending) → IsRawLine left mid front e → IsTaken front e
   taken front LineFeed raw =
       let line = raw.0 in
-      let more = left_bytes mid in
+      let more = left_bytes mid.left in
       record {
         line = line;
         is = raw.2;
         bytes = (run.used ++ (line ++ 10 ∷ [])) ++ more;
-        tells = tells_all told mid (run.used ++ (line ++ 10 ∷ [])) (Consumes-trans told left mid run.used (line ++ 10 ∷ []) run.consumed raw.3);
+        tells = tells_all told mid.left (run.used ++ (line ++ 10 ∷ [])) (Consumes-trans told left.left mid.left run.used (line ++ 10 ∷ []) run.consumed raw.3.0);
         behind = raw_lines more;
         parted = fed line more raw.1 ∙ append_assoc run.front (line ∷ []) (raw_lines more);
         last = λ h. absurd (cc h);
@@ -121,7 +134,7 @@ module _ (told left mid old now : Option (List ℕ)) (s : GtpSession) (run : IsU
         line = line;
         is = raw.2;
         bytes = run.used ++ line;
-        tells = subst (Tells told) (ap (λ xs. (run.used ++ line) ++ xs) (none_left mid raw.4) ∙ append-nil (run.used ++ line)) (tells_all told mid (run.used ++ line) (Consumes-trans told left mid run.used line run.consumed raw.3));
+        tells = subst (Tells told) (ap (λ xs. (run.used ++ line) ++ xs) (none_left mid.left raw.4) ∙ append-nil (run.used ++ line)) (tells_all told mid.left (run.used ++ line) (Consumes-trans told left.left mid.left run.used line run.consumed raw.3.0));
         behind = [];
         parted = run.parted line ∙ ap (λ ls. run.front ++ ls) (parted_one 10 line raw.1);
         last = λ h. refl;
@@ -152,21 +165,39 @@ module _ (told left mid old now : Option (List ℕ)) (s : GtpSession) (run : IsU
         inr (record { front = run.front; line = k.line; behind = k.behind; parted = k.parted; before = run.written; mid = s; through = run.through; bytes = bytes; last = t; served = serves; whole = refl }),
       )
 
-  -- a read failed
-  pub read_failed : HasStopped Read told old now
-  read_failed =
-      let more = left_bytes left in
-      let next = some_line more in (
+  -- the lines that had ended, where no more may be taken
+  read_to : (written more : List ℕ) → written ≡ run.written → IsReadTo (run.used ++ more) written
+  read_to written more is =
+      let next = some_line more in
+      record {
+        front = run.front;
+        line = next.0;
+        behind = next.1;
+        parted = run.parted more ∙ ap (λ ls. run.front ++ ls) next.2;
+        last = s;
+        through = subst (λ w. GoesThrough first_session run.front w s) (sym is) run.through;
+      }
+
+  -- a read failed, or the input is too long
+  pub read_failed : (read write : Type 0) → CannotGoOn read left → HasStoppedOn read write Read told old now
+  read_failed read write (inl known) =
+      let more = left_bytes left.left in
+      (run.used ++ more, run.written, tells_all told left.left run.used run.consumed, run.appended, read_to run.written more refl, inl known)
+  read_failed read write (inr (bytes, after, consumed, long)) =
+      let more = bytes ++ left_bytes after in
+      let all = append_assoc run.used bytes (left_bytes after) in
+      let spent = run.spent in (
         run.used ++ more,
         run.written,
-        tells_all told left run.used run.consumed,
+        subst (Tells told) all (tells_all told after (run.used ++ bytes) (Consumes-trans told left.left after run.used bytes run.consumed consumed)),
         run.appended,
-        record { front = run.front; line = next.0; behind = next.1; parted = run.parted more ∙ ap (λ ls. run.front ++ ls) next.2; last = s; through = run.through },
+        read_to run.written more refl,
+        inr (omega (arith, spent, long, length-append run.used more, length-append bytes (left_bytes after))),
       )
 
   -- a write failed
-  pub write_failed : (front : List ℕ) (e : Ending) (new : Option (List ℕ)) → IsRawLine left mid front e → IsPartServed s front now new → HasStopped Write told old new
-  write_failed front e new raw (out, t, served, part) =
+  pub write_failed : (read write : Type 0) (front : List ℕ) (e : Ending) (new : Option (List ℕ)) → IsRawLine left mid front e → IsPartServed s front now new → write → HasStoppedOn read write Write told old new
+  write_failed read write front e new raw (out, t, served, part) known =
       let k = taken front e raw in
       let serves : Serves s k.line out t = serves_kept s k.line out t (subst (λ l. Serves s l out t) k.is served) in
       let whole : run.written ++ out.bytes ≡ (run.written ++ part.0) ++ part.1 = ap (λ xs. run.written ++ xs) part.2 ∙ sym (append_assoc run.written part.0 part.1) in (
@@ -181,6 +212,7 @@ module _ (told left mid old now : Option (List ℕ)) (s : GtpSession) (run : IsU
           rest = part.1;
           run = subst (IsRun first_session (run.front ++ k.line ∷ [])) whole (go k.line out.bytes out.ends serves);
         },
+        known,
       )
     where
       go : (line bytes : List ℕ) (ends : Bool) → Serves s line (record { bytes = bytes; ends = ends }) t → IsRun first_session (run.front ++ line ∷ []) (run.written ++ bytes)

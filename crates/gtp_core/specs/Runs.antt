@@ -2,7 +2,8 @@
 --     GoesThrough s lines written t      all the lines are served in turn, and the session goes on as t
 --     IsRun s lines written      the lines are served in turn, up to their end or that of the session
 --     HasRun, HasStopped      what a run over a reader leaves with the writer
-use Rattle.std.specs.Prelude.{◌≡◌, ℕ, List, [], ◌∷◌, ◌++◌, Option, Some, None, ◌⊎◌}
+--     HasStoppedOn      the same, with what is known of a read or a write that failed
+use Rattle.std.specs.Prelude.{◌≡◌, ◌<◌, ℕ, List, length, [], ◌∷◌, ◌++◌, Option, Some, None, ◌⊎◌}
 use Rattle.std.specs.Io.KnownBytes.{Appends}
 use Rattle.gtp_core.specs.declared.session.TheConstants.{FIRST_SIZE}
 use Rattle.gtp_core.specs.declared.end.GtpEnd.{GtpEnd}
@@ -65,3 +66,14 @@ abbrev pub HasStopped : GtpEnd → Option (List ℕ) → Option (List ℕ) → O
 HasStopped Read told old new = (bytes written : List ℕ) × Tells told bytes × Appends old new written × IsReadTo bytes written
 HasStopped Write told old new = (bytes written : List ℕ) × Tells told bytes × Appends old new written × IsCut bytes written
 HasStopped Memory told old new = Appends old new []
+
+-- so many bytes an input may have
+abbrev pub input_limit : ℕ
+input_limit = 67108864
+
+-- `read` is known after a read that failed, `write` after a write; or the input is too long.
+abbrev pub HasStoppedOn : Type 0 → Type 0 → GtpEnd → Option (List ℕ) → Option (List ℕ) → Option (List ℕ) → Type 0
+HasStoppedOn read write Read told old new =
+    (bytes written : List ℕ) × Tells told bytes × Appends old new written × IsReadTo bytes written × (read ⊎ (input_limit < length bytes))
+HasStoppedOn read write Write told old new = (bytes written : List ℕ) × Tells told bytes × Appends old new written × IsCut bytes written × write
+HasStoppedOn read write Memory told old new = Appends old new []

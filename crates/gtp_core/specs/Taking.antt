@@ -1,27 +1,57 @@
 -- Words of the private calls that take lines from a reader. No public clause rests on them.
-use Rattle.std.specs.Prelude.{◌≡◌, ℕ, Bool, not, List, [], ◌∷◌, ◌++◌, take, Option, None, Some}
-use Rattle.std.specs.Io.KnownBytes.{Appends, Consumes, IsAtEnd}
+use Rattle.std.specs.Prelude.{◌≡◌, ◌<◌, ◌+◌, ℕ, Bool, not, List, [], ◌∷◌, ◌++◌, length, take, Option, None, Some, ◌⊎◌}
+use Rattle.std.specs.Io.KnownBytes.{Appends, Consumes, IsAtEnd, prepend_known}
 use Rattle.sgf_text.specs.Taken.{TakesPart}
 use Rattle.gtp_core.specs.declared.input.Ending.{Ending}
 use Rattle.gtp_core.specs.declared.input.Ending.TheVariants.{LineFeed, End}
 use Rattle.gtp_core.specs.Lines.{raw_lines}
 use Rattle.gtp_core.specs.Pieces.{HasNone}
-use Rattle.gtp_core.specs.Runs.{GoesThrough, first_session}
+use Rattle.gtp_core.specs.Runs.{GoesThrough, first_session, input_limit}
 use Rattle.gtp_core.specs.Serving.{Output, Serves}
 use Rattle.gtp_core.specs.Session.{GtpSession}
 
+-- The bytes that are held, and how many more the input may have.
+pub record HeldInput : Type 0 where
+  pub held : List ℕ
+  pub room : ℕ
+
+-- What an input has left, where its reader tells it, and how many bytes of it may be taken.
+pub record Bounded : Type 0 where
+  pub left : Option (List ℕ)
+  pub room : ℕ
+
+abbrev pub bounded : HeldInput → Option (List ℕ) → Bounded
+bounded input remaining = record { left = prepend_known input.held remaining; room = input.room }
+
+-- These bytes were taken.
+abbrev pub Gives : Bounded → Bounded → List ℕ → Type 0
+Gives old new bytes = Consumes old.left new.left bytes × (length bytes + new.room ≡ old.room)
+
+-- The input has more bytes than may be taken.
+abbrev pub IsTooLong : Bounded → Type 0
+IsTooLong input = (bytes : List ℕ) × (left : Option (List ℕ)) × Consumes input.left left bytes × (input.room < length bytes)
+
+-- A read failed, of which this is known; or the input is too long.
+abbrev pub CannotGoOn : Type 0 → Bounded → Type 0
+CannotGoOn failed input = failed ⊎ IsTooLong input
+
 -- A reader gave one byte, or has ended.
-abbrev pub IsByte : Option (List ℕ) → Option (List ℕ) → Option ℕ → Type 0
-IsByte old new None = Consumes old new [] × IsAtEnd new
-IsByte old new (Some b) = Consumes old new (b ∷ [])
+abbrev pub HasByte : Option (List ℕ) → Option (List ℕ) → Option ℕ → Type 0
+HasByte old new None = Consumes old new [] × IsAtEnd new
+HasByte old new (Some b) = Consumes old new (b ∷ [])
+
+-- The same of an input, where it may have that byte.
+abbrev pub IsByte : Bounded → Bounded → Option ℕ → Type 0
+IsByte old new None = Gives old new [] × IsAtEnd new.left
+IsByte old new (Some b) = Gives old new (b ∷ [])
 
 -- The raw line that was taken, of which at most this front was kept; and how it ended.
 abbrev pub kept : List ℕ → List ℕ
 kept line = take 4097 line
 
-abbrev pub IsRawLine : Option (List ℕ) → Option (List ℕ) → List ℕ → Ending → Type 0
-IsRawLine old new front LineFeed = (line : List ℕ) × HasNone 10 line × (front ≡ kept line) × Consumes old new (line ++ 10 ∷ [])
-IsRawLine old new front End = (line : List ℕ) × HasNone 10 line × (front ≡ kept line) × Consumes old new line × IsAtEnd new
+abbrev pub IsRawLine : Bounded → Bounded → List ℕ → Ending → Type 0
+IsRawLine old new front LineFeed = (line : List ℕ) × HasNone 10 line × (front ≡ kept line) × Gives old new (line ++ 10 ∷ [])
+IsRawLine old new front End = (line : List ℕ) × HasNone 10 line × (front ≡ kept line) × Gives old new line × IsAtEnd new.left
 
 -- A raw line was served, and what was written for it was written whole; or a part from its front.
 abbrev pub IsServed : GtpSession → List ℕ → Bool → Option (List ℕ) → Option (List ℕ) → GtpSession → Type 0
@@ -31,11 +61,12 @@ abbrev pub IsPartServed : GtpSession → List ℕ → Option (List ℕ) → Opti
 IsPartServed s line old new = (out : Output) × (t : GtpSession) × Serves s line out t × TakesPart old new out.bytes
 
 -- A run under way: these bytes were used, these lines were served, and this was written.
-pub record IsUnderWay (told left old new : Option (List ℕ)) (s : GtpSession) : Type 0 where
+pub record IsUnderWay (told : Option (List ℕ)) (left : Bounded) (old new : Option (List ℕ)) (s : GtpSession) : Type 0 where
   pub used : List ℕ
   pub front : List (List ℕ)
   pub parted : (more : List ℕ) → raw_lines (used ++ more) ≡ front ++ raw_lines more
-  pub consumed : Consumes told left used
+  pub consumed : Consumes told left.left used
+  pub spent : length used + left.room ≡ input_limit
   pub written : List ℕ
   pub appended : Appends old new written
   pub through : GoesThrough first_session front written s

@@ -1,8 +1,9 @@
 //! The raw lines of a reader, one at a time, from a block of fixed size.
 
-ghost use Rattle.std.specs.Prelude.{◌≡◌, ◌++◌, ◌∷◌, [], IfOk};
-ghost use Rattle.gtp_core.specs.Taking.{IsByte, IsRawLine, kept};
+ghost use Rattle.std.specs.Prelude.{◌≡◌, ◌++◌, ◌∷◌, [], IfOk, OnErr};
+ghost use Rattle.gtp_core.specs.Taking.{HasByte, IsByte, IsRawLine, CannotGoOn, kept, bounded};
 
+use crate::channel::ReadFrom;
 use crate::run::MAX_INPUT;
 use crate::session::MAX_LINE;
 use arrayvec::ArrayVec;
@@ -26,10 +27,9 @@ pub(crate) enum Ending {
     End,
 }
 
-/// A reader, with the bytes that it gave and nobody took yet: those of the block from `start` to `end`. No call asks for more before all of them are taken.
+/// The bytes that a reader gave and nobody took yet: those of the block from `start` to `end`. No call asks for more before all of them are taken.
 #[derive(Drop)]
-pub(crate) struct Input<R: Read + Drop> {
-    reader: R,
+pub(crate) struct Input {
     block: [u8; BLOCK],
     start: usize,
     end: usize,
@@ -37,13 +37,13 @@ pub(crate) struct Input<R: Read + Drop> {
     room: usize,
 }
 
-impl<R: Read + Drop> Model for Input<R> {
-    ghost use Rattle.std.specs.Prelude.{◌≡◌, ◌≤◌, ℕ, List, Option, length, take, drop};
-    ghost use Rattle.std.specs.Io.KnownBytes.{prepend_known};
+impl Model for Input {
+    ghost use Rattle.std.specs.Prelude.{◌≡◌, ◌≤◌, length, take, drop};
+    ghost use Rattle.gtp_core.specs.Taking.{HeldInput};
 
-    ghost Value = { Option (List ℕ) };
+    ghost Value = { HeldInput };
 
-    ghost view = { λ a. prepend_known (drop a.start (take a.end a.block)) (R.remaining a.reader) };
+    ghost view = { λ a. record { held = drop a.start (take a.end a.block); room = a.room } };
 
     ghost invariant = { λ a. (a.start ≤ a.end) × (a.end ≤ 4096) × (length a.block ≡ 4096) };
 }
@@ -58,12 +58,12 @@ fn keep(line: &mut ArrayVec<u8, MAX_KEPT>, byte: u8)
     line.push(byte);
 }
 
-impl<R: Read + Drop> Input<R> {
-    pub(crate) fn new(reader: R) -> Input<R>
-        ensures { result ≡ R.remaining reader }
+impl Input {
+    pub(crate) fn new() -> Input
+        ensures held { result.held ≡ [] }
+        ensures room { result.room ≡ 67108864 }
     {
         Input {
-            reader,
             block: [0; BLOCK],
             start: 0,
             end: 0,
@@ -71,12 +71,17 @@ impl<R: Read + Drop> Input<R> {
         }
     }
 
-    /// The next byte; none where the reader has ended.
-    fn next(&mut self) -> Result<Option<u8>, ReadFailed>
-        ensures { IfOk result (λ o. IsByte self.old self.new o) }
+    /// The next byte, whether or not the input may have one more; none where the reader has ended.
+    fn take_byte<A: ReadFrom<R>, R: Read>(
+        &mut self,
+        reader: &mut R,
+    ) -> Result<Option<u8>, ReadFailed>
+        ensures byte { IfOk result (λ o. HasByte (bounded self.old (R.remaining reader.old)).left (bounded self.new (R.remaining reader.new)).left o) }
+        ensures room { self.new.room ≡ self.old.room }
+        ensures failed { OnErr result (A.read_failed reader.new) }
     {
         if self.start == self.end {
-            match self.reader.read(&mut self.block) {
+            match A::read_block(reader, &mut self.block) {
                 Ok(0) => return Ok(None),
                 Ok(count) => {
                     self.start = 0;
@@ -85,30 +90,46 @@ impl<R: Read + Drop> Input<R> {
                 Err(_) => return Err(ReadFailed),
             }
         }
-        if self.room == 0 {
-            return Err(ReadFailed);
-        }
         let byte = self.block[self.start];
         self.start += 1;
-        self.room -= 1;
         Ok(Some(byte))
     }
 
+    /// The next byte; none where the reader has ended.
+    fn next<A: ReadFrom<R>, R: Read>(&mut self, reader: &mut R) -> Result<Option<u8>, ReadFailed>
+        ensures byte { IfOk result (λ o. IsByte (bounded self.old (R.remaining reader.old)) (bounded self.new (R.remaining reader.new)) o) }
+        ensures failed { OnErr result (CannotGoOn (A.read_failed reader.new) (bounded self.old (R.remaining reader.old))) }
+    {
+        match self.take_byte::<A, R>(reader) {
+            Ok(Some(byte)) => {
+                if self.room == 0 {
+                    return Err(ReadFailed);
+                }
+                self.room -= 1;
+                Ok(Some(byte))
+            }
+            Ok(None) => Ok(None),
+            Err(failed) => Err(failed),
+        }
+    }
+
     /// The next raw line: the bytes up to a line feed, or to the end. Of a line that is too long only its front is kept.
-    pub(crate) fn next_line(
+    pub(crate) fn next_line<A: ReadFrom<R>, R: Read>(
         &mut self,
+        reader: &mut R,
         line: &mut ArrayVec<u8, MAX_KEPT>,
     ) -> Result<Ending, ReadFailed>
-        ensures { IfOk result (λ e. IsRawLine self.old self.new line.new.items e) }
+        ensures line { IfOk result (λ e. IsRawLine (bounded self.old (R.remaining reader.old)) (bounded self.new (R.remaining reader.new)) line.new.items e) }
+        ensures failed { OnErr result (CannotGoOn (A.read_failed reader.new) (bounded self.old (R.remaining reader.old))) }
     {
         line.clear();
-        for _ in 0..=MAX_INPUT {
-            match self.next()? {
-                None => return Ok(Ending::End),
-                Some(b'\n') => return Ok(Ending::LineFeed),
-                Some(byte) => keep(line, byte),
+        loop {
+            match self.next::<A, R>(reader) {
+                Ok(None) => return Ok(Ending::End),
+                Ok(Some(b'\n')) => return Ok(Ending::LineFeed),
+                Ok(Some(byte)) => keep(line, byte),
+                Err(failed) => return Err(failed),
             }
         }
-        Err(ReadFailed)
     }
 }

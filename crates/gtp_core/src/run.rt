@@ -1,17 +1,16 @@
 //! A run of a session over a reader and a writer.
 
-ghost use Rattle.std.specs.Prelude.{◌≡◌, OnOk, IfErr, IfOk, OnErr};
-ghost use Rattle.gtp_core.specs.Runs.{HasRun, HasStopped, first_session};
-ghost use Rattle.gtp_core.specs.Taking.{IsServed, IsPartServed};
-ghost use Rattle.std.specs.Io.KnownBytes.{Appends};
-ghost use Rattle.sgf_text.specs.Taken.{TakesPart};
+ghost use Rattle.std.specs.Prelude.{◌≡◌, [], OnOk, IfErr, IfOk, OnErr};
+ghost use Rattle.gtp_core.specs.Runs.{HasRun, HasStopped, HasStoppedOn, first_session};
+ghost use Rattle.gtp_core.specs.Taking.{IsServed, IsPartServed, bounded};
 
+use crate::channel::{Plain, ReadFrom, WriteTo};
 use crate::end::GtpEnd;
 use crate::fed::Fed;
 use crate::input::{Ending, Input, MAX_KEPT};
 use crate::session::Session;
 use arrayvec::ArrayVec;
-use sgf_text::write_bytes;
+use sgf_text::WriteFault;
 use std::alloc::Global;
 use std::io::{Read, Write};
 
@@ -32,30 +31,48 @@ pub fn run_gtp<R: Read, W: Write>(
     ensures ok { OnOk result (HasRun (R.remaining reader.old) (W.contents writer.old) (W.contents writer.new)) }
     ensures err { IfErr result (λ e. HasStopped e (R.remaining reader.old) (W.contents writer.old) (W.contents writer.new)) }
 {
+    run_over::<Plain, Plain, R, W>(alloc, reader, writer)
+}
+
+/// The same, where more is known of a reader or a writer after a call that failed: a run that ends for a read has read so, or its input is longer than `MAX_INPUT`; one that ends for a write has written so.
+pub fn run_over<A: ReadFrom<R>, B: WriteTo<W>, R: Read, W: Write>(
+    alloc: Global,
+    reader: &mut R,
+    writer: &mut W,
+) -> Result<(), GtpEnd>
+    ensures ok { OnOk result (HasRun (R.remaining reader.old) (W.contents writer.old) (W.contents writer.new)) }
+    ensures err { IfErr result (λ e. HasStoppedOn (A.read_failed reader.new) (B.write_failed writer.new) e
+        (R.remaining reader.old) (W.contents writer.old) (W.contents writer.new)) }
+{
     match Session::new(alloc) {
-        Ok(session) => serve_lines(session, Input::new(&mut *reader), writer),
+        Ok(session) => serve_lines::<A, B, R, W>(session, Input::new(), reader, writer),
         Err(_) => Err(GtpEnd::Memory),
     }
 }
 
 /// Serves the lines of the input, up to its end or that of the session.
-fn serve_lines<R: Read + Drop, W: Write>(
+fn serve_lines<A: ReadFrom<R>, B: WriteTo<W>, R: Read, W: Write>(
     mut session: Session,
-    mut input: Input<R>,
+    mut input: Input,
+    reader: &mut R,
     writer: &mut W,
 ) -> Result<(), GtpEnd>
-    requires { session ≡ first_session }
-    ensures ok { OnOk result (HasRun input (W.contents writer.old) (W.contents writer.new)) }
-    ensures err { IfErr result (λ e. HasStopped e input (W.contents writer.old) (W.contents writer.new)) }
+    requires session { session ≡ first_session }
+    requires held { input.held ≡ [] }
+    requires room { input.room ≡ 67108864 }
+    ensures ok { OnOk result (HasRun (R.remaining reader.old) (W.contents writer.old) (W.contents writer.new)) }
+    ensures err { IfErr result (λ e. HasStoppedOn (A.read_failed reader.new) (B.write_failed writer.new) e
+        (R.remaining reader.old) (W.contents writer.old) (W.contents writer.new)) }
 {
     let mut line = ArrayVec::new();
-    for _ in 0..=MAX_INPUT {
-        let Ok(ending) = input.next_line(&mut line) else {
-            return Err(GtpEnd::Read);
+    loop {
+        let ending = match input.next_line::<A, R>(reader, &mut line) {
+            Ok(ending) => ending,
+            Err(_) => return Err(GtpEnd::Read),
         };
-        let goes_on = match serve(&mut session, line.as_slice(), writer) {
+        let goes_on = match serve::<B, W>(&mut session, line.as_slice(), writer) {
             Ok(goes_on) => goes_on,
-            Err(end) => return Err(end),
+            Err(_) => return Err(GtpEnd::Write),
         };
         if !goes_on {
             return Ok(());
@@ -65,41 +82,31 @@ fn serve_lines<R: Read + Drop, W: Write>(
             Ending::End => return Ok(()),
         }
     }
-    Err(GtpEnd::Read)
 }
 
 /// Serves a raw line, and writes what it gets. Whether the session goes on.
-fn serve<W: Write>(session: &mut Session, line: &[u8], writer: &mut W) -> Result<bool, GtpEnd>
+fn serve<B: WriteTo<W>, W: Write>(
+    session: &mut Session,
+    line: &[u8],
+    writer: &mut W,
+) -> Result<bool, WriteFault>
     ensures ok { IfOk result (λ goes_on. IsServed session.old line.now goes_on (W.contents writer.old) (W.contents writer.new) session.new) }
-    ensures err { IfErr result (λ e. (e ≡ GtpEnd.Write) × IsPartServed session.old line.now (W.contents writer.old) (W.contents writer.new)) }
+    ensures cut { OnErr result (IsPartServed session.old line.now (W.contents writer.old) (W.contents writer.new)) }
+    ensures failed { OnErr result (B.write_failed writer.new) }
 {
     match session.feed(line) {
         Ok(Fed::Nothing) => Ok(true),
-        Ok(Fed::Reply(bytes)) => match send(bytes.as_slice(), writer) {
+        Ok(Fed::Reply(bytes)) => match B::send(bytes.as_slice(), writer) {
             Ok(()) => Ok(true),
-            Err(end) => Err(end),
+            Err(fault) => Err(fault),
         },
-        Ok(Fed::Quit(bytes)) => match send(bytes.as_slice(), writer) {
+        Ok(Fed::Quit(bytes)) => match B::send(bytes.as_slice(), writer) {
             Ok(()) => Ok(false),
-            Err(end) => Err(end),
+            Err(fault) => Err(fault),
         },
-        Err(_) => match send(NO_MEMORY, writer) {
+        Err(_) => match B::send(NO_MEMORY, writer) {
             Ok(()) => Ok(true),
-            Err(end) => Err(end),
+            Err(fault) => Err(fault),
         },
-    }
-}
-
-/// Writes the bytes, and flushes the writer.
-fn send<W: Write>(bytes: &[u8], writer: &mut W) -> Result<(), GtpEnd>
-    ensures ok { OnOk result (Appends (W.contents writer.old) (W.contents writer.new) bytes.now) }
-    ensures err { IfErr result (λ e. (e ≡ GtpEnd.Write) × TakesPart (W.contents writer.old) (W.contents writer.new) bytes.now) }
-{
-    if write_bytes(bytes, writer).is_err() {
-        return Err(GtpEnd::Write);
-    }
-    match writer.flush() {
-        Ok(()) => Ok(()),
-        Err(_) => Err(GtpEnd::Write),
     }
 }

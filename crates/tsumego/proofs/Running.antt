@@ -1,5 +1,5 @@
 -- What is written, and what a run has then left.
-use Rattle.std.proofs.Common.{◌≡◌, ℕ, false, drop, List, [], ◌++◌, Option, Some, None, Result, Ok, Err, inl, inr, refl, sym, ◌∙◌, ap, ap₂, subst}
+use Rattle.std.proofs.Common.{◌≡◌, ℕ, false, drop, List, [], ◌++◌, Option, Some, None, Result, Ok, Err, inl, inr, ◌⊎◌, refl, sym, ◌∙◌, ap, ap₂, subst}
 use Rattle.std.specs.Prelude.{IfOk}
 use Rattle.go_points.specs.declared.Colour.{Colour}
 use Rattle.std.specs.Io.KnownBytes.{Consumes, IsAtEnd}
@@ -26,7 +26,7 @@ use Rattle.tsumego_words.specs.CommandLine.{is_session}
 use Rattle.tsumego.specs.Texts.{line, no_memory_text, no_read_text}
 use Rattle.tsumego.specs.Solutions.{claim_verdict}
 use Rattle.tsumego.specs.Answers.{IsRecord, RefusedOr, Says, SaysFailure, check_answer, audit_answer, within_answer}
-use Rattle.tsumego.specs.Outcome.{Tells, Outcome, Explains, ExplainsRun, Ran, RanOn}
+use Rattle.tsumego.specs.Outcome.{Tells, Outcome, Explains, ExplainsRun, RanOn}
 use Rattle.tsumego.specs.Replies.{Writes, IsRejectionOf, IsNodeRejectionOf}
 
 -- the bytes that a reader tells, where it tells them
@@ -42,13 +42,20 @@ all_told (Some told) (Some left) bytes c end = sym (c ∙ ap (λ xs. bytes ++ xs
 
 -- ---- why a run failed
 
+-- that a read failed may be said where no reply was given
+after_nothing : {read write : Type 0} {written : List ℕ} → (written ≡ no_memory_text) ⊎ ((read × (written ≡ no_read_text)) ⊎ write)
+    → (written ≡ no_memory_text) ⊎ ((read × ((replies : List ℕ) × (written ≡ replies ++ no_read_text))) ⊎ write)
+after_nothing (inl is) = inl is
+after_nothing (inr (inl (why, is))) = inr (inl (why, ([], is)))
+after_nothing (inr (inr fault)) = inr (inr fault)
+
 pub explained : (command : Option Command) {read write : Type 0} {status : Status} {written : List ℕ} → Explains read write status written → ExplainsRun command read write status written
 explained None e = e
 explained (Some Check) e = e
 explained (Some (Within turns nodes)) e = e
 explained (Some Audit) e = e
 explained (Some (Solve steps table proof lift)) e = e
-explained (Some Gtp) e = tt
+explained (Some Gtp) e = λ failed. after_nothing (e failed)
 
 check_answers : (n : ℕ) (v : Verdict) (text : List ℕ) → (Failed, text) ≡ check_answer n v → ⊥
 check_answers n (accepted x) text e = absurd (cc (ap (λ p. p.0) e))
@@ -116,25 +123,12 @@ module _ (old new : Option (List ℕ)) (text : List ℕ) (fails : Type 0) where
   ran_no_read command told read bytes result tells why is (inr (failed, fault, (part, rest, whole, taken))) =
       (bytes, part, tells, taken, inr (failed, inr (rest, inr (subst SaysFailure whole (inr is)))), explained (Some command) (λ e. inr (inr fault)))
 
-  pub ran_failed : (command : Command) (told : Option (List ℕ)) (result : Status) → SaysFailure text → Writes fails old new text Failed result → Ran (Some command) told result old new
-  ran_failed command told result says (inl (same, taken)) = let b = some_bytes told in (b.0, text, b.1, taken, inr (same, inl says))
-  ran_failed command told result says (inr (failed, fault, (part, rest, whole, taken))) =
-      let b = some_bytes told in (b.0, part, b.1, taken, inr (failed, inr (rest, inr (subst SaysFailure whole says))))
-
   pub ran_no_words : (told : Option (List ℕ)) (read : List ℕ → Type 0) (command : Option Command) (result : Status) → command ≡ None → Writes fails old new text BadWords result → RanOn command told read fails result old new
   ran_no_words told read command result none writes = subst (λ o. RanOn o told read fails result old new) (sym none) (go writes)
     where
       go : Writes fails old new text BadWords result → RanOn None told read fails result old new
       go (inl (same, taken)) = let b = some_bytes told in (b.0, text, b.1, taken, inl same, λ failed. absurd (cc (sym same ∙ failed)))
       go (inr (failed, fault, (part, rest, whole, taken))) = let b = some_bytes told in (b.0, part, b.1, taken, inr failed, λ e. inr (inr fault))
-
--- a run whose failures are explained is a run
-pub ran_on : (command : Option Command) (told old new : Option (List ℕ)) (read : List ℕ → Type 0) (fails : Type 0) (status : Status) → RanOn command told read fails status old new → Ran command told status old new
-ran_on command told old new read fails status (bytes, written, tells, taken, outcome, why) = (bytes, written, tells, taken, outcome)
-
--- of a session's failures nothing more is said
-pub session_ran : (told old new : Option (List ℕ)) (read : List ℕ → Type 0) (fails : Type 0) (status : Status) → Ran (Some Gtp) told status old new → RanOn (Some Gtp) told read fails status old new
-session_ran told old new read fails status (bytes, written, tells, taken, outcome) = (bytes, written, tells, taken, outcome, tt)
 
 -- what a call that makes a text gives
 pub said_so : {S E : Type 0} (f : S → List ℕ) (r : Result S E) (a b : List ℕ) → IfOk r (λ s. f s ≡ a) → a ≡ b → IfOk r (λ s. f s ≡ b)

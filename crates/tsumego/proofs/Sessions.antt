@@ -1,5 +1,5 @@
 -- What a run of a session leaves is what the command leaves.
-use Rattle.std.proofs.Common.{◌≡◌, ℕ, true, List, [], ◌∷◌, ◌++◌, codes, Option, None, Some, inl, inr, refl, sym, ap, ◌∙◌, subst, append_assoc, append-nil}
+use Rattle.std.proofs.Common.{◌≡◌, ℕ, ◌<◌, true, length, List, [], ◌∷◌, ◌++◌, codes, Option, None, Some, ◌⊎◌, inl, inr, refl, sym, ap, ◌∙◌, subst, append_assoc, append-nil}
 use Rattle.std.specs.Io.KnownBytes.{Appends}
 use Rattle.std.proofs.KnownBytes.{Appends-trans}
 use Rattle.gtp_core.specs.declared.end.GtpEnd.TheVariants as stop
@@ -8,7 +8,7 @@ use Rattle.gtp_core.specs.Words.{failure}
 use Rattle.gtp_core.specs.Session.{GtpSession}
 use Rattle.gtp_core.specs.Serving.{Answers, HadNoMemory, Serves, reply}
 use Rattle.gtp_core.specs.Runs as gtp
-use Rattle.gtp_core.specs.Runs.{GoesThrough, IsRun, IsEnded, HasRun, HasStopped, first_session}
+use Rattle.gtp_core.specs.Runs.{GoesThrough, IsRun, IsEnded, HasRun, HasStoppedOn, first_session, input_limit}
 use Rattle.tsumego_words.specs.CommandLine.{is_session}
 use Rattle.tsumego_words.specs.declared.command_line.Command.{Command}
 use Rattle.tsumego_words.specs.declared.command_line.Command.TheVariants.{Check, Within, Audit, Solve, Gtp}
@@ -16,7 +16,7 @@ use Rattle.tsumego.specs.declared.status.Status.{Status}
 use Rattle.tsumego.specs.declared.status.Status.TheVariants.{Answered, Failed}
 use Rattle.tsumego.specs.Texts.{no_read_text}
 use Rattle.tsumego.specs.Answers.{Says}
-use Rattle.tsumego.specs.Outcome.{Tells, Ran}
+use Rattle.tsumego.specs.Outcome.{Tells, RanOn}
 use Rattle.tsumego.specs.Replies.{Writes}
 
 -- every session can serve every line
@@ -68,32 +68,35 @@ told_too : (told : Option (List ℕ)) (bytes : List ℕ) → gtp.Tells told byte
 told_too None bytes h = tt
 told_too (Some t) bytes h = h
 
-module _ (told old : Option (List ℕ)) (fails : Type 0) where
-  pub session_ends : (new : Option (List ℕ)) → HasRun told old new → Ran (Some Gtp) told Answered old new
-  session_ends new (bytes, written, tells, taken, run) = (bytes, written, told_too told bytes tells, taken, inl (inl (refl, run)))
+module _ (told old : Option (List ℕ)) (reads fails : Type 0) where
+  pub session_ends : (new : Option (List ℕ)) → HasRun told old new → RanOn (Some Gtp) told (λ bytes. reads ⊎ (input_limit < length bytes)) fails Answered old new
+  session_ends new (bytes, written, tells, taken, run) = (bytes, written, told_too told bytes tells, taken, inl (inl (refl, run)), λ failed. absurd (cc failed))
 
-  pub session_read_fails : (mid new : Option (List ℕ)) (result : Status) → HasStopped stop.Read told old mid → Writes fails mid new no_read_text Failed result → Ran (Some Gtp) told result old new
-  session_read_fails mid new result (bytes, written, tells, taken, read) (inl (same, whole)) = (
+  pub session_read_fails : (writes : Type 0) (mid new : Option (List ℕ)) (result : Status) → HasStoppedOn reads writes stop.Read told old mid → Writes fails mid new no_read_text Failed result
+      → RanOn (Some Gtp) told (λ bytes. reads ⊎ (input_limit < length bytes)) fails result old new
+  session_read_fails writes mid new result (bytes, written, tells, taken, read, why) (inl (same, whole)) = (
     bytes,
     written ++ no_read_text,
     told_too told bytes tells,
     Appends-trans old mid new written no_read_text taken whole,
     inl (subst (λ s. Says Gtp bytes s (written ++ no_read_text)) (sym same) (inr (refl, (written, read, refl)))),
+    λ failed. inr (inl (why, (written, refl))),
   )
-  session_read_fails mid new result (bytes, written, tells, taken, read) (inr (failed, fault, (part, rest, whole, more))) = (
+  session_read_fails writes mid new result (bytes, written, tells, taken, read, why) (inr (failed, fault, (part, rest, whole, more))) = (
     bytes,
     written ++ part,
     told_too told bytes tells,
     Appends-trans old mid new written part taken more,
     inr (failed, inr (rest, inl (Failed, inr (refl, (written, read, append_assoc written part rest ∙ ap (λ x. written ++ x) (sym whole)))))),
+    λ e. inr (inr fault),
   )
 
-  pub session_write_fails : (new : Option (List ℕ)) → HasStopped stop.Write told old new → Ran (Some Gtp) told Failed old new
-  session_write_fails new (bytes, written, tells, taken, cut) =
+  pub session_write_fails : (new : Option (List ℕ)) → HasStoppedOn reads fails stop.Write told old new → RanOn (Some Gtp) told (λ bytes. reads ⊎ (input_limit < length bytes)) fails Failed old new
+  session_write_fails new (bytes, written, tells, taken, cut, fault) =
       let on = runs_on first_session cut.front cut.behind (written ++ cut.rest) cut.run in
       let run : IsRun first_session (raw_lines bytes) (written ++ (cut.rest ++ on.0)) =
       subst (λ ls. IsRun first_session ls (written ++ (cut.rest ++ on.0))) (sym cut.parted) (subst (IsRun first_session (cut.front ++ cut.behind)) (append_assoc written cut.rest on.0) on.1) in
-      (bytes, written, told_too told bytes tells, taken, inr (refl, inr (cut.rest ++ on.0, inl (Answered, inl (refl, run)))))
+      (bytes, written, told_too told bytes tells, taken, inr (refl, inr (cut.rest ++ on.0, inl (Answered, inl (refl, run)))), λ e. inr (inr fault))
 
 -- nothing was written before
 pub writes_after : (old mid new : Option (List ℕ)) (fails : Type 0) (text : List ℕ) (status result : Status) → Appends old mid [] → Writes fails mid new text status result → Writes fails old new text status result

@@ -15,7 +15,7 @@ use Rattle.tsumego_problem.specs.Walk.{problem_within, history_limit}
 use Rattle.tsumego_problem.specs.Refusals.{Refuses}
 use Rattle.cert_check.specs.Verdict.{Verdict, accepted, rejected}
 use Rattle.gtp_core.specs.Lines.{raw_lines}
-use Rattle.gtp_core.specs.Runs.{IsRun, IsReadTo, first_session}
+use Rattle.gtp_core.specs.Runs.{IsRun, IsReadTo, first_session, input_limit}
 use Rattle.solution_tree.specs.Audit.{Fault, audit}
 use Rattle.tsumego_words.specs.declared.command_line.Command.{Command}
 use Rattle.tsumego_words.specs.declared.command_line.Command.TheVariants as command
@@ -59,9 +59,10 @@ JudgesClaim q bytes status text = (white_before bytes ≤ white_limit) × ((stat
 abbrev pub PassesWhite : List ℕ → Type 0
 PassesWhite bytes = (q : GameProblem) × (tree : GameTree) × (n : ℕ) × IsRecord bytes tree n q × (white_limit < white_before (drop n bytes))
 
--- a bound on what is read is passed, other than that on a session's input
+-- a bound on what is read is passed
 abbrev pub PassesBound : Command → List ℕ → Type 0
 PassesBound command.Check bytes = PassesWhite bytes
+PassesBound command.Gtp bytes = input_limit < length bytes
 PassesBound _ bytes = ⊥
 
 -- ---- within

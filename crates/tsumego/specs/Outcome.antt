@@ -3,8 +3,7 @@
 --     HasLeft Said status old new      the same between the writer before and after
 --     Outcome command bytes status written      `command` is what the words ask for, where they ask for something
 --     Explains read write status written      a run that ended as failed did so for what memory, a read or a write did
---     Ran      the same between the devices before a run and after it
---     RanOn      with why it failed, where it did
+--     RanOn      the same between the devices before a run and after it, with why it failed, where it did
 use Rattle.std.specs.Prelude.{◌≡◌, ℕ, List, ◌++◌, Option, Some, None, ◌⊎◌}
 use Rattle.std.specs.Io.KnownBytes.{Appends}
 use Rattle.tsumego_words.specs.declared.command_line.Command.{Command}
@@ -40,17 +39,17 @@ abbrev pub Tells : Option (List ℕ) → List ℕ → Type 0
 Tells None bytes = Unit {0}
 Tells (Some told) bytes = bytes ≡ told
 
--- For the bytes that the reader told, the writer has taken such a text.
-abbrev pub Ran : Option Command → Option (List ℕ) → Status → Option (List ℕ) → Option (List ℕ) → Type 0
-Ran command told status old new = (bytes written : List ℕ) × Tells told bytes × Appends old new written × Outcome command bytes status written
-
 -- Why a run ended as failed: memory was refused, and the text says that alone; or a read failed, and it says that alone; or a write failed.
 abbrev pub Explains : Type 0 → Type 0 → Status → List ℕ → Type 0
 Explains read write status written = status ≡ Failed → (written ≡ no_memory_text) ⊎ ((read × (written ≡ no_read_text)) ⊎ write)
 
--- Of the failures of a session nothing more is said.
+-- The same of a session: that a read failed is said after replies.
+abbrev pub ExplainsSession : Type 0 → Type 0 → Status → List ℕ → Type 0
+ExplainsSession read write status written =
+    status ≡ Failed → (written ≡ no_memory_text) ⊎ ((read × ((replies : List ℕ) × (written ≡ replies ++ no_read_text))) ⊎ write)
+
 abbrev pub ExplainsRun : Option Command → Type 0 → Type 0 → Status → List ℕ → Type 0
-ExplainsRun (Some Gtp) read write status written = Unit {0}
+ExplainsRun (Some Gtp) read write status written = ExplainsSession read write status written
 ExplainsRun _ read write status written = Explains read write status written
 
 -- The writer has taken what is left so, and a failure has its cause.

@@ -178,7 +178,7 @@ fn write_line<W: Write>(tree: &Tree, writer: &mut W) -> Result<(), WriteFault>
 }
 
 /// Writes all the bytes, a piece at a time. After a failure, which the writer has counted, it has taken a front of them.
-fn write_all<W: Write>(bytes: &[u8], writer: &mut Counting<W>) -> Result<(), WriteFault>
+pub(crate) fn write_all<W: Write>(bytes: &[u8], writer: &mut Counting<W>) -> Result<(), WriteFault>
     ensures written { OnOk result (Appends (W.contents writer.old.inner) (W.contents writer.new.inner) bytes.now) }
     ensures cut { OnErr result (TakesPart (W.contents writer.old.inner) (W.contents writer.new.inner) bytes.now) }
     ensures failed { OnErr result (HasFailed writer.new.faults writer.new.interrupts) }

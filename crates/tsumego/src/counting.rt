@@ -115,6 +115,26 @@ impl<W: Write> Counting<W> {
         }
         Err(io::Error::from(ErrorKind::Interrupted))
     }
+
+    /// A flush of the device, which is asked again where it was interrupted.
+    pub fn flush_device(&mut self) -> io::Result<()>
+        ensures kept { Keeps (W.contents self.old.inner) (W.contents self.new.inner) }
+        ensures failed { OnErr result (HasFailed self.new.faults self.new.interrupts) }
+    {
+        while self.interrupts <= MAX_INTERRUPTS {
+            match self.inner.flush() {
+                Ok(()) => return Ok(()),
+                Err(error) => {
+                    if error.kind() != ErrorKind::Interrupted {
+                        self.faults = one_more(self.faults);
+                        return Err(error);
+                    }
+                }
+            }
+            self.interrupts += 1;
+        }
+        Err(io::Error::from(ErrorKind::Interrupted))
+    }
 }
 
 impl<R: Read> Read for Counting<R> {
@@ -133,18 +153,6 @@ impl<W: Write> Write for Counting<W> {
     }
 
     fn flush(&mut self) -> io::Result<()> {
-        while self.interrupts <= MAX_INTERRUPTS {
-            match self.inner.flush() {
-                Ok(()) => return Ok(()),
-                Err(error) => {
-                    if error.kind() != ErrorKind::Interrupted {
-                        self.faults = one_more(self.faults);
-                        return Err(error);
-                    }
-                }
-            }
-            self.interrupts += 1;
-        }
-        Err(io::Error::from(ErrorKind::Interrupted))
+        self.flush_device()
     }
 }

@@ -1,7 +1,13 @@
 //! The program over GTP commands.
 
+use crate::counting::Counting;
+use crate::devices::Faulty;
+use crate::run::run;
 use crate::status::Status;
 use crate::tests::answers;
+use std::alloc::Global;
+use std::io::ErrorKind;
+use std::process::Abort;
 
 #[test]
 fn a_session(rt: HostRuntime) {
@@ -52,4 +58,50 @@ fn words_after_gtp(rt: HostRuntime) {
         Status::Answered,
         "=\n\n",
     );
+}
+
+// A session whose reader fails at its second call, and whose writer fails at these.
+fn fails(
+    rt: &impl Abort,
+    alloc: Global,
+    reads: &[u64],
+    writes: &[u64],
+    text: &str,
+    faults: (u64, u64),
+) {
+    let mut reader = Counting::new(Faulty {
+        inner: "name\nprotocol_version\n".as_bytes(),
+        calls: 0,
+        failing: reads,
+        kind: ErrorKind::Other,
+    });
+    let mut writer = Counting::new(Faulty {
+        inner: Vec::new(alloc),
+        calls: 0,
+        failing: writes,
+        kind: ErrorKind::Other,
+    });
+    assert_eq!(rt;
+        run(alloc, &["tsumego", "gtp"], &mut reader, &mut writer),
+        Status::Failed
+    );
+    assert_eq!(rt; writer.inner.inner.as_slice(), text.as_bytes());
+    assert_eq!(rt; reader.faults(), faults.0);
+    assert_eq!(rt; writer.faults(), faults.1);
+}
+
+#[test]
+fn a_session_ends_for_a_device_that_has_failed(rt: HostRuntime) {
+    let alloc = rt.alloc();
+    fails(&rt, alloc, &[0], &[], "failed: read\n", (1, 0));
+    fails(
+        &rt,
+        alloc,
+        &[1],
+        &[],
+        "= tsumego\n\n= 2\n\nfailed: read\n",
+        (1, 0),
+    );
+    fails(&rt, alloc, &[], &[0], "", (0, 1));
+    fails(&rt, alloc, &[], &[1], "= tsumego\n\n", (0, 1));
 }

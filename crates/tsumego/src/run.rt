@@ -28,8 +28,8 @@ pub const MAX_FRONT: usize = 1_048_577;
 /// command that the words give; after a failed write what was taken is a part of such a text. No command but `check` asks for
 /// more bytes than a record may have, and one.
 ///
-/// A run of a command but `gtp` that ends as failed tells why: memory was refused, and the text says so; a read failed and was
-/// counted, or a bound on what is read was passed, and it says so; or a write failed and was counted.
+/// A run that ends as failed tells why: memory was refused, and the text says so; a read failed and was counted, or a bound on
+/// what is read was passed, and it says so, in a session after replies; or a write failed and was counted.
 pub fn run<S: AsStr, R: Read, W: Write>(
     alloc: Global,
     words: &[S],

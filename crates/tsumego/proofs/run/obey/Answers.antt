@@ -8,7 +8,7 @@ use Rattle.tsumego.proofs.Sessions.{is_gtp}
 use Rattle.std.specs.Prelude.{string_bytes}
 use Rattle.tsumego.specs.Replies.{IsReply, Writes}
 use Rattle.tsumego.specs.Texts.{no_memory_text, no_read_text}
-use Rattle.tsumego.proofs.Running.{some_bytes, ran_said, ran_no_memory, ran_no_read, session_ran}
+use Rattle.tsumego.proofs.Running.{some_bytes, ran_said, ran_no_memory, ran_no_read}
 use Rattle.tsumego.proofs.Answering.{ran_left}
 use Rattle.tsumego.proofs.run.obey.Goals as goal
 
@@ -17,9 +17,10 @@ returns-then-is_session g c =
     let told = g.R.Read.remaining c.args.reader.now.inner in let old = g.W.Write.contents c.args.writer.now.inner in let new = g.W.Write.contents c.serve_gtp.new.writer.inner in
     let reader = c.serve_gtp.new.reader in let writer = c.serve_gtp.new.writer in
     let session : c.args.command ≡ Gtp = is_gtp c.args.command (sym c.is_session.ensures ∙ c.if-is_session.true) in
-    let ran = session_ran told old new (ReadFails (Some Gtp) reader.faults reader.interrupts) (HasFailed writer.faults writer.interrupts) c.serve_gtp.result c.serve_gtp.ensures in
     record {
-      ran = subst (λ (k : Command). RanOn (Some k) told (ReadFails (Some k) reader.faults reader.interrupts) (HasFailed writer.faults writer.interrupts) c.serve_gtp.result old new) (sym session) ran;
+      ran =
+          subst (λ (k : Command). RanOn (Some k) told (ReadFails (Some k) reader.faults reader.interrupts) (HasFailed writer.faults writer.interrupts) c.serve_gtp.result old new) (sym session)
+          c.serve_gtp.ensures;
       asked = subst (λ (k : Command). MayAsk (Some k) told (g.R.Read.remaining reader.inner)) (sym session) tt;
     }
 

@@ -1,6 +1,6 @@
 use Rattle.std.proofs.Common.{◌-◌}
 use Rattle.std.specs.Io.KnownBytes.{Keeps}
-use Rattle.tsumego.proofs.counting.CountingWrite.flush.Given as goal
+use Rattle.tsumego.proofs.counting.Counting.flush_device.Given as goal
 
 -- no interrupted flush has changed what was taken
 abbrev pub invariant-loop-self : goal.invariant-loop-self

@@ -7,7 +7,8 @@ ghost use Rattle.go_points.specs.declared.Turn.TheVariants.{At};
 ghost use Rattle.cert_check.specs.Stage.{why_value};
 ghost use Rattle.cert_check.specs.Parts.{move_fault};
 
-use crate::body::{Body, Head, PlayState, all_known, none_known};
+use crate::body::{Body, Head, all_known};
+use crate::body_state::{BodyState, PlayState};
 use crate::reject::Why;
 use go_points::{Colour, Point, Turn};
 
@@ -61,16 +62,16 @@ pub(crate) fn play_fault(body: &Body<'_>, state: &PlayState, turn: Turn) -> Opti
 
 /// The lemma speaks of the state: its root is here, the colourings that it needs are known, none of those on its list is, and in a
 /// lemma each of these is on its list.
-fn head_fault(body: &Body<'_>, state: &PlayState, head: &Head) -> Option<Why>
+fn head_fault(body: &Body<'_>, state: &BodyState, head: &Head) -> Option<Why>
     ensures { option_map (why_value state.now.state.game.size) result ≡ option_map Some (head_fault body.now state.now.state (Some head.now)) }
 {
-    if !head.is_at(state) {
+    if !head.is_at(state.play()) {
         return Some(Why::StateDiffers);
     }
-    if !all_known(state, head.had()) {
+    if !all_known(state.play(), head.had()) {
         return Some(Why::NeededNotOccurred);
     }
-    if !none_known(state, head.absent()) {
+    if !state.knows_none(head.absent()) {
         return Some(Why::ListedOccurred);
     }
     if !body.lists_all(head.absent()) {
@@ -80,7 +81,7 @@ fn head_fault(body: &Body<'_>, state: &PlayState, head: &Head) -> Option<Why>
 }
 
 /// An earlier lemma has the number, and it speaks of the state.
-pub(crate) fn use_fault(body: &Body<'_>, state: &PlayState, number: u32) -> Option<Why>
+pub(crate) fn use_fault(body: &Body<'_>, state: &BodyState, number: u32) -> Option<Why>
     ensures { option_map (why_value state.now.state.game.size) result ≡ option_map Some (use_fault body.now state.now.state number) }
 {
     match body.lemma(number) {

@@ -8,6 +8,7 @@ ghost use Rattle.go_points.specs.Ply.{ply_of};
 ghost use Rattle.go_turns.specs.History.{has_occurred, repeats};
 ghost use Rattle.target_game.specs.State.{start, state_alone, state_with};
 ghost use Rattle.target_game.specs.Kept.{IsAtFault};
+ghost use Rattle.target_game.specs.Left.{line_if};
 ghost use Rattle.target_game.specs.Legal.{legal};
 ghost use Rattle.target_game.specs.Next.{next};
 ghost use Rattle.target_game.specs.Over.{over};
@@ -129,6 +130,22 @@ impl BodyState {
             return Err(AllocError);
         }
         Ok(())
+    }
+
+    /// Makes the turn where it is legal, and answers whether it was. A move is played once.
+    pub(crate) fn try_after(&mut self, turn: Turn) -> Result<bool, AllocError>
+        requires open { over self.old.state ≡ None }
+        ensures legal { IfOk result (λ made. made ≡ legal self.old.state (ply_of self.old.state.game.size turn)) }
+        ensures state { IfOk result (λ made. self.new ≡ line_if made self.old (ply_of self.old.state.game.size turn)) }
+    {
+        if !self.state.try_after(turn)? {
+            return Ok(false);
+        }
+        if self.known.push(self.state.colouring()).is_err() {
+            self.state.back();
+            return Err(AllocError);
+        }
+        Ok(true)
     }
 
     /// Takes the last turn back.

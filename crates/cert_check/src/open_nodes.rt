@@ -16,7 +16,7 @@ ghost use Rattle.cert_check.specs.Stage.{why_value};
 use crate::body::Body;
 use crate::body_state::BodyState;
 use crate::lines::NodeLine;
-use crate::questions::{all_fault, play_fault, use_fault, won_fault};
+use crate::questions::{all_fault, make_turn, use_fault, won_fault};
 use crate::reject::Why;
 use arrayvec::ArrayVec;
 use go_points::{Size, Turn};
@@ -193,14 +193,14 @@ fn take_play(
     ensures err { IfErr result (λ why. (p : SpecWhy) → why_value state.old.state.game.size why ≡ Some p → node_fault body.now state.old.state (play_line (ply_of state.old.state.game.size turn)) ≡ Some p) }
     ensures judged { IfErr result (λ why. IsJudged why) }
 {
-    let made = turn;
-    if let Some(why) = play_fault(body, state.play(), made) {
+    let Ok(fault) = make_turn(body, state, turn) else {
+        return Err(Why::Memory);
+    };
+    if let Some(why) = fault {
         return Err(why);
     }
-    match go_down(state, open_nodes, turn, None) {
-        Ok(()) => Ok(Due::Node),
-        Err(_) => Err(Why::Memory),
-    }
+    open_nodes.push(Open { next: None });
+    Ok(Due::Node)
 }
 
 /// The line `all`.

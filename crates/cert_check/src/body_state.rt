@@ -57,17 +57,18 @@ impl BodyState {
         Ok(BodyState { state, known })
     }
 
-    /// The state where a lemma begins whose root alone is known.
-    pub(crate) fn at(
+    /// A lemma begins, whose root alone is known. The state before is written over where it stands, since it is large.
+    pub(crate) fn begin(
+        &mut self,
         alloc: Global,
         problem: &Problem,
         root: &Colouring,
         mover: Colour,
         passes: u64,
-    ) -> Result<BodyState, AtFault>
+    ) -> Result<(), AtFault>
         requires size { side_of root.now ≡ problem.now.game.size }
         requires few { passes ≤ 1 }
-        ensures ok { IfOk result (λ s. s ≡ record { state = state_alone problem.now.game root.now mover passes; before = [] }) }
+        ensures ok { OnOk result (self.new ≡ record { state = state_alone problem.now.game root.now mover passes; before = [] }) }
         ensures liberties { OnOk result (first_without_liberty problem.now.game.size root.now ≡ None) }
         ensures err { IfErr result (λ e. IsAtFault problem.now.game.size (first_without_liberty problem.now.game.size root.now) e) }
     {
@@ -77,13 +78,15 @@ impl BodyState {
                 if known.push(*root).is_err() {
                     return Err(AtFault::Memory);
                 }
-                Ok(BodyState { state, known })
+                self.state = state;
+                self.known = known;
+                Ok(())
             }
             Err(fault) => Err(fault),
         }
     }
 
-    /// The same, where these others are known as well.
+    /// The state where a lemma begins, where its root and these others are known.
     pub(crate) fn at_with(
         alloc: Global,
         problem: &Problem,

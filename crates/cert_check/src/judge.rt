@@ -136,15 +136,6 @@ impl<'p> Judge<'p> {
         Ok(())
     }
 
-    /// A body begins at this state.
-    fn enter(&mut self, state: BodyState)
-        ensures rest { self.new ≡ record self.old { state = state; open_nodes = self.new.open_nodes } }
-        ensures closed { self.new.open_nodes.items ≡ [] }
-    {
-        self.state = state;
-        self.open_nodes.clear();
-    }
-
     /// A lemma's first line.
     fn lemma(&mut self, mover: Colour, passes: u8, root: Colouring) -> Result<(), Why>
         requires size { side_of root ≡ self.old.problem.now.game.size }
@@ -156,18 +147,18 @@ impl<'p> Judge<'p> {
         ensures ok { OnOk result (GoesOn self.old self.new (opening_taken self.old.problem.now (machine_of self.old) (heading_of self.old) (lemma_line mover passes root))) }
         ensures err { IfErr result (λ why. StopsFor self.old (opening_taken self.old.problem.now (machine_of self.old) (heading_of self.old) (lemma_line mover passes root)) why) }
     {
-        let state = match begin(
+        if let Err(why) = begin(
             self.alloc,
             self.problem,
             self.heads.as_slice(),
+            &mut self.state,
             mover,
             passes,
             &root,
         ) {
-            Ok(state) => state,
-            Err(why) => return Err(why),
-        };
-        self.enter(state);
+            return Err(why);
+        }
+        self.open_nodes.clear();
         self.mover = mover;
         self.passes = passes;
         self.root = root;
@@ -195,7 +186,8 @@ impl<'p> Judge<'p> {
         let Ok(state) = BodyState::of(self.alloc, self.problem) else {
             return Err(Why::Memory);
         };
-        self.enter(state);
+        self.state = state;
+        self.open_nodes.clear();
         self.phase = Phase::Body {
             within: Within::Main,
             due: Due::Node,
@@ -572,18 +564,19 @@ impl<'p> Judge<'p> {
     }
 }
 
-/// The state where a lemma begins, behind so many lemmas.
+/// A lemma begins, behind so many lemmas.
 fn begin(
     alloc: Global,
     problem: &Problem,
     heads: &[Head],
+    state: &mut BodyState,
     mover: Colour,
     passes: u8,
     root: &Colouring,
-) -> Result<BodyState, Why>
+) -> Result<(), Why>
     requires size { side_of root.now ≡ problem.now.game.size }
     requires few { passes ≤ 1 }
-    ensures state { IfOk result (λ s. s ≡ record { state = state_alone problem.now.game root.now mover passes; before = [] }) }
+    ensures state { OnOk result (state.new ≡ record { state = state_alone problem.now.game root.now mover passes; before = [] }) }
     ensures ok { OnOk result (lemma_fault problem.now.game heads.now root.now ≡ None) }
     ensures err { IfErr result (λ why. (p : SpecWhy) → why_value problem.now.game.size why ≡ Some p → lemma_fault problem.now.game heads.now root.now ≡ Some p) }
     ensures judged { IfErr result (λ why. IsJudged why) }
@@ -591,8 +584,8 @@ fn begin(
     if heads.len() >= MAX_LEMMAS {
         return Err(Why::Limit);
     }
-    match BodyState::at(alloc, problem, root, mover, u64::from(passes)) {
-        Ok(state) => Ok(state),
+    match state.begin(alloc, problem, root, mover, u64::from(passes)) {
+        Ok(()) => Ok(()),
         Err(AtFault::NoLiberty { .. }) => Err(Why::RootWithoutLiberty),
         Err(AtFault::Memory) => Err(Why::Memory),
     }

@@ -1,12 +1,12 @@
-use Rattle.std.proofs.Common.{rules, ◌≡◌, List, [], ◌∷◌, reverse, subst, sym, ap, refl}
+use Rattle.std.proofs.Common.{rules, ◌≡◌, List, [], ◌∷◌, reverse, subst, sym}
 use Rattle.go_points.specs.declared.Cell.{Cell}
 use Rattle.target_game.specs.State.{Game, Line, state_alone}
 use Rattle.cert_check.specs.Known.{AreKnown}
 use Rattle.cert_check.proofs.Known.{alone_known}
-use Rattle.cert_check.proofs.body_state.BodyState.at.Goals as goal
+use Rattle.cert_check.proofs.body_state.BodyState.begin.Goals as goal
 
-pub invariant_of-result : goal.invariant_of-result
-invariant_of-result c =
+pub invariant_of-self : goal.invariant_of-self
+invariant_of-self c =
     let g : Game = c.args.problem.now.game in
     let root : List Cell = c.args.root.now in
     let cs : List (List Cell) = c.push.new.self.items in

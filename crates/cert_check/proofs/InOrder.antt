@@ -12,6 +12,7 @@ use Rattle.go_points.specs.Order.{text_order, same_cells_ties}
 use Rattle.go_turns.specs.History.{has_occurred}
 use Rattle.proof_cert.specs.Claim.{cells_before, is_ascending}
 use Rattle.cert_check.specs.Ascending.{IsBefore, Ascends}
+use Rattle.cert_check.specs.Known.{SameMembers}
 use Rattle.cert_check.proofs.Ascending.{order, AllAbove, above_all, none_among, above_from, same_from}
 use Rattle.cert_check.proofs.Lists.{before_is}
 use Rattle.cert_check.proofs.Members.{Member, and_first, and_second, and_both}
@@ -51,9 +52,6 @@ same_left cs xs ds moved is c = ap (λ (l : List (List Cell)). has_occurred l c)
     dropped (d ∷ l) = occurred_from d l c
 
 -- KNOWN BY WHAT STANDS ON IT
-
-abbrev pub SameMembers : List (List Cell) → List (List Cell) → Type 0
-SameMembers cs ds = (c : List Cell) → has_occurred cs c ≡ has_occurred ds c
 
 or_front : (a b : Bool) → a ≡ true → (a || b) ≡ true
 or_front true b e = refl

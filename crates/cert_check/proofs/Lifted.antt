@@ -36,7 +36,8 @@ use Rattle.cert_check.specs.Results.{is_past, version_for, claim_with}
 use Rattle.cert_check.specs.Validity.{FitsNode, AreValidLemmas, IsValid}
 use Rattle.cert_check.proofs.Claiming.{AllFitting, AllFitting-append, node_fitting, both_spelled}
 use Rattle.cert_check.proofs.Game.{occurred-member, member-occurred}
-use Rattle.cert_check.proofs.InOrder.{SameMembers, AreLong, same_list, ascending_is, ascends_is, long_left}
+use Rattle.cert_check.specs.Known.{SameMembers}
+use Rattle.cert_check.proofs.InOrder.{AreLong, same_list, ascending_is, ascends_is, long_left}
 use Rattle.cert_check.proofs.Members.{Member, and_both, or_cases, Member-append_cases}
 use Rattle.cert_check.proofs.ReadingClaims.{HadFits}
 use Rattle.cert_check.proofs.Soundness.{game-next, present-place}

@@ -1,6 +1,6 @@
 -- What is known at a state, by the list that a body keeps of it; and whether none of two lists stands on the other.
-use Rattle.std.proofs.Common.{◌≡◌, ℕ, ◌<◌, Bool, true, false, not, ◌&&◌, ◌||◌, List, [], ◌∷◌, ◌++◌, length, reverse, filter, cond, slice_index_or, IsTrue, refl, sym, ap, ap₂, ◌∙◌, subst}
-use Rattle.std.specs.List.{list_any, list_all}
+use Rattle.std.proofs.Common.{◌≡◌, ℕ, ◌<◌, Bool, true, false, not, ◌&&◌, ◌||◌, List, [], ◌∷◌, ◌++◌, length, reverse, filter, cond, slice_index_or, refl, sym, ap, ap₂, ◌∙◌, subst}
+use Rattle.std.specs.List.{list_all}
 use Rattle.std.proofs.lemmas.List.{reverse-append}
 use Rattle.std.proofs.lemmas.List.Folds.{list_any-append}
 use Rattle.go_points.specs.declared.Colour.{Colour}

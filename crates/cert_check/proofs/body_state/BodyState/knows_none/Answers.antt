@@ -1,4 +1,4 @@
-use Rattle.std.proofs.Common.{rules, ◌≡◌, List, subst, sym, ap, not, ◌∙◌}
+use Rattle.std.proofs.Common.{List, ap, not, ◌∙◌}
 use Rattle.std.specs.List.{list_all}
 use Rattle.go_points.specs.declared.Cell.{Cell}
 use Rattle.target_game.specs.State.{Line}

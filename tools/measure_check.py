@@ -7,7 +7,7 @@
 Without files, each claim of those below goes to `PROGRAM check` on standard input, on a stack of 1,024 kB. Its answer has
 to be the one stated here; seconds of processor time and the greatest memory are printed, and those of PEER, another
 checker of the same format, where one is named. The claims: lines of play as deep as a claim may be, on 6 and 19 rows,
-right, wrong at the last line, and one deeper; a claim without lemmas, cut at 1 and at 100 MB and at its 10,000,001st node;
+right, wrong at the last line, and one deeper; a claim without lemmas, cut at 1, at 10 and at 100 MB and at its 10,000,001st node;
 1,000,000 listed colourings of 19 rows, and one more. With files, each a record and a claim, both programs judge each of
 them five times in turn: the least seconds of both, their ratio and the greatest memory are printed.
 """
@@ -282,7 +282,7 @@ def samples():
         deepest = last - 3 + 4
         yield "depth 2,001, %s" % name, lambda f=found, c=deeper: [f.record(), c], "rejected line %d: C15 limit\n" % deepest
     wide = Wide()
-    for size in (1_000_000, 100_000_000):
+    for size in (1_000_000, 10_000_000, 100_000_000):
         yield "no lemma, %d MB" % (size // 1_000_000), lambda s=size: iter_all([wide.record()], cut(wide.claim(), s)), "rejected line %d: C01 malformed\n" % (lines_of(cut(wide.claim(), size)) + 1)
     yield "10,000,001 nodes", lambda: iter_all([wide.record()], wide.claim()), "rejected line %d: C15 limit\n" % wide.limit_line()
     yield "1,000,000 listed colourings", lambda: listed_lines(MAX_LISTED), "wins Black\n"

@@ -76,7 +76,7 @@ sorted cs h = λ k d from low.
     let b = slice_index_or cs (k + 1) d in
     ap is_lt (order.antisymm b a ∙ ap ordering_reverse (next_above cs k d h low))
 
-any_at : (f : List Cell → Bool) (cs : List (List Cell)) (i : ℕ) (d : List Cell) → i < length cs → f (slice_index_or cs i d) ≡ true → list_any f cs ≡ true
+pub any_at : (f : List Cell → Bool) (cs : List (List Cell)) (i : ℕ) (d : List Cell) → i < length cs → f (slice_index_or cs i d) ≡ true → list_any f cs ≡ true
 any_at f [] i d low e = absurd (omega arith)
 any_at f (c ∷ cs) zero d low e = ap (λ b. b || list_any f cs) e
 any_at f (c ∷ cs) (suc i) d low e = go (f c) (any_at f cs i d (omega arith) e)

@@ -1,5 +1,5 @@
 -- A walk over a tree: what is left to be gathered after a turn, and that each turn may be made.
-use Rattle.std.proofs.Common.{◌≡◌, ℕ, ◌+◌, ◌*◌, ◌≤◌, ◌<◌, Bool, true, false, not, ◌&&◌, List, [], ◌∷◌, ◌++◌, length, map, filter, reverse, Option, Some, None, IsTrue, Bor, Vec, Box, Global, refl, sym, ap, ◌∙◌, subst, arith, append_assoc, append-nil, cond, lt-ltb, inl, inr}
+use Rattle.std.proofs.Common.{◌≡◌, ℕ, ◌+◌, ◌*◌, ◌≤◌, ◌<◌, Bool, true, false, not, ◌&&◌, List, [], ◌∷◌, ◌++◌, map, filter, Option, Some, None, IsTrue, Bor, Vec, Box, Global, refl, sym, ap, ◌∙◌, subst, arith, append_assoc, append-nil, cond, lt-ltb, inl, inr}
 use Rattle.std.specs.Prelude.{is_none}
 use Rattle.std.specs.List.{range_with_len}
 use Rattle.std.proofs.lemmas.List.{map-append, reverse-append}
@@ -26,7 +26,7 @@ use Rattle.cert_check.specs.declared.results.Later.{Later}
 use Rattle.cert_check.specs.Body.{Body, is_open, is_known, is_to_move, result_of}
 use Rattle.cert_check.specs.Validity.{FitsNode, FitsBranches}
 use Rattle.cert_check.specs.Lift.{reply_results, reply_results_below}
-use Rattle.cert_check.specs.Results.{Gathered, gathered, nothing, joined, of_node, of_branches, of_later, left_at, node_at, due_at, reversed, is_past, IsPlayable, ArePlayable, AreOpen}
+use Rattle.cert_check.specs.Results.{Gathered, gathered, nothing, joined, of_node, of_branches, of_later, left_at, node_at, due_at, reversed, is_past, IsPlayable, ArePlayable}
 use Rattle.cert_check.proofs.Members.{Member, and_first, and_both}
 use Rattle.cert_check.proofs.Game.{legal_at}
 use Rattle.cert_check.proofs.Soundness.{game-next}

@@ -1,5 +1,5 @@
 -- Colourings put in order, each once: what a sort and a drop of equals leave, and that it is known by what stands on it.
-use Rattle.std.proofs.Common.{◌≡◌, ℕ, suc, ◌*◌, Bool, true, false, ◌&&◌, ◌||◌, cond, List, [], ◌∷◌, length, IsTrue, Ordering, Less, Equal, Greater, refl, sym, ap, ◌∙◌, subst, inl, inr}
+use Rattle.std.proofs.Common.{◌≡◌, ℕ, Bool, true, false, ◌||◌, cond, List, [], ◌∷◌, length, IsTrue, Ordering, Less, Equal, Greater, refl, sym, ap, ◌∙◌, subst, inl, inr}
 use Rattle.std.specs.List.{dedup, dedup_from}
 use Rattle.std.specs.List.Sorted.{IsStrictlySortedBy, IsSorted, IsPermutation}
 use Rattle.std.specs.Ordering.{is_lt, ordering_reverse}
@@ -11,11 +11,12 @@ use Rattle.go_points.specs.Equal.{same_cells_eq}
 use Rattle.go_points.specs.Order.{text_order, same_cells_ties}
 use Rattle.go_turns.specs.History.{has_occurred}
 use Rattle.proof_cert.specs.Claim.{cells_before, is_ascending}
-use Rattle.cert_check.specs.Ascending.{IsBefore, Ascends}
-use Rattle.cert_check.proofs.Ascending.{order, AllAbove, above_all, none_among, above_from, same_from}
+use Rattle.cert_check.specs.Ascending.{Ascends}
+use Rattle.cert_check.specs.Known.{SameMembers}
+use Rattle.cert_check.proofs.Ascending.{order, above_all, none_among, above_from, same_from}
 use Rattle.cert_check.proofs.Lists.{before_is}
 use Rattle.cert_check.proofs.Members.{Member, and_first, and_second, and_both}
-use Rattle.cert_check.proofs.Game.{same_cells-eq, same_cells-refl, occurred-member, member-occurred}
+use Rattle.cert_check.proofs.Game.{same_cells-refl, occurred-member, member-occurred}
 
 -- WHAT A SORT AND A DROP OF EQUALS LEAVE
 
@@ -51,9 +52,6 @@ same_left cs xs ds moved is c = ap (λ (l : List (List Cell)). has_occurred l c)
     dropped (d ∷ l) = occurred_from d l c
 
 -- KNOWN BY WHAT STANDS ON IT
-
-abbrev pub SameMembers : List (List Cell) → List (List Cell) → Type 0
-SameMembers cs ds = (c : List Cell) → has_occurred cs c ≡ has_occurred ds c
 
 or_front : (a b : Bool) → a ≡ true → (a || b) ≡ true
 or_front true b e = refl

@@ -1,19 +1,15 @@
 //! What is fixed in a body of a claim: who wins there, the lemmas that it may use, and the results that it may make.
 
-ghost use Rattle.std.specs.Prelude.{◌≡◌, Some, not, option_map};
+ghost use Rattle.std.specs.Prelude.{◌≡◌, Some, option_map};
 ghost use Rattle.std.specs.List.{list_all};
 ghost use Rattle.cert_check.specs.Ascending.{Ascends};
 ghost use Rattle.cert_check.specs.Body.{is_known, is_listed, lemma_at, main_body, same_state};
 ghost use Rattle.cert_check.specs.Parts.{head_of};
 
+use crate::body_state::PlayState;
 use crate::listed::{all_stand_on, stands_on};
 use go_points::{Colour, Colouring};
-use go_turns::{PlayBoard, PlaySeen};
 use std::marker::Model;
-use target_game::State;
-
-/// A state of the problem.
-pub(crate) type PlayState = State<PlayBoard, PlaySeen>;
 
 /// What a lemma says before its tree.
 #[derive(Drop)]
@@ -111,18 +107,6 @@ pub(crate) fn all_known(state: &PlayState, list: &[Colouring]) -> bool
 {
     for colouring in list {
         if state.holds(colouring).is_none() {
-            return false;
-        }
-    }
-    true
-}
-
-/// Whether none of the colourings is known at the state.
-pub(crate) fn none_known(state: &PlayState, list: &[Colouring]) -> bool
-    ensures { result ≡ list_all (λ c. not (is_known state.now.state c)) list.now }
-{
-    for colouring in list {
-        if state.holds(colouring).is_some() {
             return false;
         }
     }

@@ -5,7 +5,7 @@ ghost use Rattle.go_points.specs.declared.Turn.TheVariants.{At};
 ghost use Rattle.go_points.specs.Ply.{ply_of};
 ghost use Rattle.target_game.specs.Legal.{legal};
 
-use crate::body::PlayState;
+use crate::body_state::PlayState;
 use crate::tests::judged;
 use crate::{MAX_DEPTH, Reject, Why};
 use go_points::{Colour, Colouring, Point, PointSet, Size, Turn, to_sgf};

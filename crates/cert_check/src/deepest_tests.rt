@@ -1,6 +1,6 @@
 //! Claims as deep as a claim may be, right and wrong: black could take a stone at any time, and plays elsewhere first.
 
-use crate::body::PlayState;
+use crate::body_state::PlayState;
 use crate::deep_tests::{add_count, add_line, make};
 use crate::tests::judged;
 use crate::{Reject, Why};

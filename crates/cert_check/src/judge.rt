@@ -19,7 +19,8 @@ ghost use Rattle.cert_check.specs.declared.judge.Within.TheVariants.{Lemma, Main
 ghost use Rattle.cert_check.specs.declared.open_nodes.Due.TheVariants.{Node, Reply};
 ghost use Rattle.cert_check.specs.declared.reject.Why.TheVariants.{Memory};
 
-use crate::body::{Body, Head, PlayState};
+use crate::body::{Body, Head};
+use crate::body_state::BodyState;
 use crate::limits::{MAX_LEMMAS, MAX_LISTED, MAX_NODES};
 use crate::lines::{
     NodeLine, Opening, had_of, header_of, is_after, is_end, line_fits, listed_of, node_of,
@@ -32,7 +33,7 @@ use go_points::{Colour, Colouring, Turn};
 use proof_cert::{Line, Version};
 use std::alloc::{AllocError, Global};
 use std::mem;
-use target_game::{AtFault, Problem, State};
+use target_game::{AtFault, Problem};
 
 /// Whose body is judged.
 #[derive(Clone, Copy, Debug, PartialEq, Eq)]
@@ -71,7 +72,7 @@ pub(crate) struct Judge<'p> {
     root: Colouring,
     had: Vec<Colouring>,
     list: Vec<Colouring>,
-    state: PlayState,
+    state: BodyState,
     open_nodes: ArrayVec<Open, MOST_OPEN>,
 }
 
@@ -82,7 +83,7 @@ impl<'p> Judge<'p> {
         ensures machine { IfOk result (λ j. machine_of j ≡ begun) }
         ensures ready { IfOk result (λ j. IsReady j) }
     {
-        let state = State::of(alloc, problem)?;
+        let state = BodyState::of(alloc, problem)?;
         Ok(Judge {
             alloc,
             problem,
@@ -135,15 +136,6 @@ impl<'p> Judge<'p> {
         Ok(())
     }
 
-    /// A body begins at this state.
-    fn enter(&mut self, state: PlayState)
-        ensures rest { self.new ≡ record self.old { state = state; open_nodes = self.new.open_nodes } }
-        ensures closed { self.new.open_nodes.items ≡ [] }
-    {
-        self.state = state;
-        self.open_nodes.clear();
-    }
-
     /// A lemma's first line.
     fn lemma(&mut self, mover: Colour, passes: u8, root: Colouring) -> Result<(), Why>
         requires size { side_of root ≡ self.old.problem.now.game.size }
@@ -155,18 +147,18 @@ impl<'p> Judge<'p> {
         ensures ok { OnOk result (GoesOn self.old self.new (opening_taken self.old.problem.now (machine_of self.old) (heading_of self.old) (lemma_line mover passes root))) }
         ensures err { IfErr result (λ why. StopsFor self.old (opening_taken self.old.problem.now (machine_of self.old) (heading_of self.old) (lemma_line mover passes root)) why) }
     {
-        let state = match begin(
+        if let Err(why) = begin(
             self.alloc,
             self.problem,
             self.heads.as_slice(),
+            &mut self.state,
             mover,
             passes,
             &root,
         ) {
-            Ok(state) => state,
-            Err(why) => return Err(why),
-        };
-        self.enter(state);
+            return Err(why);
+        }
+        self.open_nodes.clear();
         self.mover = mover;
         self.passes = passes;
         self.root = root;
@@ -191,10 +183,11 @@ impl<'p> Judge<'p> {
         ensures ok { OnOk result (GoesOn self.old self.new (opening_taken self.old.problem.now (machine_of self.old) (heading_of self.old) main_line)) }
         ensures err { IfErr result (λ why. StopsFor self.old (opening_taken self.old.problem.now (machine_of self.old) (heading_of self.old) main_line) why) }
     {
-        let Ok(state) = State::of(self.alloc, self.problem) else {
+        let Ok(state) = BodyState::of(self.alloc, self.problem) else {
             return Err(Why::Memory);
         };
-        self.enter(state);
+        self.state = state;
+        self.open_nodes.clear();
         self.phase = Phase::Body {
             within: Within::Main,
             due: Due::Node,
@@ -257,7 +250,7 @@ impl<'p> Judge<'p> {
         ensures ready { OnOk result (AwaitsList self.new) }
         ensures err { IfErr result (λ why. why ≡ Memory) }
     {
-        let made = State::at_with(
+        let made = BodyState::at_with(
             self.alloc,
             self.problem,
             &self.root,
@@ -571,18 +564,19 @@ impl<'p> Judge<'p> {
     }
 }
 
-/// The state where a lemma begins, behind so many lemmas.
+/// A lemma begins, behind so many lemmas.
 fn begin(
     alloc: Global,
     problem: &Problem,
     heads: &[Head],
+    state: &mut BodyState,
     mover: Colour,
     passes: u8,
     root: &Colouring,
-) -> Result<PlayState, Why>
+) -> Result<(), Why>
     requires size { side_of root.now ≡ problem.now.game.size }
     requires few { passes ≤ 1 }
-    ensures state { IfOk result (λ s. s ≡ record { state = state_alone problem.now.game root.now mover passes; before = [] }) }
+    ensures state { OnOk result (state.new ≡ record { state = state_alone problem.now.game root.now mover passes; before = [] }) }
     ensures ok { OnOk result (lemma_fault problem.now.game heads.now root.now ≡ None) }
     ensures err { IfErr result (λ why. (p : SpecWhy) → why_value problem.now.game.size why ≡ Some p → lemma_fault problem.now.game heads.now root.now ≡ Some p) }
     ensures judged { IfErr result (λ why. IsJudged why) }
@@ -590,8 +584,8 @@ fn begin(
     if heads.len() >= MAX_LEMMAS {
         return Err(Why::Limit);
     }
-    match State::at(alloc, problem, root, mover, u64::from(passes)) {
-        Ok(state) => Ok(state),
+    match state.begin(alloc, problem, root, mover, u64::from(passes)) {
+        Ok(()) => Ok(()),
         Err(AtFault::NoLiberty { .. }) => Err(Why::RootWithoutLiberty),
         Err(AtFault::Memory) => Err(Why::Memory),
     }

@@ -13,9 +13,10 @@ ghost use Rattle.cert_check.specs.Machine.{owing};
 ghost use Rattle.cert_check.specs.Parts.{IsJudged, node_value};
 ghost use Rattle.cert_check.specs.Stage.{why_value};
 
-use crate::body::{Body, PlayState};
+use crate::body::Body;
+use crate::body_state::BodyState;
 use crate::lines::NodeLine;
-use crate::questions::{all_fault, play_fault, use_fault, won_fault};
+use crate::questions::{all_fault, make_turn, use_fault, won_fault};
 use crate::reject::Why;
 use arrayvec::ArrayVec;
 use go_points::{Size, Turn};
@@ -39,7 +40,7 @@ pub(crate) enum Due {
 
 /// Takes turns back up to a node that has a reply to come, and says where that is looked for; up to the body's first state, where there is none.
 pub(crate) fn unwind(
-    state: &mut PlayState,
+    state: &mut BodyState,
     open_nodes: &mut ArrayVec<Open, MOST_OPEN>,
 ) -> Option<u16>
     requires { Follows state.old.state.game state.old.before (reverse open_nodes.old.items) }
@@ -63,7 +64,7 @@ pub(crate) fn unwind(
 
 /// Makes a turn, below a node whose next reply is looked for there.
 pub(crate) fn go_down(
-    state: &mut PlayState,
+    state: &mut BodyState,
     open_nodes: &mut ArrayVec<Open, MOST_OPEN>,
     turn: Turn,
     place: Option<u16>,
@@ -100,7 +101,7 @@ fn place_behind(size: Size, turn: Turn) -> Option<u16>
 
 /// The line of a reply, where the next one is looked for at this place.
 pub(crate) fn take_reply(
-    state: &mut PlayState,
+    state: &mut BodyState,
     open_nodes: &mut ArrayVec<Open, MOST_OPEN>,
     place: u16,
     turn: Turn,
@@ -116,11 +117,11 @@ pub(crate) fn take_reply(
     ensures err { IfErr result (λ why. (p : SpecWhy) → why_value state.old.state.game.size why ≡ Some p → reply_fault (turn_from state.old.state place) (ply_of state.old.state.game.size turn) ≡ Some p) }
     ensures judged { IfErr result (λ why. IsJudged why) }
 {
-    let due = state.next_turn(place as usize);
+    let due = state.play().next_turn(place as usize);
     if turn != due {
         return Err(Why::RepliesDiffer { due });
     }
-    let behind = place_behind(state.size(), turn);
+    let behind = place_behind(state.play().size(), turn);
     match go_down(state, open_nodes, turn, behind) {
         Ok(()) => Ok(()),
         Err(_) => Err(Why::Memory),
@@ -130,7 +131,7 @@ pub(crate) fn take_reply(
 /// The line `won`.
 fn take_won(
     body: &Body<'_>,
-    state: &mut PlayState,
+    state: &mut BodyState,
     open_nodes: &mut ArrayVec<Open, MOST_OPEN>,
 ) -> Result<Due, Why>
     requires follows { Follows state.old.state.game state.old.before (reverse open_nodes.old.items) }
@@ -144,7 +145,7 @@ fn take_won(
     ensures err { IfErr result (λ why. (p : SpecWhy) → why_value state.old.state.game.size why ≡ Some p → node_fault body.now state.old.state (won_line) ≡ Some p) }
     ensures judged { IfErr result (λ why. IsJudged why) }
 {
-    if let Some(why) = won_fault(body, state) {
+    if let Some(why) = won_fault(body, state.play()) {
         return Err(why);
     }
     Ok(Due::Reply(unwind(state, open_nodes)))
@@ -153,7 +154,7 @@ fn take_won(
 /// The line `use`.
 fn take_use(
     body: &Body<'_>,
-    state: &mut PlayState,
+    state: &mut BodyState,
     open_nodes: &mut ArrayVec<Open, MOST_OPEN>,
     lemma: u32,
 ) -> Result<Due, Why>
@@ -177,7 +178,7 @@ fn take_use(
 /// The line `play`.
 fn take_play(
     body: &Body<'_>,
-    state: &mut PlayState,
+    state: &mut BodyState,
     open_nodes: &mut ArrayVec<Open, MOST_OPEN>,
     turn: Turn,
 ) -> Result<Due, Why>
@@ -192,20 +193,20 @@ fn take_play(
     ensures err { IfErr result (λ why. (p : SpecWhy) → why_value state.old.state.game.size why ≡ Some p → node_fault body.now state.old.state (play_line (ply_of state.old.state.game.size turn)) ≡ Some p) }
     ensures judged { IfErr result (λ why. IsJudged why) }
 {
-    let made = turn;
-    if let Some(why) = play_fault(body, state, made) {
+    let Ok(fault) = make_turn(body, state, turn) else {
+        return Err(Why::Memory);
+    };
+    if let Some(why) = fault {
         return Err(why);
     }
-    match go_down(state, open_nodes, turn, None) {
-        Ok(()) => Ok(Due::Node),
-        Err(_) => Err(Why::Memory),
-    }
+    open_nodes.push(Open { next: None });
+    Ok(Due::Node)
 }
 
 /// The line `all`.
 fn take_all(
     body: &Body<'_>,
-    state: &mut PlayState,
+    state: &mut BodyState,
     open_nodes: &mut ArrayVec<Open, MOST_OPEN>,
     replies: u32,
 ) -> Result<Due, Why>
@@ -220,7 +221,7 @@ fn take_all(
     ensures err { IfErr result (λ why. (p : SpecWhy) → why_value state.old.state.game.size why ≡ Some p → node_fault body.now state.old.state (all_line replies) ≡ Some p) }
     ensures judged { IfErr result (λ why. IsJudged why) }
 {
-    if let Some(why) = all_fault(body, state, replies) {
+    if let Some(why) = all_fault(body, state.play(), replies) {
         return Err(why);
     }
     Ok(Due::Reply(Some(0)))
@@ -229,7 +230,7 @@ fn take_all(
 /// The line of a node at the present state, and what is due behind it.
 pub(crate) fn take_node(
     body: &Body<'_>,
-    state: &mut PlayState,
+    state: &mut BodyState,
     open_nodes: &mut ArrayVec<Open, MOST_OPEN>,
     node: NodeLine,
 ) -> Result<Due, Why>

@@ -9,7 +9,7 @@ ghost use Rattle.cert_check.specs.Body.{is_open, result_of};
 ghost use Rattle.cert_check.specs.Lift.{play_results, reply_results};
 ghost use Rattle.cert_check.specs.Results.{ArePlayable, AreOpen, IsPlayable, IsPlayablePart, due_at, gathered, is_past, joined, left_at, reversed};
 
-use crate::body::PlayState;
+use crate::body_state::PlayState;
 use crate::held_claim::Checked;
 use go_points::{Colouring, Turn};
 use proof_cert::Node;

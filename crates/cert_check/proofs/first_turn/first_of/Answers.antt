@@ -1,4 +1,4 @@
-use Rattle.std.proofs.Common.{◌≡◌, ◌≤◌, ◌<◌, ◌∙◌, sym, inl, inr, arith}
+use Rattle.std.proofs.Common.{◌≤◌, ◌∙◌, sym, inl, inr, arith}
 use Rattle.cert_check.proofs.FirstNodes.{first_won, first_all, first_play, first_no_use, first_use}
 use Rattle.cert_check.proofs.first_turn.first_of.Goals.{then-number-eq0-via-then-number-eq0, then-number-eq0-via-else-number-eq0+then-number-below}
 use Rattle.cert_check.proofs.first_turn.first_of.Goals as goal

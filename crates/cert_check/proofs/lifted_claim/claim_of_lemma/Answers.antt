@@ -1,4 +1,4 @@
-use Rattle.std.proofs.Common.{◌≡◌, List, ◌++◌, [], ◌∷◌, ap, ◌∙◌, refl, subst}
+use Rattle.std.proofs.Common.{◌≡◌, List, ◌++◌, [], ◌∷◌, ap, ◌∙◌, refl}
 use Rattle.target_game.specs.State.{GameProblem, start}
 use Rattle.proof_cert.specs.declared.certificate.Certificate.{Certificate}
 use Rattle.proof_cert.specs.declared.certificate.Lemma.{Lemma}

@@ -1,15 +1,15 @@
-use Rattle.std.proofs.Common.{◌≡◌, ℕ, ◌+◌, ◌<◌, ◌≤◌, ◌⊎◌, inl, inr, List, [], map, filter, length, sym, ap, ◌∙◌, subst, rules, arith}
+use Rattle.std.proofs.Common.{◌≡◌, ℕ, ◌+◌, ◌≤◌, ◌⊎◌, inl, inr, List, [], map, filter, length, sym, ap, ◌∙◌, subst, rules, arith}
 use Rattle.go_points.specs.declared.TheConstants.{MAX_SIZE}
 use Rattle.go_points.specs.declared.Cell.{Cell}
 use Rattle.go_turns.specs.History.{has_occurred}
 use Rattle.target_game.specs.Laws.{IsProblem}
 use Rattle.target_game.specs.State.{GameProblem, start}
-use Rattle.proof_cert.specs.Claim.{Claim, Lemma, Node, node_count, max_nodes, max_listed}
+use Rattle.proof_cert.specs.Claim.{Claim, node_count}
 use Rattle.proof_cert.specs.Certificate.{claim_of, lemma_of, node_of}
 use Rattle.cert_check.specs.Checked.{CheckedClaim, IsChecked}
 use Rattle.cert_check.specs.Lift.{IsLifted, play_results, reply_results}
 use Rattle.cert_check.specs.Results.{is_past, claim_with}
-use Rattle.cert_check.proofs.InOrder.{SameMembers}
+use Rattle.cert_check.specs.Known.{SameMembers}
 use Rattle.cert_check.proofs.Lifted.{empty_list, over_cases, under_both, past_nodes, past_listed, lifted, lifted_checked}
 use Rattle.cert_check.proofs.lifted_claim.lift.Goals as goal
 

@@ -1,8 +1,7 @@
-use Rattle.std.proofs.Common.{◌≡◌, ℕ, ◌+◌, ◌≤◌, Fits, w32, List, [], Option, Some, Bor, sym, ap, ◌∙◌, subst, rules, arith}
-use Rattle.go_points.specs.declared.Cell.{Cell}
+use Rattle.std.proofs.Common.{◌≡◌, ℕ, ◌+◌, ◌≤◌, List, [], Option, Some, Bor, sym, ap, ◌∙◌, subst, rules, arith}
 use Rattle.target_game.specs.State.{GameProblem, GameState, Line, start}
 use Rattle.proof_cert.specs.declared.certificate.Certificate.{Certificate}
-use Rattle.proof_cert.specs.Claim.{Claim, heads_of, node_count, max_nodes}
+use Rattle.proof_cert.specs.Claim.{Claim, heads_of, max_nodes}
 use Rattle.proof_cert.specs.Certificate.{claim_of, node_of}
 use Rattle.proof_cert.specs.declared.certificate.Node.{Node}
 use Rattle.cert_check.specs.declared.results.Later.{Later}

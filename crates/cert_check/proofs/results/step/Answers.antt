@@ -1,13 +1,13 @@
-use Rattle.std.proofs.Common.{◌≡◌, ℕ, ◌++◌, [], ◌∷◌, List, refl, sym, ap, ◌∙◌, subst, rules}
+use Rattle.std.proofs.Common.{◌≡◌, ℕ, ◌++◌, [], List, refl, ap, ◌∙◌, rules}
 use Rattle.go_points.specs.declared.Cell.{Cell}
 use Rattle.go_points.specs.Ply.{Ply, ply_of}
-use Rattle.target_game.specs.State.{GameState, Line}
+use Rattle.target_game.specs.State.{Line}
 use Rattle.proof_cert.specs.Claim.{won, by_lemma}
 use Rattle.proof_cert.specs.Certificate.{node_of, replies_of}
 use Rattle.proof_cert.proofs.Certificates.{node_of_won, node_of_use, node_of_play, node_of_all}
 use Rattle.cert_check.specs.Results.{gathered, joined, node_at}
 use Rattle.cert_check.proofs.Steps.{if_ok_map}
-use Rattle.cert_check.proofs.Gathering.{line_with, own_plays, play_made, all_asked, leaf_asked, pass_gives, move_gives, playable_after, playable_play, playable_all}
+use Rattle.cert_check.proofs.Gathering.{own_plays, play_made, all_asked, leaf_asked, pass_gives, move_gives, playable_after, playable_play, playable_all}
 use Rattle.cert_check.proofs.results.step.Goals.{in-At+in_ok-push-in-At, in-Pass}
 use Rattle.cert_check.proofs.results.step.Goals as goal
 

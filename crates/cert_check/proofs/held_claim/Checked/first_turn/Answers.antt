@@ -1,7 +1,6 @@
-use Rattle.std.proofs.Common.{◌≡◌, ◌<◌, ℕ, List, [], length, map, option_map, sym, ap, ◌∙◌, subst}
-use Rattle.go_points.specs.declared.Turn.{Turn}
-use Rattle.go_points.specs.Ply.{Ply, ply_of}
-use Rattle.target_game.specs.State.{GameState, GameProblem, start}
+use Rattle.std.proofs.Common.{◌≡◌, ◌<◌, List, [], length, map, option_map, ap, ◌∙◌, subst}
+use Rattle.go_points.specs.Ply.{ply_of}
+use Rattle.target_game.specs.State.{GameProblem, start}
 use Rattle.proof_cert.specs.Claim.{Claim}
 use Rattle.proof_cert.specs.Certificate.{claim_of, lemma_of, node_of}
 use Rattle.proof_cert.specs.declared.certificate.Certificate.{Certificate}

@@ -3,7 +3,7 @@ use Rattle.go_points.specs.declared.Cell.{Cell}
 use Rattle.target_game.proofs.Loops.{all_more, all_no, all_yes}
 use Rattle.cert_check.specs.Body.{is_known}
 use Rattle.cert_check.proofs.Lists.{known_by}
-use Rattle.cert_check.proofs.body.none_known.Goals as goal
+use Rattle.cert_check.proofs.body_state.none_known.Goals as goal
 
 pub loop-colouring-init : goal.loop-colouring-init
 loop-colouring-init c = refl

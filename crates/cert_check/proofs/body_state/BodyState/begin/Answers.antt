@@ -1,0 +1,16 @@
+use Rattle.std.proofs.Common.{rules, ◌≡◌, List, [], ◌∷◌, reverse, subst, sym}
+use Rattle.go_points.specs.declared.Cell.{Cell}
+use Rattle.target_game.specs.State.{Game, Line, state_alone}
+use Rattle.cert_check.specs.Known.{AreKnown}
+use Rattle.cert_check.proofs.Known.{alone_known}
+use Rattle.cert_check.proofs.body_state.BodyState.begin.Goals as goal
+
+pub invariant_of-self : goal.invariant_of-self
+invariant_of-self c =
+    let g : Game = c.args.problem.now.game in
+    let root : List Cell = c.args.root.now in
+    let cs : List (List Cell) = c.push.new.self.items in
+    let one : cs ≡ root ∷ [] = search rules in
+    let is : c.in-Ok.state ≡ record { state = state_alone g root c.args.mover c.args.passes; before = [] } = c.in-Ok.ensures.ok in
+    subst (λ (l : Line). AreKnown (reverse cs) l.state l.before) (sym is)
+    (subst (λ (ds : List (List Cell)). AreKnown (reverse ds) (state_alone g root c.args.mover c.args.passes) []) (sym one) (alone_known g root c.args.mover c.args.passes))

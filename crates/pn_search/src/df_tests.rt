@@ -94,6 +94,7 @@ const ALL: Choice = Choice {
     pasts: Pasts::Needed,
     least: 0,
 };
+
 const WITHOUT_PASTS: Choice = Choice {
     pasts: Pasts::None,
     least: 0,
@@ -376,21 +377,27 @@ fn lemmas_that_need_a_past(rt: HostRuntime) {
     let texts = ["O....X.XX", "O........"];
     let pair = "play pass\nall 1\nreply pass\nwon\n";
     let three = |first: &str, second: &str, third: &str, fourth: &str, fifth: &str, sixth: &str| {
-        format!(in alloc; "main\nall 4\n\
+        format!(in alloc;
+            "main\nall 4\n\
             reply cb\nplay pass\nall 3\nreply bc\n{first}reply cc\n{second}reply pass\nwon\n\
             reply bc\nplay pass\nall 3\nreply cb\n{third}reply cc\n{fourth}reply pass\nwon\n\
             reply cc\nplay pass\nall 3\nreply cb\n{fifth}reply bc\n{sixth}reply pass\nwon\n\
-            reply pass\nplay pass\nwon\nend\n")
+            reply pass\nplay pass\nwon\nend\n"
+        )
     };
     let tree = three(pair, pair, pair, pair, pair, pair).expect(&rt, "memory");
     let plain = format!(in alloc; "tsucert 1 3 W\n{tree}").expect(&rt, "memory");
-    let main = three("use 1\n", "use 2\n", "use 1\n", "use 3\n", "use 2\n", "use 3\n").expect(
-        &rt, "memory",
-    );
-    let expected = format!(in alloc; "tsucert 2 3 W\n\
+    let main = three(
+        "use 1\n", "use 2\n", "use 1\n", "use 3\n", "use 2\n", "use 3\n",
+    )
+    .expect(&rt, "memory");
+    let expected = format!(in alloc;
+        "tsucert 2 3 W\n\
         lemma W 0 O....X.X.\nhad O....X.XX\n{pair}end\n\
         lemma W 0 O....X..X\nhad O....X.XX\n{pair}end\n\
-        lemma W 0 O......XX\nhad O....X.XX\n{pair}end\n{main}").expect(&rt, "memory");
+        lemma W 0 O......XX\nhad O....X.XX\n{pair}end\n{main}"
+    )
+    .expect(&rt, "memory");
     let all = problem(&rt, alloc, 3, &texts, Colour::Black, "aa", "cbbccc");
     let text = plain.as_bytes();
     becomes(&rt, alloc, all, ALL, text, expected.as_bytes());
@@ -411,16 +418,21 @@ fn needs_what_was_played(problem: &Problem, claim: &Certificate) -> bool {
     false
 }
 
+// White has to live in ten points on the edge, and does not. Where Black takes a ko on them, the proof rests on the position
+// before, which White may not bring back.
 #[test]
 fn a_lemma_may_need_what_was_played_above_it(rt: HostRuntime) {
     let alloc = rt.alloc();
-    let corner = six_points(&rt, alloc, Colour::Black);
-    let shared = found(&rt, alloc, &corner, 10_000);
-    match claim_with_lemmas(alloc, &corner, &shared, ALL) {
+    let texts = [".O...X.....OOOXXOXXXXXX............."];
+    let region = "aabacadaeaabbbcbdbeb";
+    let edge = problem(&rt, alloc, 6, &texts, Colour::White, "acbc", region);
+    let shared = found(&rt, alloc, &edge, 10_000);
+    assert_eq!(&rt; shared.winner, Colour::Black);
+    match claim_with_lemmas(alloc, &edge, &shared, ALL) {
         Ok(claim) => {
             assert_eq!(&rt; claim.version, Version::Two);
-            assert!(&rt; needs_what_was_played(&corner, &claim));
-            assert!(&rt; accepted(&rt, alloc, &corner, claim) > 0);
+            assert!(&rt; needs_what_was_played(&edge, &claim));
+            assert!(&rt; accepted(&rt, alloc, &edge, claim) > 0);
         }
         Err(_) => assert!(&rt; false, "a claim with lemmas"),
     }

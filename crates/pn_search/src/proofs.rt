@@ -139,8 +139,7 @@ impl Proofs {
 
     /// Whether the proof holds where this has occurred.
     fn holds(&self, proof: Proof, past: &Past) -> bool {
-        past.has_all(self.had(proof))
-            && !past.has_any(part(self.positions.as_slice(), proof.not))
+        past.has_all(self.had(proof)) && !past.has_any(part(self.positions.as_slice(), proof.not))
     }
 
     /// Whether the proof of this number holds where this has occurred.

@@ -129,27 +129,45 @@ fn writes_a_long_line(rt: HostRuntime) -> Result<(), Fail> {
     Ok(())
 }
 
-// The lemma answers a move at bc too, which repeats what stood there before: the tree leaves it out.
-#[test]
-fn leaves_out_a_barred_reply(rt: HostRuntime) -> Result<(), Fail> {
-    let alloc = rt.alloc();
-    let claim =
-        b"tsucert 1 3 W\nlemma B 0 O........\nall 2\nreply bc\nplay pass\nall 1\nreply pass\nwon\nreply pass\nplay pass\nwon\nend\nmain\nuse 1\nend\n";
-    let checked = checked_claim(
-        alloc,
-        &rt,
-        b"(;SZ[3]AB[bc]AW[aa];AE[bc]PL[B]TR[aa]SQ[bc])",
-        claim,
-    )?;
+// The claim's answer tree for the record has two turns, and this is the record with it.
+fn expands_to_two_turns(
+    alloc: Global,
+    rt: &impl Abort,
+    record: &[u8],
+    claim: &[u8],
+    solution: &[u8],
+) -> Result<(), Fail> {
+    let checked = checked_claim(alloc, rt, record, claim)?;
     let Ok(answer) = expand(alloc, &checked, 2) else {
         panic!(rt; "a tree of two turns");
     };
     let mut text = Vec::new(alloc);
     write_tree(&to_sgf(alloc, &checked, &answer)?, &mut text)?;
-    assert_eq!(rt;
-        text.as_slice(),
-        b"(;FF[4]GM[1]SZ[3]AB[bc]AW[aa];AE[bc];PL[B]TR[aa]SQ[bc]C[White wins];B[];W[])".as_slice()
-    );
+    assert_eq!(rt; text.as_slice(), solution);
     assert_eq!(rt; expand(alloc, &checked, 1).err(), Some(Expand::TooLarge));
     Ok(())
+}
+
+// The lemma answers a move at bc too, which repeats what stood there before: the tree leaves it out.
+#[test]
+fn leaves_out_a_barred_reply(rt: HostRuntime) -> Result<(), Fail> {
+    expands_to_two_turns(
+        rt.alloc(),
+        &rt,
+        b"(;SZ[3]AB[bc]AW[aa];AE[bc]PL[B]TR[aa]SQ[bc])",
+        b"tsucert 1 3 W\nlemma B 0 O........\nall 2\nreply bc\nplay pass\nall 1\nreply pass\nwon\nreply pass\nplay pass\nwon\nend\nmain\nuse 1\nend\n",
+        b"(;FF[4]GM[1]SZ[3]AB[bc]AW[aa];AE[bc];PL[B]TR[aa]SQ[bc]C[White wins];B[];W[])",
+    )
+}
+
+// White has just taken the ko. The lemma has no answer to a move at ba, since it needs a past that bars it.
+#[test]
+fn leaves_out_a_reply_that_a_lemma_s_past_bars(rt: HostRuntime) -> Result<(), Fail> {
+    expands_to_two_turns(
+        rt.alloc(),
+        &rt,
+        b"(;FF[4]GM[1]SZ[3]AB[ba][ab]AW[ca][bb]PL[W];W[aa]TR[aa]SQ[ba])",
+        b"tsucert 2 3 W\nlemma B 0 O.OXO....\nhad .XOXO....\nall 1\nreply pass\nplay pass\nwon\nend\nmain\nuse 1\nend\n",
+        b"(;FF[4]GM[1]SZ[3]AB[ba][ab]AW[ca][bb];AW[aa]AE[ba];PL[B]TR[aa]SQ[ba]C[White wins];B[];W[])",
+    )
 }

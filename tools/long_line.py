@@ -1,7 +1,7 @@
 #!/usr/bin/env python3
 """Writes a record of one long line of play on 19 rows that repeats nothing.
 
-Thirteen ko shapes: Black's capture sets a bit, White's clears it, and a Gray code sets and clears them so that each position
+Thirteen ko shapes, or seventeen where a longer line wants them: Black's capture sets a bit, White's clears it, and a Gray code sets and clears them so that each position
 stands once. Where the other side would be to move, it passes.
 
     tools/long_line.py TURNS audit   a problem and TURNS turns after it, as `tsumego audit` reads them
@@ -9,7 +9,7 @@ stands once. Where the other side would be to move, it passes.
 """
 import sys
 
-SHAPES = 13
+FEW_TURNS = 10_000
 
 
 def name(column, row):
@@ -22,7 +22,8 @@ def places(points):
 
 def main():
     turns, is_audit = int(sys.argv[1]), sys.argv[2] == "audit"
-    corners = [(number % 4 * 4, number // 4 * 3) for number in range(SHAPES)]
+    shapes = 13 if turns <= FEW_TURNS else 17
+    corners = [(number % 4 * 4, number // 4 * 3) for number in range(shapes)]
     black = [(x + c, y + r) for x, y in corners for c, r in ((1, 0), (0, 1), (1, 2))]
     white = [(x + c, y + r) for x, y in corners for c, r in ((2, 0), (1, 1), (3, 1), (2, 2))]
     sets, clears = [(x + 2, y + 1) for x, y in corners], [(x + 1, y + 1) for x, y in corners]
@@ -30,7 +31,7 @@ def main():
     while len(line) < turns:
         step += 1
         bit = (step & -step).bit_length() - 1
-        if bit >= SHAPES:
+        if bit >= shapes:
             sys.exit(f"at most {len(line)} turns")
         is_set = bits >> bit & 1
         if len(line) % 2 != is_set:

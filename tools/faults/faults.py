@@ -176,8 +176,9 @@ def fits(program, words, text, fault, own, got):
     return fits_device(words, kind, int(times), own, got)
 
 
-def each_call(program, words, text, fault):
-    """Runs with the fault at the first call, the second, and so on. How many runs met it, and those that do not fit."""
+def each_call(program, words, text, fault, fits=fits, told=lambda got: None):
+    """Runs with the fault at the first call, the second, and so on. How many runs met it, and those that do not fit; each run
+    that met it is told."""
     own = program.answer(words, text)
     findings, call = [], 1
     while True:
@@ -187,6 +188,7 @@ def each_call(program, words, text, fault):
             if got != own:
                 findings.append((name, got))
             return call - 1, findings
+        told(got)
         if not fits(program, words, text, name, own, got):
             findings.append((name, got))
         call += 1
@@ -198,12 +200,17 @@ def often(program, words, text, fault):
     return 1, [(fault, got)] if bad else []
 
 
+def build(folder):
+    """The library that is laid in front of the C library."""
+    library = os.path.join(folder, "faults.so")
+    subprocess.run([os.environ.get("CC", "cc"), "-O2", "-shared", "-fPIC", "-o", library, str(HERE / "faults.c")], check=True)
+    return library
+
+
 def main():
     path = os.path.abspath(sys.argv[1] if len(sys.argv) > 1 else "crates/tsumego/out/tsumego")
     with tempfile.TemporaryDirectory() as folder:
-        library = os.path.join(folder, "faults.so")
-        subprocess.run([os.environ.get("CC", "cc"), "-O2", "-shared", "-fPIC", "-o", library, str(HERE / "faults.c")], check=True)
-        program = Program(path, library)
+        program = Program(path, build(folder))
         jobs = []
         for name, words, text in RUNS:
             for fault in MEMORY + DEVICES:
@@ -227,4 +234,5 @@ def main():
     sys.exit(1 if bad else 0)
 
 
-main()
+if __name__ == "__main__":
+    main()

@@ -109,8 +109,10 @@ def winner(program, words, input_text, output):
     return text if status == 0 else None
 
 
-def is_unknown(text):
-    return re.fullmatch(rb"unknown: memory, \d+ steps\n", text) is not None
+def is_unknown(words, text):
+    """A search for which memory was refused; or one that went on without what the table had no memory for, and used up its steps."""
+    steps = words[words.index("--steps") + 1] if "--steps" in words else "1000000"
+    return re.fullmatch(rb"unknown: memory, \d+ steps\n", text) is not None or text == f"unknown: step budget, {steps} steps\n".encode()
 
 
 def replies_of(output):
@@ -149,7 +151,7 @@ def fits_memory(program, words, text, own, got):
     if words[0] != "solve":
         return False
     if got[0] == 1:
-        return is_unknown(got[1])
+        return is_unknown(words, got[1])
     if "--lift" in words and b"\nlemma " not in got[1]:
         return False
     return got[0] == 0 and own[0] == 0 and winner(program, words, text, got[1]) == winner(program, words, text, own[1])

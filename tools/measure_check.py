@@ -9,7 +9,7 @@ to be the one stated here; seconds of processor time and the greatest memory are
 checker of the same format, where one is named. The claims: lines of play as deep as a claim may be, on 6 and 19 rows,
 right, wrong at the last line, and one deeper; a claim without lemmas, cut at 1, at 10 and at 100 MB and at its 10,000,001st node;
 1,000,000 listed colourings of 19 rows, and one more. With files, each a record and a claim, both programs judge each of
-them five times in turn: the least seconds of both, their ratio and the greatest memory are printed.
+them nine times in turn: the least seconds of both, their ratio and the greatest memory are printed.
 """
 import os
 import resource
@@ -313,7 +313,7 @@ def compare(program, peer, path):
         text = file.read()
     words = [[program, "check"], [peer]]
     runs = [[], []]
-    for _ in range(5):
+    for _ in range(9):
         for number in (0, 1):
             runs[number].append(judge(words[number], [text]))
     if len({said for run in runs for said, _ in run}) > 1:

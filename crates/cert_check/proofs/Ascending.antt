@@ -1,12 +1,11 @@
 -- Lists of colourings that ascend: looking one up by halving, and whether one list stands on another by one pass over both.
-use Rattle.std.proofs.Common.{◌≡◌, ℕ, zero, suc, ◌+◌, ◌<◌, ◌≤◌, ◌⊎◌, inl, inr, Bool, true, false, ◌&&◌, ◌||◌, List, [], ◌∷◌, ◌++◌, drop, length, get_or, slice_index_or, Result, Ok, Err, IfSome, is_ok, Ordering, Less, Equal, Greater, nat_eq, eqb-true, refl, sym, ap, ◌∙◌, subst, arith}
+use Rattle.std.proofs.Common.{◌≡◌, ℕ, zero, suc, ◌+◌, ◌<◌, ◌≤◌, ◌⊎◌, inl, inr, Bool, true, false, ◌&&◌, ◌||◌, List, [], ◌∷◌, ◌++◌, drop, length, get_or, slice_index_or, slice_get, Some, IfSome, Ordering, Less, Equal, Greater, nat_eq, eqb-true, refl, sym, ap, ◌∙◌, subst, arith}
 use Rattle.std.proofs.lemmas.Bool.{cases_lt, eq-eqb}
 use Rattle.std.specs.List.{list_any, list_all}
-use Rattle.std.specs.List.Sorted.{IsSortedBy, IsBinarySearchResult, IsPartitionPoint, IsSearchInRange}
 use Rattle.std.specs.Ordering.{is_lt, ordering_reverse, is_eq}
 use Rattle.std.specs.Cmp.{IsTotalOrder}
 use Rattle.std.specs.Cmp.Lexicographic.{on_texts}
-use Rattle.std.proofs.lemmas.List.Sorted.{searchable_from_sorted}
+use Rattle.std.proofs.lemmas.Option.{get_or_from_slice_get}
 use Rattle.std.proofs.Math.Seq.{drop-cons, drop-length}
 use Rattle.go_points.specs.declared.Cell.{Cell}
 use Rattle.go_points.specs.Grid.{same_cells}
@@ -70,11 +69,16 @@ next_above (a ∷ b ∷ cs) (suc k) d h low =
     let next : suc (k + 1) ≡ suc k + 1 = omega arith in
     ap (λ m. text_order (slice_index_or (b ∷ cs) k d) (slice_index_or (a ∷ b ∷ cs) m d)) (sym next) ∙ next_above (b ∷ cs) k d h.1 (omega arith)
 
-sorted : (cs : List (List Cell)) → Ascends cs → IsSortedBy (λ a b. is_lt (text_order a b)) cs
-sorted cs h = λ k d from low.
-    let a = slice_index_or cs k d in
-    let b = slice_index_or cs (k + 1) d in
-    ap is_lt (order.antisymm b a ∙ ap ordering_reverse (next_above cs k d h low))
+-- each is before those after it
+before_at : (cs : List (List Cell)) (i j : ℕ) (d : List Cell) → Ascends cs → i < j → j < length cs → text_order (slice_index_or cs i d) (slice_index_or cs j d) ≡ Less
+before_at cs i zero d h less low = absurd (omega (arith, less))
+before_at cs i (suc j) d h less low =
+    let last : text_order (slice_index_or cs j d) (slice_index_or cs (suc j) d) ≡ Less =
+    ap (λ k. text_order (slice_index_or cs j d) (slice_index_or cs k d)) (let e : suc j ≡ j + 1 = omega arith in e) ∙ next_above cs j d h (omega (arith, low)) in
+    elim (cases_lt i j) [
+      | inl further ↦ order.trans (slice_index_or cs i d) (slice_index_or cs j d) (slice_index_or cs (suc j) d) (before_at cs i j d h further (omega (arith, low))) last
+      | inr near ↦ ap (λ k. text_order (slice_index_or cs k d) (slice_index_or cs (suc j) d)) (let e : i ≡ j = omega (arith, less, near) in e) ∙ last
+    ]
 
 pub any_at : (f : List Cell → Bool) (cs : List (List Cell)) (i : ℕ) (d : List Cell) → i < length cs → f (slice_index_or cs i d) ≡ true → list_any f cs ≡ true
 any_at f [] i d low e = absurd (omega arith)
@@ -85,22 +89,82 @@ any_at f (c ∷ cs) (suc i) d low e = go (f c) (any_at f cs i d (omega arith) e)
     go true h = refl
     go false h = h
 
-none_at : (f : List Cell → Bool) (cs : List (List Cell)) → ((k : ℕ) (d : List Cell) → k < length cs → f (slice_index_or cs k d) ≡ false) → list_any f cs ≡ false
-none_at f [] h = refl
-none_at f (c ∷ cs) h = ap (λ b. b || list_any f cs) (h 0 c (omega arith)) ∙ none_at f cs (λ k d low. h (suc k) d (omega arith))
+none_at : (f : List Cell → Bool) (cs : List (List Cell)) (d : List Cell) → ((k : ℕ) → k < length cs → f (slice_index_or cs k d) ≡ false) → list_any f cs ≡ false
+none_at f [] d h = refl
+none_at f (c ∷ cs) d h = ap (λ b. b || list_any f cs) (h 0 (omega arith)) ∙ none_at f cs d (λ k low. h (suc k) (omega (arith, low)))
 
 pub same_from : (c d : List Cell) → text_order d c ≡ Equal → same_cells c d ≡ true
 same_from c d e = same_cells_symm c d ∙ same_cells_ties d c ∙ ap is_eq e
 
-pub searched_list : (cs : List (List Cell)) (c : List Cell) (r : Result ℕ ℕ) → Ascends cs → IsSearchInRange r (length cs) → IsBinarySearchResult (λ d. text_order d c) cs r → is_ok r ≡ has_occurred cs c
-searched_list cs c (Ok i) h low found = sym (any_at (same_cells c) cs i c low (same_from c (slice_index_or cs i c) (found c)))
-searched_list cs c (Err i) h low found =
-    let parts : IsPartitionPoint (λ d. text_order d c ≡ Less) (λ d. text_order d c ≡ Greater) cs i = found (searchable_from_sorted order (λ d. d) cs c (sorted cs h)) in
-    sym (none_at (same_cells c) cs (λ k d small. at k d small parts (cases_lt k i)))
-  where
-    at : (k : ℕ) (d : List Cell) → k < length cs → IsPartitionPoint (λ x. text_order x c ≡ Less) (λ x. text_order x c ≡ Greater) cs i → (k < i) ⊎ (i ≤ k) → same_cells c (slice_index_or cs k d) ≡ false
-    at k d small parts (inl less) = apart_other (slice_index_or cs k d) c (same_cells_ties (slice_index_or cs k d) c ∙ ap is_eq (parts.0 k d (omega arith) less))
-    at k d small parts (inr more) = apart_other (slice_index_or cs k d) c (same_cells_ties (slice_index_or cs k d) c ∙ ap is_eq (parts.1 k d more small))
+-- those below the first number are before the colouring, and those from the second on after it
+pub record IsSplit (cs : List (List Cell)) (c : List Cell) (low high : ℕ) : Type 0 where
+  pub below : (k : ℕ) → k < low → text_order (slice_index_or cs k c) c ≡ Less
+  pub above : (k : ℕ) → high ≤ k → k < length cs → text_order (slice_index_or cs k c) c ≡ Greater
+  pub within : high ≤ length cs
+
+is_less : (o : Ordering) → is_lt o ≡ true → o ≡ Less
+is_less Less e = refl
+is_less Equal e = absurd (cc)
+is_less Greater e = absurd (cc)
+
+is_equal : (o : Ordering) → is_eq o ≡ true → o ≡ Equal
+is_equal Less e = absurd (cc)
+is_equal Equal e = refl
+is_equal Greater e = absurd (cc)
+
+is_greater : (o : Ordering) → is_eq o ≡ false → is_lt o ≡ false → o ≡ Greater
+is_greater Less e f = absurd (cc)
+is_greater Equal e f = absurd (cc)
+is_greater Greater e f = refl
+
+module _ (cs : List (List Cell)) (c : List Cell) where
+  pub split_start : IsSplit cs c 0 (length cs)
+  split_start = record {
+    below = λ k low. absurd (omega (arith, low));
+    above = λ k high low. absurd (omega (arith, high, low));
+    within = omega arith;
+  }
+
+  pub split_end : (low high : ℕ) → IsSplit cs c low high → high ≤ low → has_occurred cs c ≡ false
+  split_end low high is met = none_at (same_cells c) cs c (λ k there. apart_other (slice_index_or cs k c) c (same_cells_ties (slice_index_or cs k c) c ∙ elim (cases_lt k low) [
+    | inl before ↦ ap is_eq (is.below k before)
+    | inr after ↦ ap is_eq (is.above k (omega (arith, after, met)) there)
+  ]))
+
+  module _ (low high middle : ℕ) (x : List Cell) (up : Ascends cs) (is : IsSplit cs c low high) (on : middle < high) (at : slice_get cs middle ≡ Some x) where
+    here : slice_index_or cs middle c ≡ x
+    here = get_or_from_slice_get cs middle x c at
+
+    there : middle < length cs
+    there = omega (arith, on, is.within)
+
+    pub split_found : is_eq (text_order x c) ≡ true → has_occurred cs c ≡ true
+    split_found e = any_at (same_cells c) cs middle c there (ap (same_cells c) here ∙ same_from c x (is_equal (text_order x c) e))
+
+    pub split_low : is_lt (text_order x c) ≡ true → IsSplit cs c (middle + 1) high
+    split_low e =
+        let less : text_order (slice_index_or cs middle c) c ≡ Less = ap (λ y. text_order y c) here ∙ is_less (text_order x c) e in
+        record {
+          below = λ k low. elim (cases_lt k middle) [
+            | inl before ↦ order.trans (slice_index_or cs k c) (slice_index_or cs middle c) c (before_at cs k middle c up before there) less
+            | inr last ↦ ap (λ i. text_order (slice_index_or cs i c) c) (let same : k ≡ middle = omega (arith, low, last) in same) ∙ less
+          ];
+          above = is.above;
+          within = is.within;
+        }
+
+    pub split_high : is_eq (text_order x c) ≡ false → is_lt (text_order x c) ≡ false → IsSplit cs c low middle
+    split_high e f =
+        let greater : text_order (slice_index_or cs middle c) c ≡ Greater = ap (λ y. text_order y c) here ∙ is_greater (text_order x c) e f in
+        let less : text_order c (slice_index_or cs middle c) ≡ Less = order.antisymm c (slice_index_or cs middle c) ∙ ap ordering_reverse greater in
+        record {
+          below = is.below;
+          above = λ k high low. elim (cases_lt middle k) [
+            | inl after ↦ order.antisymm (slice_index_or cs k c) c ∙ ap ordering_reverse (order.trans c (slice_index_or cs middle c) (slice_index_or cs k c) less (before_at cs middle k c up after low))
+            | inr first ↦ ap (λ i. text_order (slice_index_or cs i c) c) (let same : k ≡ middle = omega (arith, high, first) in same) ∙ greater
+          ];
+          within = omega (arith, there);
+        }
 
 -- ONE PASS OVER BOTH
 

@@ -25,7 +25,7 @@ use Rattle.proof_cert.proofs.Certificates.{node_of_play, node_of_all}
 use Rattle.cert_check.specs.declared.results.Later.{Later}
 use Rattle.cert_check.specs.Body.{Body, is_open, is_known, is_to_move, result_of}
 use Rattle.cert_check.specs.Validity.{FitsNode, FitsBranches}
-use Rattle.cert_check.specs.Lift.{reply_results, reply_results_below}
+use Rattle.cert_check.specs.Lift.{reply_results_below}
 use Rattle.cert_check.specs.Results.{Gathered, gathered, nothing, joined, of_node, of_branches, of_later, left_at, node_at, due_at, reversed, is_past, IsPlayable, ArePlayable}
 use Rattle.cert_check.proofs.Members.{Member, and_first, and_both}
 use Rattle.cert_check.proofs.Game.{legal_at}
@@ -35,11 +35,6 @@ use Rattle.cert_check.proofs.Soundness.{game-next}
 
 same_parts : (p p' b b' : List (List Cell)) (k k' : ℕ) → p ≡ p' → b ≡ b' → k ≡ k' → gathered p b k ≡ gathered p' b' k'
 same_parts p p' b b' k k' e f g = λ i. gathered (e i) (f i) (g i)
-
-pub joined_assoc : (a b c : Gathered) → joined (joined a b) c ≡ joined a (joined b c)
-joined_assoc a b c =
-    same_parts ((a.plays ++ b.plays) ++ c.plays) (a.plays ++ (b.plays ++ c.plays)) ((a.barred ++ b.barred) ++ c.barred) (a.barred ++ (b.barred ++ c.barred)) ((a.nodes + b.nodes) + c.nodes) (a.nodes + (b.nodes + c.nodes))
-    (append_assoc a.plays b.plays c.plays) (append_assoc a.barred b.barred c.barred) (omega arith)
 
 pub joined_first : (a : Gathered) → joined nothing a ≡ a
 joined_first a = ap (gathered a.plays a.barred) (let e : 0 + a.nodes ≡ a.nodes = omega arith in e)
@@ -78,9 +73,6 @@ abbrev pub own_barred : GameState → GameState → List (List Cell)
 own_barred past s = filter (is_past past) (map (result_of s) (filter (is_open s) (points s.game.size)))
 
 module _ (past s : GameState) where
-  branch_left : (t : Ply) (n : Node) (bs : Branches) → of_branches past s (branch t n bs) ≡ joined (of_node past (next s t) n) (of_branches past s bs)
-  branch_left t n bs = ap (λ l. gathered (of_branches past s (branch t n bs)).plays l (node_count n + node_count_below bs)) (filter-append (is_past past) (reply_results (next s t) n) (reply_results_below s bs))
-
   play_left : (t : Ply) (n : Node) → of_node past s (play t n) ≡ joined (gathered (own_plays s t) [] 1) (of_node past (next s t) n)
   play_left pass n = ap (gathered (of_node past (next s pass) n).plays (of_node past (next s pass) n).barred) (let e : node_count n + 1 ≡ 1 + node_count n = omega arith in e)
   play_left (move p) n = ap (gathered (of_node past s (play (move p) n)).plays (of_node past (next s (move p)) n).barred) (let e : node_count n + 1 ≡ 1 + node_count n = omega arith in e)

@@ -23,9 +23,6 @@ either_way None P f h = f refl
 either_way (Some e) P f h = h
 
 module _ {S : Type 0} (gives : S → Result (Option Line) SourceFault → S → Type 0) (number : S → ℕ) (n : ℕ) (q : GameProblem) (s : S) where
-  pub heard_first : Heard gives number n q s s begun
-  heard_first = record { taken = []; took = refl; counted = omega arith; placed = refl; so_far = λ rest. refl }
-
   values_more : (ls : List (Option code.Line)) (l : Option code.Line) (rest : List (Option Line)) → line_values q.game.size (ls ++ l ∷ []) ++ rest ≡ line_values q.game.size ls ++ (option_map (line_value q.game.size) l ∷ rest)
   values_more ls l rest = ap (λ vs. vs ++ rest) (map-append (option_map (line_value q.game.size)) ls (l ∷ [])) ∙ append_assoc (line_values q.game.size ls) (option_map (line_value q.game.size) l ∷ []) rest
 

@@ -11,13 +11,13 @@ use Rattle.proof_cert.specs.Held.{Held, spelled_line, held_source_of, held_gives
 use Rattle.proof_cert.specs.Given.{IsFrontOfClaim, LinesGivenOfClaim}
 use Rattle.cert_check.specs.declared.reject.Why.TheVariants as stops
 use Rattle.cert_check.specs.declared.reject.Reject.{Reject}
-use Rattle.cert_check.specs.Stage.{why_value}
+use Rattle.cert_check.specs.Stage.{why_value, IsRejection, Rejects}
 use Rattle.cert_check.specs.Body.{Why}
 use Rattle.cert_check.specs.Verdict.{verdict, accepted, rejected}
 use Rattle.cert_check.specs.Validity.{IsValid}
 use Rattle.cert_check.specs.Parts.{line_values}
 use Rattle.cert_check.specs.Checks.{Answers, Accepts, RejectsAt, FailsAt}
-use Rattle.cert_check.specs.Checked.{IsChecked}
+use Rattle.cert_check.specs.Checked.{IsChecked, verdict_on}
 use Rattle.cert_check.proofs.Members.{and_first, and_second}
 use Rattle.cert_check.proofs.Faults.{faults_stay}
 use Rattle.cert_check.proofs.Spelling.{accepts_valid_claims, text_spelled}
@@ -81,26 +81,27 @@ module _ (q : GameProblem) (z : Claim) (low : 1 ≤ q.game.size) (high : q.game.
       let limits = k.limits in
       (given_spelled z.size (lines_of z) (text_spelled z.size (lines_of z) valid.spelled), (accepts_valid_claims q (lines_of z) z.winner low high).1 (z, refl, limits, valid, refl))
 
-  pub held_rejected : LinesGivenOfClaim → (place : ℕ) (why : Why) → RejectsAt held_gives z.size q (held_source_of z) place why → IsChecked q z → ⊥
-  held_rejected law place why h k = side h.there
+  -- a refusal is the verdict, and that of no checked claim
+  held_fault : LinesGivenOfClaim → (place : ℕ) (why : Why) → RejectsAt held_gives z.size q (held_source_of z) place why → verdict_on q z ≡ rejected place why
+  held_fault law place why h = side h.there
     where
       front : IsFrontOfClaim z (line_values z.size h.taken) h.left
       front = law z (line_values z.size h.taken) h.left h.took
 
-      whole : verdict q (map (spelled_line z.size) (lines_of z)) ≡ rejected place why → ⊥
-      whole e = let good = checked_lines k in absurd (cc (sym good.1 ∙ ap (verdict q) (sym good.0) ∙ e))
-
       values : line_values z.size h.taken ≡ line_values q.game.size h.taken
       values = ap (λ (n : ℕ). line_values n h.taken) size
 
-      side : Answers held_gives h.left (Ok None) ⊎ (place ≤ length h.taken) → ⊥
-      side (inl a) = whole (ap (verdict q) (front.all a.0 a.1 ∙ values) ∙ h.rejected)
+      side : Answers held_gives h.left (Ok None) ⊎ (place ≤ length h.taken) → verdict_on q z ≡ rejected place why
+      side (inl a) = ap (verdict q) (front.all a.0 a.1 ∙ values) ∙ h.rejected
       side (inr less) =
           let long = as_long q.game.size h.taken in
-          whole (ap (verdict q) (front.front ∙ ap (λ (ls : List (Option Line)). ls ++ h.left.left) values) ∙ faults_stay q (line_values q.game.size h.taken) h.left.left place why h.rejected (omega (arith, less, long)))
+          ap (verdict q) (front.front ∙ ap (λ (ls : List (Option Line)). ls ++ h.left.left) values) ∙ faults_stay q (line_values q.game.size h.taken) h.left.left place why h.rejected (omega (arith, less, long))
+
+  held_rejected : (place : ℕ) (why : Why) → verdict_on q z ≡ rejected place why → IsChecked q z → ⊥
+  held_rejected place why e k = let good = checked_lines k in absurd (cc (sym good.1 ∙ ap (verdict q) (sym good.0) ∙ e))
 
   -- no certificate has so many lines that they cannot be counted
-  pub held_read : (place : ℕ) → FailsAt held_gives (λ (s : Held). s.number) z.size q (held_source_of z) place → ⊥
+  held_read : (place : ℕ) → FailsAt held_gives (λ (s : Held). s.number) z.size q (held_source_of z) place → ⊥
   held_read place h =
       let last : h.left.number ≡ 2 ^ 64 - 2 = h.failed.1.1 in
       let counted = h.counted in
@@ -109,10 +110,18 @@ module _ (q : GameProblem) (z : Claim) (low : 1 ≤ q.game.size) (high : q.game.
 
   -- what a refusal says
   pub held_refused : LinesGivenOfClaim → (e : Reject) → ((w : Why) → why_value q.game.size e.why ≡ Some w → RejectsAt held_gives z.size q (held_source_of z) e.place w)
-      → (e.why ≡ stops.Read → FailsAt held_gives (λ (s : Held). s.number) z.size q (held_source_of z) e.place) → (e.why ≡ stops.Memory) ⊎ (IsChecked q z → ⊥)
-  held_refused law e rejects fails = side (each_why q.game.size e.why)
+      → (e.why ≡ stops.Read → FailsAt held_gives (λ (s : Held). s.number) z.size q (held_source_of z) e.place)
+      → ((e.why ≡ stops.Memory) ⊎ (IsChecked q z → ⊥)) × Rejects q.game.size (verdict_on q z) e × (e.why ≡ stops.Read → ⊥)
+  held_refused law e rejects fails = (side (each_why q.game.size e.why), said_of (why_value q.game.size e.why) said, λ r. held_read e.place (fails r))
     where
+      said : (w : Why) → why_value q.game.size e.why ≡ Some w → verdict_on q z ≡ rejected e.place w
+      said w is = held_fault law e.place w (rejects w is)
+
+      said_of : (o : Option Why) → ((w : Why) → o ≡ Some w → verdict_on q z ≡ rejected e.place w) → IsRejection (verdict_on q z) e.place o
+      said_of None h = tt
+      said_of (Some w) h = h w refl
+
       side : (e.why ≡ stops.Memory) ⊎ ((e.why ≡ stops.Read) ⊎ ((w : Why) × (why_value q.game.size e.why ≡ Some w))) → (e.why ≡ stops.Memory) ⊎ (IsChecked q z → ⊥)
       side (inl m) = inl m
       side (inr (inl r)) = absurd (held_read e.place (fails r))
-      side (inr (inr said)) = inr (held_rejected law e.place said.0 (rejects said.0 said.1))
+      side (inr (inr w)) = inr (held_rejected e.place w.0 (said w.0 w.1))

@@ -5,7 +5,6 @@ use Rattle.std.specs.Ordering.{is_lt}
 use Rattle.std.proofs.Common.{Ordering, Less, Equal, Greater}
 use Rattle.go_points.specs.declared.Cell.{Cell}
 use Rattle.go_points.specs.Order.{text_order}
-use Rattle.target_game.specs.State.{GameState}
 use Rattle.target_game.specs.State as State
 use Rattle.target_game.specs.State.{GameProblem}
 use Rattle.std.specs.List.{All}
@@ -19,12 +18,11 @@ use Rattle.cert_check.specs.declared.judge.Phase.TheVariants.{ListingHad, Listin
 use Rattle.cert_check.specs.declared.judge.Within.{Within}
 use Rattle.cert_check.specs.declared.judge.Within.TheVariants.{Lemma, Main}
 use Rattle.cert_check.specs.declared.open_nodes.Due.{Due}
-use Rattle.cert_check.specs.declared.open_nodes.Due.TheVariants.{Node, Reply}
-use Rattle.cert_check.specs.declared.open_nodes.Open.{Open}
+use Rattle.cert_check.specs.declared.open_nodes.Due.TheVariants.{Node, Reply, End}
 use Rattle.cert_check.specs.declared.lines.NodeLine.{NodeLine}
 use Rattle.cert_check.specs.Body.{Why, limit, list_order, ask, lemma_start}
 use Rattle.cert_check.specs.Verdict.{had_of, not_of, is_after}
-use Rattle.cert_check.specs.Machine.{Machine, Heading, Phase, goes_on, stops, goes_if, last_of, listed_taken, listing_had, listing_not, had_taken, not_taken, phase_taken, taken, body_of, node_taken, reply_due}
+use Rattle.cert_check.specs.Machine.{Machine, Heading, Phase, goes_on, stops, goes_if, last_of, listed_taken, listing_had, listing_not, had_taken, not_taken, phase_taken, taken, body_of, node_taken}
 use Rattle.cert_check.specs.Inside.{Inside, phase_of, owed_by, node_fault, node_next}
 use Rattle.cert_check.specs.Parts.{head_of, had_line_of, listed_line, node_line, node_value}
 use Rattle.cert_check.specs.Judging.{GoesOn, IsBehind, machine_of, heading_of, lemma_of, within_of, inside_now, phase_held, IsBehindFor, AwaitsHad, AwaitsList, AwaitsNode, had_here, list_here, node_here, body_here, had_more, listed_more}
@@ -32,7 +30,7 @@ use Rattle.cert_check.specs.Ascending.{Ascends}
 use Rattle.cert_check.proofs.Ascending.{ascends_more}
 use Rattle.cert_check.proofs.Lists.{before_is}
 use Rattle.cert_check.proofs.Machines.{last_pushed}
-use Rattle.cert_check.proofs.Replies.{line_on, line_off, line_full, room_is, reply_is}
+use Rattle.cert_check.proofs.Replies.{line_on, line_off, line_full, room_is}
 
 -- LISTS
 
@@ -151,7 +149,7 @@ module _ (j : Judge) (within : Within) (l : Line) (k : NodeLine) (ready : Awaits
   pub node_on : (b : Bool) (due : Due) (j' : Judge) (count : ℕ) → b ≡ (nat_lt j.node_count max_nodes && nat_le (length j.open_nodes.items + 1) max_depth) → b ≡ true
       → node_fault (body_of (heading_of j) (within_of j within)) j.state.state (node_value j.state.state.game.size k) ≡ None
       → inside_now j' due ≡ node_next (suc (length j.state.before)) j.state.state (owed_by j.state.before (reverse j.open_nodes.items)) (node_value j.state.state.game.size k)
-      → j' ≡ record j { state = j'.state; open_nodes = j'.open_nodes } → count ≡ suc j.node_count
+      → j' ≡ record j { state = j'.state; open_nodes = j'.open_nodes; passed = j'.passed } → count ≡ suc j.node_count
       → GoesOn j (record j' { phase = Body within due; node_count = count }) (node_here j within l)
   node_on b due j' count room free none next rest counted =
       ap (node_here j within) is
@@ -161,26 +159,21 @@ module _ (j : Judge) (within : Within) (l : Line) (k : NodeLine) (ready : Awaits
       i : Inside
       i = inside_now j' due
 
-      at : (w : Within) → goes_on (record { phase = phase_of (heading_of j) (within_of (record j { state = j'.state; open_nodes = j'.open_nodes }) w) i; place = suc j.place; nodes = count; listed = j.listed_count }) ≡ goes_on (record { phase = phase_of (heading_of j) (within_of j w) i; place = suc j.place; nodes = suc j.node_count; listed = j.listed_count })
+      at : (w : Within) → goes_on (record { phase = phase_of (heading_of j) (within_of (record j { state = j'.state; open_nodes = j'.open_nodes; passed = j'.passed }) w) i; place = suc j.place; nodes = count; listed = j.listed_count }) ≡ goes_on (record { phase = phase_of (heading_of j) (within_of j w) i; place = suc j.place; nodes = suc j.node_count; listed = j.listed_count })
       at Lemma = ap (λ n. goes_on (record { phase = phase_of (heading_of j) (within_of j Lemma) i; place = suc j.place; nodes = n; listed = j.listed_count })) counted
       at Main = ap (λ n. goes_on (record { phase = phase_of (heading_of j) None i; place = suc j.place; nodes = n; listed = j.listed_count })) counted
 
 -- a line of a body
-owed_none : (before : List GameState) (ns : List Open) → length ns ≡ 0 → owed_by before (reverse ns) ≡ []
-owed_none [] [] e = refl
-owed_none (s ∷ before) [] e = refl
-owed_none before (n ∷ ns) e = absurd (omega arith)
-
 pub body_line : (j : Judge) (w : Within) (due : Due) (l : Line) → j.phase ≡ Body w due → AwaitsNode j due → line_fits j.problem.now.game.size l ≡ true → taken j.problem.now (machine_of j) (Some l) ≡ body_here j w due l
 body_line j w due l is ready fits =
     ap (λ b. phase_taken j.problem.now (machine_of j) (phase_held j j.phase) (if b then Some l else None)) fits
     ∙ ap (λ p. phase_taken j.problem.now (machine_of j) (phase_held j p) (Some l)) is
-    ∙ at due ready
+    ∙ at due
   where
-    at : (due : Due) → AwaitsNode j due → phase_taken j.problem.now (machine_of j) (phase_held j (Body w due)) (Some l) ≡ body_here j w due l
-    at Node h = refl
-    at (Reply (Some place)) h = ap (λ os. phase_taken j.problem.now (machine_of j) (reply_due (heading_of j) (within_of j w) os) (Some l)) (reply_is (suc (length j.state.before)) j.state.state place (owed_by j.state.before (reverse j.open_nodes.items)))
-    at (Reply None) h = ap (λ os. phase_taken j.problem.now (machine_of j) (reply_due (heading_of j) (within_of j w) os) (Some l)) (owed_none j.state.before j.open_nodes.items h.room)
+    at : (due : Due) → phase_taken j.problem.now (machine_of j) (phase_held j (Body w due)) (Some l) ≡ body_here j w due l
+    at Node = refl
+    at (Reply t left) = refl
+    at End = refl
 
 -- LISTED COLOURINGS
 
@@ -201,36 +194,39 @@ listed_behind c (Some d) long after = go (text_order d c) (before_is d c long �
     go Equal e = absurd (cc)
     go Greater e = absurd (cc)
 
-module _ (j : Judge) (c : List Cell) (v : Judge) (count : ℕ) (phase : j.phase ≡ Listing) (pushed : v.list.items ≡ j.list.items ++ c ∷ []) where
-  pub listed_ready : AwaitsList j → length c ≡ j.problem.now.game.size * j.problem.now.game.size → is_after (last_of j.list.items) c ≡ true → IsBehind (record j { list = v.list; listed_count = count })
+module _ (j : Judge) (c : List Cell) (v : Judge) (count : ℕ) (phase : j.phase ≡ Listing) (pushed : v.list ≡ j.list ++ c ∷ []) where
+  pub listed_ready : AwaitsList j → length c ≡ j.problem.now.game.size * j.problem.now.game.size → is_after (last_of j.list) c ≡ true → IsBehind (record j { list = v.list; listed_count = count })
   listed_ready h fits after =
       subst (λ p. IsBehindFor (record j { list = v.list; listed_count = count }) p) (sym phase)
       (record {
         state = h.state;
         closed = h.closed;
-        fits = subst (λ o. IfSome o (λ d. length d ≡ j.problem.now.game.size * j.problem.now.game.size)) (sym (ap last_of pushed ∙ last_pushed j.list.items c)) fits;
+        passed = h.passed;
+        fits = subst (λ o. IfSome o (λ d. length d ≡ j.problem.now.game.size * j.problem.now.game.size)) (sym (ap last_of pushed ∙ last_pushed j.list c)) fits;
         ascends =
             subst Ascends (sym pushed)
-            (ascends_more j.list.items c h.ascends (listed_behind c (last_of j.list.items) (last_fits j.list.items c (j.problem.now.game.size * j.problem.now.game.size) (last_of j.list.items) (sym (last_get j.list.items)) fits h.fits) after));
+            (ascends_more j.list c h.ascends (listed_behind c (last_of j.list) (last_fits j.list c (j.problem.now.game.size * j.problem.now.game.size) (last_of j.list) (sym (last_get j.list)) fits h.fits) after));
       })
 
-  pub listed_goes : nat_lt j.listed_count max_listed ≡ true → is_after (last_of j.list.items) c ≡ true → count ≡ suc j.listed_count
-      → GoesOn j (record j { list = v.list; listed_count = count }) (listed_taken (machine_of j) (last_of j.list.items) c (listing_not (heading_of j) (listed_more (lemma_of j) c)))
+  pub listed_goes : nat_lt j.listed_count max_listed ≡ true → is_after (last_of j.list) c ≡ true → count ≡ suc j.listed_count
+      → GoesOn j (record j { list = v.list; listed_count = count }) (listed_taken (machine_of j) (last_of j.list) c (listing_not (heading_of j) (listed_more (lemma_of j) c)))
   listed_goes few after counted =
-      listed_passed (machine_of j) (last_of j.list.items) c (listing_not (heading_of j) (listed_more (lemma_of j) c)) few after
+      listed_passed (machine_of j) (last_of j.list) c (listing_not (heading_of j) (listed_more (lemma_of j) c)) few after
       ∙ sym (
       ap (λ p. goes_on (record { phase = phase_held (record j { list = v.list; listed_count = count }) p; place = suc j.place; nodes = j.node_count; listed = count })) phase
       ∙ ap (λ cs. goes_on (record { phase = listing_not (heading_of j) (head_of j.mover j.passes j.root j.had.items cs); place = suc j.place; nodes = j.node_count; listed = count })) pushed
-      ∙ ap (λ n. goes_on (record { phase = listing_not (heading_of j) (head_of j.mover j.passes j.root j.had.items (j.list.items ++ c ∷ [])); place = suc j.place; nodes = j.node_count; listed = n })) counted)
+      ∙ ap (λ n. goes_on (record { phase = listing_not (heading_of j) (head_of j.mover j.passes j.root j.had.items (j.list ++ c ∷ [])); place = suc j.place; nodes = j.node_count; listed = n })) counted)
 
 module _ (j : Judge) (c : List Cell) (v : Judge) (count : ℕ) (phase : j.phase ≡ ListingHad) (pushed : v.had.items ≡ j.had.items ++ c ∷ []) where
   pub had_ready : AwaitsHad j → length c ≡ j.problem.now.game.size * j.problem.now.game.size → is_after (last_of j.had.items) c ≡ true → IsBehind (record j { had = v.had; listed_count = count })
   had_ready h fits after =
       subst (λ p. IsBehindFor (record j { had = v.had; listed_count = count }) p) (sym phase)
       (record {
+        state = h.state;
         root = h.root;
         few = h.few;
         closed = h.closed;
+        passed = h.passed;
         list = h.list;
         sizes = subst (All (λ d. side_of d ≡ j.problem.now.game.size)) (sym pushed) (All-push (λ d. side_of d ≡ j.problem.now.game.size) j.had.items c h.sizes (side_of-whole c j.problem.now.game.size fits));
         fits = subst (λ o. IfSome o (λ d. length d ≡ j.problem.now.game.size * j.problem.now.game.size)) (sym (ap last_of pushed ∙ last_pushed j.had.items c)) fits;
@@ -245,5 +241,5 @@ module _ (j : Judge) (c : List Cell) (v : Judge) (count : ℕ) (phase : j.phase 
       listed_passed (machine_of j) (last_of j.had.items) c (listing_had (heading_of j) (had_more (lemma_of j) c)) few after
       ∙ sym (
       ap (λ p. goes_on (record { phase = phase_held (record j { had = v.had; listed_count = count }) p; place = suc j.place; nodes = j.node_count; listed = count })) phase
-      ∙ ap (λ cs. goes_on (record { phase = listing_had (heading_of j) (head_of j.mover j.passes j.root cs j.list.items); place = suc j.place; nodes = j.node_count; listed = count })) pushed
-      ∙ ap (λ n. goes_on (record { phase = listing_had (heading_of j) (head_of j.mover j.passes j.root (j.had.items ++ c ∷ []) j.list.items); place = suc j.place; nodes = j.node_count; listed = n })) counted)
+      ∙ ap (λ cs. goes_on (record { phase = listing_had (heading_of j) (head_of j.mover j.passes j.root cs j.list); place = suc j.place; nodes = j.node_count; listed = count })) pushed
+      ∙ ap (λ n. goes_on (record { phase = listing_had (heading_of j) (head_of j.mover j.passes j.root (j.had.items ++ c ∷ []) j.list); place = suc j.place; nodes = j.node_count; listed = n })) counted)

@@ -70,14 +70,6 @@ mutual
 
 -- HOW IT IS MADE
 
-pub none_needed : (hs : List (List Cell)) → length hs ≡ 0 → version_for hs ≡ 1
-none_needed [] e = refl
-none_needed (c ∷ hs) e = absurd (omega (arith, e))
-
-pub some_needed : (hs : List (List Cell)) → (length hs ≡ 0 → ⊥) → version_for hs ≡ 2
-some_needed [] e = absurd (e refl)
-some_needed (c ∷ hs) e = refl
-
 pub made_claim : (q : GameProblem) (x : Colour) (hs bs : List (List Cell)) (body : code.Node) (cert : Certificate) (l : code_lemma.Lemma)
     → cert.size ≡ q.game.size → version_number cert.version ≡ version_for hs → cert.winner ≡ x → cert.lemmas.items ≡ l ∷ [] → cert.main ≡ Use 1
     → l.mover ≡ q.mover → l.passes ≡ q.passes → l.root ≡ (start q).colouring → l.had.items ≡ hs → l.absent.items ≡ bs → l.body ≡ body

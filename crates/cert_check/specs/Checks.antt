@@ -1,5 +1,5 @@
 -- What a source of lines gave to the checker, and what is answered of it.
---     Took gives n s ls t      calls one behind another gave these lines of the program, from the source s of size n on, and left t
+--     Took gives n s ls t      calls one after another gave these lines of the program, from the source s of size n on, and left t
 --     Answers gives t r      a call may answer so there
 --     Accepts, RejectsAt, FailsAt      the answers, by the lines taken
 use Rattle.std.specs.Prelude.{◌≡◌, ℕ, suc, ◌+◌, ◌^◌, ◌<◌, ◌≤◌, ◌⊎◌, List, ◌++◌, length, Option, None, Result, Ok, Err}

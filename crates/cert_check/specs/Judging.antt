@@ -2,11 +2,15 @@
 --     machine_of j      the machine
 --     IsReady j      what the judge keeps from line to line
 --     GoesOn, StopsFor      a call did what the machine does with a line, and a refusal is the machine's
-use Rattle.std.specs.Prelude.{◌≡◌, ◌≤◌, ℕ, suc, ◌*◌, List, [], ◌∷◌, ◌++◌, length, reverse, Option, Some, None, IfSome}
+use Rattle.std.specs.Prelude.{◌≡◌, ◌≤◌, suc, ◌*◌, List, [], ◌∷◌, ◌++◌, length, reverse, Option, Some, None, IfSome}
 use Rattle.std.specs.List.{All}
 use Rattle.go_points.specs.declared.Cell.{Cell}
 use Rattle.go_points.specs.Grid.{side_of}
-use Rattle.target_game.specs.Kept.{turn_from}
+use Rattle.go_points.specs.Ply.{ply_of}
+use Rattle.go_points.specs.declared.Turn.{Turn}
+use Rattle.target_game.specs.Left.{turns_due}
+use Rattle.target_game.specs.State.{state_alone}
+use Rattle.target_game.specs.declared.turns_left.TurnsLeft.{TurnsLeft}
 use Rattle.proof_cert.specs.Lines as Read
 use Rattle.proof_cert.specs.Claim.{Head}
 use Rattle.proof_cert.specs.Stage.{version_number}
@@ -17,21 +21,21 @@ use Rattle.cert_check.specs.declared.judge.Phase.TheVariants.{Header, Opening, L
 use Rattle.cert_check.specs.declared.judge.Within.{Within}
 use Rattle.cert_check.specs.declared.judge.Within.TheVariants.{Lemma, Main}
 use Rattle.cert_check.specs.declared.open_nodes.Due.{Due}
-use Rattle.cert_check.specs.declared.open_nodes.Due.TheVariants.{Node, Reply}
+use Rattle.cert_check.specs.declared.open_nodes.Due.TheVariants.{Node, Reply, End}
 use Rattle.cert_check.specs.Verdict.{had_of, not_of}
-use Rattle.cert_check.specs.Body.{Why, malformed, text_after_end, lemma_start}
+use Rattle.cert_check.specs.Body.{Why, malformed, text_after_end, lemma_body, lemma_start}
 use Rattle.cert_check.specs.Stage.{why_value}
 use Rattle.cert_check.specs.Machine.{Machine, Heading, header, opening, listing_had, listing_not, done, last_of, Step, goes_on, stops, had_taken, not_taken, node_taken, reply_taken, end_taken}
 use Rattle.cert_check.specs.Machine as machine
 use Rattle.cert_check.specs.Ascending.{Ascends}
-use Rattle.cert_check.specs.Inside.{Follows, Unwon, FitsDepth, Inside, inside_of, phase_of, owed_by, others_after}
-use Rattle.cert_check.specs.Parts.{head_of, IsJudged}
+use Rattle.cert_check.specs.Inside.{Follows, MayBeMade, Inside, inside_of, phase_of, owed_by}
+use Rattle.cert_check.specs.Parts.{PassesOn, head_of, IsJudged}
 
 abbrev pub heading_of : Judge → Heading
 heading_of j = record { version = version_number j.version; winner = j.winner; heads = j.heads.items }
 
 abbrev pub lemma_of : Judge → Head
-lemma_of j = head_of j.mover j.passes j.root j.had.items j.list.items
+lemma_of j = head_of j.mover j.passes j.root j.had.items j.list
 
 -- which lemma's body it is, or main
 abbrev pub within_of : Judge → Within → Option Head
@@ -52,23 +56,28 @@ phase_held j Done = done j.winner
 abbrev pub machine_of : Judge → Machine
 machine_of j = record { phase = phase_held j j.phase; place = j.place; nodes = j.node_count; listed = j.listed_count }
 
--- no colouring of the present lemma was listed
-pub record HasNoLists (j : Judge) : Type 0 where
+-- Before and after a body: no colouring of a lemma was listed, no earlier lemma's list was asked for it, and the state is of the
+-- problem's game.
+pub record IsBetweenBodies (j : Judge) : Type 0 where
   pub had : j.had.items ≡ []
-  pub list : j.list.items ≡ []
+  pub list : j.list ≡ []
+  pub passed : j.passed ≡ []
+  pub game : j.state.state.game ≡ j.problem.now.game
 
 -- before the first line nothing is known
 pub record AwaitsHeader (j : Judge) : Type 0 where
   pub first : j.place ≡ 1
   pub heads : j.heads.items ≡ []
-  pub lists : HasNoLists j
+  pub between : IsBetweenBodies j
 
--- among the `had` lines: no turn was made, no other colouring was listed, and those that were are of the board
+-- among the `had` lines: the state is the lemma's root alone, no other colouring was listed, and those that were are of the board
 pub record AwaitsHad (j : Judge) : Type 0 where
+  pub state : j.state ≡ record { state = state_alone j.problem.now.game j.root j.mover j.passes; before = [] }
   pub root : side_of j.root ≡ j.problem.now.game.size
   pub few : j.passes ≤ 1
   pub closed : j.open_nodes.items ≡ []
-  pub list : j.list.items ≡ []
+  pub list : j.list ≡ []
+  pub passed : j.passed ≡ []
   pub fits : IfSome (last_of j.had.items) (λ c. length c ≡ j.problem.now.game.size * j.problem.now.game.size)
   pub sizes : All (λ c. side_of c ≡ j.problem.now.game.size) j.had.items
   pub ascends : Ascends j.had.items
@@ -77,19 +86,21 @@ pub record AwaitsHad (j : Judge) : Type 0 where
 pub record AwaitsList (j : Judge) : Type 0 where
   pub state : j.state ≡ record { state = lemma_start j.problem.now.game (lemma_of j); before = [] }
   pub closed : j.open_nodes.items ≡ []
-  pub fits : IfSome (last_of j.list.items) (λ c. length c ≡ j.problem.now.game.size * j.problem.now.game.size)
-  pub ascends : Ascends j.list.items
+  pub passed : j.passed ≡ []
+  pub fits : IfSome (last_of j.list) (λ c. length c ≡ j.problem.now.game.size * j.problem.now.game.size)
+  pub ascends : Ascends j.list
 
+-- in a body: the lemmas that are remembered pass their lists on to the present lemma's
 pub record AwaitsNode (j : Judge) (due : Due) : Type 0 where
   pub game : j.state.state.game ≡ j.problem.now.game
   pub follows : Follows j.problem.now.game j.state.before (reverse j.open_nodes.items)
-  pub unwon : Unwon due j.state.state
-  pub room : FitsDepth due (length j.open_nodes.items)
-  pub ascends : Ascends j.list.items
+  pub made : MayBeMade due j.state.state (length j.open_nodes.items)
+  pub ascends : Ascends j.list
+  pub passed : All (PassesOn (lemma_body j.winner j.heads.items (lemma_of j))) j.passed
 
 abbrev pub IsReadyFor : Judge → Phase → Type 0
 IsReadyFor j Header = AwaitsHeader j
-IsReadyFor j Opening = HasNoLists j
+IsReadyFor j Opening = IsBetweenBodies j
 IsReadyFor j ListingHad = AwaitsHad j
 IsReadyFor j Listing = AwaitsList j
 IsReadyFor j (Body within due) = AwaitsNode j due
@@ -98,7 +109,7 @@ IsReadyFor j Done = Unit {0}
 abbrev pub IsReady : Judge → Type 0
 IsReady j = IsReadyFor j j.phase
 
--- the same behind a line, where it is not the first one that is due
+-- the same after a line, where it is not the first one that is due
 abbrev pub IsBehindFor : Judge → Phase → Type 0
 IsBehindFor j Header = ⊥
 IsBehindFor j Opening = IsReadyFor j Opening
@@ -110,14 +121,14 @@ IsBehindFor j Done = IsReadyFor j Done
 abbrev pub IsBehind : Judge → Type 0
 IsBehind j = IsBehindFor j j.phase
 
--- The line is not counted yet: its number is that of the judge before and behind the call.
+-- The line is not counted yet: its number is that of the judge before and after the call.
 abbrev pub GoesOn : Judge → Judge → Step → Type 0
 GoesOn old new step = step ≡ goes_on (record (machine_of new) { place = suc old.place })
 
 abbrev pub StopsFor : Judge → Step → stop.Why → Type 0
 StopsFor j step why = ((p : Why) → why_value j.problem.now.game.size why ≡ Some p → step ≡ stops j.place p) × IsJudged why
 
--- What the machine does with a line that fits the board: of one of the lists or behind it, of a body's node, of a reply looked for at a place, and of a body.
+-- What the machine does with a line that fits the board: of one of the lists or after it, of a body's node, of a reply, and of a body.
 abbrev pub had_here : Judge → Read.Line → Step
 had_here j l = had_taken j.problem.now (machine_of j) (heading_of j) (lemma_of j) (Some l) (had_of (Some l))
 
@@ -127,16 +138,16 @@ list_here j l = not_taken j.problem.now (machine_of j) (heading_of j) (lemma_of 
 abbrev pub node_here : Judge → Within → Read.Line → Step
 node_here j within l = node_taken (machine_of j) (heading_of j) (within_of j within) (suc (length j.state.before)) j.state.state (owed_by j.state.before (reverse j.open_nodes.items)) l
 
-abbrev pub reply_here : Judge → Within → ℕ → Read.Line → Step
-reply_here j within place l =
+abbrev pub reply_here : Judge → Within → Turn → TurnsLeft → Read.Line → Step
+reply_here j within due left l =
     reply_taken (machine_of j) (heading_of j) (within_of j within)
-    (record { depth = suc (length j.state.before); state = j.state.state; due = turn_from j.state.state place; others = others_after j.state.state (turn_from j.state.state place) })
+    (record { depth = suc (length j.state.before); state = j.state.state; due = ply_of j.state.state.game.size due; others = turns_due j.state.state left.next })
     (owed_by j.state.before (reverse j.open_nodes.items)) l
 
 abbrev pub body_here : Judge → Within → Due → Read.Line → Step
 body_here j within Node l = node_here j within l
-body_here j within (Reply (Some place)) l = reply_here j within place l
-body_here j within (Reply None) l = end_taken (machine_of j) (heading_of j) (within_of j within) l
+body_here j within (Reply due left) l = reply_here j within due left l
+body_here j within End l = end_taken (machine_of j) (heading_of j) (within_of j within) l
 
 abbrev pub had_more : Head → List Cell → Head
 had_more h c = record h { had = h.had ++ c ∷ [] }

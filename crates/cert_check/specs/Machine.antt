@@ -2,7 +2,7 @@
 --     Machine      what is kept: the line that is due, its number, and the counts
 --     taken q m l      what the line l makes of m: it goes on, or the line is faulty
 --     ended m      what is said where no line follows
---     verdict_from q m ls      the lines ls, one behind another
+--     verdict_from q m ls      the lines ls, one after another
 use Rattle.std.specs.Prelude.{◌≡◌, ℕ, suc, ◌&&◌, ◌||◌, nat_eq, nat_lt, nat_le, List, [], ◌∷◌, ◌++◌, Option, Some, None, if◌then◌else◌}
 use Rattle.go_points.specs.declared.Colour.{Colour}
 use Rattle.go_points.specs.declared.Cell.{Cell}
@@ -16,14 +16,14 @@ use Rattle.cert_check.specs.Verdict.{Verdict, accepted, rejected, verdict, had_o
 
 -- WHAT IS KEPT
 
--- A node at a depth and a state whose replies are being read: the reply that is due next, and those behind it.
+-- A node at a depth and a state whose replies are being read: the reply that is due next, and those after it.
 pub record Owed : Type 0 where
   pub depth : ℕ
   pub state : GameState
   pub due : Ply
   pub others : List Ply
 
--- what is known behind the header: its version, the winner, and the heads of the lemmas that were judged
+-- what is known after the header: its version, the winner, and the heads of the lemmas that were judged
 pub record Heading : Type 0 where
   pub version : ℕ
   pub winner : Colour
@@ -55,7 +55,7 @@ pub data Step : Type 0 where
   goes_on : Machine → Step
   stops : (place : ℕ) → Why → Step
 
--- the line is behind, and this is due
+-- the line is taken, and this is due
 abbrev pub moved : Machine → Phase → Machine
 moved m p = record m { phase = p; place = suc m.place }
 
@@ -92,7 +92,7 @@ reply_taken m f inside o os (reply_line t) =
     goes_if m.place (reply_fault o.due t) (moved m (node_due f inside (suc o.depth) (next o.state o.due) (owing o.depth o.state o.others os)))
 reply_taken m f inside o os _ = stops m.place malformed
 
--- behind a body
+-- after a body
 abbrev pub closed : Heading → Option Head → Phase
 closed f None = done f.winner
 closed f (Some h) = opening (record f { heads = f.heads ++ h ∷ [] })
@@ -121,7 +121,7 @@ opening_taken q m f (lemma_line mover passes root) = goes_if m.place (lemma_faul
 opening_taken q m f main_line = goes_on (moved m (node_due f None 1 (start q) []))
 opening_taken q m f _ = stops m.place malformed
 
--- a line of a list, behind the colouring before it; it is counted
+-- a line of a list, after the colouring before it; it is counted
 abbrev pub listed_taken : Machine → Option (List Cell) → List Cell → Phase → Step
 listed_taken m last c p =
     goes_if m.place (ask (nat_lt m.listed max_listed) limit (ask (is_after last c) list_order None)) (record m { phase = p; place = suc m.place; listed = suc m.listed })

@@ -1,16 +1,16 @@
 -- The parts of a claim as the program judges them.
 --     head_of      what a lemma says before its tree
+--     PassesOn b j      where the body b may use the lemma of number j, it may make the colourings on that lemma's list
 --     line_values      what lines of the program say
 --     header_line_of, opening_line, had_line_of, listed_line, node_line, reply_line_of, end_line_of      the line, where it is of one kind
 --     header_value, .., end_value      what the program's parts say, as lines
-use Rattle.std.specs.Prelude.{ℕ, ◌-◌, ◌*◌, Bool, true, false, not, List, [], ◌∷◌, ◌++◌, map, filter, Option, Some, None, option_map}
-use Rattle.std.specs.List.{range_with_len}
+use Rattle.std.specs.Prelude.{ℕ, Bool, true, false, not, List, map, Option, Some, None, IfSome, IsTrue, option_map}
+use Rattle.std.specs.List.{list_all}
 use Rattle.go_points.specs.declared.Colour.{Colour}
 use Rattle.go_points.specs.declared.Cell.{Cell}
 use Rattle.go_points.specs.declared.Turn.{Turn}
 use Rattle.go_points.specs.Ply.{Ply, pass, move, ply_of}
 use Rattle.target_game.specs.State.{GameState}
-use Rattle.target_game.specs.Legal.{legal}
 use Rattle.proof_cert.specs.Claim.{Head}
 use Rattle.proof_cert.specs.Lines.{Line, header_line, lemma_line, had_line, not_line, main_line, won_line, use_line, play_line, all_line, reply_line, end_line}
 use Rattle.proof_cert.specs.Stage.{line_value, version_number}
@@ -22,7 +22,7 @@ use Rattle.cert_check.specs.declared.lines.NodeLine.{NodeLine}
 use Rattle.cert_check.specs.declared.lines.NodeLine.TheVariants.{Won, Use, Play, All}
 use Rattle.cert_check.specs.declared.lines.Opening.{Opening}
 use Rattle.cert_check.specs.declared.lines.Opening.TheVariants.{Lemma, Main}
-use Rattle.cert_check.specs.Body.{Why, turn_barred, repeats_known, not_listed, ask, is_open, is_known, is_listed, result_of}
+use Rattle.cert_check.specs.Body.{Body, Why, turn_barred, repeats_known, not_listed, ask, is_open, is_known, is_listed, lemma_at, result_of}
 
 -- what is judged is never refused for a failed read
 abbrev pub IsJudged : code_why.Why → Type 0
@@ -32,6 +32,10 @@ IsJudged _ = Unit {0}
 -- what a lemma says before its tree
 abbrev pub head_of : Colour → ℕ → List Cell → List (List Cell) → List (List Cell) → Head
 head_of mover passes root had absent = record { mover = mover; passes = passes; root = root; had = had; absent = absent }
+
+-- the body may make each colouring on the list of the lemma that it knows by this number
+abbrev pub PassesOn : Body → ℕ → Type 0
+PassesOn b j = IfSome (lemma_at b.earlier j) (λ h. IsTrue (list_all (is_listed b.listed) h.absent))
 
 -- what lines of the program say, None for a malformed one
 abbrev pub line_values : ℕ → List (Option code.Line) → List (Option Line)
@@ -108,7 +112,3 @@ end_value false = None
 abbrev pub end_line_of : Line → Option Line
 end_line_of end_line = Some end_line
 end_line_of _ = None
-
--- the replies that are still due from the point of this number on
-abbrev pub due_from : GameState → ℕ → List Ply
-due_from s i = map move (filter (λ p. legal s (move p)) (range_with_len i (s.game.size * s.game.size - i))) ++ pass ∷ []

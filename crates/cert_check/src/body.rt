@@ -1,15 +1,15 @@
 //! What is fixed in a body of a claim: who wins there, the lemmas that it may use, and the results that it may make.
 
-ghost use Rattle.std.specs.Prelude.{◌≡◌, Some, option_map};
+ghost use Rattle.std.specs.Prelude.{◌≡◌, Some, is_some, option_map};
 ghost use Rattle.std.specs.List.{list_all};
 ghost use Rattle.cert_check.specs.Ascending.{Ascends};
 ghost use Rattle.cert_check.specs.Body.{is_known, is_listed, lemma_at, main_body, same_state};
 ghost use Rattle.cert_check.specs.Parts.{head_of};
 
-use crate::body_state::PlayState;
 use crate::listed::{all_stand_on, stands_on};
-use go_points::{Colour, Colouring};
+use go_points::{Colour, Colouring, ColouringList};
 use std::marker::Model;
+use target_game::PlayState;
 
 /// What a lemma says before its tree.
 #[derive(Drop)]
@@ -18,7 +18,7 @@ pub(crate) struct Head {
     passes: u8,
     root: Colouring,
     had: Vec<Colouring>,
-    absent: Vec<Colouring>,
+    absent: ColouringList,
 }
 
 impl Model for Head {
@@ -27,11 +27,11 @@ impl Model for Head {
 
     ghost Value = { SpecHead };
 
-    ghost view = { λ a. head_of a.mover a.passes a.root a.had.items a.absent.items };
+    ghost view = { λ a. head_of a.mover a.passes a.root a.had.items a.absent };
 
     ghost use Rattle.cert_check.specs.Ascending.{Ascends};
 
-    ghost invariant = { λ a. Ascends a.absent.items };
+    ghost invariant = { λ a. Ascends a.absent };
 }
 
 impl Head {
@@ -40,10 +40,10 @@ impl Head {
         passes: u8,
         root: Colouring,
         had: Vec<Colouring>,
-        absent: Vec<Colouring>,
+        absent: ColouringList,
     ) -> Head
-        requires { Ascends absent.items }
-        ensures { result ≡ head_of mover passes root had.items absent.items }
+        requires { Ascends absent }
+        ensures { result ≡ head_of mover passes root had.items absent }
     {
         Head {
             mover,
@@ -71,11 +71,11 @@ impl Head {
     }
 
     /// The colourings that may not have occurred.
-    pub(crate) fn absent(&self) -> &[Colouring]
+    pub(crate) fn absent(&self) -> &ColouringList
         ensures value { result.now ≡ self.now.absent }
         ensures ascends { Ascends result.now }
     {
-        self.absent.as_slice()
+        &self.absent
     }
 }
 
@@ -84,7 +84,7 @@ impl Head {
 pub(crate) struct Body<'a> {
     winner: Colour,
     earlier: &'a [Head],
-    listed: Option<&'a [Colouring]>,
+    listed: Option<&'a ColouringList>,
 }
 
 impl<'a> Model for Body<'a> {
@@ -114,8 +114,12 @@ pub(crate) fn all_known(state: &PlayState, list: &[Colouring]) -> bool
 }
 
 impl<'a> Body<'a> {
-    /// The body of a lemma with this list, behind these lemmas.
-    pub(crate) fn of_lemma(winner: Colour, earlier: &'a [Head], listed: &'a [Colouring]) -> Body<'a>
+    /// The body of a lemma with this list, after these lemmas.
+    pub(crate) fn of_lemma(
+        winner: Colour,
+        earlier: &'a [Head],
+        listed: &'a ColouringList,
+    ) -> Body<'a>
         requires { Ascends listed.now }
         ensures { result ≡ record { winner = winner; earlier = earlier.now; listed = Some listed.now } }
     {
@@ -126,7 +130,7 @@ impl<'a> Body<'a> {
         }
     }
 
-    /// Main, behind these lemmas.
+    /// Main, after these lemmas.
     pub(crate) fn of_main(winner: Colour, lemmas: &'a [Head]) -> Body<'a>
         ensures { result ≡ main_body winner lemmas.now }
     {
@@ -153,6 +157,13 @@ impl<'a> Body<'a> {
         self.earlier.get(number as usize - 1)
     }
 
+    /// Whether the body has a list of the results that it may make.
+    pub(crate) fn has_list(&self) -> bool
+        ensures { result ≡ is_some self.now.listed }
+    {
+        self.listed.is_some()
+    }
+
     /// Whether the body may make the colouring.
     pub(crate) fn lists(&self, colouring: &Colouring) -> bool
         ensures { result ≡ is_listed self.now.listed colouring.now }
@@ -164,7 +175,7 @@ impl<'a> Body<'a> {
     }
 
     /// Whether the body may make each of the colourings, which ascend.
-    pub(crate) fn lists_all(&self, colourings: &[Colouring]) -> bool
+    pub(crate) fn lists_all(&self, colourings: &ColouringList) -> bool
         requires { Ascends colourings.now }
         ensures { result ≡ list_all (is_listed self.now.listed) colourings.now }
     {

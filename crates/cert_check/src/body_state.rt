@@ -1,6 +1,6 @@
 //! A state of a body, with what is known there in a list.
 
-ghost use Rattle.std.specs.Prelude.{◌≡◌, ◌<◌, ◌≤◌, ◌∷◌, [], IsTrue, IsFalse, IfOk, IfErr, OnOk, length, not, None};
+ghost use Rattle.std.specs.Prelude.{◌≡◌, ◌⊎◌, ◌<◌, ◌≤◌, ◌∷◌, [], IsTrue, IsFalse, IfOk, IfErr, OnOk, length, not, None};
 ghost use Rattle.std.specs.List.{All, list_all};
 ghost use Rattle.go_points.specs.Grid.{side_of};
 ghost use Rattle.go_points.specs.Liberty.{first_without_liberty};
@@ -12,18 +12,15 @@ ghost use Rattle.target_game.specs.Left.{line_if};
 ghost use Rattle.target_game.specs.Legal.{legal};
 ghost use Rattle.target_game.specs.Next.{next};
 ghost use Rattle.target_game.specs.Over.{over};
+ghost use Rattle.target_game.specs.declared.state.AtFault.TheVariants as AtFault;
 ghost use Rattle.cert_check.specs.Ascending.{Ascends};
 ghost use Rattle.cert_check.specs.Body.{is_known};
 
 use crate::listed::stands_on;
-use go_points::{Colour, Colouring, Turn};
-use go_turns::{PlayBoard, PlaySeen};
+use go_points::{Colour, Colouring, ColouringList, Turn};
 use std::alloc::{AllocError, Global};
 use std::marker::Model;
-use target_game::{AtFault, Problem, State};
-
-/// A state of the problem.
-pub(crate) type PlayState = State<PlayBoard, PlaySeen>;
+use target_game::{AtFault, PlayState, Problem, State};
 
 /// A state of a body. What is known there stands in a list too, the latest last, so that a long list of a lemma is searched for
 /// the few that are known, and not the other way round.
@@ -57,28 +54,27 @@ impl BodyState {
         Ok(BodyState { state, known })
     }
 
-    /// A lemma begins, whose root alone is known. The state before is written over where it stands, since it is large.
+    /// A lemma begins, whose root alone is known. The board of the body before is changed where the root differs from it, since
+    /// lemmas that follow one another have most of their stones in common.
     pub(crate) fn begin(
         &mut self,
         alloc: Global,
-        problem: &Problem,
         root: &Colouring,
         mover: Colour,
         passes: u64,
     ) -> Result<(), AtFault>
-        requires size { side_of root.now ≡ problem.now.game.size }
+        requires size { side_of root.now ≡ self.old.state.game.size }
         requires few { passes ≤ 1 }
-        ensures ok { OnOk result (self.new ≡ record { state = state_alone problem.now.game root.now mover passes; before = [] }) }
-        ensures liberties { OnOk result (first_without_liberty problem.now.game.size root.now ≡ None) }
-        ensures err { IfErr result (λ e. IsAtFault problem.now.game.size (first_without_liberty problem.now.game.size root.now) e) }
+        ensures ok { OnOk result (self.new ≡ record { state = state_alone self.old.state.game root.now mover passes; before = [] }) }
+        ensures liberties { OnOk result (first_without_liberty self.old.state.game.size root.now ≡ None) }
+        ensures err { IfErr result (λ e. (e ≡ AtFault.Memory) ⊎ IsAtFault self.old.state.game.size (first_without_liberty self.old.state.game.size root.now) e) }
     {
-        match State::at(alloc, problem, root, mover, passes) {
-            Ok(state) => {
-                let mut known = Vec::new(alloc);
-                if known.push(*root).is_err() {
-                    return Err(AtFault::Memory);
-                }
-                self.state = state;
+        let mut known = Vec::new(alloc);
+        if known.push(*root).is_err() {
+            return Err(AtFault::Memory);
+        }
+        match self.state.restart(alloc, root, mover, passes) {
+            Ok(()) => {
                 self.known = known;
                 Ok(())
             }
@@ -161,7 +157,7 @@ impl BodyState {
     }
 
     /// Whether none of the colourings is known. It takes the time of the shorter list, with a search in the longer one for each.
-    pub(crate) fn knows_none(&self, list: &[Colouring]) -> bool
+    pub(crate) fn knows_none(&self, list: &ColouringList) -> bool
         requires { Ascends list.now }
         ensures { result ≡ list_all (λ c. not (is_known self.now.state c)) list.now }
     {
@@ -174,7 +170,7 @@ impl BodyState {
 }
 
 /// Whether none of the colourings stands on the list.
-fn none_stands_on(known: &[Colouring], list: &[Colouring]) -> bool
+fn none_stands_on(known: &[Colouring], list: &ColouringList) -> bool
     requires { Ascends list.now }
     ensures { result ≡ list_all (λ c. not (has_occurred list.now c)) known.now }
 {
@@ -187,11 +183,11 @@ fn none_stands_on(known: &[Colouring], list: &[Colouring]) -> bool
 }
 
 /// Whether none of the colourings is known at the state.
-fn none_known(state: &PlayState, list: &[Colouring]) -> bool
+fn none_known(state: &PlayState, list: &ColouringList) -> bool
     ensures { result ≡ list_all (λ c. not (is_known state.now.state c)) list.now }
 {
-    for colouring in list {
-        if state.holds(colouring).is_some() {
+    for index in 0..list.len() {
+        if state.holds(&list.at(index)).is_some() {
             return false;
         }
     }

@@ -4,9 +4,10 @@ ghost use Rattle.std.specs.Prelude.{◌≡◌, ◌⊎◌, IfOk, IfErr};
 ghost use Rattle.target_game.specs.State.{start};
 ghost use Rattle.target_game.specs.Wins.{Wins};
 ghost use Rattle.proof_cert.specs.Certificate.{claim_of};
-ghost use Rattle.cert_check.specs.declared.reject.Why.TheVariants.{Memory};
+ghost use Rattle.cert_check.specs.declared.reject.Why.TheVariants.{Memory, Read};
 ghost use Rattle.cert_check.specs.Meaning.{KeepsPromises};
-ghost use Rattle.cert_check.specs.Checked.{IsChecked};
+ghost use Rattle.cert_check.specs.Checked.{IsChecked, verdict_on};
+ghost use Rattle.cert_check.specs.Stage.{Rejects};
 
 use crate::checker::check;
 use crate::reject::{Reject, Why};
@@ -71,8 +72,11 @@ impl Checked {
 fn judge_held(alloc: Global, problem: &Problem, certificate: &Certificate) -> Result<Colour, Reject>
     ensures ok { IfOk result (λ x. IsChecked problem.now (claim_of certificate.now) × ((claim_of certificate.now).winner ≡ x)) }
     ensures err { IfErr result (λ e. (e.why ≡ Memory) ⊎ (IsChecked problem.now (claim_of certificate.now) → ⊥)) }
+    ensures fault { IfErr result (λ e. Rejects problem.now.game.size (verdict_on problem.now (claim_of certificate.now)) e) }
+    ensures read { IfErr result (λ e. e.why ≡ Read → ⊥) }
 {
     prove!(problem.size().rows() <= MAX_SIZE);
+    prove!(certificate.size.rows() <= MAX_SIZE);
     if certificate.size != problem.size() {
         return Err(Reject {
             place: 1,
@@ -85,7 +89,8 @@ fn judge_held(alloc: Global, problem: &Problem, certificate: &Certificate) -> Re
 }
 
 /// The certificate as one that is checked for the problem, exactly where it is valid for it and within the limits; or its
-/// first fault, with both handed back. Where memory is refused it is that, and says nothing of the certificate.
+/// first fault, with both handed back. Where memory is refused it is that, and says nothing of the certificate. It is never that
+/// the lines could not be read.
 pub fn check_held(
     alloc: Global,
     problem: Problem,
@@ -95,6 +100,8 @@ pub fn check_held(
     ensures certificate { IfOk result (λ k. k.certificate ≡ certificate) }
     ensures kept { IfErr result (λ r. (r.1 ≡ problem) × (r.2 ≡ certificate)) }
     ensures err { IfErr result (λ r. (r.0.why ≡ Memory) ⊎ (IsChecked problem (claim_of certificate) → ⊥)) }
+    ensures fault { IfErr result (λ r. Rejects problem.game.size (verdict_on problem (claim_of certificate)) r.0) }
+    ensures read { IfErr result (λ r. r.0.why ≡ Read → ⊥) }
 {
     match judge_held(alloc, &problem, &certificate) {
         Ok(winner) => Ok(Checked {

@@ -9,7 +9,7 @@ ghost use Rattle.proof_cert.specs.Stage.{line_value};
 ghost use Rattle.cert_check.specs.Ascending.{Ascends};
 ghost use Rattle.cert_check.specs.Body.{Why as SpecWhy};
 ghost use Rattle.cert_check.specs.Inside.{node_fault, node_next, owed_by};
-ghost use Rattle.cert_check.specs.Judging.{AwaitsHad, AwaitsHeader, AwaitsList, AwaitsNode, GoesOn, HasNoLists, IsBehind, IsReady, StopsFor, bad_line, body_here, had_here, had_more, heading_of, inside_now, lemma_of, list_here, listed_more, machine_of, node_here, reply_here, within_of};
+ghost use Rattle.cert_check.specs.Judging.{AwaitsHad, AwaitsHeader, AwaitsList, AwaitsNode, GoesOn, IsBehind, IsBetweenBodies, IsReady, StopsFor, bad_line, body_here, had_here, had_more, heading_of, inside_now, lemma_of, list_here, listed_more, machine_of, node_here, reply_here, within_of};
 ghost use Rattle.cert_check.specs.Machine.{begun, body_of, end_taken, ended, goes_on, header_taken, last_of, listed_taken, listing_had, listing_not, moved, opening, opening_taken, stops, taken};
 ghost use Rattle.cert_check.specs.Parts.{IsJudged, node_value};
 ghost use Rattle.cert_check.specs.Stage.{why_value};
@@ -21,19 +21,19 @@ ghost use Rattle.cert_check.specs.declared.reject.Why.TheVariants.{Memory};
 
 use crate::body::{Body, Head};
 use crate::body_state::BodyState;
-use crate::limits::{MAX_LEMMAS, MAX_LISTED, MAX_NODES};
+use crate::lemma_set::LemmaSet;
 use crate::lines::{
     NodeLine, Opening, had_of, header_of, is_after, is_end, line_fits, listed_of, node_of,
     opening_of, reply_of,
 };
-use crate::open_nodes::{Due, MOST_OPEN, Open, take_node, take_reply};
+use crate::open_nodes::{Due, MOST_OPEN, take_node, take_reply};
 use crate::reject::{Reject, Why};
 use arrayvec::ArrayVec;
-use go_points::{Colour, Colouring, Turn};
-use proof_cert::{Line, Version};
+use go_points::{Colour, Colouring, ColouringList, Turn};
+use proof_cert::{Line, MAX_LEMMAS, MAX_LISTED, MAX_NODES, Version};
 use std::alloc::{AllocError, Global};
 use std::mem;
-use target_game::{AtFault, Problem};
+use target_game::{AtFault, Problem, TurnsLeft};
 
 /// Whose body is judged.
 #[derive(Clone, Copy, Debug, PartialEq, Eq)]
@@ -42,8 +42,8 @@ pub(crate) enum Within {
     Main,
 }
 
-/// Which line is due: the first; `lemma` or `main`; one of a lemma's two lists, or behind them; one of the second list, or its first node;
-/// one of a body; or none.
+/// Which line is due: the first; `lemma` or `main`; one of a lemma's two lists, or after them; one of the second list, or
+/// its first node; one of a body; or none.
 #[derive(Clone, Copy, Debug, PartialEq, Eq)]
 pub(crate) enum Phase {
     Header,
@@ -55,7 +55,8 @@ pub(crate) enum Phase {
 }
 
 /// What is kept of a claim between two lines: the heads of its lemmas, what the present lemma says before its tree, the
-/// state of the present body with its open nodes, and the counts. `place` is the number of the next line.
+/// lemmas whose lists are known to stand on its own, the state of the present body with its open nodes, and the counts.
+/// `place` is the number of the next line.
 #[derive(Drop)]
 pub(crate) struct Judge<'p> {
     alloc: Global,
@@ -71,9 +72,10 @@ pub(crate) struct Judge<'p> {
     passes: u8,
     root: Colouring,
     had: Vec<Colouring>,
-    list: Vec<Colouring>,
+    list: ColouringList,
+    passed: LemmaSet,
     state: BodyState,
-    open_nodes: ArrayVec<Open, MOST_OPEN>,
+    open_nodes: ArrayVec<TurnsLeft, MOST_OPEN>,
 }
 
 impl<'p> Judge<'p> {
@@ -98,7 +100,8 @@ impl<'p> Judge<'p> {
             passes: 0,
             root: *problem.colouring(),
             had: Vec::new(alloc),
-            list: Vec::new(alloc),
+            list: ColouringList::new(alloc),
+            passed: LemmaSet::new(alloc),
             state,
             open_nodes: ArrayVec::new(),
         })
@@ -140,7 +143,7 @@ impl<'p> Judge<'p> {
     fn lemma(&mut self, mover: Colour, passes: u8, root: Colouring) -> Result<(), Why>
         requires size { side_of root ≡ self.old.problem.now.game.size }
         requires few { passes ≤ 1 }
-        requires lists { HasNoLists self.old }
+        requires between { IsBetweenBodies self.old }
         ensures place { self.new.place ≡ self.old.place }
         ensures problem { self.new.problem ≡ self.old.problem }
         ensures ready { OnOk result (IsBehind self.new) }
@@ -149,7 +152,6 @@ impl<'p> Judge<'p> {
     {
         if let Err(why) = begin(
             self.alloc,
-            self.problem,
             self.heads.as_slice(),
             &mut self.state,
             mover,
@@ -176,7 +178,7 @@ impl<'p> Judge<'p> {
 
     /// The line `main`.
     fn main(&mut self) -> Result<(), Why>
-        requires lists { HasNoLists self.old }
+        requires between { IsBetweenBodies self.old }
         ensures place { self.new.place ≡ self.old.place }
         ensures problem { self.new.problem ≡ self.old.problem }
         ensures ready { OnOk result (IsBehind self.new) }
@@ -197,7 +199,7 @@ impl<'p> Judge<'p> {
 
     /// A line before a body, which fits the board.
     fn opening(&mut self, line: &Line) -> Result<(), Why>
-        requires lists { HasNoLists self.old }
+        requires between { IsBetweenBodies self.old }
         requires fits { IsTrue (fits_board self.old.problem.now.game.size (line_value self.old.problem.now.game.size line.now)) }
         ensures place { self.new.place ≡ self.old.place }
         ensures problem { self.new.problem ≡ self.old.problem }
@@ -242,7 +244,7 @@ impl<'p> Judge<'p> {
         Ok(())
     }
 
-    /// Behind the colourings that must have occurred: the body begins where they have.
+    /// After the colourings that must have occurred: the body begins where they have. Where there is none it stands there already.
     fn remember(&mut self) -> Result<(), Why>
         requires { AwaitsHad self.old }
         ensures rest { self.new ≡ record self.old { state = self.new.state; phase = self.new.phase } }
@@ -250,23 +252,25 @@ impl<'p> Judge<'p> {
         ensures ready { OnOk result (AwaitsList self.new) }
         ensures err { IfErr result (λ why. why ≡ Memory) }
     {
-        let made = BodyState::at_with(
-            self.alloc,
-            self.problem,
-            &self.root,
-            self.had.as_slice(),
-            self.mover,
-            u64::from(self.passes),
-        );
-        let Ok(remembering) = made else {
-            return Err(Why::Memory);
-        };
-        self.state = remembering;
+        if !self.had.is_empty() {
+            let made = BodyState::at_with(
+                self.alloc,
+                self.problem,
+                &self.root,
+                self.had.as_slice(),
+                self.mover,
+                u64::from(self.passes),
+            );
+            let Ok(remembering) = made else {
+                return Err(Why::Memory);
+            };
+            self.state = remembering;
+        }
         self.phase = Phase::Listing;
         Ok(())
     }
 
-    /// A line behind a lemma's first one, or among the colourings that must have occurred.
+    /// A line after a lemma's first one, or among the colourings that must have occurred.
     fn listing_had(&mut self, line: &Line) -> Result<(), Why>
         requires ready { AwaitsHad self.old }
         requires phase { self.old.phase ≡ phases.ListingHad }
@@ -294,42 +298,48 @@ impl<'p> Judge<'p> {
         ensures place { self.new.place ≡ self.old.place }
         ensures problem { self.new.problem ≡ self.old.problem }
         ensures ready { OnOk result (IsBehind self.new) }
-        ensures ok { OnOk result (GoesOn self.old self.new (listed_taken (machine_of self.old) (last_of self.old.list.items) colouring (listing_not (heading_of self.old) (listed_more (lemma_of self.old) colouring)))) }
-        ensures err { IfErr result (λ why. StopsFor self.old (listed_taken (machine_of self.old) (last_of self.old.list.items) colouring (listing_not (heading_of self.old) (listed_more (lemma_of self.old) colouring))) why) }
+        ensures ok { OnOk result (GoesOn self.old self.new (listed_taken (machine_of self.old) (last_of self.old.list) colouring (listing_not (heading_of self.old) (listed_more (lemma_of self.old) colouring)))) }
+        ensures err { IfErr result (λ why. StopsFor self.old (listed_taken (machine_of self.old) (last_of self.old.list) colouring (listing_not (heading_of self.old) (listed_more (lemma_of self.old) colouring))) why) }
     {
         if self.listed_count >= MAX_LISTED {
             return Err(Why::Limit);
         }
-        if !is_after(self.list.last().copied(), &colouring) {
+        if !is_after(self.list.last(), &colouring) {
             return Err(Why::ListOrder);
         }
-        if self.list.push(colouring).is_err() {
+        if self.list.push(&colouring).is_err() {
             return Err(Why::Memory);
         }
         self.listed_count += 1;
         Ok(())
     }
 
-    /// A node of a lemma, and what is due behind it.
+    /// A node of a lemma, and what is due after it.
     fn node_of_lemma(&mut self, node: NodeLine) -> Result<Due, Why>
         requires ready { AwaitsNode self.old Node }
         requires room { length self.old.open_nodes.items < 2000 }
-        ensures rest { self.new ≡ record self.old { state = self.new.state; open_nodes = self.new.open_nodes } }
+        ensures rest { self.new ≡ record self.old { state = self.new.state; open_nodes = self.new.open_nodes; passed = self.new.passed } }
         ensures ready { IfOk result (λ due. AwaitsNode self.new due) }
         ensures none { OnOk result (node_fault (body_of (heading_of self.old) (within_of self.old Lemma)) self.old.state.state (node_value self.old.state.state.game.size node) ≡ None) }
         ensures due { IfOk result (λ due. inside_now self.new due ≡ node_next (suc (length self.old.state.before)) self.old.state.state (owed_by self.old.state.before (reverse self.old.open_nodes.items)) (node_value self.old.state.state.game.size node)) }
         ensures err { IfErr result (λ why. (p : SpecWhy) → why_value self.old.state.state.game.size why ≡ Some p → node_fault (body_of (heading_of self.old) (within_of self.old Lemma)) self.old.state.state (node_value self.old.state.state.game.size node) ≡ Some p) }
         ensures judged { IfErr result (λ why. IsJudged why) }
     {
-        let body = Body::of_lemma(self.winner, self.heads.as_slice(), self.list.as_slice());
-        take_node(&body, &mut self.state, &mut self.open_nodes, node)
+        let body = Body::of_lemma(self.winner, self.heads.as_slice(), &self.list);
+        take_node(
+            &body,
+            &mut self.state,
+            &mut self.open_nodes,
+            &mut self.passed,
+            node,
+        )
     }
 
-    /// A node of main, and what is due behind it.
+    /// A node of main, and what is due after it.
     fn node_of_main(&mut self, node: NodeLine) -> Result<Due, Why>
         requires ready { AwaitsNode self.old Node }
         requires room { length self.old.open_nodes.items < 2000 }
-        ensures rest { self.new ≡ record self.old { state = self.new.state; open_nodes = self.new.open_nodes } }
+        ensures rest { self.new ≡ record self.old { state = self.new.state; open_nodes = self.new.open_nodes; passed = self.new.passed } }
         ensures ready { IfOk result (λ due. AwaitsNode self.new due) }
         ensures none { OnOk result (node_fault (body_of (heading_of self.old) (within_of self.old Main)) self.old.state.state (node_value self.old.state.state.game.size node) ≡ None) }
         ensures due { IfOk result (λ due. inside_now self.new due ≡ node_next (suc (length self.old.state.before)) self.old.state.state (owed_by self.old.state.before (reverse self.old.open_nodes.items)) (node_value self.old.state.state.game.size node)) }
@@ -337,14 +347,22 @@ impl<'p> Judge<'p> {
         ensures judged { IfErr result (λ why. IsJudged why) }
     {
         let body = Body::of_main(self.winner, self.heads.as_slice());
-        take_node(&body, &mut self.state, &mut self.open_nodes, node)
+        // Main has no list that another would have to stand on, so nothing is remembered here.
+        let mut none = LemmaSet::new(self.alloc);
+        take_node(
+            &body,
+            &mut self.state,
+            &mut self.open_nodes,
+            &mut none,
+            node,
+        )
     }
 
-    /// A node, and what is due behind it.
+    /// A node, and what is due after it.
     fn node_within(&mut self, within: Within, node: NodeLine) -> Result<Due, Why>
         requires ready { AwaitsNode self.old Node }
         requires room { length self.old.open_nodes.items < 2000 }
-        ensures rest { self.new ≡ record self.old { state = self.new.state; open_nodes = self.new.open_nodes } }
+        ensures rest { self.new ≡ record self.old { state = self.new.state; open_nodes = self.new.open_nodes; passed = self.new.passed } }
         ensures ready { IfOk result (λ due. AwaitsNode self.new due) }
         ensures none { OnOk result (node_fault (body_of (heading_of self.old) (within_of self.old within)) self.old.state.state (node_value self.old.state.state.game.size node) ≡ None) }
         ensures due { IfOk result (λ due. inside_now self.new due ≡ node_next (suc (length self.old.state.before)) self.old.state.state (owed_by self.old.state.before (reverse self.old.open_nodes.items)) (node_value self.old.state.state.game.size node)) }
@@ -391,19 +409,19 @@ impl<'p> Judge<'p> {
         }
     }
 
-    /// The line of a reply, which is looked for at this place.
-    fn reply(&mut self, within: Within, place: u16, line: &Line) -> Result<(), Why>
-        requires ready { AwaitsNode self.old (Reply (Some place)) }
+    /// The line of a reply, where this one is due.
+    fn reply(&mut self, within: Within, due: Turn, left: TurnsLeft, line: &Line) -> Result<(), Why>
+        requires ready { AwaitsNode self.old (Reply due left) }
         ensures place { self.new.place ≡ self.old.place }
         ensures problem { self.new.problem ≡ self.old.problem }
         ensures ready { OnOk result (IsBehind self.new) }
-        ensures ok { OnOk result (GoesOn self.old self.new (reply_here self.old within place (line_value self.old.problem.now.game.size line.now))) }
-        ensures err { IfErr result (λ why. StopsFor self.old (reply_here self.old within place (line_value self.old.problem.now.game.size line.now)) why) }
+        ensures ok { OnOk result (GoesOn self.old self.new (reply_here self.old within due left (line_value self.old.problem.now.game.size line.now))) }
+        ensures err { IfErr result (λ why. StopsFor self.old (reply_here self.old within due left (line_value self.old.problem.now.game.size line.now)) why) }
     {
         let Some(turn) = reply_of(line) else {
             return Err(Why::Malformed);
         };
-        match take_reply(&mut self.state, &mut self.open_nodes, place, turn) {
+        match take_reply(&mut self.state, &mut self.open_nodes, due, left, turn) {
             Ok(()) => {
                 self.phase = Phase::Body {
                     within,
@@ -417,7 +435,8 @@ impl<'p> Judge<'p> {
 
     /// The line `end` of a body whose nodes are all judged.
     fn close(&mut self, within: Within, line: &Line) -> Result<(), Why>
-        requires ascends { Ascends self.old.list.items }
+        requires ascends { Ascends self.old.list }
+        requires game { self.old.state.state.game ≡ self.old.problem.now.game }
         ensures place { self.new.place ≡ self.old.place }
         ensures problem { self.new.problem ≡ self.old.problem }
         ensures ready { OnOk result (IsBehind self.new) }
@@ -438,7 +457,8 @@ impl<'p> Judge<'p> {
 
     /// The present lemma is judged.
     fn close_lemma(&mut self) -> Result<(), Why>
-        requires ascends { Ascends self.old.list.items }
+        requires ascends { Ascends self.old.list }
+        requires game { self.old.state.state.game ≡ self.old.problem.now.game }
         ensures place { self.new.place ≡ self.old.place }
         ensures problem { self.new.problem ≡ self.old.problem }
         ensures ready { OnOk result (IsBehind self.new) }
@@ -446,7 +466,8 @@ impl<'p> Judge<'p> {
         ensures err { IfErr result (λ why. why ≡ Memory) }
     {
         let had = mem::replace(&mut self.had, Vec::new(self.alloc));
-        let list = mem::replace(&mut self.list, Vec::new(self.alloc));
+        let list = mem::replace(&mut self.list, ColouringList::new(self.alloc));
+        self.passed.clear();
         let head = Head::new(self.mover, self.passes, self.root, had, list);
         if self.heads.push(head).is_err() {
             return Err(Why::Memory);
@@ -455,7 +476,7 @@ impl<'p> Judge<'p> {
         Ok(())
     }
 
-    /// A line behind the colourings that must have occurred.
+    /// A line after the colourings that must have occurred.
     fn listing(&mut self, line: &Line) -> Result<(), Why>
         requires ready { AwaitsList self.old }
         requires phase { self.old.phase ≡ phases.Listing }
@@ -483,8 +504,8 @@ impl<'p> Judge<'p> {
     {
         match due {
             Due::Node => self.node(within, line),
-            Due::Reply(Some(place)) => self.reply(within, place, line),
-            Due::Reply(None) => self.close(within, line),
+            Due::Reply { due, left } => self.reply(within, due, left, line),
+            Due::End => self.close(within, line),
         }
     }
 
@@ -564,27 +585,26 @@ impl<'p> Judge<'p> {
     }
 }
 
-/// A lemma begins, behind so many lemmas.
+/// A lemma begins, after so many lemmas.
 fn begin(
     alloc: Global,
-    problem: &Problem,
     heads: &[Head],
     state: &mut BodyState,
     mover: Colour,
     passes: u8,
     root: &Colouring,
 ) -> Result<(), Why>
-    requires size { side_of root.now ≡ problem.now.game.size }
+    requires size { side_of root.now ≡ state.old.state.game.size }
     requires few { passes ≤ 1 }
-    ensures state { OnOk result (state.new ≡ record { state = state_alone problem.now.game root.now mover passes; before = [] }) }
-    ensures ok { OnOk result (lemma_fault problem.now.game heads.now root.now ≡ None) }
-    ensures err { IfErr result (λ why. (p : SpecWhy) → why_value problem.now.game.size why ≡ Some p → lemma_fault problem.now.game heads.now root.now ≡ Some p) }
+    ensures state { OnOk result (state.new ≡ record { state = state_alone state.old.state.game root.now mover passes; before = [] }) }
+    ensures ok { OnOk result (lemma_fault state.old.state.game heads.now root.now ≡ None) }
+    ensures err { IfErr result (λ why. (p : SpecWhy) → why_value state.old.state.game.size why ≡ Some p → lemma_fault state.old.state.game heads.now root.now ≡ Some p) }
     ensures judged { IfErr result (λ why. IsJudged why) }
 {
     if heads.len() >= MAX_LEMMAS {
         return Err(Why::Limit);
     }
-    match state.begin(alloc, problem, root, mover, u64::from(passes)) {
+    match state.begin(alloc, root, mover, u64::from(passes)) {
         Ok(()) => Ok(()),
         Err(AtFault::NoLiberty { .. }) => Err(Why::RootWithoutLiberty),
         Err(AtFault::Memory) => Err(Why::Memory),

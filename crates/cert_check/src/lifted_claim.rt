@@ -12,12 +12,11 @@ ghost use Rattle.cert_check.specs.Results.{claim_with, version_for};
 use crate::held_claim::Checked;
 use crate::laws::lifted_claims_are_right;
 use crate::lift_fault::Lift;
-use crate::limits::{MAX_LISTED, MAX_NODES};
 use crate::results::{Results, results_of};
 use crate::sorting::put_in_order;
 use go_points::{Colouring, MAX_SIZE};
 use proof_cert::laws::one_claim_of_text;
-use proof_cert::{Certificate, Lemma, Node, Version, read_cert, write_cert};
+use proof_cert::{Certificate, Lemma, MAX_LISTED, MAX_NODES, Node, Version, read_cert, write_cert};
 use std::alloc::{AllocError, Global};
 
 /// The claim's text, where it has one.

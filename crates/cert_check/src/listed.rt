@@ -5,7 +5,7 @@ ghost use Rattle.std.specs.List.{list_all};
 ghost use Rattle.go_turns.specs.History.{has_occurred};
 ghost use Rattle.cert_check.specs.Ascending.{Ascends};
 
-use go_points::Colouring;
+use go_points::{Colouring, ColouringList};
 
 /// A list that is shorter than another by this factor is looked up in it, colouring by colouring.
 const MUCH_SHORTER: usize = 16;
@@ -14,7 +14,7 @@ const MUCH_SHORTER: usize = 16;
 const SHORT: usize = 32;
 
 /// Whether the colouring stands on the list.
-pub(crate) fn stands_on(colouring: &Colouring, list: &[Colouring]) -> bool
+pub(crate) fn stands_on(colouring: &Colouring, list: &ColouringList) -> bool
     requires { Ascends list.now }
     ensures { result ≡ has_occurred list.now colouring.now }
 {
@@ -26,27 +26,41 @@ pub(crate) fn stands_on(colouring: &Colouring, list: &[Colouring]) -> bool
 }
 
 /// The same, by looking at each.
-fn is_among(colouring: &Colouring, list: &[Colouring]) -> bool
+fn is_among(colouring: &Colouring, list: &ColouringList) -> bool
     ensures { result ≡ has_occurred list.now colouring.now }
 {
-    for listed in list {
-        if colouring == listed {
+    for index in 0..list.len() {
+        if *colouring == list.at(index) {
             return true;
         }
     }
     false
 }
 
-/// The same, by halving.
-fn is_found(colouring: &Colouring, list: &[Colouring]) -> bool
+/// The same, by halving: it may stand from `low` on and below `high`.
+fn is_found(colouring: &Colouring, list: &ColouringList) -> bool
     requires { Ascends list.now }
     ensures { result ≡ has_occurred list.now colouring.now }
 {
-    list.binary_search(colouring).is_ok()
+    let mut low = 0;
+    let mut high = list.len();
+    'halving: while low < high {
+        let middle = low + (high - low) / 2;
+        let order = list.at(middle).cmp(colouring);
+        if order.is_eq() {
+            return true;
+        }
+        if order.is_lt() {
+            low = middle + 1;
+        } else {
+            high = middle;
+        }
+    }
+    false
 }
 
 /// Whether each of the colourings stands on the list.
-pub(crate) fn all_stand_on(few: &[Colouring], list: &[Colouring]) -> bool
+pub(crate) fn all_stand_on(few: &ColouringList, list: &ColouringList) -> bool
     requires few { Ascends few.now }
     requires list { Ascends list.now }
     ensures { result ≡ list_all (has_occurred list.now) few.now }
@@ -59,12 +73,12 @@ pub(crate) fn all_stand_on(few: &[Colouring], list: &[Colouring]) -> bool
 }
 
 /// The same, by halving for each.
-fn all_found(few: &[Colouring], list: &[Colouring]) -> bool
+fn all_found(few: &ColouringList, list: &ColouringList) -> bool
     requires { Ascends list.now }
     ensures { result ≡ list_all (has_occurred list.now) few.now }
 {
-    for colouring in few {
-        if !stands_on(colouring, list) {
+    for index in 0..few.len() {
+        if !stands_on(&few.at(index), list) {
             return false;
         }
     }
@@ -72,17 +86,17 @@ fn all_found(few: &[Colouring], list: &[Colouring]) -> bool
 }
 
 /// The same, by one pass over both.
-fn all_passed(few: &[Colouring], list: &[Colouring]) -> bool
+fn all_passed(few: &ColouringList, list: &ColouringList) -> bool
     requires few { Ascends few.now }
     requires list { Ascends list.now }
     ensures { result ≡ list_all (has_occurred list.now) few.now }
 {
     let mut wanted = 0;
-    for listed in list {
+    for index in 0..list.len() {
         if wanted == few.len() {
             return true;
         }
-        if few[wanted] == *listed {
+        if few.at(wanted) == list.at(index) {
             wanted += 1;
         }
     }

@@ -1,19 +1,22 @@
 //! The questions that the line of a node is asked at a state, each kind by its own.
 
-ghost use Rattle.std.specs.Prelude.{◌≡◌, None, Some, IfOk, option_map};
+ghost use Rattle.std.specs.Prelude.{◌≡◌, nat_eq, length, None, Some, IfOk, option_map};
+ghost use Rattle.std.specs.List.{All, list_all};
 ghost use Rattle.go_points.specs.Ply.{ply_of};
 ghost use Rattle.target_game.specs.Left.{line_after};
 ghost use Rattle.target_game.specs.Over.{over};
-ghost use Rattle.cert_check.specs.Body.{is_to_move, won_fault, play_fault, head_fault, use_fault, all_fault};
+ghost use Rattle.cert_check.specs.Body.{is_to_move, won_fault, play_fault, head_fault, use_fault, all_fault, due_replies, is_listed, lemma_at};
 ghost use Rattle.go_points.specs.declared.Turn.TheVariants.{At};
 ghost use Rattle.cert_check.specs.Stage.{why_value};
-ghost use Rattle.cert_check.specs.Parts.{move_fault};
+ghost use Rattle.cert_check.specs.Parts.{PassesOn, move_fault};
 
 use crate::body::{Body, Head, all_known};
-use crate::body_state::{BodyState, PlayState};
+use crate::body_state::BodyState;
+use crate::lemma_set::LemmaSet;
 use crate::reject::Why;
 use go_points::{Colour, Point, Turn};
 use std::alloc::AllocError;
+use target_game::{PlayState, TurnsLeft};
 
 /// The winner has won here.
 pub(crate) fn won_fault(body: &Body<'_>, state: &PlayState) -> Option<Why>
@@ -78,34 +81,90 @@ pub(crate) fn make_turn(
     }
 }
 
-/// The lemma speaks of the state: its root is here, the colourings that it needs are known, none of those on its list is, and in a
-/// lemma each of these is on its list.
-fn head_fault(body: &Body<'_>, state: &BodyState, head: &Head) -> Option<Why>
-    ensures { option_map (why_value state.now.state.game.size) result ≡ option_map Some (head_fault body.now state.now.state (Some head.now)) }
+/// Whether the body may make each of the colourings on the lemma's list. Once this is so, it is so for the rest of the
+/// body, and is remembered.
+fn is_passed_on(
+    body: &Body<'_>,
+    passed: &mut LemmaSet,
+    number: u32,
+    head: &Head,
+) -> Result<bool, AllocError>
+    requires head { lemma_at body.now.earlier number ≡ Some head.now }
+    requires passed { All (PassesOn body.now) passed.old }
+    ensures passed { All (PassesOn body.now) passed.new }
+    ensures value { IfOk result (λ b. b ≡ list_all (is_listed body.now.listed) head.now.absent) }
 {
-    if !head.is_at(state.play()) {
-        return Some(Why::StateDiffers);
+    // Where there is nothing to compare the answer is at hand.
+    if !body.has_list() || head.absent().len() == 0 {
+        return Ok(body.lists_all(head.absent()));
     }
-    if !all_known(state.play(), head.had()) {
-        return Some(Why::NeededNotOccurred);
-    }
-    if !state.knows_none(head.absent()) {
-        return Some(Why::ListedOccurred);
+    if passed.holds(number) {
+        return Ok(true);
     }
     if !body.lists_all(head.absent()) {
-        return Some(Why::ListedNotPassedOn);
+        return Ok(false);
     }
-    None
+    passed.insert(number)?;
+    Ok(true)
+}
+
+/// The lemma of this number speaks of the state: its root is here, the colourings that it needs are known, none of those
+/// on its list is, and in a lemma each of these is on its list.
+fn head_fault(
+    body: &Body<'_>,
+    passed: &mut LemmaSet,
+    state: &BodyState,
+    number: u32,
+    head: &Head,
+) -> Result<Option<Why>, AllocError>
+    requires head { lemma_at body.now.earlier number ≡ Some head.now }
+    requires passed { All (PassesOn body.now) passed.old }
+    ensures passed { All (PassesOn body.now) passed.new }
+    ensures fault { IfOk result (λ f. option_map (why_value state.now.state.game.size) f ≡ option_map Some (head_fault body.now state.now.state (Some head.now))) }
+{
+    if !head.is_at(state.play()) {
+        return Ok(Some(Why::StateDiffers));
+    }
+    if !all_known(state.play(), head.had()) {
+        return Ok(Some(Why::NeededNotOccurred));
+    }
+    if !state.knows_none(head.absent()) {
+        return Ok(Some(Why::ListedOccurred));
+    }
+    if !is_passed_on(body, passed, number, head)? {
+        return Ok(Some(Why::ListedNotPassedOn));
+    }
+    Ok(None)
 }
 
 /// An earlier lemma has the number, and it speaks of the state.
-pub(crate) fn use_fault(body: &Body<'_>, state: &BodyState, number: u32) -> Option<Why>
-    ensures { option_map (why_value state.now.state.game.size) result ≡ option_map Some (use_fault body.now state.now.state number) }
+pub(crate) fn use_fault(
+    body: &Body<'_>,
+    passed: &mut LemmaSet,
+    state: &BodyState,
+    number: u32,
+) -> Result<Option<Why>, AllocError>
+    requires passed { All (PassesOn body.now) passed.old }
+    ensures passed { All (PassesOn body.now) passed.new }
+    ensures fault { IfOk result (λ f. option_map (why_value state.now.state.game.size) f ≡ option_map Some (use_fault body.now state.now.state number)) }
 {
     match body.lemma(number) {
-        Some(head) => head_fault(body, state, head),
-        None => Some(Why::LemmaNotLower),
+        Some(head) => head_fault(body, passed, state, number, head),
+        None => Ok(Some(Why::LemmaNotLower)),
     }
+}
+
+/// So many turns are legal.
+fn has_turns(state: &PlayState, count: u32) -> bool
+    ensures { result ≡ nat_eq count (length (due_replies state.now.state)) }
+{
+    let mut left = TurnsLeft::all();
+    for taken in 0..count {
+        if state.next_left(&mut left).is_none() {
+            return false;
+        }
+    }
+    state.next_left(&mut left).is_none()
 }
 
 /// The other side moves: so many replies are due.
@@ -115,7 +174,7 @@ pub(crate) fn all_fault(body: &Body<'_>, state: &PlayState, replies: u32) -> Opt
     if !is_to_move(state, body.winner().opponent()) {
         return Some(Why::WrongSide);
     }
-    if replies as usize != state.turns().len() {
+    if !has_turns(state, replies) {
         return Some(Why::RepliesDiffer { due: Turn::Pass });
     }
     None

@@ -9,12 +9,11 @@ ghost use Rattle.cert_check.specs.Body.{is_open, result_of};
 ghost use Rattle.cert_check.specs.Lift.{play_results, reply_results};
 ghost use Rattle.cert_check.specs.Results.{ArePlayable, AreOpen, IsPlayable, IsPlayablePart, due_at, gathered, is_past, joined, left_at, reversed};
 
-use crate::body_state::PlayState;
 use crate::held_claim::Checked;
 use go_points::{Colouring, Turn};
 use proof_cert::Node;
 use std::alloc::{AllocError, Global};
-use target_game::State;
+use target_game::{PlayState, State};
 
 /// What the moves of a tree give, in the order of the tree.
 #[derive(Drop)]

@@ -20,8 +20,3 @@ judged_last q t f is judged (u ∷ before) [] had = absurd had
 pub judged_more : (q : GameProblem) (turns left : List Ply) (t : Ply) (f : Found) (found : List Found)
     → ply_of q.game.size f.turn ≡ t → IsJudged q t f.judged → JudgedBefore q turns (t ∷ left) found → JudgedBefore q turns left (found ++ f ∷ [])
 judged_more q turns left t f found is judged (before, whole, had) = (before ++ t ∷ [], whole ∙ sym (append_assoc before (t ∷ []) left), judged_last q t f is judged before found had)
-
--- No turn is left.
-pub all_judged : (q : GameProblem) (turns left : List Ply) (found : List Found) → left ≡ [] → JudgedBefore q turns left found → AreJudged q turns found
-all_judged q turns left found none (before, whole, had) =
-    subst (λ ts. AreJudged q ts found) (sym (whole ∙ ap (λ ts. before ++ ts) none ∙ append-nil before)) had

@@ -5,14 +5,14 @@ ghost use Rattle.target_game.specs.Legal.{legal_turns};
 ghost use Rattle.target_game.specs.State.{start};
 ghost use Rattle.first_moves.specs.Judged.{AreJudged, count, is_right, is_unknown, solution_of};
 
-use crate::judged::{First, Judged, judge};
+use crate::judged::{Judged, judge};
 use crate::names::{turn_name, worth_name};
 use go_points::Turn;
 use pn_search::Budget;
 use sgf_text::write_bytes;
 use std::alloc::{AllocError, Global};
 use std::io::Write;
-use target_game::{Problem, TurnsLeft};
+use target_game::{PlayState, Problem, TurnsLeft};
 
 /// A legal first turn, and what is found of it.
 #[derive(Drop)]
@@ -54,7 +54,7 @@ pub(crate) fn judge_turns<N: Write>(
     ensures { IfOk result (λ found. AreJudged problem.now (legal_turns (start problem.now)) found.items) }
 {
     prove!(problem.place() < problem.history().len());
-    let state = First::of(alloc, problem)?;
+    let state = PlayState::of(alloc, problem)?;
     let count = state.turns().len();
     let mut found = Vec::new(alloc);
     let mut turns_left = TurnsLeft::all();

@@ -11,14 +11,10 @@ ghost use Rattle.first_moves.specs.Judged.{IsProblemWith, IsProblemAfter, IsJudg
 use crate::claim::{turn_before, winning_turn};
 use cert_check::{Checked, Why, check_held};
 use go_points::{Colouring, Point, Turn};
-use go_turns::{PlayBoard, PlaySeen};
 use pn_search::{Budget, Cause, Verdict, solve};
 use proof_cert::Certificate;
 use std::alloc::{AllocError, Global};
-use target_game::{Problem, State};
-
-/// The state that first turns are asked of.
-pub(crate) type First = State<PlayBoard, PlaySeen>;
+use target_game::{PlayState, Problem, State};
 
 /// What is found of a legal first turn.
 #[derive(Drop)]
@@ -55,7 +51,7 @@ fn problem_with(
 fn problem_after(
     alloc: Global,
     problem: &Problem,
-    state: &First,
+    state: &PlayState,
     turn: Turn,
 ) -> Result<Option<Problem>, AllocError>
     requires { state.now.state ≡ start problem.now }
@@ -79,7 +75,7 @@ fn problem_after(
 }
 
 /// The colouring after the mover's move at the point; none where it is no empty point of the region.
-fn colouring_after(state: &First, point: Point) -> Option<Colouring>
+fn colouring_after(state: &PlayState, point: Point) -> Option<Colouring>
     requires { IsOn state.now.state.game.size point }
     ensures { IfSome result (λ after. after ≡ after_move state.now.state.game.size state.now.state.colouring state.now.state.mover (number_of state.now.state.game.size point)) }
 {
@@ -94,7 +90,7 @@ fn colouring_after(state: &First, point: Point) -> Option<Colouring>
 pub(crate) fn judge(
     alloc: Global,
     problem: &Problem,
-    state: &First,
+    state: &PlayState,
     turn: Turn,
     budget: Budget,
 ) -> Result<Judged, AllocError>

@@ -38,9 +38,6 @@ count_grows n c d heads more h same emptier = total_le_within _ _ (points n) (λ
         let kept = touches_same n heads more h e same in
         omega (arith, all, kept)
 
-pub left_self : (n : ℕ) (c : List Cell) (heads : List ℕ) → LeavesLiberties n c heads c heads
-left_self n c heads h lacking = record { lacking = lacking; cell = refl; points = λ q on e. e }
-
 pub left_on : (n : ℕ) (b c d : List Cell) (first old now : List ℕ) → LeavesLiberties n b first c old → LeavesLiberties n c old d now → LeavesLiberties n b first d now
 left_on n b c d first old now early late h lacking =
     let second = late h lacking in
@@ -101,15 +98,6 @@ pub record CapturedSoFar (n : ℕ) (first now : List Cell) (old heads next count
   pub left : LeavesLiberties n first old now heads
   pub passed : (q : ℕ) → q < n * n → IsIn q done → (h : ℕ) → LacksLiberties n now heads h → cell_at now h ≡ Stone k → slice_index old q ≢ h
   pub count : removed + stone_count now ≡ stone_count first
-
-pub captured_start : (n : ℕ) (c : List Cell) (heads next counts : List ℕ) (k : Colour) → IsSettled n c heads next counts → CapturedSoFar n c c heads heads next counts k 0 []
-captured_start n c heads next counts k settled = record {
-  settled = settled;
-  cleared = refl;
-  left = left_self n c heads;
-  passed = λ q on m. absurd m;
-  count = omega arith;
-}
 
 pub captured_step : (n : ℕ) (first now after : List Cell) (old heads more next counts counts' : List ℕ) (k : Colour) (removed taken : ℕ) (x : ℕ) (done done' : List ℕ) → ((q : ℕ) → IsIn q done' → IsIn q done ⊎ (q ≡ x))
     → IsSettled n after more next counts' → clear n after k ≡ clear n now k → LeavesLiberties n now heads after more

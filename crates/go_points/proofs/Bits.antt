@@ -68,7 +68,7 @@ unfolding has_bit
 bit_read words k = ap (λ x. nat_eq x 1) (shr_and_one (get_or words (k / 64) 0) (k % 64))
 
 -- words of zeros
-zeros : (count j : ℕ) → get_or (replicate {A = ℕ} count 0) j 0 ≡ 0
+pub zeros : (count j : ℕ) → get_or (replicate {A = ℕ} count 0) j 0 ≡ 0
 zeros zero j = refl
 zeros (suc count) zero = refl
 zeros (suc count) (suc j) = zeros count j

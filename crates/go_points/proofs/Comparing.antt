@@ -136,6 +136,3 @@ one_cell_more c d k below here = record {
 -- two that agree up to the lesser of two numbers of words
 pub fewer_words : (words more : List ℕ) (k m : ℕ) → m ≤ k → ((j : ℕ) → j < k → get_or words j 0 ≡ get_or more j 0) → SameWords words more m
 fewer_words words more k m less same = record { word = λ j low. same j (omega (arith, low, less)) }
-
-pub no_lower : (c d : List Cell) → SameBelow c d 0
-no_lower c d = record { same = λ j low. absurd (omega (arith, low)) }

@@ -5,6 +5,7 @@ pub mod Paths
 pub mod Clearing
 pub mod Sides
 pub mod Packing
+pub mod Narrowing
 pub mod Comparing
 pub mod Unlike
 pub mod Reciprocals

@@ -18,9 +18,6 @@ use Rattle.go_points.proofs.Sides.{number_below}
 pub within_widest : (n : ℕ) → n ≤ MAX_SIZE → n * n ≤ MAX_POINTS
 within_widest n most = omega (arith, mul-le-mul most most)
 
-pub widest_words : (words : List ℕ) (n : ℕ) → n ≤ MAX_SIZE → IsWords words word_count (n * n) → IsWords words word_count MAX_POINTS
-widest_words words n most is = record { long = is.long; fits = is.fits; rest = λ i past. is.rest i (omega (arith, past, within_widest n most)) }
-
 module _ (n : ℕ) (stones blacks : List ℕ) (c : List Cell) (packed : IsPacked n stones blacks) (is : packed_cells n stones blacks ≡ c) where
   pub side_packed : side_of c ≡ n
   side_packed = ap side_of (sym is) ∙ packed_side n stones blacks

@@ -17,10 +17,10 @@ use std::marker::Model;
 /// What every point of a board holds, in two bits a cell, with room for the widest board. Colourings are ordered as their texts are. No call takes memory.
 #[derive(Clone, Copy, Debug)]
 pub struct Colouring {
-    size: Size,
+    pub(crate) size: Size,
     // One bit for each point: whether there is a stone, and whether it is black.
-    stones: PointBits,
-    blacks: PointBits,
+    pub(crate) stones: PointBits,
+    pub(crate) blacks: PointBits,
 }
 
 impl Model for Colouring {

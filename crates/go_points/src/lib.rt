@@ -54,19 +54,20 @@ impl Cell {
 }
 
 mod colouring;
+mod colouring_list;
 pub mod laws;
+mod narrow_colouring;
 mod point;
 mod point_bits;
 mod point_set;
 mod points;
 mod sgf;
 mod size;
-#[cfg(test)]
-mod tests;
 mod text;
 mod vertex;
 
 pub use colouring::Colouring;
+pub use colouring_list::ColouringList;
 pub use point::Point;
 pub use point_set::{Members, PointSet};
 pub use points::Points;

@@ -5,6 +5,7 @@ ghost use Rattle.std.specs.Int.{bit_at};
 ghost use Rattle.go_points.specs.declared.TheConstants.{MAX_POINTS};
 ghost use Rattle.go_points.specs.Points.{has_bit};
 ghost use Rattle.go_points.specs.Words.{IsWords, AreAlike, word_count};
+ghost use Rattle.go_points.specs.Narrow.{first_words, narrow_count};
 
 use crate::MAX_POINTS;
 
@@ -14,10 +15,41 @@ pub(crate) const WORDS: usize = (MAX_POINTS + 63) / 64;
 /// The words: bit i % 64 of word i / 64 is that of the point i.
 pub(crate) type PointBits = [u64; WORDS];
 
+/// Boards of at most so many rows need the first words alone.
+pub(crate) const NARROW_SIZE: u8 = 19;
+
+/// The number of those words.
+pub(crate) const NARROW_WORDS: usize = (NARROW_SIZE as usize * NARROW_SIZE as usize + 63) / 64;
+
+/// The words of a narrow board.
+pub(crate) type NarrowBits = [u64; NARROW_WORDS];
+
 pub(crate) fn no_bits() -> PointBits
     ensures { result ≡ replicate word_count 0 }
 {
     [0; WORDS]
+}
+
+/// The first words.
+pub(crate) fn narrow_bits(bits: &PointBits) -> NarrowBits
+    ensures { result ≡ first_words narrow_count bits.now }
+{
+    let mut narrow = [0; NARROW_WORDS];
+    for index in 0..NARROW_WORDS {
+        narrow[index] = bits[index];
+    }
+    narrow
+}
+
+/// The first words, and no bit after them.
+pub(crate) fn wide_bits(bits: &NarrowBits) -> PointBits
+    ensures { result ≡ first_words word_count bits.now }
+{
+    let mut wide = no_bits();
+    for index in 0..NARROW_WORDS {
+        wide[index] = bits[index];
+    }
+    wide
 }
 
 pub(crate) fn read_bit(bits: &PointBits, bit: usize) -> bool

@@ -28,9 +28,6 @@ rest_is_once old new k front once = ap repeats front ∙ once_in_front old k onc
 pub stood : (h : List (List Cell)) (c : List Cell) → list_any (same_cells c) h ≡ true → place_in h c ≡ Some (position_or_len (same_cells c) h)
 stood h c some = some_position (same_cells c) h some
 
-pub joins_none : (h new : List (List Cell)) (c : List Cell) → list_any (same_cells c) h ≡ true → new ≡ (if list_any (same_cells c) h then h else h ++ c ∷ []) → IsJoined (place_in h c) h c new
-joins_none h new c some now = subst (λ r. IsJoined r h c new) (sym (stood h c some)) (now ∙ ap (λ b. if b then h else h ++ c ∷ []) some)
-
 pub joins_last : (h new : List (List Cell)) (c : List Cell) → list_any (same_cells c) h ≡ false → new ≡ (if list_any (same_cells c) h then h else h ++ c ∷ []) → IsJoined (place_in h c) h c new
 joins_last h new c none now = subst (λ r. IsJoined r h c new) (sym (no_position (same_cells c) h none)) (now ∙ ap (λ b. if b then h else h ++ c ∷ []) none)
 

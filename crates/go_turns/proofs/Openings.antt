@@ -1,9 +1,9 @@
 -- What the definition of an opening gives, by whether the present colouring has its liberties.
-use Rattle.std.proofs.Common.{◌≡◌, ℕ, Option, Some, Err, sym, ap, subst}
+use Rattle.std.proofs.Common.{◌≡◌, ℕ, Option, Some, Err, sym, ◌∙◌, ap, subst}
 use Rattle.std.proofs.lemmas.Nat.{div-mul-add, mod-mul-add}
 use Rattle.go_points.specs.Place.{Place, IsOn, number_of, place_of}
 use Rattle.go_turns.specs.declared.fault.TurnFault.TheVariants.{NoLiberty}
-use Rattle.go_turns.specs.Record.{Moment, with_liberties, Opens}
+use Rattle.go_turns.specs.Record.{Moment, with_liberties, reopened, Opens}
 
 -- a point of the board is the place of its number
 pub place_back : (n : ℕ) (p : Place) → IsOn n p → place_of n (number_of n p) ≡ p
@@ -12,3 +12,6 @@ place_back n p on = λ i. record { row = div-mul-add p.row n p.column on.column_
 module _ (n : ℕ) (found : Option ℕ) (m : Moment) where
   pub opens_refused : (p : Place) → found ≡ Some (number_of n p) → IsOn n p → Opens n (with_liberties n found m) (Err (NoLiberty p))
   opens_refused p first on = subst (λ o. Opens n (with_liberties n o m) (Err (NoLiberty p))) (sym first) (ap NoLiberty (sym (place_back n p on)))
+
+  pub reopens_refused : (p : Place) → found ≡ Some (number_of n p) → IsOn n p → reopened n (with_liberties n found m) ≡ Err (NoLiberty p)
+  reopens_refused p first on = ap (λ o. reopened n (with_liberties n o m)) first ∙ ap (λ q. Err (NoLiberty q)) (place_back n p on)

@@ -78,6 +78,11 @@ abbrev pub opened : ℕ → List (List Cell) → ℕ → ℕ → Result Moment T
 opened n history place passes =
     with_liberties n (first_without_liberty n (slice_index_or history place [])) (record { history = history; place = place; passes = passes; last_colour = None })
 
+-- The record without steps at an opening, or the opening's refusal.
+abbrev pub reopened : ℕ → Result Moment TurnFault → Result GameRecord TurnFault
+reopened n (Ok m) = Ok (record { size = n; present = m; earlier = [] })
+reopened n (Err fault) = Err fault
+
 -- The record with one more step, where the step is not refused.
 abbrev pub stepped : GameRecord → Result Moment TurnFault → Result GameRecord TurnFault
 stepped r (Ok m) = Ok (record r { present = m; earlier = r.present ∷ r.earlier })

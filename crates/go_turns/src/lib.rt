@@ -27,9 +27,5 @@ pub type PlayBoard = ChainBoard;
 /// The list of colourings that play uses, named so for the same reason.
 pub type PlaySeen = HashSeen;
 
-#[cfg(test)]
-mod board_tests;
-#[cfg(test)]
-mod key_tests;
-#[cfg(test)]
-mod tests;
+/// The record that play uses.
+pub type PlayRecord = Record<PlayBoard, PlaySeen>;

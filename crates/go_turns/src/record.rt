@@ -10,7 +10,7 @@ ghost use Rattle.go_points.specs.declared.Cell.TheVariants.{Empty, Stone};
 ghost use Rattle.go_points.specs.Ply.{ply_of, pass as a_pass, move as a_move};
 ghost use Rattle.go_turns.specs.History.{place_in, repeats};
 ghost use Rattle.stone_key.specs.Key.{key_of};
-ghost use Rattle.go_turns.specs.Record.{colouring_of, numbered, assigned, play_of, setup_of, undo_of, opened, Did, DidIfLegal, DidWithoutMemory, Opens};
+ghost use Rattle.go_turns.specs.Record.{colouring_of, numbered, assigned, play_of, setup_of, undo_of, opened, reopened, Did, DidIfLegal, DidWithoutMemory, Opens};
 ghost use Rattle.go_turns.specs.Steps.{IsNotAdded, Joins};
 
 use crate::board::Board;
@@ -146,6 +146,16 @@ fn add_all<S: Seen>(seen: &mut S, history: &[Colouring]) -> Result<(), AllocErro
     Ok(())
 }
 
+// The history that is this colouring alone.
+fn seen_alone<S: Seen>(alloc: Global, colouring: &Colouring, key: u64) -> Result<S, AllocError>
+    requires { key ≡ key_of colouring.now }
+    ensures { IfOk result (λ seen. S.content seen ≡ colouring.now ∷ []) }
+{
+    let mut seen = S::new(alloc);
+    seen.add_with(*colouring, key)?;
+    Ok(seen)
+}
+
 impl<B: Board, S: Seen> Record<B, S> {
     /// The record without steps whose history is this colouring. Refused where a stone does not reach empty, by the least such point.
     pub fn new(alloc: Global, colouring: &Colouring) -> Result<Record<B, S>, TurnFault>
@@ -186,6 +196,35 @@ impl<B: Board, S: Seen> Record<B, S> {
             last_colour: None,
             steps: Vec::new(alloc),
         })
+    }
+
+    /// Begins anew: the record has no steps, its history is this colouring alone, and so many passes were just made. Refused where a stone does not reach empty, by the least such point. The board is changed only where the colouring differs from the present one.
+    pub fn reopen(
+        &mut self,
+        alloc: Global,
+        colouring: &Colouring,
+        passes: u64,
+    ) -> Result<(), TurnFault>
+        requires size { side_of colouring.now ≡ self.old.size }
+        requires few { passes ≤ 2 }
+        ensures { let n = self.old.size in Did (reopened n (opened n (colouring.now ∷ []) 0 passes)) self.old result self.new }
+    {
+        let before = self.board.colouring();
+        if let Err(refused) = self.board.assign(colouring) {
+            return Err(TurnFault::NoLiberty {
+                point: refused.point,
+            });
+        }
+        let Ok(seen) = seen_alone(alloc, colouring, self.board.key()) else {
+            let _restored = self.board.assign(&before);
+            return Err(TurnFault::Memory);
+        };
+        self.seen = seen;
+        self.place = 0;
+        self.passes = passes;
+        self.last_colour = None;
+        self.steps.clear();
+        Ok(())
     }
 
     /// Adds a turn of this colour, whoever played last. A pass always succeeds, memory aside. A move succeeds where the board holds the point, it is empty and the colouring that it makes has not occurred, in whatever order of turns (positional superko).

@@ -4,7 +4,7 @@ use Rattle.std.proofs.lemmas.Bool.{cases_lt}
 use Rattle.std.proofs.lemmas.List.{length-append, length-take-le, take_all}
 use Rattle.std.specs.Io.KnownBytes.{Consumes, IsAtEnd}
 use Rattle.std.proofs.KnownBytes.{Appends-nil, Appends-trans, Consumes-nil, Consumes-trans}
-use Rattle.sgf_text.specs.Taken.{TakesPart}
+use Rattle.byte_writer.specs.Taken.{TakesPart}
 use Rattle.gtp_core.specs.declared.end.GtpEnd.TheVariants.{Read, Write}
 use Rattle.gtp_core.specs.declared.input.Ending.{Ending}
 use Rattle.gtp_core.specs.declared.input.Ending.TheVariants.{LineFeed, End}

@@ -1,7 +1,7 @@
 -- Words of the private calls that take lines from a reader. No public clause rests on them.
 use Rattle.std.specs.Prelude.{◌≡◌, ◌<◌, ◌+◌, ℕ, Bool, not, List, [], ◌∷◌, ◌++◌, length, take, Option, None, Some, ◌⊎◌}
 use Rattle.std.specs.Io.KnownBytes.{Appends, Consumes, IsAtEnd, prepend_known}
-use Rattle.sgf_text.specs.Taken.{TakesPart}
+use Rattle.byte_writer.specs.Taken.{TakesPart}
 use Rattle.gtp_core.specs.declared.input.Ending.{Ending}
 use Rattle.gtp_core.specs.declared.input.Ending.TheVariants.{LineFeed, End}
 use Rattle.gtp_core.specs.Lines.{raw_lines}

@@ -6,7 +6,7 @@
 ghost use Rattle.std.specs.Prelude.{OnOk, OnErr};
 ghost use Rattle.std.specs.Io.{ReadsAtMost};
 ghost use Rattle.std.specs.Io.KnownBytes.{Appends, ReadConsumes};
-ghost use Rattle.sgf_text.specs.Taken.{TakesPart};
+ghost use Rattle.byte_writer.specs.Taken.{TakesPart};
 
 use sgf_text::{WriteFault, write_bytes};
 use std::io;

@@ -14,8 +14,6 @@ mod reply;
 mod run;
 mod search;
 mod session;
-#[cfg(test)]
-mod tests;
 mod words;
 
 pub use channel::{Plain, ReadFrom, WriteTo};

@@ -23,7 +23,7 @@ use crate::reply::{failure, success};
 use crate::search::{Found, searched};
 use crate::words::{turn_at, with_turn};
 use go_points::{Colour, PointSet, Size, Turn, Vertex};
-use go_turns::{Board, PlayBoard, PlaySeen, Record, Seen, TurnFault};
+use go_turns::{Board, PlayBoard, PlayRecord, Record, Seen, TurnFault};
 use std::alloc::{AllocError, Global};
 use std::marker::Model;
 use target_game::{Problem, Within, colour_at, decide_within};
@@ -37,9 +37,6 @@ pub(crate) const FIRST_SIZE: u8 = 19;
 
 /// The most states of a decision.
 const MAX_NODES: u64 = 1_000_000;
-
-/// A record of turns, as the session keeps it.
-pub(crate) type PlayRecord = Record<PlayBoard, PlaySeen>;
 
 /// A session: its record since the new board, the targets and the region. It plays by the Tromp-Taylor turn rule over the whole past.
 #[derive(Drop)]

@@ -2,11 +2,9 @@
 
 use crate::refusal::{not_begun, say_refused};
 use go_points::{Cell, Colour, Colouring, Point, Size, Turn};
-use go_turns::{Board, PlayBoard, PlaySeen, Record, Seen, TurnFault};
+use go_turns::{Board, PlayRecord, Record, Seen, TurnFault};
 use std::alloc::Global;
 use std::io;
-
-type PlayRecord = Record<PlayBoard, PlaySeen>;
 
 /// One call that changes a record.
 #[derive(Clone, Copy)]

@@ -1,7 +1,6 @@
 -- What full search finds, turn by turn and depth by depth.
 use Rattle.std.proofs.Common.{◌≡◌, ℕ, zero, suc, ◌+◌, ◌<◌, ◌≤◌, ◌⊎◌, inl, inr, Bool, true, false, not, ◌&&◌, ◌||◌, IsTrue, List, [], ◌∷◌, ◌++◌, Option, Some, None, is_none, refl, sym, ◌∙◌, ap, subst, arith, sum_by, add-one, zero-le, append_assoc, nat_eq, Result, Ok, Err, OnOk}
 use Rattle.std.specs.List.{list_any, list_all}
-use Rattle.std.proofs.lemmas.List.{append-nil}
 use Rattle.std.proofs.lemmas.List.Sums.{sum_by-cons, sum_by-append}
 use Rattle.std.proofs.lemmas.List.Folds.{list_any-append, list_all-append}
 use Rattle.go_points.specs.declared.Colour.{Colour}
@@ -153,27 +152,12 @@ not_any f ts t a b = list_any-append f ts (t ∷ []) ∙ ap (λ c. c || (f t || 
 not_all_before : (f : Ply → Bool) (ts us : List Ply) → list_all f ts ≡ false → list_all f (ts ++ us) ≡ false
 not_all_before f ts us a = list_all-append f ts us ∙ ap (λ c. c && list_all f us) a
 
-not_all_last : (f : Ply → Bool) (ts : List Ply) (t : Ply) → f t ≡ false → list_all f (ts ++ t ∷ []) ≡ false
-not_all_last f ts t b = list_all-append f ts (t ∷ []) ∙ ap (λ c. list_all f ts && (c && true)) b ∙ none (list_all f ts)
-  where
-    none : (c : Bool) → (c && false) ≡ false
-    none true = refl
-    none false = refl
-
 all_more : (f : Ply → Bool) (ts : List Ply) (t : Ply) → list_all f ts ≡ true → f t ≡ true → list_all f (ts ++ t ∷ []) ≡ true
 all_more f ts t a b = list_all-append f ts (t ∷ []) ∙ ap (λ c. c && (f t && true)) a ∙ ap (λ c. c && true) b
 
 not_won : (b : Bool) → (b ≡ true → ⊥) → b ≡ false
 not_won true h = absurd (h refl)
 not_won false h = refl
-
--- neither side wins behind the turn
-pub seen_open : (s : GameState) (k : ℕ) (ts : List Ply) (t : Ply) (old new : Seen) → new.is_open ≡ true → NeitherWins (next s t) k → AreSeen s k ts old → AreSeen s k (ts ++ t ∷ []) new
-seen_open s k ts t old new now h seen = record {
-  mover = not_any (λ u. wins s.mover (next s u) k) ts t seen.mover (h s.mover);
-  some = λ e. not_all_last (λ u. wins (opponent_of s.mover) (next s u) k) ts t (h (opponent_of s.mover));
-  all = λ e. absurd (cc);
-}
 
 -- the other side wins behind it
 mover_loses : (s r : GameState) (k : ℕ) → wins (opponent_of s.mover) r k ≡ true → wins s.mover r k ≡ false
@@ -276,10 +260,6 @@ pub record TurnsSeen (s : GameState) (k : ℕ) (due : List Ply) (before left : �
 
 pub turns_begun : (s : GameState) (k before : ℕ) (due : List Ply) (seen : Seen) → due ≡ legal_turns s → seen.is_open ≡ false → seen.replies.items ≡ [] → TurnsSeen s k due before before seen
 turns_begun s k before due seen whole closed none = record { turns = []; all_turns = whole; known = nothing_seen s k seen closed none; fewer = omega arith; steps = omega arith }
-
--- where none is left, all were seen
-pub turns_all : (s : GameState) (k before left : ℕ) (due : List Ply) (seen : Seen) → due ≡ [] → TurnsSeen s k due before left seen → AreSeen s k (legal_turns s) seen
-turns_all s k before left due seen none h = subst (λ ts. AreSeen s k ts seen) (sym (append-nil h.turns) ∙ ap (λ us. h.turns ++ us) (sym none) ∙ h.all_turns) h.known
 
 -- a turn more
 behind_more : (s : GameState) (k : ℕ) (ts : List Ply) (t : Ply) → nodes_behind s k (ts ++ t ∷ []) ≡ nodes_behind s k ts + nodes (next s t) k

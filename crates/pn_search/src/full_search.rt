@@ -15,13 +15,9 @@ ghost use Rattle.target_game.specs.Wins.{is_winner, nodes};
 ghost use Rattle.pn_search.specs.Shown.{nodes_behind, IsFound, AreSeen, IsTurnSeen, IsWonBy, IsDecided};
 
 use go_points::{Colour, Turn};
-use go_turns::{PlayBoard, PlaySeen};
 use proof_cert::Node;
 use std::alloc::{AllocError, Global};
-use target_game::{Problem, State, TurnsLeft};
-
-/// A state of the problem.
-type PlayState = State<PlayBoard, PlaySeen>;
+use target_game::{PlayState, Problem, TurnsLeft};
 
 /// What full search of a state found.
 #[derive(Drop)]

@@ -6,14 +6,10 @@ ghost use Rattle.go_points.specs.Place.{IsOn, number_of};
 ghost use Rattle.go_points.specs.declared.Cell.TheVariants.{Empty};
 
 use go_points::{Colour, Colouring, Point, Size, Turn};
-use go_turns::{PlayBoard, PlaySeen};
 use pn_table::Key;
 use std::alloc::{AllocError, Global};
 use stone_key::key_of;
-use target_game::{Problem, State};
-
-/// A state of the problem.
-type PlayState = State<PlayBoard, PlaySeen>;
+use target_game::{PlayState, Problem, State};
 
 /// A move of the mover's at an open point that changes the colouring.
 #[derive(Clone, Copy)]

@@ -1,6 +1,6 @@
 -- The equations of what a certificate says.
-use Rattle.std.proofs.Common.{◌≡◌, ℕ, ◌+◌, ◌<◌, ◌≤◌, length, drop, get_or, List, [], ◌∷◌, ◌++◌, Bool, ◌&&◌, Vec, Box, Global, sym, ap, ◌∙◌, refl, arith}
-use Rattle.std.proofs.lemmas.List.{at_drop_more, at_drop_all}
+use Rattle.std.proofs.Common.{◌≡◌, ℕ, ◌+◌, ◌<◌, length, drop, get_or, List, [], ◌∷◌, ◌++◌, Bool, ◌&&◌, Vec, Box, Global, sym, ap, ◌∙◌, refl, arith}
+use Rattle.std.proofs.lemmas.List.{at_drop_more}
 use Rattle.std.specs.List.{list_all}
 use Rattle.std.proofs.lemmas.List.Folds.{list_all-append}
 use Rattle.go_points.specs.declared.Turn.{Turn}
@@ -32,9 +32,6 @@ pub replies_more : (n : ℕ) (rs : List (Turn × Node)) (i : ℕ) (r : Turn × N
 replies_more n rs i r within is =
     at_drop_more (replies_of n) rs i r within
     ∙ ap (λ (x : Turn × Node). branch (ply_of n x.0) (node_of n x.1) (replies_of n (drop (i + 1) rs))) (sym is)
-
-pub replies_done : (n : ℕ) (rs : List (Turn × Node)) (i : ℕ) → length rs ≤ i → replies_of n (drop i rs) ≡ no_branch
-replies_done n rs i past = at_drop_all (replies_of n) rs i past
 
 pub replies_counted : (n : ℕ) (rs : List (Turn × Node)) → length (branch_turns (replies_of n rs)) ≡ length rs
 replies_counted n [] = refl

@@ -1,4 +1,4 @@
--- What sources of lines give, by calls one behind another.
+-- What sources of lines give, by calls one after another.
 use Rattle.std.proofs.Common.{ℕ, ◌≡◌, Bool, true, false, List, [], ◌∷◌, ◌++◌, Option, Some, None, Result, ◌∙◌, sym, ap, subst, refl, append-nil, map, IsTrue, cond}
 use Rattle.std.specs.List.{list_all}
 use Rattle.std.proofs.lemmas.Bool.{false≢true}

@@ -1,8 +1,12 @@
 -- What reading trees from lines comes to.
-use Rattle.std.proofs.Common.{◌≡◌, ℕ, suc, zero, ◌+◌, ◌-◌, ◌<◌, ◌≤◌, Bool, true, false, cond, nat_lt, List, [], ◌∷◌, ◌++◌, map, Option, Some, None, Ok, Err, refl, sym, ap, ◌∙◌, append_assoc, append-nil, arith, rules, tests}
+use Rattle.std.proofs.Common.{◌≡◌, ℕ, suc, zero, ◌+◌, ◌-◌, ◌<◌, ◌≤◌, Bool, true, false, cond, nat_lt, List, [], ◌∷◌, ◌++◌, map, Option, Some, None, Ok, Err, refl, sym, ap, ◌∙◌, append_assoc, arith, rules, tests}
 use Rattle.std.specs.Prelude.{option_map, option_and_then}
-use Rattle.proof_cert.specs.Lines.{Line}
+use Rattle.proof_cert.specs.Lines.{Line, lemma_line}
+use Rattle.proof_cert.specs.Stage.{line_value}
+use Rattle.proof_cert.specs.declared.line.Line as code_line
+use Rattle.proof_cert.specs.declared.line.Line.TheVariants as lines
 use Rattle.go_points.specs.declared.Cell.{Cell}
+use Rattle.go_points.specs.declared.Colour.{Colour}
 use Rattle.go_points.specs.declared.Turn.{Turn}
 use Rattle.go_points.specs.Ply.{Ply, ply_of}
 use Rattle.proof_cert.specs.declared.certificate.Node as code
@@ -11,7 +15,7 @@ use Rattle.proof_cert.specs.Certificate.{node_of, replies_of, lemma_of}
 use Rattle.proof_cert.specs.Claim.{Node, Branches, no_branch, branch, Lemma, max_nodes}
 use Rattle.proof_cert.specs.declared.source.SourceFault.{SourceFault}
 use Rattle.proof_cert.specs.Source.{Source, answer, answer_from, later, later_from}
-use Rattle.proof_cert.specs.Reading.{Left, left_of, first_of, line_read, opened, counted, reply_read, replies_read, below_read, tree_read, listed_more, listed_read, is_ended, main_test, lemma_of_line, lemmas_more, lemmas_read}
+use Rattle.proof_cert.specs.Reading.{Left, left_of, first_of, line_read, opened, counted, reply_read, replies_read, below_read, tree_read, listed_more, listed_read, lemma_read, lemmas_more, lemmas_read}
 
 line_given : (s : Source) (nodes listed : ℕ) (failed : Bool) (left : List (Option Line)) (l : Line) → s.has_failed ≡ failed → Ok (Some l) ≡ answer_from failed left
     → first_of (record { lines = cond failed (None ∷ []) left; nodes = nodes; listed = listed }) (cond failed (None ∷ []) left)
@@ -54,8 +58,7 @@ tree_opened zero l s some few = absurd (omega arith)
 tree_opened (suc room) l s some few =
     let one : suc room - 1 ≡ room = omega arith in
     let few' : nat_lt s.nodes max_nodes ≡ true = search (rules, tests) in
-    ap (λ b. cond b (opened (below_read (tree_read room)) l (counted s)) None) few'
-    ∙ ap (λ r. opened (below_read (tree_read r)) l (counted s)) (sym one)
+    rw (few', one) refl
 
 -- ---- replies one by one
 
@@ -78,10 +81,6 @@ pub replies_pushed : (n : ℕ) (rs : List (Turn × code.Node)) (r : Turn × code
 replies_pushed n [] r = refl
 replies_pushed n (q ∷ rs) r = ap (branch (ply_of n q.0) (node_of n q.1)) (replies_pushed n rs r)
 
-pub nothing_prepended : (o : Option (Branches × Left)) → prepended no_branch o ≡ o
-nothing_prepended None = refl
-nothing_prepended (Some q) = refl
-
 more_prepended : (bs : Branches) (t : Ply) (z : Node) (o : Option (Branches × Left)) → prepended bs (option_map (λ q. (branch t z q.0, q.1)) o) ≡ prepended (joined bs (branch t z no_branch)) o
 more_prepended bs t z None = refl
 more_prepended bs t z (Some q) = ap (λ x. Some (x, q.1)) (joined_one bs t z q.0)
@@ -92,11 +91,10 @@ module _ (below : Left → Option (Node × Left)) (m i : ℕ) (s : Left) (within
 
   pub reply_is_read : (bs : Branches) (r : Ply × Node) (t : Left) → reply_read below s ≡ Some (r, t) → prepended bs (replies_read below (m - i) s) ≡ prepended (joined bs (branch r.0 r.1 no_branch)) (replies_read below (m - (i + 1)) t)
   reply_is_read bs r t e =
-      ap (prepended bs) (next_read ∙ ap (option_and_then (λ (p : (Ply × Node) × Left). option_map (λ (q : Branches × Left). (branch p.0.0 p.0.1 q.0, q.1)) (replies_read below (m - (i + 1)) p.1))) e)
-      ∙ more_prepended bs r.0 r.1 (replies_read below (m - (i + 1)) t)
+      rw (next_read, e) (more_prepended bs r.0 r.1 (replies_read below (m - (i + 1)) t))
 
   pub reply_is_missing : (bs : Branches) → reply_read below s ≡ None → prepended bs (replies_read below (m - i) s) ≡ None
-  reply_is_missing bs e = ap (prepended bs) (next_read ∙ ap (option_and_then (λ (p : (Ply × Node) × Left). option_map (λ (q : Branches × Left). (branch p.0.0 p.0.1 q.0, q.1)) (replies_read below (m - (i + 1)) p.1))) e)
+  reply_is_missing bs e = rw (next_read, e) refl
 
 pub replies_are_read : (below : Left → Option (Node × Left)) (m i : ℕ) (s : Left) (bs : Branches) → m ≤ i → prepended bs (replies_read below (m - i) s) ≡ Some (bs, s)
 replies_are_read below m i s bs past =
@@ -126,20 +124,7 @@ module _ (pick : Line → Option (List Cell)) (s : Left) where
   pub listed_is_read : (cs : List (List Cell)) (l : Line) (c : List Cell) (k : Line) (t : Left) → s.listed ≤ 1000000 → pick l ≡ Some c → line_read (record s { listed = s.listed + 1 }) ≡ Some (k, t)
       → listed_front cs (listed_read pick (1000001 - s.listed) l s) ≡ listed_front (cs ++ c ∷ []) (listed_read pick (1000001 - (s.listed + 1)) k t)
   listed_is_read cs l c k t few is e =
-      ap (listed_front cs) (next_listed l few ∙ ap (λ o. listed_more later_listed o l s) is
-      ∙ ap (λ o. option_map (λ (q : (List (List Cell) × Line) × Left). ((c ∷ q.0.0, q.0.1), q.1)) (option_and_then (λ (p : Line × Left). later_listed p.0 p.1) o)) e)
-      ∙ front_more cs c (later_listed k t)
-
-  pub listed_is_cut : (cs : List (List Cell)) (l : Line) (c : List Cell) → s.listed ≤ 1000000 → pick l ≡ Some c → line_read (record s { listed = s.listed + 1 }) ≡ None
-      → listed_front cs (listed_read pick (1000001 - s.listed) l s) ≡ None
-  listed_is_cut cs l c few is e =
-      ap (listed_front cs) (next_listed l few ∙ ap (λ o. listed_more later_listed o l s) is
-      ∙ ap (λ o. option_map (λ (q : (List (List Cell) × Line) × Left). ((c ∷ q.0.0, q.0.1), q.1)) (option_and_then (λ (p : Line × Left). later_listed p.0 p.1) o)) e)
-
-  pub listed_is_done : (cs : List (List Cell)) (l : Line) → s.listed ≤ 1000000 → pick l ≡ None → listed_front cs (listed_read pick (1000001 - s.listed) l s) ≡ Some ((cs, l), s)
-  listed_is_done cs l few is =
-      ap (listed_front cs) (next_listed l few ∙ ap (λ o. listed_more later_listed o l s) is)
-      ∙ ap (λ x. Some ((x, l), s)) (append-nil cs)
+      rw (next_listed l few, is, e) (front_more cs c (later_listed k t))
 
 -- ---- lemmas one by one
 
@@ -154,54 +139,31 @@ lemmas_front_more : (ls : List Lemma) (l : Lemma) (o : Option (List Lemma × Lef
 lemmas_front_more ls l None = refl
 lemmas_front_more ls l (Some q) = ap (λ x. Some (x, q.1)) (sym (append_assoc ls (l ∷ []) q.0))
 
-module _ (v : ℕ) (s t : Left) (k : ℕ) (few : k ≤ 65535) where
-  next_lemma : lemmas_read v (65536 - k) s ≡ option_and_then (λ (p : Line × Left). lemmas_more v (lemmas_read v (65536 - (k + 1))) (main_test p.0) p.0 p.1) (line_read s)
-  next_lemma = let one : 65536 - k ≡ suc (65536 - (k + 1)) = omega arith in ap (λ r. lemmas_read v r s) one
+pub lemmas_after : (s t : Left) (k : ℕ) (l : Line) → k ≤ 65535 → line_read s ≡ Some (l, t) → lemmas_read (65536 - k) s ≡ lemmas_more (lemmas_read (65536 - (k + 1))) l t
+lemmas_after s t k l few e =
+    let one : 65536 - k ≡ suc (65536 - (k + 1)) = omega arith in
+    rw (one, e) refl
 
-  behind_line : (ls : List Lemma) (l : Line) (b : Bool) → line_read s ≡ Some (l, t) → main_test l ≡ b → lemmas_front ls (lemmas_read v (65536 - k) s) ≡ lemmas_front ls (lemmas_more v (lemmas_read v (65536 - (k + 1))) b l t)
-  behind_line ls l b e is =
-      ap (lemmas_front ls) (next_lemma ∙ ap (option_and_then (λ (p : Line × Left). lemmas_more v (lemmas_read v (65536 - (k + 1))) (main_test p.0) p.0 p.1)) e ∙ ap (λ x. lemmas_more v (lemmas_read v (65536 - (k + 1))) x l t) is)
+-- a line that begins no lemma and is not `main`
+pub no_lemma : (n : ℕ) (others : Left → Option (List Lemma × Left)) (t : Left) (l : code_line.Line) → ((k : Colour) (p : ℕ) (root : List Cell) → l ≡ lines.Lemma k p root → ⊥) → (l ≡ lines.Main → ⊥) → lemmas_more others (line_value n l) t ≡ None
+no_lemma n others t (lines.Lemma k p root) f g = absurd (f k p root refl)
+no_lemma n others t lines.Main f g = absurd (g refl)
+no_lemma n others t (lines.Header v size winner) f g = refl
+no_lemma n others t (lines.Had c) f g = refl
+no_lemma n others t (lines.Not c) f g = refl
+no_lemma n others t lines.Won f g = refl
+no_lemma n others t (lines.Use j) f g = refl
+no_lemma n others t (lines.Play u) f g = refl
+no_lemma n others t (lines.All m) f g = refl
+no_lemma n others t (lines.Reply u) f g = refl
+no_lemma n others t lines.End f g = refl
 
-  pub lemma_is_read : (ls : List Lemma) (l : Line) (z : Lemma) (u : Left) → line_read s ≡ Some (l, t) → main_test l ≡ false → lemma_of_line v l t ≡ Some (z, u)
-      → lemmas_front ls (lemmas_read v (65536 - k) s) ≡ lemmas_front (ls ++ z ∷ []) (lemmas_read v (65536 - (k + 1)) u)
-  lemma_is_read ls l z u e is there =
-      behind_line ls l false e is
-      ∙ ap (λ o. lemmas_front ls (option_and_then (λ (q : Lemma × Left). option_map (λ (r : List Lemma × Left). (q.0 ∷ r.0, r.1)) (lemmas_read v (65536 - (k + 1)) q.1)) o)) there
-      ∙ lemmas_front_more ls z (lemmas_read v (65536 - (k + 1)) u)
-
-  pub lemma_is_missing : (ls : List Lemma) (l : Line) → line_read s ≡ Some (l, t) → main_test l ≡ false → lemma_of_line v l t ≡ None → lemmas_front ls (lemmas_read v (65536 - k) s) ≡ None
-  lemma_is_missing ls l e is there =
-      behind_line ls l false e is
-      ∙ ap (λ o. lemmas_front ls (option_and_then (λ (q : Lemma × Left). option_map (λ (r : List Lemma × Left). (q.0 ∷ r.0, r.1)) (lemmas_read v (65536 - (k + 1)) q.1)) o)) there
+pub lemma_is_read : (s t u : Left) (k : ℕ) (ls : List Lemma) (mover : Colour) (passes : ℕ) (root : List Cell) (z : Lemma) → k ≤ 65535 → line_read s ≡ Some (lemma_line mover passes root, t) → lemma_read mover passes root t ≡ Some (z, u)
+    → lemmas_front ls (lemmas_read (65536 - k) s) ≡ lemmas_front (ls ++ z ∷ []) (lemmas_read (65536 - (k + 1)) u)
+lemma_is_read s t u k ls mover passes root z few e there =
+    let others = lemmas_read (65536 - (k + 1)) in
+    rw (lemmas_after s t k (lemma_line mover passes root) few e, there) (lemmas_front_more ls z (others u))
 
 pub lemmas_pushed : (n : ℕ) (ls : List code_lemma.Lemma) (l : code_lemma.Lemma) → map (lemma_of n) (ls ++ l ∷ []) ≡ map (lemma_of n) ls ++ lemma_of n l ∷ []
 lemmas_pushed n [] l = refl
 lemmas_pushed n (k ∷ ls) l = ap (λ xs. lemma_of n k ∷ xs) (lemmas_pushed n ls l)
-
--- ---- the end
-
-ends_some : (failed : Bool) (left : List (Option Line)) (l : Line) → Ok (Some l) ≡ answer_from failed left → is_ended (cond failed (None ∷ []) left) ≡ false
-ends_some true left l e = cc
-ends_some false [] l e = cc
-ends_some false (x ∷ ls) l e = refl
-
-pub some_left : (s : Source) (nodes listed : ℕ) (l : Line) → Ok (Some l) ≡ answer s → is_ended (left_of s nodes listed).lines ≡ false
-some_left s nodes listed l e = ends_some s.has_failed s.left l e
-
-ends_none : (failed : Bool) (left : List (Option Line)) → Ok None ≡ answer_from failed left → is_ended (cond failed (None ∷ []) left) ≡ true
-ends_none true left e = cc
-ends_none false [] e = refl
-ends_none false (None ∷ ls) e = cc
-ends_none false (Some k ∷ ls) e = cc
-
-pub none_left : (s : Source) (nodes listed : ℕ) → Ok None ≡ answer s → is_ended (left_of s nodes listed).lines ≡ true
-none_left s nodes listed e = ends_none s.has_failed s.left e
-
-ends_bad : (failed : Bool) (left : List (Option Line)) (x : SourceFault) → Err x ≡ answer_from failed left → is_ended (cond failed (None ∷ []) left) ≡ false
-ends_bad true left x e = refl
-ends_bad false [] x e = cc
-ends_bad false (None ∷ ls) x e = refl
-ends_bad false (Some k ∷ ls) x e = cc
-
-pub bad_left : (s : Source) (nodes listed : ℕ) (x : SourceFault) → Err x ≡ answer s → is_ended (left_of s nodes listed).lines ≡ false
-bad_left s nodes listed x e = ends_bad s.has_failed s.left x e

@@ -1,15 +1,12 @@
 -- What the reader of lines does, against the definitions, over plain bytes.
-use Rattle.std.proofs.Common.{◌≡◌, ℕ, suc, ◌+◌, ◌-◌, ◌*◌, ◌<◌, ◌≤◌, ◌^◌, ◌⊎◌, inl, inr, if◌then◌else◌, Bool, true, false, cond, not, ◌&&◌, nat_eq, nat_le, List, [], ◌∷◌, length, take, drop, get_or, eq-eqb, eqb-true, le-leb, ltb-true, ltb-false, nat_lt, Option, Some, None, position, MatchOption, option_map, Bor, refl, sym, ◌∙◌, ap, ap₂, arith}
+use Rattle.std.proofs.Common.{◌≡◌, ℕ, suc, ◌+◌, ◌<◌, ◌≤◌, ◌^◌, ◌⊎◌, inl, inr, Bool, true, false, cond, not, ◌&&◌, nat_eq, nat_le, List, [], ◌∷◌, length, take, drop, eq-eqb, eqb-true, le-leb, ltb-true, ltb-false, nat_lt, Option, Some, None, position, MatchOption, option_map, Bor, refl, sym, ◌∙◌, ap, ap₂, arith}
 use Rattle.std.proofs.Math.Nat.{pow-le-pow_right}
-use native.Mathlib.Numerals.{unary_clauses}
 use Rattle.std.specs.Str.{all_ascii_digits}
 use Rattle.std.specs.List.{position_or_len}
 use Rattle.std.specs.Char.{is_ascii_digit}
-use Rattle.std.proofs.Math.Seq.{drop-cons, drop-length}
 use Rattle.std.proofs.lemmas.Bool.{lt-leb}
-use Rattle.proof_cert.proofs.Words.{eq_false}
 use lib.Pointwise.{pointwise}
-use Rattle.proof_cert.specs.Text.{after_word, at_space, number_of, value_from}
+use Rattle.proof_cert.specs.Text.{after_word, at_space, value_from}
 
 -- a word at the front
 front_yes : (w b : List ℕ) → pointwise nat_eq (take (length w) b) w ≡ true → after_word w b ≡ Some (drop (length w) b)
@@ -47,70 +44,17 @@ no_digit d (inr high) = go (nat_le 48 d) (nat_le d 57) (lt-leb d 57 high)
     go true b e = e
     go false b e = refl
 
--- a number, by its digits from the front: behind the first i, whose number is v
+-- a number, by its digits from the front: after the first i, whose number is v
 pub record NumberSoFar (text : List ℕ) (i v : ℕ) : Type 0 where
   pub digits : all_ascii_digits (drop i text) ≡ all_ascii_digits text
   pub value : value_from v (drop i text) ≡ value_from 0 text
   pub below : v < 10 ^ i
 
-pub number_begun : (text : List ℕ) → NumberSoFar text 0 0
-number_begun text = record { digits = refl; value = refl; below = omega arith }
-
-pub number_more : (text : List ℕ) (i v d : ℕ) → i < length text → get_or text i 0 ≡ d → (48 ≤ d) × (d ≤ 57) → NumberSoFar text i v → NumberSoFar text (i + 1) (v * 10 + (d - 48))
-number_more text i v d low at digit had =
-    let step : drop i text ≡ d ∷ drop (suc i) text = drop-cons text i 0 low ∙ ap (λ y. y ∷ drop (suc i) text) at in
-    let next : suc i ≡ i + 1 = omega arith in
-    let digit_yes : is_ascii_digit d ≡ true = is_digit d digit.0 digit.1 in
-    let power : 10 ^ (i + 1) ≡ 10 ^ i * 10 = simp unary_clauses (omega arith) in
-    record {
-      digits = sym (ap (λ k. all_ascii_digits (drop k text)) next) ∙ sym (ap (λ b. b && all_ascii_digits (drop (suc i) text)) digit_yes) ∙ sym (ap all_ascii_digits step) ∙ had.digits;
-      value = sym (ap (λ k. value_from (v * 10 + (d - 48)) (drop k text)) next) ∙ ap (λ k. value_from (k + (d - 48)) (drop (suc i) text)) (omega arith) ∙ sym (ap (value_from v) step) ∙ had.value;
-      below = omega (arith, had.below, power, digit.1);
-    }
-
-not_digits : (text : List ℕ) → all_ascii_digits text ≡ false → number_of text ≡ None
-not_digits [] h = refl
-not_digits (x ∷ b) h = ap (λ t. if t && not (nat_eq x 48) && nat_le (length (x ∷ b)) 8 then Some (value_from 0 (x ∷ b)) else None) h
-
-pub number_stopped : (text : List ℕ) (i v d : ℕ) → i < length text → get_or text i 0 ≡ d → (d < 48) ⊎ (57 < d) → NumberSoFar text i v → number_of text ≡ None
-number_stopped text i v d low at digit had =
-    let step : drop i text ≡ d ∷ drop (suc i) text = drop-cons text i 0 low ∙ ap (λ y. y ∷ drop (suc i) text) at in
-    let no : all_ascii_digits text ≡ false = sym had.digits ∙ ap all_ascii_digits step ∙ ap (λ b. b && all_ascii_digits (drop (suc i) text)) (no_digit d digit) in
-    not_digits text no
-
-pub number_none : (text : List ℕ) → (length text ≡ 0) ⊎ ((8 < length text) ⊎ (get_or text 0 0 ≡ 48)) → number_of text ≡ None
-number_none [] h = refl
-number_none (x ∷ b) (inl h) = absurd (omega arith)
-number_none (x ∷ b) (inr (inl long)) = go (all_ascii_digits (x ∷ b)) (not (nat_eq x 48)) (nat_le (length (x ∷ b)) 8) (lt-leb (length (x ∷ b)) 8 long)
-  where
-    go : (s t u : Bool) → u ≡ false → (if s && t && u then Some (value_from 0 (x ∷ b)) else None) ≡ None
-    go true true true e = absurd (cc)
-    go true true false e = refl
-    go true false u e = refl
-    go false t u e = refl
-number_none (x ∷ b) (inr (inr first)) = go (all_ascii_digits (x ∷ b)) (nat_eq x 48) (nat_le (length (x ∷ b)) 8) (eq-eqb x 48 first)
-  where
-    go : (s t u : Bool) → t ≡ true → (if s && not t && u then Some (value_from 0 (x ∷ b)) else None) ≡ None
-    go true false u e = absurd (cc)
-    go true true u e = refl
-    go false t u e = refl
-
-pub number_whole : (text : List ℕ) (v : ℕ) → 0 < length text → length text ≤ 8 → (get_or text 0 0 ≡ 48 → ⊥) → NumberSoFar text (length text) v → number_of text ≡ Some v
-number_whole [] v some short first had = absurd (omega arith)
-number_whole (x ∷ b) v some short first had =
-    let nothing : drop (length (x ∷ b)) (x ∷ b) ≡ [] = drop-length (x ∷ b) in
-    let yes : all_ascii_digits (x ∷ b) ≡ true = sym had.digits ∙ ap all_ascii_digits nothing in
-    let value : v ≡ value_from 0 (x ∷ b) = sym (ap (value_from v) nothing) ∙ had.value in
-    ap (λ t. if t && not (nat_eq x 48) && nat_le (length (x ∷ b)) 8 then Some (value_from 0 (x ∷ b)) else None) yes
-    ∙ ap (λ t. if not t && nat_le (length (x ∷ b)) 8 then Some (value_from 0 (x ∷ b)) else None) (eq_false x 48 first)
-    ∙ ap (λ t. if t then Some (value_from 0 (x ∷ b)) else None) (le-leb (length (x ∷ b)) 8 short)
-    ∙ ap Some (sym value)
-
 -- seven digits more or less
 pub below_limit : (i v : ℕ) → i < 8 → v < 10 ^ i → v < 10000000
 below_limit i v few below = let most : 10 ^ i ≤ 10 ^ 7 = pow-le-pow_right {n = 10} (omega arith) {i = i} {j = 7} (omega arith) in omega (arith, most, below)
 
--- the first space, at the place pl where it stands or else behind the end
+-- the first space, at the place pl where it stands or else after the end
 abbrev place : List ℕ → ℕ
 place b = position_or_len (λ x. nat_eq x 32) b
 

@@ -106,7 +106,7 @@ lemmas_spelled v n ls i l within is h =
     subst (AreSpelled n)
     (at_drop_more (λ ds. lemmas_lines v (map (lemma_of n) ds)) ls i l within ∙ ap (λ d. lemma_lines v (lemma_of n d) ++ lemmas_lines v (map (lemma_of n) (drop (i + 1) ls))) (sym is)) h
 
--- three lists behind a first line
+-- three lists after a first line
 three : (n : ℕ) (a b c : List (Option Line)) → lines_text n ((a ++ b) ++ c) ≡ lines_text n a ++ (lines_text n b ++ lines_text n c)
 three n a b c =
     lines_text_joined n (a ++ b) c ∙ ap (λ x. x ++ lines_text n c) (lines_text_joined n a b)

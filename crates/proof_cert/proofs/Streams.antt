@@ -1,10 +1,8 @@
 -- The lines that a reader gives: the first line of its bytes, and all of them.
 use Rattle.std.proofs.Common.{◌≡◌, ℕ, suc, ◌+◌, ◌-◌, ◌<◌, ◌≤◌, Bool, true, false, cond, not, nat_eq, nat_lt, ltb-true, eqb-true, List, [], ◌∷◌, ◌++◌, length, take, drop, get_or, map, Option, Some, None, Ok, Err, position, refl, sym, ap, ◌∙◌, subst, arith, append_assoc, append-nil, length-append}
-use Rattle.std.specs.List.{position_or_len}
 use Rattle.std.specs.Io.KnownBytes.{Consumes, IsAtEnd}
 use Rattle.std.proofs.lemmas.List.{length-take, get_or-take, drop-take, drop-drop, take-take, take-append-drop}
 use Rattle.std.proofs.Math.Seq.{drop-cons}
-use Rattle.std.proofs.Math.ListN.{drop_of_length-le}
 use Rattle.go_points.specs.declared.TheConstants.{MAX_SIZE}
 use Rattle.proof_cert.proofs.Pieces.{place}
 use Rattle.std.proofs.KnownBytes.{Consumes-nil, Consumes-trans}
@@ -150,10 +148,6 @@ lines_given_of_reader n held told ls t h =
 
 -- THE BLOCK
 
--- nothing is between two places that are one
-none_between : (i : ℕ) (l : List ℕ) → drop i (take i l) ≡ []
-none_between i l = let long = length-take {A = ℕ} i l in drop_of_length-le (take i l) (omega (arith, long))
-
 -- the byte at a place, and those after it up to another
 byte_at : (s e : ℕ) (block : List ℕ) → s < e → e ≤ length block → drop s (take e block) ≡ get_or block s 0 ∷ drop (s + 1) (take e block)
 byte_at s e block low within =
@@ -165,19 +159,6 @@ byte_at s e block low within =
 module _ (told : Option (List ℕ)) (front : List ℕ) (s e : ℕ) (block : List ℕ) where
   pub byte_held : s < e → e ≤ length block → Uses (record { held = drop s (take e block) ++ front; told = told }) (record { held = drop (s + 1) (take e block) ++ front; told = told }) (get_or block s 0 ∷ [])
   byte_held low within = record { read = []; told = Consumes-nil told; bytes = append-nil (drop s (take e block) ++ front) ∙ ap (λ l. l ++ front) (byte_at s e block low within) }
-
-  module _ (next : Option (List ℕ)) (rest : List ℕ) (n : ℕ) (new : List ℕ) (same : s ≡ e) (u : Uses (record { held = front; told = told }) (record { held = rest; told = next }) (take n new)) where
-    none_held : (drop s (take e block) ++ front) ++ u.read ≡ front ++ u.read
-    none_held = ap (λ l. (l ++ front) ++ u.read) (ap (λ i. drop i (take e block)) same ∙ none_between e block)
-
-    pub byte_read : 0 < n → n ≤ length new → Uses (record { held = drop s (take e block) ++ front; told = told }) (record { held = drop 1 (take n new) ++ rest; told = next }) (get_or new 0 0 ∷ [])
-    byte_read some within = record { read = u.read; told = u.told; bytes = none_held ∙ u.bytes ∙ ap (λ l. l ++ rest) (byte_at 0 n new some within) }
-
-    pub none_read : n ≡ 0 → Uses (record { held = drop s (take e block) ++ front; told = told }) (record { held = drop s (take e new) ++ rest; told = next }) []
-    none_read none = record { read = u.read; told = u.told; bytes = none_held ∙ u.bytes ∙ ap (λ k. take k new ++ rest) none ∙ ap (λ l. l ++ rest) (sym (ap (λ i. drop i (take e new)) same ∙ none_between e new)) }
-
-    pub none_now : HasEnded (record { held = rest; told = next }) → HasEnded (record { held = drop s (take e new) ++ rest; told = next })
-    none_now end = (ap (λ l. l ++ rest) (ap (λ i. drop i (take e new)) same ∙ none_between e new) ∙ end.0, end.1)
 
 -- the first line of a block, by the place of its line feed
 fed_at : (b : List ℕ) → place b < length b → HasNoFeed (take (place b) b) × (take (suc (place b)) b ≡ take (place b) b ++ line_feed ∷ [])

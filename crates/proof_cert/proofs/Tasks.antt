@@ -14,13 +14,9 @@ pub left_pushed : (n : ℕ) (ts : List Task) (t : Task) → lines_left n (ts ++ 
 left_pushed n [] t = sym (append-nil (task_lines n t))
 left_pushed n (s ∷ ts) t = ap (λ x. x ++ task_lines n s) (left_pushed n ts t) ∙ append_assoc (task_lines n t) (lines_left n ts) (task_lines n s)
 
--- a lemma behind its first line, and what follows
+-- a lemma after its first line, and what follows
 pub lemma_left : (h a b : List (Option Line)) (e : Option Line) (rest : List (Option Line)) → (((h ++ a) ++ b) ++ e ∷ []) ++ rest ≡ h ++ (a ++ (b ++ (e ∷ rest)))
 lemma_left h a b e rest = append_assoc ((h ++ a) ++ b) (e ∷ []) rest ∙ append_assoc (h ++ a) b (e ∷ rest) ∙ append_assoc h a (b ++ (e ∷ rest))
-
--- the claim behind its first line
-pub claim_left : (a b : List (Option Line)) (e : Option Line) → (a ++ b) ++ e ∷ [] ≡ a ++ (b ++ (e ∷ []))
-claim_left a b e = append_assoc a b (e ∷ [])
 
 -- the first of a list, and the others
 module _ (n : ℕ) where

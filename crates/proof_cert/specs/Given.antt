@@ -1,6 +1,6 @@
 -- What calls of a source of lines have given.
 --     line_answer l      the answer that gives this line, None for a malformed one
---     Gave gives s ls t      calls one behind another gave the lines ls, from the source s on, and left t
+--     Gave gives s ls t      calls one after another gave the lines ls, from the source s on, and left t
 --     fault_of r      the fault of an answer
 --     lines_counted r      how many lines an answer counts for: a line and a fault are one, the end is none
 use Rattle.std.specs.Prelude.{◌≡◌, ℕ, List, [], ◌∷◌, ◌++◌, map, Option, Some, None, Result, Ok, Err}

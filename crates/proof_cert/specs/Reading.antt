@@ -1,16 +1,16 @@
--- How the program reads whole claims, line by line, within the limits. Nothing here gives a public contract its meaning:
--- that this is reading the claim with the text is proved.
+-- How the program reads whole claims, line by line, within the limits. It reads each claim from its text, and reads
+-- other texts too, so that what was read is written and compared with the text. Nothing here gives a public contract its meaning.
 --     Left      the lines that are left, the nodes and the listed colourings so far
---     tree_read room l s      the tree of at most so many levels whose first line is l, and what is left behind it
---     lemmas_read v room s      at most so many lemmas, up to the line `main`
---     claim_read n s      a whole claim for a board of n rows, with nothing behind it
+--     tree_read room l s      the tree of at most so many levels whose first line is l, and what is left after it
+--     lemmas_read room s      at most so many lemmas, up to the line `main`
+--     claim_read n s      a whole claim for a board of n rows, and maybe more after it
 --     with_rest f o t      what the program read, if anything, and what it leaves
-use Rattle.std.specs.Prelude.{ℕ, zero, suc, ◌+◌, ◌-◌, ◌&&◌, Vec, Bool, true, false, nat_eq, nat_lt, List, [], ◌∷◌, Option, Some, None, option_map, option_and_then, if◌then◌else◌}
+use Rattle.std.specs.Prelude.{◌≡◌, ◌≤◌, sum_by, ℕ, zero, suc, ◌+◌, ◌-◌, Vec, nat_lt, List, [], ◌∷◌, Option, Some, None, option_map, option_and_then, if◌then◌else◌}
 use Rattle.go_points.specs.declared.Colour.{Colour}
 use Rattle.go_points.specs.declared.Cell.{Cell}
 use Rattle.go_points.specs.Ply.{Ply, ply_of}
-use Rattle.proof_cert.specs.Claim.{Node, won, by_lemma, play, all, Branches, no_branch, branch, Lemma, Claim, max_nodes, max_depth}
-use Rattle.proof_cert.specs.Lines.{Line, header_line, lemma_line, had_line, not_line, main_line, won_line, use_line, play_line, all_line, reply_line, end_line}
+use Rattle.proof_cert.specs.Claim.{Node, won, by_lemma, play, all, Branches, no_branch, branch, Lemma, Claim, node_count, node_count_below, depth_of, depth_below, AreShallow, listed_count, max_nodes, max_depth, max_listed}
+use Rattle.proof_cert.specs.Lines.{Line, header_line, lemma_line, had_line, not_line, main_line, won_line, use_line, play_line, all_line, reply_line}
 use Rattle.std.specs.declared.alloc.Global.{Global}
 use Rattle.proof_cert.specs.Source.{Source}
 use Rattle.proof_cert.specs.Stage.{line_value, version_number}
@@ -18,8 +18,6 @@ use Rattle.proof_cert.specs.declared.line.Line as code_line
 use Rattle.proof_cert.specs.Certificate.{node_of}
 use Rattle.go_points.specs.declared.Turn.{Turn}
 use Rattle.proof_cert.specs.declared.certificate.Node as code
-use Rattle.proof_cert.specs.declared.read.Step.{Step}
-use Rattle.proof_cert.specs.declared.read.Step.TheVariants.{Won, Use, Play, All}
 use Rattle.proof_cert.specs.declared.read.Listing.{Listing}
 use Rattle.proof_cert.specs.declared.read.Listing.TheVariants as listings
 use Rattle.proof_cert.specs.declared.version.Version.{Version}
@@ -74,45 +72,30 @@ opened below _ s = None
 abbrev pub counted : Left → Left
 counted s = record s { nodes = s.nodes + 1 }
 
--- the line, where it is a node's
-abbrev pub as_step : Line → Option Line
-as_step won_line = Some won_line
-as_step (use_line j) = Some (use_line j)
-as_step (play_line t) = Some (play_line t)
-as_step (all_line m) = Some (all_line m)
-as_step _ = None
-
 abbrev pub below_read : (Line → Left → Option (Node × Left)) → Left → Option (Node × Left)
-below_read tree s = option_and_then (λ p. tree p.0 p.1) (line_as as_step s)
+below_read tree s = option_and_then (λ p. tree p.0 p.1) (line_read s)
 
 abbrev pub tree_read : ℕ → Line → Left → Option (Node × Left)
 tree_read zero l s = None
 tree_read (suc room) l s = (if nat_lt s.nodes max_nodes then opened (below_read (tree_read room)) l (counted s) else None)
 
--- the line of a node of the program
-abbrev pub step_line : ℕ → Step → Line
-step_line n Won = won_line
-step_line n (Use j) = use_line j
-step_line n (Play t) = play_line (ply_of n t)
-step_line n (All m) = all_line m
-
 abbrev pub reply_value : ℕ → Turn × code.Node → Ply × Node
 reply_value n r = (ply_of n r.0, node_of n r.1)
 
--- the colouring of a line of one of a lemma's lists; a claim of version 1 has no `had` lines
+-- the colouring of a line of one of a lemma's lists
 abbrev pub as_not : Line → Option (List Cell)
 as_not (not_line c) = Some c
 as_not _ = None
 
-abbrev pub as_had : ℕ → Line → Option (List Cell)
-as_had v (had_line c) = (if nat_eq v 2 then Some c else None)
-as_had v _ = None
+abbrev pub as_had : Line → Option (List Cell)
+as_had (had_line c) = Some c
+as_had _ = None
 
 abbrev pub picks : Listing → Line → Option (List Cell)
-picks (listings.Had version) = as_had (version_number version)
+picks listings.Had = as_had
 picks listings.Not = as_not
 
--- a list whose first line, or the line behind it, is given: the colourings, of which at most so many may follow, and the line behind them
+-- a list whose first line, or the line after it, is given: the colourings, of which at most so many may follow, and the line after them
 abbrev pub listed_more : (Line → Left → Option ((List (List Cell) × Line) × Left)) → Option (List Cell) → Line → Left → Option ((List (List Cell) × Line) × Left)
 listed_more others None l s = Some (([], l), s)
 listed_more others (Some c) l s = option_map (λ q. ((c ∷ q.0.0, q.0.1), q.1)) (option_and_then (λ p. others p.0 p.1) (line_read (record s { listed = s.listed + 1 })))
@@ -134,54 +117,39 @@ lists_value n r = ((r.0.0.items, r.0.1.items), line_value n r.1)
 abbrev pub header_value : Version × Colour → ℕ × Colour
 header_value h = (version_number h.0, h.1)
 
--- a tree with its first line, and the line `end`
-abbrev pub as_end : Line → Option (Unit {0})
-as_end end_line = Some tt
-as_end _ = None
-
+-- a tree with its first line, and one line more
 unfoldable pub body_read : Line → Left → Option (Node × Left)
-body_read l s = option_and_then (λ p. option_map (λ q. (p.0, q.1)) (line_as as_end p.1)) (option_and_then (λ k. tree_read max_depth k s) (as_step l))
+body_read l s = option_and_then (λ p. option_map (λ q. (p.0, q.1)) (line_read p.1)) (tree_read max_depth l s)
 
--- a lemma behind its first line
+-- a lemma after its first line
 abbrev pub lemma_made : Colour → ℕ → List Cell → List (List Cell) → List (List Cell) → Node → Lemma
 lemma_made k p root had absent body = record { head = record { mover = k; passes = p; root = root; had = had; absent = absent }; body = body }
 
--- both lists, of which the first line, or the line behind them, is given
-unfoldable pub lists_read : ℕ → Line → Left → Option (((List (List Cell) × List (List Cell)) × Line) × Left)
-lists_read v l s = option_and_then (λ h. option_map (λ a. (((h.0.0, a.0.0), a.0.1), a.1)) (list_read as_not h.0.1 h.1)) (list_read (as_had v) l s)
+-- both lists, of which the first line, or the line after them, is given
+unfoldable pub lists_read : Line → Left → Option (((List (List Cell) × List (List Cell)) × Line) × Left)
+lists_read l s = option_and_then (λ h. option_map (λ a. (((h.0.0, a.0.0), a.0.1), a.1)) (list_read as_not h.0.1 h.1)) (list_read as_had l s)
 
-unfoldable pub lemma_read : ℕ → Colour → ℕ → List Cell → Left → Option (Lemma × Left)
-lemma_read v k p root s =
-    option_and_then (λ f. option_and_then (λ q. option_map (λ r. (lemma_made k p root q.0.0.0 q.0.0.1 r.0, r.1)) (body_read q.0.1 q.1)) (lists_read v f.0 f.1)) (line_read s)
-
-abbrev pub lemma_of_line : ℕ → Line → Left → Option (Lemma × Left)
-lemma_of_line v (lemma_line k p root) s = lemma_read v k p root s
-lemma_of_line v _ s = None
+unfoldable pub lemma_read : Colour → ℕ → List Cell → Left → Option (Lemma × Left)
+lemma_read k p root s =
+    option_and_then (λ f. option_and_then (λ q. option_map (λ r. (lemma_made k p root q.0.0.0 q.0.0.1 r.0, r.1)) (body_read q.0.1 q.1)) (lists_read f.0 f.1)) (line_read s)
 
 -- the lemmas up to `main`, fewer than so many
-abbrev pub main_test : Line → Bool
-main_test main_line = true
-main_test _ = false
+abbrev pub lemmas_more : (Left → Option (List Lemma × Left)) → Line → Left → Option (List Lemma × Left)
+lemmas_more others main_line s = Some ([], s)
+lemmas_more others (lemma_line k p root) s = option_and_then (λ q. option_map (λ r. (q.0 ∷ r.0, r.1)) (others q.1)) (lemma_read k p root s)
+lemmas_more others _ s = None
 
-abbrev pub lemmas_more : ℕ → (Left → Option (List Lemma × Left)) → Bool → Line → Left → Option (List Lemma × Left)
-lemmas_more v others true l s = Some ([], s)
-lemmas_more v others false l s = option_and_then (λ q. option_map (λ r. (q.0 ∷ r.0, r.1)) (others q.1)) (lemma_of_line v l s)
+abbrev pub lemmas_read : ℕ → Left → Option (List Lemma × Left)
+lemmas_read zero s = None
+lemmas_read (suc room) s = option_and_then (λ p. lemmas_more (lemmas_read room) p.0 p.1) (line_read s)
 
-abbrev pub lemmas_read : ℕ → ℕ → Left → Option (List Lemma × Left)
-lemmas_read v zero s = None
-lemmas_read v (suc room) s = option_and_then (λ p. lemmas_more v (lemmas_read v room) (main_test p.0) p.0 p.1) (line_read s)
+unfoldable pub all_lemmas_read : Left → Option (List Lemma × Left)
+all_lemmas_read s = lemmas_read 65536 s
 
-unfoldable pub all_lemmas_read : ℕ → Left → Option (List Lemma × Left)
-all_lemmas_read v s = lemmas_read v 65536 s
-
--- the version and the winner, where the first line is that of a claim for this size
-abbrev pub as_header : ℕ → Line → Option (ℕ × Colour)
-as_header n (header_line version size winner) = (if nat_eq size n then Some (version, winner) else None)
-as_header n _ = None
-
-abbrev pub is_ended : List (Option Line) → Bool
-is_ended [] = true
-is_ended (l ∷ ls) = false
+-- the version and the winner of the first line
+abbrev pub as_header : Line → Option (ℕ × Colour)
+as_header (header_line version size winner) = Some (version, winner)
+as_header _ = None
 
 abbrev pub claim_made : ℕ → ℕ × Colour → List Lemma → Node → Claim
 claim_made n head lemmas main = record { version = head.0; size = n; winner = head.1; lemmas = lemmas; main = main }
@@ -190,4 +158,34 @@ abbrev pub main_read : Left → Option (Node × Left)
 main_read s = option_and_then (λ p. body_read p.0 p.1) (line_read s)
 
 unfoldable pub claim_read : ℕ → Left → Option Claim
-claim_read n s = option_and_then (λ h. option_and_then (λ ls. option_and_then (λ m. if is_ended m.1.lines then Some (claim_made n h.0 ls.0 m.0) else None) (main_read ls.1)) (all_lemmas_read h.0.0 h.1)) (line_as (as_header n) s)
+claim_read n s = option_and_then (λ h. option_and_then (λ ls. option_map (λ m. claim_made n h.0 ls.0 m.0) (main_read ls.1)) (all_lemmas_read h.1)) (line_as as_header s)
+
+-- What was read keeps the limits, and the nodes n and the listed colourings k that were counted before it are n' and k' after it.
+pub record CountsTree (room n k : ℕ) (z : Node) (n' k' : ℕ) : Type 0 where
+  pub nodes : n' ≡ n + node_count z
+  pub most : n' ≤ max_nodes
+  pub deep : depth_of z ≤ room
+  pub listed : k' ≡ k
+
+pub record CountsReplies (room n k : ℕ) (bs : Branches) (n' k' : ℕ) : Type 0 where
+  pub nodes : n' ≡ n + node_count_below bs
+  pub most : n' ≤ max_nodes
+  pub deep : depth_below bs ≤ room
+  pub listed : k' ≡ k
+
+pub record CountsListed (n k more n' k' : ℕ) : Type 0 where
+  pub nodes : n' ≡ n
+  pub listed : k' ≡ k + more
+  pub few : k' ≤ max_listed
+
+pub record CountsLemma (n k : ℕ) (z : Lemma) (n' k' : ℕ) : Type 0 where
+  pub nodes : n' ≡ n + node_count z.body
+  pub deep : depth_of z.body ≤ max_depth
+  pub listed : k' ≡ k + listed_count z
+  pub few : k' ≤ max_listed
+
+pub record CountsLemmas (n k : ℕ) (zs : List Lemma) (n' k' : ℕ) : Type 0 where
+  pub nodes : n' ≡ n + sum_by (λ l. node_count l.body) zs
+  pub shallow : AreShallow zs
+  pub listed : k' ≡ k + sum_by listed_count zs
+  pub few : k' ≤ max_listed

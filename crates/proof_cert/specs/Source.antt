@@ -2,7 +2,7 @@
 --     Source      the board's size, the lines that are left (None for a malformed one), the number of the line or fault
 --                 that was answered last, and whether it was a fault
 --     source_of n text      before the first call
---     answer s, later s      what a call gives, and the source behind it
+--     answer s, later s      what a call gives, and the source after it
 --     answer_value n r      what a call of the program gave
 use Rattle.std.specs.Prelude.{ℕ, suc, Bool, true, false, List, [], ◌∷◌, Option, Some, None, Result, Ok, Err, option_map}
 use Rattle.proof_cert.specs.Lines.{Line}
@@ -21,7 +21,7 @@ pub record Source : Type 0 where
 abbrev pub source_of : ℕ → List ℕ → Source
 source_of n text = record { size = n; left = lines n text; number = 0; has_failed = false }
 
--- A line; None behind the last; and at a malformed line a fault, which stays.
+-- A line; None after the last; and at a malformed line a fault, which stays.
 abbrev pub answer_from : Bool → List (Option Line) → Result (Option Line) SourceFault
 answer_from true ls = Err Malformed
 answer_from false [] = Ok None

@@ -7,7 +7,8 @@ ghost use Rattle.proof_cert.specs.Lines.{node_lines, branch_lines, lemma_lines, 
 ghost use Rattle.proof_cert.specs.Stage.{version_number};
 ghost use Rattle.proof_cert.specs.Text.{is_spelled, text};
 ghost use Rattle.proof_cert.specs.Certificate.{node_of, replies_of, lemma_of, claim_of};
-ghost use Rattle.proof_cert.specs.Taken.{TakesPart, Puts, lines_text};
+ghost use Rattle.byte_writer.specs.Taken.{HasPut, TakesPart};
+ghost use Rattle.proof_cert.specs.Taken.{lines_text};
 
 use crate::certificate::{Certificate, Lemma, Node};
 use crate::line_text::{
@@ -15,8 +16,8 @@ use crate::line_text::{
 };
 use crate::spelled::is_spelled_claim;
 use crate::version::Version;
-use crate::write::{CertWrite, Held, WriteFault, write_bytes};
-use arrayvec::ArrayVec;
+use crate::write::CertWrite;
+use byte_writer::{PendingBytes, WriteFault};
 use go_points::{Colouring, Size, Turn};
 use std::io::Write;
 
@@ -34,7 +35,7 @@ pub fn write_cert<W: Write>(certificate: &Certificate, writer: &mut W) -> Result
     }
     match write_spelled(certificate, writer) {
         Ok(()) => Ok(()),
-        Err(WriteFault) => Err(CertWrite::Write),
+        Err(WriteFault::Write) => Err(CertWrite::Write),
     }
 }
 
@@ -43,115 +44,103 @@ fn write_spelled<W: Write>(certificate: &Certificate, writer: &mut W) -> Result<
     ensures written { OnOk result (Appends (W.contents writer.old) (W.contents writer.new) (lines_text certificate.now.size (lines_of (claim_of certificate.now)))) }
     ensures cut { OnErr result (TakesPart (W.contents writer.old) (W.contents writer.new) (lines_text certificate.now.size (lines_of (claim_of certificate.now)))) }
 {
-    let mut held: Held = ArrayVec::new();
-    put_claim(certificate, &mut held, writer)?;
-    write_bytes(held.as_slice(), writer)
+    let mut pending = PendingBytes::new();
+    put_claim(certificate, &mut pending, writer);
+    pending.finish(writer)
 }
 
-fn put_claim<W: Write>(
-    certificate: &Certificate,
-    held: &mut Held,
-    writer: &mut W,
-) -> Result<(), WriteFault>
+fn put_claim<W: Write>(certificate: &Certificate, pending: &mut PendingBytes, writer: &mut W)
     requires { IsTrue (list_all (is_spelled certificate.now.size) (lines_of (claim_of certificate.now))) }
-    ensures put { OnOk result (Puts (W.contents writer.old) (W.contents writer.new) held.old.items held.new.items (lines_text certificate.now.size (lines_of (claim_of certificate.now)))) }
-    ensures cut { OnErr result (TakesPart (W.contents writer.old) (W.contents writer.new) (held.old.items ++ lines_text certificate.now.size (lines_of (claim_of certificate.now)))) }
+    ensures { HasPut (W.contents writer.old) (W.contents writer.new) pending.old pending.new (lines_text certificate.now.size (lines_of (claim_of certificate.now))) }
 {
     let size = certificate.size;
     let version = certificate.version;
-    put_header(version, size, certificate.winner, held, writer)?;
-    put_lemmas(version, size, certificate.lemmas.as_slice(), held, writer)?;
-    put_word(b"main", held, writer)?;
-    put_node(size, &certificate.main, held, writer)?;
-    put_word(b"end", held, writer)
+    put_header(version, size, certificate.winner, pending, writer);
+    put_lemmas(
+        version,
+        size,
+        certificate.lemmas.as_slice(),
+        pending,
+        writer,
+    );
+    put_word(b"main", pending, writer);
+    put_node(size, &certificate.main, pending, writer);
+    put_word(b"end", pending, writer);
 }
 
 fn put_lemmas<W: Write>(
     version: Version,
     size: Size,
     lemmas: &[Lemma],
-    held: &mut Held,
+    pending: &mut PendingBytes,
     writer: &mut W,
-) -> Result<(), WriteFault>
+)
     requires { IsTrue (list_all (is_spelled size) (lemmas_lines (version_number version) (map (lemma_of size) lemmas.now))) }
-    ensures put { OnOk result (Puts (W.contents writer.old) (W.contents writer.new) held.old.items held.new.items (lines_text size (lemmas_lines (version_number version) (map (lemma_of size) lemmas.now)))) }
-    ensures cut { OnErr result (TakesPart (W.contents writer.old) (W.contents writer.new) (held.old.items ++ lines_text size (lemmas_lines (version_number version) (map (lemma_of size) lemmas.now)))) }
+    ensures { HasPut (W.contents writer.old) (W.contents writer.new) pending.old pending.new (lines_text size (lemmas_lines (version_number version) (map (lemma_of size) lemmas.now))) }
 {
     for lemma in lemmas {
-        put_lemma(version, size, lemma, held, writer)?;
+        put_lemma(version, size, lemma, pending, writer);
     }
-    Ok(())
 }
 
 fn put_lemma<W: Write>(
     version: Version,
     size: Size,
     lemma: &Lemma,
-    held: &mut Held,
+    pending: &mut PendingBytes,
     writer: &mut W,
-) -> Result<(), WriteFault>
+)
     requires { IsTrue (list_all (is_spelled size) (lemma_lines (version_number version) (lemma_of size lemma.now))) }
-    ensures put { OnOk result (Puts (W.contents writer.old) (W.contents writer.new) held.old.items held.new.items (lines_text size (lemma_lines (version_number version) (lemma_of size lemma.now)))) }
-    ensures cut { OnErr result (TakesPart (W.contents writer.old) (W.contents writer.new) (held.old.items ++ lines_text size (lemma_lines (version_number version) (lemma_of size lemma.now)))) }
+    ensures { HasPut (W.contents writer.old) (W.contents writer.new) pending.old pending.new (lines_text size (lemma_lines (version_number version) (lemma_of size lemma.now))) }
 {
-    put_lemma_line(size, lemma, held, writer)?;
-    put_all_had(version, size, lemma.had.as_slice(), held, writer)?;
-    put_listed(size, lemma.absent.as_slice(), held, writer)?;
-    put_node(size, &lemma.body, held, writer)?;
-    put_word(b"end", held, writer)
+    put_lemma_line(size, lemma, pending, writer);
+    put_all_had(version, size, lemma.had.as_slice(), pending, writer);
+    put_listed(size, lemma.absent.as_slice(), pending, writer);
+    put_node(size, &lemma.body, pending, writer);
+    put_word(b"end", pending, writer);
 }
 
 fn put_all_had<W: Write>(
     version: Version,
     size: Size,
     had: &[Colouring],
-    held: &mut Held,
+    pending: &mut PendingBytes,
     writer: &mut W,
-) -> Result<(), WriteFault>
-    ensures put { OnOk result (Puts (W.contents writer.old) (W.contents writer.new) held.old.items held.new.items (lines_text size (map (had_spelled (version_number version)) had.now))) }
-    ensures cut { OnErr result (TakesPart (W.contents writer.old) (W.contents writer.new) (held.old.items ++ lines_text size (map (had_spelled (version_number version)) had.now))) }
+)
+    ensures { HasPut (W.contents writer.old) (W.contents writer.new) pending.old pending.new (lines_text size (map (had_spelled (version_number version)) had.now)) }
 {
     for colouring in had {
-        put_had(version, size, colouring, held, writer)?;
+        put_had(version, size, colouring, pending, writer);
     }
-    Ok(())
 }
 
 fn put_listed<W: Write>(
     size: Size,
     listed: &[Colouring],
-    held: &mut Held,
+    pending: &mut PendingBytes,
     writer: &mut W,
-) -> Result<(), WriteFault>
-    ensures put { OnOk result (Puts (W.contents writer.old) (W.contents writer.new) held.old.items held.new.items (lines_text size (map (λ c. Some (not_line c)) listed.now))) }
-    ensures cut { OnErr result (TakesPart (W.contents writer.old) (W.contents writer.new) (held.old.items ++ lines_text size (map (λ c. Some (not_line c)) listed.now))) }
+)
+    ensures { HasPut (W.contents writer.old) (W.contents writer.new) pending.old pending.new (lines_text size (map (λ c. Some (not_line c)) listed.now)) }
 {
     for colouring in listed {
-        put_not(size, colouring, held, writer)?;
+        put_not(size, colouring, pending, writer);
     }
-    Ok(())
 }
 
 #[cycle(put)]
-fn put_node<W: Write>(
-    size: Size,
-    node: &Node,
-    held: &mut Held,
-    writer: &mut W,
-) -> Result<(), WriteFault>
-    ensures put { IsTrue (list_all (is_spelled size) (node_lines (node_of size node.now))) → OnOk result (Puts (W.contents writer.old) (W.contents writer.new) held.old.items held.new.items (lines_text size (node_lines (node_of size node.now)))) }
-    ensures cut { IsTrue (list_all (is_spelled size) (node_lines (node_of size node.now))) → OnErr result (TakesPart (W.contents writer.old) (W.contents writer.new) (held.old.items ++ lines_text size (node_lines (node_of size node.now)))) }
+fn put_node<W: Write>(size: Size, node: &Node, pending: &mut PendingBytes, writer: &mut W)
+    ensures { IsTrue (list_all (is_spelled size) (node_lines (node_of size node.now))) → HasPut (W.contents writer.old) (W.contents writer.new) pending.old pending.new (lines_text size (node_lines (node_of size node.now))) }
 {
     match node {
-        Node::Won => put_word(b"won", held, writer),
-        Node::Use(lemma) => put_number(b"use ", *lemma as usize, held, writer),
+        Node::Won => put_word(b"won", pending, writer),
+        Node::Use(lemma) => put_number(b"use ", *lemma as usize, pending, writer),
         Node::Play(turn, below) => {
-            put_turn(b"play ", size, *turn, held, writer)?;
-            put_node(size, below, held, writer)
+            put_turn(b"play ", size, *turn, pending, writer);
+            put_node(size, below, pending, writer);
         }
         Node::All(replies) => {
-            put_number(b"all ", replies.len(), held, writer)?;
-            put_replies(size, replies.as_slice(), held, writer)
+            put_number(b"all ", replies.len(), pending, writer);
+            put_replies(size, replies.as_slice(), pending, writer);
         }
     }
 }
@@ -160,15 +149,13 @@ fn put_node<W: Write>(
 fn put_replies<W: Write>(
     size: Size,
     replies: &[(Turn, Node)],
-    held: &mut Held,
+    pending: &mut PendingBytes,
     writer: &mut W,
-) -> Result<(), WriteFault>
-    ensures put { IsTrue (list_all (is_spelled size) (branch_lines (replies_of size replies.now))) → OnOk result (Puts (W.contents writer.old) (W.contents writer.new) held.old.items held.new.items (lines_text size (branch_lines (replies_of size replies.now)))) }
-    ensures cut { IsTrue (list_all (is_spelled size) (branch_lines (replies_of size replies.now))) → OnErr result (TakesPart (W.contents writer.old) (W.contents writer.new) (held.old.items ++ lines_text size (branch_lines (replies_of size replies.now)))) }
+)
+    ensures { IsTrue (list_all (is_spelled size) (branch_lines (replies_of size replies.now))) → HasPut (W.contents writer.old) (W.contents writer.new) pending.old pending.new (lines_text size (branch_lines (replies_of size replies.now))) }
 {
     for (turn, below) in replies {
-        put_turn(b"reply ", size, *turn, held, writer)?;
-        put_node(size, below, held, writer)?;
+        put_turn(b"reply ", size, *turn, pending, writer);
+        put_node(size, below, pending, writer);
     }
-    Ok(())
 }

@@ -34,7 +34,7 @@ pub enum Line {
     End,
 }
 
-/// What stands behind the word at the front of the text, where it stands there.
+/// What stands after the word at the front of the text, where it stands there.
 fn behind_word<'a>(word: &[u8], text: &'a [u8]) -> Option<&'a [u8]>
     ensures { option_map (λ rest. rest.now) result ≡ after_word word.now text.now }
 {
@@ -102,7 +102,7 @@ pub(crate) fn place_of_byte(text: &[u8], wanted: u8) -> Option<usize>
     text.iter().position(|byte| *byte == wanted)
 }
 
-/// What stands before and behind the first space.
+/// What stands before and after the first space.
 fn parts_at_space(text: &[u8]) -> Option<(&[u8], &[u8])>
     ensures { option_map (λ parts. (parts.0.now, parts.1.now)) result ≡ at_space text.now }
 {
@@ -110,7 +110,7 @@ fn parts_at_space(text: &[u8]) -> Option<(&[u8], &[u8])>
     Some((&text[..space], &text[space + 1..]))
 }
 
-/// A claim's first line behind its word: the version, the size and the winner.
+/// A claim's first line after its word: the version, the size and the winner.
 fn read_header(text: &[u8]) -> Option<Line>
     ensures { (n : ℕ) → option_map (line_value n) result ≡ header_tail text.now }
 {
@@ -132,7 +132,7 @@ fn read_header(text: &[u8]) -> Option<Line>
     })
 }
 
-/// A lemma's first line behind its word: the mover, the passes and the root.
+/// A lemma's first line after its word: the mover, the passes and the root.
 fn read_lemma(size: Size, text: &[u8]) -> Option<Line>
     ensures { option_map (line_value size) result ≡ lemma_tail size text.now }
 {

@@ -23,7 +23,7 @@ pub trait NodeSource {
     /// The fault that was answered, where there was one.
     ghost fault: { Self → Option Fault };
 
-    /// What a call may answer where no fault was answered yet, from the source before it to the source behind it.
+    /// What a call may answer where no fault was answered yet, from the source before it to the source after it.
     ghost gives: { Self → Result (Option SpecLine) Fault → Self → Type 0 };
 
     /// The next line; `None` where no line is left.

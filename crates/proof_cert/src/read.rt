@@ -1,45 +1,27 @@
 //! Whole claims, read from their bytes.
 
-ghost use Rattle.std.specs.Prelude.{◌≡◌, ◌+◌, ◌-◌, ◌⊎◌, ℕ, IfOk, IfErr, Some, Err, map, option_map};
+ghost use Rattle.std.specs.Prelude.{◌≡◌, ◌+◌, ◌-◌, ◌≤◌, ◌⊎◌, ◌↔◌, ℕ, IfOk, IfErr, IfSome, Some, Err, length, map, option_map, true};
 ghost use Rattle.go_points.specs.Ply.{ply_of};
-ghost use Rattle.proof_cert.specs.Claim.{Claim, IsWithinLimits};
+ghost use Rattle.proof_cert.specs.Claim.{Claim, IsWithinLimits, max_depth, max_lemmas, max_listed, max_nodes};
 ghost use Rattle.proof_cert.specs.Text.{text};
-ghost use Rattle.proof_cert.specs.Stage.{line_value, version_number};
+ghost use Rattle.proof_cert.specs.Stage.{line_value};
 ghost use Rattle.proof_cert.specs.Certificate.{node_of, replies_of, lemma_of, claim_of};
-ghost use Rattle.proof_cert.specs.Reading.{with_rest, left_of, line_read, line_as, as_reply, reply_read, replies_read, below_read, tree_read, step_line, as_step, reply_value, as_not, as_had, picks, list_read, lists_read, listed_value, lists_value, header_value, as_end, body_read, lemma_read, lemma_of_line, main_test, all_lemmas_read, as_header, main_read, claim_read, is_ended};
+ghost use Rattle.proof_cert.specs.Reading.{with_rest, left_of, line_read, reply_read, replies_read, below_read, tree_read, reply_value, picks, list_read, lists_read, listed_value, lists_value, body_read, lemma_read, all_lemmas_read, claim_read, CountsTree, CountsReplies, CountsListed, CountsLemma, CountsLemmas};
 
 use crate::certificate::{Certificate, Lemma, Node};
+use crate::claim_text::write_cert;
+use crate::limits::{MAX_DEPTH, MAX_LEMMAS, MAX_LISTED, MAX_NODES};
 use crate::line::Line;
 use crate::source::{SourceFault, TextSource};
 use crate::version::Version;
+use crate::write::CertWrite;
 use go_points::{Colour, Colouring, Size, Turn};
 use std::alloc::{AllocError, Global};
 
-/// The greatest number of nodes of a claim.
-const MAX_NODES: u32 = 10_000_000;
-
-/// The greatest depth of a node; a body's first node has depth 1.
-const MAX_DEPTH: u32 = 2_000;
-
-/// The greatest number of listed colourings of a claim.
-const MAX_LISTED: u32 = 1_000_000;
-
-/// The greatest number of lemmas of a claim.
-const MAX_LEMMAS: usize = 65_535;
-
-/// The line of a node.
-#[derive(Clone, Copy)]
-pub(crate) enum Step {
-    Won,
-    Use(u32),
-    Play(Turn),
-    All(u32),
-}
-
-/// A list of a lemma: of the colourings that must have occurred, in a claim of this version, or of those that must not.
+/// A list of a lemma: of the colourings that must have occurred, or of those that must not.
 #[derive(Clone, Copy)]
 pub(crate) enum Listing {
-    Had(Version),
+    Had,
     Not,
 }
 
@@ -51,33 +33,11 @@ pub(crate) struct Reading<'a> {
     listed: u32,
 }
 
-/// The line, where it is a node's.
-fn step_of(line: &Line) -> Option<Step>
-    ensures { (n : ℕ) → option_map (step_line n) result ≡ as_step (line_value n line.now) }
-{
-    match line {
-        Line::Won => Some(Step::Won),
-        Line::Use(lemma) => Some(Step::Use(*lemma)),
-        Line::Play(turn) => Some(Step::Play(*turn)),
-        Line::All(replies) => Some(Step::All(*replies)),
-        _ => None,
-    }
-}
-
-/// The turn of a reply's line.
-fn reply_of(line: &Line) -> Option<Turn>
-    ensures { (n : ℕ) → option_map (ply_of n) result ≡ as_reply (line_value n line.now) }
-{
-    match line {
-        Line::Reply(turn) => Some(*turn),
-        _ => None,
-    }
-}
-
 /// The next line.
 #[tactic(auto, using(crate::proofs::ReadTrees::line_there, crate::proofs::ReadTrees::line_ended, crate::proofs::ReadTrees::line_bad))]
 fn next_line(reading: &mut Reading<'_>) -> Option<Line>
     ensures read { with_rest (line_value reading.old.source.size) result (left_of reading.new.source reading.new.nodes reading.new.listed) ≡ line_read (left_of reading.old.source reading.old.nodes reading.old.listed) }
+    ensures nodes { reading.new.nodes ≡ reading.old.nodes }
     ensures listed { reading.new.listed ≡ reading.old.listed }
     ensures size { reading.new.source.size ≡ reading.old.source.size }
 {
@@ -88,38 +48,17 @@ fn next_line(reading: &mut Reading<'_>) -> Option<Line>
     }
 }
 
-/// The next line, where it is a node's.
-#[tactic(auto, unfolding(crate::specs::Reading::line_as))]
-fn next_step(reading: &mut Reading<'_>) -> Option<Step>
-    ensures read { with_rest (step_line reading.old.source.size) result (left_of reading.new.source reading.new.nodes reading.new.listed) ≡ line_as as_step (left_of reading.old.source reading.old.nodes reading.old.listed) }
-    ensures size { reading.new.source.size ≡ reading.old.source.size }
-{
-    match next_line(reading) {
-        Some(line) => step_of(&line),
-        None => None,
-    }
-}
-
-/// The turn of the next line, where it is a reply's.
-#[tactic(auto, unfolding(crate::specs::Reading::line_as))]
-fn next_reply(reading: &mut Reading<'_>) -> Option<Turn>
-    ensures read { with_rest (ply_of reading.old.source.size) result (left_of reading.new.source reading.new.nodes reading.new.listed) ≡ line_as as_reply (left_of reading.old.source reading.old.nodes reading.old.listed) }
-    ensures size { reading.new.source.size ≡ reading.old.source.size }
-{
-    let line = next_line(reading)?;
-    reply_of(&line)
-}
-
 /// The tree of at most so many levels that has this first line.
 #[cycle(read)]
 #[tactic(auto, using(crate::proofs::Certificates::node_of_won, crate::proofs::Certificates::node_of_use, crate::proofs::Certificates::node_of_play, crate::proofs::Certificates::node_of_all, crate::proofs::ReadTrees::tree_opened))]
 fn read_tree(
     alloc: Global,
     reading: &mut Reading<'_>,
-    first: Step,
+    first: &Line,
     room: u32,
 ) -> Result<Option<Node>, AllocError>
-    ensures read { IfOk result (λ read. with_rest (node_of reading.old.source.size) read (left_of reading.new.source reading.new.nodes reading.new.listed) ≡ tree_read room (step_line reading.old.source.size first) (left_of reading.old.source reading.old.nodes reading.old.listed)) }
+    ensures read { IfOk result (λ read. with_rest (node_of reading.old.source.size) read (left_of reading.new.source reading.new.nodes reading.new.listed) ≡ tree_read room (line_value reading.old.source.size first.now) (left_of reading.old.source reading.old.nodes reading.old.listed)) }
+    ensures counted { IfOk result (λ read. IfSome read (λ tree. CountsTree room reading.old.nodes reading.old.listed (node_of reading.old.source.size tree) reading.new.nodes reading.new.listed)) }
     ensures size { reading.new.source.size ≡ reading.old.source.size }
 {
     if room == 0 || reading.nodes >= MAX_NODES {
@@ -127,20 +66,21 @@ fn read_tree(
     }
     reading.nodes += 1;
     match first {
-        Step::Won => Ok(Some(Node::Won)),
-        Step::Use(lemma) => Ok(Some(Node::Use(lemma))),
-        Step::Play(turn) => {
+        Line::Won => Ok(Some(Node::Won)),
+        Line::Use(lemma) => Ok(Some(Node::Use(*lemma))),
+        Line::Play(turn) => {
             let Some(below) = read_below(alloc, reading, room - 1)? else {
                 return Ok(None);
             };
-            Ok(Some(Node::Play(turn, Box::new(alloc, below)?)))
+            Ok(Some(Node::Play(*turn, Box::new(alloc, below)?)))
         }
-        Step::All(count) => {
-            let Some(replies) = read_replies(alloc, reading, count, room - 1)? else {
+        Line::All(count) => {
+            let Some(replies) = read_replies(alloc, reading, *count, room - 1)? else {
                 return Ok(None);
             };
             Ok(Some(Node::All(replies)))
         }
+        _ => Ok(None),
     }
 }
 
@@ -152,12 +92,13 @@ fn read_below(
     room: u32,
 ) -> Result<Option<Node>, AllocError>
     ensures read { IfOk result (λ read. with_rest (node_of reading.old.source.size) read (left_of reading.new.source reading.new.nodes reading.new.listed) ≡ below_read (tree_read room) (left_of reading.old.source reading.old.nodes reading.old.listed)) }
+    ensures counted { IfOk result (λ read. IfSome read (λ tree. CountsTree room reading.old.nodes reading.old.listed (node_of reading.old.source.size tree) reading.new.nodes reading.new.listed)) }
     ensures size { reading.new.source.size ≡ reading.old.source.size }
 {
-    let Some(first) = next_step(reading) else {
+    let Some(first) = next_line(reading) else {
         return Ok(None);
     };
-    read_tree(alloc, reading, first, room)
+    read_tree(alloc, reading, &first, room)
 }
 
 /// So many replies.
@@ -168,7 +109,9 @@ fn read_replies(
     count: u32,
     room: u32,
 ) -> Result<Option<Vec<(Turn, Node)>>, AllocError>
+    requires { reading.old.nodes ≤ max_nodes }
     ensures read { IfOk result (λ read. with_rest (λ replies. replies_of reading.old.source.size replies.items) read (left_of reading.new.source reading.new.nodes reading.new.listed) ≡ replies_read (below_read (tree_read room)) count (left_of reading.old.source reading.old.nodes reading.old.listed)) }
+    ensures counted { IfOk result (λ read. IfSome read (λ replies. CountsReplies room reading.old.nodes reading.old.listed (replies_of reading.old.source.size replies.items) reading.new.nodes reading.new.listed)) }
     ensures size { reading.new.source.size ≡ reading.old.source.size }
 {
     let mut replies = Vec::new(alloc);
@@ -183,15 +126,17 @@ fn read_replies(
 
 /// A reply, and the tree below it.
 #[cycle(read)]
+#[tactic(auto, unfolding(crate::specs::Reading::line_as))]
 fn read_reply(
     alloc: Global,
     reading: &mut Reading<'_>,
     room: u32,
 ) -> Result<Option<(Turn, Node)>, AllocError>
     ensures read { IfOk result (λ read. with_rest (reply_value reading.old.source.size) read (left_of reading.new.source reading.new.nodes reading.new.listed) ≡ reply_read (below_read (tree_read room)) (left_of reading.old.source reading.old.nodes reading.old.listed)) }
+    ensures counted { IfOk result (λ read. IfSome read (λ reply. CountsTree room reading.old.nodes reading.old.listed (node_of reading.old.source.size reply.1) reading.new.nodes reading.new.listed)) }
     ensures size { reading.new.source.size ≡ reading.old.source.size }
 {
-    let Some(turn) = next_reply(reading) else {
+    let Some(Line::Reply(turn)) = next_line(reading) else {
         return Ok(None);
     };
     let Some(below) = read_below(alloc, reading, room)? else {
@@ -200,40 +145,18 @@ fn read_reply(
     Ok(Some((turn, below)))
 }
 
-/// The colouring of a `not` line.
-fn not_of(line: &Line) -> Option<Colouring>
-    ensures { (n : ℕ) → result ≡ as_not (line_value n line.now) }
-{
-    match line {
-        Line::Not(colouring) => Some(*colouring),
-        _ => None,
-    }
-}
-
-/// The colouring of a `had` line, which a claim of version 1 does not have.
-fn had_of(version: Version, line: &Line) -> Option<Colouring>
-    ensures { (n : ℕ) → result ≡ as_had (version_number version) (line_value n line.now) }
-{
-    match version {
-        Version::One => None,
-        Version::Two => match line {
-            Line::Had(colouring) => Some(*colouring),
-            _ => None,
-        },
-    }
-}
-
 /// The colouring of a line of the list.
 fn listed_of(listing: Listing, line: &Line) -> Option<Colouring>
     ensures { (n : ℕ) → result ≡ picks listing (line_value n line.now) }
 {
-    match listing {
-        Listing::Had(version) => had_of(version, line),
-        Listing::Not => not_of(line),
+    match (listing, line) {
+        (Listing::Had, Line::Had(colouring)) => Some(*colouring),
+        (Listing::Not, Line::Not(colouring)) => Some(*colouring),
+        _ => None,
     }
 }
 
-/// The listed colourings, of which the first line is given, and the line behind them.
+/// The listed colourings, of which the first line is given, and the line after them.
 fn read_listed(
     alloc: Global,
     reading: &mut Reading<'_>,
@@ -241,6 +164,7 @@ fn read_listed(
     first: Line,
 ) -> Result<Option<(Vec<Colouring>, Line)>, AllocError>
     ensures read { IfOk result (λ read. with_rest (listed_value reading.old.source.size) read (left_of reading.new.source reading.new.nodes reading.new.listed) ≡ list_read (picks listing) (line_value reading.old.source.size first) (left_of reading.old.source reading.old.nodes reading.old.listed)) }
+    ensures counted { IfOk result (λ read. IfSome read (λ found. CountsListed reading.old.nodes reading.old.listed (length found.0.items) reading.new.nodes reading.new.listed)) }
     ensures size { reading.new.source.size ≡ reading.old.source.size }
 {
     let mut listed = Vec::new(alloc);
@@ -259,46 +183,24 @@ fn read_listed(
     Ok(None)
 }
 
-/// Both lists of a lemma, of which the first line is given, and the line behind them.
+/// Both lists of a lemma, of which the first line is given, and the line after them.
 #[tactic(auto, unfolding(crate::specs::Reading::lists_read))]
 fn read_lists(
     alloc: Global,
     reading: &mut Reading<'_>,
-    version: Version,
     first: Line,
 ) -> Result<Option<((Vec<Colouring>, Vec<Colouring>), Line)>, AllocError>
-    ensures read { IfOk result (λ read. with_rest (lists_value reading.old.source.size) read (left_of reading.new.source reading.new.nodes reading.new.listed) ≡ lists_read (version_number version) (line_value reading.old.source.size first) (left_of reading.old.source reading.old.nodes reading.old.listed)) }
+    ensures read { IfOk result (λ read. with_rest (lists_value reading.old.source.size) read (left_of reading.new.source reading.new.nodes reading.new.listed) ≡ lists_read (line_value reading.old.source.size first) (left_of reading.old.source reading.old.nodes reading.old.listed)) }
+    ensures counted { IfOk result (λ read. IfSome read (λ found. CountsListed reading.old.nodes reading.old.listed (length found.0.0.items + length found.0.1.items) reading.new.nodes reading.new.listed)) }
     ensures size { reading.new.source.size ≡ reading.old.source.size }
 {
-    let Some((had, line)) = read_listed(alloc, reading, Listing::Had(version), first)? else {
+    let Some((had, line)) = read_listed(alloc, reading, Listing::Had, first)? else {
         return Ok(None);
     };
     let Some((absent, line)) = read_listed(alloc, reading, Listing::Not, line)? else {
         return Ok(None);
     };
     Ok(Some(((had, absent), line)))
-}
-
-/// Whether the line is `end`.
-fn end_of(line: &Line) -> Option<()>
-    ensures { (n : ℕ) → result ≡ as_end (line_value n line.now) }
-{
-    match line {
-        Line::End => Some(()),
-        _ => None,
-    }
-}
-
-/// The line `end`.
-#[tactic(auto, unfolding(crate::specs::Reading::line_as))]
-fn next_end(reading: &mut Reading<'_>) -> Option<()>
-    ensures read { with_rest (λ end. end) result (left_of reading.new.source reading.new.nodes reading.new.listed) ≡ line_as as_end (left_of reading.old.source reading.old.nodes reading.old.listed) }
-    ensures size { reading.new.source.size ≡ reading.old.source.size }
-{
-    match next_line(reading) {
-        Some(line) => end_of(&line),
-        None => None,
-    }
 }
 
 /// The tree that has this first line, with its `end`.
@@ -309,37 +211,35 @@ fn read_body(
     first: &Line,
 ) -> Result<Option<Node>, AllocError>
     ensures read { IfOk result (λ read. with_rest (node_of reading.old.source.size) read (left_of reading.new.source reading.new.nodes reading.new.listed) ≡ body_read (line_value reading.old.source.size first.now) (left_of reading.old.source reading.old.nodes reading.old.listed)) }
+    ensures counted { IfOk result (λ read. IfSome read (λ tree. CountsTree max_depth reading.old.nodes reading.old.listed (node_of reading.old.source.size tree) reading.new.nodes reading.new.listed)) }
     ensures size { reading.new.source.size ≡ reading.old.source.size }
 {
-    let Some(first) = step_of(first) else {
-        return Ok(None);
-    };
     let Some(tree) = read_tree(alloc, reading, first, MAX_DEPTH)? else {
         return Ok(None);
     };
-    match next_end(reading) {
-        Some(()) => Ok(Some(tree)),
+    match next_line(reading) {
+        Some(_) => Ok(Some(tree)),
         None => Ok(None),
     }
 }
 
-/// A lemma behind its first line.
+/// A lemma after its first line.
 #[tactic(auto, unfolding(crate::specs::Reading::lemma_read))]
 fn read_lemma(
     alloc: Global,
     reading: &mut Reading<'_>,
-    version: Version,
     mover: Colour,
     passes: u8,
     root: Colouring,
 ) -> Result<Option<Lemma>, AllocError>
-    ensures read { IfOk result (λ read. with_rest (lemma_of reading.old.source.size) read (left_of reading.new.source reading.new.nodes reading.new.listed) ≡ lemma_read (version_number version) mover passes root (left_of reading.old.source reading.old.nodes reading.old.listed)) }
+    ensures read { IfOk result (λ read. with_rest (lemma_of reading.old.source.size) read (left_of reading.new.source reading.new.nodes reading.new.listed) ≡ lemma_read mover passes root (left_of reading.old.source reading.old.nodes reading.old.listed)) }
+    ensures counted { IfOk result (λ read. IfSome read (λ lemma. CountsLemma reading.old.nodes reading.old.listed (lemma_of reading.old.source.size lemma) reading.new.nodes reading.new.listed)) }
     ensures size { reading.new.source.size ≡ reading.old.source.size }
 {
     let Some(first) = next_line(reading) else {
         return Ok(None);
     };
-    let Some(((had, absent), line)) = read_lists(alloc, reading, version, first)? else {
+    let Some(((had, absent), line)) = read_lists(alloc, reading, first)? else {
         return Ok(None);
     };
     let Some(body) = read_body(alloc, reading, &line)? else {
@@ -355,40 +255,12 @@ fn read_lemma(
     }))
 }
 
-/// A lemma whose first line is this, and `None` for any other line.
-fn read_lemma_of(
-    alloc: Global,
-    reading: &mut Reading<'_>,
-    version: Version,
-    line: &Line,
-) -> Result<Option<Lemma>, AllocError>
-    ensures read { IfOk result (λ read. with_rest (lemma_of reading.old.source.size) read (left_of reading.new.source reading.new.nodes reading.new.listed) ≡ lemma_of_line (version_number version) (line_value reading.old.source.size line.now) (left_of reading.old.source reading.old.nodes reading.old.listed)) }
-    ensures size { reading.new.source.size ≡ reading.old.source.size }
-{
-    match line {
-        Line::Lemma {
-            mover,
-            passes,
-            root,
-        } => read_lemma(alloc, reading, version, *mover, *passes, *root),
-        _ => Ok(None),
-    }
-}
-
-/// Whether the line is `main`.
-fn is_main(line: &Line) -> bool
-    ensures { (n : ℕ) → result ≡ main_test (line_value n line.now) }
-{
-    matches!(line, Line::Main)
-}
-
 /// The lemmas up to the line `main`.
-fn read_lemmas(
-    alloc: Global,
-    reading: &mut Reading<'_>,
-    version: Version,
-) -> Result<Option<Vec<Lemma>>, AllocError>
-    ensures read { IfOk result (λ read. with_rest (λ lemmas. map (lemma_of reading.old.source.size) lemmas.items) read (left_of reading.new.source reading.new.nodes reading.new.listed) ≡ all_lemmas_read (version_number version) (left_of reading.old.source reading.old.nodes reading.old.listed)) }
+fn read_lemmas(alloc: Global, reading: &mut Reading<'_>) -> Result<Option<Vec<Lemma>>, AllocError>
+    requires { reading.old.listed ≤ max_listed }
+    ensures read { IfOk result (λ read. with_rest (λ lemmas. map (lemma_of reading.old.source.size) lemmas.items) read (left_of reading.new.source reading.new.nodes reading.new.listed) ≡ all_lemmas_read (left_of reading.old.source reading.old.nodes reading.old.listed)) }
+    ensures counted { IfOk result (λ read. IfSome read (λ lemmas. CountsLemmas reading.old.nodes reading.old.listed (map (lemma_of reading.old.source.size) lemmas.items) reading.new.nodes reading.new.listed)) }
+    ensures count { IfOk result (λ read. IfSome read (λ lemmas. length lemmas.items ≤ max_lemmas)) }
     ensures size { reading.new.source.size ≡ reading.old.source.size }
 {
     let mut lemmas = Vec::new(alloc);
@@ -396,82 +268,56 @@ fn read_lemmas(
         let Some(line) = next_line(reading) else {
             return Ok(None);
         };
-        if is_main(&line) {
-            return Ok(Some(lemmas));
+        match &line {
+            Line::Main => return Ok(Some(lemmas)),
+            Line::Lemma {
+                mover,
+                passes,
+                root,
+            } => {
+                let Some(lemma) = read_lemma(alloc, reading, *mover, *passes, *root)? else {
+                    return Ok(None);
+                };
+                lemmas.push(lemma)?;
+            }
+            _ => return Ok(None),
         }
-        let Some(lemma) = read_lemma_of(alloc, reading, version, &line)? else {
-            return Ok(None);
-        };
-        lemmas.push(lemma)?;
     }
     Ok(None)
 }
 
-/// The version and the winner of a header for this size.
-fn header_of(size: Size, line: &Line) -> Option<(Version, Colour)>
-    ensures { (n : ℕ) → option_map header_value result ≡ as_header size (line_value n line.now) }
-{
-    match line {
-        Line::Header {
-            version,
-            size: named,
-            winner,
-        } => {
-            if *named == u32::from(size.rows()) {
-                Some((*version, *winner))
-            } else {
-                None
-            }
-        }
-        _ => None,
-    }
-}
-
-/// The version and the winner, from the first line.
-#[tactic(auto, unfolding(crate::specs::Reading::line_as))]
-fn next_header(reading: &mut Reading<'_>, size: Size) -> Option<(Version, Colour)>
-    ensures read { with_rest header_value result (left_of reading.new.source reading.new.nodes reading.new.listed) ≡ line_as (as_header size) (left_of reading.old.source reading.old.nodes reading.old.listed) }
-    ensures size { reading.new.source.size ≡ reading.old.source.size }
-{
-    match next_line(reading) {
-        Some(line) => header_of(size, &line),
-        None => None,
-    }
-}
-
-/// The main tree.
-fn read_main(alloc: Global, reading: &mut Reading<'_>) -> Result<Option<Node>, AllocError>
-    ensures read { IfOk result (λ read. with_rest (node_of reading.old.source.size) read (left_of reading.new.source reading.new.nodes reading.new.listed) ≡ main_read (left_of reading.old.source reading.old.nodes reading.old.listed)) }
-    ensures size { reading.new.source.size ≡ reading.old.source.size }
-{
-    let Some(line) = next_line(reading) else {
-        return Ok(None);
-    };
-    read_body(alloc, reading, &line)
-}
-
-/// A whole claim, with nothing behind it.
-#[tactic(auto, unfolding(crate::specs::Reading::claim_read), using(crate::proofs::ReadTrees::line_there, crate::proofs::ReadTrees::line_ended, crate::proofs::ReadTrees::line_bad))]
+/// A whole claim, and maybe more after it.
+#[tactic(auto, unfolding(crate::specs::Reading::claim_read, crate::specs::Reading::line_as))]
 fn read_claim(
     alloc: Global,
     size: Size,
     reading: &mut Reading<'_>,
 ) -> Result<Option<Certificate>, AllocError>
-    requires { reading.old.source.size ≡ size }
-    ensures { IfOk result (λ read. option_map claim_of read ≡ claim_read size (left_of reading.old.source reading.old.nodes reading.old.listed)) }
+    requires size { reading.old.source.size ≡ size }
+    requires counts { (reading.old.nodes ≡ 0) × (reading.old.listed ≡ 0) }
+    ensures read { IfOk result (λ read. option_map claim_of read ≡ claim_read size (left_of reading.old.source reading.old.nodes reading.old.listed)) }
+    ensures within { IfOk result (λ read. IfSome read (λ certificate. IsWithinLimits (claim_of certificate))) }
+    ensures size { IfOk result (λ read. IfSome read (λ certificate. certificate.size ≡ size)) }
 {
-    let Some((version, winner)) = next_header(reading, size) else {
+    let Some(
+        Line::Header {
+            version,
+            winner,
+            ..
+        },
+    ) = next_line(reading)
+    else {
         return Ok(None);
     };
-    let Some(lemmas) = read_lemmas(alloc, reading, version)? else {
+    let Some(lemmas) = read_lemmas(alloc, reading)? else {
         return Ok(None);
     };
-    let Some(main) = read_main(alloc, reading)? else {
+    let Some(line) = next_line(reading) else {
         return Ok(None);
     };
-    if !has_ended(reading) {
+    let Some(main) = read_body(alloc, reading, &line)? else {
         return Ok(None);
-    }
+    };
     Ok(Some(Certificate {
         version,
         size,
@@ -481,15 +327,15 @@ fn read_claim(
     }))
 }
 
-/// Whether no line is left.
-#[tactic(auto, using(crate::proofs::ReadTrees::some_left, crate::proofs::ReadTrees::none_left))]
-fn has_ended(reading: &mut Reading<'_>) -> bool
-    ensures { result ≡ is_ended (left_of reading.old.source reading.old.nodes reading.old.listed).lines }
+/// Whether the bytes are the claim's text, which is written for that: the functions above read other texts too.
+fn has_text(alloc: Global, certificate: &Certificate, bytes: &[u8]) -> Result<bool, AllocError>
+    ensures { IfOk result (λ same. (same ≡ true) ↔ (text (claim_of certificate.now) ≡ Some bytes.now)) }
 {
-    match reading.source.next() {
-        Ok(Some(_)) => false,
-        Ok(None) => true,
-        Err(_) => false,
+    let mut written = Vec::new(alloc);
+    match write_cert(certificate, &mut written) {
+        Ok(()) => Ok(written.as_slice() == bytes),
+        Err(CertWrite::NoSpelling) => Ok(false),
+        Err(CertWrite::Write) => Err(AllocError),
     }
 }
 
@@ -509,7 +355,11 @@ pub fn read_cert(alloc: Global, size: Size, bytes: &[u8]) -> Result<Certificate,
         listed: 0,
     };
     match read_claim(alloc, size, &mut reading) {
-        Ok(Some(certificate)) => Ok(certificate),
+        Ok(Some(certificate)) => match has_text(alloc, &certificate, bytes) {
+            Ok(true) => Ok(certificate),
+            Ok(false) => Err(SourceFault::Malformed),
+            Err(_) => Err(SourceFault::Memory),
+        },
         Ok(None) => Err(SourceFault::Malformed),
         Err(_) => Err(SourceFault::Memory),
     }

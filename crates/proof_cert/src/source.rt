@@ -45,7 +45,7 @@ impl<'a> Model for TextSource<'a> {
     ghost invariant = { λ a. a.number + length a.left.now < 2 ^ 63 };
 }
 
-/// The first line of a text that is not empty, if its bytes spell one and a line feed ends it; and what stands behind it.
+/// The first line of a text that is not empty, if its bytes spell one and a line feed ends it; and what stands after it.
 fn first_line<'a>(size: Size, text: &'a [u8]) -> (Option<Line>, &'a [u8])
     requires { 0 < length text.now }
     ensures lines { lines size text.now ≡ option_map (line_value size) result.0 ∷ lines size result.1.now }

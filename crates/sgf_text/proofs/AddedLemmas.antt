@@ -1,11 +1,13 @@
 -- Values added to a node under a name, and what joins properties that stand twice.
-use Rattle.std.proofs.Common.{◌≡◌, ℕ, zero, suc, ◌+◌, List, [], ◌∷◌, ◌++◌, set, get_or, sym, ap, ◌∙◌, subst, refl, arith}
-use Rattle.std.specs.Prelude.{Bool, true, false, not, ◌&&◌, ◌||◌, cond, Some, None, position}
+use Rattle.std.proofs.Common.{◌≡◌, ℕ, zero, suc, ◌+◌, List, [], ◌∷◌, ◌++◌, set, get_or, sym, ap, ◌∙◌, subst, refl, arith, rules}
+use Rattle.std.specs.Prelude.{Bool, true, false, ◌||◌, cond, Some, None, position, Result, OnOk}
 use Rattle.std.specs.List.{list_all, list_any}
 use Rattle.std.specs.Str.{bytes_eq}
 use Rattle.std.specs.List.{position_from}
 use Rattle.std.proofs.lemmas.Iterator.Adapters.{position_from-zero}
 use Rattle.std.proofs.lemmas.Slice.Eq.{bytes_eq-Decides}
+use Rattle.std.proofs.lemmas.Bool.{and_from, and_parts, not-true}
+use Rattle.std.proofs.lemmas.Bool.Decides.{nat_tests}
 use Rattle.sgf_text.specs.declared.node.Property.{Property}
 use Rattle.sgf_text.specs.Nodes.{is_value, is_ident, is_property, is_named, are_distinct, is_node}
 use Rattle.sgf_text.specs.OpenTrees.{added, names_of}
@@ -19,6 +21,9 @@ added_here p ps name values e = rw (e, added) refl
 pub added_later : (p : Property) (ps : List Property) (name : List ℕ) (values : List (List ℕ)) → is_named name p ≡ false → added (p ∷ ps) name values ≡ p ∷ added ps name values
 added_later p ps name values e = rw (e, added) refl
 
+pub on_ok_map : {T E : Type 0} (r : Result T E) (P Q : Type 0) → (P → Q) → OnOk r P → OnOk r Q
+on_ok_map r P Q h g = search rules
+
 -- ---- names
 
 pub same_name : (a b : List ℕ) → bytes_eq a b ≡ true → a ≡ b
@@ -28,11 +33,7 @@ pub name_itself : (a : List ℕ) → bytes_eq a a ≡ true
 name_itself a = (bytes_eq-Decides a a).1 refl
 
 pub flipped : (a b : List ℕ) → bytes_eq a b ≡ false → bytes_eq b a ≡ false
-flipped a b h = go (bytes_eq b a) refl
-  where
-    go : (t : Bool) → bytes_eq b a ≡ t → bytes_eq b a ≡ false
-    go true e = absurd (let f : true ≡ false = sym (ap (bytes_eq a) (same_name b a e) ∙ name_itself a) ∙ h in cc)
-    go false e = e
+flipped a b h = search rules
 
 -- ---- as the code finds the place
 
@@ -69,8 +70,7 @@ added_at ps name values i d e = let r = some_from ps name values d 0 i (sym (pos
 
 -- the values at the place were put at the end of those that are there
 pub appended_at : (now ps : List Property) (name : List ℕ) (values new : List (List ℕ)) (i : ℕ) (d : Property) → ps ≡ now → position (is_named name) ps ≡ Some i → d ≡ get_or ps i d → new ≡ d.values ++ values → set ps i (property d.ident new) ≡ added now name values
-appended_at now ps name values new i d e p g n =
-    ap (λ (x : List (List ℕ)). set ps i (property d.ident x)) n ∙ ap (λ (q : Property). set ps i (property q.ident (q.values ++ values))) g ∙ sym (added_at ps name values i d p) ∙ ap (λ qs. added qs name values) e
+appended_at now ps name values new i d h g e f = grind (arith, nat_tests, added_at)
 
 -- ---- as the code keeps the names
 
@@ -88,29 +88,15 @@ names_set (p ∷ ps) (suc i) d new e = ap (λ (ns : List (List ℕ)). p.ident �
 
 -- ---- a good node stays one
 
-pub both_good : (a b : Bool) → a ≡ true → b ≡ true → (a && b) ≡ true
-both_good a b h g = rw (h, g) refl
-
-pub both_parts : (a b : Bool) → (a && b) ≡ true → (a ≡ true) × (b ≡ true)
-both_parts true b h = (refl, h)
-both_parts false b h = absurd cc
-
 all_values : (xs ys : List (List ℕ)) → list_all is_value xs ≡ true → list_all is_value ys ≡ true → list_all is_value (xs ++ ys) ≡ true
 all_values [] ys h g = g
-all_values (x ∷ xs) ys h g = let b = both_parts (is_value x) (list_all is_value xs) h in both_good (is_value x) (list_all is_value (xs ++ ys)) b.0 (all_values xs ys b.1 g)
+all_values (x ∷ xs) ys h g = let b = and_parts (is_value x) (list_all is_value xs) h in and_from (is_value x) (list_all is_value (xs ++ ys)) b.0 (all_values xs ys b.1 g)
 
 one_good : (name : List ℕ) (values : List (List ℕ)) → is_ident name ≡ true → list_all is_value values ≡ true → (values ≡ [] → ⊥) → is_property (property name values) ≡ true
-one_good name [] i v n = absurd (n refl)
-one_good name (x ∷ xs) i v n = both_good (is_ident name && true) (list_all is_value (x ∷ xs)) (both_good (is_ident name) true i refl) v
+one_good name values h g e = search rules
 
 more_good : (name : List ℕ) (values more : List (List ℕ)) → is_property (property name values) ≡ true → list_all is_value more ≡ true → is_property (property name (values ++ more)) ≡ true
-more_good name [] more h v = absurd (let a = both_parts (is_ident name && false) true h in let b = both_parts (is_ident name) false a.0 in let e : false ≡ true = b.1 in cc)
-more_good name (x ∷ xs) more h v = let a = both_parts (is_ident name && true) (list_all is_value (x ∷ xs)) h in
-    both_good (is_ident name && true) (list_all is_value ((x ∷ xs) ++ more)) a.0 (all_values (x ∷ xs) more a.1 v)
-
-not_of : (b : Bool) → not b ≡ true → b ≡ false
-not_of true h = absurd cc
-not_of false h = refl
+more_good name values more h g = grind (arith, nat_tests, and_parts, and_from, all_values)
 
 any_added : (ps : List Property) (m name : List ℕ) (values : List (List ℕ)) → list_any (is_named m) ps ≡ false → bytes_eq m name ≡ false → list_any (is_named m) (added ps name values) ≡ false
 any_added [] m name values h g = rw g refl
@@ -124,22 +110,12 @@ any_added (p ∷ ps) m name values h g = go (is_named name p) (is_named m p) ref
 
 module _ (name : List ℕ) (values : List (List ℕ)) (i : is_ident name ≡ true) (v : list_all is_value values ≡ true) (n : values ≡ [] → ⊥) where
   all_added : (ps : List Property) → list_all is_property ps ≡ true → list_all is_property (added ps name values) ≡ true
-  all_added [] h = both_good (is_property (property name values)) true (one_good name values i v n) refl
-  all_added (p ∷ ps) h = go (is_named name p) refl (both_parts (is_property p) (list_all is_property ps) h) (all_added ps)
-    where
-      go : (b : Bool) → is_named name p ≡ b → (is_property p ≡ true) × (list_all is_property ps ≡ true) → (list_all is_property ps ≡ true → list_all is_property (added ps name values) ≡ true) → list_all is_property (added (p ∷ ps) name values) ≡ true
-      go true e q ih = rw (added_here p ps name values e) (both_good (is_property (property p.ident (p.values ++ values))) (list_all is_property ps) (more_good p.ident p.values values q.0 v) q.1)
-      go false e q ih = rw (added_later p ps name values e) (both_good (is_property p) (list_all is_property (added ps name values)) q.0 (ih q.1))
+  all_added [] h = and_from (is_property (property name values)) true (one_good name values i v n) refl
+  all_added (p ∷ ps) h = let i0 = all_added ps in grind (arith, nat_tests, and_parts, added_here, and_from, more_good, added_later)
 
   distinct_added : (ps : List Property) → are_distinct ps ≡ true → are_distinct (added ps name values) ≡ true
   distinct_added [] h = refl
-  distinct_added (p ∷ ps) h = go (is_named name p) refl (both_parts (not (list_any (is_named p.ident) ps)) (are_distinct ps) h) (distinct_added ps)
-    where
-      go : (b : Bool) → is_named name p ≡ b → (not (list_any (is_named p.ident) ps) ≡ true) × (are_distinct ps ≡ true) → (are_distinct ps ≡ true → are_distinct (added ps name values) ≡ true) → are_distinct (added (p ∷ ps) name values) ≡ true
-      go true e q ih = rw (added_here p ps name values e) (both_good (not (list_any (is_named p.ident) ps)) (are_distinct ps) q.0 q.1)
-      go false e q ih = rw (added_later p ps name values e) (both_good (not (list_any (is_named p.ident) (added ps name values))) (are_distinct (added ps name values))
-          (rw (any_added ps p.ident name values (not_of (list_any (is_named p.ident) ps) q.0) (flipped name p.ident e)) refl) (ih q.1))
+  distinct_added (p ∷ ps) h = let i0 = distinct_added ps in grind (arith, nat_tests, and_parts, added_here, and_from, added_later, any_added, not-true, flipped)
 
   pub added_good : (ps : List Property) → is_node ps ≡ true → is_node (added ps name values) ≡ true
-  added_good ps h = let b = both_parts (list_all is_property ps) (are_distinct ps) h in
-      both_good (list_all is_property (added ps name values)) (are_distinct (added ps name values)) (all_added ps b.0) (distinct_added ps b.1)
+  added_good ps h = grind (arith, nat_tests, and_parts, and_from, all_added, distinct_added)

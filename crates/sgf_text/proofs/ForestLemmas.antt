@@ -2,6 +2,7 @@
 use Rattle.std.proofs.Common.{◌≡◌, ℕ, ◌+◌, ◌<◌, List, [], ◌∷◌, ◌++◌, length, get_or, take, sym, ap, ◌∙◌, subst, refl}
 use Rattle.std.proofs.lemmas.List.{take_more}
 use Rattle.std.specs.Prelude.{Bool, true, false, ◌&&◌, IsTrue}
+use Rattle.std.proofs.lemmas.Bool.{and_from}
 use Rattle.sgf_text.specs.Text.{is_forest, is_tree, are_nodes}
 use Rattle.sgf_text.specs.Trees.{Node, Forest, no_tree, tree_then, GameTree, forest_of, tree_of}
 use Rattle.sgf_text.specs.OpenTrees.{forest_join, with_child}
@@ -21,9 +22,6 @@ forest_pushed (x ∷ xs) t = ap (tree_then x.nodes x.children) (forest_pushed xs
 pub child_pushed : (nodes : List Node) (ts new : List GameTree) (t : GameTree) → new ≡ ts ++ t ∷ [] → tree_of nodes new ≡ with_child (tree_of nodes ts) t
 child_pushed nodes ts new t e = λ i. record { nodes = nodes; children = (ap forest_of e ∙ forest_pushed ts t) i }
 
-both_good : (a b : Bool) → a ≡ true → b ≡ true → (a && b) ≡ true
-both_good a b h g = rw (h, g) refl
-
 pub join_good : (f g : Forest) → IsTrue (is_forest f) → IsTrue (is_forest g) → IsTrue (is_forest (forest_join f g))
 join_good no_tree g h k = k
 join_good (tree_then nodes children others) g h k = go (are_nodes nodes) (is_forest children) (is_forest others) refl refl refl h (λ e. join_good others g e k)
@@ -38,4 +36,4 @@ join_good (tree_then nodes children others) g h k = go (are_nodes nodes) (is_for
 pub forest_more : (ts : List GameTree) (i : ℕ) (t : GameTree) → i < length ts → t ≡ get_or ts i t → IsTrue (is_tree t) → IsTrue (is_forest (forest_of (take i ts))) → IsTrue (is_forest (forest_of (take (i + 1) ts)))
 forest_more ts i t h e g k =
     subst (λ f. IsTrue (is_forest f)) (sym (ap forest_of (take_more ts i t h ∙ ap (λ (x : GameTree). take i ts ++ x ∷ []) (sym e)) ∙ forest_pushed (take i ts) t))
-    (join_good (forest_of (take i ts)) (tree_then t.nodes t.children no_tree) k (both_good (are_nodes t.nodes && is_forest t.children) true g refl))
+    (join_good (forest_of (take i ts)) (tree_then t.nodes t.children no_tree) k (and_from (are_nodes t.nodes && is_forest t.children) true g refl))

@@ -1,8 +1,10 @@
 -- No byte breaks what an open tree keeps.
-use Rattle.std.proofs.Common.{◌≡◌, ◌≢◌, ℕ, List, [], ◌∷◌, ◌++◌, sym, ap, ◌∙◌, subst, refl}
-use Rattle.std.specs.Prelude.{true, false, ◌&&◌, IsTrue}
+use Rattle.std.proofs.Common.{◌≡◌, ◌≢◌, ℕ, List, [], ◌∷◌, ◌++◌, sym, ap, ◌∙◌, subst, refl, rules, arith}
+use Rattle.std.specs.Prelude.{true, false, IsTrue}
 use Rattle.std.specs.List.{list_all}
 use Rattle.std.proofs.lemmas.List.{append_assoc, append-nil}
+use Rattle.std.proofs.lemmas.Bool.{and_from, and_parts}
+use Rattle.std.proofs.lemmas.Bool.Decides.{nat_tests}
 use Rattle.sgf_text.specs.declared.followers.Sign.{Sign}
 use Rattle.sgf_text.specs.declared.followers.Sign.TheVariants.{White, Upper, Lower, OpenRound, CloseRound, Semicolon, OpenSquare, CloseSquare, Backslash, Other}
 use Rattle.sgf_text.specs.declared.followers.Place.{Place}
@@ -11,30 +13,28 @@ use Rattle.sgf_text.specs.declared.followers.Move.{Move}
 use Rattle.sgf_text.specs.declared.followers.Move.TheVariants.{To}
 use Rattle.sgf_text.specs.declared.node.Property.{Property}
 use Rattle.sgf_text.specs.Bytes.{is_upper}
-use Rattle.sgf_text.specs.Nodes.{is_value_after, is_value, is_ident, is_node}
-use Rattle.sgf_text.specs.Trees.{no_tree, tree_then, GameTree}
-use Rattle.sgf_text.specs.Text.{is_tree, is_forest, are_nodes}
+use Rattle.sgf_text.specs.Nodes.{is_value_after, is_value, is_ident}
+use Rattle.sgf_text.specs.Trees.{GameTree}
+use Rattle.sgf_text.specs.Text.{is_tree}
 use Rattle.sgf_text.specs.Followers.{move}
-use Rattle.sgf_text.specs.OpenTrees.{added, forest_join, with_node, with_child, Open, moved, led, node_ended, can_close, begun_in, opened_in, closed_in, IsSound, IsSoundWord, IsSoundProperty, IsSoundNode, IsSoundTree}
+use Rattle.sgf_text.specs.OpenTrees.{added, with_node, with_child, Open, moved, led, node_ended, can_close, begun_in, opened_in, closed_in, IsSound, IsSoundWord, IsSoundProperty, IsSoundNode, IsSoundTree}
 use Rattle.sgf_text.proofs.Signs.{Means}
 use Rattle.sgf_text.proofs.Sound.{IsPlain, plain_white, plain_letter, plain_at}
-use Rattle.sgf_text.proofs.AddedLemmas.{both_good, both_parts}
 use Rattle.sgf_text.proofs.ForestLemmas.{join_good}
 use Rattle.sgf_text.proofs.OpenSound.{open_at, can_begin, value_node, all_nodes, ended_good}
 
 -- ---- words and values
 
 upper_more : (c : ℕ) (w : List ℕ) → is_upper c ≡ true → IsTrue (list_all is_upper w) → IsTrue (list_all is_upper (w ++ c ∷ []))
-upper_more c [] h g = both_good (is_upper c) true h refl
-upper_more c (x ∷ xs) h g = let b = both_parts (is_upper x) (list_all is_upper xs) g in both_good (is_upper x) (list_all is_upper (xs ++ c ∷ [])) b.0 (upper_more c xs h b.1)
+upper_more c [] h g = and_from (is_upper c) true h refl
+upper_more c (x ∷ xs) h g = let b = and_parts (is_upper x) (list_all is_upper xs) g in and_from (is_upper x) (list_all is_upper (xs ++ c ∷ [])) b.0 (upper_more c xs h b.1)
 
 some_more : (c : ℕ) (w : List ℕ) → w ++ c ∷ [] ≢ []
 some_more c [] = λ k. cc
 some_more c (x ∷ xs) = λ k. cc
 
 ident_good : (w : List ℕ) → w ≢ [] → IsTrue (list_all is_upper w) → IsTrue (is_ident w)
-ident_good [] some h = absurd (some refl)
-ident_good (c ∷ cs) some h = h
+ident_good w h g = search rules
 
 no_upper : (w : List ℕ) → w ≡ [] → IsTrue (list_all is_upper w)
 no_upper w e = subst (λ x. IsTrue (list_all is_upper x)) (sym e) refl
@@ -43,8 +43,8 @@ no_values : (vs : List (List ℕ)) → vs ≡ [] → IsTrue (list_all is_value v
 no_values vs e = subst (λ x. IsTrue (list_all is_value x)) (sym e) refl
 
 values_more : (vs : List (List ℕ)) (v : List ℕ) → IsTrue (list_all is_value vs) → IsTrue (is_value v) → IsTrue (list_all is_value (vs ++ v ∷ []))
-values_more [] v h g = both_good (is_value v) true g refl
-values_more (x ∷ xs) v h g = let b = both_parts (is_value x) (list_all is_value xs) h in both_good (is_value x) (list_all is_value (xs ++ v ∷ [])) b.0 (values_more xs v b.1 g)
+values_more [] v h g = and_from (is_value v) true g refl
+values_more (x ∷ xs) v h g = let b = and_parts (is_value x) (list_all is_value xs) h in and_from (is_value x) (list_all is_value (xs ++ v ∷ [])) b.0 (values_more xs v b.1 g)
 
 some_values : (vs : List (List ℕ)) (v : List ℕ) → vs ++ v ∷ [] ≢ []
 some_values [] v = λ k. cc
@@ -122,13 +122,7 @@ module _ (o : Open) (h : IsTrue (list_all is_tree o.outer)) where
 
 module _ (w i : List ℕ) (vs : List (List ℕ)) (ps : List Property) (t : GameTree) (os : List GameTree) (n : ℕ) (h : IsTrue (list_all is_tree os)) where
   begun_at : (P : Place) → IsSoundWord P w → IsSoundProperty P i vs → IsSoundNode P ps → IsSoundTree P t → can_begin P ≡ true → IsSound (begun_in (node_ended P (open_at P w i vs ps t os n)))
-  begun_at AfterOpen a p q r c = record {
-    word = a;
-    property = p;
-    properties = subst (λ x. IsTrue (is_node x)) (sym q) refl;
-    tree = subst (λ (x : GameTree). IsTrue (list_all is_node x.nodes) × IsTrue (is_forest x.children)) (sym r) (refl, refl);
-    outer = h;
-  }
+  begun_at AfterOpen a p q r c = search rules
   begun_at AfterSemicolon a p q r c = record { word = a; property = p; properties = refl; tree = (all_nodes t.nodes ps r.0 q, r.1); outer = h }
   begun_at AfterValue a p q r c = record { word = a; property = refl; properties = refl; tree = (all_nodes t.nodes (added ps i vs) r.0 (value_node i vs ps p q), r.1); outer = h }
   begun_at AfterChild a p q r c = absurd cc
@@ -138,9 +132,9 @@ module _ (w i : List ℕ) (vs : List (List ℕ)) (ps : List Property) (t : GameT
   begun_at AfterBackslash a p q r c = absurd cc
 
   opened_at : (P : Place) → IsSoundWord P w → IsSoundProperty P i vs → IsSoundNode P ps → IsTrue (is_tree (node_ended P (open_at P w i vs ps t os n)).tree) → can_close P ≡ true → IsSound (opened_in (node_ended P (open_at P w i vs ps t os n)))
-  opened_at AfterSemicolon a p q r c = record { word = a; property = p; properties = refl; tree = refl; outer = both_good (is_tree (with_node t ps)) (list_all is_tree os) r h }
-  opened_at AfterValue a p q r c = record { word = a; property = refl; properties = refl; tree = refl; outer = both_good (is_tree (with_node t (added ps i vs))) (list_all is_tree os) r h }
-  opened_at AfterChild a p q r c = record { word = a; property = p; properties = q; tree = refl; outer = both_good (is_tree t) (list_all is_tree os) r h }
+  opened_at AfterSemicolon a p q r c = record { word = a; property = p; properties = refl; tree = refl; outer = and_from (is_tree (with_node t ps)) (list_all is_tree os) r h }
+  opened_at AfterValue a p q r c = record { word = a; property = refl; properties = refl; tree = refl; outer = and_from (is_tree (with_node t (added ps i vs))) (list_all is_tree os) r h }
+  opened_at AfterChild a p q r c = record { word = a; property = p; properties = q; tree = refl; outer = and_from (is_tree t) (list_all is_tree os) r h }
   opened_at AfterOpen a p q r c = absurd cc
   opened_at (InIdent has) a p q r c = absurd cc
   opened_at AfterIdent a p q r c = absurd cc
@@ -149,20 +143,10 @@ module _ (w i : List ℕ) (vs : List (List ℕ)) (ps : List Property) (t : GameT
 
   closed_at : (P : Place) → IsSoundWord P w → IsSoundProperty P i vs → IsSoundNode P ps → can_close P ≡ true → (around : GameTree) (others : List GameTree)
       → IsTrue (is_tree (with_child around (node_ended P (open_at P w i vs ps t os n)).tree)) → IsTrue (list_all is_tree others) → IsSound (closed_in (node_ended P (open_at P w i vs ps t os n)) around others)
-  closed_at AfterSemicolon a p q c around others r k = record { word = a; property = p; properties = refl; tree = r; outer = k }
-  closed_at AfterValue a p q c around others r k = record { word = a; property = refl; properties = refl; tree = r; outer = k }
-  closed_at AfterChild a p q c around others r k = record { word = a; property = p; properties = q; tree = r; outer = k }
-  closed_at AfterOpen a p q c around others r k = absurd cc
-  closed_at (InIdent has) a p q c around others r k = absurd cc
-  closed_at AfterIdent a p q c around others r k = absurd cc
-  closed_at InValue a p q c around others r k = absurd cc
-  closed_at AfterBackslash a p q c around others r k = absurd cc
+  closed_at P h g e f around others i j = search rules
 
 child_good : (around t : GameTree) → IsTrue (is_tree around) → IsTrue (is_tree t) → IsTrue (is_tree (with_child around t))
-child_good around t h g =
-    let b = both_parts (are_nodes around.nodes) (is_forest around.children) h in
-    both_good (are_nodes around.nodes) (is_forest (forest_join around.children (tree_then t.nodes t.children no_tree))) b.0
-    (join_good around.children (tree_then t.nodes t.children no_tree) b.1 (both_good (are_nodes t.nodes && is_forest t.children) true g refl))
+child_good around t h g = grind (arith, nat_tests, and_parts, and_from, join_good)
 
 module _ (o : Open) (s : IsSound o) where
   ended : can_close o.place ≡ true → IsTrue (is_tree (node_ended o.place o).tree)
@@ -175,6 +159,4 @@ module _ (o : Open) (s : IsSound o) where
   opened_sound c = opened_at o.word o.ident o.values o.properties o.tree o.outer o.nodes s.outer o.place s.word s.property s.properties (ended c) c
 
   pub closed_sound : can_close o.place ≡ true → (around : GameTree) (others : List GameTree) → o.outer ≡ around ∷ others → IsSound (closed_in (node_ended o.place o) around others)
-  closed_sound c around others e =
-      let b = both_parts (is_tree around) (list_all is_tree others) (subst (λ ts. IsTrue (list_all is_tree ts)) e s.outer) in
-      closed_at o.word o.ident o.values o.properties o.tree o.outer o.nodes s.outer o.place s.word s.property s.properties c around others (child_good around (node_ended o.place o).tree b.0 (ended c)) b.1
+  closed_sound h around others g = grind (arith, nat_tests, and_parts, closed_at, child_good, ended)

@@ -4,6 +4,7 @@ use Rattle.std.specs.Prelude.{Some, None, option_map, Ok, Err}
 use Rattle.std.proofs.Math.Seq.{drop-cons}
 use Rattle.std.proofs.Math.ListN.{drop_of_length-le}
 use Rattle.std.proofs.lemmas.List.{take-append-drop, get_or-take, length-take, length-append}
+use Rattle.std.proofs.lemmas.Bool.Decides.{nat_tests}
 use Rattle.sgf_text.specs.declared.followers.Place.TheVariants.{AfterOpen}
 use Rattle.sgf_text.specs.declared.fault.SgfFault.{SgfFault}
 use Rattle.sgf_text.specs.declared.fault.SgfFault.TheVariants.{NoTree, Syntax, TooLong, TooDeep, TooMany, Memory}
@@ -15,7 +16,6 @@ use Rattle.sgf_text.specs.Laws.{IsWithin}
 use Rattle.sgf_text.specs.OpenTrees.{Open, at_start, Steps, IsSound}
 use Rattle.sgf_text.proofs.Readings.{finds_of, one_reading, no_fault_where_read, place_split, place_grow}
 use Rattle.sgf_text.proofs.Filled.{filled}
-use Rattle.sgf_text.proofs.OpenSound.{start_sound}
 use Rattle.sgf_text.proofs.Reading.{completed, ends, Follows, steps_follow}
 
 pub place_within : (text : List ℕ) (k : ℕ) → tree_place text ≡ Some k → k < length text
@@ -26,9 +26,6 @@ pub record ReadSoFar (text seen : List ℕ) (k at : ℕ) (o : Open) : Type 0 whe
   pub sound : IsSound o
   pub tree : completed o (drop at text) ≡ completed at_start (drop (k + 1) text)
   pub fault : ends (cut_fault text) o at (drop at seen) ≡ ends (cut_fault text) at_start (k + 1) (drop (k + 1) seen)
-
-pub read_start : (text seen : List ℕ) (k : ℕ) (o : Open) → o ≡ at_start → ReadSoFar text seen k (k + 1) o
-read_start text seen k o e = subst (ReadSoFar text seen k (k + 1)) (sym e) (record { sound = start_sound; tree = refl; fault = refl })
 
 module _ (text seen : List ℕ) (front_is : seen ≡ take byte_limit text) (k : ℕ) (place : tree_place seen ≡ Some k) where
   outcome_is : outcome_of text ≡ ends (cut_fault text) at_start (k + 1) (drop (k + 1) seen)
@@ -106,12 +103,7 @@ module _ (text : List ℕ) (tree : GameTree) (n : ℕ) (reads : Reads text tree 
   faultless e h = let g : outcome_of text ≡ Ok n = (no_fault_where_read text n).1 (tree, reads, within) in let k : Err e ≡ Ok n = sym h ∙ g in cc
 
   only_fault : (e : SgfFault) → (e ≢ Memory → outcome_of text ≡ Err e) → e ≡ Memory
-  only_fault Memory f = refl
-  only_fault NoTree f = absurd (faultless NoTree (f (λ k. cc)))
-  only_fault (Syntax i) f = absurd (faultless (Syntax i) (f (λ k. cc)))
-  only_fault TooLong f = absurd (faultless TooLong (f (λ k. cc)))
-  only_fault TooDeep f = absurd (faultless TooDeep (f (λ k. cc)))
-  only_fault TooMany f = absurd (faultless TooMany (f (λ k. cc)))
+  only_fault e h = grind (arith, nat_tests, faultless)
 
 pub only_err : (text : List ℕ) (e : SgfFault) → (e ≢ Memory → outcome_of text ≡ Err e) → (tree : GameTree) (n : ℕ) → Reads text tree n → IsWithin tree n → e ≡ Memory
 only_err text e f tree n r w = only_fault text tree n r w e f

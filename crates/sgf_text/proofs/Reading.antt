@@ -1,10 +1,10 @@
 -- Each byte that the reader takes is one step of the followers and of the reader on lists.
-use Rattle.std.proofs.Common.{◌≡◌, ℕ, suc, ◌+◌, List, [], ◌∷◌, sym, ap, ◌∙◌, subst, refl, arith, length}
+use Rattle.std.proofs.Common.{◌≡◌, ℕ, suc, ◌+◌, List, [], ◌∷◌, sym, ap, ◌∙◌, subst, refl, arith, length, rules}
 use Rattle.std.specs.Prelude.{true, nat_lt, Option, Some, None, option_map, Result, Ok, Err}
+use Rattle.std.proofs.lemmas.Bool.Decides.{nat_tests}
 use Rattle.sgf_text.specs.declared.followers.Sign.{Sign}
-use Rattle.sgf_text.specs.declared.followers.Sign.TheVariants.{Upper, Lower, CloseSquare}
 use Rattle.sgf_text.specs.declared.followers.Place.{Place}
-use Rattle.sgf_text.specs.declared.followers.Place.TheVariants.{AfterOpen, AfterSemicolon, InIdent, AfterIdent, InValue, AfterBackslash, AfterValue, AfterChild}
+use Rattle.sgf_text.specs.declared.followers.Place.TheVariants.{AfterOpen, AfterChild}
 use Rattle.sgf_text.specs.declared.followers.Move.{Move}
 use Rattle.sgf_text.specs.declared.followers.Move.TheVariants.{Opens, Begins, Closes, To, Refused}
 use Rattle.sgf_text.specs.declared.fault.SgfFault.{SgfFault}
@@ -17,7 +17,7 @@ use Rattle.sgf_text.proofs.Signs.{means}
 use Rattle.sgf_text.proofs.Machine.{Front, front, closed, opened, begun, kept, complete}
 use Rattle.sgf_text.proofs.Sound.{sound}
 use Rattle.sgf_text.proofs.Limits.{front_at, end_at, tested, last_end, last_front}
-use Rattle.sgf_text.proofs.OpenSound.{opens_at, begins_at, closes_at, ended_outer, ended_nodes}
+use Rattle.sgf_text.proofs.OpenSound.{opens_at, begins_at, closes_at, ended_outer}
 use Rattle.sgf_text.proofs.OpenKept.{LedSound, led_sound, begun_sound, opened_sound, closed_sound}
 use Rattle.sgf_text.proofs.Filled.{filled, Led, led_filled, opened_filled, closed_filled, last_filled, begun_filled}
 
@@ -36,50 +36,16 @@ Follows o c at (Err Memory) n = Unit {0}
 Follows o c at (Err e) n = (cut : SgfFault) (rest : List ℕ) → ends cut o at (c ∷ rest) ≡ Err e
 
 led_outer : (c : ℕ) (o : Open) (P : Place) (z : Sign) → (led P z c o).outer ≡ o.outer
-led_outer c o AfterOpen z = refl
-led_outer c o AfterSemicolon Upper = refl
-led_outer c o AfterSemicolon _ = refl
-led_outer c o (InIdent has) Upper = refl
-led_outer c o (InIdent has) Lower = refl
-led_outer c o (InIdent has) _ = refl
-led_outer c o AfterIdent z = refl
-led_outer c o InValue CloseSquare = refl
-led_outer c o InValue _ = refl
-led_outer c o AfterBackslash z = refl
-led_outer c o AfterValue Upper = refl
-led_outer c o AfterValue Lower = refl
-led_outer c o AfterValue _ = refl
-led_outer c o AfterChild z = refl
+led_outer c o P z = search rules
 
 led_nodes : (c : ℕ) (o : Open) (P : Place) (z : Sign) → (led P z c o).nodes ≡ o.nodes
-led_nodes c o AfterOpen z = refl
-led_nodes c o AfterSemicolon Upper = refl
-led_nodes c o AfterSemicolon _ = refl
-led_nodes c o (InIdent has) Upper = refl
-led_nodes c o (InIdent has) Lower = refl
-led_nodes c o (InIdent has) _ = refl
-led_nodes c o AfterIdent z = refl
-led_nodes c o InValue CloseSquare = refl
-led_nodes c o InValue _ = refl
-led_nodes c o AfterBackslash z = refl
-led_nodes c o AfterValue Upper = refl
-led_nodes c o AfterValue Lower = refl
-led_nodes c o AfterValue _ = refl
-led_nodes c o AfterChild z = refl
+led_nodes c o P z = search rules
 
 moved_filled : (P next : Place) (o : Open) (F : Front) → filled P (moved next o) F ≡ filled P o F
-moved_filled AfterOpen next o F = refl
-moved_filled AfterSemicolon next o F = refl
-moved_filled (InIdent has) next o F = refl
-moved_filled AfterIdent next o F = refl
-moved_filled InValue next o F = refl
-moved_filled AfterBackslash next o F = refl
-moved_filled AfterValue next o F = refl
-moved_filled AfterChild next o F = refl
+moved_filled P next o F = search rules
 
 map_map : (x : Option Front) (f g : Front → GameTree) (h : Front → Front) → ((G : Front) → x ≡ Some G → f G ≡ g (h G)) → option_map f x ≡ option_map g (option_map h x)
-map_map None f g h k = refl
-map_map (Some G) f g h k = ap Some (k G refl)
+map_map x f g h e = search rules
 
 module _ (o : Open) (c at : ℕ) (s : IsSound o) where
   here : (m : Move) → move o.place (sign_of c) ≡ m → (rest : List ℕ) → completed o (c ∷ rest) ≡ option_map (filled o.place o) (front_at m (kept o.place (sign_of c) c) (length o.outer) rest (λ next around. complete next around rest))
@@ -103,48 +69,21 @@ module _ (o : Open) (c at : ℕ) (s : IsSound o) where
       at_outer w vs ps ns f r (x ∷ xs) l = opened_filled o.place o (opens_at o.place (sign_of c) e) ns f x xs r
 
   opened_end : move o.place (sign_of c) ≡ Opens → nat_lt (length o.outer + 1) depth_limit ≡ true → (cut : SgfFault) (rest : List ℕ) → ends cut (opened_in (node_ended o.place o)) (at + 1) rest ≡ ends cut o at (c ∷ rest)
-  opened_end e t cut rest =
-      ap (λ k. tree_end cut AfterOpen (suc (length k)) (node_ended o.place o).nodes (at + 1) rest) (ended_outer o.place o)
-      ∙ ap (λ k. tree_end cut AfterOpen k (node_ended o.place o).nodes (at + 1) rest) (omega arith)
-      ∙ ap (λ k. tree_end cut AfterOpen (length o.outer + 1) k (at + 1) rest) (ended_nodes o.place o)
-      ∙ ap (λ b. tested b (tree_end cut AfterOpen (length o.outer + 1) o.nodes (at + 1) rest) TooDeep) (sym t)
-      ∙ sym (end_here Opens e cut rest)
+  opened_end h g cut rest = search rules
 
   opens_follow : move o.place (sign_of c) ≡ Opens → (r : Result (Option GameTree) SgfFault) (n : Open) → Steps Opens (sign_of c) c at o r n → Follows o c at r n
-  opens_follow e (Ok None) n (t, h) = subst (Follows o c at (Ok None)) (sym h) (opened_sound o s (opens_at o.place (sign_of c) e), opened_tree e, opened_end e t)
-  opens_follow e (Ok (Some x)) n h = absurd h
-  opens_follow e (Err Memory) n h = tt
-  opens_follow e (Err TooDeep) n h = λ cut rest. end_here Opens e cut rest ∙ ap (λ b. tested b (tree_end cut AfterOpen (length o.outer + 1) o.nodes (at + 1) rest) TooDeep) h
-  opens_follow e (Err NoTree) n h = absurd h
-  opens_follow e (Err (Syntax k)) n h = absurd h
-  opens_follow e (Err TooLong) n h = absurd h
-  opens_follow e (Err TooMany) n h = absurd h
+  opens_follow h r n g = grind (arith, nat_tests, opened_sound, opens_at, opened_tree, opened_end, end_here, tested)
 
   -- ---- the ";" of a node
 
   begun_tree : move o.place (sign_of c) ≡ Begins → (rest : List ℕ) → completed (begun_in (node_ended o.place o)) rest ≡ completed o (c ∷ rest)
-  begun_tree e rest =
-      ap (λ k. option_map (filled AfterSemicolon (begun_in (node_ended o.place o))) (complete AfterSemicolon (length k) rest)) (ended_outer o.place o)
-      ∙ map_map (complete AfterSemicolon (length o.outer) rest) (filled AfterSemicolon (begun_in (node_ended o.place o))) (filled o.place o) begun
-      (λ G g. begun_filled o.place o (begins_at o.place (sign_of c) e) s.properties G)
-      ∙ sym (here Begins e rest)
+  begun_tree h rest = grind (arith, nat_tests, filled, complete, ended_outer, map_map, begun, begun_filled, begins_at, here)
 
   begun_end : move o.place (sign_of c) ≡ Begins → nat_lt o.nodes node_limit ≡ true → (cut : SgfFault) (rest : List ℕ) → ends cut (begun_in (node_ended o.place o)) (at + 1) rest ≡ ends cut o at (c ∷ rest)
-  begun_end e t cut rest =
-      ap (λ k. tree_end cut AfterSemicolon (length k) ((node_ended o.place o).nodes + 1) (at + 1) rest) (ended_outer o.place o)
-      ∙ ap (λ k. tree_end cut AfterSemicolon (length o.outer) (k + 1) (at + 1) rest) (ended_nodes o.place o)
-      ∙ ap (λ b. tested b (tree_end cut AfterSemicolon (length o.outer) (o.nodes + 1) (at + 1) rest) TooMany) (sym t)
-      ∙ sym (end_here Begins e cut rest)
+  begun_end h g cut rest = search rules
 
   begins_follow : move o.place (sign_of c) ≡ Begins → (r : Result (Option GameTree) SgfFault) (n : Open) → Steps Begins (sign_of c) c at o r n → Follows o c at r n
-  begins_follow e (Ok None) n (t, h) = subst (Follows o c at (Ok None)) (sym h) (begun_sound o s (begins_at o.place (sign_of c) e), begun_tree e, begun_end e t)
-  begins_follow e (Ok (Some x)) n h = absurd h
-  begins_follow e (Err Memory) n h = tt
-  begins_follow e (Err TooMany) n h = λ cut rest. end_here Begins e cut rest ∙ ap (λ b. tested b (tree_end cut AfterSemicolon (length o.outer) (o.nodes + 1) (at + 1) rest) TooMany) h
-  begins_follow e (Err NoTree) n h = absurd h
-  begins_follow e (Err (Syntax k)) n h = absurd h
-  begins_follow e (Err TooLong) n h = absurd h
-  begins_follow e (Err TooDeep) n h = absurd h
+  begins_follow h r n g = grind (arith, nat_tests, begun_sound, begins_at, begun_tree, begun_end, end_here, tested)
 
   -- ---- the ")" of a tree
 
@@ -156,23 +95,10 @@ module _ (o : Open) (c at : ℕ) (s : IsSound o) where
       ∙ sym (here Closes e rest)
 
   closed_end : move o.place (sign_of c) ≡ Closes → (a : GameTree) (os : List GameTree) → o.outer ≡ a ∷ os → (cut : SgfFault) (rest : List ℕ) → ends cut (closed_in (node_ended o.place o) a os) (at + 1) rest ≡ ends cut o at (c ∷ rest)
-  closed_end e a os z cut rest =
-      ap (λ k. tree_end cut AfterChild (length os) k (at + 1) rest) (ended_nodes o.place o)
-      ∙ ap (λ (k : List GameTree). last_end (length k) at (λ around. tree_end cut AfterChild around o.nodes (at + 1) rest)) (sym z)
-      ∙ sym (end_here Closes e cut rest)
+  closed_end h a os g cut rest = search rules
 
   closes_follow : move o.place (sign_of c) ≡ Closes → (r : Result (Option GameTree) SgfFault) (n : Open) → Steps Closes (sign_of c) c at o r n → Follows o c at r n
-  closes_follow e (Ok None) n (a, os, z, h) = subst (Follows o c at (Ok None)) (sym h) (closed_sound o s (closes_at o.place (sign_of c) e) a os z, closed_tree e a os z, closed_end e a os z)
-  closes_follow e (Ok (Some tree)) n (z, h) = (
-    λ rest. ap Some (h ∙ last_filled o.place o (closes_at o.place (sign_of c) e) z rest) ∙ ap (λ (k : List GameTree). option_map (filled o.place o) (last_front (length k) rest (λ around. complete AfterChild around rest))) (sym z) ∙ sym (here Closes e rest),
-    λ cut rest. end_here Closes e cut rest ∙ ap (λ (k : List GameTree). last_end (length k) at (λ around. tree_end cut AfterChild around o.nodes (at + 1) rest)) z,
-  )
-  closes_follow e (Err Memory) n h = tt
-  closes_follow e (Err NoTree) n h = absurd h
-  closes_follow e (Err (Syntax k)) n h = absurd h
-  closes_follow e (Err TooLong) n h = absurd h
-  closes_follow e (Err TooDeep) n h = absurd h
-  closes_follow e (Err TooMany) n h = absurd h
+  closes_follow h r n g = grind (arith, nat_tests, closed_sound, closes_at, closed_tree, closed_end, last_filled, filled, last_front, complete, here, end_here, last_end)
 
   -- ---- a byte that leads on, and one that is no follower
 
@@ -196,20 +122,10 @@ module _ (o : Open) (c at : ℕ) (s : IsSound o) where
   leads_follow next e (Err TooMany) n h = absurd h
 
   refused_follow : move o.place (sign_of c) ≡ Refused → (r : Result (Option GameTree) SgfFault) (n : Open) → Steps Refused (sign_of c) c at o r n → Follows o c at r n
-  refused_follow e (Ok x) n h = absurd h
-  refused_follow e (Err Memory) n h = tt
-  refused_follow e (Err (Syntax k)) n h = λ cut rest. end_here Refused e cut rest ∙ ap (λ i. Err (Syntax i)) (sym h)
-  refused_follow e (Err NoTree) n h = absurd h
-  refused_follow e (Err TooLong) n h = absurd h
-  refused_follow e (Err TooDeep) n h = absurd h
-  refused_follow e (Err TooMany) n h = absurd h
+  refused_follow h r n g = search rules
 
   follows_at : (m : Move) → move o.place (sign_of c) ≡ m → (r : Result (Option GameTree) SgfFault) (n : Open) → Steps m (sign_of c) c at o r n → Follows o c at r n
-  follows_at Opens e r n h = opens_follow e r n h
-  follows_at Begins e r n h = begins_follow e r n h
-  follows_at Closes e r n h = closes_follow e r n h
-  follows_at (To next) e r n h = leads_follow next e r n h
-  follows_at Refused e r n h = refused_follow e r n h
+  follows_at m h r n g = grind (arith, nat_tests, opens_follow, begins_follow, closes_follow, leads_follow, refused_follow)
 
   pub steps_follow : (r : Result (Option GameTree) SgfFault) (n : Open) → Steps (move o.place (sign_of c)) (sign_of c) c at o r n → Follows o c at r n
   steps_follow r n h = follows_at (move o.place (sign_of c)) refl r n h

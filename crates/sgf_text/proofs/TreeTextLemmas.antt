@@ -1,16 +1,14 @@
 -- The text of a tree, child by child.
-use Rattle.std.proofs.Common.{◌≡◌, ℕ, zero, suc, ◌<◌, List, [], ◌∷◌, ◌++◌, get_or, ap, ◌∙◌, refl, length, arith}
+use Rattle.std.proofs.Common.{◌≡◌, ℕ, zero, suc, ◌<◌, List, [], ◌∷◌, get_or, ap, refl, length, arith}
 use Rattle.std.specs.Prelude.{flat_map}
 use Rattle.std.proofs.lemmas.List.{append_assoc}
-use Rattle.sgf_text.specs.Text.{node_text, tree_text, forest_text}
+use Rattle.std.proofs.lemmas.Bool.Decides.{nat_tests}
+use Rattle.sgf_text.specs.Text.{tree_text, forest_text}
 use Rattle.sgf_text.specs.Trees.{GameTree, forest_of, forest_count, tree_count}
 
 pub forest_flat : (kids : List GameTree) → forest_text (forest_of kids) ≡ flat_map tree_text kids
 forest_flat [] = refl
-forest_flat (k ∷ ks) = regroup (flat_map node_text k.nodes) (forest_text k.children) (forest_text (forest_of ks)) ∙ ap (λ t. tree_text k ++ t) (forest_flat ks)
-  where
-    regroup : (a b r : List ℕ) → 40 ∷ a ++ b ++ 41 ∷ r ≡ (40 ∷ a ++ b ++ 41 ∷ []) ++ r
-    regroup a b r = simp append_assoc
+forest_flat (k ∷ ks) = let i0 = forest_flat ks in grind (arith, nat_tests, append_assoc)
 
 kid_within : (kids : List GameTree) (i : ℕ) (x : GameTree) → i < length kids → x ≡ get_or kids i x → forest_count x.children < forest_count (forest_of kids)
 kid_within [] i x h e = absurd (omega arith)

@@ -1,7 +1,9 @@
 -- What a reader of trees holds between two bytes, and what each byte does to it. These are words of private functions:
 -- no public contract rests on them.
-use Rattle.std.specs.Prelude.{◌≡◌, ◌≢◌, ℕ, ◌+◌, Bool, true, false, List, [], ◌∷◌, ◌++◌, length, map, nat_lt, IsTrue, Option, Some, None, Result, Ok, Err}
+use Rattle.std.specs.Prelude.{◌≡◌, ◌≢◌, ℕ, ◌+◌, Bool, true, false, List, [], ◌∷◌, ◌++◌, length, map, nat_lt, position, IsTrue, Option, Some, None, Result, Ok, Err}
 use Rattle.std.specs.List.{list_all}
+use Rattle.std.specs.Str.{bytes_eq}
+use Rattle.std.specs.BTreeMap.{BTreeMap, get}
 use Rattle.sgf_text.specs.declared.followers.Sign.{Sign}
 use Rattle.sgf_text.specs.declared.followers.Sign.TheVariants.{Upper, Lower, CloseSquare}
 use Rattle.sgf_text.specs.declared.followers.Place.{Place}
@@ -11,7 +13,7 @@ use Rattle.sgf_text.specs.declared.followers.Move.TheVariants.{Opens, Begins, Cl
 use Rattle.sgf_text.specs.declared.fault.SgfFault.{SgfFault}
 use Rattle.sgf_text.specs.declared.fault.SgfFault.TheVariants.{Syntax, TooDeep, TooMany, Memory}
 use Rattle.sgf_text.specs.declared.node.Property.{Property}
-use Rattle.sgf_text.specs.Bytes.{is_upper}
+use Rattle.sgf_text.specs.Bytes.{is_upper, bytes_order}
 use Rattle.sgf_text.specs.Nodes.{is_value_after, is_value, is_ident, is_named, is_node}
 use Rattle.sgf_text.specs.Trees.{Node, Forest, no_tree, tree_then, GameTree}
 use Rattle.sgf_text.specs.Text.{is_tree, is_forest}
@@ -27,6 +29,10 @@ added (p ∷ ps) name values = elim (is_named name p) [
 
 abbrev pub names_of : List Property → List (List ℕ)
 names_of ps = map (λ p. p.ident) ps
+
+-- the map has the place of each name among these
+abbrev pub ArePlaces : BTreeMap (List ℕ) ℕ → List (List ℕ) → Type 0
+ArePlaces places names = (name : List ℕ) → get bytes_order places name ≡ position (bytes_eq name) names
 
 -- the trees of the first and then those of the second
 abbrev pub forest_join : Forest → Forest → Forest

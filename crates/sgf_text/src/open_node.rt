@@ -1,34 +1,36 @@
 //! The node that is being read: properties whose values are joined under one name.
 //!
-//! Names are found by their hash, so that a node with many properties is read in time linear in its text.
+//! Names are found by their order, so that no choice of names makes a node with many properties slow to read: a hash has
+//! names that collide.
 
 ghost use Rattle.std.specs.Prelude.{◌≡◌, [], IsTrue, OnOk};
 ghost use Rattle.sgf_text.specs.Nodes.{is_node};
 ghost use Rattle.sgf_text.specs.OpenTrees.{added};
 
 use crate::node::{Bytes, Property, SgfNode, Values};
-use indexmap::IndexSet;
 use std::alloc::{AllocError, Global};
+use std::collections::BTreeMap;
 use std::marker::Model;
 
 /// Properties in the order of their names' first places. Contracts see them as a list.
 #[derive(Drop)]
 pub struct OpenNode {
     alloc: Global,
-    names: IndexSet<Bytes>,
+    // The place of each name among the properties.
+    places: BTreeMap<Bytes, usize>,
     properties: Vec<Property>,
 }
 
 impl Model for OpenNode {
-    ghost use Rattle.std.specs.Prelude.{◌≡◌, List};
+    ghost use Rattle.std.specs.Prelude.{List};
     ghost use Rattle.sgf_text.specs.declared.node.Property.{Property};
-    ghost use Rattle.sgf_text.specs.OpenTrees.{names_of};
+    ghost use Rattle.sgf_text.specs.OpenTrees.{ArePlaces, names_of};
 
     ghost Value = { List Property };
 
     ghost view = { λ n. n.properties.items };
 
-    ghost invariant = { λ n. n.names.keys ≡ names_of n.properties.items };
+    ghost invariant = { λ n. ArePlaces n.places (names_of n.properties.items) };
 }
 
 impl OpenNode {
@@ -37,7 +39,7 @@ impl OpenNode {
     {
         OpenNode {
             alloc,
-            names: IndexSet::new(alloc),
+            places: BTreeMap::new(alloc),
             properties: Vec::new(alloc),
         }
     }
@@ -46,11 +48,12 @@ impl OpenNode {
     pub fn add(&mut self, ident: Bytes, values: Values) -> Result<(), AllocError>
         ensures { OnOk result (self.new ≡ added self.old ident values) }
     {
-        if let Some(place) = self.names.get_index_of(&ident) {
+        if let Some(place) = self.places.get(&ident).copied() {
             return self.properties[place].values.append(values);
         }
         let name = Bytes::from_vec(ident.as_slice().to_vec(self.alloc)?);
-        if self.names.insert(name).is_err() {
+        let place = self.properties.len();
+        if self.places.insert(name, place).is_err() {
             return Err(AllocError);
         }
         if self.properties.push(Property { ident, values }).is_err() {

@@ -2,6 +2,7 @@
 use Rattle.std.proofs.Common.{arith, ◌≡◌, ℕ, ◌+◌, ◌<◌, ◌≤◌, length, drop, get_or, List, [], ◌∷◌, ◌++◌, Vec, Box, Global, sym, ap, ◌∙◌, refl}
 use Rattle.std.specs.List.{IsLastAndRest}
 use Rattle.std.proofs.lemmas.List.{at_drop_more, at_drop_all}
+use Rattle.std.proofs.lemmas.Bool.Decides.{nat_tests}
 use Rattle.go_points.specs.declared.Turn.{Turn}
 use Rattle.go_points.specs.Ply.{ply_of}
 use Rattle.target_game.specs.Answers.{AnswerTree, leaf, turn, replies, none, reply, answer_size, reply_sizes}
@@ -75,8 +76,7 @@ part_replies n part all rs is same = ap (λ (a : Answer). answer_size (answer_of
 
 pub below_turn : (count next before : ℕ) (answer part value : Answer) (t : Turn) (below : Box Answer Global) → part ≡ code.Turn t below → value ≡ below.value → next ≡ count + 1
     → ((n : ℕ) → count + answer_size (answer_of n part) ≡ before + answer_size (answer_of n answer)) → (n : ℕ) → next + answer_size (answer_of n value) ≡ before + answer_size (answer_of n answer)
-below_turn count next before answer part value t below is same more all n =
-    omega (arith, more, all n, part_turn n part t below is, ap (λ (a : Answer). answer_size (answer_of n a)) same)
+below_turn count next before answer part value t below h g e f n = grind (arith, nat_tests, part_turn)
 
 pub below_replies : (count got next before : ℕ) (answer part : Answer) (whole : Vec (Turn × Answer) Global) (items others : List (Turn × Answer)) (r : Turn × Answer) → part ≡ code.Replies whole → items ≡ whole.items
     → IsLastAndRest items r others → ((n : ℕ) → count + reply_sizes (replies_of n others) ≡ got) → next ≡ got + 1

@@ -1,7 +1,8 @@
 -- The replies of an expansion ascend, points first and then pass: those that are due do, and what the past bars is left out.
-use Rattle.std.proofs.Common.{ℕ, zero, suc, ◌+◌, ◌*◌, ◌<◌, Bool, true, false, ◌&&◌, nat_lt, List, [], ◌∷◌, ◌++◌, map, filter, IsTrue, refl, sym, subst, arith, lt-ltb}
+use Rattle.std.proofs.Common.{ℕ, zero, suc, ◌+◌, ◌*◌, ◌<◌, Bool, true, false, ◌&&◌, nat_lt, List, [], ◌∷◌, ◌++◌, map, filter, IsTrue, refl, sym, subst, arith, lt-ltb, rules}
 use Rattle.std.specs.Prelude.{cond, slice_index_or}
 use Rattle.std.specs.List.{list_all, range_with_len}
+use Rattle.std.proofs.lemmas.Bool.Decides.{nat_tests}
 use Rattle.go_points.specs.declared.Colour.{Colour}
 use Rattle.go_points.specs.Ply.{Ply, pass, move}
 use Rattle.target_game.specs.State.{Game, GameState, start}
@@ -28,14 +29,7 @@ is_less a b h = lt-ltb a b h
 
 later_numbers : (p : ℕ → Bool) (t a n : ℕ) → t < a → IsTrue (list_all (comes_before (move t)) (map move (filter p (range_with_len a n)) ++ pass ∷ []))
 later_numbers p t a zero h = refl
-later_numbers p t a (suc n) h = at (p a) (later_numbers p t (a + 1) n (omega arith))
-  where
-    others : List Ply
-    others = map move (filter p (range_with_len (a + 1) n)) ++ pass ∷ []
-
-    at : (b : Bool) → IsTrue (list_all (comes_before (move t)) others) → IsTrue (list_all (comes_before (move t)) (map move (cond b (a ∷ filter p (range_with_len (a + 1) n)) (filter p (range_with_len (a + 1) n))) ++ pass ∷ []))
-    at true g = and_both (nat_lt t a) (list_all (comes_before (move t)) others) (is_less t a h) g
-    at false g = g
+later_numbers p t a (suc n) h = let i0 = later_numbers p t (a + 1) n (omega arith) in search rules
 
 sorted_numbers : (p : ℕ → Bool) (a n : ℕ) → IsTrue (sorted (map move (filter p (range_with_len a n)) ++ pass ∷ []))
 sorted_numbers p a zero = refl
@@ -69,17 +63,12 @@ ascends_at (f ∷ fs) zero r h = h.0 r
 ascends_at (f ∷ fs) (suc i) r h = ascends_at fs i r h.1
 
 answer_ascends : (fs : List (GameState → AnswerTree)) (j : ℕ) (r : GameState) → AllAscend fs → IsTrue (ascends (answer_at fs j r))
-answer_ascends fs zero r h = refl
-answer_ascends fs (suc i) r h = ascends_at fs i r h
+answer_ascends fs j r h = grind (arith, nat_tests, ascends_at)
 
 module _ (earlier : List (GameState → AnswerTree)) (kept : AllAscend earlier) where
   first_kept : (t : Ply) (bs : Branches) (r : GameState) → IsTrue (list_all (comes_before t) (branch_turns bs)) → IsTrue (comes_first t (expand_branches earlier bs r))
   first_kept t no_branch r h = refl
-  first_kept t (branch u n bs) r h = at (legal r u) (and_first (comes_before t u) (list_all (comes_before t) (branch_turns bs)) h) (first_kept t bs r (and_second (comes_before t u) (list_all (comes_before t) (branch_turns bs)) h))
-    where
-      at : (b : Bool) → IsTrue (comes_before t u) → IsTrue (comes_first t (expand_branches earlier bs r)) → IsTrue (comes_first t (elim b [ true ↦ reply u (expand_node earlier n (next r u)) (expand_branches earlier bs r) | false ↦ expand_branches earlier bs r ]))
-      at true g later = g
-      at false g later = later
+  first_kept t (branch u n bs) r h = let i0 = first_kept t bs r (and_second (comes_before t u) (list_all (comes_before t) (branch_turns bs)) h) in search rules
 
   mutual
     node_ascends : (n : Node) (b : Body) (s r : GameState) → FitsNode b s n → IsTrue (ascends (expand_node earlier n r))

@@ -1,14 +1,14 @@
 -- Where the nodes below are an answer tree of a side, the audit names that side.
-use Rattle.std.proofs.Common.{◌≡◌, ℕ, ◌+◌, refl, sym, ◌∙◌, ap, subst, inl, inr}
-use Rattle.std.specs.Prelude.{Bool, true, false, not, ◌&&◌, ◌||◌, ◌==◌, is_some, List, [], ◌∷◌, ◌++◌, length, codes, Option, Some, None, is_none, Ok, unwrap_or, position, option_map, cond, if◌then◌else◌}
+use Rattle.std.proofs.Common.{◌≡◌, ℕ, ◌+◌, refl, sym, ◌∙◌, ap, subst, inl, rules, arith}
+use Rattle.std.specs.Prelude.{true, false, not, ◌&&◌, ◌||◌, is_some, List, [], ◌∷◌, ◌++◌, Option, Some, None, is_none, Ok, unwrap_or, position}
 use Rattle.std.specs.List.{list_all}
 use Rattle.std.proofs.lemmas.List.{append_assoc, append-nil}
 use Rattle.std.proofs.lemmas.List.Folds.{list_any-append}
+use Rattle.std.proofs.lemmas.Bool.Decides.{nat_tests}
 use Rattle.go_points.specs.declared.Colour.{Colour}
 use Rattle.go_points.specs.Grid.{same_colour, opponent_of}
-use Rattle.go_points.specs.Equal.{same_colour_eq, same_colour_refl}
-use Rattle.go_points.specs.Ply.{Ply, pass, same_ply, holds_ply}
-use Rattle.go_points.proofs.Lists.{Member, some_same, or_left, or_right, and_left, and_right, and_both, not_true, all_at, all_from}
+use Rattle.go_points.specs.Ply.{Ply, pass, holds_ply}
+use Rattle.go_points.proofs.Lists.{Member, or_right, and_left, and_right, and_both, not_true, all_at, all_from}
 use Rattle.target_game.specs.State.{GameState, GameProblem, start}
 use Rattle.target_game.specs.Legal.{legal, legal_turns}
 use Rattle.target_game.specs.Next.{next}
@@ -16,29 +16,22 @@ use Rattle.target_game.specs.Over.{over}
 use Rattle.target_game.specs.Wins.{is_winner}
 use Rattle.target_game.specs.Answers.{AnswerTree, leaf, turn, replies, ReplyTrees, none, reply, turns_of, each_once, same_plies, answers, all_answer}
 use Rattle.target_game.proofs.Winning.{answers_turn, answers_replies, all_reply, same_ply_eq, lists_the_legal, member_holds, holds_member, legal_member}
-use Rattle.sgf_text.specs.Nodes.{values_at, is_node}
+use Rattle.sgf_text.specs.Nodes.{is_node}
 use Rattle.sgf_text.specs.Trees.{Node, Forest, no_tree, tree_then, GameTree}
 use Rattle.sgf_text.specs.Text.{is_forest, are_nodes, is_tree}
-use Rattle.tsumego_problem.specs.Walk.{is_marked, has_setup, turn_at, line_below, problem_node}
+use Rattle.tsumego_problem.specs.Walk.{is_marked, line_below, problem_node}
 use Rattle.tsumego_problem.specs.Below.{children_of, below_in, below_line, below_problem, Carries, Shows, ShowsEach, Below}
-use Rattle.tsumego_problem.proofs.FirstPlace.{first_place, behind, place_in_both}
-use Rattle.solution_tree.specs.Below.{Nodes, no_node, node_then, sequence, nodes_of, nodes_in, nodes_below, count_nodes, has_one_turn, carried}
-use Rattle.solution_tree.specs.Audit.{Fault, ask, at_or, or_later, reply_twice, not_won, several_answers, turn_fault, after_turn, with_turn, is_new, won_at, unless, turns_in, unless_given, missing, reply_fault, has_children, has_several, rest_fault, faults_below, first_line, then_all, unless_fault, audit}
+use Rattle.tsumego_problem.proofs.FirstPlace.{behind, place_in_both}
+use Rattle.solution_tree.specs.Below.{Nodes, no_node, node_then, sequence, nodes_of, nodes_in, nodes_below, count_nodes, carried}
+use Rattle.solution_tree.specs.Audit.{at_or, with_turn, turns_in, unless_given, missing, reply_fault, has_children, has_several, rest_fault, faults_below, first_line, then_all, unless_fault, audit}
 use Rattle.solution_tree.specs.Laws.{AuditIsExact}
-use Rattle.solution_tree.proofs.Sound.{Stands, StandsEach, next_size, next_mover}
-use Rattle.solution_tree.proofs.Shown.{nodes_of_children, good_children, audited_trees_stand}
+use Rattle.solution_tree.proofs.Sound.{Stands, StandsEach}
+use Rattle.solution_tree.proofs.Shown.{nodes_of_children, audited_trees_stand}
 
 -- ---- what the trees of a record show stands below, node by node
 
 carried_is : (n : ℕ) (k : Colour) (node : Node) (t : Ply) → Carries n k node t → carried n node ≡ Some (k, t)
-carried_is n k node t (one, given, bare) =
-    subst (λ b. pick b ≡ Some (k, t)) (sym single) given
-  where
-    pick : Bool → Option (Colour × Ply)
-    pick b = elim b [ true ↦ turn_at n node | false ↦ None ]
-
-    single : has_one_turn node ≡ true
-    single = and_both (length (values_at (codes "B") node ++ values_at (codes "W") node) == 1) (not (has_setup node)) (ap (λ m. m == 1) one) bare
+carried_is n k node t h = search rules
 
 mutual
   stands : (n : ℕ) (k : Colour) (a : AnswerTree) (f : Forest) → Shows n k a f → Stands n k a (nodes_of f)
@@ -66,46 +59,21 @@ mutual
 
 -- ---- a node that carries a legal turn
 
-fault_free_turn : (s : GameState) (t : Ply) → is_none (over s) ≡ true → legal s t ≡ true → turn_fault s (Some (s.mover, t)) ≡ None
-fault_free_turn s t on le = rw (same_colour_refl s.mover, on, le) refl
-
 -- what follows a node is as it is to be
 fault_free_rest : (x : Colour) (s : GameState) (children : Nodes) → (is_winner x (over s) || (has_children children && is_none (over s))) ≡ true
     → (same_colour s.mover x && has_several children) ≡ false → reply_fault (same_colour s.mover x || not (is_none (over s))) s children ≡ None → rest_fault x s children ≡ None
-fault_free_rest x s children won one all =
-    let inner : ask (not (same_colour s.mover x && has_several children)) several_answers (reply_fault (same_colour s.mover x || not (is_none (over s))) s children) ≡ None =
-    ap (λ b. ask (not b) several_answers (reply_fault (same_colour s.mover x || not (is_none (over s))) s children)) one ∙ all in
-    ap (λ b. ask b not_won (ask (not (same_colour s.mover x && has_several children)) several_answers (reply_fault (same_colour s.mover x || not (is_none (over s))) s children))) won ∙ inner
+fault_free_rest x s children h g e = search rules
 
 -- the first of some children, where it and the others have no fault
 fault_free_child : (x : Colour) (s : GameState) (earlier : List Ply) (k : ℕ) (node : Node) (below others : Nodes) (t : Ply)
     → carried s.game.size node ≡ Some (s.mover, t) → is_none (over s) ≡ true → legal s t ≡ true → (same_colour s.mover x || not (holds_ply earlier t)) ≡ true
     → rest_fault x (next s t) below ≡ None → faults_below x (next s t) [] (k + 1) below ≡ None → faults_below x s (earlier ++ t ∷ []) (k + 1 + count_nodes below) others ≡ None
     → faults_below x s earlier k (node_then node below others) ≡ None
-fault_free_child x s earlier k node below others t ca on le new rest deep wide =
-    subst (λ m. Whole m ≡ None) (sym ca)
-    (ap (λ o. at_or k o (Behind (Some (s.mover, t)))) (fault_free_turn s t on le)
-    ∙ ap (λ b. at_or k (ask b reply_twice None) (Later (Some (s.mover, t)))) new
-    ∙ ap (λ o. at_or k o (Last (Some (s.mover, t)))) rest
-    ∙ ap (λ o. or_later o (faults_below x s (earlier ++ t ∷ []) (k + 1 + count_nodes below) others)) deep ∙ wide)
-  where
-    Last : Option (Colour × Ply) → Option Fault
-    Last m = or_later (faults_below x (after_turn s m) [] (k + 1) below) (faults_below x s (with_turn earlier m) (k + 1 + count_nodes below) others)
-
-    Later : Option (Colour × Ply) → Option Fault
-    Later m = at_or k (rest_fault x (after_turn s m) below) (Last m)
-
-    Behind : Option (Colour × Ply) → Option Fault
-    Behind m = at_or k (ask (is_new x s earlier m) reply_twice None) (Later m)
-
-    Whole : Option (Colour × Ply) → Option Fault
-    Whole m = at_or k (turn_fault s m) (Behind m)
+fault_free_child x s earlier k node below others t h g e f i j l = search rules
 
 line_on : (s : GameState) (k : ℕ) (node : Node) (below others : Nodes) (t : Ply) (x : Colour) → carried s.game.size node ≡ Some (s.mover, t) → is_none (over s) ≡ true → legal s t ≡ true
     → first_line (k + 1) (next s t) below ≡ Ok x → first_line k s (node_then node below others) ≡ Ok x
-line_on s k node below others t x ca on le more =
-    subst (λ m. unless (k + 1) (turn_fault s m) (first_line (k + 1) (after_turn s m) below) ≡ Ok x) (sym ca)
-    (ap (λ o. unless (k + 1) o (first_line (k + 1) (next s t) below)) (fault_free_turn s t on le) ∙ more)
+line_on s k node below others t x h g e f = search rules
 
 -- ---- lists of turns
 
@@ -125,14 +93,7 @@ abbrev Apart : List Ply → List Ply → Type 0
 Apart earlier ts = (u : Ply) → Member u ts → holds_ply earlier u ≡ false
 
 apart_on : (earlier ts : List Ply) (t : Ply) → Apart earlier (t ∷ ts) → each_once (t ∷ ts) ≡ true → Apart (earlier ++ t ∷ []) ts
-apart_on earlier ts t apart once u m = list_any-append (same_ply u) earlier (t ∷ []) ∙ go (same_ply u t) refl
-  where
-    go : (b : Bool) → same_ply u t ≡ b → (holds_ply earlier u || (same_ply u t || false)) ≡ false
-    go true e = absurd (cc (
-      sym (ap (holds_ply ts) (same_ply_eq u t e)) ∙ member_holds ts u m,
-      not_true (holds_ply ts t) (and_left (not (holds_ply ts t)) (each_once ts) once),
-    ))
-    go false e = rw (apart u (inr m), e) refl
+apart_on earlier ts t h g e f = grind (arith, nat_tests, list_any-append, same_ply_eq, member_holds, not_true, and_left)
 
 -- ---- an answer tree has no fault
 
@@ -151,39 +112,12 @@ pub record CleanEach (x : Colour) (s : GameState) (earlier : List Ply) (rs : Rep
 open_is : (o : Option Colour) → o ≡ None → is_none o ≡ true
 open_is o e = ap is_none e
 
-won_is : (x : Colour) (o : Option Colour) → is_winner x o ≡ true → o ≡ Some x
-won_is x None h = absurd cc
-won_is x (Some y) h = ap Some (same_colour_eq y x h)
-
 clean_leaf : (x : Colour) (s : GameState) → is_winner x (over s) ≡ true → Clean x s no_node
-clean_leaf x s h = record {
-  rest = fault_free_rest x s no_node (or_left (is_winner x (over s)) false h) (none_of (same_colour s.mover x)) (ended (over s) (won_is x (over s) h));
-  deep = λ k. refl;
-  line = λ k. ap (won_at k) (won_is x (over s) h);
-}
-  where
-    none_of : (b : Bool) → (b && false) ≡ false
-    none_of true = refl
-    none_of false = refl
-
-    ended : (o : Option Colour) → o ≡ Some x → reply_fault (same_colour s.mover x || not (is_none o)) s no_node ≡ None
-    ended o e = subst (λ v. reply_fault (same_colour s.mover x || not (is_none v)) s no_node ≡ None) (sym e) (always (same_colour s.mover x))
-      where
-        always : (b : Bool) → reply_fault (b || true) s no_node ≡ None
-        always true = refl
-        always false = refl
+clean_leaf x s h = search rules
 
 clean_turn : (x : Colour) (s : GameState) (node : Node) (below : Nodes) (t : Ply) → carried s.game.size node ≡ Some (s.mover, t) → is_none (over s) ≡ true
     → same_colour s.mover x ≡ true → legal s t ≡ true → Clean x (next s t) below → Clean x s (node_then node below no_node)
-clean_turn x s node below t ca on mine le sub = record {
-  rest = fault_free_rest x s (node_then node below no_node) (or_right (is_winner x (over s)) (is_none (over s)) on) (none_of (same_colour s.mover x)) (ap (λ b. reply_fault (b || not (is_none (over s))) s (node_then node below no_node)) mine);
-  deep = λ k. fault_free_child x s [] k node below no_node t ca on le (or_left (same_colour s.mover x) true mine) sub.rest (sub.deep (k + 1)) refl;
-  line = λ k. line_on s k node below no_node t x ca on le (sub.line (k + 1));
-}
-  where
-    none_of : (b : Bool) → (b && false) ≡ false
-    none_of true = refl
-    none_of false = refl
+clean_turn x s node below t h g e f i = search rules
 
 clean_replies : (x : Colour) (s : GameState) (children : Nodes) (rs : ReplyTrees) → StandsEach s.game.size s.mover rs children → is_none (over s) ≡ true
     → same_colour s.mover x ≡ false → same_plies (turns_of rs) (legal_turns s) ≡ true → CleanEach x s [] rs children → Clean x s children
@@ -207,19 +141,11 @@ listed_legal : (s : GameState) (ts : List Ply) → same_plies ts (legal_turns s)
 listed_legal s ts same = all_from (legal s) ts (λ t m. (lists_the_legal s t).0 (all_at (holds_ply (legal_turns s)) t ts (and_left (list_all (holds_ply (legal_turns s)) ts) (list_all (holds_ply ts) (legal_turns s)) same) m))
 
 below_it : (s : GameState) (t : Ply) (a : AnswerTree) (below : Nodes) → Stands s.game.size (opponent_of s.mover) a below → Stands (next s t).game.size (next s t).mover a below
-below_it s t a below sub =
-    subst (λ n. Stands n (next s t).mover a below) (sym (next_size s t)) (subst (λ k. Stands s.game.size k a below) (sym (next_mover s t)) sub)
+below_it s t a below h = search rules
 
 once_of : (x : Colour) (s : GameState) (rs : ReplyTrees) → answers x s (replies rs) ≡ true → each_once (turns_of rs) ≡ true
 unfolding answers all_answer
-once_of x s rs h =
-    go (is_none (over s)) (not (same_colour s.mover x)) (each_once (turns_of rs)) (same_plies (turns_of rs) (legal_turns s)) (all_answer x s rs) h
-  where
-    go : (a b c d e : Bool) → (a && b && c && d && e) ≡ true → c ≡ true
-    go a b true d e h = refl
-    go true true false d e h = absurd cc
-    go true false false d e h = absurd cc
-    go false b false d e h = absurd cc
+once_of x s rs h = search rules
 
 won_leaf : (x : Colour) (s : GameState) → answers x s leaf ≡ true → is_winner x (over s) ≡ true
 unfolding answers
@@ -269,34 +195,16 @@ answered_audit q tree x (a, children, e, shown, h) =
 
 later_in : (nodes : List Node) (children : Forest) (deeper : Option Forest) → is_some deeper ≡ true → is_some (below_in nodes children deeper) ≡ true
 later_in [] children deeper h = h
-later_in (node ∷ nodes) children deeper h = go (is_marked node) (later_in nodes children deeper h)
-  where
-    go : (b : Bool) → is_some (below_in nodes children deeper) ≡ true → is_some (if b then Some (children_of nodes children) else below_in nodes children deeper) ≡ true
-    go true later = refl
-    go false later = later
+later_in (node ∷ nodes) children deeper h = let i0 = later_in nodes children deeper h in search rules
 
 marked_in : (nodes : List Node) (children : Forest) (deeper : Option Forest) → is_some (position is_marked nodes) ≡ true → is_some (below_in nodes children deeper) ≡ true
 marked_in [] children deeper h = absurd cc
-marked_in (node ∷ nodes) children deeper h = go (is_marked node) (position is_marked nodes) refl (subst (λ o. is_some o ≡ true) (first_place is_marked node nodes) h) (marked_in nodes children deeper)
-  where
-    go : (b : Bool) (o : Option ℕ) → position is_marked nodes ≡ o → is_some (cond b (Some 0) (option_map (λ k. 1 + k) o)) ≡ true
-        → (is_some (position is_marked nodes) ≡ true → is_some (below_in nodes children deeper) ≡ true) → is_some (if b then Some (children_of nodes children) else below_in nodes children deeper) ≡ true
-    go true o e h later = refl
-    go false None e h later = absurd cc
-    go false (Some k) e h later = later (ap is_some e)
+marked_in (node ∷ nodes) children deeper h = let i0 = marked_in nodes children deeper in grind (arith, nat_tests)
 
 -- where the nodes, or what is below them, have a marked one
 marked_here : (nodes line : List Node) (children : Forest) (deeper : Option Forest) → (is_some (position is_marked line) ≡ true → is_some deeper ≡ true)
     → is_some (position is_marked (nodes ++ line)) ≡ true → is_some (below_in nodes children deeper) ≡ true
-marked_here nodes line children deeper more h = go (position is_marked nodes) refl (subst (λ o. is_some o ≡ true) (place_in_both is_marked nodes line) h)
-  where
-    further : (o : Option ℕ) → position is_marked line ≡ o → is_some (option_map (λ k. length nodes + k) o) ≡ true → is_some (position is_marked line) ≡ true
-    further None e h = absurd cc
-    further (Some k) e h = ap is_some e
-
-    go : (o : Option ℕ) → position is_marked nodes ≡ o → is_some (behind is_marked nodes o (position is_marked line)) ≡ true → is_some (below_in nodes children deeper) ≡ true
-    go (Some k) e h = marked_in nodes children deeper (ap is_some e)
-    go None e h = later_in nodes children deeper (more (further (position is_marked line) refl h))
+marked_here nodes line children deeper h g = grind (arith, nat_tests, place_in_both, behind, marked_in, later_in)
 
 marked_line : (f : Forest) → is_some (position is_marked (line_below f)) ≡ true → is_some (below_line f) ≡ true
 marked_line no_tree h = absurd cc
@@ -305,16 +213,10 @@ marked_line (tree_then nodes children others) h = marked_here nodes (line_below 
 good_in : (nodes : List Node) (children : Forest) (deeper : Option Forest) (c : Forest) → list_all is_node nodes ≡ true → is_forest children ≡ true
     → ((d : Forest) → deeper ≡ Some d → is_forest d ≡ true) → below_in nodes children deeper ≡ Some c → is_forest c ≡ true
 good_in [] children deeper c all good more h = more c h
-good_in (node ∷ nodes) children deeper c all good more h =
-    go (is_marked node) (good_in nodes children deeper c (and_right (is_node node) (list_all is_node nodes) all) good more) h
-  where
-    go : (b : Bool) → (below_in nodes children deeper ≡ Some c → is_forest c ≡ true) → (if b then Some (children_of nodes children) else below_in nodes children deeper) ≡ Some c → is_forest c ≡ true
-    go true later e = subst (λ d. is_forest d ≡ true) (some_same (children_of nodes children) c e) (good_children node nodes children all good)
-    go false later e = later e
+good_in (node ∷ nodes) children deeper c all good more h = let i0 = good_in nodes children deeper c (and_right (is_node node) (list_all is_node nodes) all) good more in search rules
 
 are_all : (nodes : List Node) → are_nodes nodes ≡ true → list_all is_node nodes ≡ true
-are_all [] h = absurd cc
-are_all (node ∷ nodes) h = h
+are_all nodes h = search rules
 
 good_line : (f : Forest) (c : Forest) → is_forest f ≡ true → below_line f ≡ Some c → is_forest c ≡ true
 good_line no_tree c good h = absurd cc
@@ -324,9 +226,7 @@ good_line (tree_then nodes children others) c good h =
     good_in nodes children (below_line children) c (are_all nodes (and_left (are_nodes nodes) (is_forest children) two)) inner (λ d. good_line children d inner) h
 
 below_is_forest : (tree : GameTree) (c : Forest) → is_tree tree ≡ true → below_problem tree ≡ Some c → is_forest c ≡ true
-below_is_forest tree c good h =
-    let inner = and_right (are_nodes tree.nodes) (is_forest tree.children) good in
-    good_in tree.nodes tree.children (below_line tree.children) c (are_all tree.nodes (and_left (are_nodes tree.nodes) (is_forest tree.children) good)) inner (λ d. good_line tree.children d inner) h
+below_is_forest tree c h g = grind (arith, nat_tests, and_right, good_in, are_all, and_left, good_line)
 
 pub audit_is_exact : AuditIsExact
 audit_is_exact q tree x good marked = (named, answered_audit q tree x)

@@ -1,5 +1,6 @@
 -- The faults of nodes, put together.
-use Rattle.std.proofs.Common.{◌≡◌, ℕ, ◌+◌, Bool, true, false, not, ◌||◌, List, [], ◌∷◌, ◌++◌, length, Option, Some, None, Result, ◌⊎◌, inl, inr, refl, sym, ◌∙◌, ap, subst, arith}
+use Rattle.std.proofs.Common.{◌≡◌, ℕ, ◌+◌, Bool, true, false, not, ◌||◌, List, [], ◌∷◌, ◌++◌, length, Option, Some, None, Result, ◌⊎◌, ap, subst, arith, rules}
+use Rattle.std.proofs.lemmas.Bool.Decides.{nat_tests}
 use Rattle.go_points.specs.declared.Colour.{Colour}
 use Rattle.go_points.specs.Grid.{same_colour}
 use Rattle.go_points.specs.Ply.{Ply, holds_ply}
@@ -7,41 +8,25 @@ use Rattle.target_game.specs.State.{GameState}
 use Rattle.target_game.specs.Next.{next}
 use Rattle.sgf_text.specs.Trees.{Node, GameTree, Forest, tree_then, forest_of}
 use Rattle.solution_tree.specs.declared.fault.AuditWhy.{AuditWhy}
-use Rattle.solution_tree.specs.Below.{Nodes, no_node, node_then, sequence, tree_nodes_then, nodes_of, count_nodes, carried}
+use Rattle.solution_tree.specs.Below.{Nodes, no_node, node_then, sequence, nodes_of, count_nodes, carried}
 use Rattle.solution_tree.specs.declared.fault.AuditFault.{AuditFault}
 use Rattle.solution_tree.specs.Audit.{Why, Fault, ask, at_or, or_later, reply_twice, turn_fault, after_turn, with_turn, is_new, rest_fault, faults_below, faults_of}
-use Rattle.solution_tree.specs.Faults.{why_value, IsFault}
-use Rattle.solution_tree.specs.Asked.{follows, IsWhyOf, IsWhy, IsFoundOf, IsFound}
+use Rattle.solution_tree.specs.Faults.{IsFault}
+use Rattle.solution_tree.specs.Asked.{follows, IsWhy, IsFound}
 
 pub fault_same : (n m : ℕ) (r q : Result Colour Fault) (e : AuditFault) → n ≡ m → r ≡ q → IsFault n r e → IsFault m q e
 fault_same n m r q e size same h = subst (λ k. IsFault k q e) size (subst (λ z. IsFault n z e) same h)
 
-pub found_same : (n m : ℕ) (o q : Option Fault) (e : AuditFault) → n ≡ m → o ≡ q → IsFound n o e → IsFound m q e
-found_same n m o q e size same h = subst (λ k. IsFound k q e) size (subst (λ z. IsFound n z e) same h)
-
 -- the fault of a node, where it is the first
 pub found_here : (n : ℕ) (o : Option Why) (w : AuditWhy) (k : ℕ) (later : Option Fault) → IsWhy n o w → IsFound n (at_or k o later) (record { node = k; why = w })
-found_here n o w k later h = go (why_value n w) h
-  where
-    go : (v : Option Why) → IsWhyOf o v → IsFoundOf (at_or k o later) k v
-    go None h = tt
-    go (Some why) h = ap (λ u. at_or k u later) h
-
-pub why_size : (n m : ℕ) (o : Option Why) (w : AuditWhy) → n ≡ m → IsWhy n o w → IsWhy m o w
-why_size n m o w e h = subst (λ k. IsWhy k o w) e h
+found_here n o w k later h = search rules
 
 -- nothing is new where nothing came earlier
 new_first : (x : Colour) (s : GameState) (m : Option (Colour × Ply)) → is_new x s [] m ≡ true
-new_first x s None = refl
-new_first x s (Some m) = go (same_colour s.mover x)
-  where
-    go : (b : Bool) → (b || true) ≡ true
-    go true = refl
-    go false = refl
+new_first x s m = search rules
 
 or_nothing : (o : Option Fault) → or_later o None ≡ o
-or_nothing None = refl
-or_nothing (Some f) = refl
+or_nothing o = search rules
 
 -- a node of a sequence that is asked for what follows it, and then as a turn
 module _ (x : Colour) (s : GameState) (k : ℕ) (node : Node) (below : Nodes) where
@@ -54,38 +39,21 @@ module _ (x : Colour) (s : GameState) (k : ℕ) (node : Node) (below : Nodes) wh
 
   pub went_on : (t : Ply) → rest_fault x s (node_then node below no_node) ≡ None → turn_fault s (carried s.game.size node) ≡ None → carried s.game.size node ≡ Some (s.mover, t)
       → faults_of x s k (node_then node below no_node) ≡ faults_of x (next s t) (k + 1) below
-  went_on t rest asked is =
-      asked_rest rest
-      ∙ ap (λ o. at_or (k + 1) o (after_it (carried s.game.size node))) asked
-      ∙ ap after_it is
-      ∙ ap (λ b. at_or (k + 1) (ask b reply_twice None) (at_or (k + 1) (rest_fault x (next s t) below) (or_later (faults_below x (next s t) [] (k + 1 + 1) below) None))) (new_first x s (Some (s.mover, t)))
-      ∙ ap (at_or (k + 1) (rest_fault x (next s t) below)) (or_nothing (faults_below x (next s t) [] (k + 1 + 1) below))
+  went_on t h g e = grind (arith, nat_tests, asked_rest, new_first, or_nothing)
 
 -- ---- a child tree
 
-or_later_first : (k : ℕ) (why : Option Why) (d w : Option Fault) → at_or k why (or_later d w) ≡ or_later (at_or k why d) w
-or_later_first k None d w = refl
-or_later_first k (Some why) d w = refl
-
 pub new_turn : (own had : Bool) → (own ≡ true) ⊎ (had ≡ false) → (own || not had) ≡ true
-new_turn true had h = refl
-new_turn false false h = refl
-new_turn false true h = elim h [ inl e ↦ absurd (cc e) | inr e ↦ absurd (cc e) ]
+new_turn own had h = search rules
 
 -- a later fault stays hidden behind an earlier one
 pub found_first : (n : ℕ) (o later : Option Fault) (e : AuditFault) → IsFound n o e → IsFound n (or_later o later) e
-found_first n o later e h = go (why_value n e.why) h
-  where
-    go : (v : Option Why) → IsFoundOf o e.node v → IsFoundOf (or_later o later) e.node v
-    go None h = tt
-    go (Some why) h = ap (λ u. or_later u later) h
+found_first n o later e h = search rules
 
 -- the child with its node, what is below that, and the later children
 pub opened_child : (child : GameTree) (nodes : List Node) (node : Node) (rest : List Node) (trees : List GameTree) (others : Forest) → nodes ≡ child.nodes → nodes ≡ node ∷ rest → forest_of trees ≡ child.children
     → nodes_of (tree_then child.nodes child.children others) ≡ node_then node (follows rest trees) (nodes_of others)
-opened_child child nodes node rest trees others e first f =
-    ap (λ ns. tree_nodes_then ns (nodes_of child.children) (nodes_of others)) (sym e ∙ first)
-    ∙ ap (λ c. node_then node (sequence rest (nodes_of c)) (nodes_of others)) (sym f)
+opened_child child nodes node rest trees others h g e = search rules
 
 module _ (x : Colour) (s : GameState) (earlier : List Ply) (k : ℕ) (node : Node) (below others : Nodes) where
   abbrev later_on : Option (Colour × Ply) → Option Fault
@@ -96,24 +64,15 @@ module _ (x : Colour) (s : GameState) (earlier : List Ply) (k : ℕ) (node : Nod
 
   went_down : (t : Ply) → turn_fault s (carried s.game.size node) ≡ None → carried s.game.size node ≡ Some (s.mover, t)
       → as_child ≡ at_or k (ask (same_colour s.mover x || not (holds_ply earlier t)) reply_twice None) (later_on (Some (s.mover, t)))
-  went_down t asked is =
-      ap (λ o. at_or k o (at_or k (ask (is_new x s earlier (carried s.game.size node)) reply_twice None) (later_on (carried s.game.size node)))) asked
-      ∙ ap (λ m. at_or k (ask (is_new x s earlier m) reply_twice None) (later_on m)) is
+  went_down t h g = search rules
 
   pub child_new : (t : Ply) → turn_fault s (carried s.game.size node) ≡ None → carried s.game.size node ≡ Some (s.mover, t) → (same_colour s.mover x || not (holds_ply earlier t)) ≡ true
       → as_child ≡ or_later (faults_of x (next s t) k below) (faults_below x s (earlier ++ t ∷ []) (k + 1 + count_nodes below) others)
-  child_new t asked is new =
-      went_down t asked is
-      ∙ ap (λ b. at_or k (ask b reply_twice None) (later_on (Some (s.mover, t)))) new
-      ∙ or_later_first k (rest_fault x (next s t) below) (faults_below x (next s t) [] (k + 1) below) (faults_below x s (earlier ++ t ∷ []) (k + 1 + count_nodes below) others)
+  child_new t h g e = search rules
 
   pub child_done : (t : Ply) (last : ℕ) → turn_fault s (carried s.game.size node) ≡ None → carried s.game.size node ≡ Some (s.mover, t) → (same_colour s.mover x || not (holds_ply earlier t)) ≡ true
       → faults_of x (next s t) k below ≡ None → last ≡ k + count_nodes below → faults_below x s (earlier ++ t ∷ []) (last + 1) others ≡ as_child
-  child_done t last asked is new fine end =
-      let number : last + 1 ≡ k + 1 + count_nodes below = omega (arith, end) in
-      ap (λ j. faults_below x s (earlier ++ t ∷ []) j others) number
-      ∙ sym (ap (λ o. or_later o (faults_below x s (earlier ++ t ∷ []) (k + 1 + count_nodes below) others)) fine)
-      ∙ sym (child_new t asked is new)
+  child_done t last h g e f i = grind (arith, nat_tests, child_new)
 
 -- how many nodes a sequence has with what is below it
 pub sequence_count : (nodes : List Node) (below : Nodes) → count_nodes (sequence nodes below) ≡ length nodes + count_nodes below

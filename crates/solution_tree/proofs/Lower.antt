@@ -1,8 +1,9 @@
 -- The lemmas that a checked claim uses are lower ones, so the answers of all its lemmas serve each body.
-use Rattle.std.proofs.Common.{◌≡◌, ℕ, zero, suc, ◌+◌, ◌-◌, ◌<◌, ◌≤◌, Bool, true, false, ◌&&◌, nat_le, IsTrue, List, [], ◌∷◌, ◌++◌, length, get_or, refl, sym, ap, ◌∙◌, subst, arith}
+use Rattle.std.proofs.Common.{◌≡◌, ℕ, zero, suc, ◌+◌, ◌-◌, ◌<◌, ◌≤◌, Bool, true, false, ◌&&◌, nat_le, IsTrue, List, [], ◌∷◌, ◌++◌, length, get_or, refl, sym, ap, ◌∙◌, subst, arith, rules}
 use Rattle.std.proofs.lemmas.List.{get_or_append_left, get_or-append-add, get_or-map, length-append, length-map}
 use Rattle.std.proofs.lemmas.Option.{slice_get_within}
 use Rattle.std.proofs.lemmas.Bool.{leb-true, le-leb}
+use Rattle.std.proofs.lemmas.Bool.Decides.{nat_tests}
 use Rattle.go_points.specs.declared.Colour.{Colour}
 use Rattle.go_points.proofs.Lists.{and_left, and_right, and_both}
 use Rattle.target_game.specs.State.{Game, GameState, start}
@@ -111,13 +112,8 @@ answer_of_lemma es (l ∷ ls) good (suc j) d within s =
 
 body_below : (m : ℕ) (ls : List Lemma) → lemmas_below m ls ≡ true → (j : ℕ) (d : Lemma) → j < length ls → uses_below (m + j) (get_or ls j d).body ≡ true
 body_below m [] good j d within = absurd (omega (arith, within))
-body_below m (l ∷ ls) good zero d within =
-    let here : m ≡ m + 0 = omega arith in
-    subst (λ i. uses_below i l.body ≡ true) here (and_left (uses_below m l.body) (lemmas_below (m + 1) ls) good)
-body_below m (l ∷ ls) good (suc j) d within =
-    let place : m + 1 + j ≡ m + suc j = omega arith in
-    subst (λ i. uses_below i (get_or ls j d).body ≡ true) place
-    (body_below (m + 1) ls (and_right (uses_below m l.body) (lemmas_below (m + 1) ls) good) j d (omega (arith, within)))
+body_below m (l ∷ ls) good zero d within = search rules
+body_below m (l ∷ ls) good (suc j) d within = let i0 = body_below (m + 1) ls (and_right (uses_below m l.body) (lemmas_below (m + 1) ls) good) j d (omega (arith, within)) in search rules
 
 -- ---- what is valid uses lower lemmas alone
 
@@ -193,13 +189,4 @@ module _ (k : CheckedClaim) (it : IsChecked k.problem (claim_of k.certificate)) 
 
   pub next_body : (items : List code.Lemma) → items ≡ k.certificate.lemmas.items → (m number : ℕ) (part : claim.Node) (l : code.Lemma) → part ≡ Use number
       → IsTrue (uses_below m (node_of k.certificate.size part)) → m ≤ lemma_count k → l ≡ get_or items (number - 1) l → IsBody part (number - 1) (get_or items (number - 1) l)
-  next_body items same m number part l is low most at =
-      let (from, to) = used_bounds k.certificate.size m part number is low in
-      let next : number ≡ suc (number - 1) = omega (arith, from) in
-      let within : number - 1 < lemma_count k = omega (arith, from, to, most) in
-      let there : l ≡ get_or k.certificate.lemmas.items (number - 1) l = at ∙ ap (λ xs. get_or xs (number - 1) l) same in
-      subst (IsBody part (number - 1)) at (
-        (λ s. body_is number (number - 1) next l within there s ∙ ap (λ x. tree_at k x s) (sym (use_is k.certificate.size part number is))),
-        body_is_below number (number - 1) next l within there,
-        omega (arith, within),
-      )
+  next_body items h m number part l g e f i = grind (arith, nat_tests, used_bounds, body_is, use_is, body_is_below)

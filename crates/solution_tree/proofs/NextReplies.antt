@@ -1,12 +1,11 @@
 -- The replies of a node, one by one: those that are legal are kept.
-use Rattle.std.proofs.Common.{◌≡◌, ℕ, Bool, true, false, ◌&&◌, IsTrue, List, ◌∷◌, ap, ◌∙◌, subst}
+use Rattle.std.proofs.Common.{◌≡◌, ℕ, true, false, IsTrue, List, ◌∷◌, ap, ◌∙◌, rules}
 use Rattle.go_points.specs.declared.Turn.{Turn}
 use Rattle.go_points.specs.Ply.{Ply, ply_of}
-use Rattle.go_points.proofs.Lists.{and_left, and_right}
 use Rattle.target_game.specs.State.{GameState}
 use Rattle.target_game.specs.Next.{next}
 use Rattle.target_game.specs.Legal.{legal}
-use Rattle.target_game.specs.Answers.{AnswerTree, ReplyTrees, reply}
+use Rattle.target_game.specs.Answers.{AnswerTree, reply}
 use Rattle.proof_cert.specs.Claim.{Node, Branches, branch}
 use Rattle.proof_cert.specs.Certificate.{node_of, replies_of}
 use Rattle.proof_cert.specs.declared.certificate.Node as claim
@@ -14,16 +13,10 @@ use Rattle.cert_check.specs.Expand.{expand_node, expand_branches}
 use Rattle.solution_tree.specs.Opened.{uses_below, all_below}
 
 kept : (es : List (GameState → AnswerTree)) (t : Ply) (n : Node) (bs : Branches) (s : GameState) → legal s t ≡ true → expand_branches es (branch t n bs) s ≡ reply t (expand_node es n (next s t)) (expand_branches es bs s)
-kept es t n bs s h = ap (λ b. pick b) h
-  where
-    pick : Bool → ReplyTrees
-    pick b = elim b [ true ↦ reply t (expand_node es n (next s t)) (expand_branches es bs s) | false ↦ expand_branches es bs s ]
+kept es t n bs s h = search rules
 
 left_out : (es : List (GameState → AnswerTree)) (t : Ply) (n : Node) (bs : Branches) (s : GameState) → legal s t ≡ false → expand_branches es (branch t n bs) s ≡ expand_branches es bs s
-left_out es t n bs s h = ap (λ b. pick b) h
-  where
-    pick : Bool → ReplyTrees
-    pick b = elim b [ true ↦ reply t (expand_node es n (next s t)) (expand_branches es bs s) | false ↦ expand_branches es bs s ]
+left_out es t n bs s h = search rules
 
 module _ (s : GameState) (all rs : List (Turn × claim.Node)) (r : Turn × claim.Node) (is : all ≡ r ∷ rs) where
   abbrev n : ℕ
@@ -36,8 +29,4 @@ module _ (s : GameState) (all rs : List (Turn × claim.Node)) (r : Turn × claim
   replies_left_out h es = ap (λ xs. expand_branches es (replies_of n xs) s) is ∙ left_out es (ply_of n r.0) (node_of n r.1) (replies_of n rs) s h
 
   pub reply_below : (m : ℕ) → IsTrue (all_below m (replies_of n all)) → IsTrue (uses_below m (node_of n r.1)) × IsTrue (all_below m (replies_of n rs))
-  reply_below m h =
-      let both : IsTrue (uses_below m (node_of n r.1) && all_below m (replies_of n rs)) = subst (λ xs. IsTrue (all_below m (replies_of n xs))) is h in (
-        and_left (uses_below m (node_of n r.1)) (all_below m (replies_of n rs)) both,
-        and_right (uses_below m (node_of n r.1)) (all_below m (replies_of n rs)) both,
-      )
+  reply_below m h = search rules

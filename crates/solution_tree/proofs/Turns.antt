@@ -1,5 +1,5 @@
 -- A set of turns, and the list that it stands for.
-use Rattle.std.proofs.Common.{◌≡◌, ℕ, ◌*◌, ◌/◌, ◌%◌, Bool, true, false, ◌||◌, if◌then◌else◌, nat_eq, nat_lt, eqb-true, eq-eqb, ltb-true, List, [], ◌∷◌, ◌++◌, Some, refl, sym, ◌∙◌, ap, ap₂, subst, arith}
+use Rattle.std.proofs.Common.{◌≡◌, ℕ, ◌*◌, ◌/◌, ◌%◌, Bool, true, false, ◌||◌, if◌then◌else◌, nat_eq, nat_lt, eqb-true, eq-eqb, ltb-true, List, [], ◌∷◌, ◌++◌, refl, sym, ◌∙◌, ap, ap₂, subst, arith}
 use Rattle.std.proofs.lemmas.List.Folds.{list_any-append}
 use Rattle.std.proofs.lemmas.Nat.{div-mul-add, mod-mul-add}
 use Rattle.go_points.specs.declared.Turn.{Turn}
@@ -15,8 +15,7 @@ use Rattle.target_game.specs.Legal.{legal, holds_point}
 use Rattle.target_game.proofs.Playing.{ply_at}
 use Rattle.tsumego_problem.specs.Walked.{StandsOn}
 use Rattle.solution_tree.specs.declared.given.Given.{Given}
-use Rattle.solution_tree.specs.Asked.{given_has, Tells}
-use Rattle.solution_tree.specs.Audit.{unless_given, missing, reply_missing}
+use Rattle.solution_tree.specs.Asked.{Tells}
 
 -- a turn that stands on the board is at a point of it
 pub point_on : (n : ℕ) (p : Place) → StandsOn n (ply_of n (At p)) → IsOn n p
@@ -54,21 +53,7 @@ or_last true false = refl
 or_last false true = refl
 or_last false false = refl
 
-or_yes : (a : Bool) → true ≡ (a || (true || false))
-or_yes true = refl
-or_yes false = refl
-
--- the set without turns, with the pass, and with a move
-pub nothing_told : (n : ℕ) → Tells n (record { points = []; pass = false }) []
-nothing_told n Pass h = refl
-nothing_told n (At p) h = refl
-
-pub pass_told : (n : ℕ) (points : List Place) (b : Bool) (ts : List Ply) → Tells n (record { points = points; pass = b }) ts → Tells n (record { points = points; pass = true }) (ts ++ pass ∷ [])
-pass_told n points b ts had Pass h = or_yes (holds_ply ts pass) ∙ sym (list_any-append (same_ply pass) ts (pass ∷ []))
-pass_told n points b ts had (At q) h =
-    let t = ply_of n (At q) in
-    had (At q) h ∙ or_none (holds_ply ts t) ∙ sym (list_any-append (same_ply t) ts (pass ∷ []))
-
+-- the set with a move
 pub move_told : (n : ℕ) (points : List Place) (b : Bool) (p : Place) (ts : List Ply) → StandsOn n (ply_of n (At p)) → Tells n (record { points = points; pass = b }) ts
     → Tells n (record { points = with_place points p; pass = b }) (ts ++ ply_of n (At p) ∷ [])
 move_told n points b p ts on had Pass h = had Pass h ∙ or_none (holds_ply ts pass) ∙ sym (list_any-append (same_ply pass) ts (ply_of n (At p) ∷ []))
@@ -82,20 +67,10 @@ move_told n points b p ts on had (At q) h =
     ∙ or_last (holds_ply ts t) (same_ply t (ply_of n (At p)))
     ∙ sym (list_any-append (same_ply t) ts (ply_of n (At p) ∷ []))
 
--- the first reply that is missing, where one more was asked for
-pub missing_here : (ts us ds : List Ply) (t : Ply) → ds ≡ t ∷ us → holds_ply ts t ≡ false → missing ts ds ≡ Some (reply_missing t)
-missing_here ts us ds t due new = ap (missing ts) due ∙ ap (λ b. unless_given b t (missing ts us)) new
-
-pub missing_given : (ts us ds : List Ply) (t : Ply) → ds ≡ t ∷ us → holds_ply ts t ≡ true → missing ts ds ≡ missing ts us
-missing_given ts us ds t due had = ap (missing ts) due ∙ ap (λ b. unless_given b t (missing ts us)) had
-
 -- a legal turn stands on the board
 pub legal_stands : (s : GameState) (t : Ply) → legal s t ≡ true → StandsOn s.game.size t
 legal_stands s pass fine = tt
 legal_stands s (move p) fine = ltb-true p (s.game.size * s.game.size) (and_left (nat_lt p (s.game.size * s.game.size)) (holds_point s.game.region p) (and_left _ _ (and_left _ _ fine)))
-
-pub turn_told : (n : ℕ) (g : Given) (t : Turn) (ts : List Ply) (b : Bool) → StandsOn n (ply_of n t) → Tells n g ts → b ≡ given_has g t → holds_ply ts (ply_of n t) ≡ b
-turn_told n g t ts b on had e = sym (had t on) ∙ sym e
 
 pub move_put : (n : ℕ) (g : Given) (t : Turn) (p : Place) (points : List Place) (ts : List Ply) → t ≡ At p → points ≡ with_place g.points p → StandsOn n (ply_of n t) → Tells n g ts
     → Tells n (record { points = points; pass = g.pass }) (ts ++ ply_of n t ∷ [])

@@ -1,12 +1,12 @@
 -- The nodes of an answer tree, one line of turns after another.
-use Rattle.std.proofs.Common.{◌≡◌, ℕ, zero, suc, ◌+◌, ◌<◌, ◌≤◌, length, drop, get_or, refl, sym, ◌∙◌, ap, arith}
+use Rattle.std.proofs.Common.{◌≡◌, ℕ, zero, suc, ◌+◌, ◌<◌, ◌≤◌, length, drop, get_or, refl, sym, ◌∙◌, ap, arith, rules}
 use Rattle.std.specs.Prelude.{false, nat_eq, List, [], ◌∷◌, ◌++◌, map}
 use Rattle.std.proofs.lemmas.Bool.Decides.{nat_tests}
 use Rattle.std.proofs.lemmas.List.{append-nil, drop_all}
 use Rattle.go_points.specs.declared.Colour.{Colour}
 use Rattle.go_points.specs.declared.Turn.{Turn}
 use Rattle.go_points.specs.Ply.{ply_of}
-use Rattle.target_game.specs.Answers.{AnswerTree, turn, replies, ReplyTrees, none, reply, answer_size, reply_sizes}
+use Rattle.target_game.specs.Answers.{AnswerTree, turn, replies, ReplyTrees, none, answer_size, reply_sizes}
 use Rattle.sgf_text.specs.Trees.{Node, tree_then, GameTree, forest_of}
 use Rattle.tsumego_problem.specs.Canonical.{Rest, rest_of, rest_of_replies, forest_of_replies}
 use Rattle.solution_tree.specs.declared.answer.Answer.{Answer}
@@ -32,9 +32,7 @@ only_size n (s ∷ []) r one at = ap (λ (x : Turn × Answer). 1 + answer_size (
 only_size n (s ∷ t ∷ rs) r one at = absurd (omega (arith, one))
 
 branched : (n : ℕ) (k : Colour) (rs : ReplyTrees) → is_one rs ≡ false → rest_of_replies n k rs ≡ ([], forest_of_replies n k rs)
-branched n k none h = refl
-branched n k (reply t a none) h = absurd cc
-branched n k (reply t a (reply u b rs)) h = refl
+branched n k rs h = search rules
 
 pub several_rest : (n : ℕ) (k : Colour) (a : AnswerTree) (rs : ReplyTrees) → a ≡ replies rs → is_single a ≡ false → rest_of n k a ≡ ([], forest_of_replies n k rs)
 several_rest n k a rs is h = ap (rest_of n k) is ∙ branched n k rs (sym (ap is_single is) ∙ h)

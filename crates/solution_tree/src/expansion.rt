@@ -11,12 +11,12 @@ ghost use Rattle.solution_tree.specs.Opened.{Expands, IfFinished, is_use, lemma_
 
 use crate::answer::Answer;
 use crate::fault::Expand;
-use crate::opened::{Open, Part, PlayState, close, open_node};
+use crate::opened::{Open, Part, close, open_node};
 use cert_check::Checked;
 use cert_check::laws::valid_claims_answer;
 use proof_cert::Node;
 use std::alloc::{AllocError, Global};
-use target_game::State;
+use target_game::{PlayState, State};
 
 /// The node, or where it uses a lemma the body of that lemma.
 #[tactic(auto, using(proof_cert::proofs::Certificates::node_of_won, proof_cert::proofs::Certificates::node_of_play, proof_cert::proofs::Certificates::node_of_all))]

@@ -9,9 +9,10 @@ ghost use Rattle.solution_tree.specs.Asked.{follows};
 ghost use Rattle.solution_tree.specs.Faults.{IsFault};
 
 use crate::fault::{AuditFault, AuditWhy};
-use crate::questions::{PlayState, take_turn};
+use crate::questions::take_turn;
 use go_points::Colour;
 use sgf_text::{SgfNode, Tree};
+use target_game::PlayState;
 
 /// Makes the turns of a sequence behind the node with this number. The number of its last node.
 fn follow(state: &mut PlayState, number: usize, nodes: &[SgfNode]) -> Result<usize, AuditFault>

@@ -2,12 +2,6 @@
 #![tactic(auto)]
 
 mod answer;
-#[cfg(test)]
-mod audit_tests;
-#[cfg(test)]
-mod deep_tests;
-#[cfg(test)]
-mod expand_tests;
 mod expansion;
 mod fault;
 mod first_line;
@@ -16,8 +10,6 @@ pub mod laws;
 mod opened;
 mod questions;
 mod solution;
-#[cfg(test)]
-mod solution_tests;
 mod tree_audit;
 
 pub use answer::Answer;

@@ -14,13 +14,9 @@ ghost use Rattle.solution_tree.specs.Opened.{Expands, IfFinished, all_below, bra
 use crate::answer::Answer;
 use cert_check::Checked;
 use go_points::{Size, Turn};
-use go_turns::{PlayBoard, PlaySeen};
 use proof_cert::Node;
 use std::alloc::{AllocError, Global};
-use target_game::State;
-
-/// A state of the problem.
-pub(crate) type PlayState = State<PlayBoard, PlaySeen>;
+use target_game::PlayState;
 
 /// A turn whose tree is not finished.
 #[derive(Drop)]

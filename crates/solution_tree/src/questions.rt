@@ -16,13 +16,9 @@ ghost use Rattle.solution_tree.specs.Asked.{follows, IsWhy, Tells};
 use crate::fault::AuditWhy;
 use crate::given::Given;
 use go_points::{Colour, Size, Turn};
-use go_turns::{PlayBoard, PlaySeen};
 use sgf_text::{SgfNode, Tree};
-use target_game::{State, TurnsLeft};
+use target_game::{PlayState, TurnsLeft};
 use tsumego_problem::{has_setup, turn_at, values_at};
-
-/// A state of the problem.
-pub(crate) type PlayState = State<PlayBoard, PlaySeen>;
 
 /// Whether the node has just one value under B and W together, and no setup.
 fn has_one_turn(node: &SgfNode) -> bool

@@ -1,13 +1,13 @@
 //! The audit of anyone's answer tree.
 
-ghost use Rattle.std.specs.Prelude.{◌≡◌, ◌≤◌, ◌+◌, ℕ, List, [], Option, Some, None, Ok, IsTrue, IsSome, IfOk, IfErr, IfSome, OnOk, length, Result as SpecResult};
+ghost use Rattle.std.specs.Prelude.{◌≡◌, ◌≤◌, ◌+◌, ℕ, List, [], Option, Some, None, Ok, IsTrue, IsSome, IfOk, IfErr, OnOk, length, Result as SpecResult};
 ghost use Rattle.go_points.specs.declared.Colour.{Colour as SpecColour};
 ghost use Rattle.go_points.specs.Ply.{Ply};
 ghost use Rattle.target_game.specs.State.{start};
 ghost use Rattle.sgf_text.specs.Text.{is_forest};
 ghost use Rattle.sgf_text.specs.Trees.{Forest, tree_then, forest_of};
 ghost use Rattle.tsumego_problem.specs.Walk.{problem_node};
-ghost use Rattle.solution_tree.specs.Below.{nodes_of, nodes_below, count_nodes};
+ghost use Rattle.solution_tree.specs.Below.{nodes_of, count_nodes};
 ghost use Rattle.solution_tree.specs.Audit.{Fault, first_line, faults_of, faults_below, unless_fault, audit};
 ghost use Rattle.solution_tree.specs.Asked.{follows, IsFound, Tells, Leads, back};
 ghost use Rattle.solution_tree.specs.Faults.{IsFault};
@@ -15,12 +15,12 @@ ghost use Rattle.solution_tree.specs.Faults.{IsFault};
 use crate::fault::{AuditFault, AuditWhy};
 use crate::first_line::first_line;
 use crate::given::Given;
-use crate::questions::{PlayState, ask_rest, is_to_move, take_turn};
+use crate::questions::{ask_rest, is_to_move, take_turn};
 use go_points::Colour;
 use sgf_text::{SgfNode, Tree};
 use std::alloc::Global;
-use target_game::{Problem, State};
-use tsumego_problem::first_marked;
+use target_game::{PlayState, Problem, State};
+use tsumego_problem::{Mark, locate};
 
 /// Memory was refused at the node with this number, or the number of the next one is past the greatest `usize`: more nodes than that are more than memory holds.
 fn no_memory(node: usize) -> AuditFault
@@ -178,34 +178,6 @@ fn audit_child(
     Ok(last)
 }
 
-/// What follows the problem node: its number, the rest of its sequence, and the child trees behind that. `None` where the number is past the greatest `usize`.
-fn below_problem<'a>(tree: &'a Tree) -> Option<(usize, &'a [SgfNode], &'a [Tree])>
-    requires { IsSome (problem_node tree.now) }
-    ensures number { IfSome result (λ r. problem_node tree.now ≡ Some r.0) }
-    ensures below { IfSome result (λ r. nodes_below tree.now ≡ follows r.1.now r.2.now) }
-    ensures forest { IfSome result (λ r. IsTrue (is_forest (forest_of r.2.now))) }
-{
-    let mut part = tree;
-    let mut before: usize = 0;
-    loop {
-        let nodes = part.nodes();
-        if let Some(at) = first_marked(nodes) {
-            let Some(number) = before.checked_add(at) else {
-                return None;
-            };
-            return Some((number, &nodes[at + 1..], part.children()));
-        }
-        let Some(count) = before.checked_add(nodes.len()) else {
-            return None;
-        };
-        before = count;
-        let Some(child) = part.children().first() else {
-            unreachable!()
-        };
-        part = child;
-    }
-}
-
 /// Who has won at the end of the first line; else its first fault.
 fn first_winner(
     alloc: Global,
@@ -267,7 +239,14 @@ pub fn audit(alloc: Global, problem: &Problem, tree: &Tree) -> Result<Colour, Au
     ensures ok { IfOk result (λ x. audit problem.now tree.now ≡ Ok x) }
     ensures err { IfErr result (λ e. IsFault problem.now.game.size (audit problem.now tree.now) e) }
 {
-    let Some((number, nodes, children)) = below_problem(tree) else {
+    let Some(
+        Mark {
+            number: Some(number),
+            nodes,
+            children,
+        },
+    ) = locate(tree)
+    else {
         return Err(no_memory(0));
     };
     match first_winner(alloc, problem, number, nodes, children) {

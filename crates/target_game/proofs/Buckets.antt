@@ -141,6 +141,3 @@ is_once h latest before i b c is on kind s failed once =
 
 pub none_twice : (h : List (List Cell)) → repeats (take 0 h) ≡ false
 none_twice h = refl
-
-pub all_once : (h : List (List Cell)) (i : ℕ) → length h ≤ i → repeats (take i h) ≡ false → repeats h ≡ false
-all_once h i end once = sym (ap repeats (take_all i h end)) ∙ once

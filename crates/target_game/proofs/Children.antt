@@ -24,12 +24,6 @@ told s t false e = e
 tells : (s : GameState) (t : Ply) → Tells s t (child_of s t)
 tells s t = told s t (legal s t) refl
 
-pub child_legal : (s : GameState) (t : Ply) (k : Child) → child_of s t ≡ Some k → legal s t ≡ true
-child_legal s t k e = (subst (λ r. Tells s t r) e (tells s t)).0
-
-pub child_barred : (s : GameState) (t : Ply) → child_of s t ≡ None → legal s t ≡ false
-child_barred s t e = subst (λ r. Tells s t r) e (tells s t)
-
 pub child_winner : (s : GameState) (t : Ply) (k : Child) → child_of s t ≡ Some k → k.winner ≡ over (next s t)
 child_winner s t k e = (subst (λ r. Tells s t r) e (tells s t)).1
 

@@ -52,10 +52,6 @@ module _ {A : Type 0} (f : A → Bool) (xs : List A) where
   pub any_no : (i : ℕ) → i ≡ length xs → AnyAfter i → list_any f xs ≡ false
   any_no i end had = sym had ∙ ap (λ k. list_any f (drop k xs)) end ∙ ap (list_any f) (drop-length xs)
 
--- whether a colouring is of a size
-pub of_size : (n : ℕ) (c : List Cell) → IsColouring (side_of c) c → side_of c ≡ n → nat_eq (length c) (n * n) ≡ true
-of_size n c whole same = eq-eqb (length c) (n * n) (whole.full ∙ ap (λ m. m * m) same)
-
 pub not_of_size : (n : ℕ) (c : List Cell) → (side_of c ≡ n → ⊥) → nat_eq (length c) (n * n) ≡ false
 not_of_size n c other = go (nat_eq (length c) (n * n)) refl
   where
@@ -73,9 +69,6 @@ differs_in_size n r c b value test passed = not_of_size n c (λ e. go (eq-eqb r 
 -- a list from which the first has been taken
 pub left_on : {A : Type 0} (P : A → Type 0) (xs ys : List A) (x : A) → xs ≡ x ∷ ys → All P xs → All P ys
 left_on P xs ys x e on k d low = let all : All P (x ∷ ys) = subst (λ zs. All P zs) e on in all (suc k) d (omega arith)
-
-pub left_all : {A : Type 0} (f : A → Bool) (xs ys : List A) (x : A) → xs ≡ x ∷ ys → f x ≡ true → list_all f ys ≡ list_all f xs
-left_all f xs ys x e h = sym (ap (list_all f) e ∙ ap (λ b. b && list_all f ys) h)
 
 same_cell_symm : (a b : Cell) → same_cell a b ≡ same_cell b a
 same_cell_symm Empty Empty = refl

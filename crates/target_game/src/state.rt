@@ -155,6 +155,30 @@ impl<B: Board, S: Seen> State<B, S> {
         }
     }
 
+    /// Begins anew in the same game: this colouring is alone in the history, and so many passes were just made. Refused where a stone does not reach empty, by the least such point; then nothing changes. The board is changed only where the colouring differs from the present one.
+    pub fn restart(
+        &mut self,
+        alloc: Global,
+        colouring: &Colouring,
+        mover: Colour,
+        passes: u64,
+    ) -> Result<(), AtFault>
+        requires size { side_of colouring.now ≡ self.old.state.game.size }
+        requires few { passes ≤ 1 }
+        ensures ok { OnOk result (self.new ≡ record { state = state_alone self.old.state.game colouring.now mover passes; before = [] }) }
+        ensures liberties { OnOk result (first_without_liberty self.old.state.game.size colouring.now ≡ None) }
+        ensures err { IfErr result (λ e. IsAtFault self.old.state.game.size (first_without_liberty self.old.state.game.size colouring.now) e) }
+        ensures kept { OnErr result (self.new ≡ self.old) }
+    {
+        match self.played.reopen(alloc, colouring, passes) {
+            Ok(()) => {
+                self.mover = mover;
+                Ok(())
+            }
+            Err(fault) => Err(at_fault(fault)),
+        }
+    }
+
     /// Who has won: the attacker, where some target point does not hold the defender's colour; else the defender, where two passes stand.
     pub fn over(&self) -> Option<Colour>
         ensures { result ≡ over self.now.state }

@@ -12,15 +12,11 @@ ghost use Rattle.target_game.specs.Wins.{is_winner};
 ghost use Rattle.target_game.specs.Tally.{tally_of, before_turns, with_below, with_turns};
 ghost use Rattle.target_game.specs.declared.within.Within.TheVariants.{Wins, Neither};
 
-use crate::state::State;
+use crate::PlayState;
 use crate::turns_left::TurnsLeft;
 use crate::within::Within;
 use go_points::Colour;
-use go_turns::{PlayBoard, PlaySeen};
 use std::alloc::AllocError;
-
-/// A state of the problem.
-pub(crate) type PlayState = State<PlayBoard, PlaySeen>;
 
 /// What is known of a tree of play.
 #[derive(Clone, Copy)]

@@ -4,8 +4,9 @@ ghost use Rattle.std.specs.Prelude.{◌≡◌, ◌≤◌, IfOk};
 ghost use Rattle.target_game.specs.State.{start};
 ghost use Rattle.target_game.specs.Within.{decision};
 
+use crate::PlayState;
 use crate::problem::Problem;
-use crate::tally::{PlayState, tally_state};
+use crate::tally::tally_state;
 use go_points::Colour;
 use std::alloc::{AllocError, Global};
 

@@ -123,9 +123,3 @@ pub searched_for : {E : Type 0} (budget table : ℕ) (proof lift : Bool) (bytes 
     → IfOk r (λ x. IsSearched budget proof lift q x) → IfOk r (λ x. IsReply (Solve budget table proof lift) bytes x)
 searched_for budget table proof lift bytes tree n q (Ok x) is said = searched_says budget table proof lift bytes tree n q x is said
 searched_for budget table proof lift bytes tree n q (Err e) is said = tt
-
--- What is replied for all that was read is replied for what the reader told.
-pub whole_replied : {E : Type 0} (command : Command) (told : Option (List ℕ)) (held bytes : List ℕ) (r : Result Response E)
-    → IfOk r (λ x. IsReply command held x) → held ≡ bytes → Tells told bytes → IfOk r (λ x. (b : List ℕ) × Tells told b × IsReply command b x)
-whole_replied command told held bytes (Ok x) says same tells = (bytes, tells, subst (λ b. IsReply command b x) same says)
-whole_replied command told held bytes (Err e) says same tells = tt

@@ -249,13 +249,6 @@ may_ask Audit old new bytes given few = (bytes, given, few)
 may_ask (Solve steps table proof lift) old new bytes given few = (bytes, given, few)
 may_ask Gtp old new bytes given few = tt
 
-pub may_ask_on : (command : Command) (old mid new : Option (List ℕ)) (bytes : List ℕ) → Consumes old mid bytes → length bytes ≤ front_limit → AsksOn command mid new → MayAsk (Some command) old new
-may_ask_on Check old mid new bytes given few on = tt
-may_ask_on (Within turns nodes) old mid new bytes given few on = (bytes, subst (λ n. Consumes old n bytes) (sym on) given, few)
-may_ask_on Audit old mid new bytes given few on = (bytes, subst (λ n. Consumes old n bytes) (sym on) given, few)
-may_ask_on (Solve steps table proof lift) old mid new bytes given few on = (bytes, subst (λ n. Consumes old n bytes) (sym on) given, few)
-may_ask_on Gtp old mid new bytes given few on = tt
-
 pub may_ask_nothing : (command : Option Command) (old : Option (List ℕ)) → MayAsk command old old
 may_ask_nothing None old = ([], Consumes-nil old, omega arith)
 may_ask_nothing (Some Check) old = tt
@@ -263,10 +256,3 @@ may_ask_nothing (Some (Within turns nodes)) old = ([], Consumes-nil old, omega a
 may_ask_nothing (Some Audit) old = ([], Consumes-nil old, omega arith)
 may_ask_nothing (Some (Solve steps table proof lift)) old = ([], Consumes-nil old, omega arith)
 may_ask_nothing (Some Gtp) old = tt
-
-pub asks_nothing : (command : Command) (old : Option (List ℕ)) → AsksOn command old old
-asks_nothing Check old = tt
-asks_nothing (Within turns nodes) old = refl
-asks_nothing Audit old = refl
-asks_nothing (Solve steps table proof lift) old = refl
-asks_nothing Gtp old = refl

@@ -16,18 +16,9 @@ use Rattle.tsumego.specs.declared.record.NoRecord.TheVariants as no
 use Rattle.tsumego.specs.Texts.{line}
 use Rattle.tsumego.specs.Replies.{HasNoRecord, IsTold}
 
-pub ends_within : (bytes : List ℕ) (tree : GameTree) (n : ℕ) → Reads bytes tree n → n ≤ length bytes
-ends_within bytes tree n (header, spelling, rest, spelled, whole, place, spells, is, end) =
-    let sum : length bytes ≡ length header + length (spelling ++ rest) = ap length whole ∙ ap length (append_assoc header spelling rest) ∙ length-append header (spelling ++ rest) in
-    omega (arith, sum, length-append spelling rest, end)
-
 -- all that stands behind a place
 pub all_behind : (n : ℕ) (bytes : List ℕ) → take (length bytes - n) (drop n bytes) ≡ drop n bytes
 all_behind n bytes = take_all (length bytes - n) (drop n bytes) (omega (arith, length-drop n bytes))
-
-pub has_no_tree : (bytes : List ℕ) (fault : SgfFault) (r : NoRecord) → (fault ≢ sgf.Memory → outcome_of bytes ≡ Err fault) → IsTold (line (sgf_refusal fault)) r → (fault ≡ sgf.Memory → r ≡ no.Memory) → HasNoRecord bytes r
-has_no_tree bytes fault (no.Refused text) h told memory = (sgf_refusal fault, inl (fault, h (λ e. absurd (cc (memory e))), refl), told)
-has_no_tree bytes fault no.Memory h told memory = tt
 
 pub has_no_problem : (bytes : List ℕ) (tree : GameTree) (n : ℕ) (fault : ProblemFault) (r : NoRecord) → Reads bytes tree n → IsWithin tree n → (fault ≢ faults.Memory → problem_within (Some history_limit) tree ≡ Err fault)
     → IsTold (line (problem_refusal fault)) r → (fault ≡ faults.Memory → r ≡ no.Memory) → HasNoRecord bytes r

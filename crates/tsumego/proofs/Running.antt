@@ -139,18 +139,6 @@ pub said_for : {S E W : Type 0} (f : S → List ℕ) (P : W → Type 0) (b : W �
 said_for f P b (Ok s) a is same = λ w p. is ∙ same w p
 said_for f P b (Err e) a is same = tt
 
--- the answer to a claim that is rejected
-pub judged_rejected : {S E : Type 0} (status : S → Status) (text : S → List ℕ) (n : ℕ) (v : Verdict) (e : Reject) (r : Result S E) → IfOk r (λ x. IsRejectionOf n e (status x) (text x))
-    → ((why : Why) → why_value n e.why ≡ Some why → v ≡ rejected e.place why) → IfOk r (λ x. (status x, text x) ≡ check_answer n v)
-judged_rejected status text n v e (Ok x) (why, given, s, t) is = ap₂ (λ a b. (a, b)) s t ∙ sym (ap (check_answer n) (is why given))
-judged_rejected status text n v e (Err f) said is = tt
-
--- the answer to a tree that is rejected
-pub audited_rejected : {S E : Type 0} (status : S → Status) (text : S → List ℕ) (n : ℕ) (r : Result Colour Fault) (e : AuditFault) (s : Result S E) → IfOk s (λ x. IsNodeRejectionOf n e (status x) (text x))
-    → IsFault n r e → IfOk s (λ x. (status x, text x) ≡ audit_answer n r)
-audited_rejected status text n r e (Ok x) (why, given, s, t) fault = ap₂ (λ a b. (a, b)) s t ∙ sym (ap (audit_answer n) (subst (IsFaultOf r e.node) given fault))
-audited_rejected status text n r e (Err f) said fault = tt
-
 -- what is said of a record is said of the bytes
 pub said_of_record : {S E : Type 0} (status : S → Status) (text : S → List ℕ) (Said : GameProblem → GameTree → ℕ → Status → List ℕ → Type 0) (bytes : List ℕ) (tree : GameTree) (n : ℕ) (q : GameProblem) (r : Result S E)
     → IsRecord bytes tree n q → IfOk r (λ x. Said q tree n (status x) (text x)) → IfOk r (λ x. RefusedOr Said bytes (status x) (text x))

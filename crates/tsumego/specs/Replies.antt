@@ -5,7 +5,7 @@ use Rattle.sgf_text.specs.Bytes.{is_white}
 use Rattle.sgf_text.specs.Followers.{byte_limit}
 use Rattle.target_game.specs.State.{GameProblem, start}
 use Rattle.target_game.specs.Answers.{answer_size}
-use Rattle.sgf_text.specs.Taken.{TakesPart}
+use Rattle.byte_writer.specs.Taken.{TakesPart}
 use Rattle.sgf_text.specs.Trees.{GameTree}
 use Rattle.tsumego_problem.specs.Canonical.{solution}
 use Rattle.proof_cert.specs.Certificate.{claim_of}

@@ -2,7 +2,7 @@
 
 ghost use Rattle.std.specs.Prelude.{◌≡◌, Bool, IfOk, OnOk, OnErr, true, false};
 ghost use Rattle.std.specs.Io.KnownBytes.{Appends};
-ghost use Rattle.sgf_text.specs.Taken.{TakesPart};
+ghost use Rattle.byte_writer.specs.Taken.{TakesPart};
 ghost use Rattle.sgf_text.specs.Text.{tree_text};
 ghost use Rattle.tsumego.specs.Texts.{line};
 ghost use Rattle.proof_cert.specs.Certificate.{claim_of};

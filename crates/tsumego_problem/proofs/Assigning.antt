@@ -1,5 +1,5 @@
 -- Setups: the colouring that a node assigns, and the record that it is set up in.
-use Rattle.std.proofs.Common.{◌≡◌, ℕ, zero, suc, ◌+◌, ◌*◌, ◌<◌, ◌≤◌, Bool, true, false, cond, not, nat_lt, ◌&&◌, inl, inr, List, [], ◌∷◌, ◌++◌, map, length, get_or, set, Option, Some, None, Result, Ok, Err, is_none, refl, sym, ◌∙◌, ap, ap₂, subst, arith}
+use Rattle.std.proofs.Common.{◌≡◌, ℕ, zero, suc, ◌+◌, ◌*◌, ◌<◌, ◌≤◌, true, cond, not, nat_lt, ◌&&◌, inl, inr, List, [], ◌∷◌, ◌++◌, map, length, get_or, set, Option, Some, Result, Ok, Err, is_none, refl, sym, ◌∙◌, ap, ap₂, arith, rules}
 use Rattle.std.specs.Prelude.{codes, unwrap_or}
 use Rattle.std.specs.List.{All, list_all, range_with_len}
 use Rattle.std.proofs.lemmas.Bool.{cases_eq, lt-ltb}
@@ -7,6 +7,7 @@ use Rattle.std.proofs.lemmas.List.{get_or-set_same, get_or-set_other, length-set
 use Rattle.std.proofs.lemmas.List.FromFn.{fill_by_all, map-range_with_len_more, length-map-range_with_len}
 use Rattle.std.proofs.lemmas.List.Quantifiers.{position-Some}
 use Rattle.std.proofs.Math.Seq.{get_or-append_seam}
+use Rattle.std.proofs.lemmas.Bool.Decides.{nat_tests}
 use Rattle.go_points.specs.declared.Colour.{Colour}
 use Rattle.go_points.specs.declared.Colour.TheVariants.{Black, White}
 use Rattle.go_points.specs.declared.Cell.{Cell}
@@ -46,17 +47,7 @@ pub record FilledTo (n : ℕ) (f : ℕ → Cell) (new : List Cell) (i : ℕ) : T
   pub done : (p : ℕ) → p < i → cell_at new p ≡ f p
 
 pub filled_more : (n : ℕ) (f : ℕ → Cell) (old new : List Cell) (i p : ℕ) (v : Cell) → i < n * n → p ≡ i → v ≡ f i → new ≡ set old p v → side_of new ≡ n → FilledTo n f old i → FilledTo n f new (i + 1)
-filled_more n f old new i p v low at value is side so_far =
-    let within : i < length old = omega (arith, so_far.full) in
-    let step : new ≡ set old i v = is ∙ ap (λ q. set old q v) at in
-    record {
-      size = side;
-      full = ap length step ∙ length-set old i v ∙ so_far.full;
-      done = λ q h. ap (λ c. cell_at c q) step ∙ elim (cases_eq q i) [
-        | inl same ↦ ap (cell_at (set old i v)) same ∙ get_or-set_same old i v Empty within ∙ value ∙ ap f (sym same)
-        | inr other ↦ get_or-set_other old i q v Empty other ∙ so_far.done q (omega arith)
-      ];
-    }
+filled_more n f old new i p v h g e j k l = search rules
 
 pub assigned_all : (n : ℕ) (node : Node) (c new : List Cell) → FilledTo n (left_at n node c) new (n * n) → new ≡ assigned n node c
 assigned_all n node c new so_far = fill_by_all (left_at n node c) new (n * n) Empty so_far.full so_far.done
@@ -68,13 +59,7 @@ pub left_by_sets : (n : ℕ) (node : Node) (c : List Cell) (black white empty : 
     → map (number_of n) empty ≡ points_at n (codes "AE") node → All (IsOn n) empty
     → IsOn n p → v ≡ cell_at c (number_of n p)
     → cond (holds_place black p) (Stone Black) (cond (holds_place white p) (Stone White) (cond (holds_place empty p) Empty v)) ≡ left_at n node c (number_of n p)
-left_by_sets n node c black white empty p v bs on_b ws on_w es on_e on at =
-    ap (λ b. cond b (Stone Black) (cond (holds_place white p) (Stone White) (cond (holds_place empty p) Empty v))) (held black (points_at n (codes "AB") node) bs on_b)
-    ∙ ap (λ b. cond (holds_point (points_at n (codes "AB") node) (number_of n p)) (Stone Black) (cond b (Stone White) (cond (holds_place empty p) Empty v))) (held white (points_at n (codes "AW") node) ws on_w)
-    ∙ ap₂ (λ b x. cond (holds_point (points_at n (codes "AB") node) (number_of n p)) (Stone Black) (cond (holds_point (points_at n (codes "AW") node) (number_of n p)) (Stone White) (cond b Empty x))) (held empty (points_at n (codes "AE") node) es on_e) at
-  where
-    held : (set : List Place) (numbers : List ℕ) → map (number_of n) set ≡ numbers → All (IsOn n) set → holds_place set p ≡ holds_point numbers (number_of n p)
-    held set numbers e on_set = sym (holds_numbered n set p on_set on) ∙ ap (λ ns. holds_point ns (number_of n p)) e
+left_by_sets n node c black white empty p v h g e f i j k l = grind (arith, nat_tests, holds_numbered)
 
 -- ---- every point with what it holds
 
@@ -107,12 +92,7 @@ all_on_board d bound a (suc k) h = ap (λ b. b && list_all (λ (x : ℕ × Cell)
 
 -- whether a colouring has occurred, by its place
 pub occurred_by_place : (h : List (List Cell)) (d : List Cell) (o : Option ℕ) → place_in h d ≡ o → has_occurred h d ≡ not (is_none o)
-occurred_by_place h d None e = no_element (same_cells d) h e
-occurred_by_place h d (Some p) e = go (has_occurred h d) refl
-  where
-    go : (b : Bool) → has_occurred h d ≡ b → b ≡ true
-    go true f = refl
-    go false f = absurd (cc (no_position (same_cells d) h f, e))
+occurred_by_place h d o g = grind (arith, nat_tests, no_element, no_position)
 
 pub at_its_place : (h : List (List Cell)) (d : List Cell) (p : ℕ) → place_in h d ≡ Some p → get_or h p [] ≡ d
 at_its_place h d p e = sym (same_cells_eq d (get_or h p []) (position-Some (same_cells d) h p [] e).1)
@@ -131,39 +111,10 @@ module _ (n k : ℕ) (node : Node) (r : GameRecord) (mover : Colour) (d : List C
 
   pub set_up_fine : (u : Unit {0}) (new : GameRecord) → Did (setup_of r cells) r (Ok u) new
       → (set_to k node d (walk_of r mover) (has_no_liberty n d) ≡ Ok (walk_of new (unwrap_or (player_at node) mover))) × (new.size ≡ n)
-  set_up_fine u new did = go (first_without_liberty n d) refl (place_in r.present.history d) refl (subst (λ x. Did x r (Ok u) new) due did)
-    where
-      go : (o : Option ℕ) → first_without_liberty n d ≡ o → (at : Option ℕ) → place_in r.present.history d ≡ at → Did (stepped r (with_liberties n (first_without_liberty n d) (moment_set_to r.present d (place_in r.present.history d)))) r (Ok u) new
-          → (set_to k node d (walk_of r mover) (has_no_liberty n d) ≡ Ok (walk_of new (unwrap_or (player_at node) mover))) × (new.size ≡ n)
-      go (Some p) e at f h = absurd (subst (λ o. Did (stepped r (with_liberties n o (moment_set_to r.present d (place_in r.present.history d)))) r (Ok u) new) e h)
-      go None e (Some at) f h =
-          let is : new ≡ record r { present = record r.present { place = at; passes = 0 }; earlier = r.present ∷ r.earlier } = subst (λ o. Did (stepped r (with_liberties n o (moment_set_to r.present d (Some at)))) r (Ok u) new) e (subst (λ o. Did (stepped r (with_liberties n (first_without_liberty n d) (moment_set_to r.present d o))) r (Ok u) new) f h) in (
-            ap (λ o. set_to k node d (walk_of r mover) (not (is_none o))) e
-                ∙ ap (λ b. Ok (record { history = cond b r.present.history (r.present.history ++ d ∷ []); present = d; mover = unwrap_or (player_at node) mover; passes = 0 })) (occurred_by_place r.present.history d (Some at) f)
-                ∙ ap (λ x. Ok (record { history = r.present.history; present = x; mover = unwrap_or (player_at node) mover; passes = 0 })) (sym (at_its_place r.present.history d at f))
-                ∙ sym (ap (λ x. Ok (walk_of x (unwrap_or (player_at node) mover))) is),
-            ap (λ x. x.size) is ∙ size,
-          )
-      go None e None f h =
-          let is : new ≡ record r { present = record r.present { history = r.present.history ++ d ∷ []; place = length r.present.history; passes = 0 }; earlier = r.present ∷ r.earlier } = subst (λ o. Did (stepped r (with_liberties n o (moment_set_to r.present d None))) r (Ok u) new) e (subst (λ o. Did (stepped r (with_liberties n (first_without_liberty n d) (moment_set_to r.present d o))) r (Ok u) new) f h) in (
-            ap (λ o. set_to k node d (walk_of r mover) (not (is_none o))) e
-                ∙ ap (λ b. Ok (record { history = cond b r.present.history (r.present.history ++ d ∷ []); present = d; mover = unwrap_or (player_at node) mover; passes = 0 })) (occurred_by_place r.present.history d None f)
-                ∙ ap (λ x. Ok (record { history = r.present.history ++ d ∷ []; present = x; mover = unwrap_or (player_at node) mover; passes = 0 })) (sym (get_or-append_seam r.present.history d [] []))
-                ∙ sym (ap (λ x. Ok (walk_of x (unwrap_or (player_at node) mover))) is),
-            ap (λ x. x.size) is ∙ size,
-          )
+  set_up_fine u new h = grind (arith, nat_tests, due, occurred_by_place, at_its_place, get_or-append_seam)
 
   pub set_up_refused : (fault : TurnFault) (new : GameRecord) → Did (setup_of r cells) r (Err fault) new → IsSetupFault fault × (IsNoLiberty fault → set_to k node d (walk_of r mover) (has_no_liberty n d) ≡ Err (faults.NoLiberty k))
-  set_up_refused fault new did = go (first_without_liberty n d) refl (subst (λ x. Did x r (Err fault) new) due did)
-    where
-      go : (o : Option ℕ) → first_without_liberty n d ≡ o → Did (stepped r (with_liberties n (first_without_liberty n d) (moment_set_to r.present d (place_in r.present.history d)))) r (Err fault) new
-          → IsSetupFault fault × (IsNoLiberty fault → set_to k node d (walk_of r mover) (has_no_liberty n d) ≡ Err (faults.NoLiberty k))
-      go (Some q) e h =
-          let g = subst (λ o. Did (stepped r (with_liberties n o (moment_set_to r.present d (place_in r.present.history d)))) r (Err fault) new) e h in
-          (subst IsSetupFault (sym g.0) tt, λ is. ap (λ o. set_to k node d (walk_of r mover) (not (is_none o))) e)
-      go None e h =
-          let g = subst (λ o. Did (stepped r (with_liberties n o (moment_set_to r.present d (place_in r.present.history d)))) r (Err fault) new) e h in
-          (subst IsSetupFault (sym g.0) tt, λ is. absurd (subst IsNoLiberty g.0 is))
+  set_up_refused fault new h = grind (arith, nat_tests, due)
 
 pub length_assigned : (n : ℕ) (node : Node) (c : List Cell) → length (assigned n node c) ≡ n * n
 length_assigned n node c = length-map-range_with_len (left_at n node c) 0 (n * n)
@@ -171,8 +122,7 @@ length_assigned n node c = length-map-range_with_len (left_at n node c) 0 (n * n
 -- the cells that a call hands to the record, and the length of the record's colouring
 pub handed : (m n : ℕ) (node : Node) (present seen d : List Cell) (slice items : List (Place × Cell)) → m ≡ n → slice ≡ items → map (numbered n) items ≡ map (λ p. (p, cell_at d p)) (points n) → d ≡ assigned n node seen → seen ≡ present
     → map (numbered m) slice ≡ map (λ p. (p, cell_at (assigned n node present) p)) (points n)
-handed m n node present seen d slice items size same listed is here =
-    ap₂ (λ k xs. map (numbered k) xs) size same ∙ listed ∙ ap (λ x. map (λ p. (p, cell_at x p)) (points n)) (is ∙ ap (assigned n node) here)
+handed m n node present seen d slice items h g e f i = search rules
 
 pub length_of : (m n : ℕ) (present seen : List Cell) → m ≡ n → seen ≡ present → length seen ≡ m * m → length present ≡ n * n
 length_of m n present seen size here full = ap length (sym here) ∙ full ∙ ap (λ k. k * k) size
@@ -180,9 +130,4 @@ length_of m n present seen size here full = ap length (sym here) ∙ full ∙ ap
 -- what the fault of a setup says
 pub setup_refusal : (fault : TurnFault) (said : ProblemFault) (wanted : Result Walk ProblemFault) (k : ℕ) → IsSetupFault fault → (IsNoLiberty fault → wanted ≡ Err (faults.NoLiberty k))
     → (IsNoLiberty fault → said ≡ faults.NoLiberty k) → (fault ≡ turns.Memory → said ≡ faults.Memory) → (said ≡ faults.Memory → ⊥) → wanted ≡ Err said
-setup_refusal (turns.NoLiberty p) said wanted k is stuck liberty memory other = stuck tt ∙ ap Err (sym (liberty tt))
-setup_refusal turns.Memory said wanted k is stuck liberty memory other = absurd (other (memory refl))
-setup_refusal turns.OffBoard said wanted k is stuck liberty memory other = absurd is
-setup_refusal turns.Occupied said wanted k is stuck liberty memory other = absurd is
-setup_refusal (turns.Repeats e) said wanted k is stuck liberty memory other = absurd is
-setup_refusal turns.CannotUndo said wanted k is stuck liberty memory other = absurd is
+setup_refusal fault said wanted k h g e f i = search rules

@@ -1,7 +1,7 @@
 -- A walk that has come to a marked node has asked all that a problem is asked.
-use Rattle.std.proofs.Common.{◌≡◌, ℕ, suc, ◌+◌, ◌-◌, ◌*◌, ◌<◌, ◌≤◌, Bool, true, false, cond, not, ◌&&◌, ◌||◌, nat_eq, nat_lt, nat_le, eqb-true, ltb-true, lt-ltb, List, [], ◌∷◌, ◌++◌, map, filter, length, get_or, slice_get, Option, Some, None, option_map, option_and_then, is_none, Result, Ok, Err, refl, sym, ◌∙◌, ap, ap₂, subst, mul-le-mul, arith}
+use Rattle.std.proofs.Common.{◌≡◌, ℕ, suc, ◌+◌, ◌-◌, ◌*◌, ◌<◌, ◌≤◌, Bool, true, false, cond, not, ◌&&◌, ◌||◌, nat_eq, nat_lt, nat_le, eqb-true, ltb-true, lt-ltb, List, [], ◌∷◌, map, filter, length, get_or, slice_get, Option, Some, None, option_map, is_none, Result, Ok, Err, refl, sym, ◌∙◌, ap, ap₂, subst, mul-le-mul, arith, rules}
 use Rattle.std.specs.Prelude.{unwrap_or, codes}
-use Rattle.std.specs.List.{All, list_any, list_all}
+use Rattle.std.specs.List.{All, list_all}
 use Rattle.std.proofs.lemmas.List.Folds.{list_any-append}
 use Rattle.std.proofs.lemmas.List.FromFn.{length-range_with_len}
 use Rattle.std.proofs.lemmas.Bool.Decides.{nat_tests}
@@ -14,11 +14,9 @@ use Rattle.go_points.specs.Liberty.{all_reach_empty}
 use Rattle.go_points.specs.Place.{Place, IsOn, on_board, number_of}
 use Rattle.go_points.specs.Sides.{side_of-whole}
 use Rattle.go_points.proofs.Cells.{same_cell_eq, same_cell_refl}
-use Rattle.go_points.specs.Grid.{same_cells}
-use Rattle.std.proofs.lemmas.List.Quantifiers.{position-Some}
 use Rattle.std.proofs.lemmas.List.{length-map}
+use Rattle.std.proofs.lemmas.Bool.{not-false}
 use Rattle.go_points.proofs.Lists.{and_left, and_right}
-use Rattle.go_points.specs.Ply.{Ply, pass, move}
 use Rattle.go_turns.specs.History.{place_in, repeats}
 use Rattle.go_turns.proofs.Turns.{on_from}
 use Rattle.target_game.specs.Legal.{holds_point}
@@ -34,12 +32,10 @@ use Rattle.target_game.proofs.Loops.{on_first}
 use Rattle.sgf_text.specs.Bytes.{is_lower}
 use Rattle.sgf_text.specs.Nodes.{values_at}
 use Rattle.sgf_text.specs.Trees.{Node}
-use Rattle.tsumego_problem.specs.Values.{turn_in, turn_named, trim, point_at, inside, rectangle, points_named, points_of_each, points_of}
-use Rattle.tsumego_problem.specs.Walk.{has, has_many, has_turn, has_setup, is_empty, is_marked, is_bad, is_bad_turn, share_point, when, first_fault, node_fault, player_at, targets_at, region_at, are_targets, history_limit}
-use Rattle.tsumego_problem.specs.Walked.{walk_of, HasReached, StandsOn}
+use Rattle.tsumego_problem.specs.Values.{point_at, inside, rectangle, points_named, points_of_each, points_of}
+use Rattle.tsumego_problem.specs.Walk.{is_empty, is_marked, when, first_fault, node_fault, targets_at, region_at, are_targets, history_limit}
+use Rattle.tsumego_problem.specs.Walked.{walk_of, HasReached}
 use Rattle.tsumego_problem.specs.declared.fault.ProblemFault.{ProblemFault}
-use Rattle.tsumego_problem.specs.declared.fault.ProblemFault.TheVariants as faults
-use Rattle.tsumego_problem.specs.declared.fault.SingleProperty.TheVariants as single
 use Rattle.tsumego_problem.proofs.Making.{stands_at}
 use Rattle.tsumego_problem.proofs.Points.{held}
 
@@ -86,19 +82,7 @@ named_point n (c ∷ r ∷ []) ps h = go (point_at n c r) refl h
     go : (o : Option ℕ) → point_at n c r ≡ o → option_map (λ (p : ℕ). p ∷ []) o ≡ Some ps → HasPoint n ps
     go None e f = absurd (cc f)
     go (Some p) e f = let same : p ∷ [] ≡ ps = cc f in subst (HasPoint n) same (p, point_low n c r p e, ap (λ b. b || false) (same_number p))
-named_point n (c ∷ r ∷ colon ∷ d ∷ s ∷ []) ps h = go (nat_eq colon 58) h
-  where
-    go : (b : Bool) → cond b (option_and_then (λ p. option_and_then (rectangle n p) (point_at n d s)) (point_at n c r)) None ≡ Some ps → HasPoint n ps
-    go false f = absurd (cc f)
-    go true f = first (point_at n c r) refl f
-      where
-        first : (o : Option ℕ) → point_at n c r ≡ o → option_and_then (λ p. option_and_then (rectangle n p) (point_at n d s)) o ≡ Some ps → HasPoint n ps
-        first None e g = absurd (cc g)
-        first (Some p) e g = second (point_at n d s) g
-          where
-            second : (u : Option ℕ) → option_and_then (rectangle n p) u ≡ Some ps → HasPoint n ps
-            second None g = absurd (cc g)
-            second (Some q) g = in_rectangle n p q ps (point_low n c r p e) g
+named_point n (c ∷ r ∷ colon ∷ d ∷ s ∷ []) ps h = grind (arith, nat_tests, in_rectangle, point_low)
 named_point n [] ps h = absurd (cc h)
 named_point n (c ∷ []) ps h = absurd (cc h)
 named_point n (c ∷ r ∷ a ∷ []) ps h = absurd (cc h)
@@ -106,17 +90,7 @@ named_point n (c ∷ r ∷ a ∷ d ∷ []) ps h = absurd (cc h)
 named_point n (c ∷ r ∷ a ∷ d ∷ s ∷ t ∷ rest) ps h = absurd (cc h)
 
 each_point : (n : ℕ) (value : List ℕ) (values : List (List ℕ)) (ps : List ℕ) → points_of_each n (value ∷ values) ≡ Some ps → HasPoint n ps
-each_point n value values ps h = go (points_named n (trim value)) refl h
-  where
-    go : (o : Option (List ℕ)) → points_named n (trim value) ≡ o → option_and_then (λ xs. option_map (λ ys. xs ++ ys) (points_of_each n values)) o ≡ Some ps → HasPoint n ps
-    go None e f = absurd (cc f)
-    go (Some xs) e f = rest (points_of_each n values) f
-      where
-        rest : (u : Option (List ℕ)) → option_map (λ (ys : List ℕ). xs ++ ys) u ≡ Some ps → HasPoint n ps
-        rest None g = absurd (cc g)
-        rest (Some ys) g =
-            let same : xs ++ ys ≡ ps = cc g in let (p, low, there) = named_point n (trim value) xs e in
-            (p, low, ap (λ zs. holds_point zs p) (sym same) ∙ list_any-append (nat_eq p) xs ys ∙ ap (λ b. b || list_any (nat_eq p) ys) there)
+each_point n value values ps h = grind (arith, nat_tests, named_point, list_any-append)
 
 some_element : (ps : List ℕ) (p : ℕ) → holds_point ps p ≡ true → 0 < length ps
 some_element [] p h = absurd (cc h)
@@ -179,42 +153,13 @@ eight : (a b d e f g t u : Bool) (x1 x2 x3 x4 x5 x6 x7 x8 : BadProblem) → a �
 eight a b d e f g t u x1 x2 x3 x4 x5 x6 x7 x8 h1 h2 h3 h4 h5 h6 h7 h8 = rw (h1, h2, h3, h4, h5, h6, h7, h8) refl
 
 -- four refusals that are not made
-four_none : (a b c d : Bool) (x y z v : ProblemFault) → first_fault (when a x ∷ when b y ∷ when c z ∷ when d v ∷ []) ≡ None → (a ≡ false) × (b ≡ false) × (d ≡ false)
-four_none true b c d x y z v h = absurd (cc h)
-four_none false true c d x y z v h = absurd (cc h)
-four_none false false true d x y z v h = absurd (cc h)
-four_none false false false true x y z v h = absurd (cc h)
-four_none false false false false x y z v h = (refl, refl, refl)
-
 -- the fourth of eight
 fourth : (a b d e f g t u : Bool) (x1 x2 x3 x4 x5 x6 x7 x8 : ProblemFault)
     → first_fault (when a x1 ∷ when b x2 ∷ when d x3 ∷ when e x4 ∷ when f x5 ∷ when g x6 ∷ when t x7 ∷ when u x8 ∷ []) ≡ None → e ≡ false
-fourth a b d false f g t u x1 x2 x3 x4 x5 x6 x7 x8 h = refl
-fourth true b d true f g t u x1 x2 x3 x4 x5 x6 x7 x8 h = absurd (cc h)
-fourth false true d true f g t u x1 x2 x3 x4 x5 x6 x7 x8 h = absurd (cc h)
-fourth false false true true f g t u x1 x2 x3 x4 x5 x6 x7 x8 h = absurd (cc h)
-fourth false false false true f g t u x1 x2 x3 x4 x5 x6 x7 x8 h = absurd (cc h)
-
-last_of_five : (a b c d e : Bool) → (a || (b || (c || (d || (e || false))))) ≡ false → e ≡ false
-last_of_five false false false false false h = refl
-last_of_five true b c d e h = absurd (cc h)
-last_of_five false true c d e h = absurd (cc h)
-last_of_five false false true d e h = absurd (cc h)
-last_of_five false false false true e h = absurd (cc h)
-last_of_five false false false false true h = absurd (cc h)
+fourth a b d e f g t u x1 x2 x3 x4 x5 x6 x7 x8 h = search rules
 
 region_is_good : (n k : ℕ) (node : Node) → node_fault n k node ≡ None → is_none (points_of n (values_at (codes "SQ") node)) ≡ false
-region_is_good n k node h = last_of_five (is_bad n (codes "AB") node) (is_bad n (codes "AW") node) (is_bad n (codes "AE") node) (is_bad n (codes "TR") node) (is_bad n (codes "SQ") node) (fourth
-    (has_many (codes "B") node) (has_many (codes "W") node) (has_many (codes "PL") node)
-    (list_any (λ name. is_bad n name node) (codes "AB" ∷ codes "AW" ∷ codes "AE" ∷ codes "TR" ∷ codes "SQ" ∷ []))
-    (is_bad_turn n (codes "B") node || is_bad_turn n (codes "W") node)
-    (share_point n (codes "AB") (codes "AW") node || share_point n (codes "AB") (codes "AE") node || share_point n (codes "AW") (codes "AE") node)
-    (has_turn node && has_setup node) (has (codes "B") node && has (codes "W") node)
-    (faults.ManyValues single.B k) (faults.ManyValues single.W k) (faults.ManyValues single.PL k) (faults.BadPoint k) (faults.BadPoint k) (faults.SharedPoint k) (faults.MixedNode k) (faults.BothColours k) h)
-
-not_true_false : (b : Bool) → not b ≡ false → b ≡ true
-not_true_false true h = refl
-not_true_false false h = absurd (cc h)
+region_is_good n k node h = grind (arith, nat_tests)
 
 module _ (n : ℕ) (least : 1 ≤ n) (node : Node) (r : GameRecord) (mover : Colour) (place : ℕ) (targets region : List Place)
     (reached : HasReached (Some history_limit) n node (walk_of r mover))
@@ -226,24 +171,17 @@ module _ (n : ℕ) (least : 1 ≤ n) (node : Node) (r : GameRecord) (mover : Col
   h = r.present.history
 
   late : (is_marked node && not (are_targets (colouring_of r.present) (targets_at n node)) ≡ false) × (is_marked node && nat_le 2 r.present.passes ≡ false) × (nat_lt history_limit (length h) ≡ false)
-  late = four_none
-      (is_marked node && not (are_targets (colouring_of r.present) (targets_at n node))) (is_marked node && nat_le 2 r.present.passes)
-      (has (codes "PL") node && not (has_turn node) && is_none (player_at node)) (nat_lt history_limit (length h))
-      (faults.BadTargets reached.number) (faults.Ended reached.number) (faults.BadColour reached.number) (faults.LongHistory reached.number) reached.late
+  late = search rules
 
   there : get_or h place [] ≡ colouring_of r.present
   there = ap (λ i. get_or h i []) stands ∙ stands_at h (colouring_of r.present) r.present.place within refl
 
   placed : place < length h
-  placed = go (place_in h (colouring_of r.present)) refl
-    where
-      go : (o : Option ℕ) → place_in h (colouring_of r.present) ≡ o → place < length h
-      go (Some p) e = subst (λ i. i < length h) (sym (stands ∙ ap (λ o. unwrap_or o 0) e)) (position-Some (same_cells (colouring_of r.present)) h p [] e).0
-      go None e = subst (λ i. i < length h) (sym (stands ∙ ap (λ o. unwrap_or o 0) e)) (omega (arith, within))
+  placed = grind (arith, nat_tests)
 
   pub problem_is_made : (q : GameProblem) × (problem_of_parts h place mover r.present.passes targets region ≡ Ok q)
   problem_is_made =
-      let good : are_targets (colouring_of r.present) (targets_at n node) ≡ true = not_true_false (are_targets (colouring_of r.present) (targets_at n node)) (ap (λ b. b && not (are_targets (colouring_of r.present) (targets_at n node))) (sym reached.marked) ∙ late.0) in
+      let good : are_targets (colouring_of r.present) (targets_at n node) ≡ true = not-false (are_targets (colouring_of r.present) (targets_at n node)) (ap (λ b. b && not (are_targets (colouring_of r.present) (targets_at n node))) (sym reached.marked) ∙ late.0) in
       let colour = targets_colour n (get_or h place []) targets (ap₂ are_targets there marked ∙ good) in
       let few : nat_le 2 r.present.passes ≡ false = ap (λ b. b && nat_le 2 r.present.passes) (sym reached.marked) ∙ late.1 in
       let some : 0 < length region = omega (arith, sym (length-map region (number_of n)) ∙ ap length area, some_region n node least (region_is_good n reached.number node reached.fine)) in
@@ -274,19 +212,3 @@ pub not_refused : (q : GameProblem) (e : BadProblem) → ◌≡◌ {A = Result G
 not_refused q e h = absurd (cc h)
 
 -- a turn by its value stands on the board
-pub turn_low : (n : ℕ) (value : List ℕ) (t : Ply) → turn_in n value ≡ Some t → StandsOn n t
-turn_low n value t h = named (trim value) h
-  where
-    named : (text : List ℕ) → turn_named n text ≡ Some t → StandsOn n t
-    named [] e = let same : pass ≡ t = cc e in subst (StandsOn n) same tt
-    named (c ∷ r ∷ []) e = go (point_at n c r) refl e
-      where
-        go : (o : Option ℕ) → point_at n c r ≡ o → elim o [ Some p ↦ Some (move p) | None ↦ cond (nat_eq c 116 && nat_eq r 116) (Some pass) None ] ≡ Some t → StandsOn n t
-        go (Some p) f g = let same : move p ≡ t = cc g in subst (StandsOn n) same (point_low n c r p f)
-        go None f g = by (nat_eq c 116 && nat_eq r 116) g
-          where
-            by : (b : Bool) → ◌≡◌ {A = Option Ply} (cond b (Some pass) None) (Some t) → StandsOn n t
-            by true k = let same : pass ≡ t = cc k in subst (StandsOn n) same tt
-            by false k = absurd (cc k)
-    named (c ∷ []) e = absurd (cc e)
-    named (c ∷ r ∷ a ∷ rest) e = absurd (cc e)

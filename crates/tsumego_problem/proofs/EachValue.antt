@@ -3,10 +3,12 @@ use Rattle.std.specs.List.{All, list_all, range_with_len}
 use Rattle.std.proofs.lemmas.List.FromFn.{map-range_with_len_more}
 use Rattle.go_points.specs.Points.{with_place}
 use Rattle.tsumego_problem.proofs.Rectangles.{put}
-use Rattle.tsumego_problem.proofs.Points.{picked_below, picked_again, both_true, row_small, column_small}
+use Rattle.tsumego_problem.proofs.Points.{picked_below, picked_again, row_small, column_small}
 use Rattle.std.proofs.Common.{◌≡◌, ℕ, zero, suc, ◌*◌, nat_lt, ltb-true, ◌+◌, ◌≤◌, ◌<◌, true, false, List, [], ◌∷◌, ◌++◌, drop, length, get_or, map, filter, append-nil, append_assoc, Option, Some, None, option_map, option_and_then, refl, sym, ◌∙◌, ap, ap₂, subst, arith, map-id}
 use Rattle.std.proofs.Math.Seq.{drop-cons, drop-length}
 use Rattle.std.proofs.lemmas.Nat.{div-add-mod'}
+use Rattle.std.proofs.lemmas.Bool.{and_parts}
+use Rattle.std.proofs.lemmas.Bool.Decides.{nat_tests}
 use Rattle.go_points.specs.Grid.{points}
 use Rattle.go_points.specs.Place.{Place, IsOn, place_of, number_of}
 use Rattle.go_points.specs.Points.{places_that}
@@ -29,11 +31,7 @@ numbers_in n ps = numbers_back n (filter (holds_point ps) (points n))
 
 module _ (n : ℕ) (values : List (List ℕ)) where
   pub each_start : (set : List Place) → set ≡ [] → EachFrom n values 0 set
-  each_start set e = ([], e ∙ sym (places_none n (holds_point []) (λ i low. refl)), whole (points_of_each n values))
-    where
-      whole : (o : Option (List ℕ)) → o ≡ option_map (λ (qs : List ℕ). [] ++ qs) o
-      whole None = refl
-      whole (Some qs) = refl
+  each_start set h = grind (arith, nat_tests, places_none)
 
   pub each_more : (i : ℕ) (v : List ℕ) (old new : List Place) → i < length values → get_or values i v ≡ v → Adds n (points_named n (trim v)) true old new → EachFrom n values i old → EachFrom n values (i + 1) new
   each_more i v old new low at adds (ps, is, left) =
@@ -50,13 +48,7 @@ module _ (n : ℕ) (values : List (List ℕ)) where
       go (Some qs) (passed, gains) e = (ps ++ qs, gains ps is, e ∙ both qs (points_of_each n (drop (i + 1) values)))
 
   pub each_stop : (i : ℕ) (v : List ℕ) (old new : List Place) → i < length values → get_or values i v ≡ v → Adds n (points_named n (trim v)) false old new → EachFrom n values i old → points_of n values ≡ None
-  each_stop i v old new low at adds (ps, is, left) =
-      let step : drop i values ≡ v ∷ drop (suc i) values = drop-cons values i v low ∙ ap (λ y. y ∷ drop (suc i) values) at in
-      go (points_named n (trim v)) adds (left ∙ ap (λ vs. option_map (λ qs. ps ++ qs) (points_of_each n vs)) step)
-    where
-      go : (o : Option (List ℕ)) → Adds n o false old new → points_of_each n values ≡ option_map (λ qs. ps ++ qs) (option_and_then (λ qs. option_map (λ rs. qs ++ rs) (points_of_each n (drop (suc i) values))) o) → points_of n values ≡ None
-      go None other e = ap (option_map (λ (qs : List ℕ). filter (holds_point qs) (points n))) e
-      go (Some qs) (passed, gains) e = absurd (cc)
+  each_stop i v old new h g e f = grind (arith, nat_tests, drop-cons)
 
   pub each_end : (i : ℕ) (set : List Place) → i ≡ length values → EachFrom n values i set → Some (map (number_of n) set) ≡ points_of n values
   each_end i set end (ps, is, left) =
@@ -70,8 +62,8 @@ in_board n ps least = on_each (filter (holds_point ps) (points n)) (picked_below
   where
     on_each : (xs : List ℕ) → list_all (λ p. nat_lt p (n * n)) xs ≡ true → All (IsOn n) (map (place_of n) xs)
     on_each [] h k d low = absurd (omega arith)
-    on_each (x ∷ xs) h zero d low = let at : x < n * n = ltb-true x (n * n) (both_true (nat_lt x (n * n)) (list_all (λ p. nat_lt p (n * n)) xs) h).0 in record { row_within = row_small n x least at; column_within = column_small n x least }
-    on_each (x ∷ xs) h (suc k) d low = on_each xs (both_true (nat_lt x (n * n)) (list_all (λ p. nat_lt p (n * n)) xs) h).1 k d (omega arith)
+    on_each (x ∷ xs) h zero d low = let at : x < n * n = ltb-true x (n * n) (and_parts (nat_lt x (n * n)) (list_all (λ p. nat_lt p (n * n)) xs) h).0 in record { row_within = row_small n x least at; column_within = column_small n x least }
+    on_each (x ∷ xs) h (suc k) d low = on_each xs (and_parts (nat_lt x (n * n)) (list_all (λ p. nat_lt p (n * n)) xs) h).1 k d (omega arith)
 
 pub each_on : (i : ℕ) (set : List Place) → (n : ℕ) (values : List (List ℕ)) → 1 ≤ n → EachFrom n values i set → All (IsOn n) set
 each_on i set n values least (ps, is, left) = subst (All (IsOn n)) (sym is) (in_board n ps least)

@@ -1,7 +1,9 @@
 -- What the walk keeps of its history, and what it has asked when it comes to a marked node.
-use Rattle.std.proofs.Common.{◌≡◌, ℕ, ◌+◌, ◌*◌, Bool, true, false, not, ◌&&◌, nat_eq, List, [], ◌∷◌, ◌++◌, length, Option, Some, None, Result, Ok, Err, refl, ap, subst, eq-eqb}
+use Rattle.std.proofs.Common.{◌≡◌, ℕ, ◌+◌, ◌*◌, Bool, true, false, ◌&&◌, List, [], ◌∷◌, ◌++◌, length, Option, Some, None, Result, Ok, refl, ap, subst, rules, arith}
 use Rattle.std.specs.Prelude.{if◌then◌else◌}
 use Rattle.std.specs.List.{list_all}
+use Rattle.std.proofs.lemmas.Bool.{not-false}
+use Rattle.std.proofs.lemmas.Bool.Decides.{nat_tests}
 use Rattle.go_points.specs.declared.Colour.{Colour}
 use Rattle.go_points.specs.declared.Cell.{Cell}
 use Rattle.go_points.specs.declared.Cell.TheVariants.{Empty}
@@ -21,8 +23,7 @@ use Rattle.tsumego_problem.specs.declared.fault.ProblemFault.{ProblemFault}
 use Rattle.tsumego_problem.proofs.Assigning.{length_assigned}
 
 bind_ok : {A B : Type 0} (r : Result A ProblemFault) (f : A → Result B ProblemFault) (b : B) → (r >>= f) ≡ Ok b → (a : A) × (r ≡ Ok a) × (f a ≡ Ok b)
-bind_ok (Ok a) f b h = (a, refl, h)
-bind_ok (Err e) f b h = absurd cc
+bind_ok r f b h = search rules
 
 abbrev good : {A : Type 0} → A → Result A ProblemFault
 good a = Ok a
@@ -31,25 +32,16 @@ ok_is : {A : Type 0} (a b : A) → good a ≡ good b → a ≡ b
 ok_is a b h = cc
 
 unless_ok : (o : Option ProblemFault) (w v : Walk) → unless o w ≡ Ok v → (o ≡ None) × (w ≡ v)
-unless_ok None w v h = (refl, ok_is w v h)
-unless_ok (Some e) w v h = absurd cc
+unless_ok o w v h = search rules
 
 -- ---- one colouring more
 
 all_more : (f : List Cell → Bool) (h : List (List Cell)) (c : List Cell) → list_all f h ≡ true → f c ≡ true → list_all f (h ++ c ∷ []) ≡ true
 all_more f [] c all e = ap (λ b. b && true) e
-all_more f (x ∷ xs) c all e = go (f x) all (all_more f xs c)
-  where
-    go : (b : Bool) → (b && list_all f xs) ≡ true → (list_all f xs ≡ true → f c ≡ true → list_all f (xs ++ c ∷ []) ≡ true) → (b && list_all f (xs ++ c ∷ [])) ≡ true
-    go true rest ih = ih rest e
-    go false rest ih = absurd (cc rest)
+all_more f (x ∷ xs) c all e = let i0 = all_more f xs c in search rules
 
 grown : (n : ℕ) (h : List (List Cell)) (c : List Cell) → IsHistory n h → length c ≡ n * n → all_reach_empty n c ≡ true → place_in h c ≡ None → IsHistory n (h ++ c ∷ [])
-grown n h c kept full free new = record {
-  full = all_more (λ d. nat_eq (length d) (n * n)) h c kept.full (eq-eqb (length c) (n * n) full);
-  once = once_more h c kept.once new;
-  free = all_more (all_reach_empty n) h c kept.free free;
-}
+grown n h c g e f i = grind (arith, nat_tests, all_more, once_more)
 
 joined : (n : ℕ) (h : List (List Cell)) (c : List Cell) → IsHistory n h → length c ≡ n * n → all_reach_empty n c ≡ true → IsHistory n (joined_by h c)
 joined n h c kept full free = go (has_occurred h c) refl
@@ -72,12 +64,7 @@ turned_kept n k colour (move p) w v kept h =
     moved_kept n k colour c w v (same_cell (cell_at w.present p) Empty) (place_in w.history c) (length-after_move n w.present colour p) (moves_leave_liberties n w.present colour p) refl kept h
 
 set_kept : (n k : ℕ) (node : Node) (c : List Cell) (w v : Walk) (b : Bool) → length c ≡ n * n → has_no_liberty n c ≡ b → IsHistory n w.history → set_to k node c w b ≡ Ok v → IsHistory n v.history
-set_kept n k node c w v true full e kept h = absurd cc
-set_kept n k node c w v false full e kept h = subst (λ x. IsHistory n x.history) (ok_is _ v h) (joined n w.history c kept full (free (all_reach_empty n c) e))
-  where
-    free : (b : Bool) → not b ≡ false → b ≡ true
-    free true e = refl
-    free false e = absurd (cc e)
+set_kept n k node c w v b h g e f = grind (arith, nat_tests, ok_is, joined, not-false)
 
 changed_kept : (n k : ℕ) (node : Node) (w v : Walk) (t : Option (Colour × Ply)) (b : Bool) → IsHistory n w.history → changed_by n k node w t b ≡ Ok v → IsHistory n v.history
 changed_kept n k node w v (Some t) b kept h = turned_kept n k t.0 t.1 w v kept h

@@ -1,9 +1,9 @@
 -- What the type of problems keeps is what a record's problem is asked.
-use Rattle.std.proofs.Common.{◌≡◌, ◌≢◌, ℕ, zero, suc, ◌+◌, ◌*◌, ◌<◌, ◌≤◌, length, get_or, refl, sym, ◌∙◌, ap, subst, mul-le-mul, eq-eqb, eqb-true, ltb-true, arith}
+use Rattle.std.proofs.Common.{◌≡◌, ◌≢◌, ℕ, zero, suc, ◌+◌, ◌*◌, ◌<◌, ◌≤◌, length, get_or, refl, sym, ◌∙◌, ap, subst, mul-le-mul, eq-eqb, eqb-true, ltb-true, arith, rules}
 use Rattle.std.specs.Prelude.{Bool, true, false, not, ◌&&◌, ◌||◌, ◌==◌, nat_eq, nat_lt, IsTrue, List, [], ◌∷◌, ◌++◌, map, filter, Some}
 use Rattle.std.specs.List.{list_any, list_all, range_with_len, prefix_len, All, AllPairs}
 use Rattle.std.proofs.lemmas.Bool.Decides.{nat_tests}
-use Rattle.std.proofs.lemmas.Bool.{false_from_ne_true}
+use Rattle.std.proofs.lemmas.Bool.{false_from_ne_true, or_parts}
 use Rattle.std.proofs.lemmas.List.Folds.{list_any-append}
 use Rattle.go_points.specs.declared.Colour.{Colour}
 use Rattle.go_points.specs.declared.Cell.{Cell}
@@ -26,11 +26,6 @@ use Rattle.tsumego_problem.proofs.CanonicalRecord.{same_cells_self}
 use Rattle.tsumego_problem.proofs.Making.{colour_standing}
 use Rattle.tsumego_problem.proofs.Points.{same_filter}
 use Rattle.tsumego_problem.proofs.Rectangles.{number_small}
-use Rattle.tsumego_problem.proofs.Setup.{same_cell_is}
-
-either : (a b : Bool) → (a || b) ≡ false → (a ≡ false) × (b ≡ false)
-either true b h = absurd cc
-either false b h = (refl, h)
 
 -- a test that each element passes
 all_pass : {X : Type 0} (P : X → Type 0) (test : X → Bool) (xs : List X) → ((x : X) → P x → test x ≡ true) → All P xs → list_all test xs ≡ true
@@ -47,13 +42,13 @@ other_way c d h = false_from_ne_true (same_cells d c) (λ e. let both : true ≡
 
 never_at : (c : List Cell) (cs : List (List Cell)) (k : ℕ) (d : List Cell) → has_occurred cs c ≡ false → k < length cs → same_cells c (get_or cs k d) ≡ false
 never_at c [] k d h low = absurd (omega arith)
-never_at c (x ∷ xs) zero d h low = (either (same_cells c x) (has_occurred xs c) h).0
-never_at c (x ∷ xs) (suc k) d h low = never_at c xs k d (either (same_cells c x) (has_occurred xs c) h).1 (omega arith)
+never_at c (x ∷ xs) zero d h low = (or_parts (same_cells c x) (has_occurred xs c) h).0
+never_at c (x ∷ xs) (suc k) d h low = never_at c xs k d (or_parts (same_cells c x) (has_occurred xs c) h).1 (omega arith)
 
 each_is_new : (before cs : List (List Cell)) → AreNew before cs → repeats cs ≡ false → each_new before cs ≡ true
 each_is_new before [] new once = refl
 each_is_new before (c ∷ cs) new once =
-    let parts = either (has_occurred cs c) (repeats cs) once in
+    let parts = or_parts (has_occurred cs c) (repeats cs) once in
     rw (new 0 c (omega arith)) (each_is_new (before ++ c ∷ []) cs (λ k d low. later k d low parts.0) parts.1)
   where
     later : (k : ℕ) (d : List Cell) → k < length cs → has_occurred cs c ≡ false → has_occurred (before ++ c ∷ []) (get_or cs k d) ≡ false
@@ -66,7 +61,7 @@ prefix_is : (h : List (List Cell)) (i : ℕ) → i < length h → repeats h ≡ 
 prefix_is [] i low once = absurd (omega arith)
 prefix_is (c ∷ cs) zero low once = rw (same_cells_self c) refl
 prefix_is (c ∷ cs) (suc i) low once =
-    let parts = either (has_occurred cs c) (repeats cs) once in
+    let parts = or_parts (has_occurred cs c) (repeats cs) once in
     let other : same_cells (get_or cs i []) c ≡ false = other_way c (get_or cs i []) (never_at c cs i [] parts.0 (omega arith)) in
     let rest = prefix_is cs i (omega arith) parts.1 in
     rw other (omega (arith, rest))
@@ -85,9 +80,7 @@ Rises a end (x ∷ xs) = (a ≤ x) × (x < end) × Rises (x + 1) end xs
 
 absent_below : (a b end : ℕ) (xs : List ℕ) → a < b → Rises b end xs → list_any (nat_eq a) xs ≡ false
 absent_below a b end [] low rises = refl
-absent_below a b end (x ∷ xs) low (from, within, rest) =
-    let other : nat_eq a x ≡ false = grind (arith, nat_tests) in
-    rw other (absent_below a (x + 1) end xs (omega arith) rest)
+absent_below a b end (x ∷ xs) low (from, within, rest) = let i0 = absent_below a (x + 1) end xs (omega arith) rest in search rules
 
 picks_itself : (a k end : ℕ) (xs : List ℕ) → end ≡ a + k → Rises a end xs → filter (holds_point xs) (range_with_len a k) ≡ xs
 picks_itself a zero end [] is rises = refl
@@ -136,19 +129,11 @@ set_picked n ps numbers is set on = subst (λ ns. ns ≡ filter (holds_point ns)
 
 -- ---- the targets
 
-same_stones : (c : List Cell) (x y : Cell) (ps : List ℕ) → x ≡ y → list_all (λ p. same_cell (cell_at c p) y) ps ≡ true → list_all (λ p. same_cell (cell_at c p) x) ps ≡ true
-same_stones c x y ps e h = ap (λ z. list_all (λ p. same_cell (cell_at c p) z) ps) e ∙ h
-
 stones_stand : (c : List Cell) (k : Colour) (ps : List ℕ) → 0 < length ps → list_all (λ p. same_cell (cell_at c p) (Stone k)) ps ≡ true → are_targets c ps ≡ true
-stones_stand c k [] some all = absurd (omega arith)
-stones_stand c k (p ∷ ps) some all =
-    let here : cell_at c p ≡ Stone k = same_cell_is (cell_at c p) (Stone k) (and_left (same_cell (cell_at c p) (Stone k)) (list_all (λ p. same_cell (cell_at c p) (Stone k)) ps) all) in
-    let others = and_right (same_cell (cell_at c p) (Stone k)) (list_all (λ p. same_cell (cell_at c p) (Stone k)) ps) all in
-    rw here others
+stones_stand c k ps h g = search rules
 
 some_points : (ps : List ℕ) → 0 < length ps → ps ≢ []
-some_points [] some h = absurd (omega arith)
-some_points (p ∷ ps) some h = cc
+some_points ps h g = search rules
 
 -- ---- the whole problem
 

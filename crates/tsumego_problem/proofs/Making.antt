@@ -1,15 +1,13 @@
 -- The problem that is made at the end of a walk.
-use Rattle.std.proofs.Common.{◌≡◌, ℕ, zero, suc, ◌<◌, Bool, true, false, ◌&&◌, ◌||◌, List, [], ◌∷◌, map, length, get_or, Option, Some, None, Ok, refl, sym, ◌∙◌, ap, ap₂, subst, arith}
+use Rattle.std.proofs.Common.{◌≡◌, ℕ, zero, suc, ◌<◌, Bool, true, ◌&&◌, ◌||◌, List, [], ◌∷◌, map, length, get_or, Option, Some, None, Ok, refl, sym, ◌∙◌, ap, ap₂, subst, arith, rules}
 use Rattle.std.specs.Prelude.{unwrap_or}
 use Rattle.std.specs.List.{list_any, list_all}
 use Rattle.go_points.specs.declared.Colour.{Colour}
-use Rattle.go_points.specs.declared.Colour.TheVariants.{Black}
 use Rattle.go_points.specs.declared.Cell.{Cell}
-use Rattle.go_points.specs.declared.Cell.TheVariants.{Empty, Stone}
+use Rattle.go_points.specs.declared.Cell.TheVariants.{Stone}
 use Rattle.go_points.specs.Grid.{cell_at, same_cell, same_cells, side_of}
 use Rattle.go_points.specs.Place.{Place, number_of}
-use Rattle.go_points.proofs.Cells.{same_cell_eq, same_cell_refl}
-use Rattle.go_points.proofs.Lists.{and_left}
+use Rattle.go_points.proofs.Cells.{same_cell_refl}
 use Rattle.go_turns.specs.History.{place_in}
 use Rattle.go_turns.specs.Record.{GameRecord, colouring_of}
 use Rattle.go_turns.proofs.Repeats.{no_element}
@@ -28,11 +26,7 @@ same_cells_refl (x ∷ xs) = ap (λ b. b && same_cells xs xs) (same_cell_refl x)
 any_at : (f : List Cell → Bool) (h : List (List Cell)) (i : ℕ) → i < length h → f (get_or h i []) ≡ true → list_any f h ≡ true
 any_at f [] i low e = absurd (omega arith)
 any_at f (c ∷ cs) zero low e = ap (λ b. b || list_any f cs) e
-any_at f (c ∷ cs) (suc i) low e = go (f c) (any_at f cs i (omega arith) e)
-  where
-    go : (b : Bool) → list_any f cs ≡ true → (b || list_any f cs) ≡ true
-    go true others = refl
-    go false others = others
+any_at f (c ∷ cs) (suc i) low e = let i0 = any_at f cs i (omega arith) e in search rules
 
 -- where a colouring that has occurred stands
 pub stands_at : (h : List (List Cell)) (c : List Cell) (i : ℕ) → i < length h → get_or h i [] ≡ c → get_or h (unwrap_or (place_in h c) 0) [] ≡ c
@@ -44,8 +38,7 @@ stands_at h c i low at = go (place_in h c) refl
 
 -- the colour of stones that stand
 pub colour_standing : (c : List Cell) (k : Colour) (ps : List ℕ) → 0 < length ps → list_all (λ p. same_cell (cell_at c p) (Stone k)) ps ≡ true → colour_of c ps ≡ k
-colour_standing c k [] some all = absurd (omega arith)
-colour_standing c k (p ∷ ps) some all = ap (λ x. elim x [ Stone k ↦ k | Empty ↦ Black ]) (same_cell_eq (cell_at c p) (Stone k) (and_left (same_cell (cell_at c p) (Stone k)) (list_all (λ p. same_cell (cell_at c p) (Stone k)) ps) all))
+colour_standing c k ps h g = search rules
 
 -- the parts of a problem
 record Parts (history : List (List Cell)) (place : ℕ) (mover : Colour) (passes : ℕ) (targets region : List Place) (q : GameProblem) : Type 0 where

@@ -1,29 +1,24 @@
 -- The nodes of a canonical record are nodes: each name stands once, and each value ends where it should.
-use Rattle.std.proofs.Common.{◌≡◌, ℕ, ◌+◌, ◌/◌, ◌%◌, ◌^◌, ◌≤◌, ◌<◌, refl, sym, ◌∙◌, ap, ap₂, arith}
+use Rattle.std.proofs.Common.{◌≡◌, ℕ, ◌+◌, ◌/◌, ◌%◌, ◌^◌, ◌≤◌, ◌<◌, refl, sym, ◌∙◌, ap, arith, rules}
 use Rattle.std.specs.Prelude.{Bool, true, false, not, ◌&&◌, ◌==◌, cond, codes, decimal, List, [], ◌∷◌, ◌++◌, map}
 use Rattle.std.specs.List.{list_any, list_all}
 use Rattle.std.specs.Str.{bytes_eq}
 use Rattle.std.proofs.lemmas.Bool.Decides.{nat_tests}
 use Rattle.std.proofs.lemmas.Fmt.{decimal_by_steps}
-use Rattle.std.proofs.lemmas.List.{append_assoc, append-nil}
+use Rattle.std.proofs.lemmas.List.{append-nil}
 use Rattle.std.proofs.lemmas.List.Folds.{list_all-append}
+use Rattle.std.proofs.lemmas.Bool.{not-true, and_parts}
 use Rattle.go_points.specs.declared.Colour.{Colour}
 use Rattle.go_points.specs.declared.Colour.TheVariants.{Black, White}
 use Rattle.go_points.specs.declared.Cell.{Cell}
 use Rattle.go_points.specs.declared.Cell.TheVariants.{Empty, Stone}
 use Rattle.go_points.specs.Grid.{points}
-use Rattle.go_points.specs.Ply.{Ply, pass, move}
 use Rattle.target_game.specs.Legal.{holds_point}
 use Rattle.target_game.specs.State.{GameProblem}
 use Rattle.sgf_text.specs.Nodes.{is_value, is_ident, is_property, is_node, is_named, are_distinct}
 use Rattle.sgf_text.specs.Trees.{Node}
-use Rattle.tsumego_problem.specs.Canonical.{point_value, point_values, property, changed_to, changes, root_node, colour_name, turn_node, marks, verdict_text}
-use Rattle.tsumego_problem.proofs.Points.{both_true}
+use Rattle.tsumego_problem.specs.Canonical.{point_value, point_values, property, changed_to, changes, root_node, colour_name, marks, verdict_text}
 use Rattle.tsumego_problem.proofs.Setup.{in_order}
-
-not_false : (b : Bool) → not b ≡ true → b ≡ false
-not_false true h = absurd cc
-not_false false h = refl
 
 -- ---- values
 
@@ -34,9 +29,9 @@ plain c = not (c == 93) && not (c == 92)
 plain_value : (v : List ℕ) → list_all plain v ≡ true → is_value v ≡ true
 plain_value [] h = refl
 plain_value (c ∷ cs) h =
-    let b = both_true (plain c) (list_all plain cs) h in
-    let d = both_true (not (c == 93)) (not (c == 92)) b.0 in
-    let e : (c == 92) ≡ false = not_false (c == 92) d.1 in
+    let b = and_parts (plain c) (list_all plain cs) h in
+    let d = and_parts (not (c == 93)) (not (c == 92)) b.0 in
+    let e : (c == 92) ≡ false = not-true (c == 92) d.1 in
     rw (d.0, e) (plain_value cs b.1)
 
 plain_letter : (x : ℕ) → plain (97 + x) ≡ true
@@ -82,26 +77,26 @@ are_apart (p ∷ ps) = list_all (is_other p.0) ps && are_apart ps
 
 absent : (name : List ℕ) (ps : List Part) → list_all (is_other name) ps ≡ true → list_any (is_named name) (laid ps) ≡ false
 absent name [] h = refl
-absent name ((m, []) ∷ ps) h = absent name ps (both_true (not (bytes_eq name m)) (list_all (is_other name) ps) h).1
+absent name ((m, []) ∷ ps) h = absent name ps (and_parts (not (bytes_eq name m)) (list_all (is_other name) ps) h).1
 absent name ((m, v ∷ vs) ∷ ps) h =
-    let b = both_true (not (bytes_eq name m)) (list_all (is_other name) ps) h in
-    let e : bytes_eq name m ≡ false = not_false (bytes_eq name m) b.0 in
+    let b = and_parts (not (bytes_eq name m)) (list_all (is_other name) ps) h in
+    let e : bytes_eq name m ≡ false = not-true (bytes_eq name m) b.0 in
     rw e (absent name ps b.1)
 
 all_properties : (ps : List Part) → list_all is_good ps ≡ true → list_all is_property (laid ps) ≡ true
 all_properties [] h = refl
-all_properties ((m, []) ∷ ps) h = all_properties ps (both_true (is_ident m && true) (list_all is_good ps) h).1
+all_properties ((m, []) ∷ ps) h = all_properties ps (and_parts (is_ident m && true) (list_all is_good ps) h).1
 all_properties ((m, v ∷ vs) ∷ ps) h =
-    let b = both_true (is_ident m && list_all is_value (v ∷ vs)) (list_all is_good ps) h in
-    let d = both_true (is_ident m) (list_all is_value (v ∷ vs)) b.0 in
-    let e = both_true (is_value v) (list_all is_value vs) d.1 in
+    let b = and_parts (is_ident m && list_all is_value (v ∷ vs)) (list_all is_good ps) h in
+    let d = and_parts (is_ident m) (list_all is_value (v ∷ vs)) b.0 in
+    let e = and_parts (is_value v) (list_all is_value vs) d.1 in
     rw (d.0, e.0, e.1) (all_properties ps b.1)
 
 all_distinct : (ps : List Part) → are_apart ps ≡ true → are_distinct (laid ps) ≡ true
 all_distinct [] h = refl
-all_distinct ((m, []) ∷ ps) h = all_distinct ps (both_true (list_all (is_other m) ps) (are_apart ps) h).1
+all_distinct ((m, []) ∷ ps) h = all_distinct ps (and_parts (list_all (is_other m) ps) (are_apart ps) h).1
 all_distinct ((m, v ∷ vs) ∷ ps) h =
-    let b = both_true (list_all (is_other m) ps) (are_apart ps) h in
+    let b = and_parts (list_all (is_other m) ps) (are_apart ps) h in
     rw (absent m ps b.0) (all_distinct ps b.1)
 
 laid_is_node : (ps : List Part) → list_all is_good ps ≡ true → are_apart ps ≡ true → is_node (laid ps) ≡ true
@@ -117,8 +112,7 @@ changed_parts n old new =
     ∷ []
 
 changed_good : (n : ℕ) (old new : List Cell) → list_all is_good (changed_parts n old new) ≡ true
-changed_good n old new =
-    rw (points_are_values n (changed_to n (Stone Black) old new), points_are_values n (changed_to n (Stone White) old new), points_are_values n (changed_to n Empty old new)) refl
+changed_good n old new = grind (arith, nat_tests, points_are_values)
 
 pub changes_are_node : (n : ℕ) (old new : List Cell) → is_node (changes n old new) ≡ true
 changes_are_node n old new = ap is_node (in_order n old new) ∙ laid_is_node (changed_parts n old new) (changed_good n old new) refl
@@ -129,40 +123,27 @@ root_is_node n c h =
     ap (λ t. is_node (property (codes "FF") (codes "4" ∷ []) ++ property (codes "GM") (codes "1" ∷ []) ++ property (codes "SZ") (decimal n ∷ []) ++ t)) (in_order n board c)
     ∙ laid_is_node ((codes "FF", codes "4" ∷ []) ∷ (codes "GM", codes "1" ∷ []) ∷ (codes "SZ", decimal n ∷ []) ∷ changed_parts n board c) (rw (decimal_is_value n h) (changed_good n board c)) refl
 
-pub turn_is_node : (n : ℕ) (k : Colour) (t : Ply) → is_node (turn_node n k t) ≡ true
-turn_is_node n Black pass = refl
-turn_is_node n White pass = refl
-turn_is_node n Black (move p) = rw (point_is_value n p) refl
-turn_is_node n White (move p) = rw (point_is_value n p) refl
-
 colour_is_value : (k : Colour) → is_value (colour_name k) ≡ true
-colour_is_value Black = refl
-colour_is_value White = refl
+colour_is_value k = search rules
 
 verdict_is_value : (x : Colour) → is_value (verdict_text x) ≡ true
-verdict_is_value Black = refl
-verdict_is_value White = refl
+verdict_is_value x = search rules
 
 module _ (n : ℕ) (k : Colour) (targets region : List ℕ) where
   abbrev squares : Bool → List (List ℕ)
   squares whole = cond whole [] (point_values n region)
 
   squares_good : (whole : Bool) → list_all is_value (squares whole) ≡ true
-  squares_good true = refl
-  squares_good false = points_are_values n region
+  squares_good whole = grind (arith, nat_tests, points_are_values)
 
   squares_laid : (whole : Bool) → cond whole [] (property (codes "SQ") (point_values n region)) ≡ property (codes "SQ") (squares whole)
-  squares_laid true = refl
-  squares_laid false = refl
+  squares_laid whole = search rules
 
   abbrev marked : Bool → Node
   marked whole = property (codes "PL") (colour_name k ∷ []) ++ property (codes "TR") (point_values n targets) ++ cond whole [] (property (codes "SQ") (point_values n region))
 
   marked_laid : (whole : Bool) (more : Node) → marked whole ++ more ≡ property (codes "PL") (colour_name k ∷ []) ++ (property (codes "TR") (point_values n targets) ++ (property (codes "SQ") (squares whole) ++ more))
-  marked_laid whole more =
-      ap (λ s. (property (codes "PL") (colour_name k ∷ []) ++ property (codes "TR") (point_values n targets) ++ s) ++ more) (squares_laid whole)
-      ∙ append_assoc (property (codes "PL") (colour_name k ∷ []) ++ property (codes "TR") (point_values n targets)) (property (codes "SQ") (squares whole)) more
-      ∙ append_assoc (property (codes "PL") (colour_name k ∷ [])) (property (codes "TR") (point_values n targets)) (property (codes "SQ") (squares whole) ++ more)
+  marked_laid whole more = search rules
 
   pub marked_is_node : (whole : Bool) → is_node (marked whole) ≡ true
   marked_is_node whole =
@@ -185,11 +166,7 @@ winner_is_node q x = commented_is_node q.game.size q.mover q.game.targets q.game
 -- the root, one property after another
 pub root_made : (n : ℕ) (c board : List Cell) (rows : List ℕ) (p0 p1 p2 p3 p4 : Node) → p0 ≡ [] → p1 ≡ p0 ++ property (codes "FF") (codes "4" ∷ []) → p2 ≡ p1 ++ property (codes "GM") (codes "1" ∷ []) → p3 ≡ p2 ++ property (codes "SZ") (rows ∷ []) → p4 ≡ p3 ++ changes n board c
     → rows ≡ decimal n → board ≡ map (λ p. Empty) (points n) → p4 ≡ root_node n c
-root_made n c board rows p0 p1 p2 p3 p4 e0 e1 e2 e3 e4 is_rows is_board =
-    let one : p1 ≡ property (codes "FF") (codes "4" ∷ []) = e1 ∙ ap (λ p. p ++ property (codes "FF") (codes "4" ∷ [])) e0 in
-    let two : p2 ≡ property (codes "FF") (codes "4" ∷ []) ++ property (codes "GM") (codes "1" ∷ []) = e2 ∙ ap (λ p. p ++ property (codes "GM") (codes "1" ∷ [])) one in
-    let three : p3 ≡ property (codes "FF") (codes "4" ∷ []) ++ property (codes "GM") (codes "1" ∷ []) ++ property (codes "SZ") (decimal n ∷ []) = e3 ∙ ap₂ (λ p r. p ++ property (codes "SZ") (r ∷ [])) two is_rows in
-    e4 ∙ ap₂ (λ p b. p ++ changes n b c) three is_board
+root_made n c board rows p0 p1 p2 p3 p4 h g e f i j k = search rules
 
 -- a node of which nothing stands before
 pub alone : (p0 p1 node : Node) → p0 ≡ [] → p1 ≡ p0 ++ node → p1 ≡ node

@@ -1,23 +1,24 @@
 -- The record with which a walk begins.
-use Rattle.std.proofs.Common.{◌≡◌, ℕ, zero, suc, ◌+◌, ◌*◌, ◌<◌, ◌≤◌, Bool, true, false, cond, not, ◌&&◌, ◌||◌, List, [], ◌∷◌, map, length, Option, Some, None, Ok, Err, is_none, replicate, refl, sym, ◌∙◌, ap, ap₂, subst, eq-eqb, arith}
+use Rattle.std.proofs.Common.{◌≡◌, ℕ, zero, suc, ◌+◌, ◌*◌, ◌<◌, ◌≤◌, Bool, true, false, cond, not, ◌&&◌, ◌||◌, List, [], ◌∷◌, map, length, Option, None, Ok, Err, is_none, replicate, refl, sym, ◌∙◌, ap, ap₂, arith, rules}
 use Rattle.std.specs.Prelude.{codes, unwrap_or}
-use Rattle.std.specs.List.{list_any, range_with_len}
-use Rattle.tsumego_problem.specs.declared.fault.SingleProperty.TheVariants as single
+use Rattle.std.specs.List.{range_with_len}
 use Rattle.std.proofs.lemmas.List.{get_or-replicate, length-replicate}
 use Rattle.std.proofs.lemmas.List.FromFn.{fill_by_all, get_or-map-range_with_len}
+use Rattle.std.proofs.lemmas.Bool.{or_parts}
+use Rattle.std.proofs.lemmas.Bool.Decides.{nat_tests}
 use Rattle.go_points.specs.declared.Colour.TheVariants.{Black, White}
 use Rattle.go_points.specs.declared.Cell.{Cell}
 use Rattle.go_points.specs.declared.Cell.TheVariants.{Empty, Stone}
 use Rattle.go_points.specs.Grid.{points, cell_at}
 use Rattle.go_points.specs.Liberty.{first_without_liberty}
 use Rattle.go_points.specs.Place.{Place}
-use Rattle.go_turns.specs.Record.{GameRecord, Moment, opened, with_liberties, Opens}
+use Rattle.go_turns.specs.Record.{GameRecord, opened, Opens}
 use Rattle.go_turns.specs.declared.fault.TurnFault.TheVariants as turns
 use Rattle.target_game.specs.Legal.{holds_point}
 use Rattle.sgf_text.specs.Nodes.{values_at}
 use Rattle.sgf_text.specs.Trees.{Node}
 use Rattle.tsumego_problem.specs.Values.{points_of}
-use Rattle.tsumego_problem.specs.Walk.{has_many, is_bad, is_bad_turn, share_point, has, has_turn, has_setup, is_empty, points_at, assigned, opening, turn_of, turn_at, node_fault, first_fault, when, changed, changed_by, set_to, unless, late_fault, walk_node, ◌>>=◌}
+use Rattle.tsumego_problem.specs.Walk.{has, has_turn, has_setup, is_empty, points_at, assigned, opening, turn_at, node_fault, first_fault, when, changed, changed_by, set_to, unless, late_fault, walk_node, ◌>>=◌}
 use Rattle.tsumego_problem.specs.Walked.{walk_of, IsHistory}
 use Rattle.tsumego_problem.specs.declared.fault.ProblemFault.{ProblemFault}
 use Rattle.tsumego_problem.specs.declared.fault.ProblemFault.TheVariants as faults
@@ -30,55 +31,25 @@ no_stones n = fill_by_all (λ p. Empty) (replicate (n * n) Empty) (n * n) Empty 
 
 -- the record that was opened
 pub opened_walk : (n : ℕ) (c : List Cell) (r : GameRecord) → Opens n (opened n (c ∷ []) 0 0) (Ok r) → (walk_of r Black ≡ record { history = c ∷ []; present = c; mover = Black; passes = 0 }) × (r.size ≡ n)
-opened_walk n c r opens = go (first_without_liberty n c) opens
-  where
-    m : Moment
-    m = record { history = c ∷ []; place = 0; passes = 0; last_colour = None }
-
-    go : (o : Option ℕ) → Opens n (with_liberties n o m) (Ok r) → (walk_of r Black ≡ record { history = c ∷ []; present = c; mover = Black; passes = 0 }) × (r.size ≡ n)
-    go None e = (ap (λ x. walk_of x Black) e, ap (λ x. x.size) e)
-    go (Some p) e = absurd e
+opened_walk n c r h = search rules
 
 pub opened_history : (n : ℕ) (c : List Cell) (r : GameRecord) → length c ≡ n * n → Opens n (opened n (c ∷ []) 0 0) (Ok r) → IsHistory n r.present.history
-opened_history n c r full opens = go (first_without_liberty n c) refl opens
-  where
-    m : Moment
-    m = record { history = c ∷ []; place = 0; passes = 0; last_colour = None }
-
-    go : (o : Option ℕ) → first_without_liberty n c ≡ o → Opens n (with_liberties n o m) (Ok r) → IsHistory n r.present.history
-    go None e is = subst (λ x. IsHistory n x.present.history) (sym is) (record {
-      full = ap (λ b. b && true) (eq-eqb (length c) (n * n) full);
-      once = refl;
-      free = ap (λ o. is_none o && true) e;
-    })
-    go (Some p) e is = absurd is
+opened_history n c r h g = search rules
 
 pub opened_refused : (n : ℕ) (c : List Cell) (p : Place) → Opens n (opened n (c ∷ []) 0 0) (Err (turns.NoLiberty p)) → is_none (first_without_liberty n c) ≡ false
-opened_refused n c p opens = go (first_without_liberty n c) opens
-  where
-    m : Moment
-    m = record { history = c ∷ []; place = 0; passes = 0; last_colour = None }
-
-    go : (o : Option ℕ) → Opens n (with_liberties n o m) (Err (turns.NoLiberty p)) → is_none o ≡ false
-    go None e = absurd (cc e)
-    go (Some q) e = refl
+opened_refused n c p h = search rules
 
 -- a node without setup assigns nothing
 empty_nil : {X : Type 0} (xs : List X) → not (is_empty xs) ≡ false → xs ≡ []
-empty_nil [] h = refl
-empty_nil (x ∷ xs) h = absurd (cc)
-
-or_false : (a b : Bool) → (a || b) ≡ false → (a ≡ false) × (b ≡ false)
-or_false true b h = absurd (cc)
-or_false false b h = (refl, h)
+empty_nil xs h = search rules
 
 nothing_at : (n : ℕ) (name : List ℕ) (node : Node) → has name node ≡ false → points_at n name node ≡ []
 nothing_at n name node h = ap (λ vs. unwrap_or (points_of n vs) []) (empty_nil (values_at name node) h) ∙ filter_none (points n)
 
 pub idle : (n : ℕ) (node : Node) → has_setup node ≡ false → assigned n node (map (λ p. Empty) (points n)) ≡ map (λ p. Empty) (points n)
 idle n node h =
-    let last = or_false (has (codes "AB") node || has (codes "AW") node) (has (codes "AE") node) h in
-    let front = or_false (has (codes "AB") node) (has (codes "AW") node) last.0 in
+    let last = or_parts (has (codes "AB") node || has (codes "AW") node) (has (codes "AE") node) h in
+    let front = or_parts (has (codes "AB") node) (has (codes "AW") node) last.0 in
     sym (fill_by_all (left_at n node base) base (n * n) Empty len (λ k low. rw (nothing_at n (codes "AB") node front.0, nothing_at n (codes "AW") node front.1, nothing_at n (codes "AE") node last.1) refl))
   where
     base : List Cell
@@ -112,28 +83,13 @@ again n node c = same 0 (n * n) (omega arith)
 -- the seventh of eight tests
 seventh : (a b d e f g t u : Bool) (x1 x2 x3 x4 x5 x6 x7 x8 : ProblemFault)
     → first_fault (when a x1 ∷ when b x2 ∷ when d x3 ∷ when e x4 ∷ when f x5 ∷ when g x6 ∷ when t x7 ∷ when u x8 ∷ []) ≡ None → t ≡ false
-seventh a b d e f g false u x1 x2 x3 x4 x5 x6 x7 x8 h = refl
-seventh true b d e f g true u x1 x2 x3 x4 x5 x6 x7 x8 h = absurd (cc)
-seventh false true d e f g true u x1 x2 x3 x4 x5 x6 x7 x8 h = absurd (cc)
-seventh false false true e f g true u x1 x2 x3 x4 x5 x6 x7 x8 h = absurd (cc)
-seventh false false false true f g true u x1 x2 x3 x4 x5 x6 x7 x8 h = absurd (cc)
-seventh false false false false true g true u x1 x2 x3 x4 x5 x6 x7 x8 h = absurd (cc)
-seventh false false false false false true true u x1 x2 x3 x4 x5 x6 x7 x8 h = absurd (cc)
-seventh false false false false false false true u x1 x2 x3 x4 x5 x6 x7 x8 h = absurd (cc)
+seventh a b d e f g t u x1 x2 x3 x4 x5 x6 x7 x8 h = search rules
 
 no_mix : (n k : ℕ) (node : Node) → node_fault n k node ≡ None → (has_turn node && has_setup node) ≡ false
-no_mix n k node h = seventh
-    (has_many (codes "B") node) (has_many (codes "W") node) (has_many (codes "PL") node)
-    (list_any (λ name. is_bad n name node) (codes "AB" ∷ codes "AW" ∷ codes "AE" ∷ codes "TR" ∷ codes "SQ" ∷ []))
-    (is_bad_turn n (codes "B") node || is_bad_turn n (codes "W") node)
-    (share_point n (codes "AB") (codes "AW") node || share_point n (codes "AB") (codes "AE") node || share_point n (codes "AW") (codes "AE") node)
-    (has_turn node && has_setup node) (has (codes "B") node && has (codes "W") node)
-    (faults.ManyValues single.B k) (faults.ManyValues single.W k) (faults.ManyValues single.PL k) (faults.BadPoint k) (faults.BadPoint k) (faults.SharedPoint k) (faults.MixedNode k) (faults.BothColours k) h
+no_mix n k node h = grind (arith, nat_tests, seventh)
 
 no_turn_at : (n : ℕ) (node : Node) → has_turn node ≡ false → turn_at n node ≡ None
-no_turn_at n node h =
-    let both = or_false (has (codes "B") node) (has (codes "W") node) h in
-    ap₂ (turn_of n) (empty_nil (values_at (codes "B") node) both.0) (empty_nil (values_at (codes "W") node) both.1)
+no_turn_at n node h = search rules
 
 pub first_refused : (limit : Option ℕ) (n : ℕ) (root : Node) (c : List Cell) → c ≡ assigned n root (map (λ p. Empty) (points n))
     → first_without_liberty n (map (λ p. Empty) (points n)) ≡ None → is_none (first_without_liberty n c) ≡ false → node_fault n 0 root ≡ None

@@ -1,5 +1,5 @@
 -- The problem of a tree, by its parts.
-use Rattle.std.proofs.Common.{◌≡◌, ℕ, ◌+◌, ◌<◌, Bool, true, false, List, [], ◌∷◌, ◌++◌, length, get_or, Option, Some, None, is_some, Result, Ok, Err, IsTrue, refl, sym, ◌∙◌, ap, ap₂, arith, if◌then◌else◌, IfOk}
+use Rattle.std.proofs.Common.{◌≡◌, ℕ, ◌+◌, ◌<◌, Bool, true, false, List, [], ◌∷◌, ◌++◌, length, get_or, Option, Some, None, is_some, Result, Ok, Err, IsTrue, refl, sym, ◌∙◌, ap, ap₂, arith, if◌then◌else◌, IfOk, rules}
 use Rattle.target_game.specs.State.{GameProblem}
 use Rattle.sgf_text.specs.Trees.{Node, GameTree}
 use Rattle.sgf_text.specs.Text.{is_tree}
@@ -11,8 +11,7 @@ use Rattle.tsumego_problem.proofs.Reading.{after_mark, marked_walk}
 
 -- the nodes of a tree, and its root
 pub some_node : (nodes : List Node) (t : GameTree) → nodes ≡ t.nodes → IsTrue (is_tree t) → 0 < length nodes
-some_node [] t e h = absurd (cc)
-some_node (node ∷ nodes) t e h = omega arith
+some_node nodes t h g = search rules
 
 pub root_is : (nodes : List Node) (t : GameTree) (d : Node) → nodes ≡ t.nodes → 0 < length nodes → get_or nodes 0 d ≡ root_of t
 root_is [] t d e h = absurd (omega arith)
@@ -36,11 +35,7 @@ module _ (limit : Option ℕ) (t : GameTree) where
   no_size e f = within_by true None (problem_node t) e f refl
 
   pub no_mark : (n : ℕ) → is_go (root_of t) ≡ true → board_size (root_of t) ≡ Some n → is_some (problem_node t) ≡ false → problem_within limit t ≡ Err faults.NoProblemNode
-  no_mark n e f h = go (problem_node t) refl h
-    where
-      go : (o : Option ℕ) → problem_node t ≡ o → is_some o ≡ false → problem_within limit t ≡ Err faults.NoProblemNode
-      go None p h = within_by true (Some n) None e f p
-      go (Some k) p h = absurd (cc h)
+  no_mark n h g e = search rules
 
   -- the walk decides
   pub by_walk : (n : ℕ) → is_go (root_of t) ≡ true → board_size (root_of t) ≡ Some n → is_some (problem_node t) ≡ true → problem_within limit t ≡ after_mark limit n (walk_to_mark limit n 0 (main_line t) (opening n (root_of t)))
@@ -69,5 +64,4 @@ module _ (limit : Option ℕ) (t : GameTree) where
 
 -- what a call that makes the problem gives
 pub led_to : (r : Result GameProblem ProblemFault) (due : Result GameProblem ProblemFault) (q : GameProblem) → IfOk r (λ p. p ≡ q) → due ≡ Ok q → IfOk r (λ p. due ≡ Ok p)
-led_to (Ok p) due q made e = e ∙ ap Ok (sym made)
-led_to (Err fault) due q made e = tt
+led_to r due q h g = search rules

@@ -1,32 +1,11 @@
 -- The problem that a walk leads to: marks, and the walk up to the first of them.
-use Rattle.std.proofs.Common.{◌≡◌, ℕ, suc, ◌+◌, Bool, true, false, cond, List, [], ◌∷◌, ◌++◌, take, length, get_or, position, Option, Some, None, option_map, is_some, Result, Ok, Err, refl, sym, ◌∙◌, ap, subst, arith}
+use Rattle.std.proofs.Common.{◌≡◌, ℕ, suc, ◌+◌, Bool, true, false, cond, List, [], ◌∷◌, take, get_or, position, Option, Some, None, option_map, Result, Ok, Err, refl, sym, ◌∙◌, ap, subst, arith}
 use Rattle.target_game.specs.State.{GameProblem}
 use Rattle.sgf_text.specs.Trees.{Node}
 use Rattle.tsumego_problem.specs.Walk.{Walk, is_marked, walk_node, ◌>>=◌, walk, problem_at}
 use Rattle.tsumego_problem.specs.Walked.{walk_to_mark}
 use Rattle.tsumego_problem.specs.declared.fault.ProblemFault.{ProblemFault}
-use Rattle.tsumego_problem.proofs.FirstPlace.{behind, place_in_both, first_place}
-
--- ---- marked nodes
-
-module _ {X : Type 0} (f : X → Bool) (xs ys : List X) where
-  pub found_in_front : is_some (position f xs) ≡ true → is_some (position f (xs ++ ys)) ≡ true
-  found_in_front h = ap is_some (place_in_both f xs ys) ∙ go (position f xs) h
-    where
-      go : (o : Option ℕ) → is_some o ≡ true → is_some (behind f xs o (position f ys)) ≡ true
-      go (Some k) h = refl
-      go None h = absurd (cc)
-
-  pub found_after : is_some (position f xs) ≡ false → is_some (position f (xs ++ ys)) ≡ is_some (position f ys)
-  found_after h = ap is_some (place_in_both f xs ys) ∙ go (position f xs) h
-    where
-      back : (o : Option ℕ) → is_some (option_map (λ k. length xs + k) o) ≡ is_some o
-      back None = refl
-      back (Some k) = refl
-
-      go : (o : Option ℕ) → is_some o ≡ false → is_some (behind f xs o (position f ys)) ≡ is_some (position f ys)
-      go (Some k) h = absurd (cc)
-      go None h = back (position f ys)
+use Rattle.tsumego_problem.proofs.FirstPlace.{first_place}
 
 -- the walk up to a place is the walk up to the first mark
 module _ (limit : Option ℕ) (n : ℕ) where

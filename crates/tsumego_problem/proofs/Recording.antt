@@ -1,10 +1,11 @@
 -- The loops and steps by which a canonical record is made.
-use Rattle.std.proofs.Common.{◌≡◌, ℕ, suc, ◌+◌, ◌-◌, ◌*◌, ◌/◌, ◌%◌, ◌<◌, ◌≤◌, ltb-true, refl, sym, ◌∙◌, ap, ap₂, subst, arith, drop, get_or}
+use Rattle.std.proofs.Common.{◌≡◌, ℕ, suc, ◌+◌, ◌-◌, ◌*◌, ◌/◌, ◌%◌, ◌<◌, ◌≤◌, ltb-true, refl, sym, ◌∙◌, ap, ap₂, arith, drop, get_or}
 use Rattle.std.specs.Prelude.{Bool, true, false, not, ◌&&◌, cond, List, [], ◌∷◌, ◌++◌, map, filter, nat_lt}
 use Rattle.std.specs.List.{list_all, range_with_len, All}
 use Rattle.std.proofs.lemmas.List.{append_assoc, append-nil, map-append}
-use Rattle.std.proofs.lemmas.Bool.{lt-ltb}
+use Rattle.std.proofs.lemmas.Bool.{lt-ltb, and_parts, and_from}
 use Rattle.std.proofs.lemmas.Nat.{div-mul-add, mod-mul-add}
+use Rattle.std.proofs.lemmas.Bool.Decides.{nat_tests}
 use Rattle.go_points.specs.declared.Cell.{Cell}
 use Rattle.go_points.specs.Grid.{cell_at, same_cell}
 use Rattle.go_points.specs.declared.Turn.TheVariants.{At}
@@ -16,7 +17,6 @@ use Rattle.target_game.specs.Legal.{holds_point}
 use Rattle.target_game.proofs.Playing.{passing_more, holds_numbered}
 use Rattle.sgf_text.specs.Trees.{Node}
 use Rattle.tsumego_problem.specs.Canonical.{point_value, point_values, changes_along, history_nodes, turn_value}
-use Rattle.tsumego_problem.proofs.Points.{both_true, and_true}
 use Rattle.tsumego_problem.proofs.Rectangles.{place_back}
 
 -- ---- the values of the points that pass a test
@@ -26,10 +26,7 @@ ValuesBelow n test k values = values ≡ map (point_value n) (filter test (range
 
 values_next : (n : ℕ) (test : ℕ → Bool) (k : ℕ) (values : List (List ℕ)) → ValuesBelow n test k values
     → values ++ map (point_value n) (cond (test k) (k ∷ []) []) ≡ map (point_value n) (filter test (range_with_len 0 (k + 1)))
-values_next n test k values had =
-    ap (λ vs. vs ++ map (point_value n) (cond (test k) (k ∷ []) [])) had
-    ∙ sym (map-append (point_value n) (filter test (range_with_len 0 k)) (cond (test k) (k ∷ []) []))
-    ∙ ap (map (point_value n)) (sym (passing_more test k))
+values_next n test k values h = grind (arith, nat_tests, map-append, passing_more)
 
 pub value_hit : (n : ℕ) (test : ℕ → Bool) (k : ℕ) (values : List (List ℕ)) (p : Place) (v : List ℕ) → p ≡ place_of n k → v ≡ sgf_text p → test k ≡ true → ValuesBelow n test k values → ValuesBelow n test (k + 1) (values ++ v ∷ [])
 value_hit n test k values p v at is passed had =
@@ -49,15 +46,7 @@ abbrev pub ValuesLeft : ℕ → List (List ℕ) → List Place → List (List �
 ValuesLeft n values left whole = values ++ point_values n (map (number_of n) left) ≡ whole
 
 pub value_more : (n : ℕ) (values whole : List (List ℕ)) (old new : List Place) (p : Place) (v : List ℕ) → old ≡ p ∷ new → All (IsOn n) old → v ≡ sgf_text p → ValuesLeft n values old whole → ValuesLeft n (values ++ v ∷ []) new whole
-value_more n values whole old new p v first on is had =
-    let here : IsOn n p = subst_on in
-    append_assoc values (v ∷ []) (point_values n (map (number_of n) new))
-    ∙ ap (λ w. values ++ (w ∷ point_values n (map (number_of n) new))) (is ∙ ap sgf_text (sym (place_back n p here)))
-    ∙ sym (ap (λ ps. values ++ point_values n (map (number_of n) ps)) first)
-    ∙ had
-  where
-    subst_on : IsOn n p
-    subst_on = (subst (All (IsOn n)) first on) 0 p (omega arith)
+value_more n values whole old new p v h g e f = grind (arith, nat_tests, append_assoc, place_back)
 
 -- ---- whether a set has each point
 
@@ -90,9 +79,7 @@ pub comes_is : (x o m : Cell) (a d : Cell) (b : Bool) → b ≡ (same_cell m x &
 comes_is x o m a d b test is_old is_new = ap₂ (λ e f. same_cell f x && not (same_cell e x)) is_old is_new ∙ sym test
 
 pub letters_of : (n : ℕ) (p : Place) → IsOn n p → sgf_text p ≡ turn_value n (ply_of n (At p))
-letters_of n p on =
-    sym (ap (λ b. point_value n (cond b (number_of n p) (n * n))) (and_true (nat_lt p.row n) (nat_lt p.column n) (lt-ltb p.row n on.row_within) (lt-ltb p.column n on.column_within))
-    ∙ ap sgf_text (place_back n p on))
+letters_of n p h = grind (arith, nat_tests, and_from, lt-ltb, place_back)
 
 pub letters_past : (n : ℕ) (p : Place) → 1 ≤ n → (IsOn n p → ⊥) → 97 ∷ (97 + n) ∷ [] ≡ turn_value n (ply_of n (At p))
 letters_past n p some off =
@@ -104,4 +91,4 @@ letters_past n p some off =
 
     not_on : (b : Bool) → on_board n p ≡ b → on_board n p ≡ false
     not_on false e = e
-    not_on true e = let t = both_true (nat_lt p.row n) (nat_lt p.column n) e in absurd (off (record { row_within = ltb-true p.row n t.0; column_within = ltb-true p.column n t.1 }))
+    not_on true e = let t = and_parts (nat_lt p.row n) (nat_lt p.column n) e in absurd (off (record { row_within = ltb-true p.row n t.0; column_within = ltb-true p.column n t.1 }))

@@ -1,5 +1,5 @@
 -- Points put into sets, one by one.
-use Rattle.std.proofs.Common.{◌≡◌, ◌≢◌, ℕ, ◌⊎◌, inl, inr, ◌+◌, ◌-◌, ◌*◌, ◌/◌, ◌%◌, ◌≤◌, ◌<◌, Bool, true, false, cond, ◌&&◌, ◌||◌, nat_le, nat_eq, eq-eqb, eqb-true, List, [], ◌∷◌, ◌++◌, map-id, append-nil, append_assoc, filter, length, nat_lt, ltb-true, option_and_then, Option, Some, None, option_map, refl, sym, ◌∙◌, ap, ap₂, subst, arith}
+use Rattle.std.proofs.Common.{◌≡◌, ℕ, ◌⊎◌, inl, inr, ◌+◌, ◌*◌, ◌/◌, ◌%◌, ◌≤◌, ◌<◌, Bool, true, false, cond, ◌&&◌, ◌||◌, nat_le, List, [], ◌∷◌, ◌++◌, map-id, append-nil, append_assoc, filter, length, option_and_then, Option, Some, None, option_map, refl, sym, ◌∙◌, ap, ap₂, subst, arith, rules}
 use Rattle.std.specs.List.{range_with_len}
 use Rattle.std.proofs.lemmas.Bool.{false_from_ne_true}
 use Rattle.std.proofs.lemmas.Nat.{div-mul-add, mod-mul-add, mul-add-lt}
@@ -9,35 +9,21 @@ use Rattle.go_points.specs.Grid.{points}
 use Rattle.go_points.specs.Place.{Place, IsOn, place_of, number_of}
 use Rattle.go_points.specs.Points.{with_place}
 use Rattle.go_points.proofs.PlaceSets.{places_with}
-use Rattle.target_game.specs.Legal.{holds_point}
-use Rattle.go_points.specs.Sgf.{sgf_place, is_letter}
+use Rattle.go_points.specs.Sgf.{sgf_place}
 use Rattle.go_points.specs.declared.TheConstants.{MAX_SIZE}
-use Rattle.go_points.proofs.Lists.{and_left, and_right, some_same}
 use Rattle.std.proofs.lemmas.Bool.Decides.{nat_tests}
-use Rattle.sgf_text.specs.Bytes.{is_lower}
 use Rattle.tsumego_problem.specs.Values.{inside, point_at, points_named, rectangle}
 use Rattle.tsumego_problem.specs.Named.{points_in, Gains, Adds}
 
 or_false : (a : Bool) → (a || false) ≡ a
-or_false true = refl
-or_false false = refl
+or_false a = search rules
 
 or_true : (a : Bool) → (a || true) ≡ true
-or_true true = refl
-or_true false = refl
+or_true a = search rules
 
 -- one point more
 pub put : (n k : ℕ) (qs : List ℕ) → 0 < n → k < n * n → with_place (points_in n qs) (place_of n k) ≡ points_in n (qs ++ k ∷ [])
-put n k qs some on = sym (places_with n k (holds_point qs) (holds_point (qs ++ k ∷ [])) some others on here)
-  where
-    joined : (i : ℕ) → holds_point (qs ++ k ∷ []) i ≡ (holds_point qs i || (nat_eq i k || false))
-    joined i = list_any-append (nat_eq i) qs (k ∷ [])
-
-    others : (i : ℕ) → i ≢ k → holds_point (qs ++ k ∷ []) i ≡ holds_point qs i
-    others i other = joined i ∙ ap (λ b. holds_point qs i || (b || false)) (false_from_ne_true (nat_eq i k) (λ e. other (eqb-true i k e))) ∙ or_false (holds_point qs i)
-
-    here : holds_point (qs ++ k ∷ []) k ≡ true
-    here = joined k ∙ ap (λ b. holds_point qs k || (b || false)) (eq-eqb k k refl) ∙ or_true (holds_point qs k)
+put n k qs h g = grind (arith, nat_tests, places_with, list_any-append, false_from_ne_true, or_false, or_true)
 
 -- the place with a number, and the number of a place
 pub place_back : (n : ℕ) (p : Place) → IsOn n p → place_of n (number_of n p) ≡ p
@@ -53,9 +39,6 @@ GainedBelow n test k old new = Gains n (filter test (range_with_len 0 k)) old ne
 upto : (test : ℕ → Bool) (k : ℕ) → filter test (range_with_len 0 (k + 1)) ≡ filter test (range_with_len 0 k) ++ cond (test k) (k ∷ []) []
 upto test k = ap (filter test) (sym (map-id (range_with_len 0 (k + 1)))) ∙ filter_of_map_range_with_len_more test (λ x. x) 0 k k (omega arith) ∙ ap (λ xs. filter test xs ++ cond (test k) (k ∷ []) []) (map-id (range_with_len 0 k))
 
-pub gained_start : (n : ℕ) (test : ℕ → Bool) (old : List Place) → GainedBelow n test 0 old old
-gained_start n test old ps e = e ∙ ap (points_in n) (sym (append-nil ps))
-
 pub gained_hit : (n k : ℕ) (test : ℕ → Bool) (old mid : List Place) → 0 < n → k < n * n → test k ≡ true → GainedBelow n test k old mid → GainedBelow n test (k + 1) old (with_place mid (place_of n k))
 gained_hit n k test old mid some on passed had ps e =
     ap (λ set. with_place set (place_of n k)) (had ps e)
@@ -70,34 +53,15 @@ gained_miss n k test old mid failed had ps e =
 
 -- the test of a rectangle, by places
 pub inside_by : (n k : ℕ) (p q : Place) → IsOn n p → IsOn n q → inside n (number_of n p) (number_of n q) k ≡ (nat_le p.column (k % n) && nat_le (k % n) q.column && nat_le p.row (k / n) && nat_le (k / n) q.row)
-inside_by n k p q on_p on_q =
-    ap₂ (λ x y. nat_le x.column (k % n) && nat_le (k % n) y.column && nat_le x.row (k / n) && nat_le (k / n) y.row) (place_back n p on_p) (place_back n q on_q)
+inside_by n k p q h g = grind (arith, nat_tests, place_back)
 
 -- two letters that are a point
-letters_same : (n x y : ℕ) → n ≤ MAX_SIZE → (is_lower x && is_lower y && nat_lt (x - 97) n && nat_lt (y - 97) n) ≡ (is_letter n x && is_letter n y)
-letters_same n x y small = grind (arith, nat_tests)
-
 module _ (n : ℕ) (small : n ≤ MAX_SIZE) where
   pub named_point : (x y : ℕ) (p : Place) → sgf_place n (x ∷ y ∷ []) ≡ Some p → (point_at n x y ≡ Some (number_of n p)) × IsOn n p
-  named_point x y p e = go (is_letter n x && is_letter n y) refl e
-    where
-      go : (b : Bool) → (is_letter n x && is_letter n y) ≡ b → ◌≡◌ {A = Option Place} (cond b (Some (record { row = y - 97; column = x - 97 })) None) (Some p) → (point_at n x y ≡ Some (number_of n p)) × IsOn n p
-      go false f h = absurd (cc)
-      go true f h =
-          let same : record { row = y - 97; column = x - 97 } ≡ p = some_same _ _ h in (
-            ap (λ c. cond c (Some ((y - 97) * n + (x - 97))) None) (letters_same n x y small ∙ f) ∙ ap (λ q. Some (number_of n q)) same,
-            subst (IsOn n) same (record {
-              row_within = ltb-true (y - 97) n (and_right (nat_le 97 y) _ (and_right (is_letter n x) (is_letter n y) f));
-              column_within = ltb-true (x - 97) n (and_right (nat_le 97 x) _ (and_left (is_letter n x) (is_letter n y) f));
-            }),
-          )
+  named_point x y p h = search rules
 
   pub unnamed_point : (x y : ℕ) → sgf_place n (x ∷ y ∷ []) ≡ None → point_at n x y ≡ None
-  unnamed_point x y e = go (is_letter n x && is_letter n y) refl e
-    where
-      go : (b : Bool) → (is_letter n x && is_letter n y) ≡ b → ◌≡◌ {A = Option Place} (cond b (Some (record { row = y - 97; column = x - 97 })) None) None → point_at n x y ≡ None
-      go true f h = absurd (cc)
-      go false f h = ap (λ c. cond c (Some ((y - 97) * n + (x - 97))) None) (letters_same n x y small ∙ f)
+  unnamed_point x y h = search rules
 
   pub adds_point : (v : List ℕ) (p : Place) (old : List Place) → 1 ≤ n → length v ≡ 2 → sgf_place n v ≡ Some p → Adds n (points_named n v) true old (with_place old p)
   adds_point [] p old some two e = absurd (omega (arith, two))
@@ -114,18 +78,7 @@ module _ (n : ℕ) (small : n ≤ MAX_SIZE) where
 
   module _ (v w : List ℕ) (two_v : length v ≡ 2) (two_w : length w ≡ 2) where
     pub corners : (p q : Place) → sgf_place n v ≡ Some p → sgf_place n w ≡ Some q → points_named n (v ++ 58 ∷ w) ≡ cond (nat_le p.column q.column && nat_le p.row q.row) (Some (filter (inside n (number_of n p) (number_of n q)) (points n))) None
-    corners p q e f = by v w two_v two_w e f
-      where
-        by : (v w : List ℕ) → length v ≡ 2 → length w ≡ 2 → sgf_place n v ≡ Some p → sgf_place n w ≡ Some q → points_named n (v ++ 58 ∷ w) ≡ cond (nat_le p.column q.column && nat_le p.row q.row) (Some (filter (inside n (number_of n p) (number_of n q)) (points n))) None
-        by (a ∷ b ∷ []) (d ∷ s ∷ []) g h e f =
-            let first = named_point a b p e in let last = named_point d s q f in
-            ap₂ (λ x y. option_and_then (λ k. option_and_then (rectangle n k) y) x) first.0 last.0 ∙ cornered p q first.1 last.1
-        by [] w g h e f = absurd (omega (arith, g))
-        by (a ∷ []) w g h e f = absurd (omega (arith, g))
-        by (a ∷ b ∷ c ∷ v) w g h e f = absurd (omega (arith, g))
-        by (a ∷ b ∷ []) [] g h e f = absurd (omega (arith, h))
-        by (a ∷ b ∷ []) (d ∷ []) g h e f = absurd (omega (arith, h))
-        by (a ∷ b ∷ []) (d ∷ s ∷ t ∷ w) g h e f = absurd (omega (arith, h))
+    corners p q h g = grind (arith, nat_tests, named_point, cornered)
 
     pub no_corner : (sgf_place n v ≡ None) ⊎ (sgf_place n w ≡ None) → points_named n (v ++ 58 ∷ w) ≡ None
     no_corner e = by v w two_v two_w e
@@ -145,7 +98,4 @@ module _ (n : ℕ) (small : n ≤ MAX_SIZE) where
         by (a ∷ b ∷ []) (d ∷ s ∷ t ∷ w) g h e = absurd (omega (arith, h))
 
   pub is_on : (v : List ℕ) (p : Place) → length v ≡ 2 → sgf_place n v ≡ Some p → IsOn n p
-  is_on (a ∷ b ∷ []) p two e = (named_point a b p e).1
-  is_on [] p two e = absurd (omega (arith, two))
-  is_on (a ∷ []) p two e = absurd (omega (arith, two))
-  is_on (a ∷ b ∷ c ∷ v) p two e = absurd (omega (arith, two))
+  is_on v p h g = search rules

@@ -1,32 +1,29 @@
 -- The solution record holds the same problem, and the answer tree stands below its problem node.
-use Rattle.std.proofs.Common.{◌≡◌, ℕ, ◌+◌, ◌*◌, ◌/◌, ◌%◌, ◌≤◌, ◌<◌, refl, sym, ◌∙◌, ap, ltb-true}
-use Rattle.std.specs.Prelude.{Bool, true, false, not, ◌&&◌, ◌==◌, cond, nat_lt, codes, List, [], ◌∷◌, ◌++◌, option_map, Option, Some, None}
+use Rattle.std.proofs.Common.{◌≡◌, ℕ, ◌*◌, ◌≤◌, ◌<◌, refl, ap, rules, arith}
+use Rattle.std.specs.Prelude.{true, false, not, cond, codes, List, [], ◌∷◌, ◌++◌, Option, Some}
 use Rattle.std.specs.List.{list_all}
 use Rattle.std.specs.Str.{bytes_eq}
 use Rattle.std.proofs.lemmas.List.{append_assoc}
+use Rattle.std.proofs.lemmas.Bool.{and_parts, not-true}
+use Rattle.std.proofs.lemmas.Bool.Decides.{nat_tests}
 use Rattle.go_points.specs.declared.TheConstants.{MAX_SIZE}
 use Rattle.go_points.specs.declared.Colour.{Colour}
-use Rattle.go_points.specs.declared.Colour.TheVariants.{Black, White}
-use Rattle.go_points.specs.declared.Cell.TheVariants.{Empty}
-use Rattle.go_points.specs.Grid.{opponent_of, cell_at, same_cell}
-use Rattle.go_points.specs.Move.{after_move}
-use Rattle.go_points.specs.Ply.{Ply, pass, move, holds_ply}
-use Rattle.go_turns.specs.History.{has_occurred}
+use Rattle.go_points.specs.Grid.{opponent_of}
+use Rattle.go_points.specs.Ply.{Ply, move, holds_ply}
 use Rattle.target_game.specs.State.{GameState, GameProblem, start}
-use Rattle.target_game.specs.Legal.{legal, legal_turns, holds_point}
+use Rattle.target_game.specs.Legal.{legal, legal_turns}
 use Rattle.target_game.specs.Next.{next}
 use Rattle.target_game.specs.Answers.{AnswerTree, leaf, turn, replies, ReplyTrees, none, reply, turns_of, answers, all_answer}
 use Rattle.target_game.proofs.Winning.{answers_turn, answers_replies, all_reply, lists_the_legal}
 use Rattle.sgf_text.specs.Nodes.{values_at, is_named}
 use Rattle.sgf_text.specs.Trees.{Node, Forest, no_tree}
-use Rattle.tsumego_problem.specs.Values.{turn_in, turn_named}
+use Rattle.tsumego_problem.specs.Values.{turn_in}
 use Rattle.tsumego_problem.specs.Walk.{is_marked, main_line, line_below}
 use Rattle.tsumego_problem.specs.Walked.{StandsOn}
 use Rattle.tsumego_problem.specs.Below.{children_of, below_in, below_line, Carries, Shows, ShowsEach}
 use Rattle.tsumego_problem.specs.Canonical.{point_value, property, turn_node, past_nodes, marks, rest_of, rest_of_replies, forest_of_replies, verdict_text, solution}
 use Rattle.tsumego_problem.specs.Laws.{SolutionShows, SolutionReads}
-use Rattle.tsumego_problem.proofs.Points.{both_true, trim_two, letter_white, point_reads}
-use Rattle.tsumego_problem.proofs.Marks.{marks_are}
+use Rattle.tsumego_problem.proofs.Points.{trim_two, letter_white, point_reads}
 use Rattle.tsumego_problem.proofs.CanonicalRecord.{SaysMarks, is_problem_node, past_is_unmarked, reads_marked}
 
 -- ---- the comment of the problem node
@@ -37,18 +34,7 @@ ends_with_other name other vs [] e = rw e refl
 ends_with_other name other vs (p ∷ ps) e = ap (λ rest. cond (is_named name p) p.values rest) (ends_with_other name other vs ps e)
 
 commented : (q : GameProblem) (x : Colour) → SaysMarks q (marks q ++ property (codes "C") (verdict_text x ∷ []))
-commented q x = let m = marks_are q in
-    let other : (name : List ℕ) → bytes_eq name (codes "C") ≡ false → values_at name (marks q ++ property (codes "C") (verdict_text x ∷ [])) ≡ values_at name (marks q) = (λ name e. ends_with_other name (codes "C") (verdict_text x ∷ []) (marks q) e) in
-    record {
-      black = other (codes "AB") refl ∙ m.black;
-      white = other (codes "AW") refl ∙ m.white;
-      empty = other (codes "AE") refl ∙ m.empty;
-      b = other (codes "B") refl ∙ m.b;
-      w = other (codes "W") refl ∙ m.w;
-      pl = other (codes "PL") refl ∙ m.pl;
-      tr = other (codes "TR") refl ∙ m.tr;
-      sq = other (codes "SQ") refl ∙ m.sq;
-    }
+commented q x = search rules
 
 -- ---- what stands below the first marked node
 
@@ -56,43 +42,27 @@ below_past : (past : List Node) (node : Node) (nodes : List Node) (children : Fo
     → below_in (past ++ node ∷ nodes) children deeper ≡ Some (children_of nodes children)
 below_past [] node nodes children deeper h g = rw g refl
 below_past (m ∷ ms) node nodes children deeper h g =
-    let b = both_true (not (is_marked m)) (list_all (λ m. not (is_marked m)) ms) h in
-    let e : is_marked m ≡ false = no_mark (is_marked m) b.0 in
+    let b = and_parts (not (is_marked m)) (list_all (λ m. not (is_marked m)) ms) h in
+    let e : is_marked m ≡ false = not-true (is_marked m) b.0 in
     rw e (below_past ms node nodes children deeper b.1 g)
-  where
-    no_mark : (b : Bool) → not b ≡ true → b ≡ false
-    no_mark true h = absurd cc
-    no_mark false h = refl
 
 -- ---- turns and their nodes
 
 module _ (n : ℕ) (low : 1 ≤ n) (high : n ≤ MAX_SIZE) where
   move_reads : (p : ℕ) → p < n * n → turn_in n (point_value n p) ≡ Some (move p)
-  move_reads p h =
-      ap (turn_named n) (trim_two (97 + p % n) (97 + p / n) (letter_white (p % n)) (letter_white (p / n)))
-      ∙ ap (λ (o : Option ℕ). elim o [ Some k ↦ Some (move k) | None ↦ cond ((97 + p % n) == 116 && (97 + p / n) == 116) (Some pass) None ]) (point_reads n low high p h)
+  move_reads p h = grind (arith, nat_tests, trim_two, letter_white, point_reads)
 
   carried : (k : Colour) (t : Ply) → StandsOn n t → Carries n k (turn_node n k t) t
-  carried Black pass on = (refl, refl, refl)
-  carried White pass on = (refl, refl, refl)
-  carried Black (move p) on = (refl, ap (option_map (λ t. (Black, t))) (move_reads p on), refl)
-  carried White (move p) on = (refl, ap (option_map (λ t. (White, t))) (move_reads p on), refl)
+  carried k t h = grind (arith, nat_tests, move_reads)
 
   legal_stands : (s : GameState) (t : Ply) → s.game.size ≡ n → legal s t ≡ true → StandsOn n t
-  legal_stands s pass same h = tt
-  legal_stands s (move p) same h =
-      let a = both_true (nat_lt p (s.game.size * s.game.size) && holds_point s.game.region p && same_cell (cell_at s.colouring p) Empty) (not (has_occurred s.history (after_move s.game.size s.colouring s.mover p))) h in
-      let b = both_true (nat_lt p (s.game.size * s.game.size) && holds_point s.game.region p) (same_cell (cell_at s.colouring p) Empty) a.0 in
-      let d = both_true (nat_lt p (s.game.size * s.game.size)) (holds_point s.game.region p) b.0 in
-      ltb-true p (n * n) (ap (λ m. nat_lt p (m * m)) (sym same) ∙ d.0)
+  legal_stands s t h g = search rules
 
   next_size : (s : GameState) (t : Ply) → s.game.size ≡ n → (next s t).game.size ≡ n
-  next_size s pass h = h
-  next_size s (move p) h = h
+  next_size s t h = search rules
 
   next_mover : (s : GameState) (t : Ply) (k : Colour) → s.mover ≡ k → (next s t).mover ≡ opponent_of k
-  next_mover s pass k h = ap opponent_of h
-  next_mover s (move p) k h = ap opponent_of h
+  next_mover s t k h = search rules
 
   mutual
     shown : (x k : Colour) (s : GameState) (a : AnswerTree) → s.game.size ≡ n → s.mover ≡ k → answers x s a ≡ true → Shows n k a (children_of (rest_of n k a).0 (rest_of n k a).1)
@@ -103,18 +73,18 @@ module _ (n : ℕ) (low : 1 ≤ n) (high : n ≤ MAX_SIZE) where
         (turn_node n k t, r.0, r.1, refl, carried k t (legal_stands s t same is), shown x (opponent_of k) (next s t) a (next_size s t same) (next_mover s t k turn_of) rest)
     shown x k s (replies rs) same turn_of h =
         let (open_, theirs, plies, rest) = answers_replies x s rs h in
-        shown_replies x k s rs same turn_of (both_true (list_all (holds_ply (legal_turns s)) (turns_of rs)) (list_all (holds_ply (turns_of rs)) (legal_turns s)) plies).0 rest
+        shown_replies x k s rs same turn_of (and_parts (list_all (holds_ply (legal_turns s)) (turns_of rs)) (list_all (holds_ply (turns_of rs)) (legal_turns s)) plies).0 rest
 
     shown_replies : (x k : Colour) (s : GameState) (rs : ReplyTrees) → s.game.size ≡ n → s.mover ≡ k → list_all (holds_ply (legal_turns s)) (turns_of rs) ≡ true → all_answer x s rs ≡ true
         → ShowsEach n k rs (children_of (rest_of_replies n k rs).0 (rest_of_replies n k rs).1)
     shown_replies x k s none same turn_of legal_ h = refl
     shown_replies x k s (reply t a none) same turn_of legal_ h =
         let r = rest_of n (opponent_of k) a in
-        let l = both_true (holds_ply (legal_turns s) t) true legal_ in
+        let l = and_parts (holds_ply (legal_turns s) t) true legal_ in
         (turn_node n k t, r.0, r.1, no_tree, refl, carried k t (legal_stands s t same ((lists_the_legal s t).0 l.0)), shown x (opponent_of k) (next s t) a (next_size s t same) (next_mover s t k turn_of) (all_reply x s t a none h).0, refl)
     shown_replies x k s (reply t a (reply u b rs)) same turn_of legal_ h =
         let r = rest_of n (opponent_of k) a in
-        let l = both_true (holds_ply (legal_turns s) t) (list_all (holds_ply (legal_turns s)) (turns_of (reply u b rs))) legal_ in
+        let l = and_parts (holds_ply (legal_turns s) t) (list_all (holds_ply (legal_turns s)) (turns_of (reply u b rs))) legal_ in
         let each = all_reply x s t a (reply u b rs) h in
         (turn_node n k t, r.0, r.1, forest_of_replies n k (reply u b rs), refl, carried k t (legal_stands s t same ((lists_the_legal s t).0 l.0)), shown x (opponent_of k) (next s t) a (next_size s t same) (next_mover s t k turn_of) each.0, shown_forest x k s (reply u b rs) same turn_of l.1 each.1)
 
@@ -122,7 +92,7 @@ module _ (n : ℕ) (low : 1 ≤ n) (high : n ≤ MAX_SIZE) where
     shown_forest x k s none same turn_of legal_ h = refl
     shown_forest x k s (reply t a rs) same turn_of legal_ h =
         let r = rest_of n (opponent_of k) a in
-        let l = both_true (holds_ply (legal_turns s) t) (list_all (holds_ply (legal_turns s)) (turns_of rs)) legal_ in
+        let l = and_parts (holds_ply (legal_turns s) t) (list_all (holds_ply (legal_turns s)) (turns_of rs)) legal_ in
         let each = all_reply x s t a rs h in
         (turn_node n k t, r.0, r.1, forest_of_replies n k rs, refl, carried k t (legal_stands s t same ((lists_the_legal s t).0 l.0)), shown x (opponent_of k) (next s t) a (next_size s t same) (next_mover s t k turn_of) each.0, shown_forest x k s rs same turn_of l.1 each.1)
 

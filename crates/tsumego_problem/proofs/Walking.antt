@@ -1,7 +1,8 @@
 -- The walk, one node after another.
-use Rattle.std.proofs.Common.{◌≡◌, ◌≢◌, ℕ, suc, ◌+◌, ◌<◌, Bool, true, false, cond, not, ◌&&◌, List, [], ◌∷◌, ◌++◌, drop, map, length, get_or, Option, Some, None, Result, Ok, Err, sym, ◌∙◌, ap, arith}
+use Rattle.std.proofs.Common.{◌≡◌, ◌≢◌, ℕ, suc, ◌+◌, ◌<◌, Bool, true, false, cond, List, ◌∷◌, ◌++◌, drop, map, length, get_or, Option, Some, None, Result, Ok, Err, sym, ◌∙◌, ap, arith}
 use Rattle.std.specs.List.{list_all}
-use Rattle.std.proofs.Math.Seq.{drop-cons, drop-length}
+use Rattle.std.proofs.Math.Seq.{drop-cons}
+use Rattle.std.proofs.lemmas.Bool.Decides.{nat_tests}
 use Rattle.go_points.specs.declared.Cell.{Cell}
 use Rattle.go_points.specs.declared.Cell.TheVariants.{Empty}
 use Rattle.go_points.specs.Grid.{cell_at, same_cell}
@@ -18,15 +19,7 @@ use Rattle.tsumego_problem.specs.declared.fault.ProblemFault.TheVariants as faul
 -- stones of one colour, by the first of them
 pub targets_hold : (n : ℕ) (c : List Cell) (ps : List Place) (p : Place) (cell : Cell) (b : Bool) → first_place ps ≡ Some p → cell ≡ cell_at c (number_of n p) → same_cell cell Empty ≡ false
     → b ≡ list_all (λ q. same_cell (cell_at c (number_of n q)) cell) ps → b ≡ are_targets c (map (number_of n) ps)
-targets_hold n c [] p cell b first at stone all = absurd (cc)
-targets_hold n c (q ∷ qs) p cell b first at stone all =
-    let same : q ≡ p = cc first in
-    let here : cell ≡ cell_at c (number_of n q) = at ∙ ap (λ x. cell_at c (number_of n x)) (sym same) in
-    all
-    ∙ ap (λ x. same_cell (cell_at c (number_of n q)) x && list_all (λ r. same_cell (cell_at c (number_of n r)) x) qs) here
-    ∙ ap (λ t. t && list_all (λ r. same_cell (cell_at c (number_of n r)) (cell_at c (number_of n q))) qs) (same_cell_refl (cell_at c (number_of n q)))
-    ∙ sym (map_all (number_of n) (λ x. same_cell (cell_at c x) (cell_at c (number_of n q))) qs)
-    ∙ ap (λ t. not t && list_all (λ x. same_cell (cell_at c x) (cell_at c (number_of n q))) (map (number_of n) qs)) (sym (ap (λ x. same_cell x Empty) (sym here) ∙ stone))
+targets_hold n c ps p cell b h g e f = grind (arith, nat_tests, same_cell_refl, map_all)
 
 module _ (limit : Option ℕ) (n k : ℕ) (node : Node) (w v : Walk) where
   -- a node that does something
@@ -52,24 +45,10 @@ module _ (limit : Option ℕ) (n first : ℕ) (nodes rest : List Node) (i : ℕ)
   step = sym (ap (λ xs. walk_to_mark limit n (first + i) xs w) here) ∙ had
 
   pub step_on : (v : Walk) → walk_node limit n (first + i) node w ≡ Ok v → is_marked node ≡ false → walk_to_mark limit n (first + (i + 1)) (left_of nodes rest (i + 1)) v ≡ whole
-  step_on v does plain =
-      let sum : first + (i + 1) ≡ first + i + 1 = omega arith in
-      ap (λ k. walk_to_mark limit n k (left_of nodes rest (i + 1)) v) sum
-      ∙ ap (λ b. cond b (Ok (node, v)) (walk_to_mark limit n (first + i + 1) (left_of nodes rest (i + 1)) v)) (sym plain)
-      ∙ ap (λ r. r >>= (λ v. cond (is_marked node) (Ok (node, v)) (walk_to_mark limit n (first + i + 1) (left_of nodes rest (i + 1)) v))) (sym does)
-      ∙ step
+  step_on v h g = grind (arith, nat_tests, step)
 
   pub step_marked : (v : Walk) → walk_node limit n (first + i) node w ≡ Ok v → is_marked node ≡ true → whole ≡ Ok (node, v)
-  step_marked v does marked =
-      sym step
-      ∙ ap (λ r. r >>= (λ v. cond (is_marked node) (Ok (node, v)) (walk_to_mark limit n (first + i + 1) (left_of nodes rest (i + 1)) v))) does
-      ∙ ap (λ b. cond b (Ok (node, v)) (walk_to_mark limit n (first + i + 1) (left_of nodes rest (i + 1)) v)) marked
+  step_marked v h g = grind (arith, nat_tests, step)
 
   pub step_fault : (fault : ProblemFault) → (fault ≢ faults.Memory → walk_node limit n (first + i) node w ≡ Err fault) → fault ≢ faults.Memory → whole ≡ Err fault
-  step_fault fault refuses other =
-      sym step ∙ ap (λ r. r >>= (λ v. cond (is_marked node) (Ok (node, v)) (walk_to_mark limit n (first + i + 1) (left_of nodes rest (i + 1)) v))) (refuses other)
-
-pub step_end : (limit : Option ℕ) (n first : ℕ) (nodes rest : List Node) (i : ℕ) (w : Walk) (whole : Result (Node × Walk) ProblemFault) → i ≡ length nodes
-    → walk_to_mark limit n (first + i) (left_of nodes rest i) w ≡ whole → walk_to_mark limit n (first + length nodes) rest w ≡ whole
-step_end limit n first nodes rest i w whole end had =
-    sym (ap (λ k. walk_to_mark limit n (first + k) (left_of nodes rest k) w) end ∙ ap (λ xs. walk_to_mark limit n (first + length nodes) (xs ++ rest) w) (drop-length nodes)) ∙ had
+  step_fault fault h g = grind (arith, nat_tests, step)

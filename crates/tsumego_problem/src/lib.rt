@@ -2,8 +2,6 @@
 #![tactic(auto)]
 
 mod canonical;
-#[cfg(test)]
-mod canonical_tests;
 pub mod fault;
 pub mod laws;
 mod main_line;
@@ -13,14 +11,12 @@ mod node_fault;
 mod read;
 mod setup_nodes;
 mod sizes;
-#[cfg(test)]
-mod tests;
 mod values;
 mod walk;
 
 pub use canonical::{marks_node, marks_with_winner, past_nodes, problem_tree, turn_node};
 pub use fault::{ProblemFault, SingleProperty, TurnFaultCause};
-pub use main_line::{first_marked, has_setup, problem_node, values_at};
+pub use main_line::{Mark, first_marked, has_setup, locate, problem_node, values_at};
 pub use named_points::{all_points, points_at};
 pub use node_change::{assigned, turn_at};
 pub use read::{board_size, history_of, read_problem};

@@ -1,7 +1,10 @@
 //! The main line of a tree, and what its nodes hold.
 
-ghost use Rattle.std.specs.Prelude.{◌≡◌, option_and_then, position};
+ghost use Rattle.std.specs.Prelude.{◌≡◌, ◌+◌, IfSome, IsTrue, Some, is_some, option_and_then, position};
 ghost use Rattle.sgf_text.specs.Nodes.{values_at};
+ghost use Rattle.sgf_text.specs.Text.{is_forest};
+ghost use Rattle.sgf_text.specs.Trees.{forest_of};
+ghost use Rattle.tsumego_problem.specs.Below.{below_problem, children_of};
 ghost use Rattle.tsumego_problem.specs.Walk.{has, has_setup, has_turn, is_marked, problem_node, usize_of};
 
 use sgf_text::{Bytes, SgfNode, Tree};
@@ -53,24 +56,53 @@ pub fn first_marked(nodes: &[SgfNode]) -> Option<usize>
     nodes.iter().position(|node| is_marked(node))
 }
 
+/// A problem node in its place.
+#[derive(Clone, Copy)]
+pub struct Mark<'a> {
+    /// Its number on the main line; `None` where that is past the greatest `usize`.
+    pub number: Option<usize>,
+    /// The nodes after it in its sequence.
+    pub nodes: &'a [SgfNode],
+    /// The child trees of that sequence.
+    pub children: &'a [Tree],
+}
+
+/// A number, where a `usize` holds it, and so many more.
+fn add(number: Option<usize>, more: usize) -> Option<usize>
+    ensures { result ≡ option_and_then (λ n. usize_of (n + more)) number }
+{
+    number?.checked_add(more)
+}
+
+/// The problem node, the first node of the main line that has TR or SQ. `None` where there is none.
+pub fn locate<'a>(tree: &'a Tree) -> Option<Mark<'a>>
+    ensures found { is_some result ≡ is_some (problem_node tree.now) }
+    ensures number { IfSome result (λ m. m.number ≡ option_and_then usize_of (problem_node tree.now)) }
+    ensures below { IfSome result (λ m. below_problem tree.now ≡ Some (children_of m.nodes.now (forest_of m.children.now))) }
+    ensures forest { IfSome result (λ m. IsTrue (is_forest (forest_of m.children.now))) }
+{
+    let mut part = tree;
+    let mut before = Some(0);
+    loop {
+        let nodes = part.nodes();
+        let children = part.children();
+        if let Some(at) = first_marked(nodes) {
+            let number = add(before, at);
+            let nodes = &nodes[at + 1..];
+            return Some(Mark {
+                number,
+                nodes,
+                children,
+            });
+        }
+        before = add(before, nodes.len());
+        part = children.first()?;
+    }
+}
+
 /// The number of the problem node: of the first node of the main line that has TR or SQ. `None` where there is none, or where its number is past the greatest `usize`.
 pub fn problem_node(tree: &Tree) -> Option<usize>
     ensures { result ≡ option_and_then usize_of (problem_node tree.now) }
 {
-    let mut part = tree;
-    let mut before: usize = 0;
-    loop {
-        let nodes = part.nodes();
-        if let Some(at) = first_marked(nodes) {
-            return before.checked_add(at);
-        }
-        let Some(count) = before.checked_add(nodes.len()) else {
-            return None;
-        };
-        before = count;
-        let Some(child) = part.children().first() else {
-            return None;
-        };
-        part = child;
-    }
+    locate(tree)?.number
 }

@@ -15,11 +15,9 @@ use crate::main_line::{has_setup, values_at};
 use crate::named_points::points_at;
 use crate::values::{read_colour, read_turn};
 use go_points::{Cell, Colour, Colouring, Point, PointSet, Size, Turn};
-use go_turns::{PlayBoard, PlaySeen, Record, TurnFault};
+use go_turns::{PlayRecord, TurnFault};
 use sgf_text::SgfNode;
 use std::alloc::{AllocError, Global};
-
-pub(crate) type PlayRecord = Record<PlayBoard, PlaySeen>;
 
 /// The turn of a node, and whose it is: the first value of B, else of W (SGF FF[4], "Move properties"). `None` where the node has neither, or the value is no turn of a board of this size.
 pub fn turn_at(size: Size, node: &SgfNode) -> Option<(Colour, Turn)>

@@ -1,23 +1,23 @@
 //! The problem of a tree.
 
-ghost use Rattle.std.specs.Prelude.{◌≡◌, IfOk, IfErr, is_some, map, Some, Ok};
+ghost use Rattle.std.specs.Prelude.{◌≡◌, IfOk, IfErr, map, Some, Ok};
 ghost use Rattle.std.specs.List.{All};
 ghost use Rattle.go_points.specs.declared.Colour.TheVariants.{Black};
 ghost use Rattle.go_points.specs.Place.{IsOn, number_of};
 ghost use Rattle.tsumego_problem.specs.declared.fault.ProblemFault.TheVariants.{Memory};
-ghost use Rattle.tsumego_problem.specs.Walk.{is_go, board_size, problem_node, region_at, problem_at, problem_within, walk_node, opening, history_limit};
+ghost use Rattle.tsumego_problem.specs.Walk.{is_go, board_size, region_at, problem_at, problem_within, walk_node, opening, history_limit};
 ghost use Rattle.tsumego_problem.specs.Walked.{walk_of, IsHistory, HasReached, IsRefusal};
 
 use crate::fault::ProblemFault;
-use crate::main_line::{first_marked, has, values_at};
+use crate::main_line::{has, locate, values_at};
 use crate::named_points::{all_points, points_at};
-use crate::node_change::{PlayRecord, assigned};
+use crate::node_change::assigned;
 use crate::node_fault::node_fault;
 use crate::sizes::read_size;
 use crate::values::trim;
 use crate::walk::walk_line;
 use go_points::{Colour, Colouring, PointSet, Size};
-use go_turns::{Board, PlayBoard, Record, Seen, TurnFault};
+use go_turns::{Board, PlayBoard, PlayRecord, Record, Seen, TurnFault};
 use sgf_text::{SgfNode, Tree};
 use std::alloc::{AllocError, Global};
 use target_game::Problem;
@@ -44,22 +44,6 @@ pub fn board_size(root: &SgfNode) -> Option<Size>
         [] => Size::new(DEFAULT_SIZE),
         [value] => read_size(value.as_slice()),
         _ => None,
-    }
-}
-
-/// Whether a node of the main line is marked.
-fn has_problem_node(tree: &Tree) -> bool
-    ensures { result ≡ is_some (problem_node tree.now) }
-{
-    let mut part = tree;
-    loop {
-        if first_marked(part.nodes()).is_some() {
-            return true;
-        }
-        let Some(child) = part.children().first() else {
-            return false;
-        };
-        part = child;
     }
 }
 
@@ -144,7 +128,7 @@ pub fn read_problem(alloc: Global, tree: &Tree) -> Result<Problem, ProblemFault>
     let Some(size) = board_size(root) else {
         return Err(ProblemFault::Size);
     };
-    if !has_problem_node(tree) {
+    if locate(tree).is_none() {
         return Err(ProblemFault::NoProblemNode);
     }
     let mut played = match open(alloc, size, root) {

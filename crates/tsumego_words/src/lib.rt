@@ -4,6 +4,3 @@
 mod command_line;
 
 pub use command_line::{Command, NoCommand, read_command};
-
-#[cfg(test)]
-mod tests;

@@ -2,5 +2,5 @@ use Rattle.go_turns.specs.History.{has_occurred}
 use Rattle.target_game.proofs.Loops.{AllAfter}
 use Rattle.cert_check.proofs.listed.all_found.Given as goal
 
-abbrev pub invariant-loop-colouring : goal.invariant-loop-colouring
-invariant-loop-colouring l = AllAfter (has_occurred l.list) l.few l.colouring-index
+abbrev pub invariant-loop-index : goal.invariant-loop-index
+invariant-loop-index l = AllAfter (has_occurred l.list) l.few l.index

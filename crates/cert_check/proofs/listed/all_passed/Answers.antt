@@ -1,22 +1,26 @@
-use Rattle.std.proofs.Common.{rules, ◌<◌, ◌+◌, ℕ, length, sym, ◌∙◌, subst}
+use Rattle.std.proofs.Common.{rules, ◌+◌, ℕ, nat_eq, sym, ap, ◌∙◌, subst}
+use Rattle.std.proofs.lemmas.Option.{slice_get_within, get_or_from_slice_get}
 use Rattle.cert_check.proofs.Ascending.{PassLeft, left_found, left_other, left_done}
 use Rattle.cert_check.proofs.listed.all_passed.Goals as goal
 use Rattle.cert_check.proofs.listed.all_passed.Goals.{then-eq, else-eq}
 
-pub loop-listed-preserved : goal.loop-listed-preserved
-loop-listed-preserved c =
+pub loop-index-preserved : goal.loop-index-preserved
+loop-index-preserved c =
     let few = c.args.few.now in
     let list = c.args.list.now in
-    let wanted = c.loop-listed.wanted in
-    let i = c.loop-listed.listed-index in
-    let y = c.index-few-wanted.result in
-    let x = c.listed-item.result in
-    let h = c.loop-listed.invariant in
-    let less : wanted < length few = search rules in
+    let wanted = c.loop-index.wanted in
+    let i = c.loop-index.index in
+    let y = c.at.result in
+    let x = c.at-in-loop-index.result in
+    let h = c.loop-index.invariant in
+    let less = slice_get_within few wanted y c.at.ensures in
+    let low = slice_get_within list i x c.at-in-loop-index.ensures in
+    let first = get_or_from_slice_get few wanted y y c.at.ensures in
+    let second = get_or_from_slice_get list i x x c.at-in-loop-index.ensures in
     elim c.if-eq.branch [
-      | then-eq w ↦ subst (λ (k : ℕ). PassLeft few list k (i + 1)) (sym w.wanted-is) (left_found few list wanted i y x (search rules) (sym c.listed-item.is) c.requires.few c.requires.list less (sym c.index-few-wanted.is) (sym c.eq.ensures ∙ w.if-eq.true) h)
-      | else-eq w ↦ subst (λ (k : ℕ). PassLeft few list k (i + 1)) (sym w.wanted-is) (left_other few list wanted i y x (search rules) (sym c.listed-item.is) c.requires.few c.requires.list less (sym c.index-few-wanted.is) (sym c.eq.ensures ∙ w.if-eq.false) h)
+      | then-eq w ↦ subst (λ (k : ℕ). PassLeft few list k (i + 1)) (sym w.wanted-is) (left_found few list wanted i y x low second c.requires.few c.requires.list less first (sym c.eq.ensures ∙ w.if-eq.true) h)
+      | else-eq w ↦ subst (λ (k : ℕ). PassLeft few list k (i + 1)) (sym w.wanted-is) (left_other few list wanted i y x low second c.requires.few c.requires.list less first (sym c.eq.ensures ∙ w.if-eq.false) h)
     ]
 
 pub returns : goal.returns
-returns c = left_done c.args.few.now c.args.list.now c.loop-listed.wanted c.loop-listed.listed-index (search rules) c.loop-listed.invariant
+returns c = ap (nat_eq c.loop-index.wanted) c.len-2.ensures ∙ left_done c.args.few.now c.args.list.now c.loop-index.wanted c.loop-index.index (search rules) c.loop-index.invariant

@@ -1,11 +1,14 @@
-use Rattle.std.proofs.Common.{◌≡◌, Some, option_map, suc, length, reverse, sym, ap, subst}
+use Rattle.std.proofs.Common.{◌≡◌, ◌∷◌, Option, Some, option_map, suc, length, reverse, sym, ap, ◌∙◌, subst}
+use Rattle.go_points.specs.declared.Turn.{Turn}
+use Rattle.go_points.specs.Ply.{ply_of}
 use Rattle.target_game.specs.State.{Line}
-use Rattle.cert_check.specs.Body.{all_fault}
+use Rattle.target_game.specs.Left.{Takes, turns_due}
+use Rattle.target_game.proofs.Due.{turns_begun}
+use Rattle.cert_check.specs.Body.{all_fault, due_replies}
 use Rattle.cert_check.specs.Stage.{why_value}
 use Rattle.cert_check.specs.Machine.{owing}
 use Rattle.cert_check.specs.Inside.{reply_at, owed_by}
 use Rattle.cert_check.proofs.Replies.{fault_said}
-use Rattle.cert_check.proofs.Steps.{due_begun}
 use Rattle.cert_check.proofs.open_nodes.take_all.Goals as goal
 
 pub returns-in-Some-clause-err : goal.returns-in-Some-clause-err
@@ -14,4 +17,9 @@ returns-in-Some-clause-err c =
     fault_said c.args.state.now.state.game.size c.all_fault.result c.in-Some.why (all_fault c.args.body.now c.args.state.now.state c.args.replies) asked c.in-Some.is
 
 pub returns-clause-due : goal.returns-clause-due
-returns-clause-due c = ap (λ ts. reply_at (owing (suc (length c.args.state.now.before)) c.args.state.now.state ts (owed_by c.args.state.now.before (reverse c.args.open_nodes.now.items)))) (sym (due_begun c.args.state.now.state))
+returns-clause-due c =
+    let s = c.args.state.now.state in
+    let n = c.next_left.new.left.next in
+    let taken = subst (λ (o : Option Turn). Takes s c.all-left.result.next (option_map (ply_of s.game.size) o) n) c.in-Some-next_left.is (subst (λ (l : Line). Takes l.state c.all-left.result.next (option_map (ply_of l.state.game.size) c.next_left.result) n) c.play-2.ensures c.next_left.ensures) in
+    let due : ply_of s.game.size c.in-Some-next_left.due ∷ turns_due s n ≡ due_replies s = sym taken.0 ∙ ap (turns_due s) c.all-left.ensures ∙ turns_begun s in
+    ap (λ ts. reply_at (owing (suc (length c.args.state.now.before)) s ts (owed_by c.args.state.now.before (reverse c.args.open_nodes.now.items)))) due

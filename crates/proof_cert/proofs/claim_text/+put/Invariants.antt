@@ -2,7 +2,7 @@ use Rattle.std.proofs.Common.{drop}
 use Rattle.proof_cert.specs.Lines.{branch_lines}
 use Rattle.proof_cert.specs.Certificate.{replies_of}
 use Rattle.proof_cert.specs.Taken.{lines_text}
-use Rattle.proof_cert.proofs.Takings.{SoFar}
+use Rattle.byte_writer.proofs.TakenLemmas.{SoFar}
 use Rattle.proof_cert.proofs.Spellings.{AreSpelled}
 use Rattle.proof_cert.proofs.claim_text.+put.Given as goal
 
@@ -10,4 +10,4 @@ abbrev pub invariant-put_replies-loop-turn : goal.invariant-put_replies-loop-tur
 invariant-put_replies-loop-turn g l =
     AreSpelled l.size (branch_lines (replies_of l.size l.replies))
     → AreSpelled l.size (branch_lines (replies_of l.size (drop l.turn-index l.replies)))
-    × SoFar (g.W.Write.contents l.initial.writer) (g.W.Write.contents l.writer) l.initial.held.items l.held.items (lines_text l.size (branch_lines (replies_of l.size l.replies))) (lines_text l.size (branch_lines (replies_of l.size (drop l.turn-index l.replies))))
+    × SoFar (g.W.Write.contents l.initial.writer) (g.W.Write.contents l.writer) l.initial.pending l.pending (lines_text l.size (branch_lines (replies_of l.size l.replies))) (lines_text l.size (branch_lines (replies_of l.size (drop l.turn-index l.replies))))

@@ -2,8 +2,8 @@ use Rattle.std.proofs.Common.{drop, map}
 use Rattle.proof_cert.specs.Lines.{had_spelled}
 use Rattle.proof_cert.specs.Stage.{version_number}
 use Rattle.proof_cert.specs.Taken.{lines_text}
-use Rattle.proof_cert.proofs.Takings.{SoFar}
+use Rattle.byte_writer.proofs.TakenLemmas.{SoFar}
 use Rattle.proof_cert.proofs.claim_text.put_all_had.Given as goal
 
 abbrev pub invariant-loop-colouring : goal.invariant-loop-colouring
-invariant-loop-colouring g l = SoFar (g.W.Write.contents l.initial.writer) (g.W.Write.contents l.writer) l.initial.held.items l.held.items (lines_text l.size (map (had_spelled (version_number l.version)) l.had)) (lines_text l.size (map (had_spelled (version_number l.version)) (drop l.colouring-index l.had)))
+invariant-loop-colouring g l = SoFar (g.W.Write.contents l.initial.writer) (g.W.Write.contents l.writer) l.initial.pending l.pending (lines_text l.size (map (had_spelled (version_number l.version)) l.had)) (lines_text l.size (map (had_spelled (version_number l.version)) (drop l.colouring-index l.had)))

@@ -3,19 +3,9 @@ use Rattle.proof_cert.specs.Lines.{lemma_lines, lemmas_lines}
 use Rattle.proof_cert.specs.Stage.{version_number}
 use Rattle.proof_cert.specs.Certificate.{lemma_of}
 use Rattle.proof_cert.specs.Taken.{lines_text}
-use Rattle.proof_cert.proofs.Takings.{part_put, part_cut, renamed}
+use Rattle.byte_writer.proofs.TakenLemmas.{part_put}
 use Rattle.proof_cert.proofs.Spellings.{lemmas_text, lemmas_spelled, spelled_rest}
 use Rattle.proof_cert.proofs.claim_text.put_lemmas.Goals as goal
-
-pub returns-in_err-put_lemma-clause-cut : goal.returns-in_err-put_lemma-clause-cut
-returns-in_err-put_lemma-clause-cut g c =
-    let v = version_number c.args.version in
-    let n = c.args.size in
-    let ls = c.args.lemmas.now in
-    let i = c.loop-lemma.lemma-index in
-    let whole = lines_text n (lemmas_lines v (map (lemma_of n) ls)) in
-    part_cut _ _ c.args.held.now.items c.loop-lemma.held.items whole (lines_text n (lemma_lines v (lemma_of n c.lemma-item.result))) (lines_text n (lemmas_lines v (map (lemma_of n) (drop (i + 1) ls))))
-    (renamed _ _ c.args.held.now.items c.loop-lemma.held.items whole _ _ (lemmas_text v n ls i c.lemma-item.result (omega arith) c.lemma-item.is) c.loop-lemma.invariant.so_far) c.from_residual.result _ c.in_err-put_lemma.ensures.cut
 
 pub loop-lemma-preserved : goal.loop-lemma-preserved
 loop-lemma-preserved g c =
@@ -23,9 +13,8 @@ loop-lemma-preserved g c =
     let n = c.args.size in
     let ls = c.args.lemmas.now in
     let i = c.loop-lemma.lemma-index in
-    let whole = lines_text n (lemmas_lines v (map (lemma_of n) ls)) in
     record {
       spelled = spelled_rest n (lemma_lines v (lemma_of n c.lemma-item.result)) (lemmas_lines v (map (lemma_of n) (drop (i + 1) ls))) (lemmas_spelled v n ls i c.lemma-item.result (omega arith) c.lemma-item.is c.loop-lemma.invariant.spelled);
-      so_far = part_put _ _ c.args.held.now.items c.loop-lemma.held.items whole (lines_text n (lemma_lines v (lemma_of n c.lemma-item.result))) (lines_text n (lemmas_lines v (map (lemma_of n) (drop (i + 1) ls))))
-          (renamed _ _ c.args.held.now.items c.loop-lemma.held.items whole _ _ (lemmas_text v n ls i c.lemma-item.result (omega arith) c.lemma-item.is) c.loop-lemma.invariant.so_far) _ c.put_lemma.new.held.items c.in_ok-put_lemma.ensures.put;
+      so_far = part_put _ _ c.args.pending.now c.loop-lemma.pending (lines_text n (lemmas_lines v (map (lemma_of n) ls))) (lines_text n (lemmas_lines v (map (lemma_of n) (drop i ls)))) c.loop-lemma.invariant.so_far
+          (lines_text n (lemma_lines v (lemma_of n c.lemma-item.result))) (lines_text n (lemmas_lines v (map (lemma_of n) (drop (i + 1) ls)))) (lemmas_text v n ls i c.lemma-item.result (omega arith) c.lemma-item.is) c.put_lemma.ensures;
     }

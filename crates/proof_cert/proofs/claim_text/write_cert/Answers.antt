@@ -5,7 +5,8 @@ use Rattle.std.specs.Io.KnownBytes.{Appends}
 use Rattle.proof_cert.specs.Lines.{lines_of}
 use Rattle.proof_cert.specs.Text.{is_spelled, text}
 use Rattle.proof_cert.specs.Certificate.{claim_of}
-use Rattle.proof_cert.specs.Taken.{TakesPart, lines_text}
+use Rattle.byte_writer.specs.Taken.{TakesPart}
+use Rattle.proof_cert.specs.Taken.{lines_text}
 use Rattle.proof_cert.proofs.Spellings.{AreSpelled, text_is, no_text}
 use Rattle.proof_cert.proofs.claim_text.write_cert.Goals as goal
 
@@ -29,16 +30,16 @@ returns-in-Ok-clause-written g c =
     let some : text z ≡ Some (lines_text z.size (lines_of z)) = text_is z.size (lines_of z) spelled in
     subst (λ (o : Option (List ℕ)). IsSomeAnd o (λ bytes. Appends (g.W.Write.contents c.args.writer.now) (g.W.Write.contents c.write_spelled.new.writer) bytes)) (sym some) c.in-Ok.ensures.written
 
-pub returns-in-Err-clause-unspelled : goal.returns-in-Err-clause-unspelled
-returns-in-Err-clause-unspelled g c =
+pub returns-in-Err-Write-clause-unspelled : goal.returns-in-Err-Write-clause-unspelled
+returns-in-Err-Write-clause-unspelled g c =
     let z = claim_of c.args.certificate.now in
     let spelled : AreSpelled z.size (lines_of z) = search rules in
     let some : text z ≡ Some (lines_text z.size (lines_of z)) = text_is z.size (lines_of z) spelled in
     (λ e. cc, λ e. cc)
 
-pub returns-in-Err-clause-cut : goal.returns-in-Err-clause-cut
-returns-in-Err-clause-cut g c = λ e.
+pub returns-in-Err-Write-clause-cut : goal.returns-in-Err-Write-clause-cut
+returns-in-Err-Write-clause-cut g c = λ e.
     let z = claim_of c.args.certificate.now in
     let spelled : AreSpelled z.size (lines_of z) = search rules in
     let some : text z ≡ Some (lines_text z.size (lines_of z)) = text_is z.size (lines_of z) spelled in
-    subst (λ (o : Option (List ℕ)). IsSomeAnd o (λ bytes. TakesPart (g.W.Write.contents c.args.writer.now) (g.W.Write.contents c.write_spelled.new.writer) bytes)) (sym some) c.in-Err.ensures.cut
+    subst (λ (o : Option (List ℕ)). IsSomeAnd o (λ bytes. TakesPart (g.W.Write.contents c.args.writer.now) (g.W.Write.contents c.write_spelled.new.writer) bytes)) (sym some) c.in-Err-Write.ensures.cut

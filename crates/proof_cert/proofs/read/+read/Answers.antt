@@ -1,23 +1,13 @@
-use Rattle.std.proofs.Common.{◌≡◌, ◌+◌, ◌-◌, ◌++◌, ◌∷◌, [], Option, Some, None, List, ap, sym, ◌∙◌, refl, rules, arith}
+use Rattle.std.proofs.Common.{◌≡◌, ◌+◌, ◌-◌, ◌++◌, ◌∷◌, [], Option, Some, None, ap, subst, sym, ◌∙◌, rules, arith}
+use Rattle.go_points.specs.Ply.{ply_of}
 use Rattle.go_points.specs.declared.Turn.{Turn}
 use Rattle.proof_cert.specs.declared.certificate.Node.{Node}
 use Rattle.proof_cert.specs.Claim.{Branches}
-use Rattle.proof_cert.specs.Certificate.{replies_of}
-use Rattle.proof_cert.specs.Reading.{with_rest, left_of, reply_read, replies_read, below_read, tree_read, reply_value}
-use Rattle.proof_cert.proofs.ReadTrees.{prepended, nothing_prepended, reply_is_read, reply_is_missing, replies_are_read, replies_pushed}
+use Rattle.proof_cert.specs.Certificate.{node_of, replies_of}
+use Rattle.proof_cert.specs.Reading.{with_rest, left_of, reply_read, replies_read, below_read, tree_read, reply_value, CountsTree, CountsReplies}
+use Rattle.proof_cert.proofs.ReadTrees.{prepended, reply_is_read, reply_is_missing, replies_are_read, replies_pushed}
+use Rattle.proof_cert.proofs.ReadCounts.{reply_counted}
 use Rattle.proof_cert.proofs.read.+read.Goals as goal
-
-pub read_replies-loop-init : goal.read_replies-loop-init
-read_replies-loop-init t c =
-    let below = below_read (tree_read c.args.room) in
-    let s = left_of c.args.reading.now.source c.args.reading.now.nodes c.args.reading.now.listed in
-    let all : c.args.count - 0 ≡ c.args.count = omega arith in
-    record {
-      read =
-          sym (ap (λ (rs : List (Turn × Node)). prepended (replies_of c.args.reading.now.source.size rs) (replies_read below (c.args.count - 0) s)) c.new-replies.ensures.items
-          ∙ nothing_prepended (replies_read below (c.args.count - 0) s) ∙ ap (λ k. replies_read below k s) all);
-      size = refl;
-    }
 
 pub read_replies-returns-in_default-clause-read : goal.read_replies-returns-in_default-clause-read
 read_replies-returns-in_default-clause-read t c =
@@ -42,6 +32,10 @@ read_replies-loop-preserved t c =
       read =
           c.loop.invariant.read ∙ reply_is_read below c.args.count c.loop.counter s (omega arith) (replies_of n c.loop.replies.items) (reply_value n c.in-Some.reply) left there
           ∙ ap (λ (bs : Branches). prepended bs (replies_read below (c.args.count - (c.loop.counter + 1)) left)) (sym pushed);
+      counted =
+          subst (λ (bs : Branches). CountsReplies c.args.room c.args.reading.now.nodes c.args.reading.now.listed bs c.read_reply.new.reading.nodes c.read_reply.new.reading.listed) (sym pushed)
+          (reply_counted (ply_of n c.in-Some.reply.0) (node_of n c.in-Some.reply.1) c.args.room _ _ (replies_of n c.loop.replies.items) _ _ _ _ c.loop.invariant.counted
+          (subst (λ k. CountsTree c.args.room c.loop.reading.nodes c.loop.reading.listed (node_of k c.in-Some.reply.1) c.read_reply.new.reading.nodes c.read_reply.new.reading.listed) c.loop.invariant.size (search rules)));
       size = search rules;
     }
 

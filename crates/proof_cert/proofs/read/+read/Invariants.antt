@@ -1,6 +1,6 @@
 use Rattle.std.proofs.Common.{◌≡◌, ◌+◌, ◌*◌, ◌-◌}
 use Rattle.proof_cert.specs.Certificate.{replies_of}
-use Rattle.proof_cert.specs.Reading.{left_of, replies_read, below_read, tree_read}
+use Rattle.proof_cert.specs.Reading.{left_of, replies_read, below_read, tree_read, CountsReplies}
 use Rattle.proof_cert.proofs.ReadTrees.{prepended}
 use Rattle.proof_cert.proofs.read.+read.Given as goal
 
@@ -20,5 +20,6 @@ abbrev pub invariant-read_replies-loop : goal.invariant-read_replies-loop
 invariant-read_replies-loop l = record {
   read : replies_read (below_read (tree_read l.room)) l.count (left_of l.fn.reading.source l.fn.reading.nodes l.fn.reading.listed)
       ≡ prepended (replies_of l.fn.reading.source.size l.replies.items) (replies_read (below_read (tree_read l.room)) (l.count - l.counter) (left_of l.reading.source l.reading.nodes l.reading.listed));
+  counted : CountsReplies l.room l.fn.reading.nodes l.fn.reading.listed (replies_of l.fn.reading.source.size l.replies.items) l.reading.nodes l.reading.listed;
   size : l.reading.source.size ≡ l.fn.reading.source.size;
 }

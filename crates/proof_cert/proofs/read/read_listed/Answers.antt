@@ -13,6 +13,8 @@ loop-reading-init c =
     let rest = listed_read (picks c.args.listing) (1000001 - c.args.reading.now.listed) (line_value n c.args.first) s in
     record {
       read = sym (ap (λ (xs : List (List Cell)). listed_front xs rest) c.new-listed.ensures.items ∙ no_front rest);
+      nodes = refl;
+      counted = search rules;
       size = refl;
     }
 
@@ -34,5 +36,7 @@ loop-reading-preserved c =
           c.loop-reading.invariant.read ∙ listed_is_read pick s c.loop-reading.listed.items (line_value n c.loop-reading.line) c.in-Some.colouring (line_value n c.in-Some-next_line.next) t few one there
           ∙ ap (λ (xs : List (List Cell)). listed_front xs (listed_read pick (1000001 - (s.listed + 1)) (line_value n c.in-Some-next_line.next) t)) (sym items)
           ∙ ap (λ k. listed_front c.push.new.self.items (listed_read pick (1000001 - k) (line_value n c.in-Some-next_line.next) t)) (sym same);
+      nodes = search rules;
+      counted = search rules;
       size = search rules;
     }

@@ -1,6 +1,6 @@
 use Rattle.std.proofs.Common.{◌∷◌, ◌++◌, take}
 use Rattle.std.specs.Prelude.{flat_map}
-use Rattle.sgf_text.specs.Taken.{Puts}
+use Rattle.byte_writer.specs.Taken.{HasPut}
 use Rattle.sgf_text.specs.Text.{node_text, tree_text}
 use Rattle.sgf_text.specs.Trees.{tree_count}
 use Rattle.sgf_text.proofs.tree_text.+put_tree.Given as goal
@@ -9,4 +9,4 @@ abbrev pub decreases-put_tree : goal.decreases-put_tree
 decreases-put_tree g l = tree_count l.tree.now
 
 abbrev pub invariant-loop-child : goal.invariant-loop-child
-invariant-loop-child g l = Puts (g.W.Write.contents l.fn.writer) (g.W.Write.contents l.writer) l.fn.held.items l.held.items ((40 ∷ flat_map node_text l.tree.nodes) ++ flat_map tree_text (take l.child-index l.child-items))
+invariant-loop-child g l = HasPut (g.W.Write.contents l.fn.writer) (g.W.Write.contents l.writer) l.fn.pending l.pending ((40 ∷ flat_map node_text l.tree.nodes) ++ flat_map tree_text (take l.child-index l.child-items))

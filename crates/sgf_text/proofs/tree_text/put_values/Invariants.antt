@@ -1,8 +1,8 @@
 use Rattle.std.proofs.Common.{take}
 use Rattle.std.specs.Prelude.{flat_map}
-use Rattle.sgf_text.specs.Taken.{Puts}
+use Rattle.byte_writer.specs.Taken.{HasPut}
 use Rattle.sgf_text.specs.Text.{value_text}
 use Rattle.sgf_text.proofs.tree_text.put_values.Given as goal
 
 abbrev pub invariant-loop-value : goal.invariant-loop-value
-invariant-loop-value g l = Puts (g.W.Write.contents l.initial.writer) (g.W.Write.contents l.writer) l.initial.held.items l.held.items (flat_map value_text (take l.value-index l.values))
+invariant-loop-value g l = HasPut (g.W.Write.contents l.initial.writer) (g.W.Write.contents l.writer) l.initial.pending l.pending (flat_map value_text (take l.value-index l.values))

@@ -1,15 +1,10 @@
-use Rattle.std.proofs.Common.{◌≡◌, IsTrue, subst, sym, ap, ◌∙◌, arith, refl}
+use Rattle.std.proofs.Common.{◌≡◌, ap, ◌∙◌, arith}
 use Rattle.std.specs.Prelude.{length}
 use Rattle.proof_cert.specs.Certificate.{node_of}
 use Rattle.cert_check.specs.Checked.{CheckedClaim}
-use Rattle.solution_tree.specs.Opened.{lemma_count, uses_below}
+use Rattle.solution_tree.specs.Opened.{lemma_count}
 use Rattle.solution_tree.proofs.Lower.{used_bounds, next_body, below_more}
 use Rattle.solution_tree.proofs.expansion.body_of.Goals as goal
-
-pub loop-part-init : goal.loop-part-init
-loop-part-init c =
-    let all : length c.as_slice-lemmas.result.now ≡ lemma_count c.args.checked.now = cc in
-    ((λ s. refl), subst (λ m. IsTrue (uses_below m (node_of c.args.checked.now.certificate.size c.args.node.now))) (sym all) c.requires, omega (arith, all))
 
 pub overflow_sub-below : goal.overflow_sub-below
 overflow_sub-below c =

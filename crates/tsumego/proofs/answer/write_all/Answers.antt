@@ -1,7 +1,7 @@
 use Rattle.std.proofs.Common.{arith, length, ap}
 use Rattle.std.proofs.lemmas.List.{length-drop}
 use Rattle.std.proofs.KnownBytes.{Appends-kept}
-use Rattle.sgf_text.proofs.TakenLemmas.{part_taken, some_more, rest_is}
+use Rattle.byte_writer.proofs.TakenLemmas.{part_taken, some_more, rest_is}
 use Rattle.tsumego.proofs.answer.write_all.Goals as goal
 
 pub returns-in-Err-clause-cut : goal.returns-in-Err-clause-cut

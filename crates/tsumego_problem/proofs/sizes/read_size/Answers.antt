@@ -1,11 +1,12 @@
+use Rattle.std.proofs.lemmas.List.{take_rest}
 use Rattle.std.proofs.Common.{sym, ◌∙◌, ap, option_and_then, take, ◌+◌}
 use Rattle.tsumego_problem.specs.Walk.{board_of}
 use Rattle.tsumego_problem.specs.Values.{size_named, number_named, equal}
-use Rattle.tsumego_problem.proofs.Numbers.{rest_all, with_colon, without_colon}
+use Rattle.tsumego_problem.proofs.Numbers.{with_colon, without_colon}
 use Rattle.tsumego_problem.proofs.sizes.read_size.Goals as goal
 
 pub returns-in-Some : goal.returns-in-Some
-returns-in-Some c = c.read_square.ensures ∙ ap (λ w. option_and_then board_of (equal (number_named (take c.in-Some.colon c.trim-value.result.now)) (number_named w))) (rest_all c.trim-value.result.now (c.in-Some.colon + 1)) ∙ sym (ap (option_and_then board_of) (with_colon c.trim-value.result.now c.in-Some.colon (sym c.colon_in.ensures ∙ c.in-Some.is))) ∙ ap (λ v. option_and_then board_of (size_named v)) c.trim-value.ensures
+returns-in-Some c = c.read_square.ensures ∙ ap (λ w. option_and_then board_of (equal (number_named (take c.in-Some.colon c.trim-value.result.now)) (number_named w))) (take_rest c.trim-value.result.now (c.in-Some.colon + 1)) ∙ sym (ap (option_and_then board_of) (with_colon c.trim-value.result.now c.in-Some.colon (sym c.colon_in.ensures ∙ c.in-Some.is))) ∙ ap (λ v. option_and_then board_of (size_named v)) c.trim-value.ensures
 
 pub returns-in-None : goal.returns-in-None
 returns-in-None c = c.read_number.ensures ∙ sym (ap (option_and_then board_of) (without_colon c.trim-value.result.now (sym c.colon_in.ensures ∙ c.in-None.is))) ∙ ap (λ v. option_and_then board_of (size_named v)) c.trim-value.ensures

@@ -7,10 +7,10 @@ use Rattle.cert_check.proofs.body_state.BodyState.begin.Goals as goal
 
 pub invariant_of-self : goal.invariant_of-self
 invariant_of-self c =
-    let g : Game = c.args.problem.now.game in
+    let g : Game = c.args.self.now.state.game in
     let root : List Cell = c.args.root.now in
     let cs : List (List Cell) = c.push.new.self.items in
     let one : cs ≡ root ∷ [] = search rules in
-    let is : c.in-Ok.state ≡ record { state = state_alone g root c.args.mover c.args.passes; before = [] } = c.in-Ok.ensures.ok in
+    let is : c.restart.new.self ≡ record { state = state_alone g root c.args.mover c.args.passes; before = [] } = search rules in
     subst (λ (l : Line). AreKnown (reverse cs) l.state l.before) (sym is)
     (subst (λ (ds : List (List Cell)). AreKnown (reverse ds) (state_alone g root c.args.mover c.args.passes) []) (sym one) (alone_known g root c.args.mover c.args.passes))

@@ -6,8 +6,8 @@ use Rattle.cert_check.specs.Body.{is_known}
 use Rattle.cert_check.proofs.Known.{apart, none_of_known}
 use Rattle.cert_check.proofs.body_state.BodyState.knows_none.Goals as goal
 
-pub returns-then-len-list : goal.returns-then-len-list
-returns-then-len-list c =
+pub returns-then-len : goal.returns-then-len
+returns-then-len c =
     let l : Line = c.self.inside.state in
     let list : List (List Cell) = c.args.list.now in
     c.none_stands_on.ensures

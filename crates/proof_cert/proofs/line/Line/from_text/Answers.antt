@@ -1,7 +1,5 @@
 use Rattle.std.proofs.Common.{sym, ap, ◌∙◌, option_map, Bor, List, ℕ}
-use Rattle.go_points.specs.Ply.{ply_of}
-use Rattle.proof_cert.specs.Lines.{play_line}
-use Rattle.proof_cert.proofs.Chains.{line_tsucert, line_play, line_word}
+use Rattle.proof_cert.proofs.Chains.{line_tsucert, line_word}
 use Rattle.proof_cert.proofs.Reading.{none_there}
 use Rattle.proof_cert.proofs.line.Line.from_text.Goals as goal
 
@@ -9,11 +7,6 @@ pub returns-in-Some : goal.returns-in-Some
 returns-in-Some c =
     c.read_header.ensures c.args.size
     ∙ sym (line_tsucert c.args.size c.args.text.now c.in-Some.rest.now (sym c.behind_word.ensures ∙ ap (option_map (λ (r : Bor (List ℕ)). r.now)) c.in-Some.is))
-
-pub returns-in-Some-behind_word-5 : goal.returns-in-Some-behind_word-5
-returns-in-Some-behind_word-5 c =
-    sym (line_play c.args.size c.args.text.now c.in-Some-behind_word-5.rest.now (sym c.behind_word-6.ensures ∙ ap (option_map (λ (r : Bor (List ℕ)). r.now)) c.in-Some-behind_word-5.is)
-    ∙ ap (option_map play_line) (sym c.read_vertex.ensures ∙ ap (option_map (ply_of c.args.size)) c.in_ok-read_vertex.was))
 
 pub returns : goal.returns
 returns c =

@@ -1,6 +1,5 @@
-use Rattle.std.proofs.Common.{rules, ◌≡◌, ◌+◌, ◌++◌, ◌∙◌, sym, take, drop, subst, arith, Option, option_map, Some, None, Ok, Err}
+use Rattle.std.proofs.Common.{rules, ◌+◌, ◌++◌, ◌∙◌, sym, take, drop, subst, arith, option_map, Some, Ok, Err}
 use Rattle.proof_cert.specs.Stage.{line_value}
-use Rattle.proof_cert.specs.Lines.{Line}
 use Rattle.proof_cert.specs.Streamed.{Unread, IsRead}
 use Rattle.proof_cert.specs.declared.source.SourceFault.TheVariants.{Malformed}
 use Rattle.proof_cert.proofs.Streams.{line_read, line_unread}

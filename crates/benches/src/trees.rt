@@ -1,0 +1,96 @@
+//! Expanding a claim and auditing its answer tree against reading the record of the same tree.
+
+use crate::lemma_claim::checked_claim;
+use crate::speed::{per_second, print_ratio};
+use crate::tree_timing::{
+    audited, expanded, problem_of, read, time_auditing, time_expanding, time_reading, written,
+};
+use cert_check::Checked;
+use go_points::Colour;
+use solution_tree::{Expand, expand};
+use std::io;
+use std::rt::Clock;
+use std::time::Duration;
+
+/// For how many places there is a claim. A place more makes the answer tree six to eight times as large.
+const PLACES: [u8; 4] = [5, 6, 7, 8];
+
+/// As many turns as a record may have that is read: 100,000 nodes, less two that stand before them.
+const MOST_READ: usize = 99_998;
+
+/// More turns than any of the trees has.
+const LIMIT: usize = 1_000_000;
+
+/// How many turns are expanded, read and audited where it is measured; at least one tree.
+const TURNS: usize = 400_000;
+
+/// Says of each claim how large its answer tree is, and who wins by the record of it.
+pub fn once<R: Print + AllocGlobal>(rt: &R) -> io::Result<()> {
+    for places in PLACES {
+        let checked = checked_claim(rt.alloc(), places)?;
+        expand_once(rt, places, &checked)?;
+    }
+    Ok(())
+}
+
+/// Prints how fast each claim is expanded, and the record of its tree read and audited.
+pub fn measure<R: Print + Clock + AllocGlobal>(rt: &R) -> io::Result<()> {
+    for places in PLACES {
+        let checked = checked_claim(rt.alloc(), places)?;
+        measure_claim(rt, places, &checked)?;
+    }
+    Ok(())
+}
+
+/// Says how large the claim's answer tree is, whether it is refused with one turn fewer, and what the audit says of its record.
+fn expand_once<R: Print + AllocGlobal>(rt: &R, places: u8, checked: &Checked) -> io::Result<()> {
+    let alloc = rt.alloc();
+    let answer = expanded(alloc, checked, LIMIT)?;
+    let lemmas = checked.certificate().lemmas.len();
+    let turns = answer.size().unwrap_or(0);
+    let short = match expand(alloc, checked, turns.saturating_sub(1)) {
+        Ok(_) => "expanded",
+        Err(Expand::TooLarge) => "refused",
+        Err(Expand::Memory) => return Err(io::Error::from(io::ErrorKind::OutOfMemory)),
+    };
+    print!(rt; "{places} places: {lemmas} lemmas, {turns} turns, with one fewer {short}, ")?;
+    if turns > MOST_READ {
+        return rt.println("too large to be read");
+    }
+    let tree = read(alloc, written(alloc, checked, &answer)?.as_slice())?;
+    match audited(alloc, &problem_of(alloc, &tree)?, &tree)? {
+        Colour::Black => rt.println("Black wins"),
+        Colour::White => rt.println("White wins"),
+    }
+}
+
+/// Prints how many turns a second are expanded; and, where the record can be read, how many are read and audited, and how much longer the two take than reading.
+fn measure_claim<R: Print + Clock + AllocGlobal>(
+    rt: &R,
+    places: u8,
+    checked: &Checked,
+) -> io::Result<()> {
+    let answer = expanded(rt.alloc(), checked, LIMIT)?;
+    let turns = answer.size().unwrap_or(0);
+    let rounds = (TURNS / turns.max(1)).max(1);
+    let done = (turns as u64).saturating_mul(rounds as u64);
+    let expanding = time_expanding(rt, checked, LIMIT, rounds)?;
+    println!(rt; "{places} places, {turns} turns, rounds: {rounds}")?;
+    print_speed(rt, "expanded", done, expanding)?;
+    if turns > MOST_READ {
+        return Ok(());
+    }
+    let text = written(rt.alloc(), checked, &answer)?;
+    let reading = time_reading(rt, text.as_slice(), rounds)?;
+    let auditing = time_auditing(rt, text.as_slice(), rounds)?;
+    print_speed(rt, "audited", done, auditing)?;
+    print_speed(rt, "read", done, reading)?;
+    print_ratio(rt, "expanding", expanding, "reading", reading)?;
+    print_ratio(rt, "auditing", auditing, "reading", reading)
+}
+
+/// Prints how many turns went by in a second.
+fn print_speed(rt: &impl Print, name: &str, turns: u64, time: Duration) -> io::Result<()> {
+    let speed = per_second(turns, time);
+    println!(rt; "{name}: {speed} turns a second")
+}

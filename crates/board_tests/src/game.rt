@@ -1,0 +1,536 @@
+//! Problems and play on small boards, with results worked out by the rules.
+
+use arrayvec::ArrayVec;
+use go_points::{Cell, Colour, Colouring, MAX_SIZE, Point, PointSet, Size, Turn, sgf_point};
+use go_turns::{PlayBoard, PlaySeen};
+use std::alloc::Global;
+use std::process::Abort;
+use target_game::{AtFault, BadProblem, Child, MAX_HISTORY, MAX_TURNS, Problem, State, TurnsLeft};
+
+type Play = State<PlayBoard, PlaySeen>;
+
+// The colouring of 3 by 3 with this text.
+pub(crate) fn three(rt: &impl Abort, text: &str) -> Colouring {
+    let size = Size::new(3).expect(rt, "a size");
+    Colouring::from_text(size, text.as_bytes()).expect(rt, "a text")
+}
+
+// The points of 3 by 3 with these letters, two for each.
+pub(crate) fn points(rt: &impl Abort, letters: &str) -> PointSet {
+    let size = Size::new(3).expect(rt, "a size");
+    let mut found = PointSet::new();
+    for pair in letters.as_bytes().chunks(2) {
+        found.insert(sgf_point(size, pair).expect(rt, "a point"));
+    }
+    found
+}
+
+fn turn(rt: &impl Abort, letters: &str) -> Turn {
+    let size = Size::new(3).expect(rt, "a size");
+    Turn::At(sgf_point(size, letters.as_bytes()).expect(rt, "a point"))
+}
+
+pub(crate) fn history(rt: &impl Abort, alloc: Global, texts: &[&str]) -> Vec<Colouring> {
+    let mut all = Vec::new(alloc);
+    for text in texts {
+        all.push(three(rt, text)).expect(rt, "memory");
+    }
+    all
+}
+
+// The start of a problem on 3 by 3 whose present colouring is the last of its history.
+fn start(
+    rt: &impl Abort,
+    alloc: Global,
+    texts: &[&str],
+    mover: Colour,
+    targets: &str,
+    region: &str,
+) -> Play {
+    let place = texts.len().saturating_sub(1);
+    let problem = Problem::new(
+        history(rt, alloc, texts),
+        place,
+        mover,
+        0,
+        points(rt, targets),
+        points(rt, region),
+    );
+    State::of(alloc, &problem.expect(rt, "a problem")).expect(rt, "memory")
+}
+
+// Makes a turn, if it is legal.
+fn play(state: &mut Play, turn: Turn) -> bool {
+    if state.over().is_some() {
+        return false;
+    }
+    match state.try_after(turn) {
+        Ok(made) => made,
+        Err(_) => false,
+    }
+}
+
+// The turns that are left, taken one by one; each is made and taken back.
+fn turns_one_by_one(state: &mut Play) -> ArrayVec<Turn, MAX_TURNS> {
+    let mut all = ArrayVec::new();
+    let mut left = TurnsLeft::all();
+    for _ in 0..MAX_TURNS {
+        if state.over().is_none() {
+            if let Ok(Some(turn)) = state.after_next(&mut left) {
+                state.back();
+                if all.try_push(turn).is_err() {
+                    return all;
+                }
+            }
+        }
+    }
+    all
+}
+
+#[test]
+fn a_capture_wins_for_the_attacker(rt: HostRuntime) {
+    let mut state = start(&rt, rt.alloc(), &["O..X....."], Colour::Black, "aa", "ba");
+    assert_eq!(rt; state.over(), None);
+    assert_eq!(rt;
+        state.turns().as_slice(),
+        [turn(&rt, "ba"), Turn::Pass].as_slice()
+    );
+    assert_eq!(rt; state.next_turn(0), turn(&rt, "ba"));
+    assert_eq!(rt; state.next_turn(2), Turn::Pass);
+    assert!(rt; play(&mut state, turn(&rt, "ba")));
+    assert_eq!(rt; state.over(), Some(Colour::Black));
+    assert_eq!(rt; state.mover(), Colour::White);
+    assert_eq!(rt; state.colouring(), three(&rt, ".X.X....."));
+    assert!(rt; state.turns().is_empty());
+}
+
+// The keys are exclusive ors of words that another program drew, from its own PCG64 made by the number 1.
+#[test]
+fn a_state_has_the_key_of_its_colouring(rt: HostRuntime) {
+    let mut state = start(&rt, rt.alloc(), &["O..X....."], Colour::Black, "aa", "ba");
+    assert_eq!(rt; state.key(), 3_778_989_091_018_136_610);
+    let capture = Child {
+        key: 3_257_418_155_030_562_517,
+        winner: Some(Colour::Black),
+    };
+    assert_eq!(rt; state.child(turn(&rt, "ba")), Some(capture));
+    assert_eq!(rt; state.child(turn(&rt, "ca")), None);
+    assert!(rt; play(&mut state, turn(&rt, "ba")));
+    assert_eq!(rt; state.key(), 3_257_418_155_030_562_517);
+    let other_mover = start(&rt, rt.alloc(), &["O..X....."], Colour::White, "aa", "ba");
+    assert_eq!(rt; other_mover.key(), 3_778_989_091_018_136_610);
+}
+
+#[test]
+fn two_passes_win_for_the_defender(rt: HostRuntime) {
+    let mut state = start(&rt, rt.alloc(), &["O..X....."], Colour::White, "aa", "ba");
+    assert!(rt; play(&mut state, turn(&rt, "ba")));
+    assert!(rt; play(&mut state, Turn::Pass));
+    assert_eq!(rt; state.passes(), 1);
+    assert_eq!(rt; state.over(), None);
+    let end = state.child(Turn::Pass);
+    assert_eq!(rt; end.and_then(|child| child.winner), Some(Colour::White));
+    assert!(rt; play(&mut state, Turn::Pass));
+    assert_eq!(rt; state.over(), Some(Colour::White));
+    assert!(rt; !play(&mut state, Turn::Pass));
+}
+
+#[test]
+fn the_past_decides_at_a_ko(rt: HostRuntime) {
+    let free = start(&rt, rt.alloc(), &["O.OXO...."], Colour::Black, "aa", "ba");
+    assert_eq!(rt;
+        free.turns().as_slice(),
+        [turn(&rt, "ba"), Turn::Pass].as_slice()
+    );
+    let mut barred = start(
+        &rt,
+        rt.alloc(),
+        &[".XOXO....", "O.OXO...."],
+        Colour::Black,
+        "aa",
+        "ba",
+    );
+    assert_eq!(rt; barred.turns().as_slice(), [Turn::Pass].as_slice());
+    assert_eq!(rt;
+        turns_one_by_one(&mut barred).as_slice(),
+        [Turn::Pass].as_slice()
+    );
+    assert_eq!(rt; play(&mut barred, turn(&rt, "ba")), false);
+    assert_eq!(rt; barred.colouring(), three(&rt, "O.OXO...."));
+    assert_eq!(rt; barred.mover(), Colour::Black);
+    assert_eq!(rt; barred.child(turn(&rt, "ba")), None);
+    assert_eq!(rt; barred.holds(&three(&rt, ".XOXO....")), Some(0));
+    assert_eq!(rt; barred.holds(&three(&rt, ".X.XO....")), None);
+}
+
+// The state with this colouring alone, one pass just made, in a problem whose history bars the capture at the upper left.
+fn alone(rt: &impl Abort, alloc: Global, text: &str) -> Result<Play, AtFault> {
+    let problem = Problem::new(
+        history(rt, alloc, &[".XOXO....", "O.OXO...."]),
+        1,
+        Colour::White,
+        0,
+        points(rt, "aa"),
+        points(rt, "ba"),
+    )
+    .expect(rt, "a problem");
+    let colouring = three(rt, text);
+    assert!(rt; colouring.size() == problem.size());
+    State::at(alloc, &problem, &colouring, Colour::Black, 1)
+}
+
+// Whether the fault names the point.
+fn names(fault: AtFault, point: Point) -> bool {
+    match fault {
+        AtFault::NoLiberty { point: found } => found == point,
+        AtFault::Memory => false,
+    }
+}
+
+#[test]
+fn a_colouring_alone_forgets_the_past(rt: HostRuntime) {
+    let mut state = alone(&rt, rt.alloc(), "O.OXO....").expect(&rt, "a state");
+    assert_eq!(rt; state.mover(), Colour::Black);
+    assert_eq!(rt; state.passes(), 1);
+    assert_eq!(rt; state.colouring(), three(&rt, "O.OXO...."));
+    assert_eq!(rt; state.holds(&three(&rt, "O.OXO....")), Some(0));
+    assert_eq!(rt; state.holds(&three(&rt, ".XOXO....")), None);
+    assert!(rt; play(&mut state, turn(&rt, "ba")));
+    assert_eq!(rt; state.colouring(), three(&rt, ".XOXO...."));
+    assert_eq!(rt; state.over(), Some(Colour::Black));
+}
+
+#[test]
+fn a_colouring_alone_has_its_liberties(rt: HostRuntime) {
+    let size = Size::new(3).expect(&rt, "a size");
+    let second = sgf_point(size, b"ba").expect(&rt, "a point");
+    // The white stone has black stones at both sides and below it.
+    let found = alone(&rt, rt.alloc(), "XOX.X....");
+    assert!(rt; found.is_err_and(|fault| names(fault, second)));
+}
+
+#[test]
+fn a_state_begins_anew_in_the_same_game(rt: HostRuntime) {
+    let size = Size::new(3).expect(&rt, "a size");
+    let second = sgf_point(size, b"ba").expect(&rt, "a point");
+    let mut state = alone(&rt, rt.alloc(), ".XOXO....").expect(&rt, "a state");
+    let smothered = three(&rt, "XOX.X....");
+    assert!(rt; smothered.size() == state.size());
+    let refused = state.restart(rt.alloc(), &smothered, Colour::White, 0);
+    assert!(rt; refused.is_err_and(|fault| names(fault, second)));
+    assert_eq!(rt; state.colouring(), three(&rt, ".XOXO...."));
+    assert_eq!(rt; state.mover(), Colour::Black);
+    let taken = three(&rt, "O.OXO....");
+    assert!(rt; taken.size() == state.size());
+    assert!(rt; state.restart(rt.alloc(), &taken, Colour::Black, 1).is_ok());
+    assert_eq!(rt; state.passes(), 1);
+    assert_eq!(rt; state.holds(&three(&rt, ".XOXO....")), None);
+    assert!(rt; play(&mut state, turn(&rt, "ba")));
+    assert_eq!(rt; state.over(), Some(Colour::Black));
+}
+
+#[test]
+fn suicide_of_one_stone_is_no_turn(rt: HostRuntime) {
+    let state = start(&rt, rt.alloc(), &[".XXXXXXX."], Colour::White, "bb", "aacc");
+    assert_eq!(rt; state.turns().as_slice(), [Turn::Pass].as_slice());
+}
+
+#[test]
+fn suicide_of_two_stones_is_a_turn_and_loses_the_targets(rt: HostRuntime) {
+    let mut state = start(&rt, rt.alloc(), &["X.OOO...."], Colour::Black, "aa", "ba");
+    assert_eq!(rt;
+        state.turns().as_slice(),
+        [turn(&rt, "ba"), Turn::Pass].as_slice()
+    );
+    assert!(rt; play(&mut state, turn(&rt, "ba")));
+    assert_eq!(rt; state.colouring(), three(&rt, "..OOO...."));
+    assert_eq!(rt; state.over(), Some(Colour::White));
+}
+
+#[test]
+fn the_region_binds_both_sides(rt: HostRuntime) {
+    let mut state = start(&rt, rt.alloc(), &["O........"], Colour::Black, "aa", "ba");
+    assert_eq!(rt;
+        state.turns().as_slice(),
+        [turn(&rt, "ba"), Turn::Pass].as_slice()
+    );
+    assert!(rt; !play(&mut state, turn(&rt, "ab")));
+    assert!(rt; play(&mut state, turn(&rt, "ba")));
+    assert_eq!(rt; state.turns().as_slice(), [Turn::Pass].as_slice());
+}
+
+#[test]
+fn a_turn_is_taken_back_whole(rt: HostRuntime) {
+    let mut state = start(&rt, rt.alloc(), &["O..X....."], Colour::Black, "aa", "bacc");
+    assert!(rt; play(&mut state, Turn::Pass));
+    let corner = Size::new(3)
+        .expect(&rt, "a size")
+        .point(2, 2)
+        .expect(&rt, "a point");
+    assert!(rt; state.over().is_none() && state.size().holds(corner) && state.may_move(corner));
+    if state.over().is_none() && state.size().holds(corner) && state.may_move(corner) {
+        assert!(rt; state.after(Turn::At(corner)).is_ok());
+        assert_eq!(rt; state.colouring(), three(&rt, "O..X....O"));
+        assert_eq!(rt; state.passes(), 0);
+        state.back();
+    }
+    assert_eq!(rt; state.passes(), 1);
+    assert_eq!(rt; state.mover(), Colour::White);
+    assert_eq!(rt; state.colouring(), three(&rt, "O..X....."));
+    assert_eq!(rt; state.holds(&three(&rt, "O..X....O")), None);
+}
+
+// The refusal of a problem on 3 by 3, if it is refused.
+fn refusal(
+    rt: &impl Abort,
+    alloc: Global,
+    texts: &[&str],
+    place: usize,
+    passes: u64,
+    targets: &str,
+    region: &str,
+) -> Option<BadProblem> {
+    let all = history(rt, alloc, texts);
+    match Problem::new(
+        all,
+        place,
+        Colour::Black,
+        passes,
+        points(rt, targets),
+        points(rt, region),
+    ) {
+        Ok(_) => None,
+        Err(fault) => Some(fault),
+    }
+}
+
+#[test]
+fn each_refusal_comes_alone(rt: HostRuntime) {
+    let alloc = rt.alloc();
+    let fine = ["O..X....."];
+    let fine = fine.as_slice();
+    assert_eq!(rt; refusal(&rt, alloc, fine, 0, 1, "aa", "ba"), None);
+    assert_eq!(rt;
+        refusal(&rt, alloc, &[], 0, 0, "aa", "ba"),
+        Some(BadProblem::BadPlace)
+    );
+    assert_eq!(rt;
+        refusal(&rt, alloc, fine, 1, 0, "aa", "ba"),
+        Some(BadProblem::BadPlace)
+    );
+    assert_eq!(rt;
+        refusal(&rt, alloc, fine, 0, 0, "", "ba"),
+        Some(BadProblem::BadTargets)
+    );
+    assert_eq!(rt;
+        refusal(&rt, alloc, fine, 0, 0, "cc", "ba"),
+        Some(BadProblem::BadTargets)
+    );
+    assert_eq!(rt;
+        refusal(&rt, alloc, fine, 0, 0, "aaab", "ba"),
+        Some(BadProblem::BadTargets)
+    );
+    assert_eq!(rt;
+        refusal(&rt, alloc, fine, 0, 2, "aa", "ba"),
+        Some(BadProblem::Ended)
+    );
+    assert_eq!(rt;
+        refusal(&rt, alloc, fine, 0, 0, "aa", ""),
+        Some(BadProblem::EmptyRegion)
+    );
+    let dead = ["OX.X.....", "O..X....."];
+    assert_eq!(rt;
+        refusal(&rt, alloc, &dead, 1, 0, "aa", "ba"),
+        Some(BadProblem::NoLiberty)
+    );
+    let twice = ["O..X.....", ".........", "O..X....."];
+    assert_eq!(rt;
+        refusal(&rt, alloc, &twice, 2, 0, "aa", "ba"),
+        Some(BadProblem::Repeated)
+    );
+}
+
+#[test]
+fn the_earlier_refusal_is_named(rt: HostRuntime) {
+    let alloc = rt.alloc();
+    let fine = ["O..X....."];
+    let fine = fine.as_slice();
+    assert_eq!(rt;
+        refusal(&rt, alloc, fine, 1, 2, "", ""),
+        Some(BadProblem::BadPlace)
+    );
+    assert_eq!(rt;
+        refusal(&rt, alloc, fine, 0, 2, "cc", ""),
+        Some(BadProblem::BadTargets)
+    );
+    assert_eq!(rt;
+        refusal(&rt, alloc, fine, 0, 2, "aa", ""),
+        Some(BadProblem::Ended)
+    );
+    let dead = ["OX.X.....", "O..X.....", "O..X....."];
+    assert_eq!(rt;
+        refusal(&rt, alloc, &dead, 1, 0, "aa", ""),
+        Some(BadProblem::EmptyRegion)
+    );
+    assert_eq!(rt;
+        refusal(&rt, alloc, &dead, 1, 0, "aa", "ba"),
+        Some(BadProblem::NoLiberty)
+    );
+}
+
+#[test]
+fn a_colouring_of_another_size_is_refused(rt: HostRuntime) {
+    let mut all = history(&rt, rt.alloc(), &["O..X....."]);
+    all.push(Colouring::empty(Size::new(2).expect(&rt, "a size")))
+        .expect(&rt, "memory");
+    match Problem::new(
+        all,
+        5,
+        Colour::Black,
+        0,
+        points(&rt, "aa"),
+        points(&rt, "ba"),
+    ) {
+        Ok(_) => assert!(rt; false),
+        Err(fault) => assert_eq!(rt; fault, BadProblem::OtherSize),
+    }
+}
+
+// That many colourings of the widest board, all different: a black stone at one point and a white one at another.
+fn long_history(rt: &impl Abort, alloc: Global, count: usize) -> Vec<Colouring> {
+    let size = Size::new(MAX_SIZE).expect(rt, "a size");
+    let mut all = Vec::new(alloc);
+    for number in 0..count {
+        let black = number / (size.area() - 1);
+        let white = black + 1 + number % (size.area() - 1);
+        let mut colouring = Colouring::empty(size);
+        if black < size.area() {
+            colouring.set(size.point_at(black), Cell::Stone(Colour::Black));
+        }
+        colouring.set(
+            size.point_at(white % size.area()),
+            Cell::Stone(Colour::White),
+        );
+        all.push(colouring).expect(rt, "memory");
+    }
+    all
+}
+
+#[test]
+fn a_history_has_a_thousand_colourings_at_most(rt: HostRuntime) {
+    let mut targets = PointSet::new();
+    let size = Size::new(MAX_SIZE).expect(&rt, "a size");
+    targets.insert(size.point(0, 0).expect(&rt, "a point"));
+    let fits = long_history(&rt, rt.alloc(), MAX_HISTORY);
+    assert!(rt; Problem::new(fits, 0, Colour::White, 0, targets, targets).is_ok());
+    let long = long_history(&rt, rt.alloc(), MAX_HISTORY + 1);
+    match Problem::new(long, 0, Colour::White, 0, targets, targets) {
+        Ok(_) => assert!(rt; false),
+        Err(fault) => assert_eq!(rt; fault, BadProblem::LongHistory),
+    }
+}
+
+// The start of a problem on the widest board with this colouring, where every point is in the region.
+fn start_on_the_widest(
+    rt: &impl Abort,
+    alloc: Global,
+    colouring: Colouring,
+    target: Point,
+) -> Play {
+    let mut targets = PointSet::new();
+    targets.insert(target);
+    let mut region = PointSet::new();
+    for point in Size::new(MAX_SIZE).expect(rt, "a size").points() {
+        region.insert(point);
+    }
+    let mut history = Vec::new(alloc);
+    history.push(colouring).expect(rt, "memory");
+    let problem = Problem::new(history, 0, Colour::Black, 0, targets, region);
+    State::of(alloc, &problem.expect(rt, "a problem")).expect(rt, "memory")
+}
+
+#[test]
+fn turns_on_the_widest_board(rt: HostRuntime) {
+    let size = Size::new(MAX_SIZE).expect(&rt, "a size");
+    let first = size.point(0, 0).expect(&rt, "a point");
+    let mut colouring = Colouring::empty(size);
+    if colouring.size().holds(first) {
+        colouring.set(first, Cell::Stone(Colour::White));
+    }
+    let state = start_on_the_widest(&rt, rt.alloc(), colouring, first);
+    let turns = state.turns();
+    assert_eq!(rt; turns.len(), 625);
+    assert_eq!(rt; turns.as_slice().last(), Some(&Turn::Pass));
+    for number in 1..size.area() {
+        assert_eq!(rt;
+            turns.as_slice().get(number - 1),
+            Some(&Turn::At(size.point_at(number)))
+        );
+    }
+}
+
+// White's stones fill the widest board but for the last point, where Black takes all of them.
+#[test]
+fn a_capture_of_all_the_widest_board_holds(rt: HostRuntime) {
+    let size = Size::new(MAX_SIZE).expect(&rt, "a size");
+    let mut colouring = Colouring::empty(size);
+    for number in 0..size.area() - 1 {
+        let size = colouring.size();
+        if number < size.area() {
+            colouring.set(size.point_at(number), Cell::Stone(Colour::White));
+        }
+    }
+    let last = size.point_at(size.area() - 1);
+    let mut state = start_on_the_widest(&rt, rt.alloc(), colouring, size.point_at(0));
+    assert_eq!(rt;
+        state.turns().as_slice(),
+        [Turn::At(last), Turn::Pass].as_slice()
+    );
+    assert!(rt; play(&mut state, Turn::At(last)));
+    assert_eq!(rt; state.over(), Some(Colour::Black));
+    let mut left = Colouring::empty(size);
+    left.set(last, Cell::Stone(Colour::Black));
+    assert_eq!(rt; state.colouring(), left);
+}
+
+#[test]
+fn a_problem_tells_its_parts(rt: HostRuntime) {
+    let all = history(&rt, rt.alloc(), &[".XOXO....", "O.OXO...."]);
+    let made = Problem::new(
+        all,
+        1,
+        Colour::Black,
+        1,
+        points(&rt, "aa"),
+        points(&rt, "bacc"),
+    );
+    let made = made.expect(&rt, "a problem");
+    let problem = made.copy(rt.alloc()).expect(&rt, "memory");
+    assert_eq!(rt; problem.size().rows(), 3);
+    assert_eq!(rt; problem.history().len(), 2);
+    assert_eq!(rt; problem.place(), 1);
+    assert_eq!(rt; *problem.colouring(), three(&rt, "O.OXO...."));
+    assert_eq!(rt; problem.mover(), Colour::Black);
+    assert_eq!(rt; problem.passes(), 1);
+    assert_eq!(rt; problem.defender(), Colour::White);
+    assert_eq!(rt; *problem.targets(), points(&rt, "aa"));
+    assert_eq!(rt; *problem.region(), points(&rt, "bacc"));
+}
+
+#[test]
+fn refusals_have_texts(rt: HostRuntime) {
+    let rows: [(BadProblem, &str); 8] = [
+        (BadProblem::OtherSize, "other size"),
+        (BadProblem::BadPlace, "bad place"),
+        (BadProblem::BadTargets, "bad targets"),
+        (BadProblem::Ended, "ended"),
+        (BadProblem::EmptyRegion, "empty region"),
+        (BadProblem::LongHistory, "long history"),
+        (BadProblem::NoLiberty, "no liberty"),
+        (BadProblem::Repeated, "repeated"),
+    ];
+    for (fault, text) in rows {
+        let shown = format!(in rt.alloc(); "{fault}").expect(&rt, "memory");
+        assert_eq!(rt; shown.as_str(), text);
+    }
+}

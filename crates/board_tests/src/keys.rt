@@ -1,0 +1,100 @@
+//! Keys. The words were drawn by another program, from its own PCG64 made by the number 1.
+
+use go_points::{Colour, Colouring, MAX_SIZE, Size, Turn, sgf_point};
+use go_turns::*;
+use std::test::Fail;
+
+const FIRST_BLACK: u64 = 15_492_934_433_077_865_799;
+
+const FIRST_WHITE: u64 = 319_104_231_195_455_319;
+
+const SECOND_BLACK: u64 = 2_101_115_697_694_094_752;
+
+const SECOND_WHITE: u64 = 18_133_442_382_907_303_891;
+
+const THIRD_WHITE: u64 = 8_777_885_780_164_965_128;
+
+// The words of the point with the number 360, which is the last of 19 rows.
+const BLACK_AT_360: u64 = 5_808_706_097_955_543_340;
+
+const WHITE_AT_360: u64 = 5_035_746_336_245_120_834;
+
+const LAST_BLACK: u64 = 1_197_968_238_866_613_284;
+
+const LAST_WHITE: u64 = 3_273_342_464_610_144_078;
+
+fn at(size: Size, letters: &str) -> Turn {
+    match sgf_point(size, letters.as_bytes()) {
+        Some(point) => Turn::At(point),
+        None => Turn::Pass,
+    }
+}
+
+// The key after these moves on the empty board.
+fn key_after(rt: HostRuntime, rows: u8, moves: &[(Colour, &str)]) -> Result<u64, Fail> {
+    let size = Size::new(rows).ok_or("size")?;
+    let mut record = Record::<PlayBoard, PlaySeen>::new(rt.alloc(), &Colouring::empty(size))?;
+    for (colour, letters) in moves {
+        record.play(*colour, at(size, letters))?;
+    }
+    Ok(record.key())
+}
+
+#[test]
+fn the_empty_board_has_the_key_zero(rt: HostRuntime) -> Result<(), Fail> {
+    for rows in 1..MAX_SIZE + 1 {
+        let size = Size::new(rows).ok_or("size")?;
+        assert_eq!(rt; PlainBoard::new(size).key(), 0);
+    }
+    Ok(())
+}
+
+#[test]
+fn one_stone_gives_its_word(rt: HostRuntime) -> Result<(), Fail> {
+    assert_eq!(rt; key_after(rt, 9, &[(Colour::Black, "aa")])?, FIRST_BLACK);
+    assert_eq!(rt; key_after(rt, 9, &[(Colour::White, "aa")])?, FIRST_WHITE);
+    assert_eq!(rt; key_after(rt, 19, &[(Colour::Black, "ss")])?, BLACK_AT_360);
+    assert_eq!(rt; key_after(rt, 19, &[(Colour::White, "ss")])?, WHITE_AT_360);
+    assert_eq!(rt; key_after(rt, 25, &[(Colour::Black, "yy")])?, LAST_BLACK);
+    assert_eq!(rt; key_after(rt, 25, &[(Colour::White, "yy")])?, LAST_WHITE);
+    Ok(())
+}
+
+#[test]
+fn the_words_are_the_same_on_all_boards(rt: HostRuntime) -> Result<(), Fail> {
+    assert_eq!(rt; key_after(rt, 2, &[(Colour::Black, "ba")])?, SECOND_BLACK);
+    assert_eq!(rt; key_after(rt, 19, &[(Colour::Black, "ba")])?, SECOND_BLACK);
+    assert_eq!(rt; key_after(rt, 25, &[(Colour::Black, "ko")])?, BLACK_AT_360);
+    Ok(())
+}
+
+#[test]
+fn a_captured_stone_leaves_the_key(rt: HostRuntime) -> Result<(), Fail> {
+    let size = Size::new(2).ok_or("size")?;
+    let mut record = Record::<PlayBoard, PlaySeen>::new(rt.alloc(), &Colouring::empty(size))?;
+    record.play(Colour::Black, at(size, "aa"))?;
+    record.play(Colour::White, at(size, "ba"))?;
+    assert_eq!(rt; record.key(), FIRST_BLACK ^ SECOND_WHITE);
+    record.play(Colour::White, at(size, "ab"))?;
+    assert_eq!(rt; record.key(), SECOND_WHITE ^ THIRD_WHITE);
+    record.undo()?;
+    record.undo()?;
+    assert_eq!(rt; record.key(), FIRST_BLACK);
+    Ok(())
+}
+
+#[test]
+fn the_order_of_the_moves_does_not_matter(rt: HostRuntime) -> Result<(), Fail> {
+    let black = (Colour::Black, "aa");
+    let white = (Colour::White, "cc");
+    let other_black = (Colour::Black, "bb");
+    assert_eq!(rt;
+        key_after(rt, 5, &[black, white, other_black])?,
+        key_after(rt, 5, &[other_black, black, white])?
+    );
+    assert_ne!(rt;
+        key_after(rt, 5, &[black, white])?,
+        key_after(rt, 5, &[other_black, white])?
+    );
+    Ok(())
+}

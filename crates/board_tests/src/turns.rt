@@ -1,0 +1,426 @@
+//! Games on small boards and on the widest, with results worked out by the rules.
+
+use go_points::{Cell, Colour, Colouring, MAX_SIZE, Point, Size, Turn, sgf_point};
+use go_turns::*;
+use std::alloc::{AllocError, Global};
+use std::test::Fail;
+use stone_key::key_of;
+
+// The colouring with this text: `.` for empty, `X` for black, `O` for white, row by row.
+fn painted(size: Size, text: &str) -> Colouring {
+    let mut colouring = Colouring::empty(size);
+    for (number, byte) in text.as_bytes().iter().enumerate() {
+        let size = colouring.size();
+        if number < size.area() {
+            let cell = match *byte {
+                b'X' => Cell::Stone(Colour::Black),
+                b'O' => Cell::Stone(Colour::White),
+                _ => Cell::Empty,
+            };
+            colouring.set(size.point_at(number), cell);
+        }
+    }
+    colouring
+}
+
+fn at(size: Size, column: u8, row: u8) -> Turn {
+    match size.point(column, row) {
+        Some(point) => Turn::At(point),
+        None => Turn::Pass,
+    }
+}
+
+#[test]
+fn a_ko_may_not_be_retaken(rt: HostRuntime) -> Result<(), Fail> {
+    let size = Size::new(3).ok_or("size")?;
+    let mut record = Record::<PlayBoard, PlaySeen>::new(rt.alloc(), &Colouring::empty(size)).expect(
+        &rt, "memory",
+    );
+    assert_eq!(rt; record.play(Colour::Black, at(size, 1, 0)), Ok(()));
+    assert_eq!(rt; record.play(Colour::White, at(size, 2, 0)), Ok(()));
+    assert_eq!(rt; record.play(Colour::Black, at(size, 0, 1)), Ok(()));
+    assert_eq!(rt; record.play(Colour::White, at(size, 1, 1)), Ok(()));
+    assert_eq!(rt; record.play(Colour::White, at(size, 0, 0)), Ok(()));
+    assert_eq!(rt; record.colouring(), painted(size, "O.OXO...."));
+    assert_eq!(rt;
+        record.play(Colour::Black, at(size, 1, 0)),
+        Err(TurnFault::Repeats { earlier: 4 })
+    );
+    assert_eq!(rt; record.colouring(), painted(size, "O.OXO...."));
+    assert_eq!(rt; record.seen().len(), 6);
+    assert_eq!(rt; record.undo(), Ok(()));
+    assert_eq!(rt; record.colouring(), painted(size, ".XOXO...."));
+    assert_eq!(rt; record.seen().len(), 5);
+    assert_eq!(rt; record.play(Colour::White, at(size, 0, 0)), Ok(()));
+    assert_eq!(rt; record.colouring(), painted(size, "O.OXO...."));
+    Ok(())
+}
+
+#[test]
+fn two_stones_may_die_by_their_own_move(rt: HostRuntime) -> Result<(), Fail> {
+    let size = Size::new(3).ok_or("size")?;
+    let mut record = Record::<PlayBoard, PlaySeen>::new(rt.alloc(), &Colouring::empty(size)).expect(
+        &rt, "memory",
+    );
+    assert_eq!(rt; record.play(Colour::Black, at(size, 0, 0)), Ok(()));
+    assert_eq!(rt; record.play(Colour::White, at(size, 0, 1)), Ok(()));
+    assert_eq!(rt; record.play(Colour::White, at(size, 1, 1)), Ok(()));
+    assert_eq!(rt; record.play(Colour::White, at(size, 2, 0)), Ok(()));
+    assert_eq!(rt; record.colouring(), painted(size, "X.OOO...."));
+    assert_eq!(rt; record.play(Colour::Black, at(size, 1, 0)), Ok(()));
+    assert_eq!(rt; record.colouring(), painted(size, "..OOO...."));
+    assert_eq!(rt; record.play(Colour::White, at(size, 1, 0)), Ok(()));
+    assert_eq!(rt;
+        record.play(Colour::Black, at(size, 0, 0)),
+        Err(TurnFault::Repeats { earlier: 6 })
+    );
+    assert_eq!(rt;
+        record.play(Colour::Black, at(size, 1, 1)),
+        Err(TurnFault::Occupied)
+    );
+    assert_eq!(rt; record.last_colour(), Some(Colour::White));
+    Ok(())
+}
+
+#[test]
+fn one_point_has_no_legal_move(rt: HostRuntime) -> Result<(), Fail> {
+    let size = Size::new(1).ok_or("size")?;
+    let mut record = Record::<PlayBoard, PlaySeen>::new(rt.alloc(), &Colouring::empty(size)).expect(
+        &rt, "memory",
+    );
+    assert_eq!(rt;
+        record.play(Colour::Black, at(size, 0, 0)),
+        Err(TurnFault::Repeats { earlier: 0 })
+    );
+    assert_eq!(rt; record.last_colour(), None);
+    assert_eq!(rt; record.undo(), Err(TurnFault::CannotUndo));
+    assert_eq!(rt; record.play(Colour::White, Turn::Pass), Ok(()));
+    assert_eq!(rt; record.play(Colour::Black, Turn::Pass), Ok(()));
+    assert_eq!(rt; record.passes(), 2);
+    assert_eq!(rt; record.last_colour(), Some(Colour::Black));
+    assert_eq!(rt; record.undo(), Ok(()));
+    assert_eq!(rt; record.passes(), 1);
+    assert_eq!(rt; record.last_colour(), Some(Colour::White));
+    let wide = Size::new(2).ok_or("size")?;
+    assert_eq!(rt;
+        record.play(Colour::Black, at(wide, 1, 0)),
+        Err(TurnFault::OffBoard)
+    );
+    assert_eq!(rt; record.size(), size);
+    Ok(())
+}
+
+#[test]
+fn a_stone_without_liberty_is_taken(rt: HostRuntime) -> Result<(), Fail> {
+    let size = Size::new(2).ok_or("size")?;
+    let mut record = Record::<PlayBoard, PlaySeen>::new(rt.alloc(), &Colouring::empty(size)).expect(
+        &rt, "memory",
+    );
+    assert_eq!(rt; record.play(Colour::Black, at(size, 0, 0)), Ok(()));
+    assert_eq!(rt; record.play(Colour::White, at(size, 1, 0)), Ok(()));
+    assert_eq!(rt; record.play(Colour::Black, at(size, 1, 1)), Ok(()));
+    assert_eq!(rt; record.colouring(), painted(size, "X..X"));
+    assert_eq!(rt;
+        record.play(Colour::White, at(size, 0, 1)),
+        Err(TurnFault::Repeats { earlier: 3 })
+    );
+    assert_eq!(rt;
+        record.play(Colour::White, at(size, 1, 0)),
+        Err(TurnFault::Repeats { earlier: 3 })
+    );
+    Ok(())
+}
+
+#[test]
+fn a_past_forbids_and_a_smothered_opening_is_refused(rt: HostRuntime) -> Result<(), Fail> {
+    let size = Size::new(3).ok_or("size")?;
+    let empty = Colouring::empty(size);
+    let corner = painted(size, "X........");
+    if corner.size() == empty.size() && empty != corner {
+        let mut record = Record::<PlayBoard, PlaySeen>::with_history(
+            rt.alloc(),
+            &[empty, corner],
+            0,
+            1,
+        ).expect(&rt, "memory");
+        assert_eq!(rt; record.colouring(), empty);
+        assert_eq!(rt; record.passes(), 1);
+        assert_eq!(rt;
+            record.play(Colour::Black, at(size, 0, 0)),
+            Err(TurnFault::Repeats { earlier: 1 })
+        );
+        assert_eq!(rt; record.play(Colour::White, at(size, 0, 0)), Ok(()));
+        assert_eq!(rt; record.passes(), 0);
+    }
+    let smothered = painted(size, ".X.XOX.X.");
+    match Record::<PlayBoard, PlaySeen>::new(rt.alloc(), &smothered) {
+        Ok(_) => return Err("a stone without liberty stands")?,
+        Err(fault) => {
+            let point = size.point(1, 1).ok_or("point")?;
+            assert_eq!(rt; fault, TurnFault::NoLiberty { point });
+        }
+    }
+    Ok(())
+}
+
+#[test]
+fn a_record_begins_anew(rt: HostRuntime) -> Result<(), Fail> {
+    let size = Size::new(3).ok_or("size")?;
+    let corner = painted(size, "X........");
+    let mut record = Record::<PlayBoard, PlaySeen>::new(rt.alloc(), &corner).expect(&rt, "memory");
+    assert_eq!(rt; record.play(Colour::White, at(size, 1, 1)), Ok(()));
+    let smothered = painted(size, ".X.XOX.X.");
+    assert!(rt; smothered.size() == record.size());
+    let point = size.point(1, 1).ok_or("point")?;
+    assert_eq!(rt;
+        record.reopen(rt.alloc(), &smothered, 0),
+        Err(TurnFault::NoLiberty { point })
+    );
+    assert_eq!(rt; record.colouring(), painted(size, "X...O...."));
+    assert_eq!(rt; record.seen().len(), 2);
+    let other = painted(size, "X.O......");
+    assert!(rt; other.size() == record.size());
+    assert_eq!(rt; record.reopen(rt.alloc(), &other, 1), Ok(()));
+    assert_eq!(rt; record.colouring(), other);
+    assert_eq!(rt; record.passes(), 1);
+    assert_eq!(rt; record.last_colour(), None);
+    assert_eq!(rt; record.seen().holds(&corner), None);
+    assert_eq!(rt; record.seen().holds(&other), Some(0));
+    assert_eq!(rt; record.undo(), Err(TurnFault::CannotUndo));
+    Ok(())
+}
+
+#[test]
+fn a_setup_is_a_step(rt: HostRuntime) -> Result<(), Fail> {
+    let size = Size::new(2).ok_or("size")?;
+    let upper_left = size.point(0, 0).ok_or("point")?;
+    let upper_right = size.point(1, 0).ok_or("point")?;
+    let lower_left = size.point(0, 1).ok_or("point")?;
+    let beyond = Size::new(3).ok_or("size")?.point(2, 0).ok_or("point")?;
+    let black = Cell::Stone(Colour::Black);
+    let white = Cell::Stone(Colour::White);
+    let mut record = Record::<PlayBoard, PlaySeen>::new(rt.alloc(), &Colouring::empty(size)).expect(
+        &rt, "memory",
+    );
+    assert_eq!(rt; record.play(Colour::White, Turn::Pass), Ok(()));
+    assert_eq!(rt;
+        record.setup(&[
+            (upper_left, white),
+            (upper_left, black),
+            (upper_right, white)
+        ]),
+        Ok(())
+    );
+    assert_eq!(rt; record.colouring(), painted(size, "XO.."));
+    assert_eq!(rt; record.passes(), 0);
+    assert_eq!(rt; record.last_colour(), Some(Colour::White));
+    assert_eq!(rt;
+        record.setup(&[(lower_left, white)]),
+        Err(TurnFault::NoLiberty { point: upper_left })
+    );
+    assert_eq!(rt;
+        record.setup(&[(lower_left, white), (beyond, black)]),
+        Err(TurnFault::OffBoard)
+    );
+    assert_eq!(rt; record.colouring(), painted(size, "XO.."));
+    assert_eq!(rt;
+        record.setup(&[(upper_left, Cell::Empty), (upper_right, Cell::Empty)]),
+        Ok(())
+    );
+    assert_eq!(rt; record.seen().len(), 2);
+    assert_eq!(rt; record.undo(), Ok(()));
+    assert_eq!(rt; record.undo(), Ok(()));
+    assert_eq!(rt; record.seen().len(), 1);
+    assert_eq!(rt; record.passes(), 1);
+    Ok(())
+}
+
+// A move on the board, as the number of stones that it takes off, if it is one.
+fn taken<B: Board>(board: &mut B, colour: Colour, point: Point) -> Option<u16> {
+    if board.size().holds(point) {
+        board.play(colour, point).ok()
+    } else {
+        None
+    }
+}
+
+#[test]
+fn moves_on_the_widest_board_count_what_they_take(rt: HostRuntime) -> Result<(), Fail> {
+    let size = Size::new(MAX_SIZE).ok_or("size")?;
+    let last = MAX_SIZE - 1;
+    let corner = size.point(last, last).ok_or("point")?;
+    let left = size.point(last - 1, last).ok_or("point")?;
+    let above = size.point(last, last - 1).ok_or("point")?;
+    let beyond = size.point(last, last - 2).ok_or("point")?;
+    let beside = size.point(last - 1, last - 1).ok_or("point")?;
+    let mut board = PlayBoard::new(size);
+    assert_eq!(rt; taken(&mut board, Colour::White, corner), Some(0));
+    assert_eq!(rt; taken(&mut board, Colour::White, corner), None);
+    assert_eq!(rt; taken(&mut board, Colour::Black, left), Some(0));
+    assert_eq!(rt; taken(&mut board, Colour::Black, above), Some(1));
+    assert_eq!(rt; taken(&mut board, Colour::White, corner), Some(1));
+    assert_eq!(rt; taken(&mut board, Colour::White, beyond), Some(0));
+    assert_eq!(rt; taken(&mut board, Colour::White, beside), Some(0));
+    assert_eq!(rt; taken(&mut board, Colour::White, corner), Some(1));
+    assert_eq!(rt; taken(&mut board, Colour::Black, corner), None);
+    assert_eq!(rt; taken(&mut board, Colour::Black, above), Some(1));
+    Ok(())
+}
+
+// The widest board, full of black stones but for the point in its middle.
+fn nearly_full() -> Option<Colouring> {
+    let size = Size::new(MAX_SIZE)?;
+    let mut colouring = Colouring::empty(size);
+    for number in 0..size.area() {
+        let size = colouring.size();
+        if number != size.area() / 2 && number < size.area() {
+            colouring.set(size.point_at(number), Cell::Stone(Colour::Black));
+        }
+    }
+    Some(colouring)
+}
+
+// What a move in the middle of that board takes off.
+fn taken_in_the_middle<B: Board>(board: &mut B, colour: Colour) -> Option<u16> {
+    let wanted = nearly_full()?;
+    let size = board.size();
+    if wanted.size() == size && board.assign(&wanted).is_ok() {
+        taken(board, colour, size.point(MAX_SIZE / 2, MAX_SIZE / 2)?)
+    } else {
+        None
+    }
+}
+
+#[test]
+fn a_move_empties_the_widest_board(rt: HostRuntime) -> Result<(), Fail> {
+    let size = Size::new(MAX_SIZE).ok_or("size")?;
+    let mut board = PlayBoard::new(size);
+    assert_eq!(rt; taken_in_the_middle(&mut board, Colour::White), Some(624));
+    let mut plain = PlainBoard::new(size);
+    assert_eq!(rt; taken_in_the_middle(&mut plain, Colour::White), Some(624));
+    assert_eq!(rt; board.colouring(), plain.colouring());
+    assert_eq!(rt; taken_in_the_middle(&mut board, Colour::Black), Some(625));
+    assert_eq!(rt; taken_in_the_middle(&mut plain, Colour::Black), Some(625));
+    assert_eq!(rt; board.colouring(), Colouring::empty(size));
+    assert_eq!(rt; plain.colouring(), Colouring::empty(size));
+    Ok(())
+}
+
+#[test]
+fn a_board_refuses_a_stone_without_liberty(rt: HostRuntime) -> Result<(), Fail> {
+    let size = Size::new(3).ok_or("size")?;
+    let centre = size.point(1, 1).ok_or("point")?;
+    let mut board = PlayBoard::new(size);
+    let crossed = painted(size, ".X.X.X.X.");
+    let smothered = painted(size, ".X.XOX.X.");
+    let size = board.size();
+    if crossed.size() == size && smothered.size() == size {
+        assert_eq!(rt; board.assign(&crossed), Ok(()));
+        assert_eq!(rt; board.assign(&smothered), Err(NoLiberty { point: centre }));
+        assert_eq!(rt; board.colouring(), crossed);
+    }
+    if board.size().holds(centre) {
+        assert_eq!(rt; board.cell(centre), Cell::Empty);
+    }
+    Ok(())
+}
+
+// Whether a list of two colourings names the place of each, until the second is taken off.
+fn are_found<S: Seen>(
+    alloc: Global,
+    first: Colouring,
+    second: Colouring,
+) -> Result<bool, AllocError> {
+    let mut seen = S::new(alloc);
+    seen.add(first)?;
+    if seen.holds(&second).is_some() {
+        return Ok(false);
+    }
+    seen.add(second)?;
+    let were_two = seen.len() == 2 && seen.holds(&second) == Some(1) && *seen.at(1) == second;
+    seen.take_last();
+    Ok(were_two && seen.len() == 1 && seen.holds(&second) == None && seen.holds(&first) == Some(0))
+}
+
+#[test]
+fn each_colouring_has_its_place(rt: HostRuntime) -> Result<(), Fail> {
+    let size = Size::new(2).ok_or("size")?;
+    let are_found = are_found::<PlaySeen>(rt.alloc(), painted(size, "X..."), painted(size, "O..."));
+    assert_eq!(rt; are_found.ok(), Some(true));
+    Ok(())
+}
+
+// Whether a colouring joins the list just where it is new.
+fn are_joined<S: Seen>(
+    alloc: Global,
+    first: Colouring,
+    second: Colouring,
+) -> Result<bool, AllocError> {
+    let mut seen = S::new(alloc);
+    let was_new = seen.add_new(first, key_of(&first))? == None;
+    let is_second_new = seen.add_new(second, key_of(&second))? == None;
+    let again = seen.add_new(first, key_of(&first))?;
+    Ok(was_new && is_second_new && again == Some(0) && seen.len() == 2)
+}
+
+#[test]
+fn each_colouring_joins_once(rt: HostRuntime) -> Result<(), Fail> {
+    let size = Size::new(2).ok_or("size")?;
+    let first = painted(size, "X...");
+    let second = painted(size, "O...");
+    assert_eq!(rt;
+        are_joined::<PlaySeen>(rt.alloc(), first, second).ok(),
+        Some(true)
+    );
+    assert_eq!(rt;
+        are_joined::<ListSeen>(rt.alloc(), first, second).ok(),
+        Some(true)
+    );
+    Ok(())
+}
+
+#[test]
+fn a_turn_is_made_just_where_it_is_legal(rt: HostRuntime) -> Result<(), Fail> {
+    let size = Size::new(3).ok_or("size")?;
+    let mut record = Record::<PlayBoard, PlaySeen>::new(
+        rt.alloc(),
+        &painted(size, ".XOXO...."),
+    ).expect(&rt, "liberties");
+    assert_eq!(rt;
+        record.play_if_legal(Colour::White, at(size, 1, 0)).ok(),
+        Some(false)
+    );
+    assert_eq!(rt;
+        record.play_if_legal(Colour::White, at(size, 0, 0)).ok(),
+        Some(true)
+    );
+    assert_eq!(rt;
+        record.play_if_legal(Colour::Black, at(size, 1, 0)).ok(),
+        Some(false)
+    );
+    assert_eq!(rt; record.colouring(), painted(size, "O.OXO...."));
+    assert_eq!(rt; record.seen().len(), 2);
+    assert_eq!(rt;
+        record.play_if_legal(Colour::Black, Turn::Pass).ok(),
+        Some(true)
+    );
+    assert_eq!(rt; record.passes(), 1);
+    Ok(())
+}
+
+#[test]
+fn faults_have_texts(rt: HostRuntime) -> Result<(), Fail> {
+    let point = sgf_point(Size::new(3).expect(&rt, "a size"), b"aa").expect(&rt, "a point");
+    let rows: [(TurnFault, &str); 6] = [
+        (TurnFault::OffBoard, "off the board"),
+        (TurnFault::Occupied, "occupied"),
+        (TurnFault::Repeats { earlier: 12 }, "repeats 12"),
+        (TurnFault::NoLiberty { point }, "no liberty"),
+        (TurnFault::CannotUndo, "cannot undo"),
+        (TurnFault::Memory, "out of memory"),
+    ];
+    for (fault, text) in rows {
+        assert_eq!(rt; format!(in rt.alloc(); "{fault}")?.as_str(), text);
+    }
+    Ok(())
+}

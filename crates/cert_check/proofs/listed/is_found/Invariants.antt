@@ -1,0 +1,9 @@
+use Rattle.std.proofs.Common.{◌-◌}
+use Rattle.cert_check.proofs.Ascending.{IsSplit}
+use Rattle.cert_check.proofs.listed.is_found.Given as goal
+
+abbrev pub invariant-halving : goal.invariant-halving
+invariant-halving l = IsSplit l.list l.colouring l.low l.high
+
+abbrev pub decreases-halving : goal.decreases-halving
+decreases-halving l = l.high - l.low

@@ -1,0 +1,11 @@
+use Rattle.std.proofs.Common.{◌≡◌, length, ap, ◌∙◌, arith}
+use Rattle.target_game.specs.Left.{turns_due}
+use Rattle.target_game.proofs.Due.{turns_begun}
+use Rattle.cert_check.specs.Body.{due_replies}
+use Rattle.cert_check.proofs.questions.has_turns.Goals as goal
+
+pub loop-taken-init : goal.loop-taken-init
+loop-taken-init c =
+    let s = c.args.state.now.state in
+    let all : length (turns_due s c.all-left.result.next) ≡ length (due_replies s) = ap length (ap (turns_due s) c.all-left.ensures ∙ turns_begun s) in
+    omega (arith, all)

@@ -1,0 +1,7 @@
+use Rattle.std.proofs.Common.{◌≡◌, ◌+◌, length}
+use Rattle.target_game.specs.Left.{turns_due}
+use Rattle.cert_check.specs.Body.{due_replies}
+use Rattle.cert_check.proofs.questions.has_turns.Given as goal
+
+abbrev pub invariant-loop-taken : goal.invariant-loop-taken
+invariant-loop-taken l = length (turns_due l.state.state l.left.next) + l.taken ≡ length (due_replies l.state.state)

@@ -1,0 +1,259 @@
+//! Audits of records, with the answers that follow by hand from the questions and the rules of the game.
+
+use go_points::{Colour, Size, Turn, sgf_point, to_sgf};
+use sgf_text::read_tree;
+use solution_tree::{AuditFault, AuditWhy, audit};
+use std::alloc::Global;
+use std::process::Abort;
+use std::test::Fail;
+use tsumego_problem::{problem_node, read_problem};
+
+// The audit of the first record of the text.
+pub(crate) fn audited(
+    alloc: Global,
+    rt: &impl Abort,
+    text: &[u8],
+) -> Result<Result<Colour, AuditFault>, Fail> {
+    let (tree, _end) = read_tree(alloc, text)?;
+    let problem = read_problem(alloc, &tree)?;
+    assert!(rt; problem_node(&tree).is_some(), "a problem node");
+    Ok(audit(alloc, &problem, &tree))
+}
+
+// The text with a front and n copies of a piece behind it.
+pub(crate) fn repeated(
+    alloc: Global,
+    front: &[u8],
+    piece: &[u8],
+    n: usize,
+) -> Result<Vec<u8>, Fail> {
+    let mut text = front.to_vec(alloc)?;
+    for _ in 0..n {
+        text.extend_from_slice(piece)?;
+    }
+    Ok(text)
+}
+
+pub(crate) fn at(node: usize, why: AuditWhy) -> Result<Colour, AuditFault> {
+    Err(AuditFault { node, why })
+}
+
+fn due(rt: &impl Abort, point: &[u8]) -> AuditWhy {
+    let size = Size::new(3).expect(rt, "a size");
+    AuditWhy::ReplyMissing {
+        due: Turn::At(sgf_point(size, point).expect(rt, "a point")),
+    }
+}
+
+// A capture: a black stone beside a white one, which Black takes at ba. The problem node has the number 1.
+const CAPTURE: &[u8] = b"(;FF[4]GM[1]SZ[3]AB[ab]AW[aa];PL[B]TR[aa]SQ[ba]";
+
+// A ko: White has just taken at aa, and Black may take back at ba only after a move at cc. The problem node has the number 2.
+const KO: &[u8] = b"(;FF[4]GM[1]SZ[3]AB[ba][ab]AW[ca][bb];AW[aa]AE[ba];PL[B]TR[aa]SQ[ba][cc]";
+
+// The audit of the front with these nodes behind it.
+fn behind(
+    alloc: Global,
+    rt: &impl Abort,
+    front: &[u8],
+    nodes: &[u8],
+) -> Result<Result<Colour, AuditFault>, Fail> {
+    let text = repeated(alloc, front, nodes, 1)?;
+    audited(alloc, rt, text.as_slice())
+}
+
+#[test]
+fn follows_the_first_line(rt: HostRuntime) -> Result<(), Fail> {
+    let alloc = rt.alloc();
+    let rows: [(&[u8], Result<Colour, AuditFault>); 16] = [
+        (b";B[ba])", Ok(Colour::Black)),
+        (b";W[ba])", at(2, AuditWhy::WrongColour)),
+        (b";B[ab])", at(2, AuditWhy::TurnBarred)),
+        (b";B[cc])", at(2, AuditWhy::TurnBarred)),
+        (b";B[])", at(2, AuditWhy::NotWon)),
+        (b";B[tt])", at(2, AuditWhy::NotWon)),
+        (b";B[ba];W[])", at(3, AuditWhy::AfterTheEnd)),
+        (b")", at(1, AuditWhy::NotWon)),
+        (b";B[ba]W[ba])", at(2, AuditWhy::NoTurn)),
+        (b";B[ba][])", at(2, AuditWhy::NoTurn)),
+        (b";B[dd])", at(2, AuditWhy::NoTurn)),
+        (b";B[ba]AE[cc])", at(2, AuditWhy::NoTurn)),
+        (b";C[Black takes];B[ba])", at(2, AuditWhy::NoTurn)),
+        (b";TR[aa]C[takes]B[ba]PL[B]N[a])", Ok(Colour::Black)),
+        // A turn of the wrong colour is named before one that is barred or comes too late.
+        (b";W[ab])", at(2, AuditWhy::WrongColour)),
+        (b";B[ba];B[ba])", at(3, AuditWhy::WrongColour)),
+    ];
+    for (nodes, answer) in rows {
+        assert_eq!(rt; behind(alloc, &rt, CAPTURE, nodes)?, answer);
+    }
+    Ok(())
+}
+
+#[test]
+fn asks_every_branch(rt: HostRuntime) -> Result<(), Fail> {
+    let alloc = rt.alloc();
+    // In all rows but the first White wins in the first line, so that the turns of Black at the problem node are the replies.
+    let rows: [(&[u8], Result<Colour, AuditFault>); 9] = [
+        (b"(;B[ba])(;B[]))", at(1, AuditWhy::SeveralAnswers)),
+        (b";B[];W[])", at(1, due(&rt, b"ba"))),
+        (b"(;B[];W[])(;C[none]))", at(1, due(&rt, b"ba"))),
+        (b"(;B[];W[])(;B[ab]))", at(1, due(&rt, b"ba"))),
+        (b"(;B[];W[])(;B[ba]))", at(4, AuditWhy::NotWon)),
+        (b"(;B[];W[])(;B[ba];W[]))", at(4, AuditWhy::NotWon)),
+        // A turn of the wrong colour counts as the reply that is due, and is refused itself.
+        (b"(;B[];W[])(;W[ba]))", at(4, AuditWhy::WrongColour)),
+        (
+            b"(;B[](;W[])(;W[]))(;B[ba]))",
+            at(2, AuditWhy::SeveralAnswers),
+        ),
+        (b"(;B[];W[];B[])(;B[ba]))", at(4, AuditWhy::AfterTheEnd)),
+    ];
+    for (nodes, answer) in rows {
+        assert_eq!(rt; behind(alloc, &rt, CAPTURE, nodes)?, answer);
+    }
+    Ok(())
+}
+
+#[test]
+fn numbers_nodes_across_branches(rt: HostRuntime) -> Result<(), Fail> {
+    let alloc = rt.alloc();
+    let rows: [(&[u8], Result<Colour, AuditFault>); 9] = [
+        // Replies may stand in any order.
+        (b"(;B[cc];W[ba];B[];W[])(;B[];W[]))", Ok(Colour::White)),
+        (b"(;B[];W[])(;B[cc];W[ba];B[];W[]))", Ok(Colour::White)),
+        (
+            b"(;B[cc];W[ba];B[];W[]))",
+            at(2, AuditWhy::ReplyMissing { due: Turn::Pass }),
+        ),
+        (b";B[];W[])", at(2, due(&rt, b"cc"))),
+        (b"(;B[cc];W[];B[])(;B[];W[]))", at(4, due(&rt, b"ba"))),
+        (
+            b"(;B[cc];W[ba];B[];W[])(;B[];W[])(;B[];W[]))",
+            at(9, AuditWhy::ReplyTwice),
+        ),
+        (
+            b"(;B[cc];W[ba];B[];W[])(;B[];W[])(;B[ba];W[]))",
+            at(9, AuditWhy::TurnBarred),
+        ),
+        (b"(;B[];W[])(;W[cc]))", at(5, AuditWhy::WrongColour)),
+        (
+            b"(;B[cc](;W[ba];B[];W[])(;W[]))(;B[];W[]))",
+            at(3, AuditWhy::SeveralAnswers),
+        ),
+    ];
+    for (nodes, answer) in rows {
+        assert_eq!(rt; behind(alloc, &rt, KO, nodes)?, answer);
+    }
+    Ok(())
+}
+
+#[test]
+fn finds_the_problem_node(rt: HostRuntime) -> Result<(), Fail> {
+    let alloc = rt.alloc();
+    let rows: [(&[u8], Result<Colour, AuditFault>); 4] = [
+        (
+            b"(;FF[4]GM[1]SZ[3]AB[ab]AW[aa]PL[B]TR[aa]SQ[ba];B[ba])",
+            Ok(Colour::Black),
+        ),
+        (
+            b"(;FF[4]GM[1]SZ[3]AB[ab]AW[aa]PL[B]TR[aa]SQ[ba])",
+            at(0, AuditWhy::NotWon),
+        ),
+        // The second tree stands beside the main line and is not read.
+        (
+            b"(;SZ[3]AB[ab]AW[aa](;C[a](;PL[B]TR[aa]SQ[ba](;B[ba])))(;TR[ab];W[cc]))",
+            Ok(Colour::Black),
+        ),
+        (
+            b"(;SZ[3]AB[ab]AW[aa](;C[a](;PL[B]TR[aa]SQ[ba](;B[ba])(;C[b]))))",
+            at(2, AuditWhy::SeveralAnswers),
+        ),
+    ];
+    for (text, answer) in rows {
+        assert_eq!(rt; audited(alloc, &rt, text)?, answer);
+    }
+    Ok(())
+}
+
+// Whether the fault of the record is a turn after the end, at the node with the number 4.
+fn ends_before_four(alloc: Global, rt: &impl Abort, text: &[u8]) -> Result<bool, Fail> {
+    Ok(audited(alloc, rt, text)? == at(4, AuditWhy::AfterTheEnd))
+}
+
+#[test]
+fn stops_early_in_long_trees(rt: HostRuntime) -> Result<(), Fail> {
+    let alloc = rt.alloc();
+    let front = repeated(alloc, CAPTURE, b";B[];W[]", 49_999)?;
+    let text = repeated(alloc, front.as_slice(), b")", 1)?;
+    assert!(rt; ends_before_four(alloc, &rt, text.as_slice())?);
+    Ok(())
+}
+
+#[test]
+fn stops_early_in_deep_trees(rt: HostRuntime) -> Result<(), Fail> {
+    let alloc = rt.alloc();
+    let front = repeated(alloc, CAPTURE, b"(;B[](;W[]", 499)?;
+    let text = repeated(alloc, front.as_slice(), b")", 999)?;
+    assert!(rt; ends_before_four(alloc, &rt, text.as_slice())?);
+    Ok(())
+}
+
+// The values of a property: the points of the board whose numbers leave this rest by 2.
+fn add_points(text: &mut Vec<u8>, size: Size, rest: usize) -> Result<(), Fail> {
+    for number in 0..size.area() {
+        if number % 2 == rest {
+            text.push(b'[')?;
+            text.extend_from_slice(&to_sgf(size.point_at(number)))?;
+            text.push(b']')?;
+        }
+    }
+    Ok(())
+}
+
+// Black stones stand like the black squares of a chess board, and Black fills all points between them but two. White may only
+// pass, since each of its moves would be taken off at once. Then Black passes as well and has won. 39 points are filled.
+fn filled(alloc: Global, rt: &impl Abort, open: &[u8]) -> Result<Vec<u8>, Fail> {
+    let size = Size::new(9).expect(rt, "a size");
+    let mut text = Vec::new(alloc);
+    text.extend_from_slice(b"(;FF[4]GM[1]SZ[9]PL[B]TR[ba]AB")?;
+    add_points(&mut text, size, 1)?;
+    text.extend_from_slice(b"SQ")?;
+    add_points(&mut text, size, 0)?;
+    for number in 0..size.area().saturating_sub(4) {
+        if number % 2 == 0 {
+            text.extend_from_slice(open)?;
+            text.extend_from_slice(b"B[")?;
+            text.extend_from_slice(&to_sgf(size.point_at(number)))?;
+            text.push(b']')?;
+            text.extend_from_slice(open)?;
+            text.extend_from_slice(b"W[]")?;
+        }
+    }
+    text.extend_from_slice(open)?;
+    text.extend_from_slice(b"B[]")?;
+    Ok(text)
+}
+
+fn black_wins(alloc: Global, rt: &impl Abort, text: &[u8]) -> Result<bool, Fail> {
+    Ok(audited(alloc, rt, text)? == Ok(Colour::Black))
+}
+
+#[test]
+fn goes_down_a_sequence(rt: HostRuntime) -> Result<(), Fail> {
+    let alloc = rt.alloc();
+    let front = filled(alloc, &rt, b";")?;
+    let text = repeated(alloc, front.as_slice(), b")", 1)?;
+    assert!(rt; black_wins(alloc, &rt, text.as_slice())?);
+    Ok(())
+}
+
+// 79 turns, each in a tree of its own, and the root.
+#[test]
+fn goes_down_nested_trees(rt: HostRuntime) -> Result<(), Fail> {
+    let alloc = rt.alloc();
+    let front = filled(alloc, &rt, b"(;")?;
+    let text = repeated(alloc, front.as_slice(), b")", 80)?;
+    assert!(rt; black_wins(alloc, &rt, text.as_slice())?);
+    Ok(())
+}

@@ -1,0 +1,118 @@
+//! An audit that goes down as many nested trees as a record may have.
+
+use crate::audits::{at, audited, repeated};
+use crate::deep::{PlayState, TURNS, first_turn, make, turn_of};
+use go_points::{Turn, to_sgf};
+use sgf_text::read_tree;
+use solution_tree::AuditWhy;
+use std::alloc::Global;
+use std::process::Abort;
+use std::test::Fail;
+use target_game::{Problem, State};
+use tsumego_problem::read_problem;
+
+// How many turns of black are made: each takes two nested trees with the reply, of the 1,000 that a record may have.
+const MADE: usize = 498;
+
+// Two black targets that nobody can take, since they share an eye where nobody may move.
+const WIDE: &[u8] = b"(;FF[4]GM[1]SZ[6]PL[B]AB[ba][ab]TR[ba][ab]SQ[ca:fa][bb:fb][ac:ff]";
+
+fn add_turn(text: &mut Vec<u8>, rt: &impl Abort, word: &[u8], turn: Turn) {
+    text.extend_from_slice(word).expect(rt, "memory");
+    if let Turn::At(point) = turn {
+        text.extend_from_slice(&to_sgf(point)).expect(rt, "memory");
+    }
+    text.push(b']').expect(rt, "memory");
+}
+
+// The other legal turns of white, each in a tree in which nothing follows; and the end of the tree that they stand in.
+fn other_replies(
+    alloc: Global,
+    rt: &impl Abort,
+    state: &PlayState,
+    given: Turn,
+) -> Result<Vec<u8>, Fail> {
+    let mut text = Vec::new(alloc);
+    text.push(b')')?;
+    let all = state.turns();
+    for turn in all.as_slice() {
+        if *turn != given {
+            add_turn(&mut text, rt, b"(;W[", *turn);
+            text.push(b')')?;
+        }
+    }
+    text.push(b')')?;
+    Ok(text)
+}
+
+// Adds a turn of black and a reply, each in a tree within the one before. What closes the two trees comes later.
+fn go_down(
+    alloc: Global,
+    rt: &impl Abort,
+    text: &mut Vec<u8>,
+    state: &mut PlayState,
+    turn: Turn,
+) -> Result<Vec<u8>, Fail> {
+    let made = turn;
+    add_turn(text, rt, b"(;B[", turn);
+    make(rt, state, made);
+    let reply = first_turn(state);
+    let given = reply;
+    let named = reply;
+    let end = other_replies(alloc, rt, state, reply)?;
+    add_turn(text, rt, b"(;W[", named);
+    make(rt, state, given);
+    Ok(end)
+}
+
+// Adds a pass of black and one of white, which end the game, with the trees of the other replies.
+fn end_play(
+    alloc: Global,
+    rt: &impl Abort,
+    text: &mut Vec<u8>,
+    state: &mut PlayState,
+) -> Result<(), Fail> {
+    text.extend_from_slice(b"(;B[](;W[]")?;
+    make(rt, state, Turn::Pass);
+    let end = other_replies(alloc, rt, state, Turn::Pass)?;
+    text.extend_from_slice(end.as_slice())?;
+    Ok(())
+}
+
+// The record: its first line goes down to the end of play, and beside each reply of it stand the other ones, unanswered.
+fn record_of(alloc: Global, rt: &impl Abort, problem: &Problem) -> Result<Vec<u8>, Fail> {
+    let mut state: PlayState = State::of(alloc, problem)?;
+    let size = state.size();
+    let mut text = WIDE.to_vec(alloc)?;
+    let mut ends: Vec<Vec<u8>> = Vec::new(alloc);
+    for turns in TURNS {
+        for code in turns.as_bytes() {
+            if ends.len() < MADE {
+                ends.push(go_down(alloc, rt, &mut text, &mut state, turn_of(size, *code))?)?;
+            }
+        }
+    }
+    end_play(alloc, rt, &mut text, &mut state)?;
+    let ends = ends.as_slice();
+    for place in 0..ends.len() {
+        text.extend_from_slice(ends[ends.len() - 1 - place].as_slice())?;
+    }
+    text.push(b')')?;
+    Ok(text)
+}
+
+// The first line has 998 turns below the root, and the node after the last of them is a reply that black has no answer to.
+fn is_left_off(alloc: Global, rt: &impl Abort, text: &[u8]) -> Result<bool, Fail> {
+    Ok(audited(alloc, rt, text)? == at(999, AuditWhy::NotWon))
+}
+
+#[test]
+fn goes_down_to_the_depth_of_a_record(rt: HostRuntime) -> Result<(), Fail> {
+    let alloc = rt.alloc();
+    let front = repeated(alloc, WIDE, b")", 1)?;
+    let (tree, _end) = read_tree(alloc, front.as_slice())?;
+    let problem = read_problem(alloc, &tree)?;
+    let text = record_of(alloc, &rt, &problem)?;
+    assert!(rt; is_left_off(alloc, &rt, text.as_slice())?);
+    Ok(())
+}

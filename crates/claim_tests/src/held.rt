@@ -1,0 +1,105 @@
+//! Certificates that are held, checked for problems on boards of three rows.
+
+use crate::small_claims::{point, problem};
+use cert_check::{Checked, Reject, Why, check_held};
+use go_points::{Colour, Colouring, Size, Turn};
+use proof_cert::{Certificate, Lemma, Node, Version};
+use std::alloc::Global;
+use std::process::Abort;
+use std::test::Fail;
+use target_game::Problem;
+
+// Black takes a ko, where these colourings have occurred.
+fn ko(alloc: Global, rt: &impl Abort, texts: &[&str]) -> Problem {
+    problem(alloc, rt, 3, texts, Colour::Black, &[(1, 0)])
+}
+
+// One lemma, in which black takes the ko, and main, which uses the lemma of this number; for a board of so many rows.
+fn takes_ko(alloc: Global, rt: &impl Abort, rows: u8, number: u32) -> Result<Certificate, Fail> {
+    let three = Size::new(3).expect(rt, "a size");
+    let mut absent = Vec::new(alloc);
+    absent.push(Colouring::from_text(three, b".XOXO....").expect(rt, "a colouring"))?;
+    let mut lemmas = Vec::new(alloc);
+    lemmas.push(Lemma {
+        mover: Colour::Black,
+        passes: 0,
+        root: Colouring::from_text(three, b"O.OXO....").expect(rt, "a colouring"),
+        had: Vec::new(alloc),
+        absent,
+        body: Node::Play(Turn::At(point(rt, 3, 1, 0)), Box::new(alloc, Node::Won)?),
+    })?;
+    Ok(Certificate {
+        version: Version::One,
+        size: Size::new(rows).expect(rt, "a size"),
+        winner: Colour::Black,
+        lemmas,
+        main: Node::Use(number),
+    })
+}
+
+// The first fault, with the problem and the certificate as they were handed in.
+fn refused(rt: &impl Abort, answer: Result<Checked, (Reject, Problem, Certificate)>) -> Reject {
+    match answer {
+        Ok(_) => {
+            assert!(rt; false, "a refusal");
+            Reject {
+                place: 0,
+                why: Why::Memory,
+            }
+        }
+        Err((reject, problem, certificate)) => {
+            assert_eq!(rt; problem.size().rows(), 3);
+            assert_eq!(rt; problem.mover(), Colour::Black);
+            assert_eq!(rt; certificate.winner, Colour::Black);
+            assert_eq!(rt; certificate.lemmas.len(), 1);
+            reject
+        }
+    }
+}
+
+#[test]
+fn a_certificate_that_is_valid(rt: HostRuntime) -> Result<(), Fail> {
+    let open = ko(rt.alloc(), &rt, &["O.OXO...."]);
+    let certificate = takes_ko(rt.alloc(), &rt, 3, 1)?;
+    match check_held(rt.alloc(), open, certificate) {
+        Ok(checked) => {
+            assert_eq!(rt; checked.winner(), Colour::Black);
+            assert_eq!(rt; checked.problem().history().len(), 1);
+            assert_eq!(rt; checked.certificate().lemmas.len(), 1);
+        }
+        Err(_) => assert!(rt; false, "a valid certificate"),
+    }
+    Ok(())
+}
+
+#[test]
+fn certificates_that_are_not_valid(rt: HostRuntime) -> Result<(), Fail> {
+    let closed = ko(rt.alloc(), &rt, &["O.OXO....", ".XOXO...."]);
+    let occurred = check_held(rt.alloc(), closed, takes_ko(rt.alloc(), &rt, 3, 1)?);
+    assert_eq!(rt;
+        refused(&rt, occurred),
+        Reject {
+            place: 8,
+            why: Why::ListedOccurred
+        }
+    );
+    let open = ko(rt.alloc(), &rt, &["O.OXO...."]);
+    let number = check_held(rt.alloc(), open, takes_ko(rt.alloc(), &rt, 3, 2)?);
+    assert_eq!(rt;
+        refused(&rt, number),
+        Reject {
+            place: 8,
+            why: Why::LemmaNotLower
+        }
+    );
+    let wide = ko(rt.alloc(), &rt, &["O.OXO...."]);
+    let size = check_held(rt.alloc(), wide, takes_ko(rt.alloc(), &rt, 4, 1)?);
+    assert_eq!(rt;
+        refused(&rt, size),
+        Reject {
+            place: 1,
+            why: Why::SizeDiffers
+        }
+    );
+    Ok(())
+}

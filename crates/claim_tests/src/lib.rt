@@ -1,0 +1,27 @@
+//! Tests of claims that are judged, held, lifted, expanded and written, and of audits. They call what those crates make public.
+#![tactic(auto)]
+
+#[cfg(test)]
+mod audits;
+#[cfg(test)]
+mod deep;
+#[cfg(test)]
+mod deep_audit;
+#[cfg(test)]
+mod deepest;
+#[cfg(test)]
+mod expansions;
+#[cfg(test)]
+mod held;
+#[cfg(test)]
+mod lemmas;
+#[cfg(test)]
+mod lifts;
+#[cfg(test)]
+mod pasts;
+#[cfg(test)]
+mod small_claims;
+#[cfg(test)]
+mod solutions;
+#[cfg(test)]
+mod sources;

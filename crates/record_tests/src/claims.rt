@@ -1,0 +1,416 @@
+//! Claims written and walked, against texts that were spelled by hand from the format.
+
+use go_points::{Colour, Colouring, Point, Size, Turn};
+use proof_cert::*;
+use std::alloc::Global;
+use std::io;
+use std::process::Abort;
+use std::test::Fail;
+
+const SHARED: &str =
+    "tsucert 1 3 B\nlemma B 0 O.OXO....\nnot .XOXO....\nplay ba\nwon\nend\nmain\nuse 1\nend\n";
+
+const ANSWERED: &str =
+    "tsucert 1 3 W\nlemma B 0 O.OXO....\nall 1\nreply pass\nplay pass\nwon\nend\nmain\nuse 1\nend\n";
+
+const MEETING: &str =
+    "tsucert 1 3 W\nlemma W 0 O......XX\nplay pass\nall 1\nreply pass\nwon\nend\nmain\nall 3\nreply bc\nplay pass\nall 2\nreply cc\nuse 1\nreply pass\nwon\nreply cc\nplay pass\nall 2\nreply bc\nuse 1\nreply pass\nwon\nreply pass\nplay pass\nwon\nend\n";
+
+fn size_of(rt: &impl Abort, rows: u8) -> Size {
+    Size::new(rows).expect(rt, "a size")
+}
+
+fn at(rt: &impl Abort, column: u8, row: u8) -> Turn {
+    Turn::At(size_of(rt, 19).point(column, row).expect(rt, "a point"))
+}
+
+fn colouring(rt: &impl Abort, rows: u8, text: &str) -> Colouring {
+    Colouring::from_text(size_of(rt, rows), text.as_bytes()).expect(rt, "a colouring")
+}
+
+fn play(alloc: Global, turn: Turn, below: Node) -> Result<Node, Fail> {
+    Ok(Node::Play(turn, Box::new(alloc, below)?))
+}
+
+fn claim(rt: &impl Abort, winner: Colour, lemmas: Vec<Lemma>, main: Node) -> Certificate {
+    Certificate {
+        version: Version::One,
+        size: size_of(rt, 3),
+        winner,
+        lemmas,
+        main,
+    }
+}
+
+/// A lemma with so many passes and these listed colourings, which main uses.
+fn one_lemma(
+    alloc: Global,
+    rt: &impl Abort,
+    passes: u8,
+    listed: &[Colouring],
+) -> Result<Certificate, Fail> {
+    let mut lemmas = Vec::new(alloc);
+    lemmas.push(Lemma {
+        mover: Colour::Black,
+        passes,
+        root: colouring(rt, 3, "O.OXO...."),
+        had: Vec::new(alloc),
+        absent: listed.to_vec(alloc)?,
+        body: play(alloc, at(rt, 1, 0), Node::Won)?,
+    })?;
+    Ok(claim(rt, Colour::Black, lemmas, Node::Use(1)))
+}
+
+fn shared(alloc: Global, rt: &impl Abort) -> Result<Certificate, Fail> {
+    one_lemma(alloc, rt, 0, &[colouring(rt, 3, ".XOXO....")])
+}
+
+fn answered(alloc: Global, rt: &impl Abort) -> Result<Certificate, Fail> {
+    let mut replies = Vec::new(alloc);
+    replies.push((Turn::Pass, play(alloc, Turn::Pass, Node::Won)?))?;
+    let mut lemmas = Vec::new(alloc);
+    lemmas.push(Lemma {
+        mover: Colour::Black,
+        passes: 0,
+        root: colouring(rt, 3, "O.OXO...."),
+        had: Vec::new(alloc),
+        absent: Vec::new(alloc),
+        body: Node::All(replies),
+    })?;
+    Ok(claim(rt, Colour::White, lemmas, Node::Use(1)))
+}
+
+/// White passes, Black takes the other point and the lemma follows, or Black passes too.
+fn one_point(alloc: Global, other: Turn) -> Result<Node, Fail> {
+    let mut replies = Vec::new(alloc);
+    replies.push((other, Node::Use(1)))?;
+    replies.push((Turn::Pass, Node::Won))?;
+    play(alloc, Turn::Pass, Node::All(replies))
+}
+
+fn meeting(alloc: Global, rt: &impl Abort) -> Result<Certificate, Fail> {
+    let mut passed = Vec::new(alloc);
+    passed.push((Turn::Pass, Node::Won))?;
+    let mut lemmas = Vec::new(alloc);
+    lemmas.push(Lemma {
+        mover: Colour::White,
+        passes: 0,
+        root: colouring(rt, 3, "O......XX"),
+        had: Vec::new(alloc),
+        absent: Vec::new(alloc),
+        body: play(alloc, Turn::Pass, Node::All(passed))?,
+    })?;
+    let (left, right) = (at(rt, 1, 2), at(rt, 2, 2));
+    let mut replies = Vec::new(alloc);
+    replies.push((left, one_point(alloc, right)?))?;
+    replies.push((right, one_point(alloc, left)?))?;
+    replies.push((Turn::Pass, play(alloc, Turn::Pass, Node::Won)?))?;
+    Ok(claim(rt, Colour::White, lemmas, Node::All(replies)))
+}
+
+fn written(alloc: Global, certificate: &Certificate) -> Result<Vec<u8>, Fail> {
+    let mut out = Vec::new(alloc);
+    write_cert(certificate, &mut out)?;
+    Ok(out)
+}
+
+/// The lines that the source gives before it ends or fails, and whether it failed.
+fn taken<S: NodeSource>(alloc: Global, source: &mut S) -> Result<(Vec<Line>, bool), Fail> {
+    let mut lines = Vec::new(alloc);
+    for _ in 0..10_000 {
+        match source.next() {
+            Ok(Some(line)) => lines.push(line)?,
+            Ok(None) => return Ok((lines, false)),
+            Err(_) => return Ok((lines, true)),
+        }
+    }
+    Ok((lines, true))
+}
+
+#[test]
+fn writes_the_worked_claims(rt: HostRuntime) -> Result<(), Fail> {
+    let alloc = rt.alloc();
+    assert_eq!(rt;
+        written(alloc, &shared(alloc, &rt)?)?.as_slice(),
+        SHARED.as_bytes()
+    );
+    assert_eq!(rt;
+        written(alloc, &answered(alloc, &rt)?)?.as_slice(),
+        ANSWERED.as_bytes()
+    );
+    assert_eq!(rt;
+        written(alloc, &meeting(alloc, &rt)?)?.as_slice(),
+        MEETING.as_bytes()
+    );
+    let plain = claim(
+        &rt,
+        Colour::Black,
+        Vec::new(alloc),
+        play(alloc, at(&rt, 1, 0), Node::Won)?,
+    );
+    assert_eq!(rt;
+        written(alloc, &plain)?.as_slice(),
+        b"tsucert 1 3 B\nmain\nplay ba\nwon\nend\n".as_slice()
+    );
+    Ok(())
+}
+
+#[test]
+fn walks_the_lines_of_the_text(rt: HostRuntime) -> Result<(), Fail> {
+    let alloc = rt.alloc();
+    let claims = [
+        (shared(alloc, &rt)?, SHARED),
+        (answered(alloc, &rt)?, ANSWERED),
+        (meeting(alloc, &rt)?, MEETING),
+    ];
+    for (certificate, text) in &claims {
+        let mut held = HeldSource::new(alloc, certificate);
+        let mut spelled = ReaderSource::new(certificate.size, text.as_bytes(), b"".as_slice());
+        assert_eq!(rt; NodeSource::size(&held).rows(), 3);
+        assert_eq!(rt; NodeSource::line_number(&held), 0);
+        let (walked, walk_failed) = taken(alloc, &mut held)?;
+        let (read, read_failed) = taken(alloc, &mut spelled)?;
+        assert!(rt; walked.as_slice() == read.as_slice());
+        assert!(rt; !walk_failed && !read_failed);
+        assert_eq!(rt; NodeSource::line_number(&held), read.len() as u64);
+    }
+    Ok(())
+}
+
+#[test]
+fn refuses_what_has_no_spelling(rt: HostRuntime) -> Result<(), Fail> {
+    let alloc = rt.alloc();
+    let unspelled = [
+        claim(
+            &rt,
+            Colour::Black,
+            Vec::new(alloc),
+            play(alloc, at(&rt, 3, 0), Node::Won)?,
+        ),
+        claim(&rt, Colour::Black, Vec::new(alloc), Node::Use(0)),
+        claim(&rt, Colour::Black, Vec::new(alloc), Node::Use(100_000_000)),
+        claim(
+            &rt,
+            Colour::Black,
+            Vec::new(alloc),
+            Node::All(Vec::new(alloc)),
+        ),
+    ];
+    for certificate in &unspelled {
+        let mut out = Vec::new(alloc);
+        assert_eq!(rt;
+            write_cert(certificate, &mut out),
+            Err(CertWrite::NoSpelling)
+        );
+        assert!(rt; out.is_empty());
+        // The header and `main` have a spelling, the third line has none.
+        let mut held = HeldSource::new(alloc, certificate);
+        assert!(rt; matches!(held.next(), Ok(Some(Line::Header { .. }))));
+        assert!(rt; matches!(held.next(), Ok(Some(Line::Main))));
+        assert!(rt; matches!(held.next(), Err(SourceFault::Malformed)));
+        assert!(rt; matches!(held.next(), Err(SourceFault::Malformed)));
+        assert_eq!(rt; held.line_number(), 3);
+    }
+    Ok(())
+}
+
+#[test]
+fn lemmas_may_have_no_spelling(rt: HostRuntime) -> Result<(), Fail> {
+    let alloc = rt.alloc();
+    let listed = [colouring(&rt, 3, ".XOXO...."), colouring(&rt, 2, "....")];
+    let wide = one_lemma(alloc, &rt, 0, &listed)?;
+    assert_eq!(rt;
+        write_cert(&wide, &mut Vec::new(alloc)),
+        Err(CertWrite::NoSpelling)
+    );
+    let (lines, failed) = taken(alloc, &mut HeldSource::new(alloc, &wide))?;
+    assert!(rt; failed && lines.len() == 3);
+    let passes = one_lemma(alloc, &rt, 2, &[])?;
+    assert_eq!(rt;
+        write_cert(&passes, &mut Vec::new(alloc)),
+        Err(CertWrite::NoSpelling)
+    );
+    let (lines, failed) = taken(alloc, &mut HeldSource::new(alloc, &passes))?;
+    assert!(rt; failed && lines.len() == 1);
+    Ok(())
+}
+
+/// A writer that takes some bytes at a time, and then fails.
+#[derive(Drop)]
+struct Narrow {
+    taken: Vec<u8>,
+    piece: usize,
+    room: usize,
+}
+
+impl io::Write for Narrow {
+    fn write(&mut self, bytes: &[u8]) -> io::Result<usize> {
+        let n = bytes.len().min(self.piece).min(self.room);
+        if n == 0 {
+            return Err(io::Error::from(io::ErrorKind::Other));
+        }
+        self.room -= n;
+        if self.taken.extend_from_slice(&bytes[..n]).is_err() {
+            return Err(io::Error::from(io::ErrorKind::OutOfMemory));
+        }
+        Ok(n)
+    }
+
+    fn flush(&mut self) -> io::Result<()> {
+        Ok(())
+    }
+}
+
+#[test]
+fn a_failed_write_leaves_a_front(rt: HostRuntime) -> Result<(), Fail> {
+    let alloc = rt.alloc();
+    let certificate = meeting(alloc, &rt)?;
+    for room in 0..MEETING.len() + 1 {
+        let mut writer = Narrow {
+            taken: Vec::new(alloc),
+            piece: 7,
+            room,
+        };
+        let result = write_cert(&certificate, &mut writer);
+        assert_eq!(rt; result.is_ok(), room == MEETING.len());
+        assert_eq!(rt; writer.taken.as_slice(), &MEETING.as_bytes()[..room]);
+    }
+    Ok(())
+}
+
+#[test]
+fn trees_may_be_deep(rt: HostRuntime) -> Result<(), Fail> {
+    let alloc = rt.alloc();
+    let mut tree = Node::Won;
+    let mut body = Vec::new(alloc);
+    for _ in 0..999 {
+        let mut replies = Vec::new(alloc);
+        replies.push((Turn::Pass, play(alloc, Turn::Pass, tree)?))?;
+        tree = Node::All(replies);
+        body.extend_from_slice(b"all 1\nreply pass\nplay pass\n")?;
+    }
+    let mut text = Vec::new(alloc);
+    text.extend_from_slice(b"tsucert 1 3 B\nmain\n")?;
+    text.extend_from_slice(body.as_slice())?;
+    text.extend_from_slice(b"won\nend\n")?;
+    let certificate = claim(&rt, Colour::Black, Vec::new(alloc), tree);
+    assert!(rt; written(alloc, &certificate)?.as_slice() == text.as_slice());
+    let (lines, failed) = taken(alloc, &mut HeldSource::new(alloc, &certificate))?;
+    assert!(rt; !failed && lines.len() == 3 * 999 + 4);
+    Ok(())
+}
+
+#[test]
+fn faults_say_what_they_are(rt: HostRuntime) -> Result<(), Fail> {
+    let alloc = rt.alloc();
+    assert_eq!(rt;
+        format!(in alloc; "{}", CertWrite::Write)?.as_str(),
+        "write"
+    );
+    assert_eq!(rt;
+        format!(in alloc; "{}", CertWrite::NoSpelling)?.as_str(),
+        "no spelling"
+    );
+    Ok(())
+}
+
+#[test]
+fn reads_back_what_is_written(rt: HostRuntime) -> Result<(), Fail> {
+    let alloc = rt.alloc();
+    let texts = [
+        SHARED,
+        ANSWERED,
+        MEETING,
+        "tsucert 1 3 B\nlemma B 0 O.OXO....\nplay ba\nwon\nend\nmain\nuse 1\nend\n",
+        "tsucert 1 3 B\nmain\nplay ba\nwon\nend\n",
+        "tsucert 1 3 B\nmain\nplay pass\nwon\nend\n",
+        "tsucert 1 3 W\nmain\nall 1\nreply pass\nplay pass\nwon\nend\n",
+        "tsucert 1 3 W\nmain\nuse 99999999\nend\n",
+    ];
+    for text in &texts {
+        let certificate = read_cert(alloc, size_of(&rt, 3), text.as_bytes())?;
+        assert_eq!(rt; written(alloc, &certificate)?.as_slice(), text.as_bytes());
+    }
+    Ok(())
+}
+
+#[test]
+fn reads_no_other_bytes(rt: HostRuntime) -> Result<(), Fail> {
+    let alloc = rt.alloc();
+    let texts = [
+        "",
+        "tsucert 1 3 B\nmain\nplay ba\nwon\nend",
+        "tsucert 1 3 B\nmain\nplay ba\nwon\nend\n\n",
+        "tsucert 1 3 B\nmain\nplay ba\nwon\n",
+        "tsucert 1 3 B\nmain\nplay ba\nend\n",
+        "tsucert 1 3 B\nplay ba\nwon\nend\n",
+        "tsucert 1 4 B\nmain\nplay ba\nwon\nend\n",
+        "tsucert 3 3 B\nmain\nplay ba\nwon\nend\n",
+        "tsucert 02 3 B\nmain\nplay ba\nwon\nend\n",
+        "tsucert 3 B\nmain\nplay ba\nwon\nend\n",
+        "tsucert 1 03 B\nmain\nplay ba\nwon\nend\n",
+        "tsucert 1 3 B \nmain\nplay ba\nwon\nend\n",
+        "tsucert 1 3 B\r\nmain\r\nwon\r\nend\r\n",
+        "tsucert 1 3 B\nmain\nplay da\nwon\nend\n",
+        "tsucert 1 3 B\nmain\nuse 0\nend\n",
+        "tsucert 1 3 B\nmain\nuse 01\nend\n",
+        "tsucert 1 3 B\nmain\nuse 100000000\nend\n",
+        "tsucert 1 3 W\nmain\nall 0\nend\n",
+        "tsucert 1 3 W\nmain\nall 2\nreply pass\nwon\nend\n",
+        "tsucert 1 3 W\nmain\nall 1\nreply pass\nwon\nreply pass\nwon\nend\n",
+        "tsucert 1 3 B\nlemma B 2 O.OXO....\nwon\nend\nmain\nuse 1\nend\n",
+        "tsucert 1 3 B\nlemma B 0 O.OXO...\nwon\nend\nmain\nuse 1\nend\n",
+        "tsucert 1 3 B\nlemma B 0 O.OXO....\nhad .XOXO....\nwon\nend\nmain\nuse 1\nend\n",
+        "tsucert 1 3 B\nlemma B 0 O.OXO....\nwon\nnot .XOXO....\nend\nmain\nuse 1\nend\n",
+        "tsucert 1 3 B\nlemma B 0 O.OXO....\nwon\nmain\nuse 1\nend\n",
+    ];
+    for text in &texts {
+        let read = read_cert(alloc, size_of(&rt, 3), text.as_bytes());
+        assert!(rt; matches!(read, Err(SourceFault::Malformed)));
+    }
+    Ok(())
+}
+
+/// A claim of so many turns one behind another.
+fn line_of_play(alloc: Global, turns: usize) -> Result<Vec<u8>, Fail> {
+    let mut text = b"tsucert 1 3 B\nmain\n".to_vec(alloc)?;
+    for _ in 0..turns {
+        text.extend_from_slice(b"play pass\n")?;
+    }
+    text.extend_from_slice(b"won\nend\n")?;
+    Ok(text)
+}
+
+#[test]
+fn reads_as_deep_as_a_claim_may_be(rt: HostRuntime) -> Result<(), Fail> {
+    let alloc = rt.alloc();
+    let deepest = line_of_play(alloc, 1_999)?;
+    let certificate = read_cert(alloc, size_of(&rt, 3), deepest.as_slice())?;
+    assert!(rt; written(alloc, &certificate)?.as_slice() == deepest.as_slice());
+    let deeper = line_of_play(alloc, 2_000)?;
+    let read = read_cert(alloc, size_of(&rt, 3), deeper.as_slice());
+    assert!(rt; matches!(read, Err(SourceFault::Malformed)));
+    Ok(())
+}
+
+/// A claim of so many lemmas.
+fn many_lemmas(alloc: Global, lemmas: usize) -> Result<Vec<u8>, Fail> {
+    let mut text = b"tsucert 1 1 B\n".to_vec(alloc)?;
+    for _ in 0..lemmas {
+        text.extend_from_slice(b"lemma B 0 .\nwon\nend\n")?;
+    }
+    text.extend_from_slice(b"main\nwon\nend\n")?;
+    Ok(text)
+}
+
+#[test]
+fn reads_as_many_lemmas_as_a_claim_may_have(rt: HostRuntime) -> Result<(), Fail> {
+    let alloc = rt.alloc();
+    let most = many_lemmas(alloc, 65_535)?;
+    let certificate = read_cert(alloc, size_of(&rt, 1), most.as_slice())?;
+    assert!(rt; written(alloc, &certificate)?.as_slice() == most.as_slice());
+    let more = many_lemmas(alloc, 65_536)?;
+    let read = read_cert(alloc, size_of(&rt, 1), more.as_slice());
+    assert!(rt; matches!(read, Err(SourceFault::Malformed)));
+    Ok(())
+}

@@ -1,0 +1,166 @@
+//! Claims of version 2, whose lemmas say which colourings must have occurred.
+
+use go_points::{Colour, Colouring, Size, Turn};
+use proof_cert::*;
+use std::alloc::Global;
+use std::process::Abort;
+use std::test::Fail;
+
+const NEEDED: &str =
+    "tsucert 2 3 W\nlemma B 0 O.OXO....\nhad .XOXO....\nall 1\nreply pass\nplay pass\nwon\nend\nmain\nuse 1\nend\n";
+
+fn three(rt: &impl Abort) -> Size {
+    Size::new(3).expect(rt, "a size")
+}
+
+fn colouring(rt: &impl Abort, text: &str) -> Colouring {
+    Colouring::from_text(three(rt), text.as_bytes()).expect(rt, "a colouring")
+}
+
+/// A claim of this version with a lemma of these lists, which main uses.
+fn of_lists(
+    alloc: Global,
+    rt: &impl Abort,
+    version: Version,
+    had: &[Colouring],
+    absent: &[Colouring],
+) -> Result<Certificate, Fail> {
+    let mut replies = Vec::new(alloc);
+    replies.push((
+        Turn::Pass,
+        Node::Play(Turn::Pass, Box::new(alloc, Node::Won)?),
+    ))?;
+    let mut lemmas = Vec::new(alloc);
+    lemmas.push(Lemma {
+        mover: Colour::Black,
+        passes: 0,
+        root: colouring(rt, "O.OXO...."),
+        had: had.to_vec(alloc)?,
+        absent: absent.to_vec(alloc)?,
+        body: Node::All(replies),
+    })?;
+    Ok(Certificate {
+        version,
+        size: three(rt),
+        winner: Colour::White,
+        lemmas,
+        main: Node::Use(1),
+    })
+}
+
+fn written(alloc: Global, certificate: &Certificate) -> Result<Vec<u8>, Fail> {
+    let mut out = Vec::new(alloc);
+    write_cert(certificate, &mut out)?;
+    Ok(out)
+}
+
+#[test]
+fn writes_what_must_have_occurred_before_what_must_not(rt: HostRuntime) -> Result<(), Fail> {
+    let alloc = rt.alloc();
+    let needed = [colouring(&rt, ".XOXO....")];
+    let one = of_lists(alloc, &rt, Version::Two, &needed, &[])?;
+    assert!(rt; written(alloc, &one)?.as_slice() == NEEDED.as_bytes());
+    let had = [colouring(&rt, "........."), colouring(&rt, "O........")];
+    let absent = [colouring(&rt, "X........")];
+    let both = of_lists(alloc, &rt, Version::Two, &had, &absent)?;
+    let text =
+        b"tsucert 2 3 W\nlemma B 0 O.OXO....\nhad .........\nhad O........\nnot X........\nall 1\nreply pass\nplay pass\nwon\nend\nmain\nuse 1\nend\n";
+    assert!(rt; written(alloc, &both)?.as_slice() == text.as_slice());
+    let none = of_lists(alloc, &rt, Version::Two, &[], &[])?;
+    let text =
+        b"tsucert 2 3 W\nlemma B 0 O.OXO....\nall 1\nreply pass\nplay pass\nwon\nend\nmain\nuse 1\nend\n";
+    assert!(rt; written(alloc, &none)?.as_slice() == text.as_slice());
+    Ok(())
+}
+
+#[test]
+fn version_one_has_no_line_for_what_must_have_occurred(rt: HostRuntime) -> Result<(), Fail> {
+    let alloc = rt.alloc();
+    let needed = [colouring(&rt, ".XOXO....")];
+    let old = of_lists(alloc, &rt, Version::One, &needed, &[])?;
+    let mut out = Vec::new(alloc);
+    assert_eq!(rt; write_cert(&old, &mut out), Err(CertWrite::NoSpelling));
+    assert!(rt; out.is_empty());
+    // The header and the lemma's first line have a spelling, the third line has none.
+    let mut held = HeldSource::new(alloc, &old);
+    assert!(rt;
+        matches!(
+            held.next(),
+            Ok(Some(Line::Header {
+                version: Version::One,
+                ..
+            }))
+        )
+    );
+    assert!(rt; matches!(held.next(), Ok(Some(Line::Lemma { .. }))));
+    assert!(rt; matches!(held.next(), Err(SourceFault::Malformed)));
+    assert!(rt; matches!(held.next(), Err(SourceFault::Malformed)));
+    assert_eq!(rt; held.line_number(), 3);
+    Ok(())
+}
+
+#[test]
+fn what_must_have_occurred_is_of_the_size(rt: HostRuntime) -> Result<(), Fail> {
+    let alloc = rt.alloc();
+    let two = Size::new(2).expect(&rt, "a size");
+    let small = [Colouring::from_text(two, b"....").expect(&rt, "a colouring")];
+    let other = of_lists(alloc, &rt, Version::Two, &small, &[])?;
+    assert_eq!(rt;
+        write_cert(&other, &mut Vec::new(alloc)),
+        Err(CertWrite::NoSpelling)
+    );
+    Ok(())
+}
+
+#[test]
+fn reads_what_it_writes(rt: HostRuntime) -> Result<(), Fail> {
+    let alloc = rt.alloc();
+    let texts = [
+        NEEDED,
+        "tsucert 2 3 W\nlemma B 0 O.OXO....\nhad .........\nhad O........\nnot X........\nwon\nend\nmain\nuse 1\nend\n",
+        "tsucert 2 3 W\nlemma B 0 O.OXO....\nnot X........\nwon\nend\nmain\nuse 1\nend\n",
+        "tsucert 2 3 B\nmain\nwon\nend\n",
+        "tsucert 1 3 W\nlemma B 0 O.OXO....\nnot X........\nwon\nend\nmain\nuse 1\nend\n",
+    ];
+    for text in &texts {
+        let certificate = read_cert(alloc, three(&rt), text.as_bytes())?;
+        assert!(rt; written(alloc, &certificate)?.as_slice() == text.as_bytes());
+    }
+    Ok(())
+}
+
+#[test]
+fn reads_no_such_line_elsewhere(rt: HostRuntime) -> Result<(), Fail> {
+    let alloc = rt.alloc();
+    let texts = [
+        "tsucert 1 3 W\nlemma B 0 O.OXO....\nhad .XOXO....\nwon\nend\nmain\nuse 1\nend\n",
+        "tsucert 2 3 W\nlemma B 0 O.OXO....\nnot X........\nhad .XOXO....\nwon\nend\nmain\nuse 1\nend\n",
+        "tsucert 2 3 W\nlemma B 0 O.OXO....\nhad .XOXO...\nwon\nend\nmain\nuse 1\nend\n",
+        "tsucert 2 3 W\nlemma B 0 O.OXO....\nwon\nhad .XOXO....\nend\nmain\nuse 1\nend\n",
+        "tsucert 2 3 W\nhad .XOXO....\nmain\nwon\nend\n",
+        "tsucert 2 3 W\nmain\nhad .XOXO....\nwon\nend\n",
+    ];
+    for text in &texts {
+        let read = read_cert(alloc, three(&rt), text.as_bytes());
+        assert!(rt; matches!(read, Err(SourceFault::Malformed)));
+    }
+    Ok(())
+}
+
+#[test]
+fn gives_the_lines_of_its_text(rt: HostRuntime) -> Result<(), Fail> {
+    let alloc = rt.alloc();
+    let needed = [colouring(&rt, ".XOXO....")];
+    let certificate = of_lists(alloc, &rt, Version::Two, &needed, &needed)?;
+    let text = written(alloc, &certificate)?;
+    let mut held = HeldSource::new(alloc, &certificate);
+    let mut read = ReaderSource::new(three(&rt), text.as_slice(), b"".as_slice());
+    for _ in 0..12 {
+        let line = held.next();
+        assert!(rt; matches!(line, Ok(Some(_))));
+        assert!(rt; line == read.next());
+    }
+    assert_eq!(rt; held.next(), Ok(None));
+    assert_eq!(rt; read.next(), Ok(None));
+    Ok(())
+}

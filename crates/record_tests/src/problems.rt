@@ -1,0 +1,274 @@
+//! Values with what they stand for, and records with their problem nodes.
+
+use go_points::{Colour, MAX_SIZE, Size, Turn, sgf_point, to_sgf};
+use sgf_text::read_tree;
+use std::alloc::Global;
+use std::process::Abort;
+use std::test::Fail;
+use tsumego_problem::{
+    ProblemFault, SingleProperty, TurnFaultCause, board_size, points_at, problem_node,
+    read_problem, read_turn,
+};
+
+fn three(rt: &impl Abort) -> Size {
+    Size::new(3).expect(rt, "a size")
+}
+
+#[test]
+fn reads_turns(rt: HostRuntime) {
+    let size = three(&rt);
+    let point = sgf_point(size, b"ba").expect(&rt, "a point");
+    let moves: [&[u8]; 2] = [b"ba", b" \t\x0bba\r\n"];
+    for value in moves {
+        assert_eq!(rt; read_turn(size, value), Some(Turn::At(point)));
+    }
+    let passes: [&[u8]; 3] = [b"", b" \n", b"tt"];
+    for value in passes {
+        assert_eq!(rt; read_turn(size, value), Some(Turn::Pass));
+    }
+    let bad: [&[u8]; 5] = [b"da", b"BA", b"b a", b"b", b"baa"];
+    for value in bad {
+        assert!(rt; read_turn(size, value).is_none());
+    }
+}
+
+#[test]
+fn reads_moves_at_every_point_of_every_board(rt: HostRuntime) {
+    for rows in 1..MAX_SIZE + 1 {
+        let size = Size::new(rows).expect(&rt, "a size");
+        for number in 0..size.area() {
+            let point = size.point_at(number);
+            assert_eq!(rt; read_turn(size, &to_sgf(point)), Some(Turn::At(point)));
+        }
+    }
+}
+
+#[test]
+fn reads_tt_as_a_point_where_it_is_one(rt: HostRuntime) {
+    for rows in 1..MAX_SIZE + 1 {
+        let size = Size::new(rows).expect(&rt, "a size");
+        let turn = match size.point(19, 19) {
+            Some(point) => Turn::At(point),
+            None => Turn::Pass,
+        };
+        assert_eq!(rt; read_turn(size, b"tt"), Some(turn));
+        assert_eq!(rt; read_turn(size, b" tt "), Some(turn));
+        assert_eq!(rt; turn == Turn::Pass, rows <= 19);
+    }
+}
+
+// A text with others before and after it.
+fn around(alloc: Global, before: &[u8], text: &[u8], after: &[u8]) -> Result<Vec<u8>, Fail> {
+    let mut all = before.to_vec(alloc)?;
+    all.extend_from_slice(text)?;
+    all.extend_from_slice(after)?;
+    Ok(all)
+}
+
+#[test]
+fn reads_sizes(rt: HostRuntime) -> Result<(), Fail> {
+    let alloc = rt.alloc();
+    let rows: [(&[u8], Option<u8>); 17] = [
+        (b"9", Some(9)),
+        (b"+009", Some(9)),
+        (b"19:19", Some(19)),
+        (b" 3:+03 ", Some(3)),
+        (b"1", Some(1)),
+        (b"0", None),
+        (b"20", Some(20)),
+        (b"+025:25", Some(25)),
+        (b"26", None),
+        (b"256", None),
+        (b"18446744073709551625", None),
+        (b"9:19", None),
+        (b"9:", None),
+        (b"9:9:9", None),
+        (b"+", None),
+        (b"-9", None),
+        (b"", None),
+    ];
+    for (value, rows_of_it) in rows {
+        let (tree, _end) = read_tree(alloc, around(alloc, b"(;SZ[", value, b"])")?.as_slice())?;
+        let size = board_size(&tree.nodes()[0]);
+        assert_eq!(rt; size.map(|size| size.rows()), rows_of_it);
+    }
+    Ok(())
+}
+
+// Who is to move in the problem whose node has PL with this value, after this front.
+fn mover_of(
+    alloc: Global,
+    front: &[u8],
+    value: &[u8],
+) -> Result<Result<Colour, ProblemFault>, Fail> {
+    let text = around(alloc, front, value, b"]TR[aa])")?;
+    let (tree, _end) = read_tree(alloc, text.as_slice())?;
+    Ok(read_problem(alloc, &tree).map(|problem| problem.mover()))
+}
+
+// Each colour is read where it would be to move without PL, and where it would not.
+#[test]
+fn reads_colours(rt: HostRuntime) -> Result<(), Fail> {
+    let alloc = rt.alloc();
+    let fronts: [&[u8]; 2] = [b"(;SZ[3]AW[aa];B[bb];PL[", b"(;SZ[3]AW[aa];W[bb];PL["];
+    let rows: [(&[u8], Option<Colour>); 9] = [
+        (b"B", Some(Colour::Black)),
+        (b"b", Some(Colour::Black)),
+        (b" bLack ", Some(Colour::Black)),
+        (b"W", Some(Colour::White)),
+        (b"w\n", Some(Colour::White)),
+        (b"WHITE", Some(Colour::White)),
+        (b"", None),
+        (b"x", None),
+        (b"blackk", None),
+    ];
+    for (value, colour) in rows {
+        for front in fronts {
+            let wanted = match colour {
+                Some(colour) => Ok(colour),
+                None => Err(ProblemFault::BadColour { node: 2 }),
+            };
+            assert_eq!(rt; mover_of(alloc, front, value)?, wanted);
+        }
+    }
+    Ok(())
+}
+
+// The places in the board of 3 by 3 of the points of AB of the first node.
+fn black_points(alloc: Global, rt: &impl Abort, text: &[u8]) -> Result<Vec<usize>, Fail> {
+    let size = three(rt);
+    let (tree, _end) = read_tree(alloc, text)?;
+    let nodes = tree.nodes();
+    let set = points_at(size, b"AB", &nodes[0]);
+    let mut places = Vec::new(alloc);
+    for number in 0..size.area() {
+        if set.has(size.point_at(number)) {
+            places.push(number)?;
+        }
+    }
+    Ok(places)
+}
+
+#[test]
+fn reads_points(rt: HostRuntime) -> Result<(), Fail> {
+    let alloc = rt.alloc();
+    let good: [(&[u8], &[usize]); 5] = [
+        (b"(;)", &[]),
+        (b"(;AB[ba:cb][ba])", &[1, 2, 4, 5]),
+        (b"(;AB[bb:bb])", &[4]),
+        (b"(;AB[cc][ aa ][cc])", &[0, 8]),
+        (b"(;AB[aa:cc])", &[0, 1, 2, 3, 4, 5, 6, 7, 8]),
+    ];
+    for (text, places) in good {
+        let found = black_points(alloc, &rt, text)?;
+        assert_eq!(rt; found.as_slice(), places);
+    }
+    let bad: [&[u8]; 6] = [
+        b"(;SZ[3]AB[]TR[aa])",
+        b"(;SZ[3]AB[cb:ba]TR[aa])",
+        b"(;SZ[3]AB[aa][da]TR[aa])",
+        b"(;SZ[3]AB[aa:]TR[aa])",
+        b"(;SZ[3]AB[aa :bb]TR[aa])",
+        b"(;SZ[3]AB[tt]TR[aa])",
+    ];
+    for text in bad {
+        assert!(rt; black_points(alloc, &rt, text)?.is_empty());
+        let (tree, _end) = read_tree(alloc, text)?;
+        assert_eq!(rt;
+            read_problem(alloc, &tree).err(),
+            Some(ProblemFault::BadPoint { node: 0 })
+        );
+    }
+    Ok(())
+}
+
+#[test]
+fn finds_the_problem_node(rt: HostRuntime) -> Result<(), Fail> {
+    let alloc = rt.alloc();
+    let rows: [(&[u8], Option<usize>); 6] = [
+        (b"(;TR[aa])", Some(0)),
+        (b"(;SQ[aa];TR[aa])", Some(0)),
+        (b"(;B[aa];W[bb](;B[cc];TR[aa])(;TR[bb]))", Some(3)),
+        (b"(;B[aa](;W[bb])(;TR[aa]))", None),
+        (b"(;(;(;SQ[aa])))", Some(2)),
+        (b"(;MA[aa])", None),
+    ];
+    for (text, number) in rows {
+        let (tree, _end) = read_tree(alloc, text)?;
+        assert_eq!(rt; problem_node(&tree), number);
+    }
+    Ok(())
+}
+
+// What is left of a record: how many colourings have occurred, which of them is present, who is to move, and the passes.
+#[test]
+fn walks_along_the_main_line(rt: HostRuntime) -> Result<(), Fail> {
+    let alloc = rt.alloc();
+    let rows: [(&[u8], usize, usize, Colour, u64); 7] = [
+        (b"(;SZ[3]AW[aa]TR[aa])", 1, 0, Colour::Black, 0),
+        (
+            b"(;SZ[3]AW[aa];B[bb];W[];PL[B]TR[aa])",
+            2,
+            1,
+            Colour::Black,
+            1,
+        ),
+        (
+            b"(;SZ[3]AW[aa];AB[cc];AE[cc]PL[W]TR[aa])",
+            2,
+            0,
+            Colour::White,
+            0,
+        ),
+        (
+            b"(;SZ[3];B[aa];W[ba];W[ab];PL[W]TR[ba])",
+            4,
+            3,
+            Colour::White,
+            0,
+        ),
+        (
+            b"(;SZ[3]AW[aa];W[tt];AB[cc]PL[b];W[]TR[aa])",
+            2,
+            1,
+            Colour::Black,
+            1,
+        ),
+        (b"(;SZ[19]AW[aa];W[tt]TR[aa])", 1, 0, Colour::Black, 1),
+        (b"(;SZ[20]AW[aa];W[tt]TR[tt])", 2, 1, Colour::Black, 0),
+    ];
+    for (text, colourings, place, mover, passes) in rows {
+        let (tree, _end) = read_tree(alloc, text)?;
+        let problem = read_problem(alloc, &tree)?;
+        assert_eq!(rt; problem.history().len(), colourings);
+        assert_eq!(rt; problem.place(), place);
+        assert_eq!(rt; problem.mover(), mover);
+        assert_eq!(rt; problem.passes(), passes);
+    }
+    Ok(())
+}
+
+#[test]
+fn faults_have_texts(rt: HostRuntime) -> Result<(), Fail> {
+    let property = SingleProperty::PL;
+    let cause = TurnFaultCause::Repeats { earlier: 3 };
+    let rows: [(ProblemFault, &str); 7] = [
+        (ProblemFault::Game, "game"),
+        (ProblemFault::NoProblemNode, "no problem node"),
+        (
+            ProblemFault::ManyValues { property, node: 2 },
+            "many values of PL",
+        ),
+        (
+            ProblemFault::IllegalTurn { node: 2, cause },
+            "illegal turn: repeats 3",
+        ),
+        (ProblemFault::NoLiberty { node: 0 }, "no liberty"),
+        (ProblemFault::LongHistory { node: 0 }, "long history"),
+        (ProblemFault::Memory, "out of memory"),
+    ];
+    for (fault, text) in rows {
+        assert_eq!(rt; format!(in rt.alloc(); "{fault}")?.as_str(), text);
+    }
+    Ok(())
+}

@@ -1,0 +1,171 @@
+//! Lines that a reader gives, however it cuts its bytes, and where it fails.
+
+use go_points::{Colour, MAX_POINTS, MAX_SIZE, Size, Turn};
+use proof_cert::{Line, MAX_LINE, NodeSource, ReaderSource, SourceFault, Version};
+use std::io;
+use std::io::{ErrorKind, Read};
+use std::process::Abort;
+use std::test::Fail;
+
+const CLAIM: &str =
+    "tsucert 1 3 B\nlemma B 0 O.OXO....\nnot .XOXO....\nplay ba\nwon\nend\nmain\nuse 1\nend\n";
+
+// Gives a text in pieces of so many bytes, and then fails, or has ended.
+#[derive(Drop)]
+struct Pieces<'a> {
+    left: &'a [u8],
+    piece: usize,
+    fails: bool,
+}
+
+impl<'a> Read for Pieces<'a> {
+    ghost remaining = { λ r. Some r.left.now };
+
+    ghost use Rattle.std.specs.Prelude.{Some};
+
+    fn read(&mut self, buf: &mut [u8]) -> io::Result<usize> {
+        if self.left.is_empty() && self.fails {
+            return Err(io::Error::from(ErrorKind::Other));
+        }
+        let count = self.left.len().min(buf.len()).min(self.piece.max(1));
+        let (front, rest) = self.left.split_at(count);
+        buf[..count].copy_from_slice(front);
+        self.left = rest;
+        Ok(count)
+    }
+}
+
+fn three(rt: &impl Abort) -> Size {
+    Size::new(3).expect(rt, "a size")
+}
+
+// How many lines come before the end or the fault, and the fault.
+fn count<R: Read + Drop>(size: Size, reader: R) -> (u64, Option<SourceFault>) {
+    let mut source = ReaderSource::new(size, b"".as_slice(), reader);
+    for lines in 0..100_000u64 {
+        match source.next() {
+            Ok(Some(_)) => {}
+            Ok(None) => return (lines, None),
+            Err(fault) => return (lines, Some(fault)),
+        }
+    }
+    (100_000, None)
+}
+
+#[test]
+fn the_same_lines_however_the_bytes_are_cut(rt: HostRuntime) {
+    for piece in [1, 2, 7, 4_096] {
+        let pieces = Pieces {
+            left: CLAIM.as_bytes(),
+            piece,
+            fails: false,
+        };
+        let mut source = ReaderSource::new(three(&rt), b"".as_slice(), pieces);
+        assert_eq!(rt;
+            source.next(),
+            Ok(Some(Line::Header {
+                version: Version::One,
+                size: 3,
+                winner: Colour::Black
+            }))
+        );
+        for _ in 0..3 {
+            assert!(rt; source.next().is_ok());
+        }
+        assert_eq!(rt; source.next(), Ok(Some(Line::Won)));
+        assert_eq!(rt; source.line_number(), 5);
+        for line in [Line::End, Line::Main, Line::Use(1), Line::End] {
+            assert_eq!(rt; source.next(), Ok(Some(line)));
+        }
+        assert_eq!(rt; source.next(), Ok(None));
+        assert_eq!(rt; source.line_number(), 9);
+    }
+}
+
+#[test]
+fn a_reader_that_fails(rt: HostRuntime) {
+    let size = three(&rt);
+    let bytes = CLAIM.as_bytes();
+    let mut feeds = 0u64;
+    for end in 0..bytes.len() {
+        let left = &bytes[..end];
+        let pieces = Pieces {
+            left,
+            piece: 5,
+            fails: true,
+        };
+        assert_eq!(rt; count(size, pieces), (feeds, Some(SourceFault::Read)));
+        let cut = Pieces {
+            left,
+            piece: 5,
+            fails: false,
+        };
+        let is_whole = left.is_empty() || left[left.len() - 1] == b'\n';
+        let fault = if is_whole {
+            None
+        } else {
+            Some(SourceFault::Malformed)
+        };
+        assert_eq!(rt; count(size, cut), (feeds, fault));
+        if bytes[end] == b'\n' {
+            feeds = feeds.saturating_add(1);
+        }
+    }
+}
+
+#[test]
+fn the_longest_line(rt: HostRuntime) -> Result<(), Fail> {
+    let size = Size::new(MAX_SIZE).expect(&rt, "a size");
+    let mut text = Vec::new(rt.alloc());
+    text.extend_from_slice(b"lemma B 0 ")?;
+    for _ in 0..MAX_POINTS {
+        text.push(b'.')?;
+    }
+    assert_eq!(rt; text.len(), 635);
+    assert_eq!(rt; MAX_LINE, 635);
+    let mut longer = text.clone()?;
+    text.push(b'\n')?;
+    let malformed = (0, Some(SourceFault::Malformed));
+    assert_eq!(rt; count(size, longer.as_slice()), malformed);
+    longer.push(b'.')?;
+    assert_eq!(rt; count(size, longer.as_slice()), malformed);
+    longer.push(b'\n')?;
+    assert_eq!(rt; count(size, text.as_slice()), (1, None));
+    assert_eq!(rt; count(size, longer.as_slice()), malformed);
+    Ok(())
+}
+
+#[test]
+fn a_fault_stays(rt: HostRuntime) {
+    let mut source = ReaderSource::new(
+        three(&rt),
+        b"".as_slice(),
+        b"won\n\nplay pass\n".as_slice(),
+    );
+    assert_eq!(rt; source.next(), Ok(Some(Line::Won)));
+    for _ in 0..3 {
+        assert_eq!(rt; source.next(), Err(SourceFault::Malformed));
+    }
+    assert_eq!(rt; source.line_number(), 2);
+    let mut good = ReaderSource::new(three(&rt), b"".as_slice(), b"play pass\n".as_slice());
+    assert_eq!(rt; good.next(), Ok(Some(Line::Play(Turn::Pass))));
+}
+
+// A line may begin in the bytes that are held and end in the reader's.
+#[test]
+fn the_same_lines_wherever_the_front_ends(rt: HostRuntime) {
+    let bytes = CLAIM.as_bytes();
+    for end in 0..bytes.len() {
+        let pieces = Pieces {
+            left: &bytes[end..],
+            piece: 3,
+            fails: false,
+        };
+        let mut source = ReaderSource::new(three(&rt), &bytes[..end], pieces);
+        for _ in 0..8 {
+            assert!(rt; source.next().is_ok());
+        }
+        assert_eq!(rt; source.next(), Ok(Some(Line::End)));
+        assert_eq!(rt; source.next(), Ok(None));
+    }
+}

@@ -39,7 +39,8 @@ impl PendingBytes {
 
     /// Puts the bytes after those that are held. Where there is no room for them, all are written.
     pub fn put<W: Write>(&mut self, bytes: &[u8], writer: &mut W)
-        ensures { HasPut (W.contents writer.old) (W.contents writer.new) self.old self.new bytes.now }
+        ensures { HasPut (W.contents writer.old) (W.contents writer.new) self.old self.new
+            bytes.now }
     {
         if self.failed {
             return;

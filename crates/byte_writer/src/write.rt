@@ -17,8 +17,10 @@ pub enum WriteFault {
 
 /// Writes all the bytes, a piece at a time. After a failure the writer has taken a front of them and nothing else.
 pub fn write_bytes<W: Write>(bytes: &[u8], writer: &mut W) -> Result<(), WriteFault>
-    ensures written { OnOk result (Appends (W.contents writer.old) (W.contents writer.new) bytes.now) }
-    ensures cut { OnErr result (TakesPart (W.contents writer.old) (W.contents writer.new) bytes.now) }
+    ensures written { OnOk result
+        (Appends (W.contents writer.old) (W.contents writer.new) bytes.now) }
+    ensures cut { OnErr result
+        (TakesPart (W.contents writer.old) (W.contents writer.new) bytes.now) }
 {
     let mut done: usize = 0;
     while done < bytes.len() {

@@ -93,7 +93,8 @@ impl<'a> Model for Body<'a> {
 
     ghost Value = { SpecBody };
 
-    ghost view = { λ a. record { winner = a.winner; earlier = a.earlier.now; listed = option_map (λ l. l.now) a.listed } };
+    ghost view = { λ a. record
+        { winner = a.winner; earlier = a.earlier.now; listed = option_map (λ l. l.now) a.listed } };
 
     ghost use Rattle.std.specs.Prelude.{IfSome};
     ghost use Rattle.cert_check.specs.Ascending.{Ascends};
@@ -121,7 +122,8 @@ impl<'a> Body<'a> {
         listed: &'a ColouringList,
     ) -> Body<'a>
         requires { Ascends listed.now }
-        ensures { result ≡ record { winner = winner; earlier = earlier.now; listed = Some listed.now } }
+        ensures { result
+            ≡ record { winner = winner; earlier = earlier.now; listed = Some listed.now } }
     {
         Body {
             winner,

@@ -65,9 +65,16 @@ impl BodyState {
     ) -> Result<(), AtFault>
         requires size { side_of root.now ≡ self.old.state.game.size }
         requires few { passes ≤ 1 }
-        ensures ok { OnOk result (self.new ≡ record { state = state_alone self.old.state.game root.now mover passes; before = [] }) }
-        ensures liberties { OnOk result (first_without_liberty self.old.state.game.size root.now ≡ None) }
-        ensures err { IfErr result (λ e. (e ≡ AtFault.Memory) ⊎ IsAtFault self.old.state.game.size (first_without_liberty self.old.state.game.size root.now) e) }
+        ensures ok { OnOk result
+            (self.new ≡ record {
+              state = state_alone self.old.state.game root.now mover passes;
+              before = [];
+            }) }
+        ensures liberties { OnOk result
+            (first_without_liberty self.old.state.game.size root.now ≡ None) }
+        ensures err { IfErr result (λ e. (e ≡ AtFault.Memory)
+            ⊎ IsAtFault self.old.state.game.size
+            (first_without_liberty self.old.state.game.size root.now) e) }
     {
         let mut known = Vec::new(alloc);
         if known.push(*root).is_err() {
@@ -95,7 +102,11 @@ impl BodyState {
         requires sizes { All (λ c. side_of c ≡ problem.now.game.size) others.now }
         requires once { IsFalse (repeats others.now) }
         requires few { passes ≤ 1 }
-        ensures ok { IfOk result (λ s. s ≡ record { state = state_with problem.now.game root.now others.now mover passes; before = [] }) }
+        ensures ok { IfOk result
+            (λ s. s ≡ record {
+              state = state_with problem.now.game root.now others.now mover passes;
+              before = [];
+            }) }
     {
         let mut known = Vec::new(alloc);
         if known.extend_from_slice(others).is_err() {
@@ -121,7 +132,11 @@ impl BodyState {
     pub(crate) fn after(&mut self, turn: Turn) -> Result<(), AllocError>
         requires open { over self.old.state ≡ None }
         requires legal { IsTrue (legal self.old.state (ply_of self.old.state.game.size turn)) }
-        ensures ok { OnOk result (self.new ≡ record { state = next self.old.state (ply_of self.old.state.game.size turn); before = self.old.state ∷ self.old.before }) }
+        ensures ok { OnOk result
+            (self.new ≡ record {
+              state = next self.old.state (ply_of self.old.state.game.size turn);
+              before = self.old.state ∷ self.old.before;
+            }) }
     {
         self.state.after(turn)?;
         if self.known.push(self.state.colouring()).is_err() {
@@ -134,8 +149,10 @@ impl BodyState {
     /// Makes the turn where it is legal, and answers whether it was. A move is played once.
     pub(crate) fn try_after(&mut self, turn: Turn) -> Result<bool, AllocError>
         requires open { over self.old.state ≡ None }
-        ensures legal { IfOk result (λ made. made ≡ legal self.old.state (ply_of self.old.state.game.size turn)) }
-        ensures state { IfOk result (λ made. self.new ≡ line_if made self.old (ply_of self.old.state.game.size turn)) }
+        ensures legal { IfOk result
+            (λ made. made ≡ legal self.old.state (ply_of self.old.state.game.size turn)) }
+        ensures state { IfOk result
+            (λ made. self.new ≡ line_if made self.old (ply_of self.old.state.game.size turn)) }
     {
         if !self.state.try_after(turn)? {
             return Ok(false);

@@ -28,8 +28,12 @@ pub fn check<S: NodeSource>(
 ) -> Result<Colour, Reject>
     ensures ok { IfOk result (λ x. Accepts S.gives (S.size source.old) problem.now source.old x) }
     ensures wins { IfOk result (λ x. Wins x (start problem.now)) }
-    ensures err { S.fault source.old ≡ None → IfErr result (λ e. (why : SpecWhy) → why_value problem.now.game.size e.why ≡ Some why → RejectsAt S.gives (S.size source.old) problem.now source.old e.place why) }
-    ensures read { S.fault source.old ≡ None → IfErr result (λ e. e.why ≡ Read → FailsAt S.gives S.number (S.size source.old) problem.now source.old e.place) }
+    ensures err { S.fault source.old ≡ None
+        → IfErr result (λ e. (why : SpecWhy) → why_value problem.now.game.size e.why ≡ Some why
+        → RejectsAt S.gives (S.size source.old) problem.now source.old e.place why) }
+    ensures read { S.fault source.old ≡ None
+        → IfErr result (λ e. e.why ≡ Read
+        → FailsAt S.gives S.number (S.size source.old) problem.now source.old e.place) }
 {
     prove!(problem.place() < problem.history().len());
     let Ok(mut judge) = Judge::new(alloc, problem) else {

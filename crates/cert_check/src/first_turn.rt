@@ -16,9 +16,13 @@ use proof_cert::{Lemma, Node};
 impl Checked {
     /// The claim's first turn, where the winner is to move and nobody has won: it is legal, and the winner wins after it. `None` elsewhere. Each lemma is looked at once at most.
     pub fn first_turn(&self) -> Option<Turn>
-        ensures value { option_map (ply_of self.now.problem.game.size) result ≡ first_turn (claim_of self.now.certificate) (start self.now.problem) }
-        ensures due { is_some result ≡ is_to_move (claim_of self.now.certificate).winner (start self.now.problem) }
-        ensures wins { IfSome result (λ t. IsFirstTurn self.now.problem (claim_of self.now.certificate) (ply_of self.now.problem.game.size t)) }
+        ensures value { option_map (ply_of self.now.problem.game.size) result
+            ≡ first_turn (claim_of self.now.certificate) (start self.now.problem) }
+        ensures due { is_some result
+            ≡ is_to_move (claim_of self.now.certificate).winner (start self.now.problem) }
+        ensures wins { IfSome result
+            (λ t. IsFirstTurn self.now.problem (claim_of self.now.certificate)
+            (ply_of self.now.problem.game.size t)) }
     {
         first_turns_win();
         let _winner = self.winner();
@@ -30,7 +34,10 @@ impl Checked {
 
 /// The first turn of a tree that may use these lemmas.
 fn first_of(lemmas: &[Lemma], node: &Node) -> Option<Turn>
-    ensures { (n : ℕ) (s : GameState) → option_map (ply_of n) result ≡ first_turn_of (expand_node (answers_behind [] (map (lemma_of n) lemmas.now)) (node_of n node.now) s) }
+    ensures { (n : ℕ) (s : GameState)
+        → option_map (ply_of n) result
+        ≡ first_turn_of (expand_node (answers_behind [] (map (lemma_of n) lemmas.now))
+        (node_of n node.now) s) }
 {
     let mut part = node;
     let mut below = lemmas.len();

@@ -39,7 +39,8 @@ impl Model for Checked {
 
     ghost view = { λ a. record { problem = a.problem; certificate = a.certificate } };
 
-    ghost invariant = { λ a. IsChecked a.problem (claim_of a.certificate) × (a.winner ≡ (claim_of a.certificate).winner) };
+    ghost invariant = { λ a. IsChecked a.problem (claim_of a.certificate)
+        × (a.winner ≡ (claim_of a.certificate).winner) };
 }
 
 impl Checked {
@@ -70,9 +71,12 @@ impl Checked {
 
 /// Who wins by the certificate, or its first fault.
 fn judge_held(alloc: Global, problem: &Problem, certificate: &Certificate) -> Result<Colour, Reject>
-    ensures ok { IfOk result (λ x. IsChecked problem.now (claim_of certificate.now) × ((claim_of certificate.now).winner ≡ x)) }
-    ensures err { IfErr result (λ e. (e.why ≡ Memory) ⊎ (IsChecked problem.now (claim_of certificate.now) → ⊥)) }
-    ensures fault { IfErr result (λ e. Rejects problem.now.game.size (verdict_on problem.now (claim_of certificate.now)) e) }
+    ensures ok { IfOk result (λ x. IsChecked problem.now (claim_of certificate.now)
+        × ((claim_of certificate.now).winner ≡ x)) }
+    ensures err { IfErr result
+        (λ e. (e.why ≡ Memory) ⊎ (IsChecked problem.now (claim_of certificate.now) → ⊥)) }
+    ensures fault { IfErr result
+        (λ e. Rejects problem.now.game.size (verdict_on problem.now (claim_of certificate.now)) e) }
     ensures read { IfErr result (λ e. e.why ≡ Read → ⊥) }
 {
     prove!(problem.size().rows() <= MAX_SIZE);
@@ -99,8 +103,10 @@ pub fn check_held(
     ensures problem { IfOk result (λ k. k.problem ≡ problem) }
     ensures certificate { IfOk result (λ k. k.certificate ≡ certificate) }
     ensures kept { IfErr result (λ r. (r.1 ≡ problem) × (r.2 ≡ certificate)) }
-    ensures err { IfErr result (λ r. (r.0.why ≡ Memory) ⊎ (IsChecked problem (claim_of certificate) → ⊥)) }
-    ensures fault { IfErr result (λ r. Rejects problem.game.size (verdict_on problem (claim_of certificate)) r.0) }
+    ensures err { IfErr result
+        (λ r. (r.0.why ≡ Memory) ⊎ (IsChecked problem (claim_of certificate) → ⊥)) }
+    ensures fault { IfErr result
+        (λ r. Rejects problem.game.size (verdict_on problem (claim_of certificate)) r.0) }
     ensures read { IfErr result (λ r. r.0.why ≡ Read → ⊥) }
 {
     match judge_held(alloc, &problem, &certificate) {

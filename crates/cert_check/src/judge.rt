@@ -124,8 +124,14 @@ impl<'p> Judge<'p> {
         ensures place { self.new.place ≡ self.old.place }
         ensures problem { self.new.problem ≡ self.old.problem }
         ensures ready { OnOk result (IsBehind self.new) }
-        ensures ok { OnOk result (GoesOn self.old self.new (header_taken self.old.problem.now (machine_of self.old) (line_value self.old.problem.now.game.size line.now))) }
-        ensures err { IfErr result (λ why. StopsFor self.old (header_taken self.old.problem.now (machine_of self.old) (line_value self.old.problem.now.game.size line.now)) why) }
+        ensures ok { OnOk result
+            (GoesOn self.old self.new
+            (header_taken self.old.problem.now (machine_of self.old)
+            (line_value self.old.problem.now.game.size line.now))) }
+        ensures err { IfErr result
+            (λ why. StopsFor self.old
+            (header_taken self.old.problem.now (machine_of self.old)
+            (line_value self.old.problem.now.game.size line.now)) why) }
     {
         let Some(header) = header_of(line) else {
             return Err(Why::Malformed);
@@ -147,8 +153,14 @@ impl<'p> Judge<'p> {
         ensures place { self.new.place ≡ self.old.place }
         ensures problem { self.new.problem ≡ self.old.problem }
         ensures ready { OnOk result (IsBehind self.new) }
-        ensures ok { OnOk result (GoesOn self.old self.new (opening_taken self.old.problem.now (machine_of self.old) (heading_of self.old) (lemma_line mover passes root))) }
-        ensures err { IfErr result (λ why. StopsFor self.old (opening_taken self.old.problem.now (machine_of self.old) (heading_of self.old) (lemma_line mover passes root)) why) }
+        ensures ok { OnOk result
+            (GoesOn self.old self.new
+            (opening_taken self.old.problem.now (machine_of self.old) (heading_of self.old)
+            (lemma_line mover passes root))) }
+        ensures err { IfErr result
+            (λ why. StopsFor self.old
+            (opening_taken self.old.problem.now (machine_of self.old) (heading_of self.old)
+            (lemma_line mover passes root)) why) }
     {
         if let Err(why) = begin(
             self.alloc,
@@ -182,8 +194,14 @@ impl<'p> Judge<'p> {
         ensures place { self.new.place ≡ self.old.place }
         ensures problem { self.new.problem ≡ self.old.problem }
         ensures ready { OnOk result (IsBehind self.new) }
-        ensures ok { OnOk result (GoesOn self.old self.new (opening_taken self.old.problem.now (machine_of self.old) (heading_of self.old) main_line)) }
-        ensures err { IfErr result (λ why. StopsFor self.old (opening_taken self.old.problem.now (machine_of self.old) (heading_of self.old) main_line) why) }
+        ensures ok { OnOk result
+            (GoesOn self.old self.new
+            (opening_taken self.old.problem.now (machine_of self.old) (heading_of self.old)
+            main_line)) }
+        ensures err { IfErr result
+            (λ why. StopsFor self.old
+            (opening_taken self.old.problem.now (machine_of self.old) (heading_of self.old)
+            main_line) why) }
     {
         let Ok(state) = BodyState::of(self.alloc, self.problem) else {
             return Err(Why::Memory);
@@ -200,12 +218,20 @@ impl<'p> Judge<'p> {
     /// A line before a body, which fits the board.
     fn opening(&mut self, line: &Line) -> Result<(), Why>
         requires between { IsBetweenBodies self.old }
-        requires fits { IsTrue (fits_board self.old.problem.now.game.size (line_value self.old.problem.now.game.size line.now)) }
+        requires fits { IsTrue
+            (fits_board self.old.problem.now.game.size
+            (line_value self.old.problem.now.game.size line.now)) }
         ensures place { self.new.place ≡ self.old.place }
         ensures problem { self.new.problem ≡ self.old.problem }
         ensures ready { OnOk result (IsBehind self.new) }
-        ensures ok { OnOk result (GoesOn self.old self.new (opening_taken self.old.problem.now (machine_of self.old) (heading_of self.old) (line_value self.old.problem.now.game.size line.now))) }
-        ensures err { IfErr result (λ why. StopsFor self.old (opening_taken self.old.problem.now (machine_of self.old) (heading_of self.old) (line_value self.old.problem.now.game.size line.now)) why) }
+        ensures ok { OnOk result
+            (GoesOn self.old self.new
+            (opening_taken self.old.problem.now (machine_of self.old) (heading_of self.old)
+            (line_value self.old.problem.now.game.size line.now))) }
+        ensures err { IfErr result
+            (λ why. StopsFor self.old
+            (opening_taken self.old.problem.now (machine_of self.old) (heading_of self.old)
+            (line_value self.old.problem.now.game.size line.now)) why) }
     {
         let Some(opening) = opening_of(line) else {
             return Err(Why::Malformed);
@@ -224,12 +250,19 @@ impl<'p> Judge<'p> {
     fn had(&mut self, colouring: Colouring) -> Result<(), Why>
         requires ready { AwaitsHad self.old }
         requires phase { self.old.phase ≡ phases.ListingHad }
-        requires fits { length colouring ≡ self.old.problem.now.game.size * self.old.problem.now.game.size }
+        requires fits { length colouring
+            ≡ self.old.problem.now.game.size * self.old.problem.now.game.size }
         ensures place { self.new.place ≡ self.old.place }
         ensures problem { self.new.problem ≡ self.old.problem }
         ensures ready { OnOk result (IsBehind self.new) }
-        ensures ok { OnOk result (GoesOn self.old self.new (listed_taken (machine_of self.old) (last_of self.old.had.items) colouring (listing_had (heading_of self.old) (had_more (lemma_of self.old) colouring)))) }
-        ensures err { IfErr result (λ why. StopsFor self.old (listed_taken (machine_of self.old) (last_of self.old.had.items) colouring (listing_had (heading_of self.old) (had_more (lemma_of self.old) colouring))) why) }
+        ensures ok { OnOk result
+            (GoesOn self.old self.new
+            (listed_taken (machine_of self.old) (last_of self.old.had.items) colouring
+            (listing_had (heading_of self.old) (had_more (lemma_of self.old) colouring)))) }
+        ensures err { IfErr result
+            (λ why. StopsFor self.old
+            (listed_taken (machine_of self.old) (last_of self.old.had.items) colouring
+            (listing_had (heading_of self.old) (had_more (lemma_of self.old) colouring))) why) }
     {
         if self.listed_count >= MAX_LISTED {
             return Err(Why::Limit);
@@ -247,7 +280,8 @@ impl<'p> Judge<'p> {
     /// After the colourings that must have occurred: the body begins where they have. Where there is none it stands there already.
     fn remember(&mut self) -> Result<(), Why>
         requires { AwaitsHad self.old }
-        ensures rest { self.new ≡ record self.old { state = self.new.state; phase = self.new.phase } }
+        ensures rest { self.new
+            ≡ record self.old { state = self.new.state; phase = self.new.phase } }
         ensures phase { OnOk result (self.new.phase ≡ phases.Listing) }
         ensures ready { OnOk result (AwaitsList self.new) }
         ensures err { IfErr result (λ why. why ≡ Memory) }
@@ -274,12 +308,18 @@ impl<'p> Judge<'p> {
     fn listing_had(&mut self, line: &Line) -> Result<(), Why>
         requires ready { AwaitsHad self.old }
         requires phase { self.old.phase ≡ phases.ListingHad }
-        requires fits { IsTrue (fits_board self.old.problem.now.game.size (line_value self.old.problem.now.game.size line.now)) }
+        requires fits { IsTrue
+            (fits_board self.old.problem.now.game.size
+            (line_value self.old.problem.now.game.size line.now)) }
         ensures place { self.new.place ≡ self.old.place }
         ensures problem { self.new.problem ≡ self.old.problem }
         ensures ready { OnOk result (IsBehind self.new) }
-        ensures ok { OnOk result (GoesOn self.old self.new (had_here self.old (line_value self.old.problem.now.game.size line.now))) }
-        ensures err { IfErr result (λ why. StopsFor self.old (had_here self.old (line_value self.old.problem.now.game.size line.now)) why) }
+        ensures ok { OnOk result
+            (GoesOn self.old self.new
+            (had_here self.old (line_value self.old.problem.now.game.size line.now))) }
+        ensures err { IfErr result
+            (λ why. StopsFor self.old
+            (had_here self.old (line_value self.old.problem.now.game.size line.now)) why) }
     {
         if let Some(colouring) = had_of(line) {
             return self.had(colouring);
@@ -294,12 +334,20 @@ impl<'p> Judge<'p> {
     fn listed(&mut self, colouring: Colouring) -> Result<(), Why>
         requires ready { AwaitsList self.old }
         requires phase { self.old.phase ≡ phases.Listing }
-        requires fits { length colouring ≡ self.old.problem.now.game.size * self.old.problem.now.game.size }
+        requires fits { length colouring
+            ≡ self.old.problem.now.game.size * self.old.problem.now.game.size }
         ensures place { self.new.place ≡ self.old.place }
         ensures problem { self.new.problem ≡ self.old.problem }
         ensures ready { OnOk result (IsBehind self.new) }
-        ensures ok { OnOk result (GoesOn self.old self.new (listed_taken (machine_of self.old) (last_of self.old.list) colouring (listing_not (heading_of self.old) (listed_more (lemma_of self.old) colouring)))) }
-        ensures err { IfErr result (λ why. StopsFor self.old (listed_taken (machine_of self.old) (last_of self.old.list) colouring (listing_not (heading_of self.old) (listed_more (lemma_of self.old) colouring))) why) }
+        ensures ok { OnOk result
+            (GoesOn self.old self.new
+            (listed_taken (machine_of self.old) (last_of self.old.list) colouring
+            (listing_not (heading_of self.old) (listed_more (lemma_of self.old) colouring)))) }
+        ensures err { IfErr result
+            (λ why. StopsFor self.old
+            (listed_taken (machine_of self.old) (last_of self.old.list) colouring
+            (listing_not (heading_of self.old) (listed_more (lemma_of self.old) colouring)))
+            why) }
     {
         if self.listed_count >= MAX_LISTED {
             return Err(Why::Limit);
@@ -318,11 +366,25 @@ impl<'p> Judge<'p> {
     fn node_of_lemma(&mut self, node: NodeLine) -> Result<Due, Why>
         requires ready { AwaitsNode self.old Node }
         requires room { length self.old.open_nodes.items < 2000 }
-        ensures rest { self.new ≡ record self.old { state = self.new.state; open_nodes = self.new.open_nodes; passed = self.new.passed } }
+        ensures rest { self.new
+            ≡ record self.old {
+              state = self.new.state;
+              open_nodes = self.new.open_nodes;
+              passed = self.new.passed;
+            } }
         ensures ready { IfOk result (λ due. AwaitsNode self.new due) }
-        ensures none { OnOk result (node_fault (body_of (heading_of self.old) (within_of self.old Lemma)) self.old.state.state (node_value self.old.state.state.game.size node) ≡ None) }
-        ensures due { IfOk result (λ due. inside_now self.new due ≡ node_next (suc (length self.old.state.before)) self.old.state.state (owed_by self.old.state.before (reverse self.old.open_nodes.items)) (node_value self.old.state.state.game.size node)) }
-        ensures err { IfErr result (λ why. (p : SpecWhy) → why_value self.old.state.state.game.size why ≡ Some p → node_fault (body_of (heading_of self.old) (within_of self.old Lemma)) self.old.state.state (node_value self.old.state.state.game.size node) ≡ Some p) }
+        ensures none { OnOk result
+            (node_fault (body_of (heading_of self.old) (within_of self.old Lemma))
+            self.old.state.state (node_value self.old.state.state.game.size node) ≡ None) }
+        ensures due { IfOk result
+            (λ due. inside_now self.new due
+            ≡ node_next (suc (length self.old.state.before)) self.old.state.state
+            (owed_by self.old.state.before (reverse self.old.open_nodes.items))
+            (node_value self.old.state.state.game.size node)) }
+        ensures err { IfErr result (λ why. (p : SpecWhy)
+            → why_value self.old.state.state.game.size why ≡ Some p
+            → node_fault (body_of (heading_of self.old) (within_of self.old Lemma))
+            self.old.state.state (node_value self.old.state.state.game.size node) ≡ Some p) }
         ensures judged { IfErr result (λ why. IsJudged why) }
     {
         let body = Body::of_lemma(self.winner, self.heads.as_slice(), &self.list);
@@ -339,11 +401,25 @@ impl<'p> Judge<'p> {
     fn node_of_main(&mut self, node: NodeLine) -> Result<Due, Why>
         requires ready { AwaitsNode self.old Node }
         requires room { length self.old.open_nodes.items < 2000 }
-        ensures rest { self.new ≡ record self.old { state = self.new.state; open_nodes = self.new.open_nodes; passed = self.new.passed } }
+        ensures rest { self.new
+            ≡ record self.old {
+              state = self.new.state;
+              open_nodes = self.new.open_nodes;
+              passed = self.new.passed;
+            } }
         ensures ready { IfOk result (λ due. AwaitsNode self.new due) }
-        ensures none { OnOk result (node_fault (body_of (heading_of self.old) (within_of self.old Main)) self.old.state.state (node_value self.old.state.state.game.size node) ≡ None) }
-        ensures due { IfOk result (λ due. inside_now self.new due ≡ node_next (suc (length self.old.state.before)) self.old.state.state (owed_by self.old.state.before (reverse self.old.open_nodes.items)) (node_value self.old.state.state.game.size node)) }
-        ensures err { IfErr result (λ why. (p : SpecWhy) → why_value self.old.state.state.game.size why ≡ Some p → node_fault (body_of (heading_of self.old) (within_of self.old Main)) self.old.state.state (node_value self.old.state.state.game.size node) ≡ Some p) }
+        ensures none { OnOk result
+            (node_fault (body_of (heading_of self.old) (within_of self.old Main))
+            self.old.state.state (node_value self.old.state.state.game.size node) ≡ None) }
+        ensures due { IfOk result
+            (λ due. inside_now self.new due
+            ≡ node_next (suc (length self.old.state.before)) self.old.state.state
+            (owed_by self.old.state.before (reverse self.old.open_nodes.items))
+            (node_value self.old.state.state.game.size node)) }
+        ensures err { IfErr result (λ why. (p : SpecWhy)
+            → why_value self.old.state.state.game.size why ≡ Some p
+            → node_fault (body_of (heading_of self.old) (within_of self.old Main))
+            self.old.state.state (node_value self.old.state.state.game.size node) ≡ Some p) }
         ensures judged { IfErr result (λ why. IsJudged why) }
     {
         let body = Body::of_main(self.winner, self.heads.as_slice());
@@ -362,11 +438,25 @@ impl<'p> Judge<'p> {
     fn node_within(&mut self, within: Within, node: NodeLine) -> Result<Due, Why>
         requires ready { AwaitsNode self.old Node }
         requires room { length self.old.open_nodes.items < 2000 }
-        ensures rest { self.new ≡ record self.old { state = self.new.state; open_nodes = self.new.open_nodes; passed = self.new.passed } }
+        ensures rest { self.new
+            ≡ record self.old {
+              state = self.new.state;
+              open_nodes = self.new.open_nodes;
+              passed = self.new.passed;
+            } }
         ensures ready { IfOk result (λ due. AwaitsNode self.new due) }
-        ensures none { OnOk result (node_fault (body_of (heading_of self.old) (within_of self.old within)) self.old.state.state (node_value self.old.state.state.game.size node) ≡ None) }
-        ensures due { IfOk result (λ due. inside_now self.new due ≡ node_next (suc (length self.old.state.before)) self.old.state.state (owed_by self.old.state.before (reverse self.old.open_nodes.items)) (node_value self.old.state.state.game.size node)) }
-        ensures err { IfErr result (λ why. (p : SpecWhy) → why_value self.old.state.state.game.size why ≡ Some p → node_fault (body_of (heading_of self.old) (within_of self.old within)) self.old.state.state (node_value self.old.state.state.game.size node) ≡ Some p) }
+        ensures none { OnOk result
+            (node_fault (body_of (heading_of self.old) (within_of self.old within))
+            self.old.state.state (node_value self.old.state.state.game.size node) ≡ None) }
+        ensures due { IfOk result
+            (λ due. inside_now self.new due
+            ≡ node_next (suc (length self.old.state.before)) self.old.state.state
+            (owed_by self.old.state.before (reverse self.old.open_nodes.items))
+            (node_value self.old.state.state.game.size node)) }
+        ensures err { IfErr result (λ why. (p : SpecWhy)
+            → why_value self.old.state.state.game.size why ≡ Some p
+            → node_fault (body_of (heading_of self.old) (within_of self.old within))
+            self.old.state.state (node_value self.old.state.state.game.size node) ≡ Some p) }
         ensures judged { IfErr result (λ why. IsJudged why) }
     {
         match within {
@@ -377,7 +467,9 @@ impl<'p> Judge<'p> {
 
     /// Whether one node more may be counted, at the depth of the next one.
     fn has_room(&self) -> bool
-        ensures value { result ≡ (nat_lt self.now.node_count max_nodes && nat_le (length self.now.open_nodes.items + 1) max_depth) }
+        ensures value { result
+            ≡ (nat_lt self.now.node_count max_nodes && nat_le (length self.now.open_nodes.items + 1)
+            max_depth) }
         ensures few { IsTrue result → self.now.node_count < 10000000 }
         ensures shallow { IsTrue result → length self.now.open_nodes.items < 2000 }
     {
@@ -390,8 +482,13 @@ impl<'p> Judge<'p> {
         ensures place { self.new.place ≡ self.old.place }
         ensures problem { self.new.problem ≡ self.old.problem }
         ensures ready { OnOk result (IsBehind self.new) }
-        ensures ok { OnOk result (GoesOn self.old self.new (node_here self.old within (line_value self.old.problem.now.game.size line.now))) }
-        ensures err { IfErr result (λ why. StopsFor self.old (node_here self.old within (line_value self.old.problem.now.game.size line.now)) why) }
+        ensures ok { OnOk result
+            (GoesOn self.old self.new
+            (node_here self.old within (line_value self.old.problem.now.game.size line.now))) }
+        ensures err { IfErr result
+            (λ why. StopsFor self.old
+            (node_here self.old within (line_value self.old.problem.now.game.size line.now))
+            why) }
     {
         let Some(node) = node_of(line) else {
             return Err(Why::Malformed);
@@ -415,8 +512,14 @@ impl<'p> Judge<'p> {
         ensures place { self.new.place ≡ self.old.place }
         ensures problem { self.new.problem ≡ self.old.problem }
         ensures ready { OnOk result (IsBehind self.new) }
-        ensures ok { OnOk result (GoesOn self.old self.new (reply_here self.old within due left (line_value self.old.problem.now.game.size line.now))) }
-        ensures err { IfErr result (λ why. StopsFor self.old (reply_here self.old within due left (line_value self.old.problem.now.game.size line.now)) why) }
+        ensures ok { OnOk result
+            (GoesOn self.old self.new
+            (reply_here self.old within due left
+            (line_value self.old.problem.now.game.size line.now))) }
+        ensures err { IfErr result
+            (λ why. StopsFor self.old
+            (reply_here self.old within due left
+            (line_value self.old.problem.now.game.size line.now)) why) }
     {
         let Some(turn) = reply_of(line) else {
             return Err(Why::Malformed);
@@ -440,8 +543,14 @@ impl<'p> Judge<'p> {
         ensures place { self.new.place ≡ self.old.place }
         ensures problem { self.new.problem ≡ self.old.problem }
         ensures ready { OnOk result (IsBehind self.new) }
-        ensures ok { OnOk result (GoesOn self.old self.new (end_taken (machine_of self.old) (heading_of self.old) (within_of self.old within) (line_value self.old.problem.now.game.size line.now))) }
-        ensures err { IfErr result (λ why. StopsFor self.old (end_taken (machine_of self.old) (heading_of self.old) (within_of self.old within) (line_value self.old.problem.now.game.size line.now)) why) }
+        ensures ok { OnOk result
+            (GoesOn self.old self.new
+            (end_taken (machine_of self.old) (heading_of self.old) (within_of self.old within)
+            (line_value self.old.problem.now.game.size line.now))) }
+        ensures err { IfErr result
+            (λ why. StopsFor self.old
+            (end_taken (machine_of self.old) (heading_of self.old) (within_of self.old within)
+            (line_value self.old.problem.now.game.size line.now)) why) }
     {
         if !is_end(line) {
             return Err(Why::Malformed);
@@ -462,7 +571,11 @@ impl<'p> Judge<'p> {
         ensures place { self.new.place ≡ self.old.place }
         ensures problem { self.new.problem ≡ self.old.problem }
         ensures ready { OnOk result (IsBehind self.new) }
-        ensures ok { OnOk result (GoesOn self.old self.new (goes_on (moved (machine_of self.old) (opening (record (heading_of self.old) { heads = self.old.heads.items ++ lemma_of self.old ∷ [] }))))) }
+        ensures ok { OnOk result
+            (GoesOn self.old self.new
+            (goes_on (moved (machine_of self.old)
+            (opening (record (heading_of self.old)
+            { heads = self.old.heads.items ++ lemma_of self.old ∷ [] }))))) }
         ensures err { IfErr result (λ why. why ≡ Memory) }
     {
         let had = mem::replace(&mut self.had, Vec::new(self.alloc));
@@ -480,12 +593,18 @@ impl<'p> Judge<'p> {
     fn listing(&mut self, line: &Line) -> Result<(), Why>
         requires ready { AwaitsList self.old }
         requires phase { self.old.phase ≡ phases.Listing }
-        requires fits { IsTrue (fits_board self.old.problem.now.game.size (line_value self.old.problem.now.game.size line.now)) }
+        requires fits { IsTrue
+            (fits_board self.old.problem.now.game.size
+            (line_value self.old.problem.now.game.size line.now)) }
         ensures place { self.new.place ≡ self.old.place }
         ensures problem { self.new.problem ≡ self.old.problem }
         ensures ready { OnOk result (IsBehind self.new) }
-        ensures ok { OnOk result (GoesOn self.old self.new (list_here self.old (line_value self.old.problem.now.game.size line.now))) }
-        ensures err { IfErr result (λ why. StopsFor self.old (list_here self.old (line_value self.old.problem.now.game.size line.now)) why) }
+        ensures ok { OnOk result
+            (GoesOn self.old self.new
+            (list_here self.old (line_value self.old.problem.now.game.size line.now))) }
+        ensures err { IfErr result
+            (λ why. StopsFor self.old
+            (list_here self.old (line_value self.old.problem.now.game.size line.now)) why) }
     {
         match listed_of(line) {
             Some(colouring) => self.listed(colouring),
@@ -499,8 +618,14 @@ impl<'p> Judge<'p> {
         ensures place { self.new.place ≡ self.old.place }
         ensures problem { self.new.problem ≡ self.old.problem }
         ensures ready { OnOk result (IsBehind self.new) }
-        ensures ok { OnOk result (GoesOn self.old self.new (body_here self.old within due (line_value self.old.problem.now.game.size line.now))) }
-        ensures err { IfErr result (λ why. StopsFor self.old (body_here self.old within due (line_value self.old.problem.now.game.size line.now)) why) }
+        ensures ok { OnOk result
+            (GoesOn self.old self.new
+            (body_here self.old within due
+            (line_value self.old.problem.now.game.size line.now))) }
+        ensures err { IfErr result
+            (λ why. StopsFor self.old
+            (body_here self.old within due (line_value self.old.problem.now.game.size line.now))
+            why) }
     {
         match due {
             Due::Node => self.node(within, line),
@@ -511,7 +636,8 @@ impl<'p> Judge<'p> {
 
     /// Why a line that is malformed, or does not fit the board, is refused.
     fn malformed_why(&self) -> Why
-        ensures value { why_value self.now.problem.now.game.size result ≡ Some (bad_line (machine_of self.now).phase) }
+        ensures value { why_value self.now.problem.now.game.size result
+            ≡ Some (bad_line (machine_of self.now).phase) }
         ensures judged { IsJudged result }
     {
         match self.phase {
@@ -526,8 +652,14 @@ impl<'p> Judge<'p> {
         ensures place { self.new.place ≡ self.old.place }
         ensures problem { self.new.problem ≡ self.old.problem }
         ensures ready { OnOk result (IsBehind self.new) }
-        ensures ok { OnOk result (GoesOn self.old self.new (taken self.old.problem.now (machine_of self.old) (Some (line_value self.old.problem.now.game.size line.now)))) }
-        ensures err { IfErr result (λ why. StopsFor self.old (taken self.old.problem.now (machine_of self.old) (Some (line_value self.old.problem.now.game.size line.now))) why) }
+        ensures ok { OnOk result
+            (GoesOn self.old self.new
+            (taken self.old.problem.now (machine_of self.old)
+            (Some (line_value self.old.problem.now.game.size line.now)))) }
+        ensures err { IfErr result
+            (λ why. StopsFor self.old
+            (taken self.old.problem.now (machine_of self.old)
+            (Some (line_value self.old.problem.now.game.size line.now))) why) }
     {
         if !line_fits(self.problem.size(), line) {
             return Err(self.malformed_why());
@@ -548,9 +680,15 @@ impl<'p> Judge<'p> {
         requires few { self.old.place < 2 ^ 63 }
         ensures problem { self.new.problem.now ≡ self.old.problem.now }
         ensures ready { OnOk result (IsReady self.new) }
-        ensures ok { OnOk result (taken self.old.problem.now (machine_of self.old) (Some (line_value self.old.problem.now.game.size line.now)) ≡ goes_on (machine_of self.new)) }
+        ensures ok { OnOk result
+            (taken self.old.problem.now (machine_of self.old)
+            (Some (line_value self.old.problem.now.game.size line.now))
+            ≡ goes_on (machine_of self.new)) }
         ensures place { OnOk result (self.new.place ≡ suc self.old.place) }
-        ensures err { IfErr result (λ e. (why : SpecWhy) → why_value self.old.problem.now.game.size e.why ≡ Some why → taken self.old.problem.now (machine_of self.old) (Some (line_value self.old.problem.now.game.size line.now)) ≡ stops e.place why) }
+        ensures err { IfErr result (λ e. (why : SpecWhy)
+            → why_value self.old.problem.now.game.size e.why ≡ Some why
+            → taken self.old.problem.now (machine_of self.old)
+            (Some (line_value self.old.problem.now.game.size line.now)) ≡ stops e.place why) }
         ensures there { IfErr result (λ e. e.place ≡ self.old.place) }
         ensures judged { IfErr result (λ e. IsJudged e.why) }
     {
@@ -565,7 +703,9 @@ impl<'p> Judge<'p> {
 
     /// Why a malformed line is refused.
     pub(crate) fn malformed(&self) -> Reject
-        ensures err { (why : SpecWhy) → why_value self.now.problem.now.game.size result.why ≡ Some why → taken self.now.problem.now (machine_of self.now) None ≡ stops result.place why }
+        ensures err { (why : SpecWhy)
+            → why_value self.now.problem.now.game.size result.why ≡ Some why
+            → taken self.now.problem.now (machine_of self.now) None ≡ stops result.place why }
         ensures there { result.place ≡ self.now.place }
         ensures judged { IsJudged result.why }
     {
@@ -575,7 +715,9 @@ impl<'p> Judge<'p> {
     /// Who wins, where no line follows.
     pub(crate) fn end(&self) -> Result<Colour, Reject>
         ensures ok { IfOk result (λ x. ended (machine_of self.now) ≡ accepted x) }
-        ensures err { IfErr result (λ e. (why : SpecWhy) → why_value self.now.problem.now.game.size e.why ≡ Some why → ended (machine_of self.now) ≡ rejected e.place why) }
+        ensures err { IfErr result (λ e. (why : SpecWhy)
+            → why_value self.now.problem.now.game.size e.why ≡ Some why
+            → ended (machine_of self.now) ≡ rejected e.place why) }
         ensures judged { IfErr result (λ e. IsJudged e.why) }
     {
         match self.phase {
@@ -596,9 +738,15 @@ fn begin(
 ) -> Result<(), Why>
     requires size { side_of root.now ≡ state.old.state.game.size }
     requires few { passes ≤ 1 }
-    ensures state { OnOk result (state.new ≡ record { state = state_alone state.old.state.game root.now mover passes; before = [] }) }
+    ensures state { OnOk result
+        (state.new ≡ record {
+          state = state_alone state.old.state.game root.now mover passes;
+          before = [];
+        }) }
     ensures ok { OnOk result (lemma_fault state.old.state.game heads.now root.now ≡ None) }
-    ensures err { IfErr result (λ why. (p : SpecWhy) → why_value state.old.state.game.size why ≡ Some p → lemma_fault state.old.state.game heads.now root.now ≡ Some p) }
+    ensures err { IfErr result (λ why. (p : SpecWhy)
+        → why_value state.old.state.game.size why ≡ Some p
+        → lemma_fault state.old.state.game heads.now root.now ≡ Some p) }
     ensures judged { IfErr result (λ why. IsJudged why) }
 {
     if heads.len() >= MAX_LEMMAS {

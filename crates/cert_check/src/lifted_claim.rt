@@ -21,7 +21,8 @@ use std::alloc::{AllocError, Global};
 
 /// The claim's text, where it has one.
 fn text_of(alloc: Global, certificate: &Certificate) -> Result<Vec<u8>, AllocError>
-    ensures { IfOk result (λ bytes. IsSomeAnd (text (claim_of certificate.now)) (λ spelled. bytes.items ≡ spelled)) }
+    ensures { IfOk result
+        (λ bytes. IsSomeAnd (text (claim_of certificate.now)) (λ spelled. bytes.items ≡ spelled)) }
 {
     let mut bytes = Vec::new(alloc);
     match write_cert(certificate, &mut bytes) {
@@ -32,7 +33,9 @@ fn text_of(alloc: Global, certificate: &Certificate) -> Result<Vec<u8>, AllocErr
 
 /// The claim's main tree once more, in memory of its own: it is read from the claim's text.
 fn main_again(alloc: Global, checked: &Checked) -> Result<Node, AllocError>
-    ensures { IfOk result (λ node. node_of checked.now.certificate.size node ≡ (claim_of checked.now.certificate).main) }
+    ensures { IfOk result
+        (λ node. node_of checked.now.certificate.size node
+        ≡ (claim_of checked.now.certificate).main) }
 {
     one_claim_of_text();
     let _winner = checked.winner();
@@ -62,7 +65,9 @@ fn claim_of_lemma(
     absent: Vec<Colouring>,
     body: Node,
 ) -> Result<Certificate, AllocError>
-    ensures { IfOk result (λ c. claim_of c ≡ claim_with checked.now.problem checked.now.certificate.winner had.items absent.items (node_of checked.now.problem.game.size body)) }
+    ensures { IfOk result
+        (λ c. claim_of c ≡ claim_with checked.now.problem checked.now.certificate.winner had.items
+        absent.items (node_of checked.now.problem.game.size body)) }
 {
     let problem = checked.problem();
     let version = version_with(had.as_slice());
@@ -100,11 +105,14 @@ pub(crate) fn passes_limit(nodes: u32, listed: usize) -> bool
 /// It takes the time of playing the tree through, with one move at each empty point of the region wherever the other side is to
 /// move, and of sorting the results.
 pub fn lift(alloc: Global, checked: &Checked) -> Result<Certificate, Lift>
-    ensures lifted { IfOk result (λ c. IsLifted checked.now.problem (claim_of checked.now.certificate) (claim_of c)) }
+    ensures lifted { IfOk result
+        (λ c. IsLifted checked.now.problem (claim_of checked.now.certificate) (claim_of c)) }
     ensures valid { IfOk result (λ c. IsChecked checked.now.problem (claim_of c)) }
     ensures winner { IfOk result (λ c. c.winner ≡ checked.now.certificate.winner) }
-    ensures lemmas { (result ≡ Err Lift.HasLemmas) ↔ (0 < length checked.now.certificate.lemmas.items) }
-    ensures limit { result ≡ Err Lift.Limit → (y : Claim) → IsLifted checked.now.problem (claim_of checked.now.certificate) y → IsWithinLimits y → ⊥ }
+    ensures lemmas { (result ≡ Err Lift.HasLemmas)
+        ↔ (0 < length checked.now.certificate.lemmas.items) }
+    ensures limit { result ≡ Err Lift.Limit → (y : Claim)
+        → IsLifted checked.now.problem (claim_of checked.now.certificate) y → IsWithinLimits y → ⊥ }
 {
     let _winner = checked.winner();
     let problem = checked.problem();

@@ -42,7 +42,8 @@ pub(crate) fn unwind(state: &mut BodyState, open_nodes: &mut ArrayVec<TurnsLeft,
     ensures follows { Follows state.old.state.game state.new.before (reverse open_nodes.new.items) }
     ensures made { MayBeMade result state.new.state (length open_nodes.new.items) }
     ensures game { state.new.state.game ≡ state.old.state.game }
-    ensures due { inside_of result state.new.state state.new.before (reverse open_nodes.new.items) ≡ reply_at (owed_by state.old.before (reverse open_nodes.old.items)) }
+    ensures due { inside_of result state.new.state state.new.before (reverse open_nodes.new.items)
+        ≡ reply_at (owed_by state.old.before (reverse open_nodes.old.items)) }
 {
     let count = open_nodes.len();
     prove!(count <= MOST_OPEN);
@@ -64,14 +65,29 @@ pub(crate) fn take_reply(
     left: TurnsLeft,
     turn: Turn,
 ) -> Result<(), Why>
-    requires follows { Follows state.old.state.game state.old.before (reverse open_nodes.old.items) }
+    requires follows { Follows state.old.state.game state.old.before
+        (reverse open_nodes.old.items) }
     requires made { MayBeMade (Reply due left) state.old.state (length open_nodes.old.items) }
-    ensures ok { OnOk result (reply_fault (ply_of state.old.state.game.size due) (ply_of state.old.state.game.size turn) ≡ None) }
-    ensures state { OnOk result (state.new ≡ record { state = next state.old.state (ply_of state.old.state.game.size due); before = state.old.state ∷ state.old.before }) }
+    ensures ok { OnOk result
+        (reply_fault (ply_of state.old.state.game.size due) (ply_of state.old.state.game.size turn)
+        ≡ None) }
+    ensures state { OnOk result
+        (state.new ≡ record {
+          state = next state.old.state (ply_of state.old.state.game.size due);
+          before = state.old.state ∷ state.old.before;
+        }) }
     ensures game { OnOk result (state.new.state.game ≡ state.old.state.game) }
-    ensures follows { OnOk result (Follows state.old.state.game state.new.before (reverse open_nodes.new.items)) }
-    ensures owed { OnOk result (owed_by state.new.before (reverse open_nodes.new.items) ≡ owing (suc (length state.old.before)) state.old.state (turns_due state.old.state left.next) (owed_by state.old.before (reverse open_nodes.old.items))) }
-    ensures err { IfErr result (λ why. (p : SpecWhy) → why_value state.old.state.game.size why ≡ Some p → reply_fault (ply_of state.old.state.game.size due) (ply_of state.old.state.game.size turn) ≡ Some p) }
+    ensures follows { OnOk result
+        (Follows state.old.state.game state.new.before (reverse open_nodes.new.items)) }
+    ensures owed { OnOk result
+        (owed_by state.new.before (reverse open_nodes.new.items)
+        ≡ owing (suc (length state.old.before)) state.old.state
+        (turns_due state.old.state left.next)
+        (owed_by state.old.before (reverse open_nodes.old.items))) }
+    ensures err { IfErr result (λ why. (p : SpecWhy)
+        → why_value state.old.state.game.size why ≡ Some p
+        → reply_fault (ply_of state.old.state.game.size due)
+        (ply_of state.old.state.game.size turn) ≡ Some p) }
     ensures judged { IfErr result (λ why. IsJudged why) }
 {
     if turn != due {
@@ -90,14 +106,22 @@ fn take_won(
     state: &mut BodyState,
     open_nodes: &mut ArrayVec<TurnsLeft, MOST_OPEN>,
 ) -> Result<Due, Why>
-    requires follows { Follows state.old.state.game state.old.before (reverse open_nodes.old.items) }
+    requires follows { Follows state.old.state.game state.old.before
+        (reverse open_nodes.old.items) }
     requires room { length open_nodes.old.items < 2000 }
     ensures game { OnOk result (state.new.state.game ≡ state.old.state.game) }
-    ensures follows { OnOk result (Follows state.old.state.game state.new.before (reverse open_nodes.new.items)) }
-    ensures made { IfOk result (λ due. MayBeMade due state.new.state (length open_nodes.new.items)) }
+    ensures follows { OnOk result
+        (Follows state.old.state.game state.new.before (reverse open_nodes.new.items)) }
+    ensures made { IfOk result
+        (λ due. MayBeMade due state.new.state (length open_nodes.new.items)) }
     ensures none { OnOk result (node_fault body.now state.old.state (won_line) ≡ None) }
-    ensures due { IfOk result (λ due. inside_of due state.new.state state.new.before (reverse open_nodes.new.items) ≡ node_next (suc (length state.old.before)) state.old.state (owed_by state.old.before (reverse open_nodes.old.items)) (won_line)) }
-    ensures err { IfErr result (λ why. (p : SpecWhy) → why_value state.old.state.game.size why ≡ Some p → node_fault body.now state.old.state (won_line) ≡ Some p) }
+    ensures due { IfOk result
+        (λ due. inside_of due state.new.state state.new.before (reverse open_nodes.new.items)
+        ≡ node_next (suc (length state.old.before)) state.old.state
+        (owed_by state.old.before (reverse open_nodes.old.items)) (won_line)) }
+    ensures err { IfErr result (λ why. (p : SpecWhy)
+        → why_value state.old.state.game.size why ≡ Some p
+        → node_fault body.now state.old.state (won_line) ≡ Some p) }
     ensures judged { IfErr result (λ why. IsJudged why) }
 {
     if let Some(why) = won_fault(body, state.play()) {
@@ -114,16 +138,24 @@ fn take_use(
     passed: &mut LemmaSet,
     lemma: u32,
 ) -> Result<Due, Why>
-    requires follows { Follows state.old.state.game state.old.before (reverse open_nodes.old.items) }
+    requires follows { Follows state.old.state.game state.old.before
+        (reverse open_nodes.old.items) }
     requires room { length open_nodes.old.items < 2000 }
     requires passed { All (PassesOn body.now) passed.old }
     ensures passed { All (PassesOn body.now) passed.new }
     ensures game { OnOk result (state.new.state.game ≡ state.old.state.game) }
-    ensures follows { OnOk result (Follows state.old.state.game state.new.before (reverse open_nodes.new.items)) }
-    ensures made { IfOk result (λ due. MayBeMade due state.new.state (length open_nodes.new.items)) }
+    ensures follows { OnOk result
+        (Follows state.old.state.game state.new.before (reverse open_nodes.new.items)) }
+    ensures made { IfOk result
+        (λ due. MayBeMade due state.new.state (length open_nodes.new.items)) }
     ensures none { OnOk result (node_fault body.now state.old.state (use_line lemma) ≡ None) }
-    ensures due { IfOk result (λ due. inside_of due state.new.state state.new.before (reverse open_nodes.new.items) ≡ node_next (suc (length state.old.before)) state.old.state (owed_by state.old.before (reverse open_nodes.old.items)) (use_line lemma)) }
-    ensures err { IfErr result (λ why. (p : SpecWhy) → why_value state.old.state.game.size why ≡ Some p → node_fault body.now state.old.state (use_line lemma) ≡ Some p) }
+    ensures due { IfOk result
+        (λ due. inside_of due state.new.state state.new.before (reverse open_nodes.new.items)
+        ≡ node_next (suc (length state.old.before)) state.old.state
+        (owed_by state.old.before (reverse open_nodes.old.items)) (use_line lemma)) }
+    ensures err { IfErr result (λ why. (p : SpecWhy)
+        → why_value state.old.state.game.size why ≡ Some p
+        → node_fault body.now state.old.state (use_line lemma) ≡ Some p) }
     ensures judged { IfErr result (λ why. IsJudged why) }
 {
     let Ok(fault) = use_fault(body, passed, state, lemma) else {
@@ -142,14 +174,26 @@ fn take_play(
     open_nodes: &mut ArrayVec<TurnsLeft, MOST_OPEN>,
     turn: Turn,
 ) -> Result<Due, Why>
-    requires follows { Follows state.old.state.game state.old.before (reverse open_nodes.old.items) }
+    requires follows { Follows state.old.state.game state.old.before
+        (reverse open_nodes.old.items) }
     requires room { length open_nodes.old.items < 2000 }
     ensures game { OnOk result (state.new.state.game ≡ state.old.state.game) }
-    ensures follows { OnOk result (Follows state.old.state.game state.new.before (reverse open_nodes.new.items)) }
-    ensures made { IfOk result (λ due. MayBeMade due state.new.state (length open_nodes.new.items)) }
-    ensures none { OnOk result (node_fault body.now state.old.state (play_line (ply_of state.old.state.game.size turn)) ≡ None) }
-    ensures due { IfOk result (λ due. inside_of due state.new.state state.new.before (reverse open_nodes.new.items) ≡ node_next (suc (length state.old.before)) state.old.state (owed_by state.old.before (reverse open_nodes.old.items)) (play_line (ply_of state.old.state.game.size turn))) }
-    ensures err { IfErr result (λ why. (p : SpecWhy) → why_value state.old.state.game.size why ≡ Some p → node_fault body.now state.old.state (play_line (ply_of state.old.state.game.size turn)) ≡ Some p) }
+    ensures follows { OnOk result
+        (Follows state.old.state.game state.new.before (reverse open_nodes.new.items)) }
+    ensures made { IfOk result
+        (λ due. MayBeMade due state.new.state (length open_nodes.new.items)) }
+    ensures none { OnOk result
+        (node_fault body.now state.old.state (play_line (ply_of state.old.state.game.size turn))
+        ≡ None) }
+    ensures due { IfOk result
+        (λ due. inside_of due state.new.state state.new.before (reverse open_nodes.new.items)
+        ≡ node_next (suc (length state.old.before)) state.old.state
+        (owed_by state.old.before (reverse open_nodes.old.items))
+        (play_line (ply_of state.old.state.game.size turn))) }
+    ensures err { IfErr result (λ why. (p : SpecWhy)
+        → why_value state.old.state.game.size why ≡ Some p
+        → node_fault body.now state.old.state (play_line (ply_of state.old.state.game.size turn))
+        ≡ Some p) }
     ensures judged { IfErr result (λ why. IsJudged why) }
 {
     let Ok(fault) = make_turn(body, state, turn) else {
@@ -169,14 +213,22 @@ fn take_all(
     open_nodes: &mut ArrayVec<TurnsLeft, MOST_OPEN>,
     replies: u32,
 ) -> Result<Due, Why>
-    requires follows { Follows state.old.state.game state.old.before (reverse open_nodes.old.items) }
+    requires follows { Follows state.old.state.game state.old.before
+        (reverse open_nodes.old.items) }
     requires room { length open_nodes.old.items < 2000 }
     ensures game { OnOk result (state.new.state.game ≡ state.old.state.game) }
-    ensures follows { OnOk result (Follows state.old.state.game state.new.before (reverse open_nodes.new.items)) }
-    ensures made { IfOk result (λ due. MayBeMade due state.new.state (length open_nodes.new.items)) }
+    ensures follows { OnOk result
+        (Follows state.old.state.game state.new.before (reverse open_nodes.new.items)) }
+    ensures made { IfOk result
+        (λ due. MayBeMade due state.new.state (length open_nodes.new.items)) }
     ensures none { OnOk result (node_fault body.now state.old.state (all_line replies) ≡ None) }
-    ensures due { IfOk result (λ due. inside_of due state.new.state state.new.before (reverse open_nodes.new.items) ≡ node_next (suc (length state.old.before)) state.old.state (owed_by state.old.before (reverse open_nodes.old.items)) (all_line replies)) }
-    ensures err { IfErr result (λ why. (p : SpecWhy) → why_value state.old.state.game.size why ≡ Some p → node_fault body.now state.old.state (all_line replies) ≡ Some p) }
+    ensures due { IfOk result
+        (λ due. inside_of due state.new.state state.new.before (reverse open_nodes.new.items)
+        ≡ node_next (suc (length state.old.before)) state.old.state
+        (owed_by state.old.before (reverse open_nodes.old.items)) (all_line replies)) }
+    ensures err { IfErr result (λ why. (p : SpecWhy)
+        → why_value state.old.state.game.size why ≡ Some p
+        → node_fault body.now state.old.state (all_line replies) ≡ Some p) }
     ensures judged { IfErr result (λ why. IsJudged why) }
 {
     if let Some(why) = all_fault(body, state.play(), replies) {
@@ -197,16 +249,27 @@ pub(crate) fn take_node(
     passed: &mut LemmaSet,
     node: NodeLine,
 ) -> Result<Due, Why>
-    requires follows { Follows state.old.state.game state.old.before (reverse open_nodes.old.items) }
+    requires follows { Follows state.old.state.game state.old.before
+        (reverse open_nodes.old.items) }
     requires room { length open_nodes.old.items < 2000 }
     requires passed { All (PassesOn body.now) passed.old }
     ensures passed { All (PassesOn body.now) passed.new }
     ensures game { OnOk result (state.new.state.game ≡ state.old.state.game) }
-    ensures follows { OnOk result (Follows state.old.state.game state.new.before (reverse open_nodes.new.items)) }
-    ensures made { IfOk result (λ due. MayBeMade due state.new.state (length open_nodes.new.items)) }
-    ensures none { OnOk result (node_fault body.now state.old.state (node_value state.old.state.game.size node) ≡ None) }
-    ensures due { IfOk result (λ due. inside_of due state.new.state state.new.before (reverse open_nodes.new.items) ≡ node_next (suc (length state.old.before)) state.old.state (owed_by state.old.before (reverse open_nodes.old.items)) (node_value state.old.state.game.size node)) }
-    ensures err { IfErr result (λ why. (p : SpecWhy) → why_value state.old.state.game.size why ≡ Some p → node_fault body.now state.old.state (node_value state.old.state.game.size node) ≡ Some p) }
+    ensures follows { OnOk result
+        (Follows state.old.state.game state.new.before (reverse open_nodes.new.items)) }
+    ensures made { IfOk result
+        (λ due. MayBeMade due state.new.state (length open_nodes.new.items)) }
+    ensures none { OnOk result
+        (node_fault body.now state.old.state (node_value state.old.state.game.size node) ≡ None) }
+    ensures due { IfOk result
+        (λ due. inside_of due state.new.state state.new.before (reverse open_nodes.new.items)
+        ≡ node_next (suc (length state.old.before)) state.old.state
+        (owed_by state.old.before (reverse open_nodes.old.items))
+        (node_value state.old.state.game.size node)) }
+    ensures err { IfErr result (λ why. (p : SpecWhy)
+        → why_value state.old.state.game.size why ≡ Some p
+        → node_fault body.now state.old.state (node_value state.old.state.game.size node)
+        ≡ Some p) }
     ensures judged { IfErr result (λ why. IsJudged why) }
 {
     match node {

@@ -20,7 +20,8 @@ use target_game::{PlayState, TurnsLeft};
 
 /// The winner has won here.
 pub(crate) fn won_fault(body: &Body<'_>, state: &PlayState) -> Option<Why>
-    ensures { option_map (why_value state.now.state.game.size) result ≡ option_map Some (won_fault body.now state.now.state) }
+    ensures { option_map (why_value state.now.state.game.size) result
+        ≡ option_map Some (won_fault body.now state.now.state) }
 {
     if state.over() == Some(body.winner()) {
         None
@@ -44,8 +45,12 @@ fn make_move(
     point: Point,
 ) -> Result<Option<Why>, AllocError>
     requires { over state.old.state ≡ None }
-    ensures fault { IfOk result (λ f. option_map (why_value state.old.state.game.size) f ≡ option_map Some (move_fault body.now.listed state.old.state (ply_of state.old.state.game.size (At point)))) }
-    ensures made { IfOk result (λ f. f ≡ None → state.new ≡ line_after state.old (ply_of state.old.state.game.size (At point))) }
+    ensures fault { IfOk result
+        (λ f. option_map (why_value state.old.state.game.size) f
+        ≡ option_map Some (move_fault body.now.listed state.old.state
+        (ply_of state.old.state.game.size (At point)))) }
+    ensures made { IfOk result (λ f. f ≡ None
+        → state.new ≡ line_after state.old (ply_of state.old.state.game.size (At point))) }
 {
     if !state.play().size().holds(point) || !state.play().is_open(point) {
         return Ok(Some(Why::TurnBarred));
@@ -65,8 +70,12 @@ pub(crate) fn make_turn(
     state: &mut BodyState,
     turn: Turn,
 ) -> Result<Option<Why>, AllocError>
-    ensures fault { IfOk result (λ f. option_map (why_value state.old.state.game.size) f ≡ option_map Some (play_fault body.now state.old.state (ply_of state.old.state.game.size turn))) }
-    ensures made { IfOk result (λ f. f ≡ None → state.new ≡ line_after state.old (ply_of state.old.state.game.size turn)) }
+    ensures fault { IfOk result
+        (λ f. option_map (why_value state.old.state.game.size) f
+        ≡ option_map Some (play_fault body.now state.old.state
+        (ply_of state.old.state.game.size turn))) }
+    ensures made { IfOk result (λ f. f ≡ None
+        → state.new ≡ line_after state.old (ply_of state.old.state.game.size turn)) }
     ensures open { IfOk result (λ f. f ≡ None → over state.old.state ≡ None) }
 {
     if !is_to_move(state.play(), body.winner()) {
@@ -120,7 +129,9 @@ fn head_fault(
     requires head { lemma_at body.now.earlier number ≡ Some head.now }
     requires passed { All (PassesOn body.now) passed.old }
     ensures passed { All (PassesOn body.now) passed.new }
-    ensures fault { IfOk result (λ f. option_map (why_value state.now.state.game.size) f ≡ option_map Some (head_fault body.now state.now.state (Some head.now))) }
+    ensures fault { IfOk result
+        (λ f. option_map (why_value state.now.state.game.size) f
+        ≡ option_map Some (head_fault body.now state.now.state (Some head.now))) }
 {
     if !head.is_at(state.play()) {
         return Ok(Some(Why::StateDiffers));
@@ -146,7 +157,9 @@ pub(crate) fn use_fault(
 ) -> Result<Option<Why>, AllocError>
     requires passed { All (PassesOn body.now) passed.old }
     ensures passed { All (PassesOn body.now) passed.new }
-    ensures fault { IfOk result (λ f. option_map (why_value state.now.state.game.size) f ≡ option_map Some (use_fault body.now state.now.state number)) }
+    ensures fault { IfOk result
+        (λ f. option_map (why_value state.now.state.game.size) f
+        ≡ option_map Some (use_fault body.now state.now.state number)) }
 {
     match body.lemma(number) {
         Some(head) => head_fault(body, passed, state, number, head),
@@ -169,7 +182,8 @@ fn has_turns(state: &PlayState, count: u32) -> bool
 
 /// The other side moves: so many replies are due.
 pub(crate) fn all_fault(body: &Body<'_>, state: &PlayState, replies: u32) -> Option<Why>
-    ensures { option_map (why_value state.now.state.game.size) result ≡ option_map Some (all_fault body.now state.now.state replies) }
+    ensures { option_map (why_value state.now.state.game.size) result
+        ≡ option_map Some (all_fault body.now state.now.state replies) }
 {
     if !is_to_move(state, body.winner().opponent()) {
         return Some(Why::WrongSide);

@@ -42,7 +42,9 @@ fn next_reply<'a>(
     requires opened { AreOpen (reversed opened.old.items) state.old.before }
     ensures playable { IfOk result (λ part. IsPlayablePart state.new.state part) }
     ensures opened { IfOk result (λ part. AreOpen (reversed opened.new.items) state.new.before) }
-    ensures left { IfOk result (λ part. (past : GameState) → left_at past state.new opened.new.items part ≡ due_at past state.old opened.old.items due.now) }
+    ensures left { IfOk result (λ part. (past : GameState)
+        → left_at past state.new opened.new.items part
+        ≡ due_at past state.old opened.old.items due.now) }
 {
     let mut due = due;
     loop {
@@ -72,7 +74,11 @@ fn add_barred(
     state: &PlayState,
     barred: &mut Vec<Colouring>,
 ) -> Result<(), AllocError>
-    ensures { IfOk result (λ _. barred.new.items ≡ barred.old.items ++ filter (is_past past.now.state) (map (result_of state.now.state) (filter (is_open state.now.state) (points state.now.state.game.size)))) }
+    ensures { IfOk result
+        (λ _. barred.new.items
+        ≡ barred.old.items ++ filter (is_past past.now.state)
+        (map (result_of state.now.state)
+        (filter (is_open state.now.state) (points state.now.state.game.size)))) }
 {
     let size = state.size();
     for number in 0..size.area() {
@@ -100,7 +106,11 @@ fn step<'a>(
     requires opened { AreOpen (reversed opened.old.items) state.old.before }
     ensures playable { IfOk result (λ part. IsPlayablePart state.new.state part) }
     ensures opened { IfOk result (λ part. AreOpen (reversed opened.new.items) state.new.before) }
-    ensures left { IfOk result (λ part. joined (gathered plays.new.items barred.new.items 1) (left_at past.now.state state.new opened.new.items part) ≡ joined (gathered plays.old.items barred.old.items 0) (left_at past.now.state state.old opened.old.items (Some node.entry))) }
+    ensures left { IfOk result
+        (λ part. joined (gathered plays.new.items barred.new.items 1)
+        (left_at past.now.state state.new opened.new.items part)
+        ≡ joined (gathered plays.old.items barred.old.items 0)
+        (left_at past.now.state state.old opened.old.items (Some node.entry))) }
 {
     match node {
         Node::Won => next_reply(&[], state, opened),
@@ -124,9 +134,14 @@ fn step<'a>(
 /// What the moves of the claim's tree give. It takes the time of playing the tree through, with a move at each empty point of the
 /// region where the other side is to move.
 pub(crate) fn results_of(alloc: Global, checked: &Checked) -> Result<Results, AllocError>
-    ensures plays { IfOk result (λ r. r.plays.items ≡ play_results (start checked.now.problem) (claim_of checked.now.certificate).main) }
-    ensures barred { IfOk result (λ r. r.barred.items ≡ filter (is_past (start checked.now.problem)) (reply_results (start checked.now.problem) (claim_of checked.now.certificate).main)) }
-    ensures nodes { IfOk result (λ r. r.nodes ≡ node_count (claim_of checked.now.certificate).main) }
+    ensures plays { IfOk result
+        (λ r. r.plays.items ≡ play_results (start checked.now.problem)
+        (claim_of checked.now.certificate).main) }
+    ensures barred { IfOk result
+        (λ r. r.barred.items ≡ filter (is_past (start checked.now.problem))
+        (reply_results (start checked.now.problem) (claim_of checked.now.certificate).main)) }
+    ensures nodes { IfOk result
+        (λ r. r.nodes ≡ node_count (claim_of checked.now.certificate).main) }
 {
     let _winner = checked.winner();
     let problem = checked.problem();

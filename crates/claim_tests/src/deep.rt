@@ -55,7 +55,8 @@ fn wide(alloc: Global, rt: &impl Abort) -> Problem {
 
 // The first legal move.
 fn first_move(state: &PlayState) -> Option<Point>
-    ensures { IfSome result (λ p. IsTrue (legal state.now.state (ply_of state.now.state.game.size (At p)))) }
+    ensures { IfSome result
+        (λ p. IsTrue (legal state.now.state (ply_of state.now.state.game.size (At p)))) }
 {
     let size = state.size();
     for number in 0..size.area() {

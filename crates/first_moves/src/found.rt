@@ -51,7 +51,8 @@ pub(crate) fn judge_turns<N: Write>(
     is_told: bool,
     notes: &mut N,
 ) -> Result<Vec<Found>, AllocError>
-    ensures { IfOk result (λ found. AreJudged problem.now (legal_turns (start problem.now)) found.items) }
+    ensures { IfOk result
+        (λ found. AreJudged problem.now (legal_turns (start problem.now)) found.items) }
 {
     prove!(problem.place() < problem.history().len());
     let state = PlayState::of(alloc, problem)?;
@@ -95,7 +96,8 @@ fn tell<N: Write>(
 pub(crate) fn counted(found: &[Found]) -> Tally
     ensures winning { result.winning ≡ count is_right found.now }
     ensures unknown { result.unknown ≡ count is_unknown found.now }
-    ensures solution { result.solution ≡ solution_of (count is_right found.now) (count is_unknown found.now) }
+    ensures solution { result.solution
+        ≡ solution_of (count is_right found.now) (count is_unknown found.now) }
 {
     let mut winning: usize = 0;
     let mut unknown: usize = 0;

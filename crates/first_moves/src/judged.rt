@@ -55,7 +55,9 @@ fn problem_after(
     turn: Turn,
 ) -> Result<Option<Problem>, AllocError>
     requires { state.now.state ≡ start problem.now }
-    ensures { IfOk result (λ made. IfSome made (λ later. IsProblemAfter problem.now (ply_of problem.now.game.size turn) later)) }
+    ensures { IfOk result
+        (λ made. IfSome made (λ later. IsProblemAfter problem.now
+        (ply_of problem.now.game.size turn) later)) }
 {
     let mut history = problem.history().to_vec(alloc)?;
     match turn {
@@ -77,7 +79,9 @@ fn problem_after(
 /// The colouring after the mover's move at the point; none where it is no empty point of the region.
 fn colouring_after(state: &PlayState, point: Point) -> Option<Colouring>
     requires { IsOn state.now.state.game.size point }
-    ensures { IfSome result (λ after. after ≡ after_move state.now.state.game.size state.now.state.colouring state.now.state.mover (number_of state.now.state.game.size point)) }
+    ensures { IfSome result
+        (λ after. after ≡ after_move state.now.state.game.size state.now.state.colouring
+        state.now.state.mover (number_of state.now.state.game.size point)) }
 {
     if state.is_open(point) {
         Some(state.result(point))
@@ -95,7 +99,8 @@ pub(crate) fn judge(
     budget: Budget,
 ) -> Result<Judged, AllocError>
     requires { state.now.state ≡ start problem.now }
-    ensures { IfOk result (λ found. IsJudged problem.now (ply_of problem.now.game.size turn) found) }
+    ensures { IfOk result
+        (λ found. IsJudged problem.now (ply_of problem.now.game.size turn) found) }
 {
     // The prover takes a turn that was passed on as moved.
     let same = turn;
@@ -126,7 +131,8 @@ fn searched(
     budget: Budget,
 ) -> Result<Judged, AllocError>
     requires { IsProblemAfter problem.now (ply_of problem.now.game.size turn) later }
-    ensures { IfOk result (λ found. IsJudged problem.now (ply_of problem.now.game.size turn) found) }
+    ensures { IfOk result
+        (λ found. IsJudged problem.now (ply_of problem.now.game.size turn) found) }
 {
     match solve(alloc, later, budget) {
         Verdict::Wins(checked) => {
@@ -151,7 +157,8 @@ fn confirmed(
     turn: Turn,
     claim: Certificate,
 ) -> Result<Judged, AllocError>
-    ensures { IfOk result (λ found. IsJudged problem.now (ply_of problem.now.game.size turn) found) }
+    ensures { IfOk result
+        (λ found. IsJudged problem.now (ply_of problem.now.game.size turn) found) }
 {
     let same = problem.copy(alloc)?;
     match check_held(alloc, same, claim) {

@@ -21,13 +21,18 @@ pub(crate) fn remove_without_liberty(
     colour: Colour,
     number: usize,
 ) -> u16
-    requires settled { IsSettled (side_of colouring.old) colouring.old heads.old next.now counts.old }
+    requires settled { IsSettled (side_of colouring.old) colouring.old heads.old next.now
+        counts.old }
     requires on { number < side_of colouring.old * side_of colouring.old }
     ensures size { side_of colouring.new ≡ side_of colouring.old }
-    ensures settled { IsSettled (side_of colouring.old) colouring.new heads.new next.now counts.new }
-    ensures cleared { clear (side_of colouring.old) colouring.new colour ≡ clear (side_of colouring.old) colouring.old colour }
-    ensures left { LeavesLiberties (side_of colouring.old) colouring.old heads.old colouring.new heads.new }
-    ensures passed { (h : ℕ) → LacksLiberties (side_of colouring.old) colouring.new heads.new h → cell_at colouring.new h ≡ Stone colour → slice_index heads.old number ≢ h }
+    ensures settled { IsSettled (side_of colouring.old) colouring.new heads.new next.now
+        counts.new }
+    ensures cleared { clear (side_of colouring.old) colouring.new colour
+        ≡ clear (side_of colouring.old) colouring.old colour }
+    ensures left { LeavesLiberties (side_of colouring.old) colouring.old heads.old colouring.new
+        heads.new }
+    ensures passed { (h : ℕ) → LacksLiberties (side_of colouring.old) colouring.new heads.new h
+        → cell_at colouring.new h ≡ Stone colour → slice_index heads.old number ≢ h }
     ensures count { result + stone_count colouring.new ≡ stone_count colouring.old }
 {
     let size = colouring.size();
@@ -51,13 +56,18 @@ pub(crate) fn capture(
     colour: Colour,
     number: usize,
 ) -> u16
-    requires settled { IsSettled (side_of colouring.old) colouring.old heads.old next.now counts.old }
+    requires settled { IsSettled (side_of colouring.old) colouring.old heads.old next.now
+        counts.old }
     requires on { number < side_of colouring.old * side_of colouring.old }
-    requires beside { (h : ℕ) → LacksLiberties (side_of colouring.old) colouring.old heads.old h → cell_at colouring.old h ≡ Stone colour → 0 < touches (side_of colouring.old) heads.old h number }
+    requires beside { (h : ℕ) → LacksLiberties (side_of colouring.old) colouring.old heads.old h
+        → cell_at colouring.old h ≡ Stone colour
+        → 0 < touches (side_of colouring.old) heads.old h number }
     ensures size { side_of colouring.new ≡ side_of colouring.old }
-    ensures settled { IsSettled (side_of colouring.old) colouring.new heads.new next.now counts.new }
+    ensures settled { IsSettled (side_of colouring.old) colouring.new heads.new next.now
+        counts.new }
     ensures cleared { colouring.new ≡ clear (side_of colouring.old) colouring.old colour }
-    ensures left { LeavesLiberties (side_of colouring.old) colouring.old heads.old colouring.new heads.new }
+    ensures left { LeavesLiberties (side_of colouring.old) colouring.old heads.old colouring.new
+        heads.new }
     ensures count { result + stone_count colouring.new ≡ stone_count colouring.old }
 {
     let size = colouring.size();

@@ -22,11 +22,14 @@ fn remove_changed(
     counts: &mut [u32],
     wanted: &Colouring,
 )
-    requires settled { IsSettled (side_of colouring.old) colouring.old heads.old next.old counts.old }
+    requires settled { IsSettled (side_of colouring.old) colouring.old heads.old next.old
+        counts.old }
     requires same_size { side_of wanted.now ≡ side_of colouring.old }
     ensures size { side_of colouring.new ≡ side_of colouring.old }
-    ensures settled { IsSettled (side_of colouring.old) colouring.new heads.new next.new counts.new }
-    ensures rest { (p : ℕ) → p < side_of colouring.old * side_of colouring.old → (cell_at colouring.new p ≡ Empty) ⊎ (cell_at colouring.new p ≡ cell_at wanted.now p) }
+    ensures settled { IsSettled (side_of colouring.old) colouring.new heads.new next.new
+        counts.new }
+    ensures rest { (p : ℕ) → p < side_of colouring.old * side_of colouring.old
+        → (cell_at colouring.new p ≡ Empty) ⊎ (cell_at colouring.new p ≡ cell_at wanted.now p) }
 {
     let size = colouring.size();
     prove!(size.area() <= MAX_POINTS);
@@ -48,11 +51,13 @@ fn fill_cell(
     cell: Cell,
     number: usize,
 )
-    requires settled { IsSettled (side_of colouring.old) colouring.old heads.old next.old counts.old }
+    requires settled { IsSettled (side_of colouring.old) colouring.old heads.old next.old
+        counts.old }
     requires on { number < side_of colouring.old * side_of colouring.old }
     requires free { slice_index heads.old number ≡ nowhere }
     ensures size { side_of colouring.new ≡ side_of colouring.old }
-    ensures settled { IsSettled (side_of colouring.old) colouring.new heads.new next.new counts.new }
+    ensures settled { IsSettled (side_of colouring.old) colouring.new heads.new next.new
+        counts.new }
     ensures here { cell_at colouring.new number ≡ cell }
     ensures others { (q : ℕ) → q ≢ number → cell_at colouring.new q ≡ cell_at colouring.old q }
 {
@@ -70,11 +75,14 @@ fn fill_changed(
     counts: &mut [u32],
     wanted: &Colouring,
 )
-    requires settled { IsSettled (side_of colouring.old) colouring.old heads.old next.old counts.old }
+    requires settled { IsSettled (side_of colouring.old) colouring.old heads.old next.old
+        counts.old }
     requires same_size { side_of wanted.now ≡ side_of colouring.old }
-    requires rest { (p : ℕ) → p < side_of colouring.old * side_of colouring.old → (cell_at colouring.old p ≡ Empty) ⊎ (cell_at colouring.old p ≡ cell_at wanted.now p) }
+    requires rest { (p : ℕ) → p < side_of colouring.old * side_of colouring.old
+        → (cell_at colouring.old p ≡ Empty) ⊎ (cell_at colouring.old p ≡ cell_at wanted.now p) }
     ensures size { side_of colouring.new ≡ side_of colouring.old }
-    ensures settled { IsSettled (side_of colouring.old) colouring.new heads.new next.new counts.new }
+    ensures settled { IsSettled (side_of colouring.old) colouring.new heads.new next.new
+        counts.new }
     ensures value { colouring.new ≡ wanted.now }
 {
     let size = colouring.size();
@@ -152,9 +160,12 @@ fn find_without_liberty(colouring: &KeyedColouring, heads: &[u16], counts: &[u32
     requires heads_full { length heads.now ≡ MAX_POINTS }
     requires counts_full { length counts.now ≡ MAX_POINTS }
     requires tells { TellsLiberties (side_of colouring.now) colouring.now heads.now counts.now }
-    ensures found { IfSome result (λ p. first_without_liberty (side_of colouring.now) colouring.now ≡ Some (number_of (side_of colouring.now) p)) }
+    ensures found { IfSome result
+        (λ p. first_without_liberty (side_of colouring.now) colouring.now
+        ≡ Some (number_of (side_of colouring.now) p)) }
     ensures on_board { IfSome result (λ p. IsOn (side_of colouring.now) p) }
-    ensures none { IfNone result (first_without_liberty (side_of colouring.now) colouring.now ≡ None) }
+    ensures none { IfNone result
+        (first_without_liberty (side_of colouring.now) colouring.now ≡ None) }
 {
     let size = colouring.size();
     prove!(size.area() <= MAX_POINTS);
@@ -178,9 +189,12 @@ fn find_after(
     requires tells { TellsLiberties (side_of colouring.now) colouring.now heads.now counts.now }
     requires same_size { side_of before.now ≡ side_of colouring.now }
     requires lived { first_without_liberty (side_of before.now) before.now ≡ None }
-    ensures found { IfSome result (λ p. first_without_liberty (side_of colouring.now) colouring.now ≡ Some (number_of (side_of colouring.now) p)) }
+    ensures found { IfSome result
+        (λ p. first_without_liberty (side_of colouring.now) colouring.now
+        ≡ Some (number_of (side_of colouring.now) p)) }
     ensures on_board { IfSome result (λ p. IsOn (side_of colouring.now) p) }
-    ensures none { IfNone result (first_without_liberty (side_of colouring.now) colouring.now ≡ None) }
+    ensures none { IfNone result
+        (first_without_liberty (side_of colouring.now) colouring.now ≡ None) }
 {
     if live_where_new(colouring, heads, counts, before) {
         return None;
@@ -196,9 +210,11 @@ fn change_to(
     counts: &mut [u32],
     wanted: &Colouring,
 )
-    requires settled { IsSettled (side_of colouring.old) colouring.old heads.old next.old counts.old }
+    requires settled { IsSettled (side_of colouring.old) colouring.old heads.old next.old
+        counts.old }
     requires same_size { side_of wanted.now ≡ side_of colouring.old }
-    ensures settled { IsSettled (side_of colouring.old) colouring.new heads.new next.new counts.new }
+    ensures settled { IsSettled (side_of colouring.old) colouring.new heads.new next.new
+        counts.new }
     ensures value { colouring.new ≡ wanted.now }
 {
     remove_changed(colouring, heads, next, counts, wanted);
@@ -218,7 +234,9 @@ pub(crate) fn take_over(
     ensures board { IsBoard (side_of colouring.old) colouring.new heads.new next.new counts.new }
     ensures ok { OnOk result (colouring.new ≡ wanted.now) }
     ensures liberties { OnOk result (first_without_liberty (side_of wanted.now) wanted.now ≡ None) }
-    ensures fault { IfErr result (λ e. first_without_liberty (side_of wanted.now) wanted.now ≡ Some (number_of (side_of wanted.now) e.point)) }
+    ensures fault { IfErr result
+        (λ e. first_without_liberty (side_of wanted.now) wanted.now
+        ≡ Some (number_of (side_of wanted.now) e.point)) }
     ensures fault_on_board { IfErr result (λ e. IsOn (side_of wanted.now) e.point) }
     ensures err { OnErr result (colouring.new ≡ colouring.old) }
 {

@@ -103,13 +103,15 @@ fn remove_stone(
     number: usize,
     head: u16,
 )
-    requires settled { IsSettled (side_of colouring.old) colouring.old heads.old next.old counts.old }
+    requires settled { IsSettled (side_of colouring.old) colouring.old heads.old next.old
+        counts.old }
     requires on { number < side_of colouring.old * side_of colouring.old }
     requires stone { slice_index heads.old number ≢ nowhere }
     requires here { slice_index heads.old number ≡ head }
     requires whole { IsNoCutPoint (side_of colouring.old) heads.old next.old head number }
     ensures size { side_of colouring.new ≡ side_of colouring.old }
-    ensures settled { IsSettled (side_of colouring.old) colouring.new heads.new next.new counts.new }
+    ensures settled { IsSettled (side_of colouring.old) colouring.new heads.new next.new
+        counts.new }
     ensures cells { colouring.new ≡ slice_set colouring.old number Empty }
 {
     let size = colouring.size();
@@ -131,13 +133,16 @@ pub(crate) fn take_off(
     counts: &mut [u32],
     number: usize,
 )
-    requires settled { IsSettled (side_of colouring.old) colouring.old heads.old next.old counts.old }
+    requires settled { IsSettled (side_of colouring.old) colouring.old heads.old next.old
+        counts.old }
     requires on { number < side_of colouring.old * side_of colouring.old }
     requires stone { slice_index heads.old number ≢ nowhere }
     ensures size { side_of colouring.new ≡ side_of colouring.old }
-    ensures settled { IsSettled (side_of colouring.old) colouring.new heads.new next.new counts.new }
+    ensures settled { IsSettled (side_of colouring.old) colouring.new heads.new next.new
+        counts.new }
     ensures here { cell_at colouring.new number ≡ Empty }
-    ensures rest { (p : ℕ) → p < side_of colouring.old * side_of colouring.old → (cell_at colouring.new p ≡ Empty) ⊎ (cell_at colouring.new p ≡ cell_at colouring.old p) }
+    ensures rest { (p : ℕ) → p < side_of colouring.old * side_of colouring.old
+        → (cell_at colouring.new p ≡ Empty) ⊎ (cell_at colouring.new p ≡ cell_at colouring.old p) }
 {
     let size = colouring.size();
     prove!(size.area() <= MAX_POINTS);

@@ -31,7 +31,8 @@ pub(crate) fn shared(heads: &[u16], size: Size, number: usize, head: u16) -> u32
 /// The empty points beside the chain with this head.
 pub(crate) fn liberties_of(colouring: &KeyedColouring, heads: &[u16], head: u16) -> PointSet
     requires heads_full { length heads.now ≡ MAX_POINTS }
-    ensures { HoldsThose (side_of colouring.now) (is_liberty (side_of colouring.now) colouring.now heads.now head) result }
+    ensures { HoldsThose (side_of colouring.now)
+        (is_liberty (side_of colouring.now) colouring.now heads.now head) result }
 {
     let size = colouring.size();
     prove!(size.area() <= MAX_POINTS);
@@ -71,7 +72,9 @@ pub(crate) fn takes_chain(
     requires counts_full { length counts.now ≡ MAX_POINTS }
     requires on { number < side_of colouring.now * side_of colouring.now }
     requires tells { TellsLiberties (side_of colouring.now) colouring.now heads.now counts.now }
-    ensures { result ≡ list_any (loses_last (side_of colouring.now) colouring.now heads.now counts.now colour number) (neighbours (side_of colouring.now) number) }
+    ensures { result ≡ list_any
+        (loses_last (side_of colouring.now) colouring.now heads.now counts.now colour number)
+        (neighbours (side_of colouring.now) number) }
 {
     let size = colouring.size();
     prove!(size.area() <= MAX_POINTS);
@@ -97,7 +100,9 @@ pub(crate) fn has_liberty(
     requires counts_full { length counts.now ≡ MAX_POINTS }
     requires on { number < side_of colouring.now * side_of colouring.now }
     requires tells { TellsLiberties (side_of colouring.now) colouring.now heads.now counts.now }
-    ensures { result ≡ list_any (lets_stay (side_of colouring.now) colouring.now heads.now counts.now colour number) (neighbours (side_of colouring.now) number) }
+    ensures { result ≡ list_any
+        (lets_stay (side_of colouring.now) colouring.now heads.now counts.now colour number)
+        (neighbours (side_of colouring.now) number) }
 {
     let size = colouring.size();
     prove!(size.area() <= MAX_POINTS);

@@ -36,7 +36,8 @@ fn place(
     colour: Colour,
     number: usize,
 )
-    requires settled { IsSettled (side_of colouring.old) colouring.old heads.old next.old counts.old }
+    requires settled { IsSettled (side_of colouring.old) colouring.old heads.old next.old
+        counts.old }
     requires on { number < side_of colouring.old * side_of colouring.old }
     requires free { slice_index heads.old number ≡ nowhere }
     ensures full { AreFull heads.new next.new counts.new }
@@ -69,11 +70,13 @@ fn join(
     requires beside { adjacent (side_of colouring.now) number neighbour ≡ true }
     requires stone { cell_at colouring.now number ≡ Stone colour }
     requires chains { HasCircles (side_of colouring.now) colouring.now heads.old next.old }
-    requires counted { HasCounts (side_of colouring.now) colouring.now heads.old counts.old nowhere }
+    requires counted { HasCounts (side_of colouring.now) colouring.now heads.old counts.old
+        nowhere }
     ensures full { AreFull heads.new next.new counts.new }
     ensures together { KeepsTogether (side_of colouring.now) heads.old heads.new }
     ensures others { KeepsOthers (side_of colouring.now) number heads.old heads.new }
-    ensures bound { cell_at colouring.now neighbour ≡ Stone colour → slice_index heads.new number ≡ slice_index heads.new neighbour }
+    ensures bound { cell_at colouring.now neighbour ≡ Stone colour
+        → slice_index heads.new number ≡ slice_index heads.new neighbour }
     ensures chains { HasCircles (side_of colouring.now) colouring.now heads.new next.new }
     ensures counted { HasCounts (side_of colouring.now) colouring.now heads.new counts.new nowhere }
 {
@@ -96,13 +99,15 @@ pub(crate) fn fill(
     colour: Colour,
     number: usize,
 )
-    requires settled { IsSettled (side_of colouring.old) colouring.old heads.old next.old counts.old }
+    requires settled { IsSettled (side_of colouring.old) colouring.old heads.old next.old
+        counts.old }
     requires on { number < side_of colouring.old * side_of colouring.old }
     requires free { slice_index heads.old number ≡ nowhere }
     ensures size { side_of colouring.new ≡ side_of colouring.old }
     ensures cells { colouring.new ≡ slice_set colouring.old number (Stone colour) }
     ensures others { KeepsOthers (side_of colouring.old) number heads.old heads.new }
-    ensures settled { IsSettled (side_of colouring.old) colouring.new heads.new next.new counts.new }
+    ensures settled { IsSettled (side_of colouring.old) colouring.new heads.new next.new
+        counts.new }
 {
     place(colouring, heads, next, counts, colour, number);
     let size = colouring.size();

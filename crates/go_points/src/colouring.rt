@@ -35,9 +35,14 @@ impl Model for Colouring {
 
     ghost invariant = { λ a. IsPacked a.size a.stones a.blacks };
 
-    ghost inverse = { λ c. record { size = side_of c; stones = stone_words c; blacks = black_words c } };
+    ghost inverse = { λ c. record
+        { size = side_of c; stones = stone_words c; blacks = black_words c } };
 
-    ghost inverse_ok = { λ a h. λ i. record { size = packed_side a.size a.stones a.blacks i; stones = stones_back a.size a.stones a.blacks h i; blacks = blacks_back a.size a.stones a.blacks h i } };
+    ghost inverse_ok = { λ a h. λ i. record {
+      size = packed_side a.size a.stones a.blacks i;
+      stones = stones_back a.size a.stones a.blacks h i;
+      blacks = blacks_back a.size a.stones a.blacks h i;
+    } };
 }
 
 impl PartialEq for Colouring {
@@ -76,7 +81,8 @@ impl PartialOrd for Colouring {
 
     ghost partial_cmp = { as_partial_cmp text_order };
 
-    ghost laws = { partial_order_from_agreeing_total text_order (on_texts text_of) (λ c d. refl) same_cells_ties };
+    ghost laws = { partial_order_from_agreeing_total text_order (on_texts text_of)
+        (λ c d. refl) same_cells_ties };
 
     fn partial_cmp(&self, other: &Colouring) -> Option<Ordering> {
         Some(self.cmp(other))
@@ -117,7 +123,8 @@ impl Hash for Colouring {
     ghost use Rattle.go_points.specs.Equal.{same_cells_eq};
     ghost use Rattle.go_points.specs.Packed.{stone_words, black_words};
 
-    ghost hash_input = { λ c. fed.slice fed.u64 (stone_words c) ++ fed.slice fed.u64 (black_words c) };
+    ghost hash_input = { λ c. fed.slice fed.u64 (stone_words c)
+        ++ fed.slice fed.u64 (black_words c) };
 
     ghost respects_eq = { λ x y e. ap (λ c. fed.slice fed.u64 (stone_words c) ++ fed.slice fed.u64 (black_words c)) (same_cells_eq x y e) };
 
@@ -188,7 +195,8 @@ impl Colouring {
         requires { side_of other.now ≡ side_of self.now }
         ensures later { from ≤ result }
         ensures same { (i : ℕ) → from ≤ i → i < result → cell_at self.now i ≡ cell_at other.now i }
-        ensures differs { result < side_of self.now * side_of self.now → cell_at self.now result ≢ cell_at other.now result }
+        ensures differs { result < side_of self.now * side_of self.now
+            → cell_at self.now result ≢ cell_at other.now result }
     {
         next_unlike(
             &self.stones,

@@ -64,7 +64,8 @@ pub(crate) fn write_bit(bits: &mut PointBits, bit: usize, value: bool)
     requires words { IsWords bits.old word_count MAX_POINTS }
     ensures same { has_bit bits.new bit ≡ value }
     ensures others { (i : ℕ) → i ≢ bit → has_bit bits.new i ≡ has_bit bits.old i }
-    ensures kept { (area : ℕ) → bit < area → IsWords bits.old word_count area → IsWords bits.new word_count area }
+    ensures kept { (area : ℕ) → bit < area → IsWords bits.old word_count area
+        → IsWords bits.new word_count area }
 {
     if value {
         bits[bit / 64] |= 1 << (bit % 64);
@@ -113,8 +114,10 @@ pub(crate) fn next_unlike(
 ) -> usize
     requires { area ≤ MAX_POINTS }
     ensures later { from ≤ result }
-    ensures alike { (i : ℕ) → from ≤ i → i < result → AreAlike bits.now others.now more.now more_others.now i }
-    ensures unlike { result < area → AreAlike bits.now others.now more.now more_others.now result → ⊥ }
+    ensures alike { (i : ℕ) → from ≤ i → i < result
+        → AreAlike bits.now others.now more.now more_others.now i }
+    ensures unlike { result < area → AreAlike bits.now others.now more.now more_others.now result
+        → ⊥ }
 {
     let mut at = from;
     'words: while at < area {

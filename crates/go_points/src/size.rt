@@ -60,7 +60,8 @@ impl Size {
 
     /// The point in this column and row, both from 0 at the upper left, if the board has it.
     pub fn point(self, column: u8, row: u8) -> Option<Point>
-        ensures { SomeIff result ((column < self) × (row < self)) (record { row = row; column = column }) }
+        ensures { SomeIff result ((column < self) × (row < self))
+            (record { row = row; column = column }) }
     {
         if column < self.rows && row < self.rows {
             Some(Point::new(row, column))

@@ -32,13 +32,15 @@ pub trait Board: Drop {
     /// What the point holds.
     fn cell(&self, point: Point) -> Cell
         requires { IsOn (side_of (content self.now)) point }
-        ensures { result ≡ cell_at (content self.now) (number_of (side_of (content self.now)) point) };
+        ensures { result
+            ≡ cell_at (content self.now) (number_of (side_of (content self.now)) point) };
 
     /// The colouring, in which every stone reaches empty.
     fn colouring(&self) -> Colouring
         ensures value { result ≡ content self.now }
         ensures colouring { IsColouring (side_of (content self.now)) (content self.now) }
-        ensures liberties { first_without_liberty (side_of (content self.now)) (content self.now) ≡ None };
+        ensures liberties { first_without_liberty (side_of (content self.now)) (content self.now)
+            ≡ None };
 
     /// The exclusive or of one word for each stone, the same wherever the colouring comes from. Colourings may share a key.
     fn key(&self) -> u64
@@ -47,24 +49,38 @@ pub trait Board: Drop {
     /// A move with both clearings, whether or not it repeats. The answer is the number of points that held a stone, the new one included, and are empty afterwards.
     fn play(&mut self, colour: Colour, point: Point) -> Result<u16, Occupied>
         requires { IsOn (side_of (content self.old)) point }
-        ensures variant { is_ok result ≡ same_cell (cell_at (content self.old) (number_of (side_of (content self.old)) point)) Empty }
-        ensures ok { OnOk result (content self.new ≡ after_move (side_of (content self.old)) (content self.old) colour (number_of (side_of (content self.old)) point)) }
+        ensures variant { is_ok result
+            ≡ same_cell (cell_at (content self.old) (number_of (side_of (content self.old)) point))
+            Empty }
+        ensures ok { OnOk result
+            (content self.new ≡ after_move (side_of (content self.old)) (content self.old) colour
+            (number_of (side_of (content self.old)) point)) }
         ensures size { side_of (content self.new) ≡ side_of (content self.old) }
-        ensures taken { IfOk result (λ taken. taken ≡ taken_by_move (side_of (content self.old)) (content self.old) colour (number_of (side_of (content self.old)) point)) }
+        ensures taken { IfOk result
+            (λ taken. taken ≡ taken_by_move (side_of (content self.old)) (content self.old) colour
+            (number_of (side_of (content self.old)) point)) }
         ensures err { OnErr result (content self.new ≡ content self.old) };
 
     /// Whether a move at the empty point keeps its stone and changes no other point.
     fn quiet(&self, colour: Colour, point: Point) -> bool
         requires on_board { IsOn (side_of (content self.now)) point }
-        requires empty { cell_at (content self.now) (number_of (side_of (content self.now)) point) ≡ Empty }
-        ensures { IsTrue result ↔ (after_move (side_of (content self.now)) (content self.now) colour (number_of (side_of (content self.now)) point) ≡ slice_set (content self.now) (number_of (side_of (content self.now)) point) (Stone colour)) };
+        requires empty { cell_at (content self.now) (number_of (side_of (content self.now)) point)
+            ≡ Empty }
+        ensures { IsTrue result
+            ↔ (after_move (side_of (content self.now)) (content self.now) colour
+            (number_of (side_of (content self.now)) point)
+            ≡ slice_set (content self.now) (number_of (side_of (content self.now)) point)
+            (Stone colour)) };
 
     /// Takes the colouring over, or names the least point whose stone does not reach empty.
     fn assign(&mut self, colouring: &Colouring) -> Result<(), NoLiberty>
         requires { side_of colouring.now ≡ side_of (content self.old) }
         ensures ok { OnOk result (content self.new ≡ colouring.now) }
-        ensures liberties { OnOk result (first_without_liberty (side_of colouring.now) colouring.now ≡ None) }
-        ensures fault { IfErr result (λ e. first_without_liberty (side_of colouring.now) colouring.now ≡ Some (number_of (side_of colouring.now) e.point)) }
+        ensures liberties { OnOk result
+            (first_without_liberty (side_of colouring.now) colouring.now ≡ None) }
+        ensures fault { IfErr result
+            (λ e. first_without_liberty (side_of colouring.now) colouring.now
+            ≡ Some (number_of (side_of colouring.now) e.point)) }
         ensures fault_on_board { IfErr result (λ e. IsOn (side_of colouring.now) e.point) }
         ensures err { OnErr result (content self.new ≡ content self.old) };
 }

@@ -43,7 +43,9 @@ fn spread(colouring: &Colouring, colour: Colour, marks: &mut [bool]) -> bool
     ensures sound { IsSound (side_of colouring.now) colouring.now colour marks.new }
     ensures seeds { HasSeeds (side_of colouring.now) colouring.now marks.new }
     ensures grown { IsTrue result → mark_count marks.old < mark_count marks.new }
-    ensures closed { result ≡ false → IsClosedBelow (side_of colouring.now) colouring.now colour marks.new (side_of colouring.now * side_of colouring.now) }
+    ensures closed { result ≡ false
+        → IsClosedBelow (side_of colouring.now) colouring.now colour marks.new
+        (side_of colouring.now * side_of colouring.now) }
 {
     let size = colouring.size();
     let mut has_spread = false;
@@ -110,9 +112,12 @@ fn first_unmarked(colouring: &Colouring, black: &[bool], white: &[bool]) -> Opti
     requires white_board { length white.now ≡ side_of colouring.now * side_of colouring.now }
     requires black_free { AreFree (side_of colouring.now) colouring.now Black black.now }
     requires white_free { AreFree (side_of colouring.now) colouring.now White white.now }
-    ensures found { IfSome result (λ p. first_without_liberty (side_of colouring.now) colouring.now ≡ Some (number_of (side_of colouring.now) p)) }
+    ensures found { IfSome result
+        (λ p. first_without_liberty (side_of colouring.now) colouring.now
+        ≡ Some (number_of (side_of colouring.now) p)) }
     ensures on_board { IfSome result (λ p. IsOn (side_of colouring.now) p) }
-    ensures none { IfNone result (first_without_liberty (side_of colouring.now) colouring.now ≡ None) }
+    ensures none { IfNone result
+        (first_without_liberty (side_of colouring.now) colouring.now ≡ None) }
 {
     let size = colouring.size();
     for number in 0..size.area() {
@@ -131,9 +136,12 @@ fn first_unmarked(colouring: &Colouring, black: &[bool], white: &[bool]) -> Opti
 
 /// The least point whose stone does not reach empty.
 pub(crate) fn find_without_liberty(colouring: &Colouring) -> Option<Point>
-    ensures found { IfSome result (λ p. first_without_liberty (side_of colouring.now) colouring.now ≡ Some (number_of (side_of colouring.now) p)) }
+    ensures found { IfSome result
+        (λ p. first_without_liberty (side_of colouring.now) colouring.now
+        ≡ Some (number_of (side_of colouring.now) p)) }
     ensures on_board { IfSome result (λ p. IsOn (side_of colouring.now) p) }
-    ensures none { IfNone result (first_without_liberty (side_of colouring.now) colouring.now ≡ None) }
+    ensures none { IfNone result
+        (first_without_liberty (side_of colouring.now) colouring.now ≡ None) }
 {
     let area = colouring.size().area();
     let mut black = [false; MAX_POINTS];

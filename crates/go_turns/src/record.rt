@@ -51,14 +51,27 @@ impl<B: Board, S: Seen> Model for Record<B, S> {
 
     ghost view = { λ r. record {
       size = side_of (B.content r.board);
-      present = record { history = S.content r.seen; place = r.place; passes = r.passes; last_colour = r.last_colour };
-      earlier = reverse (map (λ s. record { history = take s.occurred (S.content r.seen); place = s.place; passes = s.passes; last_colour = s.last_colour }) r.steps.items);
+      present = record {
+        history = S.content r.seen;
+        place = r.place;
+        passes = r.passes;
+        last_colour = r.last_colour;
+      };
+      earlier = reverse (map
+          (λ s. record {
+            history = take s.occurred (S.content r.seen);
+            place = s.place;
+            passes = s.passes;
+            last_colour = s.last_colour;
+          }) r.steps.items);
     } };
 
     ghost invariant = { λ r. record {
-      steps : StepsFit (λ s. s.occurred) (λ s. s.place) (λ s. s.passes) (side_of (B.content r.board)) (S.content r.seen) r.steps.items;
+      steps : StepsFit (λ s. s.occurred) (λ s. s.place) (λ s. s.passes)
+          (side_of (B.content r.board)) (S.content r.seen) r.steps.items;
       here : IsAt (S.content r.seen) r.place (B.content r.board);
-      liberties : first_without_liberty (side_of (B.content r.board)) (B.content r.board) ≡ None;
+      liberties : first_without_liberty (side_of (B.content r.board)) (B.content r.board)
+          ≡ None;
       few : r.passes ≤ length r.steps.items + 2;
     } };
 }
@@ -100,7 +113,9 @@ fn add_setup<S: Seen>(
     key: u64,
 ) -> Result<usize, AllocError>
     requires { key ≡ key_of colouring }
-    ensures history { IfOk result (λ place. Joins (place_in (S.content seen.old) colouring) (S.content seen.old) colouring place (S.content seen.new)) }
+    ensures history { IfOk result
+        (λ place. Joins (place_in (S.content seen.old) colouring) (S.content seen.old) colouring
+        place (S.content seen.new)) }
     ensures steps { OnOk result (steps.new.items ≡ steps.old.items ++ step ∷ []) }
     ensures history_kept { OnErr result (S.content seen.new ≡ S.content seen.old) }
     ensures steps_kept { OnErr result (steps.new.items ≡ steps.old.items) }
@@ -119,8 +134,11 @@ fn add_setup<S: Seen>(
 
 // The colouring after the points are assigned in order, if the board holds them all.
 fn with_cells(colouring: &Colouring, cells: &[(Point, Cell)]) -> Option<Colouring>
-    ensures on_board { is_some result ≡ list_all (λ a. nat_lt a.0 (side_of colouring.now * side_of colouring.now)) (map (numbered (side_of colouring.now)) cells.now) }
-    ensures value { IfSome result (λ c. c ≡ assigned colouring.now (map (numbered (side_of colouring.now)) cells.now)) }
+    ensures on_board { is_some result
+        ≡ list_all (λ a. nat_lt a.0 (side_of colouring.now * side_of colouring.now))
+        (map (numbered (side_of colouring.now)) cells.now) }
+    ensures value { IfSome result
+        (λ c. c ≡ assigned colouring.now (map (numbered (side_of colouring.now)) cells.now)) }
     ensures size { IfSome result (λ c. side_of c ≡ side_of colouring.now) }
 {
     let mut after = *colouring;
@@ -159,7 +177,8 @@ fn seen_alone<S: Seen>(alloc: Global, colouring: &Colouring, key: u64) -> Result
 impl<B: Board, S: Seen> Record<B, S> {
     /// The record without steps whose history is this colouring. Refused where a stone does not reach empty, by the least such point.
     pub fn new(alloc: Global, colouring: &Colouring) -> Result<Record<B, S>, TurnFault>
-        ensures { Opens (side_of colouring.now) (opened (side_of colouring.now) (colouring.now ∷ []) 0 0) result }
+        ensures { Opens (side_of colouring.now)
+            (opened (side_of colouring.now) (colouring.now ∷ []) 0 0) result }
     {
         Record::with_history(alloc, &[*colouring], 0, 0)
     }
@@ -172,10 +191,12 @@ impl<B: Board, S: Seen> Record<B, S> {
         passes: u64,
     ) -> Result<Record<B, S>, TurnFault>
         requires within { place < length history.now }
-        requires sizes { All (λ c. side_of c ≡ side_of (slice_index_or history.now place [])) history.now }
+        requires sizes { All (λ c. side_of c ≡ side_of (slice_index_or history.now place []))
+            history.now }
         requires once { IsFalse (repeats history.now) }
         requires few { passes ≤ 2 }
-        ensures { let n = side_of (slice_index_or history.now place []) in Opens n (opened n history.now place passes) result }
+        ensures { let n = side_of (slice_index_or history.now place []) in Opens n
+            (opened n history.now place passes) result }
     {
         let colouring = history[place];
         let mut board = B::new(colouring.size());
@@ -207,7 +228,8 @@ impl<B: Board, S: Seen> Record<B, S> {
     ) -> Result<(), TurnFault>
         requires size { side_of colouring.now ≡ self.old.size }
         requires few { passes ≤ 2 }
-        ensures { let n = self.old.size in Did (reopened n (opened n (colouring.now ∷ []) 0 passes)) self.old result self.new }
+        ensures { let n = self.old.size in Did (reopened n (opened n (colouring.now ∷ []) 0 passes))
+            self.old result self.new }
     {
         let before = self.board.colouring();
         if let Err(refused) = self.board.assign(colouring) {
@@ -229,7 +251,8 @@ impl<B: Board, S: Seen> Record<B, S> {
 
     /// Adds a turn of this colour, whoever played last. A pass always succeeds, memory aside. A move succeeds where the board holds the point, it is empty and the colouring that it makes has not occurred, in whatever order of turns (positional superko).
     pub fn play(&mut self, colour: Colour, turn: Turn) -> Result<(), TurnFault>
-        ensures { Did (play_of self.old colour (ply_of self.old.size turn)) self.old result self.new }
+        ensures { Did (play_of self.old colour (ply_of self.old.size turn)) self.old result
+            self.new }
     {
         match turn {
             Turn::Pass => self.pass(colour),
@@ -244,7 +267,8 @@ impl<B: Board, S: Seen> Record<B, S> {
 
     /// The same turn, made exactly where it is legal: whether it was. A move is played once, and where it repeats it is taken back, so a caller need not ask first. The error says that memory was refused, and then nothing changes.
     pub fn play_if_legal(&mut self, colour: Colour, turn: Turn) -> Result<bool, AllocError>
-        ensures { DidIfLegal (play_of self.old colour (ply_of self.old.size turn)) self.old result self.new }
+        ensures { DidIfLegal (play_of self.old colour (ply_of self.old.size turn)) self.old result
+            self.new }
     {
         match self.play(colour, turn) {
             Ok(()) => Ok(true),
@@ -272,7 +296,8 @@ impl<B: Board, S: Seen> Record<B, S> {
 
     fn move_at(&mut self, colour: Colour, point: Point) -> Result<(), TurnFault>
         requires { IsOn self.old.size point }
-        ensures { Did (play_of self.old colour (a_move (number_of self.old.size point))) self.old result self.new }
+        ensures { Did (play_of self.old colour (a_move (number_of self.old.size point))) self.old
+            result self.new }
     {
         let before = self.board.colouring();
         let step = Step {
@@ -298,7 +323,8 @@ impl<B: Board, S: Seen> Record<B, S> {
 
     /// Lets points hold these cells, in order, and ends the passes. Refused where the board does not hold a point, or where a stone is left that does not reach empty, by the least such point. The colouring joins the history where it is new.
     pub fn setup(&mut self, cells: &[(Point, Cell)]) -> Result<(), TurnFault>
-        ensures { Did (setup_of self.old (map (numbered self.old.size) cells.now)) self.old result self.new }
+        ensures { Did (setup_of self.old (map (numbered self.old.size) cells.now)) self.old result
+            self.new }
     {
         let before = self.board.colouring();
         let Some(after) = with_cells(&before, cells) else {
@@ -368,8 +394,13 @@ impl<B: Board, S: Seen> Record<B, S> {
     /// Whether a move at the empty point keeps its stone and changes no other point, whether or not it repeats.
     pub fn quiet(&self, colour: Colour, point: Point) -> bool
         requires on_board { IsOn self.now.size point }
-        requires empty { cell_at (colouring_of self.now.present) (number_of self.now.size point) ≡ Empty }
-        ensures { IsTrue result ↔ (after_move self.now.size (colouring_of self.now.present) colour (number_of self.now.size point) ≡ slice_set (colouring_of self.now.present) (number_of self.now.size point) (Stone colour)) }
+        requires empty { cell_at (colouring_of self.now.present) (number_of self.now.size point)
+            ≡ Empty }
+        ensures { IsTrue result
+            ↔ (after_move self.now.size (colouring_of self.now.present) colour
+            (number_of self.now.size point)
+            ≡ slice_set (colouring_of self.now.present) (number_of self.now.size point)
+            (Stone colour)) }
     {
         self.board.quiet(colour, point)
     }

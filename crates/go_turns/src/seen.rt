@@ -53,7 +53,9 @@ pub trait Seen: Drop {
     fn add_new(&mut self, colouring: Colouring, key: u64) -> Result<Option<usize>, AllocError>
         requires { key ≡ key_of colouring }
         ensures held { IfOk result (λ place. place ≡ place_in (content self.old) colouring) }
-        ensures added { OnOk result (IsJoined (place_in (content self.old) colouring) (content self.old) colouring (content self.new)) }
+        ensures added { OnOk result
+            (IsJoined (place_in (content self.old) colouring) (content self.old) colouring
+            (content self.new)) }
         ensures new { OnErr result (place_in (content self.old) colouring ≡ None) }
         ensures err { OnErr result (content self.new ≡ content self.old) };
 

@@ -20,7 +20,8 @@ pub trait ReadFrom<R: Read> {
     /// Reads into the block.
     fn read_block(reader: &mut R, block: &mut [u8]) -> io::Result<usize>
         ensures bound { ReadsAtMost result block.new }
-        ensures bytes { ReadConsumes (R.remaining reader.old) (R.remaining reader.new) result block.new }
+        ensures bytes { ReadConsumes (R.remaining reader.old) (R.remaining reader.new) result
+            block.new }
         ensures failed { OnErr result (read_failed reader.new) };
 }
 
@@ -31,8 +32,10 @@ pub trait WriteTo<W: Write> {
 
     /// Writes all the bytes, and flushes the writer. After a failure the writer has taken a front of them.
     fn send(bytes: &[u8], writer: &mut W) -> Result<(), WriteFault>
-        ensures written { OnOk result (Appends (W.contents writer.old) (W.contents writer.new) bytes.now) }
-        ensures cut { OnErr result (TakesPart (W.contents writer.old) (W.contents writer.new) bytes.now) }
+        ensures written { OnOk result
+            (Appends (W.contents writer.old) (W.contents writer.new) bytes.now) }
+        ensures cut { OnErr result
+            (TakesPart (W.contents writer.old) (W.contents writer.new) bytes.now) }
         ensures failed { OnErr result (write_failed writer.new) };
 }
 

@@ -76,7 +76,9 @@ impl Input {
         &mut self,
         reader: &mut R,
     ) -> Result<Option<u8>, ReadFailed>
-        ensures byte { IfOk result (λ o. HasByte (bounded self.old (R.remaining reader.old)).left (bounded self.new (R.remaining reader.new)).left o) }
+        ensures byte { IfOk result
+            (λ o. HasByte (bounded self.old (R.remaining reader.old)).left
+            (bounded self.new (R.remaining reader.new)).left o) }
         ensures room { self.new.room ≡ self.old.room }
         ensures failed { OnErr result (A.read_failed reader.new) }
     {
@@ -97,8 +99,11 @@ impl Input {
 
     /// The next byte; none where the reader has ended.
     fn next<A: ReadFrom<R>, R: Read>(&mut self, reader: &mut R) -> Result<Option<u8>, ReadFailed>
-        ensures byte { IfOk result (λ o. IsByte (bounded self.old (R.remaining reader.old)) (bounded self.new (R.remaining reader.new)) o) }
-        ensures failed { OnErr result (CannotGoOn (A.read_failed reader.new) (bounded self.old (R.remaining reader.old))) }
+        ensures byte { IfOk result
+            (λ o. IsByte (bounded self.old (R.remaining reader.old))
+            (bounded self.new (R.remaining reader.new)) o) }
+        ensures failed { OnErr result
+            (CannotGoOn (A.read_failed reader.new) (bounded self.old (R.remaining reader.old))) }
     {
         match self.take_byte::<A, R>(reader) {
             Ok(Some(byte)) => {
@@ -119,8 +124,11 @@ impl Input {
         reader: &mut R,
         line: &mut ArrayVec<u8, MAX_KEPT>,
     ) -> Result<Ending, ReadFailed>
-        ensures line { IfOk result (λ e. IsRawLine (bounded self.old (R.remaining reader.old)) (bounded self.new (R.remaining reader.new)) line.new.items e) }
-        ensures failed { OnErr result (CannotGoOn (A.read_failed reader.new) (bounded self.old (R.remaining reader.old))) }
+        ensures line { IfOk result
+            (λ e. IsRawLine (bounded self.old (R.remaining reader.old))
+            (bounded self.new (R.remaining reader.new)) line.new.items e) }
+        ensures failed { OnErr result
+            (CannotGoOn (A.read_failed reader.new) (bounded self.old (R.remaining reader.old))) }
     {
         line.clear();
         loop {

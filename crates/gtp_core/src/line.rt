@@ -66,7 +66,8 @@ fn word_end(text: &[u8]) -> usize
 
 /// The first word, and what follows it.
 pub(crate) fn take_word(text: &[u8]) -> Option<(&[u8], &[u8])>
-    ensures { words_of text.now ≡ words_from (option_map (λ parts. (parts.0.now, parts.1.now)) result) }
+    ensures { words_of text.now
+        ≡ words_from (option_map (λ parts. (parts.0.now, parts.1.now)) result) }
 {
     let text = skip_spaces(text);
     if text.is_empty() {

@@ -61,7 +61,9 @@ fn order_named(size: Size, name: CommandName, words: &[u8]) -> Order
 }
 
 fn known_order(words: &[u8]) -> Order
-    ensures value { result ≡ spec.with_one (words_of words.now) (λ word. Ok (Command.Say (spec.truth (is_some (spec.name_of word))))) }
+    ensures value { result
+        ≡ spec.with_one (words_of words.now)
+        (λ word. Ok (Command.Say (spec.truth (is_some (spec.name_of word))))) }
     ensures fits { (n : ℕ) → IfOk result (FitsBoard n) }
 {
     let Some((word, _)) = take_word(words) else {
@@ -71,7 +73,8 @@ fn known_order(words: &[u8]) -> Order
 }
 
 fn size_order(words: &[u8]) -> Order
-    ensures value { result ≡ spec.with_one (words_of words.now) (λ word. spec.size_order (number_named word)) }
+    ensures value { result
+        ≡ spec.with_one (words_of words.now) (λ word. spec.size_order (number_named word)) }
     ensures fits { (n : ℕ) → IfOk result (FitsBoard n) }
 {
     let Some((word, _)) = take_word(words) else {
@@ -87,7 +90,8 @@ fn size_order(words: &[u8]) -> Order
 }
 
 fn komi_order(words: &[u8]) -> Order
-    ensures value { result ≡ spec.with_one (words_of words.now) (λ word. Ok (Command.Say Saying.Nothing)) }
+    ensures value { result
+        ≡ spec.with_one (words_of words.now) (λ word. Ok (Command.Say Saying.Nothing)) }
     ensures fits { (n : ℕ) → IfOk result (FitsBoard n) }
 {
     match take_word(words) {
@@ -97,7 +101,9 @@ fn komi_order(words: &[u8]) -> Order
 }
 
 fn play_order(words: &[u8]) -> Order
-    ensures value { result ≡ spec.with_two (words_of words.now) (λ word other. spec.play_order (colour_named word) (vertex_named other)) }
+    ensures value { result
+        ≡ spec.with_two (words_of words.now)
+        (λ word other. spec.play_order (colour_named word) (vertex_named other)) }
     ensures fits { (n : ℕ) → IfOk result (FitsBoard n) }
 {
     let Some((word, rest)) = take_word(words) else {
@@ -116,7 +122,8 @@ fn play_order(words: &[u8]) -> Order
 }
 
 fn genmove_order(words: &[u8]) -> Order
-    ensures value { result ≡ spec.with_one (words_of words.now) (λ word. spec.genmove_order (colour_named word)) }
+    ensures value { result
+        ≡ spec.with_one (words_of words.now) (λ word. spec.genmove_order (colour_named word)) }
     ensures fits { (n : ℕ) → IfOk result (FitsBoard n) }
 {
     match first_colour(words) {
@@ -126,7 +133,8 @@ fn genmove_order(words: &[u8]) -> Order
 }
 
 fn solve_order(words: &[u8]) -> Order
-    ensures value { result ≡ spec.with_one (words_of words.now) (λ word. spec.solve_order (colour_named word)) }
+    ensures value { result
+        ≡ spec.with_one (words_of words.now) (λ word. spec.solve_order (colour_named word)) }
     ensures fits { (n : ℕ) → IfOk result (FitsBoard n) }
 {
     match first_colour(words) {
@@ -136,7 +144,8 @@ fn solve_order(words: &[u8]) -> Order
 }
 
 fn within_order(words: &[u8]) -> Order
-    ensures value { result ≡ spec.with_one (words_of words.now) (λ word. spec.within_order (number_named word)) }
+    ensures value { result
+        ≡ spec.with_one (words_of words.now) (λ word. spec.within_order (number_named word)) }
     ensures fits { (n : ℕ) → IfOk result (FitsBoard n) }
 {
     let Some((word, _)) = take_word(words) else {

@@ -28,8 +28,11 @@ pub fn run_gtp<R: Read, W: Write>(
     reader: &mut R,
     writer: &mut W,
 ) -> Result<(), GtpEnd>
-    ensures ok { OnOk result (HasRun (R.remaining reader.old) (W.contents writer.old) (W.contents writer.new)) }
-    ensures err { IfErr result (λ e. HasStopped e (R.remaining reader.old) (W.contents writer.old) (W.contents writer.new)) }
+    ensures ok { OnOk result
+        (HasRun (R.remaining reader.old) (W.contents writer.old) (W.contents writer.new)) }
+    ensures err { IfErr result
+        (λ e. HasStopped e (R.remaining reader.old) (W.contents writer.old)
+        (W.contents writer.new)) }
 {
     run_over::<Plain, Plain, R, W>(alloc, reader, writer)
 }
@@ -40,8 +43,10 @@ pub fn run_over<A: ReadFrom<R>, B: WriteTo<W>, R: Read, W: Write>(
     reader: &mut R,
     writer: &mut W,
 ) -> Result<(), GtpEnd>
-    ensures ok { OnOk result (HasRun (R.remaining reader.old) (W.contents writer.old) (W.contents writer.new)) }
-    ensures err { IfErr result (λ e. HasStoppedOn (A.read_failed reader.new) (B.write_failed writer.new) e
+    ensures ok { OnOk result
+        (HasRun (R.remaining reader.old) (W.contents writer.old) (W.contents writer.new)) }
+    ensures err { IfErr result
+        (λ e. HasStoppedOn (A.read_failed reader.new) (B.write_failed writer.new) e
         (R.remaining reader.old) (W.contents writer.old) (W.contents writer.new)) }
 {
     match Session::new(alloc) {
@@ -60,8 +65,10 @@ fn serve_lines<A: ReadFrom<R>, B: WriteTo<W>, R: Read, W: Write>(
     requires session { session ≡ first_session }
     requires held { input.held ≡ [] }
     requires room { input.room ≡ 67108864 }
-    ensures ok { OnOk result (HasRun (R.remaining reader.old) (W.contents writer.old) (W.contents writer.new)) }
-    ensures err { IfErr result (λ e. HasStoppedOn (A.read_failed reader.new) (B.write_failed writer.new) e
+    ensures ok { OnOk result
+        (HasRun (R.remaining reader.old) (W.contents writer.old) (W.contents writer.new)) }
+    ensures err { IfErr result
+        (λ e. HasStoppedOn (A.read_failed reader.new) (B.write_failed writer.new) e
         (R.remaining reader.old) (W.contents writer.old) (W.contents writer.new)) }
 {
     let mut line = ArrayVec::new();
@@ -90,8 +97,11 @@ fn serve<B: WriteTo<W>, W: Write>(
     line: &[u8],
     writer: &mut W,
 ) -> Result<bool, WriteFault>
-    ensures ok { IfOk result (λ goes_on. IsServed session.old line.now goes_on (W.contents writer.old) (W.contents writer.new) session.new) }
-    ensures cut { OnErr result (IsPartServed session.old line.now (W.contents writer.old) (W.contents writer.new)) }
+    ensures ok { IfOk result
+        (λ goes_on. IsServed session.old line.now goes_on (W.contents writer.old)
+        (W.contents writer.new) session.new) }
+    ensures cut { OnErr result
+        (IsPartServed session.old line.now (W.contents writer.old) (W.contents writer.new)) }
     ensures failed { OnErr result (B.write_failed writer.new) }
 {
     match session.feed(line) {

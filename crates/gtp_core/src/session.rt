@@ -84,7 +84,8 @@ impl Session {
 
     /// What a raw line gets, which is given without its line feed. After an error, which says that memory was refused, the session is as it was; and so it is after a failure reply. A line that asks for nothing is never refused.
     pub fn feed(&mut self, line: &[u8]) -> Result<Fed, AllocError>
-        ensures ok { IfOk result (λ fed. Answers self.old (request_of line.now) (output_of fed) self.new) }
+        ensures ok { IfOk result
+            (λ fed. Answers self.old (request_of line.now) (output_of fed) self.new) }
         ensures err { OnErr result (self.new ≡ self.old) }
         ensures needed { OnErr result (IsTrue (needs_memory (request_of line.now))) }
     {
@@ -104,7 +105,8 @@ impl Session {
 
     /// What the words of a line get.
     fn serve(&mut self, text: &[u8]) -> Result<Fed, AllocError>
-        ensures ok { IfOk result (λ fed. Answers self.old (request_with (words_of text.now)) (output_of fed) self.new) }
+        ensures ok { IfOk result
+            (λ fed. Answers self.old (request_with (words_of text.now)) (output_of fed) self.new) }
         ensures err { OnErr result (self.new ≡ self.old) }
         ensures needed { OnErr result (IsTrue (needs_memory (request_with (words_of text.now)))) }
     {
@@ -127,7 +129,8 @@ impl Session {
     /// What an order gets.
     fn obey(&mut self, id: &[u8], order: Order) -> Result<Fed, AllocError>
         requires { IfOk order (FitsBoard self.old.turns.size) }
-        ensures ok { IfOk result (λ fed. Meets self.old id.now (due_of self.old order) (output_of fed) self.new) }
+        ensures ok { IfOk result
+            (λ fed. Meets self.old id.now (due_of self.old order) (output_of fed) self.new) }
         ensures err { OnErr result (self.new ≡ self.old) }
     {
         match order {
@@ -141,7 +144,9 @@ impl Session {
     fn follow(&mut self, id: &[u8], command: Command) -> Result<Vec<u8>, AllocError>
         requires goes_on { command ≢ Command.Quit }
         requires fits { FitsBoard self.old.turns.size command }
-        ensures ok { IfOk result (λ bytes. Meets self.old id.now (command_due self.old command) (reply bytes.items) self.new) }
+        ensures ok { IfOk result
+            (λ bytes. Meets self.old id.now (command_due self.old command) (reply bytes.items)
+            self.new) }
         ensures err { OnErr result (self.new ≡ self.old) }
     {
         match command {
@@ -169,7 +174,9 @@ impl Session {
 
     /// Begins a new board.
     fn begin(&mut self, id: &[u8], size: Size) -> Result<Vec<u8>, AllocError>
-        ensures ok { IfOk result (λ bytes. Meets self.old id.now (answers [] (spec.new_session size)) (reply bytes.items) self.new) }
+        ensures ok { IfOk result
+            (λ bytes. Meets self.old id.now (answers [] (spec.new_session size)) (reply bytes.items)
+            self.new) }
         ensures err { OnErr result (self.new ≡ self.old) }
     {
         let bytes = success(self.alloc, id, b"")?;
@@ -180,7 +187,10 @@ impl Session {
 
     /// Plays the turn at a vertex.
     fn play(&mut self, id: &[u8], colour: Colour, vertex: Vertex) -> Result<Vec<u8>, AllocError>
-        ensures ok { IfOk result (λ bytes. Meets self.old id.now (turn_due self.old colour (turn_at self.old.turns.size vertex)) (reply bytes.items) self.new) }
+        ensures ok { IfOk result
+            (λ bytes. Meets self.old id.now
+            (turn_due self.old colour (turn_at self.old.turns.size vertex)) (reply bytes.items)
+            self.new) }
         ensures err { OnErr result (self.new ≡ self.old) }
     {
         let Some(turn) = turn_at(self.size(), vertex) else {
@@ -195,7 +205,8 @@ impl Session {
 
     /// The reply to a turn that the record has refused.
     fn barred(&self, id: &[u8], fault: TurnFault) -> Result<Vec<u8>, AllocError>
-        ensures { IfOk result (λ bytes. IsTurnFault fault × Meets self.now id.now (refuses refusal.IllegalMove) (reply bytes.items) self.now) }
+        ensures { IfOk result (λ bytes. IsTurnFault fault
+            × Meets self.now id.now (refuses refusal.IllegalMove) (reply bytes.items) self.now) }
     {
         match fault {
             TurnFault::Memory => Err(AllocError),
@@ -205,7 +216,10 @@ impl Session {
 
     /// Takes the last turn back.
     fn undo(&mut self, id: &[u8]) -> Result<Vec<u8>, AllocError>
-        ensures ok { IfOk result (λ bytes. Meets self.old id.now (record_due self.old refusal.CannotUndo (undo_of self.old.turns)) (reply bytes.items) self.new) }
+        ensures ok { IfOk result
+            (λ bytes. Meets self.old id.now
+            (record_due self.old refusal.CannotUndo (undo_of self.old.turns)) (reply bytes.items)
+            self.new) }
         ensures err { OnErr result (self.new ≡ self.old) }
     {
         let bytes = success(self.alloc, id, b"")?;
@@ -217,7 +231,9 @@ impl Session {
 
     /// Shows the board.
     fn showboard(&self, id: &[u8]) -> Result<Vec<u8>, AllocError>
-        ensures { IfOk result (λ bytes. Meets self.now id.now (answers (board_text self.now) self.now) (reply bytes.items) self.now) }
+        ensures { IfOk result
+            (λ bytes. Meets self.now id.now (answers (board_text self.now) self.now)
+            (reply bytes.items) self.now) }
     {
         let cells = self.turns.colouring().to_text(self.alloc)?;
         let rows = fed_rows(self.alloc, self.size().rows() as usize, cells.as_slice())?;
@@ -227,7 +243,9 @@ impl Session {
     /// Sets the targets, which have to be stones of one colour; an empty set leaves none.
     fn set_targets(&mut self, id: &[u8], set: PointSet) -> Result<Vec<u8>, AllocError>
         requires { All (IsOn self.old.turns.size) set }
-        ensures ok { IfOk result (λ bytes. Meets self.old id.now (target_due self.old set) (reply bytes.items) self.new) }
+        ensures ok { IfOk result
+            (λ bytes. Meets self.old id.now (target_due self.old set) (reply bytes.items)
+            self.new) }
         ensures err { OnErr result (self.new ≡ self.old) }
     {
         if !set.is_empty() && colour_at(&self.turns.colouring(), &set).is_none() {
@@ -240,7 +258,9 @@ impl Session {
 
     /// Sets the region.
     fn set_region(&mut self, id: &[u8], set: PointSet) -> Result<Vec<u8>, AllocError>
-        ensures ok { IfOk result (λ bytes. Meets self.old id.now (answers [] (with_region self.old set)) (reply bytes.items) self.new) }
+        ensures ok { IfOk result
+            (λ bytes. Meets self.old id.now (answers [] (with_region self.old set))
+            (reply bytes.items) self.new) }
         ensures err { OnErr result (self.new ≡ self.old) }
     {
         let bytes = success(self.alloc, id, b"")?;
@@ -265,7 +285,8 @@ impl Session {
 
     /// What a search finds for a side, if there is a problem.
     fn search(&self, colour: Colour) -> Result<Option<Found>, AllocError>
-        ensures { IfOk result (λ f. IsFoundAt self.now.turns.size colour (spec.problem_at self.now colour) f) }
+        ensures { IfOk result
+            (λ f. IsFoundAt self.now.turns.size colour (spec.problem_at self.now colour) f) }
     {
         match self.problem(colour)? {
             Some(problem) => Ok(Some(searched(self.alloc, problem, colour))),
@@ -275,7 +296,9 @@ impl Session {
 
     /// Tells what a search finds.
     fn solve(&self, id: &[u8], colour: Colour) -> Result<Vec<u8>, AllocError>
-        ensures { IfOk result (λ bytes. Meets self.now id.now (solve_due colour (spec.problem_at self.now colour)) (reply bytes.items) self.now) }
+        ensures { IfOk result
+            (λ bytes. Meets self.now id.now (solve_due colour (spec.problem_at self.now colour))
+            (reply bytes.items) self.now) }
     {
         match self.search(colour)? {
             Some(Found::Win(turn)) => {
@@ -290,7 +313,9 @@ impl Session {
 
     /// Plays a turn that a search finds, or else passes.
     fn genmove(&mut self, id: &[u8], colour: Colour) -> Result<Vec<u8>, AllocError>
-        ensures ok { IfOk result (λ bytes. Meets self.old id.now (plays colour (spec.problem_at self.old colour)) (reply bytes.items) self.new) }
+        ensures ok { IfOk result
+            (λ bytes. Meets self.old id.now (plays colour (spec.problem_at self.old colour))
+            (reply bytes.items) self.new) }
         ensures err { OnErr result (self.new ≡ self.old) }
     {
         let turn = match self.search(colour)? {
@@ -308,7 +333,10 @@ impl Session {
     /// Decides who can force a win within so many turns.
     fn within(&self, id: &[u8], turns: u32) -> Result<Vec<u8>, AllocError>
         requires { turns ≤ 200 }
-        ensures { IfOk result (λ bytes. Meets self.now id.now (within_due self.now turns (spec.problem_at self.now (spec.next_mover self.now))) (reply bytes.items) self.now) }
+        ensures { IfOk result
+            (λ bytes. Meets self.now id.now
+            (within_due self.now turns (spec.problem_at self.now (spec.next_mover self.now)))
+            (reply bytes.items) self.now) }
     {
         let Some(problem) = self.problem(self.next_mover())? else {
             return failure(self.alloc, id, Refusal::NoProblem);

@@ -53,7 +53,8 @@ pub(crate) fn with_turn(
     turn: &Turn,
 ) -> Result<Vec<u8>, AllocError>
     requires { IsTrue (is_on_board size turn.now) }
-    ensures { IfOk result (λ text. text.items ≡ front.now ++ turn_text size (ply_of size turn.now)) }
+    ensures { IfOk result
+        (λ text. text.items ≡ front.now ++ turn_text size (ply_of size turn.now)) }
 {
     let mut text = Vec::new(alloc);
     text.extend_from_slice(front)?;

@@ -115,7 +115,9 @@ fn search_state(
 fn pass_wins(state: &mut PlayState) -> Result<bool, AllocError>
     requires nobody { over state.old.state ≡ None }
     ensures state { OnOk result (state.new ≡ state.old) }
-    ensures wins { IfOk result (λ b. b ≡ nat_eq state.old.state.passes 1 && is_winner state.old.state.mover (over (next state.old.state pass))) }
+    ensures wins { IfOk result
+        (λ b. b ≡ nat_eq state.old.state.passes 1 && is_winner state.old.state.mover
+        (over (next state.old.state pass))) }
 {
     if state.passes() != 1 {
         return Ok(false);
@@ -157,7 +159,8 @@ fn search_turns(
     requires nobody { over state.old.state ≡ None }
     ensures state { OnOk result (state.new ≡ state.old) }
     ensures fewer { left.new ≤ left.old }
-    ensures steps { OnOk result (left.old ≤ left.new + nodes_behind state.old.state turns (legal_turns state.old.state)) }
+    ensures steps { OnOk result
+        (left.old ≤ left.new + nodes_behind state.old.state turns (legal_turns state.old.state)) }
     ensures found { IfOk result (λ f. IsFound state.old.state (turns + 1) (left.old + 1) f) }
 {
     let mut seen = Seen {
@@ -187,7 +190,8 @@ fn is_settled(turns: u32, winner: Option<Colour>) -> bool
 
 /// What is found where this side has won, or nobody has within the turns that are left.
 fn found_at_once(winner: Option<Colour>) -> Found
-    ensures { (s : GameState) (k left : ℕ) → over s ≡ winner → (winner ≡ None → k ≡ 0) → IsFound s k left result }
+    ensures { (s : GameState) (k left : ℕ) → over s ≡ winner → (winner ≡ None → k ≡ 0)
+        → IsFound s k left result }
 {
     match winner {
         Some(winner) => Found::Wins(winner, Node::Won),
@@ -225,8 +229,12 @@ fn search_turn(
     requires winner { winner ≡ over (next state.old.state (ply_of state.old.state.game.size turn)) }
     ensures state { OnOk result (state.new ≡ state.old) }
     ensures fewer { left.new ≤ left.old }
-    ensures steps { OnOk result (left.old ≤ left.new + nodes (next state.old.state (ply_of state.old.state.game.size turn)) turns) }
-    ensures seen { IfOk result (λ r. IsTurnSeen state.old.state turns (ply_of state.old.state.game.size turn) left.old seen.old seen.new r) }
+    ensures steps { OnOk result
+        (left.old ≤ left.new + nodes (next state.old.state (ply_of state.old.state.game.size turn))
+        turns) }
+    ensures seen { IfOk result
+        (λ r. IsTurnSeen state.old.state turns (ply_of state.old.state.game.size turn) left.old
+        seen.old seen.new r) }
 {
     let mover = state.mover();
     if is_settled(turns, winner) {
@@ -247,7 +255,10 @@ fn with_turn(
     below: Found,
     seen: &mut Seen,
 ) -> Result<Option<Found>, AllocError>
-    ensures { IfOk result (λ r. (s : GameState) (k left : ℕ) → s.mover ≡ mover → over s ≡ None → IsTrue (legal s (ply_of s.game.size turn)) → IsFound (next s (ply_of s.game.size turn)) k left below → IsTurnSeen s k (ply_of s.game.size turn) left seen.old seen.new r) }
+    ensures { IfOk result (λ r. (s : GameState) (k left : ℕ) → s.mover ≡ mover → over s ≡ None
+        → IsTrue (legal s (ply_of s.game.size turn))
+        → IsFound (next s (ply_of s.game.size turn)) k left below
+        → IsTurnSeen s k (ply_of s.game.size turn) left seen.old seen.new r) }
 {
     match below {
         Found::Wins(winner, tree) => {

@@ -120,7 +120,9 @@ fn add_moves(state: &PlayState, moves: &mut Vec<Move>) -> Result<(), AllocError>
 /// The move at the open point.
 fn move_at(state: &PlayState, point: Point) -> Move
     requires on_board { IsOn state.now.state.game.size point }
-    requires empty { same_cell (cell_at state.now.state.colouring (number_of state.now.state.game.size point)) Empty ≡ true }
+    requires empty { same_cell
+        (cell_at state.now.state.colouring (number_of state.now.state.game.size point)) Empty
+        ≡ true }
 {
     match state.child(Turn::At(point)) {
         Some(child) => Move {

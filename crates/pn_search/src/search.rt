@@ -41,7 +41,8 @@ pub fn solve(alloc: Global, problem: Problem, budget: Budget) -> Verdict
     ensures kept { IfUnknown result (λ rest cause steps. rest ≡ problem) }
     ensures most { IfUnknown result (λ rest cause steps. steps ≤ budget.steps) }
     ensures all { IfUnknown result (λ rest cause steps. cause ≡ Steps → steps ≡ budget.steps) }
-    ensures hard { IfUnknown result (λ rest cause steps. cause ≢ Memory → IsHard problem budget.steps) }
+    ensures hard { IfUnknown result (λ rest cause steps. cause ≢ Memory
+        → IsHard problem budget.steps) }
 {
     let mut left = budget.steps;
     match searched(alloc, problem, budget, &mut left) {

@@ -29,7 +29,8 @@ impl Model for Table {
 impl Table {
     /// An empty table for so many keys. It begins small and grows.
     pub fn with_capacity(alloc: Global, capacity: NonZeroUsize) -> Result<Table, AllocError>
-        ensures { IfOk result (λ t. t ≡ record { entries = []; capacity = non_zero_usize_get capacity }) }
+        ensures { IfOk result
+            (λ t. t ≡ record { entries = []; capacity = non_zero_usize_get capacity }) }
     {
         Ok(Table {
             entries: LruCache::sparse(alloc, capacity)?,

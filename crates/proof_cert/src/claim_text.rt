@@ -25,10 +25,16 @@ use std::io::Write;
 ///
 /// It takes no memory. A claim that has no spelling is refused before the first byte. After a failed write the writer has taken a front of the text and nothing else.
 pub fn write_cert<W: Write>(certificate: &Certificate, writer: &mut W) -> Result<(), CertWrite>
-    ensures unspelled { (result ≡ Err CertWrite.NoSpelling) ↔ (text (claim_of certificate.now) ≡ None) }
-    ensures untouched { result ≡ Err CertWrite.NoSpelling → W.contents writer.new ≡ W.contents writer.old }
-    ensures written { OnOk result (IsSomeAnd (text (claim_of certificate.now)) (λ bytes. Appends (W.contents writer.old) (W.contents writer.new) bytes)) }
-    ensures cut { result ≡ Err CertWrite.Write → IsSomeAnd (text (claim_of certificate.now)) (λ bytes. TakesPart (W.contents writer.old) (W.contents writer.new) bytes) }
+    ensures unspelled { (result ≡ Err CertWrite.NoSpelling)
+        ↔ (text (claim_of certificate.now) ≡ None) }
+    ensures untouched { result ≡ Err CertWrite.NoSpelling
+        → W.contents writer.new ≡ W.contents writer.old }
+    ensures written { OnOk result
+        (IsSomeAnd (text (claim_of certificate.now))
+        (λ bytes. Appends (W.contents writer.old) (W.contents writer.new) bytes)) }
+    ensures cut { result ≡ Err CertWrite.Write
+        → IsSomeAnd (text (claim_of certificate.now))
+        (λ bytes. TakesPart (W.contents writer.old) (W.contents writer.new) bytes) }
 {
     if !is_spelled_claim(certificate) {
         return Err(CertWrite::NoSpelling);
@@ -40,9 +46,14 @@ pub fn write_cert<W: Write>(certificate: &Certificate, writer: &mut W) -> Result
 }
 
 fn write_spelled<W: Write>(certificate: &Certificate, writer: &mut W) -> Result<(), WriteFault>
-    requires { IsTrue (list_all (is_spelled certificate.now.size) (lines_of (claim_of certificate.now))) }
-    ensures written { OnOk result (Appends (W.contents writer.old) (W.contents writer.new) (lines_text certificate.now.size (lines_of (claim_of certificate.now)))) }
-    ensures cut { OnErr result (TakesPart (W.contents writer.old) (W.contents writer.new) (lines_text certificate.now.size (lines_of (claim_of certificate.now)))) }
+    requires { IsTrue (list_all (is_spelled certificate.now.size)
+        (lines_of (claim_of certificate.now))) }
+    ensures written { OnOk result
+        (Appends (W.contents writer.old) (W.contents writer.new)
+        (lines_text certificate.now.size (lines_of (claim_of certificate.now)))) }
+    ensures cut { OnErr result
+        (TakesPart (W.contents writer.old) (W.contents writer.new)
+        (lines_text certificate.now.size (lines_of (claim_of certificate.now)))) }
 {
     let mut pending = PendingBytes::new();
     put_claim(certificate, &mut pending, writer);
@@ -50,8 +61,10 @@ fn write_spelled<W: Write>(certificate: &Certificate, writer: &mut W) -> Result<
 }
 
 fn put_claim<W: Write>(certificate: &Certificate, pending: &mut PendingBytes, writer: &mut W)
-    requires { IsTrue (list_all (is_spelled certificate.now.size) (lines_of (claim_of certificate.now))) }
-    ensures { HasPut (W.contents writer.old) (W.contents writer.new) pending.old pending.new (lines_text certificate.now.size (lines_of (claim_of certificate.now))) }
+    requires { IsTrue (list_all (is_spelled certificate.now.size)
+        (lines_of (claim_of certificate.now))) }
+    ensures { HasPut (W.contents writer.old) (W.contents writer.new) pending.old pending.new
+        (lines_text certificate.now.size (lines_of (claim_of certificate.now))) }
 {
     let size = certificate.size;
     let version = certificate.version;
@@ -75,8 +88,10 @@ fn put_lemmas<W: Write>(
     pending: &mut PendingBytes,
     writer: &mut W,
 )
-    requires { IsTrue (list_all (is_spelled size) (lemmas_lines (version_number version) (map (lemma_of size) lemmas.now))) }
-    ensures { HasPut (W.contents writer.old) (W.contents writer.new) pending.old pending.new (lines_text size (lemmas_lines (version_number version) (map (lemma_of size) lemmas.now))) }
+    requires { IsTrue (list_all (is_spelled size)
+        (lemmas_lines (version_number version) (map (lemma_of size) lemmas.now))) }
+    ensures { HasPut (W.contents writer.old) (W.contents writer.new) pending.old pending.new
+        (lines_text size (lemmas_lines (version_number version) (map (lemma_of size) lemmas.now))) }
 {
     for lemma in lemmas {
         put_lemma(version, size, lemma, pending, writer);
@@ -90,8 +105,10 @@ fn put_lemma<W: Write>(
     pending: &mut PendingBytes,
     writer: &mut W,
 )
-    requires { IsTrue (list_all (is_spelled size) (lemma_lines (version_number version) (lemma_of size lemma.now))) }
-    ensures { HasPut (W.contents writer.old) (W.contents writer.new) pending.old pending.new (lines_text size (lemma_lines (version_number version) (lemma_of size lemma.now))) }
+    requires { IsTrue (list_all (is_spelled size)
+        (lemma_lines (version_number version) (lemma_of size lemma.now))) }
+    ensures { HasPut (W.contents writer.old) (W.contents writer.new) pending.old pending.new
+        (lines_text size (lemma_lines (version_number version) (lemma_of size lemma.now))) }
 {
     put_lemma_line(size, lemma, pending, writer);
     put_all_had(version, size, lemma.had.as_slice(), pending, writer);
@@ -107,7 +124,8 @@ fn put_all_had<W: Write>(
     pending: &mut PendingBytes,
     writer: &mut W,
 )
-    ensures { HasPut (W.contents writer.old) (W.contents writer.new) pending.old pending.new (lines_text size (map (had_spelled (version_number version)) had.now)) }
+    ensures { HasPut (W.contents writer.old) (W.contents writer.new) pending.old pending.new
+        (lines_text size (map (had_spelled (version_number version)) had.now)) }
 {
     for colouring in had {
         put_had(version, size, colouring, pending, writer);
@@ -120,7 +138,8 @@ fn put_listed<W: Write>(
     pending: &mut PendingBytes,
     writer: &mut W,
 )
-    ensures { HasPut (W.contents writer.old) (W.contents writer.new) pending.old pending.new (lines_text size (map (λ c. Some (not_line c)) listed.now)) }
+    ensures { HasPut (W.contents writer.old) (W.contents writer.new) pending.old pending.new
+        (lines_text size (map (λ c. Some (not_line c)) listed.now)) }
 {
     for colouring in listed {
         put_not(size, colouring, pending, writer);
@@ -129,7 +148,9 @@ fn put_listed<W: Write>(
 
 #[cycle(put)]
 fn put_node<W: Write>(size: Size, node: &Node, pending: &mut PendingBytes, writer: &mut W)
-    ensures { IsTrue (list_all (is_spelled size) (node_lines (node_of size node.now))) → HasPut (W.contents writer.old) (W.contents writer.new) pending.old pending.new (lines_text size (node_lines (node_of size node.now))) }
+    ensures { IsTrue (list_all (is_spelled size) (node_lines (node_of size node.now)))
+        → HasPut (W.contents writer.old) (W.contents writer.new) pending.old pending.new
+        (lines_text size (node_lines (node_of size node.now))) }
 {
     match node {
         Node::Won => put_word(b"won", pending, writer),
@@ -152,7 +173,9 @@ fn put_replies<W: Write>(
     pending: &mut PendingBytes,
     writer: &mut W,
 )
-    ensures { IsTrue (list_all (is_spelled size) (branch_lines (replies_of size replies.now))) → HasPut (W.contents writer.old) (W.contents writer.new) pending.old pending.new (lines_text size (branch_lines (replies_of size replies.now))) }
+    ensures { IsTrue (list_all (is_spelled size) (branch_lines (replies_of size replies.now)))
+        → HasPut (W.contents writer.old) (W.contents writer.new) pending.old pending.new
+        (lines_text size (branch_lines (replies_of size replies.now))) }
 {
     for (turn, below) in replies {
         put_turn(b"reply ", size, *turn, pending, writer);

@@ -40,19 +40,26 @@ impl<'a> Model for HeldSource<'a> {
 
     ghost view = { λ a. record {
       size = a.certificate.now.size;
-      left = map (spelled_line a.certificate.now.size) (if a.has_begun then lines_left a.certificate.now.size a.tasks.items else lines_of (claim_of a.certificate.now));
+      left = map (spelled_line a.certificate.now.size)
+          (if a.has_begun then lines_left a.certificate.now.size a.tasks.items else lines_of
+          (claim_of a.certificate.now));
       number = a.number;
       fault = a.fault;
     } };
 
-    ghost invariant = { λ a. (a.fault ≡ None → a.number < 2 ^ 64 - 1) × (a.has_begun ≡ false → a.tasks.items ≡ []) };
+    ghost invariant = { λ a. (a.fault ≡ None → a.number < 2 ^ 64 - 1)
+        × (a.has_begun ≡ false → a.tasks.items ≡ []) };
 }
 
 /// The first line of the claim; the rest becomes tasks.
 #[tactic(auto, using(crate::proofs::Tasks::left_pushed, crate::proofs::Tasks::lemma_left))]
 fn begin<'a>(certificate: &'a Certificate, tasks: &mut Vec<Task<'a>>) -> Result<Line, AllocError>
     requires { tasks.old.items ≡ [] }
-    ensures { IfOk result (λ line. map (spelled_line certificate.now.size) (lines_of (claim_of certificate.now)) ≡ Some (line_value certificate.now.size line) ∷ map (spelled_line certificate.now.size) (lines_left certificate.now.size tasks.new.items)) }
+    ensures { IfOk result
+        (λ line. map (spelled_line certificate.now.size) (lines_of (claim_of certificate.now))
+        ≡ Some (line_value certificate.now.size line)
+        ∷ map (spelled_line certificate.now.size)
+        (lines_left certificate.now.size tasks.new.items)) }
 {
     let rows = certificate.size.rows();
     tasks.push(Task::End)?;
@@ -69,7 +76,10 @@ fn begin<'a>(certificate: &'a Certificate, tasks: &mut Vec<Task<'a>>) -> Result<
 #[tactic(auto, using(crate::proofs::Tasks::left_pushed))]
 fn next_line<'a>(size: Size, tasks: &mut Vec<Task<'a>>) -> Result<Option<Option<Line>>, AllocError>
     ensures none { IfOk result (λ next. IfNone next (lines_left size tasks.old.items ≡ [])) }
-    ensures line { IfOk result (λ next. IfSome next (λ line. map (spelled_line size) (lines_left size tasks.old.items) ≡ option_map (line_value size) line ∷ map (spelled_line size) (lines_left size tasks.new.items))) }
+    ensures line { IfOk result
+        (λ next. IfSome next (λ line. map (spelled_line size) (lines_left size tasks.old.items)
+        ≡ option_map (line_value size) line
+        ∷ map (spelled_line size) (lines_left size tasks.new.items))) }
 {
     while let Some(task) = tasks.pop() {
         let line = open(size, task, tasks)?;
@@ -97,7 +107,10 @@ impl<'a> HeldSource<'a> {
     /// The next line, which may have no spelling; `None` where no line is left.
     fn walk(&mut self) -> Result<Option<Option<Line>>, AllocError>
         ensures none { IfOk result (λ next. IfNone next (self.old.left ≡ [])) }
-        ensures line { IfOk result (λ next. IfSome next (λ line. self.old.left ≡ option_map (line_value self.old.size) line ∷ self.new.left)) }
+        ensures line { IfOk result
+            (λ next. IfSome next
+            (λ line. self.old.left ≡ option_map (line_value self.old.size) line
+            ∷ self.new.left)) }
         ensures size { self.new.size ≡ self.old.size }
         ensures number { self.new.number ≡ self.old.number }
         ensures fault { self.new.fault ≡ self.old.fault }

@@ -188,7 +188,10 @@ impl Line {
 
 /// The lines that are a word alone.
 fn plain_word(text: &[u8]) -> Option<Line>
-    ensures { (n : ℕ) → option_map (line_value n) result ≡ or_else (at_end main_line (after_word (codes "main") text.now)) (or_else (at_end won_line (after_word (codes "won") text.now)) (at_end end_line (after_word (codes "end") text.now))) }
+    ensures { (n : ℕ) → option_map (line_value n) result
+        ≡ or_else (at_end main_line (after_word (codes "main") text.now))
+        (or_else (at_end won_line (after_word (codes "won") text.now))
+        (at_end end_line (after_word (codes "end") text.now))) }
 {
     if is_word(b"main", text) {
         Some(Line::Main)

@@ -18,7 +18,8 @@ use std::io::Write;
 
 /// Puts the digits of the number, the highest first.
 fn put_decimal<W: Write>(number: usize, pending: &mut PendingBytes, writer: &mut W)
-    ensures { HasPut (W.contents writer.old) (W.contents writer.new) pending.old pending.new (decimal number) }
+    ensures { HasPut (W.contents writer.old) (W.contents writer.new) pending.old pending.new
+        (decimal number) }
 {
     if number < 10 {
         pending.put(&[b'0' + number as u8], writer);
@@ -29,7 +30,8 @@ fn put_decimal<W: Write>(number: usize, pending: &mut PendingBytes, writer: &mut
 }
 
 fn put_letter<W: Write>(colour: Colour, pending: &mut PendingBytes, writer: &mut W)
-    ensures { HasPut (W.contents writer.old) (W.contents writer.new) pending.old pending.new (colour_letter colour) }
+    ensures { HasPut (W.contents writer.old) (W.contents writer.new) pending.old pending.new
+        (colour_letter colour) }
 {
     match colour {
         Colour::Black => pending.put(b"B", writer),
@@ -38,7 +40,9 @@ fn put_letter<W: Write>(colour: Colour, pending: &mut PendingBytes, writer: &mut
 }
 
 fn put_vertex<W: Write>(size: Size, turn: Turn, pending: &mut PendingBytes, writer: &mut W)
-    ensures { IsTrue (turn_fits size (ply_of size turn)) → HasPut (W.contents writer.old) (W.contents writer.new) pending.old pending.new (vertex_text size (ply_of size turn)) }
+    ensures { IsTrue (turn_fits size (ply_of size turn))
+        → HasPut (W.contents writer.old) (W.contents writer.new) pending.old pending.new
+        (vertex_text size (ply_of size turn)) }
 {
     match turn {
         Turn::Pass => pending.put(b"pass", writer),
@@ -68,14 +72,16 @@ fn cells_of(colouring: &Colouring) -> ArrayVec<u8, MAX_POINTS>
 }
 
 fn put_cells<W: Write>(colouring: &Colouring, pending: &mut PendingBytes, writer: &mut W)
-    ensures { HasPut (W.contents writer.old) (W.contents writer.new) pending.old pending.new (text_of colouring.now) }
+    ensures { HasPut (W.contents writer.old) (W.contents writer.new) pending.old pending.new
+        (text_of colouring.now) }
 {
     pending.put(cells_of(colouring).as_slice(), writer);
 }
 
 /// Puts a line that is a word alone.
 pub(crate) fn put_word<W: Write>(word: &[u8], pending: &mut PendingBytes, writer: &mut W)
-    ensures { HasPut (W.contents writer.old) (W.contents writer.new) pending.old pending.new (word.now ++ line_feed ∷ []) }
+    ensures { HasPut (W.contents writer.old) (W.contents writer.new) pending.old pending.new
+        (word.now ++ line_feed ∷ []) }
 {
     pending.put(word, writer);
     pending.put(b"\n", writer);
@@ -88,7 +94,8 @@ pub(crate) fn put_number<W: Write>(
     pending: &mut PendingBytes,
     writer: &mut W,
 )
-    ensures { HasPut (W.contents writer.old) (W.contents writer.new) pending.old pending.new ((word.now ++ decimal number) ++ line_feed ∷ []) }
+    ensures { HasPut (W.contents writer.old) (W.contents writer.new) pending.old pending.new
+        ((word.now ++ decimal number) ++ line_feed ∷ []) }
 {
     pending.put(word, writer);
     put_decimal(number, pending, writer);
@@ -103,7 +110,9 @@ pub(crate) fn put_turn<W: Write>(
     pending: &mut PendingBytes,
     writer: &mut W,
 )
-    ensures { IsTrue (turn_fits size (ply_of size turn)) → HasPut (W.contents writer.old) (W.contents writer.new) pending.old pending.new ((word.now ++ vertex_text size (ply_of size turn)) ++ line_feed ∷ []) }
+    ensures { IsTrue (turn_fits size (ply_of size turn))
+        → HasPut (W.contents writer.old) (W.contents writer.new) pending.old pending.new
+        ((word.now ++ vertex_text size (ply_of size turn)) ++ line_feed ∷ []) }
 {
     pending.put(word, writer);
     put_vertex(size, turn, pending, writer);
@@ -117,7 +126,8 @@ pub(crate) fn put_not<W: Write>(
     pending: &mut PendingBytes,
     writer: &mut W,
 )
-    ensures { HasPut (W.contents writer.old) (W.contents writer.new) pending.old pending.new (line_text size (Some (not_line colouring.now))) }
+    ensures { HasPut (W.contents writer.old) (W.contents writer.new) pending.old pending.new
+        (line_text size (Some (not_line colouring.now))) }
 {
     pending.put(b"not ", writer);
     put_cells(colouring, pending, writer);
@@ -131,7 +141,8 @@ fn put_had_line<W: Write>(
     pending: &mut PendingBytes,
     writer: &mut W,
 )
-    ensures { HasPut (W.contents writer.old) (W.contents writer.new) pending.old pending.new (line_text size (Some (had_line colouring.now))) }
+    ensures { HasPut (W.contents writer.old) (W.contents writer.new) pending.old pending.new
+        (line_text size (Some (had_line colouring.now))) }
 {
     pending.put(b"had ", writer);
     put_cells(colouring, pending, writer);
@@ -146,7 +157,8 @@ pub(crate) fn put_had<W: Write>(
     pending: &mut PendingBytes,
     writer: &mut W,
 )
-    ensures { HasPut (W.contents writer.old) (W.contents writer.new) pending.old pending.new (line_text size (had_spelled (version_number version) colouring.now)) }
+    ensures { HasPut (W.contents writer.old) (W.contents writer.new) pending.old pending.new
+        (line_text size (had_spelled (version_number version) colouring.now)) }
 {
     match version {
         Version::One => {}
@@ -161,7 +173,8 @@ pub(crate) fn put_lemma_line<W: Write>(
     pending: &mut PendingBytes,
     writer: &mut W,
 )
-    ensures { HasPut (W.contents writer.old) (W.contents writer.new) pending.old pending.new (line_text size (Some (lemma_line lemma.now.mover lemma.now.passes lemma.now.root))) }
+    ensures { HasPut (W.contents writer.old) (W.contents writer.new) pending.old pending.new
+        (line_text size (Some (lemma_line lemma.now.mover lemma.now.passes lemma.now.root))) }
 {
     pending.put(b"lemma ", writer);
     put_letter(lemma.mover, pending, writer);
@@ -180,7 +193,8 @@ pub(crate) fn put_header<W: Write>(
     pending: &mut PendingBytes,
     writer: &mut W,
 )
-    ensures { HasPut (W.contents writer.old) (W.contents writer.new) pending.old pending.new (line_text size (Some (header_line (version_number version) size winner))) }
+    ensures { HasPut (W.contents writer.old) (W.contents writer.new) pending.old pending.new
+        (line_text size (Some (header_line (version_number version) size winner))) }
 {
     pending.put(b"tsucert ", writer);
     put_decimal(version.number(), pending, writer);

@@ -28,11 +28,13 @@ pub trait NodeSource {
 
     /// The next line; `None` where no line is left.
     fn next(&mut self) -> Result<Option<Line>, SourceFault>
-        ensures gives { fault self.old ≡ None → gives self.old (answer_value (size self.old) result) self.new }
+        ensures gives { fault self.old ≡ None
+            → gives self.old (answer_value (size self.old) result) self.new }
         ensures stays { IfSome (fault self.old) (λ e. result ≡ Err e) }
         ensures fault { fault self.new ≡ fault_of result }
         ensures size { size self.new ≡ size self.old }
-        ensures counted { fault self.old ≡ None → number self.new ≡ number self.old + lines_counted result }
+        ensures counted { fault self.old ≡ None
+            → number self.new ≡ number self.old + lines_counted result }
         ensures rests { OnSome (fault self.old) (number self.new ≡ number self.old) };
 
     fn size(&self) -> Size

@@ -36,7 +36,9 @@ pub(crate) struct Reading<'a> {
 /// The next line.
 #[tactic(auto, using(crate::proofs::ReadTrees::line_there, crate::proofs::ReadTrees::line_ended, crate::proofs::ReadTrees::line_bad))]
 fn next_line(reading: &mut Reading<'_>) -> Option<Line>
-    ensures read { with_rest (line_value reading.old.source.size) result (left_of reading.new.source reading.new.nodes reading.new.listed) ≡ line_read (left_of reading.old.source reading.old.nodes reading.old.listed) }
+    ensures read { with_rest (line_value reading.old.source.size) result
+        (left_of reading.new.source reading.new.nodes reading.new.listed)
+        ≡ line_read (left_of reading.old.source reading.old.nodes reading.old.listed) }
     ensures nodes { reading.new.nodes ≡ reading.old.nodes }
     ensures listed { reading.new.listed ≡ reading.old.listed }
     ensures size { reading.new.source.size ≡ reading.old.source.size }
@@ -57,8 +59,14 @@ fn read_tree(
     first: &Line,
     room: u32,
 ) -> Result<Option<Node>, AllocError>
-    ensures read { IfOk result (λ read. with_rest (node_of reading.old.source.size) read (left_of reading.new.source reading.new.nodes reading.new.listed) ≡ tree_read room (line_value reading.old.source.size first.now) (left_of reading.old.source reading.old.nodes reading.old.listed)) }
-    ensures counted { IfOk result (λ read. IfSome read (λ tree. CountsTree room reading.old.nodes reading.old.listed (node_of reading.old.source.size tree) reading.new.nodes reading.new.listed)) }
+    ensures read { IfOk result
+        (λ read. with_rest (node_of reading.old.source.size) read
+        (left_of reading.new.source reading.new.nodes reading.new.listed)
+        ≡ tree_read room (line_value reading.old.source.size first.now)
+        (left_of reading.old.source reading.old.nodes reading.old.listed)) }
+    ensures counted { IfOk result
+        (λ read. IfSome read (λ tree. CountsTree room reading.old.nodes reading.old.listed
+        (node_of reading.old.source.size tree) reading.new.nodes reading.new.listed)) }
     ensures size { reading.new.source.size ≡ reading.old.source.size }
 {
     if room == 0 || reading.nodes >= MAX_NODES {
@@ -91,8 +99,14 @@ fn read_below(
     reading: &mut Reading<'_>,
     room: u32,
 ) -> Result<Option<Node>, AllocError>
-    ensures read { IfOk result (λ read. with_rest (node_of reading.old.source.size) read (left_of reading.new.source reading.new.nodes reading.new.listed) ≡ below_read (tree_read room) (left_of reading.old.source reading.old.nodes reading.old.listed)) }
-    ensures counted { IfOk result (λ read. IfSome read (λ tree. CountsTree room reading.old.nodes reading.old.listed (node_of reading.old.source.size tree) reading.new.nodes reading.new.listed)) }
+    ensures read { IfOk result
+        (λ read. with_rest (node_of reading.old.source.size) read
+        (left_of reading.new.source reading.new.nodes reading.new.listed)
+        ≡ below_read (tree_read room)
+        (left_of reading.old.source reading.old.nodes reading.old.listed)) }
+    ensures counted { IfOk result
+        (λ read. IfSome read (λ tree. CountsTree room reading.old.nodes reading.old.listed
+        (node_of reading.old.source.size tree) reading.new.nodes reading.new.listed)) }
     ensures size { reading.new.source.size ≡ reading.old.source.size }
 {
     let Some(first) = next_line(reading) else {
@@ -110,8 +124,15 @@ fn read_replies(
     room: u32,
 ) -> Result<Option<Vec<(Turn, Node)>>, AllocError>
     requires { reading.old.nodes ≤ max_nodes }
-    ensures read { IfOk result (λ read. with_rest (λ replies. replies_of reading.old.source.size replies.items) read (left_of reading.new.source reading.new.nodes reading.new.listed) ≡ replies_read (below_read (tree_read room)) count (left_of reading.old.source reading.old.nodes reading.old.listed)) }
-    ensures counted { IfOk result (λ read. IfSome read (λ replies. CountsReplies room reading.old.nodes reading.old.listed (replies_of reading.old.source.size replies.items) reading.new.nodes reading.new.listed)) }
+    ensures read { IfOk result
+        (λ read. with_rest (λ replies. replies_of reading.old.source.size replies.items) read
+        (left_of reading.new.source reading.new.nodes reading.new.listed)
+        ≡ replies_read (below_read (tree_read room)) count
+        (left_of reading.old.source reading.old.nodes reading.old.listed)) }
+    ensures counted { IfOk result
+        (λ read. IfSome read (λ replies. CountsReplies room reading.old.nodes reading.old.listed
+        (replies_of reading.old.source.size replies.items) reading.new.nodes
+        reading.new.listed)) }
     ensures size { reading.new.source.size ≡ reading.old.source.size }
 {
     let mut replies = Vec::new(alloc);
@@ -132,8 +153,14 @@ fn read_reply(
     reading: &mut Reading<'_>,
     room: u32,
 ) -> Result<Option<(Turn, Node)>, AllocError>
-    ensures read { IfOk result (λ read. with_rest (reply_value reading.old.source.size) read (left_of reading.new.source reading.new.nodes reading.new.listed) ≡ reply_read (below_read (tree_read room)) (left_of reading.old.source reading.old.nodes reading.old.listed)) }
-    ensures counted { IfOk result (λ read. IfSome read (λ reply. CountsTree room reading.old.nodes reading.old.listed (node_of reading.old.source.size reply.1) reading.new.nodes reading.new.listed)) }
+    ensures read { IfOk result
+        (λ read. with_rest (reply_value reading.old.source.size) read
+        (left_of reading.new.source reading.new.nodes reading.new.listed)
+        ≡ reply_read (below_read (tree_read room))
+        (left_of reading.old.source reading.old.nodes reading.old.listed)) }
+    ensures counted { IfOk result
+        (λ read. IfSome read (λ reply. CountsTree room reading.old.nodes reading.old.listed
+        (node_of reading.old.source.size reply.1) reading.new.nodes reading.new.listed)) }
     ensures size { reading.new.source.size ≡ reading.old.source.size }
 {
     let Some(Line::Reply(turn)) = next_line(reading) else {
@@ -163,8 +190,14 @@ fn read_listed(
     listing: Listing,
     first: Line,
 ) -> Result<Option<(Vec<Colouring>, Line)>, AllocError>
-    ensures read { IfOk result (λ read. with_rest (listed_value reading.old.source.size) read (left_of reading.new.source reading.new.nodes reading.new.listed) ≡ list_read (picks listing) (line_value reading.old.source.size first) (left_of reading.old.source reading.old.nodes reading.old.listed)) }
-    ensures counted { IfOk result (λ read. IfSome read (λ found. CountsListed reading.old.nodes reading.old.listed (length found.0.items) reading.new.nodes reading.new.listed)) }
+    ensures read { IfOk result
+        (λ read. with_rest (listed_value reading.old.source.size) read
+        (left_of reading.new.source reading.new.nodes reading.new.listed)
+        ≡ list_read (picks listing) (line_value reading.old.source.size first)
+        (left_of reading.old.source reading.old.nodes reading.old.listed)) }
+    ensures counted { IfOk result
+        (λ read. IfSome read (λ found. CountsListed reading.old.nodes reading.old.listed
+        (length found.0.items) reading.new.nodes reading.new.listed)) }
     ensures size { reading.new.source.size ≡ reading.old.source.size }
 {
     let mut listed = Vec::new(alloc);
@@ -190,8 +223,15 @@ fn read_lists(
     reading: &mut Reading<'_>,
     first: Line,
 ) -> Result<Option<((Vec<Colouring>, Vec<Colouring>), Line)>, AllocError>
-    ensures read { IfOk result (λ read. with_rest (lists_value reading.old.source.size) read (left_of reading.new.source reading.new.nodes reading.new.listed) ≡ lists_read (line_value reading.old.source.size first) (left_of reading.old.source reading.old.nodes reading.old.listed)) }
-    ensures counted { IfOk result (λ read. IfSome read (λ found. CountsListed reading.old.nodes reading.old.listed (length found.0.0.items + length found.0.1.items) reading.new.nodes reading.new.listed)) }
+    ensures read { IfOk result
+        (λ read. with_rest (lists_value reading.old.source.size) read
+        (left_of reading.new.source reading.new.nodes reading.new.listed)
+        ≡ lists_read (line_value reading.old.source.size first)
+        (left_of reading.old.source reading.old.nodes reading.old.listed)) }
+    ensures counted { IfOk result
+        (λ read. IfSome read (λ found. CountsListed reading.old.nodes reading.old.listed
+        (length found.0.0.items + length found.0.1.items) reading.new.nodes
+        reading.new.listed)) }
     ensures size { reading.new.source.size ≡ reading.old.source.size }
 {
     let Some((had, line)) = read_listed(alloc, reading, Listing::Had, first)? else {
@@ -210,8 +250,14 @@ fn read_body(
     reading: &mut Reading<'_>,
     first: &Line,
 ) -> Result<Option<Node>, AllocError>
-    ensures read { IfOk result (λ read. with_rest (node_of reading.old.source.size) read (left_of reading.new.source reading.new.nodes reading.new.listed) ≡ body_read (line_value reading.old.source.size first.now) (left_of reading.old.source reading.old.nodes reading.old.listed)) }
-    ensures counted { IfOk result (λ read. IfSome read (λ tree. CountsTree max_depth reading.old.nodes reading.old.listed (node_of reading.old.source.size tree) reading.new.nodes reading.new.listed)) }
+    ensures read { IfOk result
+        (λ read. with_rest (node_of reading.old.source.size) read
+        (left_of reading.new.source reading.new.nodes reading.new.listed)
+        ≡ body_read (line_value reading.old.source.size first.now)
+        (left_of reading.old.source reading.old.nodes reading.old.listed)) }
+    ensures counted { IfOk result
+        (λ read. IfSome read (λ tree. CountsTree max_depth reading.old.nodes reading.old.listed
+        (node_of reading.old.source.size tree) reading.new.nodes reading.new.listed)) }
     ensures size { reading.new.source.size ≡ reading.old.source.size }
 {
     let Some(tree) = read_tree(alloc, reading, first, MAX_DEPTH)? else {
@@ -232,8 +278,14 @@ fn read_lemma(
     passes: u8,
     root: Colouring,
 ) -> Result<Option<Lemma>, AllocError>
-    ensures read { IfOk result (λ read. with_rest (lemma_of reading.old.source.size) read (left_of reading.new.source reading.new.nodes reading.new.listed) ≡ lemma_read mover passes root (left_of reading.old.source reading.old.nodes reading.old.listed)) }
-    ensures counted { IfOk result (λ read. IfSome read (λ lemma. CountsLemma reading.old.nodes reading.old.listed (lemma_of reading.old.source.size lemma) reading.new.nodes reading.new.listed)) }
+    ensures read { IfOk result
+        (λ read. with_rest (lemma_of reading.old.source.size) read
+        (left_of reading.new.source reading.new.nodes reading.new.listed)
+        ≡ lemma_read mover passes root
+        (left_of reading.old.source reading.old.nodes reading.old.listed)) }
+    ensures counted { IfOk result
+        (λ read. IfSome read (λ lemma. CountsLemma reading.old.nodes reading.old.listed
+        (lemma_of reading.old.source.size lemma) reading.new.nodes reading.new.listed)) }
     ensures size { reading.new.source.size ≡ reading.old.source.size }
 {
     let Some(first) = next_line(reading) else {
@@ -258,8 +310,14 @@ fn read_lemma(
 /// The lemmas up to the line `main`.
 fn read_lemmas(alloc: Global, reading: &mut Reading<'_>) -> Result<Option<Vec<Lemma>>, AllocError>
     requires { reading.old.listed ≤ max_listed }
-    ensures read { IfOk result (λ read. with_rest (λ lemmas. map (lemma_of reading.old.source.size) lemmas.items) read (left_of reading.new.source reading.new.nodes reading.new.listed) ≡ all_lemmas_read (left_of reading.old.source reading.old.nodes reading.old.listed)) }
-    ensures counted { IfOk result (λ read. IfSome read (λ lemmas. CountsLemmas reading.old.nodes reading.old.listed (map (lemma_of reading.old.source.size) lemmas.items) reading.new.nodes reading.new.listed)) }
+    ensures read { IfOk result
+        (λ read. with_rest (λ lemmas. map (lemma_of reading.old.source.size) lemmas.items) read
+        (left_of reading.new.source reading.new.nodes reading.new.listed)
+        ≡ all_lemmas_read (left_of reading.old.source reading.old.nodes reading.old.listed)) }
+    ensures counted { IfOk result
+        (λ read. IfSome read (λ lemmas. CountsLemmas reading.old.nodes reading.old.listed
+        (map (lemma_of reading.old.source.size) lemmas.items) reading.new.nodes
+        reading.new.listed)) }
     ensures count { IfOk result (λ read. IfSome read (λ lemmas. length lemmas.items ≤ max_lemmas)) }
     ensures size { reading.new.source.size ≡ reading.old.source.size }
 {
@@ -295,8 +353,11 @@ fn read_claim(
 ) -> Result<Option<Certificate>, AllocError>
     requires size { reading.old.source.size ≡ size }
     requires counts { (reading.old.nodes ≡ 0) × (reading.old.listed ≡ 0) }
-    ensures read { IfOk result (λ read. option_map claim_of read ≡ claim_read size (left_of reading.old.source reading.old.nodes reading.old.listed)) }
-    ensures within { IfOk result (λ read. IfSome read (λ certificate. IsWithinLimits (claim_of certificate))) }
+    ensures read { IfOk result
+        (λ read. option_map claim_of read
+        ≡ claim_read size (left_of reading.old.source reading.old.nodes reading.old.listed)) }
+    ensures within { IfOk result
+        (λ read. IfSome read (λ certificate. IsWithinLimits (claim_of certificate))) }
     ensures size { IfOk result (λ read. IfSome read (λ certificate. certificate.size ≡ size)) }
 {
     let Some(
@@ -329,7 +390,8 @@ fn read_claim(
 
 /// Whether the bytes are the claim's text, which is written for that: the functions above read other texts too.
 fn has_text(alloc: Global, certificate: &Certificate, bytes: &[u8]) -> Result<bool, AllocError>
-    ensures { IfOk result (λ same. (same ≡ true) ↔ (text (claim_of certificate.now) ≡ Some bytes.now)) }
+    ensures { IfOk result (λ same. (same ≡ true)
+        ↔ (text (claim_of certificate.now) ≡ Some bytes.now)) }
 {
     let mut written = Vec::new(alloc);
     match write_cert(certificate, &mut written) {
@@ -346,8 +408,10 @@ pub fn read_cert(alloc: Global, size: Size, bytes: &[u8]) -> Result<Certificate,
     ensures text { IfOk result (λ certificate. text (claim_of certificate) ≡ Some bytes.now) }
     ensures size { IfOk result (λ certificate. certificate.size ≡ size) }
     ensures within { IfOk result (λ certificate. IsWithinLimits (claim_of certificate)) }
-    ensures malformed { result ≡ Err SourceFault.Malformed → (z : Claim) → z.size ≡ size → text z ≡ Some bytes.now → ¬ IsWithinLimits z }
-    ensures fault { IfErr result (λ fault. (fault ≡ SourceFault.Malformed) ⊎ (fault ≡ SourceFault.Memory)) }
+    ensures malformed { result ≡ Err SourceFault.Malformed → (z : Claim) → z.size ≡ size
+        → text z ≡ Some bytes.now → ¬ IsWithinLimits z }
+    ensures fault { IfErr result (λ fault. (fault ≡ SourceFault.Malformed)
+        ⊎ (fault ≡ SourceFault.Memory)) }
 {
     let mut reading = Reading {
         source: TextSource::new(size, bytes),

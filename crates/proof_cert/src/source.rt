@@ -40,7 +40,12 @@ impl<'a> Model for TextSource<'a> {
 
     ghost Value = { Source };
 
-    ghost view = { λ a. record { size = a.size; left = lines a.size a.left.now; number = a.number; has_failed = a.has_failed } };
+    ghost view = { λ a. record {
+      size = a.size;
+      left = lines a.size a.left.now;
+      number = a.number;
+      has_failed = a.has_failed;
+    } };
 
     ghost invariant = { λ a. a.number + length a.left.now < 2 ^ 63 };
 }
@@ -48,7 +53,8 @@ impl<'a> Model for TextSource<'a> {
 /// The first line of a text that is not empty, if its bytes spell one and a line feed ends it; and what stands after it.
 fn first_line<'a>(size: Size, text: &'a [u8]) -> (Option<Line>, &'a [u8])
     requires { 0 < length text.now }
-    ensures lines { lines size text.now ≡ option_map (line_value size) result.0 ∷ lines size result.1.now }
+    ensures lines { lines size text.now ≡ option_map (line_value size) result.0
+        ∷ lines size result.1.now }
     ensures shorter { length result.1.now < length text.now }
 {
     match place_of_byte(text, b'\n') {

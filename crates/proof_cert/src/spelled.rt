@@ -119,7 +119,8 @@ fn is_spelled_had(version: Version, size: Size, colouring: &Colouring) -> bool
 
 /// Whether the lines of the colourings that must have occurred have a spelling.
 fn are_spelled_had(version: Version, size: Size, had: &[Colouring]) -> bool
-    ensures { result ≡ list_all (is_spelled size) (map (had_spelled (version_number version)) had.now) }
+    ensures { result ≡ list_all (is_spelled size)
+        (map (had_spelled (version_number version)) had.now) }
 {
     for colouring in had {
         if !is_spelled_had(version, size, colouring) {
@@ -132,7 +133,8 @@ fn are_spelled_had(version: Version, size: Size, had: &[Colouring]) -> bool
 /// Whether the lines of the lemma have a spelling.
 #[tactic(auto, using(crate::proofs::Certificates::list_all_joined))]
 fn is_spelled_lemma(version: Version, size: Size, lemma: &Lemma) -> bool
-    ensures { result ≡ list_all (is_spelled size) (lemma_lines (version_number version) (lemma_of size lemma.now)) }
+    ensures { result ≡ list_all (is_spelled size)
+        (lemma_lines (version_number version) (lemma_of size lemma.now)) }
 {
     lemma.passes <= 1
         && is_of_size(size, &lemma.root)
@@ -143,7 +145,8 @@ fn is_spelled_lemma(version: Version, size: Size, lemma: &Lemma) -> bool
 
 /// Whether the lines of the lemmas have a spelling.
 fn are_spelled_lemmas(version: Version, size: Size, lemmas: &[Lemma]) -> bool
-    ensures { result ≡ list_all (is_spelled size) (lemmas_lines (version_number version) (map (lemma_of size) lemmas.now)) }
+    ensures { result ≡ list_all (is_spelled size)
+        (lemmas_lines (version_number version) (map (lemma_of size) lemmas.now)) }
 {
     for lemma in lemmas {
         if !is_spelled_lemma(version, size, lemma) {
@@ -156,7 +159,8 @@ fn are_spelled_lemmas(version: Version, size: Size, lemmas: &[Lemma]) -> bool
 /// Whether the claim has a spelling.
 #[tactic(auto, using(crate::proofs::Certificates::list_all_joined))]
 pub(crate) fn is_spelled_claim(certificate: &Certificate) -> bool
-    ensures { result ≡ list_all (is_spelled certificate.now.size) (lines_of (claim_of certificate.now)) }
+    ensures { result ≡ list_all (is_spelled certificate.now.size)
+        (lines_of (claim_of certificate.now)) }
 {
     let rows = certificate.size.rows() as usize;
     is_spelled_number(rows)

@@ -27,7 +27,8 @@ pub(crate) enum Task<'a> {
 
 /// The line, unless it has no spelling.
 fn if_spelled(size: Size, line: Line) -> Option<Line>
-    ensures { option_map (line_value size) result ≡ spelled_line size (Some (line_value size line)) }
+    ensures { option_map (line_value size) result
+        ≡ spelled_line size (Some (line_value size line)) }
 {
     if is_spelled_line(size, &line) {
         Some(line)
@@ -38,7 +39,8 @@ fn if_spelled(size: Size, line: Line) -> Option<Line>
 
 /// The line of a colouring that must have occurred, unless it has no spelling in a claim of this version.
 fn had_line(version: Version, size: Size, colouring: &Colouring) -> Option<Line>
-    ensures { option_map (line_value size) result ≡ spelled_line size (had_spelled (version_number version) colouring.now) }
+    ensures { option_map (line_value size) result
+        ≡ spelled_line size (had_spelled (version_number version) colouring.now) }
 {
     match version {
         Version::One => None,
@@ -53,7 +55,11 @@ fn open_node<'a>(
     node: &'a Node,
     tasks: &mut Vec<Task<'a>>,
 ) -> Result<Option<Line>, AllocError>
-    ensures { IfOk result (λ line. map (spelled_line size) (node_lines (node_of size node.now) ++ lines_left size tasks.old.items) ≡ option_map (line_value size) line ∷ map (spelled_line size) (lines_left size tasks.new.items)) }
+    ensures { IfOk result
+        (λ line. map (spelled_line size)
+        (node_lines (node_of size node.now) ++ lines_left size tasks.old.items)
+        ≡ option_map (line_value size) line
+        ∷ map (spelled_line size) (lines_left size tasks.new.items)) }
 {
     match node {
         Node::Won => Ok(if_spelled(size, Line::Won)),
@@ -81,7 +87,11 @@ fn open_lemma<'a>(
     lemma: &'a Lemma,
     tasks: &mut Vec<Task<'a>>,
 ) -> Result<Option<Line>, AllocError>
-    ensures { IfOk result (λ line. map (spelled_line size) (lemma_lines (version_number version) (lemma_of size lemma.now) ++ lines_left size tasks.old.items) ≡ option_map (line_value size) line ∷ map (spelled_line size) (lines_left size tasks.new.items)) }
+    ensures { IfOk result
+        (λ line. map (spelled_line size)
+        (lemma_lines (version_number version) (lemma_of size lemma.now)
+        ++ lines_left size tasks.old.items) ≡ option_map (line_value size) line
+        ∷ map (spelled_line size) (lines_left size tasks.new.items)) }
 {
     tasks.push(Task::End)?;
     tasks.push(Task::Tree(&lemma.body))?;
@@ -104,7 +114,11 @@ fn open_reply<'a>(
     reply: &'a (Turn, Node),
     tasks: &mut Vec<Task<'a>>,
 ) -> Result<Option<Line>, AllocError>
-    ensures { IfOk result (λ line. map (spelled_line size) (reply_lines size reply.now ++ lines_left size tasks.old.items) ≡ option_map (line_value size) line ∷ map (spelled_line size) (lines_left size tasks.new.items)) }
+    ensures { IfOk result
+        (λ line. map (spelled_line size)
+        (reply_lines size reply.now ++ lines_left size tasks.old.items)
+        ≡ option_map (line_value size) line
+        ∷ map (spelled_line size) (lines_left size tasks.new.items)) }
 {
     tasks.push(Task::Tree(&reply.1))?;
     Ok(if_spelled(size, Line::Reply(reply.0)))
@@ -117,8 +131,15 @@ pub(crate) fn open<'a>(
     task: Task<'a>,
     tasks: &mut Vec<Task<'a>>,
 ) -> Result<Option<Option<Line>>, AllocError>
-    ensures none { IfOk result (λ first. IfNone first ((task_lines size task.entry ≡ []) × (tasks.new.items ≡ tasks.old.items))) }
-    ensures first { IfOk result (λ first. IfSome first (λ line. map (spelled_line size) (task_lines size task.entry ++ lines_left size tasks.old.items) ≡ option_map (line_value size) line ∷ map (spelled_line size) (lines_left size tasks.new.items))) }
+    ensures none { IfOk result
+        (λ first. IfNone first ((task_lines size task.entry ≡ [])
+        × (tasks.new.items ≡ tasks.old.items))) }
+    ensures first { IfOk result
+        (λ first. IfSome first
+        (λ line. map (spelled_line size)
+        (task_lines size task.entry ++ lines_left size tasks.old.items)
+        ≡ option_map (line_value size) line
+        ∷ map (spelled_line size) (lines_left size tasks.new.items))) }
 {
     match task {
         Task::Lemmas(version, lemmas) => {

@@ -29,8 +29,15 @@ impl<'a, R: Read + Drop> Rest<'a, R> {
     fn read(&mut self, block: &mut [u8; BLOCK]) -> Result<usize, ReadFailed>
         ensures length { length block.new ≡ 4096 }
         ensures few { IfOk result (λ n. n ≤ 4096) }
-        ensures used { IfOk result (λ n. Uses (record { held = self.old.front.now; told = R.remaining self.old.reader }) (record { held = self.new.front.now; told = R.remaining self.new.reader }) (take n block.new)) }
-        ensures end { IfOk result (λ n. n ≡ 0 → HasEnded (record { held = self.new.front.now; told = R.remaining self.new.reader })) }
+        ensures used { IfOk result
+            (λ n. Uses (record { held = self.old.front.now; told = R.remaining self.old.reader })
+            (record { held = self.new.front.now; told = R.remaining self.new.reader })
+            (take n block.new)) }
+        ensures end { IfOk result (λ n. n ≡ 0
+            → HasEnded (record {
+              held = self.new.front.now;
+              told = R.remaining self.new.reader;
+            })) }
     {
         if self.front.is_empty() {
             return match self.reader.read(block) {
@@ -61,7 +68,10 @@ impl<'a, R: Read + Drop> Model for ToldBytes<'a, R> {
 
     ghost Value = { Unread };
 
-    ghost view = { λ a. record { held = drop a.start (take a.end a.block) ++ a.rest.front.now; told = R.remaining a.rest.reader } };
+    ghost view = { λ a. record {
+      held = drop a.start (take a.end a.block) ++ a.rest.front.now;
+      told = R.remaining a.rest.reader;
+    } };
 
     ghost invariant = { λ a. (a.start ≤ a.end) × (a.end ≤ 4096) × (length a.block ≡ 4096) };
 }
@@ -100,7 +110,8 @@ impl<'a, R: Read + Drop> ToldBytes<'a, R> {
 
     /// The next line, where the block has it with its line feed. A line that is spelled as lines are is used.
     pub(crate) fn whole_line(&mut self, size: Size) -> Option<Option<Line>>
-        ensures some { IfSome result (λ l. IsRead size self.old self.new (line_answer (option_map (line_value size) l))) }
+        ensures some { IfSome result
+            (λ l. IsRead size self.old self.new (line_answer (option_map (line_value size) l))) }
         ensures none { result ≡ None → self.new ≡ self.old }
     {
         let length = place_of_byte(&self.block[self.start..self.end], b'\n')?;

@@ -47,7 +47,8 @@ fn written_twice(alloc: Global, text: &[u8]) -> Result<(usize, bool), SgfFault> 
 
 /// The text of the first tree. Writing to memory fails only where there is no memory.
 fn rewritten(alloc: Global, text: &[u8]) -> Result<Vec<u8>, SgfFault>
-    ensures { IfOk result (λ out. (tree : GameTree) × (n : ℕ) × Reads text.now tree n × (out.items ≡ tree_text tree)) }
+    ensures { IfOk result (λ out. (tree : GameTree) × (n : ℕ) × Reads text.now tree n
+        × (out.items ≡ tree_text tree)) }
 {
     let (tree, _place) = read_tree(alloc, text)?;
     let mut out = Vec::new(alloc);

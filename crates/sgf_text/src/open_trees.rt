@@ -80,7 +80,8 @@ impl OpenTrees {
     /// Takes the byte at a place of the text. Gives the first tree where the byte ends it.
     pub fn step(&mut self, byte: u8, at: usize) -> Result<Option<Tree>, SgfFault>
         requires { IsSound self.old }
-        ensures { Steps (move self.old.place (sign_of byte)) (sign_of byte) byte at self.old result self.new }
+        ensures { Steps (move self.old.place (sign_of byte)) (sign_of byte) byte at self.old result
+            self.new }
     {
         let sign = sign_of(byte);
         match follow(self.place, sign) {

@@ -15,8 +15,10 @@ use std::io::Write;
 ///
 /// It takes no memory. After a failure the writer has taken a front of the text and nothing else.
 pub fn write_tree<W: Write>(tree: &Tree, writer: &mut W) -> Result<(), WriteFault>
-    ensures written { OnOk result (Appends (W.contents writer.old) (W.contents writer.new) (tree_text tree.now)) }
-    ensures cut { OnErr result (TakesPart (W.contents writer.old) (W.contents writer.new) (tree_text tree.now)) }
+    ensures written { OnOk result
+        (Appends (W.contents writer.old) (W.contents writer.new) (tree_text tree.now)) }
+    ensures cut { OnErr result
+        (TakesPart (W.contents writer.old) (W.contents writer.new) (tree_text tree.now)) }
 {
     let mut pending = PendingBytes::new();
     put_tree(tree, &mut pending, writer);
@@ -24,7 +26,8 @@ pub fn write_tree<W: Write>(tree: &Tree, writer: &mut W) -> Result<(), WriteFaul
 }
 
 fn put_tree<W: Write>(tree: &Tree, pending: &mut PendingBytes, writer: &mut W)
-    ensures { HasPut (W.contents writer.old) (W.contents writer.new) pending.old pending.new (tree_text tree.now) }
+    ensures { HasPut (W.contents writer.old) (W.contents writer.new) pending.old pending.new
+        (tree_text tree.now) }
 {
     pending.put(b"(", writer);
     put_nodes(tree.nodes(), pending, writer);
@@ -35,7 +38,8 @@ fn put_tree<W: Write>(tree: &Tree, pending: &mut PendingBytes, writer: &mut W)
 }
 
 fn put_nodes<W: Write>(nodes: &[SgfNode], pending: &mut PendingBytes, writer: &mut W)
-    ensures { HasPut (W.contents writer.old) (W.contents writer.new) pending.old pending.new (flat_map node_text nodes.now) }
+    ensures { HasPut (W.contents writer.old) (W.contents writer.new) pending.old pending.new
+        (flat_map node_text nodes.now) }
 {
     for node in nodes {
         put_node(node, pending, writer);
@@ -43,14 +47,16 @@ fn put_nodes<W: Write>(nodes: &[SgfNode], pending: &mut PendingBytes, writer: &m
 }
 
 fn put_node<W: Write>(node: &SgfNode, pending: &mut PendingBytes, writer: &mut W)
-    ensures { HasPut (W.contents writer.old) (W.contents writer.new) pending.old pending.new (node_text node.now) }
+    ensures { HasPut (W.contents writer.old) (W.contents writer.new) pending.old pending.new
+        (node_text node.now) }
 {
     pending.put(b";", writer);
     put_properties(node.as_slice(), pending, writer);
 }
 
 fn put_properties<W: Write>(properties: &[Property], pending: &mut PendingBytes, writer: &mut W)
-    ensures { HasPut (W.contents writer.old) (W.contents writer.new) pending.old pending.new (flat_map property_text properties.now) }
+    ensures { HasPut (W.contents writer.old) (W.contents writer.new) pending.old pending.new
+        (flat_map property_text properties.now) }
 {
     for property in properties {
         put_property(property, pending, writer);
@@ -58,14 +64,16 @@ fn put_properties<W: Write>(properties: &[Property], pending: &mut PendingBytes,
 }
 
 fn put_property<W: Write>(property: &Property, pending: &mut PendingBytes, writer: &mut W)
-    ensures { HasPut (W.contents writer.old) (W.contents writer.new) pending.old pending.new (property_text property.now) }
+    ensures { HasPut (W.contents writer.old) (W.contents writer.new) pending.old pending.new
+        (property_text property.now) }
 {
     pending.put(property.ident.as_slice(), writer);
     put_values(property.values.as_slice(), pending, writer);
 }
 
 fn put_values<W: Write>(values: &[Bytes], pending: &mut PendingBytes, writer: &mut W)
-    ensures { HasPut (W.contents writer.old) (W.contents writer.new) pending.old pending.new (flat_map value_text values.now) }
+    ensures { HasPut (W.contents writer.old) (W.contents writer.new) pending.old pending.new
+        (flat_map value_text values.now) }
 {
     for value in values {
         put_value(value, pending, writer);
@@ -73,7 +81,8 @@ fn put_values<W: Write>(values: &[Bytes], pending: &mut PendingBytes, writer: &m
 }
 
 fn put_value<W: Write>(value: &Bytes, pending: &mut PendingBytes, writer: &mut W)
-    ensures { HasPut (W.contents writer.old) (W.contents writer.new) pending.old pending.new (value_text value.now) }
+    ensures { HasPut (W.contents writer.old) (W.contents writer.new) pending.old pending.new
+        (value_text value.now) }
 {
     pending.put(b"[", writer);
     pending.put(value.as_slice(), writer);

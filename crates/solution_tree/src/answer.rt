@@ -48,8 +48,10 @@ impl Answer {
 /// So many turns and those of the answer. Goes along the last replies in a loop.
 #[cycle(size)]
 fn size_with(answer: &Answer, before: usize) -> Option<usize>
-    ensures some { IfSome result (λ size. (n : ℕ) → before + answer_size (answer_of n answer.now) ≡ size) }
-    ensures none { IfNone result ((n : ℕ) → 2 ^ 64 ≤ before + answer_size (answer_of n answer.now)) }
+    ensures some { IfSome result (λ size. (n : ℕ)
+        → before + answer_size (answer_of n answer.now) ≡ size) }
+    ensures none { IfNone result ((n : ℕ)
+        → 2 ^ 64 ≤ before + answer_size (answer_of n answer.now)) }
 {
     let mut part = answer;
     let mut count = before;
@@ -74,8 +76,10 @@ fn size_with(answer: &Answer, before: usize) -> Option<usize>
 /// So many turns, these, and those below them.
 #[cycle(size)]
 fn sizes_with(replies: &[(Turn, Answer)], before: usize) -> Option<usize>
-    ensures some { IfSome result (λ size. (n : ℕ) → before + reply_sizes (replies_of n replies.now) ≡ size) }
-    ensures none { IfNone result ((n : ℕ) → 2 ^ 64 ≤ before + reply_sizes (replies_of n replies.now)) }
+    ensures some { IfSome result (λ size. (n : ℕ)
+        → before + reply_sizes (replies_of n replies.now) ≡ size) }
+    ensures none { IfNone result ((n : ℕ)
+        → 2 ^ 64 ≤ before + reply_sizes (replies_of n replies.now)) }
 {
     let mut count = before;
     for reply in replies {

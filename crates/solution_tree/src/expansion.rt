@@ -21,9 +21,13 @@ use target_game::{PlayState, State};
 /// The node, or where it uses a lemma the body of that lemma.
 #[tactic(auto, using(proof_cert::proofs::Certificates::node_of_won, proof_cert::proofs::Certificates::node_of_play, proof_cert::proofs::Certificates::node_of_all))]
 fn body_of<'a>(checked: &'a Checked, node: &'a Node) -> &'a Node
-    requires { IsTrue (uses_below (lemma_count checked.now) (node_of checked.now.certificate.size node.now)) }
-    ensures same { (s : GameState) → tree_at checked.now (node_of checked.now.certificate.size result.now) s ≡ tree_at checked.now (node_of checked.now.certificate.size node.now) s }
-    ensures below { IsTrue (uses_below (lemma_count checked.now) (node_of checked.now.certificate.size result.now)) }
+    requires { IsTrue (uses_below (lemma_count checked.now)
+        (node_of checked.now.certificate.size node.now)) }
+    ensures same { (s : GameState)
+        → tree_at checked.now (node_of checked.now.certificate.size result.now) s
+        ≡ tree_at checked.now (node_of checked.now.certificate.size node.now) s }
+    ensures below { IsTrue
+        (uses_below (lemma_count checked.now) (node_of checked.now.certificate.size result.now)) }
     ensures no_use { IsFalse (is_use (node_of checked.now.certificate.size result.now)) }
 {
     let _winner = checked.winner();
@@ -51,11 +55,18 @@ fn step<'a>(
     state: &mut PlayState,
     opened: &mut Vec<Open<'a>>,
 ) -> Result<Part<'a>, AllocError>
-    requires stands { Expands checked.now opened.old.items state.old (tree_at checked.now (node_of checked.now.certificate.size node.now) state.old.state) }
-    requires below { IsTrue (uses_below (lemma_count checked.now) (node_of checked.now.certificate.size node.now)) }
-    ensures stands { IfOk result (λ p. Expands checked.now opened.new.items state.new (part_tree checked.now p state.new.state)) }
+    requires stands { Expands checked.now opened.old.items state.old
+        (tree_at checked.now (node_of checked.now.certificate.size node.now) state.old.state) }
+    requires below { IsTrue
+        (uses_below (lemma_count checked.now) (node_of checked.now.certificate.size node.now)) }
+    ensures stands { IfOk result
+        (λ p. Expands checked.now opened.new.items state.new
+        (part_tree checked.now p state.new.state)) }
     ensures below { IfOk result (λ p. IsTrue (part_below checked.now p)) }
-    ensures size { IfOk result (λ p. open_sizes checked.now.certificate.size opened.new.items + part_size checked.now.certificate.size p ≡ open_sizes checked.now.certificate.size opened.old.items + part_turns p) }
+    ensures size { IfOk result
+        (λ p. open_sizes checked.now.certificate.size opened.new.items
+        + part_size checked.now.certificate.size p
+        ≡ open_sizes checked.now.certificate.size opened.old.items + part_turns p) }
     ensures finished { IfOk result (λ p. IfFinished p (opened.new.items ≡ [])) }
 {
     let node = body_of(checked, node);
@@ -69,10 +80,18 @@ fn step<'a>(
 /// replaced by the lemma's body, and of the replies those stay that are legal there. Refused where it has more turns
 /// than `limit`.
 pub fn expand(alloc: Global, checked: &Checked, limit: usize) -> Result<Answer, Expand>
-    ensures tree { IfOk result (λ a. answer_of checked.now.problem.game.size a ≡ expand (claim_of checked.now.certificate) (start checked.now.problem)) }
-    ensures answers { IfOk result (λ a. IsTrue (answers (claim_of checked.now.certificate).winner (start checked.now.problem) (answer_of checked.now.problem.game.size a))) }
-    ensures size { IfOk result (λ a. answer_size (expand (claim_of checked.now.certificate) (start checked.now.problem)) ≤ limit) }
-    ensures large { IfErr result (λ e. e ≡ TooLarge → limit < answer_size (expand (claim_of checked.now.certificate) (start checked.now.problem))) }
+    ensures tree { IfOk result
+        (λ a. answer_of checked.now.problem.game.size a
+        ≡ expand (claim_of checked.now.certificate) (start checked.now.problem)) }
+    ensures answers { IfOk result
+        (λ a. IsTrue (answers (claim_of checked.now.certificate).winner (start checked.now.problem)
+        (answer_of checked.now.problem.game.size a))) }
+    ensures size { IfOk result
+        (λ a. answer_size (expand (claim_of checked.now.certificate) (start checked.now.problem))
+        ≤ limit) }
+    ensures large { IfErr result (λ e. e ≡ TooLarge
+        → limit < answer_size
+        (expand (claim_of checked.now.certificate) (start checked.now.problem))) }
 {
     valid_claims_answer();
     let _winner = checked.winner();

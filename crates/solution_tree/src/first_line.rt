@@ -17,8 +17,12 @@ use target_game::PlayState;
 /// Makes the turns of a sequence behind the node with this number. The number of its last node.
 fn follow(state: &mut PlayState, number: usize, nodes: &[SgfNode]) -> Result<usize, AuditFault>
     ensures size { OnOk result (state.new.state.game.size ≡ state.old.state.game.size) }
-    ensures ok { IfOk result (λ last. (below : Nodes) → first_line last state.new.state below ≡ first_line number state.old.state (sequence nodes.now below)) }
-    ensures err { IfErr result (λ e. (below : Nodes) → IsFault state.old.state.game.size (first_line number state.old.state (sequence nodes.now below)) e) }
+    ensures ok { IfOk result (λ last. (below : Nodes)
+        → first_line last state.new.state below
+        ≡ first_line number state.old.state (sequence nodes.now below)) }
+    ensures err { IfErr result (λ e. (below : Nodes)
+        → IsFault state.old.state.game.size
+        (first_line number state.old.state (sequence nodes.now below)) e) }
 {
     let mut last = number;
     let mut left = nodes;
@@ -42,7 +46,8 @@ fn follow(state: &mut PlayState, number: usize, nodes: &[SgfNode]) -> Result<usi
 /// Who has won at the node with this number.
 fn won_at(number: usize, state: &PlayState) -> Result<Colour, AuditFault>
     ensures ok { IfOk result (λ x. won_at number (over state.now.state) ≡ Ok x) }
-    ensures err { IfErr result (λ e. IsFault state.now.state.game.size (won_at number (over state.now.state)) e) }
+    ensures err { IfErr result
+        (λ e. IsFault state.now.state.game.size (won_at number (over state.now.state)) e) }
 {
     match state.over() {
         Some(colour) => Ok(colour),
@@ -60,8 +65,11 @@ pub(crate) fn first_line(
     nodes: &[SgfNode],
     children: &[Tree],
 ) -> Result<Colour, AuditFault>
-    ensures ok { IfOk result (λ x. first_line number state.old.state (follows nodes.now children.now) ≡ Ok x) }
-    ensures err { IfErr result (λ e. IsFault state.old.state.game.size (first_line number state.old.state (follows nodes.now children.now)) e) }
+    ensures ok { IfOk result
+        (λ x. first_line number state.old.state (follows nodes.now children.now) ≡ Ok x) }
+    ensures err { IfErr result
+        (λ e. IsFault state.old.state.game.size
+        (first_line number state.old.state (follows nodes.now children.now)) e) }
 {
     let mut last = number;
     let mut line = nodes;

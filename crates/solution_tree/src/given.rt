@@ -37,7 +37,8 @@ impl Given {
 
     /// Puts the turn into the set.
     pub(crate) fn insert(&mut self, turn: Turn)
-        ensures { (n : ℕ) (turns : List Ply) → StandsOn n (ply_of n turn) → Tells n self.old turns → Tells n self.new (turns ++ ply_of n turn ∷ []) }
+        ensures { (n : ℕ) (turns : List Ply) → StandsOn n (ply_of n turn) → Tells n self.old turns
+            → Tells n self.new (turns ++ ply_of n turn ∷ []) }
     {
         match turn {
             Turn::Pass => self.pass = true,

@@ -46,10 +46,22 @@ fn next_reply<'a>(
     state: &PlayState,
     replies: &'a [(Turn, Node)],
 ) -> Option<(&'a (Turn, Node), &'a [(Turn, Node)])>
-    ensures none { IfNone result ((es : List (GameState → AnswerTree)) → expand_branches es (claim.replies_of state.now.state.game.size replies.now) state.now.state ≡ none) }
-    ensures some { IfSome result (λ r. (es : List (GameState → AnswerTree)) → expand_branches es (claim.replies_of state.now.state.game.size replies.now) state.now.state ≡ reply (ply_of state.now.state.game.size r.0.now.0) (expand_node es (claim.node_of state.now.state.game.size r.0.now.1) (next state.now.state (ply_of state.now.state.game.size r.0.now.0))) (expand_branches es (claim.replies_of state.now.state.game.size r.1.now) state.now.state)) }
-    ensures legal { IfSome result (λ r. IsTrue (legal state.now.state (ply_of state.now.state.game.size r.0.now.0))) }
-    ensures below { IfSome result (λ r. (m : ℕ) → IsTrue (all_below m (claim.replies_of state.now.state.game.size replies.now)) → IsTrue (uses_below m (claim.node_of state.now.state.game.size r.0.now.1)) × IsTrue (all_below m (claim.replies_of state.now.state.game.size r.1.now))) }
+    ensures none { IfNone result ((es : List (GameState → AnswerTree))
+        → expand_branches es (claim.replies_of state.now.state.game.size replies.now)
+        state.now.state ≡ none) }
+    ensures some { IfSome result (λ r. (es : List (GameState → AnswerTree))
+        → expand_branches es (claim.replies_of state.now.state.game.size replies.now)
+        state.now.state ≡ reply (ply_of state.now.state.game.size r.0.now.0)
+        (expand_node es (claim.node_of state.now.state.game.size r.0.now.1)
+        (next state.now.state (ply_of state.now.state.game.size r.0.now.0)))
+        (expand_branches es (claim.replies_of state.now.state.game.size r.1.now)
+        state.now.state)) }
+    ensures legal { IfSome result
+        (λ r. IsTrue (legal state.now.state (ply_of state.now.state.game.size r.0.now.0))) }
+    ensures below { IfSome result (λ r. (m : ℕ)
+        → IsTrue (all_below m (claim.replies_of state.now.state.game.size replies.now))
+        → IsTrue (uses_below m (claim.node_of state.now.state.game.size r.0.now.1))
+        × IsTrue (all_below m (claim.replies_of state.now.state.game.size r.1.now))) }
 {
     let mut rest = replies;
     loop {
@@ -71,11 +83,22 @@ fn go_on<'a>(
     done: Vec<(Turn, Answer)>,
     later: &'a [(Turn, Node)],
 ) -> Result<Part<'a>, AllocError>
-    requires stands { Expands checked.now opened.old.items state.old (replies (replies_then (replies_of checked.now.certificate.size done.items) (branches_at checked.now (claim.replies_of checked.now.certificate.size later.now) state.old.state))) }
-    requires below { IsTrue (all_below (lemma_count checked.now) (claim.replies_of checked.now.certificate.size later.now)) }
-    ensures stands { IfOk result (λ p. Expands checked.now opened.new.items state.new (part_tree checked.now p state.new.state)) }
+    requires stands { Expands checked.now opened.old.items state.old
+        (replies (replies_then (replies_of checked.now.certificate.size done.items)
+        (branches_at checked.now (claim.replies_of checked.now.certificate.size later.now)
+        state.old.state))) }
+    requires below { IsTrue
+        (all_below (lemma_count checked.now)
+        (claim.replies_of checked.now.certificate.size later.now)) }
+    ensures stands { IfOk result
+        (λ p. Expands checked.now opened.new.items state.new
+        (part_tree checked.now p state.new.state)) }
     ensures below { IfOk result (λ p. IsTrue (part_below checked.now p)) }
-    ensures size { IfOk result (λ p. open_sizes checked.now.certificate.size opened.new.items + part_size checked.now.certificate.size p ≡ open_sizes checked.now.certificate.size opened.old.items + reply_sizes (replies_of checked.now.certificate.size done.items) + part_turns p) }
+    ensures size { IfOk result
+        (λ p. open_sizes checked.now.certificate.size opened.new.items
+        + part_size checked.now.certificate.size p
+        ≡ open_sizes checked.now.certificate.size opened.old.items
+        + reply_sizes (replies_of checked.now.certificate.size done.items) + part_turns p) }
     ensures finished { IfOk result (λ p. IfFinished p (opened.new.items ≡ opened.old.items)) }
 {
     let Some((reply, others)) = next_reply(state, later) else {
@@ -100,12 +123,21 @@ pub(crate) fn open_node<'a>(
     state: &mut PlayState,
     opened: &mut Vec<Open<'a>>,
 ) -> Result<Part<'a>, AllocError>
-    requires stands { Expands checked.now opened.old.items state.old (tree_at checked.now (claim.node_of checked.now.certificate.size node.now) state.old.state) }
-    requires below { IsTrue (uses_below (lemma_count checked.now) (claim.node_of checked.now.certificate.size node.now)) }
+    requires stands { Expands checked.now opened.old.items state.old
+        (tree_at checked.now (claim.node_of checked.now.certificate.size node.now)
+        state.old.state) }
+    requires below { IsTrue
+        (uses_below (lemma_count checked.now)
+        (claim.node_of checked.now.certificate.size node.now)) }
     requires no_use { IsFalse (is_use (claim.node_of checked.now.certificate.size node.now)) }
-    ensures stands { IfOk result (λ p. Expands checked.now opened.new.items state.new (part_tree checked.now p state.new.state)) }
+    ensures stands { IfOk result
+        (λ p. Expands checked.now opened.new.items state.new
+        (part_tree checked.now p state.new.state)) }
     ensures below { IfOk result (λ p. IsTrue (part_below checked.now p)) }
-    ensures size { IfOk result (λ p. open_sizes checked.now.certificate.size opened.new.items + part_size checked.now.certificate.size p ≡ open_sizes checked.now.certificate.size opened.old.items + part_turns p) }
+    ensures size { IfOk result
+        (λ p. open_sizes checked.now.certificate.size opened.new.items
+        + part_size checked.now.certificate.size p
+        ≡ open_sizes checked.now.certificate.size opened.old.items + part_turns p) }
 {
     match node {
         Node::Won => Ok(Part::Finished(Answer::Won)),
@@ -127,10 +159,17 @@ pub(crate) fn close<'a>(
     state: &mut PlayState,
     opened: &mut Vec<Open<'a>>,
 ) -> Result<Part<'a>, AllocError>
-    requires stands { Expands checked.now opened.old.items state.old (answer_of checked.now.certificate.size finished) }
-    ensures stands { IfOk result (λ p. Expands checked.now opened.new.items state.new (part_tree checked.now p state.new.state)) }
+    requires stands { Expands checked.now opened.old.items state.old
+        (answer_of checked.now.certificate.size finished) }
+    ensures stands { IfOk result
+        (λ p. Expands checked.now opened.new.items state.new
+        (part_tree checked.now p state.new.state)) }
     ensures below { IfOk result (λ p. IsTrue (part_below checked.now p)) }
-    ensures size { IfOk result (λ p. open_sizes checked.now.certificate.size opened.new.items + part_size checked.now.certificate.size p ≡ open_sizes checked.now.certificate.size opened.old.items + answer_size (answer_of checked.now.certificate.size finished) + part_turns p) }
+    ensures size { IfOk result
+        (λ p. open_sizes checked.now.certificate.size opened.new.items
+        + part_size checked.now.certificate.size p
+        ≡ open_sizes checked.now.certificate.size opened.old.items
+        + answer_size (answer_of checked.now.certificate.size finished) + part_turns p) }
     ensures finished { IfOk result (λ p. IfFinished p (opened.new.items ≡ [])) }
 {
     let mut tree = finished;
@@ -156,11 +195,19 @@ fn put_below<'a>(
     state: &mut PlayState,
     opened: &mut Vec<Open<'a>>,
 ) -> Result<Part<'a>, AllocError>
-    requires stands { Expands checked.now opened.old.items state.old (closed checked.now last state.old.state (answer_of checked.now.certificate.size tree)) }
+    requires stands { Expands checked.now opened.old.items state.old
+        (closed checked.now last state.old.state (answer_of checked.now.certificate.size tree)) }
     requires below { IsTrue (open_below checked.now (last ∷ [])) }
-    ensures stands { IfOk result (λ p. Expands checked.now opened.new.items state.new (part_tree checked.now p state.new.state)) }
+    ensures stands { IfOk result
+        (λ p. Expands checked.now opened.new.items state.new
+        (part_tree checked.now p state.new.state)) }
     ensures below { IfOk result (λ p. IsTrue (part_below checked.now p)) }
-    ensures size { IfOk result (λ p. open_sizes checked.now.certificate.size opened.new.items + part_size checked.now.certificate.size p ≡ open_sizes checked.now.certificate.size opened.old.items + open_size checked.now.certificate.size last.entry + answer_size (answer_of checked.now.certificate.size tree) + part_turns p) }
+    ensures size { IfOk result
+        (λ p. open_sizes checked.now.certificate.size opened.new.items
+        + part_size checked.now.certificate.size p
+        ≡ open_sizes checked.now.certificate.size opened.old.items
+        + open_size checked.now.certificate.size last.entry
+        + answer_size (answer_of checked.now.certificate.size tree) + part_turns p) }
     ensures finished { IfOk result (λ p. IfFinished p (opened.new.items ≡ opened.old.items)) }
 {
     match last {

@@ -43,11 +43,21 @@ fn carried(size: Size, node: &SgfNode) -> Option<(Colour, Turn)>
 
 /// Asks the node as a turn, and makes the turn.
 pub(crate) fn take_turn(state: &mut PlayState, node: &SgfNode) -> Result<Turn, AuditWhy>
-    ensures asked { OnOk result (turn_fault state.old.state (carried state.old.state.game.size node.now) ≡ None) }
-    ensures carried { IfOk result (λ t. carried state.old.state.game.size node.now ≡ Some (state.old.state.mover, ply_of state.old.state.game.size t)) }
-    ensures on_board { IfOk result (λ t. StandsOn state.old.state.game.size (ply_of state.old.state.game.size t)) }
-    ensures state { IfOk result (λ t. state.new ≡ record { state = next state.old.state (ply_of state.old.state.game.size t); before = state.old.state ∷ state.old.before }) }
-    ensures err { IfErr result (λ w. IsWhy state.old.state.game.size (turn_fault state.old.state (carried state.old.state.game.size node.now)) w) }
+    ensures asked { OnOk result
+        (turn_fault state.old.state (carried state.old.state.game.size node.now) ≡ None) }
+    ensures carried { IfOk result
+        (λ t. carried state.old.state.game.size node.now
+        ≡ Some (state.old.state.mover, ply_of state.old.state.game.size t)) }
+    ensures on_board { IfOk result
+        (λ t. StandsOn state.old.state.game.size (ply_of state.old.state.game.size t)) }
+    ensures state { IfOk result
+        (λ t. state.new ≡ record {
+          state = next state.old.state (ply_of state.old.state.game.size t);
+          before = state.old.state ∷ state.old.before;
+        }) }
+    ensures err { IfErr result
+        (λ w. IsWhy state.old.state.game.size
+        (turn_fault state.old.state (carried state.old.state.game.size node.now)) w) }
 {
     let Some((colour, turn)) = carried(state.size(), node) else {
         return Err(AuditWhy::NoTurn);
@@ -84,7 +94,8 @@ fn has_several(nodes: &[SgfNode], children: &[Tree]) -> bool
 
 /// The set with the turn of a node, where it carries one.
 fn add_turn(size: Size, given: &mut Given, node: &SgfNode)
-    ensures { (turns : List Ply) → Tells size given.old turns → Tells size given.new (with_turn turns (carried size node.now)) }
+    ensures { (turns : List Ply) → Tells size given.old turns
+        → Tells size given.new (with_turn turns (carried size node.now)) }
 {
     if let Some((_colour, turn)) = carried(size, node) {
         given.insert(turn);
@@ -123,7 +134,8 @@ fn turns_given(size: Size, nodes: &[SgfNode], children: &[Tree]) -> Given
 /// The first legal turn that is not in the set.
 fn missing_reply(state: &PlayState, given: &Given) -> Option<Turn>
     ensures { (turns : List Ply) → Tells state.now.state.game.size given.now turns
-        → option_map (λ t. reply_missing (ply_of state.now.state.game.size t)) result ≡ missing turns (legal_turns state.now.state) }
+        → option_map (λ t. reply_missing (ply_of state.now.state.game.size t)) result
+        ≡ missing turns (legal_turns state.now.state) }
 {
     let mut turns_left = TurnsLeft::all();
     while let Some(turn) = state.next_left(&mut turns_left) {
@@ -160,8 +172,11 @@ pub(crate) fn ask_rest(
     children: &[Tree],
 ) -> Result<(), AuditWhy>
     requires { IsTrue (is_forest (forest_of children.now)) }
-    ensures ok { OnOk result (rest_fault winner state.now.state (follows nodes.now children.now) ≡ None) }
-    ensures err { IfErr result (λ w. IsWhy state.now.state.game.size (rest_fault winner state.now.state (follows nodes.now children.now)) w) }
+    ensures ok { OnOk result (rest_fault winner state.now.state (follows nodes.now children.now)
+        ≡ None) }
+    ensures err { IfErr result
+        (λ w. IsWhy state.now.state.game.size
+        (rest_fault winner state.now.state (follows nodes.now children.now)) w) }
 {
     let over = state.over();
     let is_own = is_to_move(winner, state);

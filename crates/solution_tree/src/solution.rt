@@ -20,8 +20,11 @@ use tsumego_problem::{marks_with_winner, past_nodes, turn_node};
 /// The one turn that comes first, with the tree below it; `None` where there is none, and where there are several.
 fn single_turn<'a>(answer: &'a Answer) -> Option<(Turn, &'a Answer)>
     ensures some { (n : ℕ) → is_some result ≡ is_single (answer_of n answer.now) }
-    ensures rest { IfSome result (λ r. (n : ℕ) (k : Side) → rest_of n k (answer_of n answer.now) ≡ rest_of n k (turn (ply_of n r.0) (answer_of n r.1.now))) }
-    ensures size { IfSome result (λ r. (n : ℕ) → answer_size (answer_of n answer.now) ≡ 1 + answer_size (answer_of n r.1.now)) }
+    ensures rest { IfSome result (λ r. (n : ℕ) (k : Side)
+        → rest_of n k (answer_of n answer.now)
+        ≡ rest_of n k (turn (ply_of n r.0) (answer_of n r.1.now))) }
+    ensures size { IfSome result (λ r. (n : ℕ)
+        → answer_size (answer_of n answer.now) ≡ 1 + answer_size (answer_of n r.1.now)) }
 {
     match answer {
         Answer::Won => None,
@@ -39,8 +42,11 @@ fn single_turn<'a>(answer: &'a Answer) -> Option<(Turn, &'a Answer)>
 
 /// The turns that come first, each with the tree below it, where there is not one alone.
 fn several_turns<'a>(answer: &'a Answer) -> &'a [(Turn, Answer)]
-    ensures rest { (n : ℕ) (k : Side) → IsFalse (is_single (answer_of n answer.now)) → rest_of n k (answer_of n answer.now) ≡ ([], forest_of_replies n k (replies_of n result.now)) }
-    ensures size { (n : ℕ) → reply_sizes (replies_of n result.now) ≤ answer_size (answer_of n answer.now) }
+    ensures rest { (n : ℕ) (k : Side) → IsFalse (is_single (answer_of n answer.now))
+        → rest_of n k (answer_of n answer.now)
+        ≡ ([], forest_of_replies n k (replies_of n result.now)) }
+    ensures size { (n : ℕ)
+        → reply_sizes (replies_of n result.now) ≤ answer_size (answer_of n answer.now) }
 {
     match answer {
         Answer::Replies(replies) => replies.as_slice(),
@@ -57,9 +63,14 @@ fn push_line<'a>(
     answer: &'a Answer,
     nodes: &mut Vec<SgfNode>,
 ) -> Result<(Colour, &'a [(Turn, Answer)]), AllocError>
-    ensures nodes { IfOk result (λ r. nodes.new.items ≡ nodes.old.items ++ (rest_of size mover (answer_of size answer.now)).0) }
-    ensures branches { IfOk result (λ r. forest_of_replies size r.0 (replies_of size r.1.now) ≡ (rest_of size mover (answer_of size answer.now)).1) }
-    ensures size { IfOk result (λ r. reply_sizes (replies_of size r.1.now) ≤ answer_size (answer_of size answer.now)) }
+    ensures nodes { IfOk result
+        (λ r. nodes.new.items
+        ≡ nodes.old.items ++ (rest_of size mover (answer_of size answer.now)).0) }
+    ensures branches { IfOk result
+        (λ r. forest_of_replies size r.0 (replies_of size r.1.now)
+        ≡ (rest_of size mover (answer_of size answer.now)).1) }
+    ensures size { IfOk result
+        (λ r. reply_sizes (replies_of size r.1.now) ≤ answer_size (answer_of size answer.now)) }
 {
     let mut part = answer;
     let mut colour = mover;
@@ -91,7 +102,11 @@ fn reply_tree(
     first: Turn,
     below: &Answer,
 ) -> Result<Tree, AllocError>
-    ensures { IfOk result (λ tree. tree ≡ record { nodes = (rest_of size mover (turn (ply_of size first) (answer_of size below.now))).0; children = (rest_of size mover (turn (ply_of size first) (answer_of size below.now))).1 }) }
+    ensures { IfOk result
+        (λ tree. tree ≡ record {
+          nodes = (rest_of size mover (turn (ply_of size first) (answer_of size below.now))).0;
+          children = (rest_of size mover (turn (ply_of size first) (answer_of size below.now))).1;
+        }) }
 {
     let mut nodes = Vec::new(alloc);
     nodes.push(turn_node(alloc, size, mover, first)?)?;
@@ -108,7 +123,9 @@ fn reply_trees(
     mover: Colour,
     replies: &[(Turn, Answer)],
 ) -> Result<Vec<Tree>, AllocError>
-    ensures { IfOk result (λ trees. forest_of trees.items ≡ forest_of_replies size mover (replies_of size replies.now)) }
+    ensures { IfOk result
+        (λ trees. forest_of trees.items
+        ≡ forest_of_replies size mover (replies_of size replies.now)) }
 {
     let mut trees = Vec::new(alloc);
     for (turn, below) in replies {
@@ -119,7 +136,9 @@ fn reply_trees(
 
 /// The record of a solution (SGF FF[4], in this project's own form): the canonical record of the claim's problem with its winner as a comment (C) of the problem node, and the answer tree below it. The sides take turns from the problem's mover on. One turn alone goes on in the sequence, and of several each begins a game tree, in their order. A move at a point that the board does not have is written as one at the first point below it. Only memory is refused.
 pub fn to_sgf(alloc: Global, checked: &Checked, answer: &Answer) -> Result<Tree, AllocError>
-    ensures { IfOk result (λ tree. tree ≡ solution checked.now.problem (claim_of checked.now.certificate).winner (answer_of checked.now.problem.game.size answer.now)) }
+    ensures { IfOk result
+        (λ tree. tree ≡ solution checked.now.problem (claim_of checked.now.certificate).winner
+        (answer_of checked.now.problem.game.size answer.now)) }
 {
     let problem = checked.problem();
     let size = problem.size();

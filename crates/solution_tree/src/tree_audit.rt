@@ -57,8 +57,12 @@ fn audit_nodes(
     ensures number { IfOk result (λ last. last ≡ number + length nodes.now) }
     ensures state { OnOk result (Leads (length nodes.now) state.old state.new) }
     ensures size { OnOk result (state.new.state.game.size ≡ state.old.state.game.size) }
-    ensures ok { IfOk result (λ last. faults_of winner state.new.state last (nodes_of (forest_of children.now)) ≡ faults_of winner state.old.state number (follows nodes.now children.now)) }
-    ensures err { IfErr result (λ e. IsFound state.old.state.game.size (faults_of winner state.old.state number (follows nodes.now children.now)) e) }
+    ensures ok { IfOk result
+        (λ last. faults_of winner state.new.state last (nodes_of (forest_of children.now))
+        ≡ faults_of winner state.old.state number (follows nodes.now children.now)) }
+    ensures err { IfErr result
+        (λ e. IsFound state.old.state.game.size
+        (faults_of winner state.old.state number (follows nodes.now children.now)) e) }
 {
     let mut last = number;
     let mut left = nodes;
@@ -88,10 +92,14 @@ fn audit_sequence(
     children: &[Tree],
 ) -> Result<usize, AuditFault>
     requires { IsTrue (is_forest (forest_of children.now)) }
-    ensures number { IfOk result (λ last. last ≡ number + count_nodes (follows nodes.now children.now)) }
+    ensures number { IfOk result
+        (λ last. last ≡ number + count_nodes (follows nodes.now children.now)) }
     ensures state { OnOk result (state.new ≡ state.old) }
-    ensures ok { OnOk result (faults_of winner state.old.state number (follows nodes.now children.now) ≡ None) }
-    ensures err { IfErr result (λ e. IsFound state.old.state.game.size (faults_of winner state.old.state number (follows nodes.now children.now)) e) }
+    ensures ok { OnOk result
+        (faults_of winner state.old.state number (follows nodes.now children.now) ≡ None) }
+    ensures err { IfErr result
+        (λ e. IsFound state.old.state.game.size
+        (faults_of winner state.old.state number (follows nodes.now children.now)) e) }
 {
     let end = match audit_nodes(winner, state, number, nodes, children) {
         Ok(end) => end,
@@ -117,10 +125,16 @@ fn audit_children(
     children: &[Tree],
 ) -> Result<usize, AuditFault>
     requires { IsTrue (is_forest (forest_of children.now)) }
-    ensures number { IfOk result (λ last. last ≡ number + count_nodes (nodes_of (forest_of children.now))) }
+    ensures number { IfOk result
+        (λ last. last ≡ number + count_nodes (nodes_of (forest_of children.now))) }
     ensures state { OnOk result (state.new ≡ state.old) }
-    ensures ok { OnOk result (faults_below winner state.old.state [] (number + 1) (nodes_of (forest_of children.now)) ≡ None) }
-    ensures err { IfErr result (λ e. IsFound state.old.state.game.size (faults_below winner state.old.state [] (number + 1) (nodes_of (forest_of children.now))) e) }
+    ensures ok { OnOk result
+        (faults_below winner state.old.state [] (number + 1) (nodes_of (forest_of children.now))
+        ≡ None) }
+    ensures err { IfErr result
+        (λ e. IsFound state.old.state.game.size
+        (faults_below winner state.old.state [] (number + 1) (nodes_of (forest_of children.now)))
+        e) }
 {
     let mut given = Given::new();
     let mut last = number;
@@ -144,12 +158,21 @@ fn audit_child(
     given: &mut Given,
     child: &Tree,
 ) -> Result<usize, AuditFault>
-    ensures number { IfOk result (λ last. (others : Forest) → last + count_nodes (nodes_of others) ≡ number + count_nodes (nodes_of (tree_then child.now.nodes child.now.children others))) }
+    ensures number { IfOk result (λ last. (others : Forest)
+        → last + count_nodes (nodes_of others)
+        ≡ number + count_nodes (nodes_of (tree_then child.now.nodes child.now.children others))) }
     ensures state { OnOk result (state.new ≡ state.old) }
-    ensures ok { IfOk result (λ last. (earlier : List Ply) (others : Forest) → Tells state.old.state.game.size given.old earlier → (later : List Ply) × Tells state.old.state.game.size given.new later
-        × (faults_below winner state.old.state later (last + 1) (nodes_of others) ≡ faults_below winner state.old.state earlier (number + 1) (nodes_of (tree_then child.now.nodes child.now.children others)))) }
-    ensures err { IfErr result (λ e. (earlier : List Ply) (others : Forest) → Tells state.old.state.game.size given.old earlier
-        → IsFound state.old.state.game.size (faults_below winner state.old.state earlier (number + 1) (nodes_of (tree_then child.now.nodes child.now.children others))) e) }
+    ensures ok { IfOk result (λ last. (earlier : List Ply) (others : Forest)
+        → Tells state.old.state.game.size given.old earlier → (later : List Ply)
+        × Tells state.old.state.game.size given.new later
+        × (faults_below winner state.old.state later (last + 1) (nodes_of others)
+        ≡ faults_below winner state.old.state earlier (number + 1)
+        (nodes_of (tree_then child.now.nodes child.now.children others)))) }
+    ensures err { IfErr result (λ e. (earlier : List Ply) (others : Forest)
+        → Tells state.old.state.game.size given.old earlier
+        → IsFound state.old.state.game.size
+        (faults_below winner state.old.state earlier (number + 1)
+        (nodes_of (tree_then child.now.nodes child.now.children others))) e) }
 {
     let Some(next) = number.checked_add(1) else {
         return Err(no_memory(number));
@@ -186,8 +209,11 @@ fn first_winner(
     nodes: &[SgfNode],
     children: &[Tree],
 ) -> Result<Colour, AuditFault>
-    ensures ok { IfOk result (λ x. first_line number (start problem.now) (follows nodes.now children.now) ≡ Ok x) }
-    ensures err { IfErr result (λ e. IsFault problem.now.game.size (first_line number (start problem.now) (follows nodes.now children.now)) e) }
+    ensures ok { IfOk result
+        (λ x. first_line number (start problem.now) (follows nodes.now children.now) ≡ Ok x) }
+    ensures err { IfErr result
+        (λ e. IsFault problem.now.game.size
+        (first_line number (start problem.now) (follows nodes.now children.now)) e) }
 {
     match State::of(alloc, problem) {
         Ok(state) => {
@@ -208,8 +234,13 @@ fn audit_all(
     children: &[Tree],
 ) -> Result<Colour, AuditFault>
     requires { IsTrue (is_forest (forest_of children.now)) }
-    ensures ok { IfOk result (λ x. unless_fault (faults_of winner (start problem.now) number (follows nodes.now children.now)) winner ≡ Ok x) }
-    ensures err { IfErr result (λ e. IsFault problem.now.game.size (unless_fault (faults_of winner (start problem.now) number (follows nodes.now children.now)) winner) e) }
+    ensures ok { IfOk result
+        (λ x. unless_fault (faults_of winner (start problem.now) number
+        (follows nodes.now children.now)) winner ≡ Ok x) }
+    ensures err { IfErr result
+        (λ e. IsFault problem.now.game.size
+        (unless_fault (faults_of winner (start problem.now) number
+        (follows nodes.now children.now)) winner) e) }
 {
     match State::of(alloc, problem) {
         Ok(state) => {

@@ -11,7 +11,8 @@ use go_points::{Cell, Colour, Colouring};
 /// The word of a stone of this colour at the point of this number, on a board of whatever size. Takes the same time for each.
 pub fn stone_word(number: usize, colour: Colour) -> u64
     requires { number < MAX_POINTS }
-    ensures { result ≡ word_for (Stone colour) (word_after (2 * number)) (word_after (2 * number + 1)) }
+    ensures { result ≡ word_for (Stone colour) (word_after (2 * number))
+        (word_after (2 * number + 1)) }
 {
     match colour {
         Colour::Black => word(2 * number),

@@ -55,7 +55,8 @@ impl<B: Board, S: Seen> State<B, S> {
     /// What a move at the point leads to; none, where it is not legal.
     pub(crate) fn move_child(&self, point: Point) -> Option<Child>
         requires { IsOn self.now.state.game.size point }
-        ensures { result ≡ child_of self.now.state (move (number_of self.now.state.game.size point)) }
+        ensures { result
+            ≡ child_of self.now.state (move (number_of self.now.state.game.size point)) }
     {
         if !self.is_open(point) {
             return None;

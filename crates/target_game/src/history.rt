@@ -12,7 +12,8 @@ pub(crate) fn with_others(
     first: &Colouring,
     others: &[Colouring],
 ) -> Result<Vec<Colouring>, AllocError>
-    ensures { IfOk result (λ h. h.items ≡ first.now ∷ filter (λ c. not (same_cells first.now c)) others.now) }
+    ensures { IfOk result
+        (λ h. h.items ≡ first.now ∷ filter (λ c. not (same_cells first.now c)) others.now) }
 {
     let mut history = Vec::new(alloc);
     history.push(*first)?;

@@ -43,7 +43,9 @@ fn are_on_board(points: &PointSet, size: Size) -> bool
 /// Whether each of these points holds this.
 pub(crate) fn all_hold(colouring: &Colouring, points: &PointSet, cell: Cell) -> bool
     requires { All (IsOn (side_of colouring.now)) points.now }
-    ensures { result ≡ list_all (λ p. same_cell (cell_at colouring.now (number_of (side_of colouring.now) p)) cell) points.now }
+    ensures { result ≡ list_all
+        (λ p. same_cell (cell_at colouring.now (number_of (side_of colouring.now) p)) cell)
+        points.now }
 {
     for point in points.iter() {
         if colouring.get(point) != cell {
@@ -56,7 +58,8 @@ pub(crate) fn all_hold(colouring: &Colouring, points: &PointSet, cell: Cell) -> 
 /// The colour of the stones at these points, where they are stones of one colour, and at least one.
 pub fn colour_at(colouring: &Colouring, points: &PointSet) -> Option<Colour>
     requires { All (IsOn (side_of colouring.now)) points.now }
-    ensures { result ≡ one_colour (map (λ p. cell_at colouring.now (number_of (side_of colouring.now) p)) points.now) }
+    ensures { result ≡ one_colour
+        (map (λ p. cell_at colouring.now (number_of (side_of colouring.now) p)) points.now) }
 {
     let first = points.first()?;
     let Cell::Stone(colour) = colouring.get(first) else {
@@ -92,7 +95,12 @@ pub(crate) fn defender_of(
     targets: &PointSet,
     region: &PointSet,
 ) -> Result<Colour, BadProblem>
-    ensures { MatchResult result (λ x. (first_refusal (refusals size history.now place passes targets.now region.now) ≡ None) × (one_colour (map (λ p. cell_at (slice_index_or history.now place []) (number_of size p)) targets.now) ≡ Some x)) (λ e. first_refusal (refusals size history.now place passes targets.now region.now) ≡ Some e) }
+    ensures { MatchResult result
+        (λ x. (first_refusal (refusals size history.now place passes targets.now region.now) ≡ None)
+        × (one_colour (map (λ p. cell_at (slice_index_or history.now place []) (number_of size p))
+        targets.now) ≡ Some x))
+        (λ e. first_refusal (refusals size history.now place passes targets.now region.now)
+        ≡ Some e) }
 {
     if !are_of_size(history, size) || !are_on_board(targets, size) || !are_on_board(region, size) {
         return Err(BadProblem::OtherSize);

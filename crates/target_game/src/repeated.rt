@@ -25,11 +25,15 @@ fn stands_before(
     requires full { length before.now ≡ history_most }
     requires within { from ≤ length history.now }
     requires down { (j : ℕ) → j < from → slice_index before.now j ≤ j }
-    requires met { (j k : ℕ) → k < j → j < from → bucket_at history.now k ≡ bucket_at history.now j → k < slice_index before.now j }
-    requires kind { (j : ℕ) → j < from → 0 < slice_index before.now j → bucket_at history.now (slice_index before.now j - 1) ≡ bucket_at history.now j }
+    requires met { (j k : ℕ) → k < j → j < from → bucket_at history.now k ≡ bucket_at history.now j
+        → k < slice_index before.now j }
+    requires kind { (j : ℕ) → j < from → 0 < slice_index before.now j
+        → bucket_at history.now (slice_index before.now j - 1) ≡ bucket_at history.now j }
     requires first { 0 < from → bucket_at history.now (from - 1) ≡ bucket }
-    ensures yes { result ≡ true → (k : ℕ) × (k < from) × (same_cells colouring.now (slice_index_or history.now k []) ≡ true) }
-    ensures no { result ≡ false → (k : ℕ) → k < from → bucket_at history.now k ≡ bucket → same_cells colouring.now (slice_index_or history.now k []) ≡ false }
+    ensures yes { result ≡ true → (k : ℕ) × (k < from)
+        × (same_cells colouring.now (slice_index_or history.now k []) ≡ true) }
+    ensures no { result ≡ false → (k : ℕ) → k < from → bucket_at history.now k ≡ bucket
+        → same_cells colouring.now (slice_index_or history.now k []) ≡ false }
 {
     let mut at = from;
     'chain: while at > 0 {

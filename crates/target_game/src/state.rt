@@ -55,9 +55,11 @@ impl<B: Board, S: Seen> Model for State<B, S> {
 
     ghost Value = { Line };
 
-    ghost view = { λ a. kept_line (kept_game a.played.size a.targets a.defender a.region) a.mover a.played };
+    ghost view = { λ a. kept_line (kept_game a.played.size a.targets a.defender a.region) a.mover
+        a.played };
 
-    ghost invariant = { λ a. All (IsOn a.played.size) a.targets × All (IsOn a.played.size) a.region };
+    ghost invariant = { λ a. All (IsOn a.played.size) a.targets
+        × All (IsOn a.played.size) a.region };
 }
 
 // The same, of a state.
@@ -107,9 +109,16 @@ impl<B: Board, S: Seen> State<B, S> {
     ) -> Result<State<B, S>, AtFault>
         requires size { side_of colouring.now ≡ problem.now.game.size }
         requires few { passes ≤ 1 }
-        ensures ok { IfOk result (λ s. s ≡ record { state = state_alone problem.now.game colouring.now mover passes; before = [] }) }
-        ensures liberties { OnOk result (first_without_liberty problem.now.game.size colouring.now ≡ None) }
-        ensures err { IfErr result (λ e. IsAtFault problem.now.game.size (first_without_liberty problem.now.game.size colouring.now) e) }
+        ensures ok { IfOk result
+            (λ s. s ≡ record {
+              state = state_alone problem.now.game colouring.now mover passes;
+              before = [];
+            }) }
+        ensures liberties { OnOk result
+            (first_without_liberty problem.now.game.size colouring.now ≡ None) }
+        ensures err { IfErr result
+            (λ e. IsAtFault problem.now.game.size
+            (first_without_liberty problem.now.game.size colouring.now) e) }
     {
         match Record::with_history(alloc, &[*colouring], 0, passes) {
             Ok(played) => Ok(State {
@@ -136,9 +145,17 @@ impl<B: Board, S: Seen> State<B, S> {
         requires sizes { All (λ c. side_of c ≡ problem.now.game.size) others.now }
         requires once { IsFalse (repeats others.now) }
         requires few { passes ≤ 1 }
-        ensures ok { IfOk result (λ s. s ≡ record { state = state_with problem.now.game colouring.now others.now mover passes; before = [] }) }
-        ensures liberties { OnOk result (first_without_liberty problem.now.game.size colouring.now ≡ None) }
-        ensures err { IfErr result (λ e. (e ≡ AtFault.Memory) ⊎ IsAtFault problem.now.game.size (first_without_liberty problem.now.game.size colouring.now) e) }
+        ensures ok { IfOk result
+            (λ s. s ≡ record {
+              state = state_with problem.now.game colouring.now others.now mover
+                  passes;
+              before = [];
+            }) }
+        ensures liberties { OnOk result
+            (first_without_liberty problem.now.game.size colouring.now ≡ None) }
+        ensures err { IfErr result (λ e. (e ≡ AtFault.Memory)
+            ⊎ IsAtFault problem.now.game.size
+            (first_without_liberty problem.now.game.size colouring.now) e) }
     {
         let Ok(history) = with_others(alloc, colouring, others) else {
             return Err(AtFault::Memory);
@@ -165,9 +182,16 @@ impl<B: Board, S: Seen> State<B, S> {
     ) -> Result<(), AtFault>
         requires size { side_of colouring.now ≡ self.old.state.game.size }
         requires few { passes ≤ 1 }
-        ensures ok { OnOk result (self.new ≡ record { state = state_alone self.old.state.game colouring.now mover passes; before = [] }) }
-        ensures liberties { OnOk result (first_without_liberty self.old.state.game.size colouring.now ≡ None) }
-        ensures err { IfErr result (λ e. IsAtFault self.old.state.game.size (first_without_liberty self.old.state.game.size colouring.now) e) }
+        ensures ok { OnOk result
+            (self.new ≡ record {
+              state = state_alone self.old.state.game colouring.now mover passes;
+              before = [];
+            }) }
+        ensures liberties { OnOk result
+            (first_without_liberty self.old.state.game.size colouring.now ≡ None) }
+        ensures err { IfErr result
+            (λ e. IsAtFault self.old.state.game.size
+            (first_without_liberty self.old.state.game.size colouring.now) e) }
         ensures kept { OnErr result (self.new ≡ self.old) }
     {
         match self.played.reopen(alloc, colouring, passes) {
@@ -213,7 +237,10 @@ impl<B: Board, S: Seen> State<B, S> {
     /// Whether the point is an empty point of the region.
     pub fn is_open(&self, point: Point) -> bool
         requires { IsOn self.now.state.game.size point }
-        ensures { result ≡ holds_point self.now.state.game.region (number_of self.now.state.game.size point) && same_cell (cell_at self.now.state.colouring (number_of self.now.state.game.size point)) Empty }
+        ensures { result
+            ≡ holds_point self.now.state.game.region (number_of self.now.state.game.size point) &&
+            same_cell (cell_at self.now.state.colouring (number_of self.now.state.game.size point))
+            Empty }
     {
         self.region.has(point) && self.played.cell(point).is_empty()
     }
@@ -221,7 +248,8 @@ impl<B: Board, S: Seen> State<B, S> {
     /// The first empty point of the region whose number is not below this one.
     pub fn next_open(&self, from: usize) -> Option<Point>
         ensures some { IfSome result (λ p. IsNextOpen self.now.state from p) }
-        ensures none { IfNone result (NoneLegal self.now.state from (self.now.state.game.size * self.now.state.game.size)) }
+        ensures none { IfNone result
+            (NoneLegal self.now.state from (self.now.state.game.size * self.now.state.game.size)) }
     {
         let size = self.size();
         let mut number = from;
@@ -240,8 +268,12 @@ impl<B: Board, S: Seen> State<B, S> {
     /// What stands after the mover's move at an empty point.
     pub(crate) fn position_after(&self, point: Point) -> KeyedColouring
         requires on_board { IsOn self.now.state.game.size point }
-        requires empty { same_cell (cell_at self.now.state.colouring (number_of self.now.state.game.size point)) Empty ≡ true }
-        ensures value { result ≡ after_move self.now.state.game.size self.now.state.colouring self.now.state.mover (number_of self.now.state.game.size point) }
+        requires empty { same_cell
+            (cell_at self.now.state.colouring (number_of self.now.state.game.size point)) Empty
+            ≡ true }
+        ensures value { result
+            ≡ after_move self.now.state.game.size self.now.state.colouring self.now.state.mover
+            (number_of self.now.state.game.size point) }
         ensures size { side_of result ≡ self.now.state.game.size }
     {
         let board = self.played.board();
@@ -294,8 +326,12 @@ impl<B: Board, S: Seen> State<B, S> {
     /// The colouring after the mover's move at an empty point.
     pub fn result(&self, point: Point) -> Colouring
         requires on_board { IsOn self.now.state.game.size point }
-        requires empty { same_cell (cell_at self.now.state.colouring (number_of self.now.state.game.size point)) Empty ≡ true }
-        ensures { result ≡ after_move self.now.state.game.size self.now.state.colouring self.now.state.mover (number_of self.now.state.game.size point) }
+        requires empty { same_cell
+            (cell_at self.now.state.colouring (number_of self.now.state.game.size point)) Empty
+            ≡ true }
+        ensures { result
+            ≡ after_move self.now.state.game.size self.now.state.colouring self.now.state.mover
+            (number_of self.now.state.game.size point) }
     {
         *self.position_after(point).colouring()
     }
@@ -312,7 +348,11 @@ impl<B: Board, S: Seen> State<B, S> {
     pub fn after(&mut self, turn: Turn) -> Result<(), AllocError>
         requires open { over self.old.state ≡ None }
         requires legal { IsTrue (legal self.old.state (ply_of self.old.state.game.size turn)) }
-        ensures ok { OnOk result (self.new ≡ record { state = next self.old.state (ply_of self.old.state.game.size turn); before = self.old.state ∷ self.old.before }) }
+        ensures ok { OnOk result
+            (self.new ≡ record {
+              state = next self.old.state (ply_of self.old.state.game.size turn);
+              before = self.old.state ∷ self.old.before;
+            }) }
         ensures err { OnErr result (self.new ≡ self.old) }
     {
         if self.played.play(self.mover, turn).is_err() {
@@ -325,8 +365,10 @@ impl<B: Board, S: Seen> State<B, S> {
     /// Makes the turn where it is legal, and answers whether it was; where it is not, and where memory was refused, nothing changes. A move is played once.
     pub fn try_after(&mut self, turn: Turn) -> Result<bool, AllocError>
         requires open { over self.old.state ≡ None }
-        ensures legal { IfOk result (λ made. made ≡ legal self.old.state (ply_of self.old.state.game.size turn)) }
-        ensures state { IfOk result (λ made. self.new ≡ line_if made self.old (ply_of self.old.state.game.size turn)) }
+        ensures legal { IfOk result
+            (λ made. made ≡ legal self.old.state (ply_of self.old.state.game.size turn)) }
+        ensures state { IfOk result
+            (λ made. self.new ≡ line_if made self.old (ply_of self.old.state.game.size turn)) }
         ensures err { OnErr result (self.new ≡ self.old) }
     {
         match turn {
@@ -349,9 +391,16 @@ impl<B: Board, S: Seen> State<B, S> {
     /// Makes the move at an empty point of the region where it repeats nothing, and answers whether it was made.
     pub(crate) fn try_move(&mut self, point: Point) -> Result<bool, AllocError>
         requires on_board { IsOn self.old.state.game.size point }
-        requires free { (holds_point self.old.state.game.region (number_of self.old.state.game.size point) && same_cell (cell_at self.old.state.colouring (number_of self.old.state.game.size point)) Empty) ≡ true }
-        ensures legal { IfOk result (λ made. made ≡ legal self.old.state (move (number_of self.old.state.game.size point))) }
-        ensures state { IfOk result (λ made. self.new ≡ line_if made self.old (move (number_of self.old.state.game.size point))) }
+        requires free { (holds_point self.old.state.game.region
+            (number_of self.old.state.game.size point) && same_cell
+            (cell_at self.old.state.colouring (number_of self.old.state.game.size point)) Empty)
+            ≡ true }
+        ensures legal { IfOk result
+            (λ made. made ≡ legal self.old.state
+            (move (number_of self.old.state.game.size point))) }
+        ensures state { IfOk result
+            (λ made. self.new ≡ line_if made self.old
+            (move (number_of self.old.state.game.size point))) }
         ensures err { OnErr result (self.new ≡ self.old) }
     {
         if let Err(fault) = self.played.play(self.mover, Turn::At(point)) {

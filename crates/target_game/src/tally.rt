@@ -93,7 +93,8 @@ impl Tally {
 
     /// Who can force a win.
     pub(crate) fn decision(self) -> Within
-        ensures { result ≡ (if self.black then Wins Black else (if self.white then Wins White else Neither)) }
+        ensures { result
+            ≡ (if self.black then Wins Black else (if self.white then Wins White else Neither)) }
     {
         if self.black {
             Within::Wins(Colour::Black)
@@ -131,7 +132,8 @@ pub(crate) fn tally_state(
 
 /// The tally of a state that is itself counted already, where each turn is the last: none of them is made.
 fn tally_last_turns(state: &PlayState, left: u64) -> Option<Tally>
-    ensures { result ≡ with_turns state.now.state 0 (legal_turns state.now.state) (before_turns state.now.state.mover left) }
+    ensures { result ≡ with_turns state.now.state 0 (legal_turns state.now.state)
+        (before_turns state.now.state.mover left) }
 {
     let mover = state.mover();
     let mut seen = Tally::before_turns(mover, left);
@@ -150,7 +152,9 @@ fn tally_last_turns(state: &PlayState, left: u64) -> Option<Tally>
 fn tally_turns(state: &mut PlayState, turns: u32, left: u64) -> Result<Option<Tally>, AllocError>
     requires open { over state.old.state ≡ None }
     ensures state { OnOk result (state.new ≡ state.old) }
-    ensures tally { IfOk result (λ r. r ≡ with_turns state.old.state turns (legal_turns state.old.state) (before_turns state.old.state.mover left)) }
+    ensures tally { IfOk result
+        (λ r. r ≡ with_turns state.old.state turns (legal_turns state.old.state)
+        (before_turns state.old.state.mover left)) }
 {
     let mover = state.mover();
     let mut seen = Tally::before_turns(mover, left);

@@ -38,8 +38,11 @@ impl<B: Board, S: Seen> State<B, S> {
     /// The first legal move at a point whose number is not below this one, and what it leads to.
     fn next_move(&self, from: usize) -> Option<(Point, Child)>
         ensures some { IfSome result (λ m. IsNextMove self.now.state from m.0) }
-        ensures child { IfSome result (λ m. child_of self.now.state (move (number_of self.now.state.game.size m.0)) ≡ Some m.1) }
-        ensures none { IfNone result (NoneLegal self.now.state from (self.now.state.game.size * self.now.state.game.size)) }
+        ensures child { IfSome result
+            (λ m. child_of self.now.state (move (number_of self.now.state.game.size m.0))
+            ≡ Some m.1) }
+        ensures none { IfNone result
+            (NoneLegal self.now.state from (self.now.state.game.size * self.now.state.game.size)) }
     {
         let size = self.size();
         let mut number = from;
@@ -69,8 +72,10 @@ impl<B: Board, S: Seen> State<B, S> {
     ///
     /// It asks the empty points of the region up to that turn, each at the cost of a move.
     pub fn next_child(&self, left: &mut TurnsLeft) -> Option<(Turn, Child)>
-        ensures takes { Takes self.now.state left.old.next (option_map (λ r. ply_of self.now.state.game.size r.0) result) left.new.next }
-        ensures child { IfSome result (λ r. child_of self.now.state (ply_of self.now.state.game.size r.0) ≡ Some r.1) }
+        ensures takes { Takes self.now.state left.old.next
+            (option_map (λ r. ply_of self.now.state.game.size r.0) result) left.new.next }
+        ensures child { IfSome result
+            (λ r. child_of self.now.state (ply_of self.now.state.game.size r.0) ≡ Some r.1) }
     {
         let Some(first) = left.next else {
             return None;
@@ -85,7 +90,8 @@ impl<B: Board, S: Seen> State<B, S> {
 
     /// Takes the next of the legal turns that are left, which is not made; none, where none is left. It costs what `next_child` does.
     pub fn next_left(&self, left: &mut TurnsLeft) -> Option<Turn>
-        ensures { Takes self.now.state left.old.next (option_map (ply_of self.now.state.game.size) result) left.new.next }
+        ensures { Takes self.now.state left.old.next
+            (option_map (ply_of self.now.state.game.size) result) left.new.next }
     {
         match self.next_child(left) {
             Some((turn, _child)) => Some(turn),
@@ -95,7 +101,8 @@ impl<B: Board, S: Seen> State<B, S> {
 
     /// The legal turns, points ascending and then pass; none where somebody has won.
     pub fn turns(&self) -> ArrayVec<Turn, MAX_TURNS>
-        ensures { map (ply_of self.now.state.game.size) result.items ≡ (if is_none (over self.now.state) then legal_turns self.now.state else []) }
+        ensures { map (ply_of self.now.state.game.size) result.items
+            ≡ (if is_none (over self.now.state) then legal_turns self.now.state else []) }
     {
         let mut all = ArrayVec::new();
         if self.over().is_some() {
@@ -114,8 +121,12 @@ impl<B: Board, S: Seen> State<B, S> {
     fn make_next_move(&mut self, from: usize) -> Result<Option<Point>, AllocError>
         requires open { over self.old.state ≡ None }
         ensures some { IfOk result (λ o. IfSome o (λ p. IsNextMove self.old.state from p)) }
-        ensures none { IfOk result (λ o. IfNone o (NoneLegal self.old.state from (self.old.state.game.size * self.old.state.game.size))) }
-        ensures state { IfOk result (λ o. self.new ≡ line_with self.old (option_map (λ p. move (number_of self.old.state.game.size p)) o)) }
+        ensures none { IfOk result
+            (λ o. IfNone o (NoneLegal self.old.state from
+            (self.old.state.game.size * self.old.state.game.size))) }
+        ensures state { IfOk result
+            (λ o. self.new ≡ line_with self.old
+            (option_map (λ p. move (number_of self.old.state.game.size p)) o)) }
         ensures err { OnErr result (self.new ≡ self.old) }
     {
         let size = self.size();
@@ -135,8 +146,11 @@ impl<B: Board, S: Seen> State<B, S> {
     /// Makes the next of the legal turns that are left, and takes it off; none, where none is left. Each move that is asked is played once. Where memory is refused nothing changes.
     pub fn after_next(&mut self, left: &mut TurnsLeft) -> Result<Option<Turn>, AllocError>
         requires open { over self.old.state ≡ None }
-        ensures takes { IfOk result (λ t. Takes self.old.state left.old.next (option_map (ply_of self.old.state.game.size) t) left.new.next) }
-        ensures state { IfOk result (λ t. self.new ≡ line_with self.old (option_map (ply_of self.old.state.game.size) t)) }
+        ensures takes { IfOk result
+            (λ t. Takes self.old.state left.old.next
+            (option_map (ply_of self.old.state.game.size) t) left.new.next) }
+        ensures state { IfOk result
+            (λ t. self.new ≡ line_with self.old (option_map (ply_of self.old.state.game.size) t)) }
         ensures err { OnErr result (self.new ≡ self.old) }
     {
         let Some(first) = left.next else {

@@ -15,7 +15,8 @@ const BLOCK: usize = 65_536;
 /// Appends what the reader has, in blocks. True where the reader has ended; false where a read fails, or where the input
 /// has 64 MiB or more.
 pub fn read_whole<R: Read>(reader: &mut R, into: &mut Vec<u8>) -> Result<bool, AllocError>
-    ensures bytes { OnOk result ((bytes : List ℕ) × (into.new.items ≡ into.old.items ++ bytes) × Consumes (R.remaining reader.old) (R.remaining reader.new) bytes) }
+    ensures bytes { OnOk result ((bytes : List ℕ) × (into.new.items ≡ into.old.items ++ bytes)
+        × Consumes (R.remaining reader.old) (R.remaining reader.new) bytes) }
     ensures end { IfOk result (λ whole. IsTrue whole → IsAtEnd (R.remaining reader.new)) }
 {
     let mut block = [0u8; BLOCK];

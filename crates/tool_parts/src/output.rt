@@ -22,7 +22,8 @@ pub enum Output {
 
 /// Writes what there is; that memory was refused has a text of its own. The answer is how the run ends.
 pub fn write_output<W: Write>(writer: &mut W, output: Result<Output, AllocError>) -> Status
-    ensures written { IfOk output (λ o. result ≢ Failed → Appends (W.contents writer.old) (W.contents writer.new) (bytes_of o)) }
+    ensures written { IfOk output (λ o. result ≢ Failed
+        → Appends (W.contents writer.old) (W.contents writer.new) (bytes_of o)) }
     ensures status { IfOk output (λ o. result ≢ Failed → result ≡ end_of o) }
     ensures memory { IsTrue (is_err output) → result ≡ Failed }
 {

@@ -40,7 +40,8 @@ impl Status {
 
 /// Writes the whole text and answers with this status, or `Failed` where a write fails.
 pub fn write_text<W: Write>(writer: &mut W, text: &[u8], status: Status) -> Status
-    ensures written { result ≢ Failed → Appends (W.contents writer.old) (W.contents writer.new) text.now }
+    ensures written { result ≢ Failed
+        → Appends (W.contents writer.old) (W.contents writer.new) text.now }
     ensures status { (result ≡ status) ⊎ (result ≡ Failed) }
 {
     match write_bytes(text, writer) {
@@ -51,7 +52,8 @@ pub fn write_text<W: Write>(writer: &mut W, text: &[u8], status: Status) -> Stat
 
 /// Writes the record and a line feed. `Failed` where a write fails.
 pub fn write_record<W: Write>(writer: &mut W, tree: &Tree) -> Status
-    ensures written { result ≢ Failed → Appends (W.contents writer.old) (W.contents writer.new) (tree_text tree.now ++ 10 ∷ []) }
+    ensures written { result ≢ Failed
+        → Appends (W.contents writer.old) (W.contents writer.new) (tree_text tree.now ++ 10 ∷ []) }
     ensures status { (result ≡ Answered) ⊎ (result ≡ Failed) }
 {
     match write_tree(tree, writer) {

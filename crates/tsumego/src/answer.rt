@@ -49,8 +49,9 @@ pub fn answer<W: Write>(
     lift: bool,
     writer: &mut Counting<W>,
 ) -> Status
-    ensures { HasLeftOn (MayAnswer proof lift checked.now) (HasFailed writer.new.faults writer.new.interrupts)
-        result (W.contents writer.old.inner) (W.contents writer.new.inner) }
+    ensures { HasLeftOn (MayAnswer proof lift checked.now)
+        (HasFailed writer.new.faults writer.new.interrupts) result (W.contents writer.old.inner)
+        (W.contents writer.new.inner) }
 {
     match said_of(alloc, checked, proof, lift) {
         Ok(said) => write_text(writer, said.text.as_slice(), said.status),
@@ -142,7 +143,8 @@ fn said_with(
     requires valid { IsChecked checked.now.problem (claim_of certificate.now) }
     requires winner { certificate.now.winner ≡ checked.now.certificate.winner }
     ensures { (lift : Bool)
-        → IsWritten lift checked.now.problem (claim_of checked.now.certificate) (claim_of certificate.now)
+        → IsWritten lift checked.now.problem (claim_of checked.now.certificate)
+        (claim_of certificate.now)
         → IfOk result (λ r. MayAnswer true lift checked.now r.status r.text.items) }
 {
     accepts_valid_texts();
@@ -168,8 +170,10 @@ fn said_with(
 
 /// Writes the tree and a line feed.
 fn write_line<W: Write>(tree: &Tree, writer: &mut W) -> Result<(), WriteFault>
-    ensures written { OnOk result (Appends (W.contents writer.old) (W.contents writer.new) (line (tree_text tree.now))) }
-    ensures cut { OnErr result (TakesPart (W.contents writer.old) (W.contents writer.new) (line (tree_text tree.now))) }
+    ensures written { OnOk result
+        (Appends (W.contents writer.old) (W.contents writer.new) (line (tree_text tree.now))) }
+    ensures cut { OnErr result
+        (TakesPart (W.contents writer.old) (W.contents writer.new) (line (tree_text tree.now))) }
 {
     match write_tree(tree, writer) {
         Ok(()) => write_bytes(b"\n", writer),
@@ -179,8 +183,10 @@ fn write_line<W: Write>(tree: &Tree, writer: &mut W) -> Result<(), WriteFault>
 
 /// Writes all the bytes, a piece at a time. After a failure, which the writer has counted, it has taken a front of them.
 pub(crate) fn write_all<W: Write>(bytes: &[u8], writer: &mut Counting<W>) -> Result<(), WriteFault>
-    ensures written { OnOk result (Appends (W.contents writer.old.inner) (W.contents writer.new.inner) bytes.now) }
-    ensures cut { OnErr result (TakesPart (W.contents writer.old.inner) (W.contents writer.new.inner) bytes.now) }
+    ensures written { OnOk result
+        (Appends (W.contents writer.old.inner) (W.contents writer.new.inner) bytes.now) }
+    ensures cut { OnErr result
+        (TakesPart (W.contents writer.old.inner) (W.contents writer.new.inner) bytes.now) }
     ensures failed { OnErr result (HasFailed writer.new.faults writer.new.interrupts) }
 {
     let mut done: usize = 0;
@@ -195,7 +201,8 @@ pub(crate) fn write_all<W: Write>(bytes: &[u8], writer: &mut Counting<W>) -> Res
 
 /// Writes the whole text; a failed write has a status of its own.
 pub fn write_text<W: Write>(writer: &mut Counting<W>, text: &[u8], status: Status) -> Status
-    ensures { Writes (HasFailed writer.new.faults writer.new.interrupts) (W.contents writer.old.inner) (W.contents writer.new.inner) text.now status result }
+    ensures { Writes (HasFailed writer.new.faults writer.new.interrupts)
+        (W.contents writer.old.inner) (W.contents writer.new.inner) text.now status result }
 {
     match write_all(text, writer) {
         Ok(()) => status,

@@ -50,7 +50,9 @@ pub fn judge<R: Read>(
 }
 
 fn as_judged(reply: Result<Reply, Failure>) -> Result<Option<Reply>, Failure>
-    ensures { (q : GameProblem) (behind : List ℕ) (told : Option (List ℕ)) → IfOk reply (λ r. IsCheckedAfter q behind told r.status (string_bytes r.text)) → IfOk result (λ o. IsJudged q behind told o) }
+    ensures { (q : GameProblem) (behind : List ℕ) (told : Option (List ℕ))
+        → IfOk reply (λ r. IsCheckedAfter q behind told r.status (string_bytes r.text))
+        → IfOk result (λ o. IsJudged q behind told o) }
 {
     match reply {
         Ok(reply) => Ok(Some(reply)),
@@ -65,7 +67,9 @@ fn judge_lines<R: Read>(
     front: &[u8],
     reader: &mut R,
 ) -> Result<Reply, Failure>
-    ensures { IfOk result (λ r. IsJudgedAfter problem.now front.now (R.remaining reader.old) r.status (string_bytes r.text)) }
+    ensures { IfOk result
+        (λ r. IsJudgedAfter problem.now front.now (R.remaining reader.old) r.status
+        (string_bytes r.text)) }
 {
     readers_judged();
     let mut source = ReaderSource::new(problem.size(), front, reader);

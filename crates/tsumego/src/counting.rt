@@ -68,7 +68,8 @@ impl<R: Read> Counting<R> {
     /// A read of the device, which is asked again where it was interrupted.
     pub fn ask(&mut self, buf: &mut [u8]) -> io::Result<usize>
         ensures bound { ReadsAtMost result buf.new }
-        ensures bytes { ReadConsumes (R.remaining self.old.inner) (R.remaining self.new.inner) result buf.new }
+        ensures bytes { ReadConsumes (R.remaining self.old.inner) (R.remaining self.new.inner)
+            result buf.new }
         ensures failed { OnErr result (HasFailed self.new.faults self.new.interrupts) }
     {
         while self.interrupts <= MAX_INTERRUPTS {
@@ -91,7 +92,8 @@ impl<W: Write> Counting<W> {
     /// A write of the device, which is asked again where it was interrupted.
     pub fn put(&mut self, buf: &[u8]) -> io::Result<usize>
         ensures bound { WritesAtMost result buf.now }
-        ensures bytes { WriteAppends (W.contents self.old.inner) (W.contents self.new.inner) result buf.now }
+        ensures bytes { WriteAppends (W.contents self.old.inner) (W.contents self.new.inner) result
+            buf.now }
         ensures some { IfOk result (λ n. 0 < length buf.now → 0 < n) }
         ensures failed { OnErr result (HasFailed self.new.faults self.new.interrupts) }
     {

@@ -44,8 +44,10 @@ pub fn serve_gtp<R: Read, W: Write>(
     reader: &mut Counting<R>,
     writer: &mut Counting<W>,
 ) -> Status
-    ensures { RanOn (Some Command.Gtp) (R.remaining reader.old.inner) (ReadFails (Some Command.Gtp) reader.new.faults reader.new.interrupts)
-        (HasFailed writer.new.faults writer.new.interrupts) result (W.contents writer.old.inner) (W.contents writer.new.inner) }
+    ensures { RanOn (Some Command.Gtp) (R.remaining reader.old.inner)
+        (ReadFails (Some Command.Gtp) reader.new.faults reader.new.interrupts)
+        (HasFailed writer.new.faults writer.new.interrupts) result (W.contents writer.old.inner)
+        (W.contents writer.new.inner) }
 {
     match run_over::<Counted, Counted, Counting<R>, Counting<W>>(alloc, reader, writer) {
         Ok(()) => Status::Answered,

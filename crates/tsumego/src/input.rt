@@ -45,8 +45,11 @@ pub fn read_to_limit<R: Read>(
     limit: usize,
 ) -> Result<Reading, AllocError>
     requires { length into.old.items ≤ limit }
-    ensures bytes { OnOk result ((bytes : List ℕ) × (into.new.items ≡ into.old.items ++ bytes) × Consumes (R.remaining reader.old) (R.remaining reader.new) bytes) }
-    ensures asked { (bytes : List ℕ) × Consumes (R.remaining reader.old) (R.remaining reader.new) bytes × (length into.old.items + length bytes ≤ limit) }
+    ensures bytes { OnOk result ((bytes : List ℕ) × (into.new.items ≡ into.old.items ++ bytes)
+        × Consumes (R.remaining reader.old) (R.remaining reader.new) bytes) }
+    ensures asked { (bytes : List ℕ)
+        × Consumes (R.remaining reader.old) (R.remaining reader.new) bytes
+        × (length into.old.items + length bytes ≤ limit) }
     ensures end { IfOk result (λ r. r ≡ Reading.Whole → IsAtEnd (R.remaining reader.new)) }
     ensures full { IfOk result (λ r. r ≡ Reading.Full → length into.new.items ≡ limit) }
 {
@@ -77,7 +80,8 @@ pub fn skip_white(text: &[u8]) -> &[u8]
 
 /// The first byte that is no white space, after fewer than so many that are. It is read byte by byte.
 pub fn read_past_white<R: Read>(reader: &mut R, room: usize) -> Result<White, ReadFailed>
-    ensures { IfOk result (λ o. IsPastWhite room (R.remaining reader.old) (R.remaining reader.new) o) }
+    ensures { IfOk result
+        (λ o. IsPastWhite room (R.remaining reader.old) (R.remaining reader.new) o) }
 {
     let mut byte = [0u8; 1];
     for _ in 0..room {

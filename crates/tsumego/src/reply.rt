@@ -91,7 +91,9 @@ pub fn reply_to<R: Read>(
 }
 
 fn as_text(reply: Result<Reply, Failure>) -> Result<Response, Failure>
-    ensures { (command : Command) (front : List ℕ) (told : Option (List ℕ)) → IfOk reply (λ r. SaysAfter command front told r.status (string_bytes r.text)) → IfOk result (λ r. IsReplyAfter command front told r) }
+    ensures { (command : Command) (front : List ℕ) (told : Option (List ℕ))
+        → IfOk reply (λ r. SaysAfter command front told r.status (string_bytes r.text))
+        → IfOk result (λ r. IsReplyAfter command front told r) }
 {
     match reply {
         Ok(reply) => Ok(Response::Text(reply)),
@@ -100,7 +102,9 @@ fn as_text(reply: Result<Reply, Failure>) -> Result<Response, Failure>
 }
 
 fn as_response(reply: Result<Option<Reply>, Failure>) -> Result<Response, Failure>
-    ensures { (command : Command) (front : List ℕ) (told : Option (List ℕ)) → IfOk reply (λ o. IsSaidAfter command front told o) → IfOk result (λ r. IsReplyAfter command front told r) }
+    ensures { (command : Command) (front : List ℕ) (told : Option (List ℕ))
+        → IfOk reply (λ o. IsSaidAfter command front told o)
+        → IfOk result (λ r. IsReplyAfter command front told r) }
 {
     match reply {
         Ok(Some(reply)) => Ok(Response::Text(reply)),
@@ -111,7 +115,9 @@ fn as_response(reply: Result<Option<Reply>, Failure>) -> Result<Response, Failur
 
 /// What is answered where there is no record, whatever the command.
 fn refused(none: NoRecord) -> Result<Reply, Failure>
-    ensures { (command : Command) (bytes : List ℕ) → IsFalse (is_session command) → HasNoRecord bytes none → IfOk result (λ r. Says command bytes r.status (string_bytes r.text)) }
+    ensures { (command : Command) (bytes : List ℕ) → IsFalse (is_session command)
+        → HasNoRecord bytes none
+        → IfOk result (λ r. Says command bytes r.status (string_bytes r.text)) }
 {
     match none {
         NoRecord::Refused(text) => Ok(Reply {
@@ -125,7 +131,9 @@ fn refused(none: NoRecord) -> Result<Reply, Failure>
 /// Decides by full search who can force a win.
 fn within(alloc: Global, problem: &Problem, turns: u32, nodes: u64) -> Result<Reply, Failure>
     requires { turns ≤ 200 }
-    ensures { IfOk result (λ r. (r.status, string_bytes r.text) ≡ within_answer (decision (start problem.now) turns nodes)) }
+    ensures { IfOk result
+        (λ r. (r.status, string_bytes r.text)
+        ≡ within_answer (decision (start problem.now) turns nodes)) }
 {
     match decide_within(alloc, problem, turns, nodes) {
         Ok(Within::Wins(winner)) => said(alloc, Status::Answered, wins_text(winner)),
@@ -138,7 +146,9 @@ fn within(alloc: Global, problem: &Problem, turns: u32, nodes: u64) -> Result<Re
 /// Audits the tree below the problem node.
 fn audited(alloc: Global, problem: &Problem, tree: &Tree) -> Result<Reply, Failure>
     requires { IsSome (problem_node tree.now) }
-    ensures { IfOk result (λ r. (r.status, string_bytes r.text) ≡ audit_answer problem.now.game.size (audit problem.now tree.now)) }
+    ensures { IfOk result
+        (λ r. (r.status, string_bytes r.text)
+        ≡ audit_answer problem.now.game.size (audit problem.now tree.now)) }
 {
     match audit(alloc, problem, tree) {
         Ok(winner) => said(alloc, Status::Answered, wins_text(winner)),

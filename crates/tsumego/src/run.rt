@@ -38,9 +38,12 @@ pub fn run<S: AsStr, R: Read, W: Write>(
 ) -> Status
     requires reads { (reader.old.faults ≡ 0) × (reader.old.interrupts ≡ 0) }
     requires writes { (writer.old.faults ≡ 0) × (writer.old.interrupts ≡ 0) }
-    ensures ran { RanOn (command_of (map S.text words.now)) (R.remaining reader.old.inner) (ReadFails (command_of (map S.text words.now)) reader.new.faults reader.new.interrupts)
-        (HasFailed writer.new.faults writer.new.interrupts) result (W.contents writer.old.inner) (W.contents writer.new.inner) }
-    ensures asked { MayAsk (command_of (map S.text words.now)) (R.remaining reader.old.inner) (R.remaining reader.new.inner) }
+    ensures ran { RanOn (command_of (map S.text words.now)) (R.remaining reader.old.inner)
+        (ReadFails (command_of (map S.text words.now)) reader.new.faults reader.new.interrupts)
+        (HasFailed writer.new.faults writer.new.interrupts) result (W.contents writer.old.inner)
+        (W.contents writer.new.inner) }
+    ensures asked { MayAsk (command_of (map S.text words.now)) (R.remaining reader.old.inner)
+        (R.remaining reader.new.inner) }
 {
     match read_command(alloc, words) {
         Ok(command) => obey(alloc, command, reader, writer),
@@ -57,9 +60,12 @@ fn obey<R: Read, W: Write>(
     writer: &mut Counting<W>,
 ) -> Status
     requires { FitsRanges command }
-    ensures ran { RanOn (Some command) (R.remaining reader.old.inner) (ReadFails (Some command) reader.new.faults reader.new.interrupts)
-        (HasFailed writer.new.faults writer.new.interrupts) result (W.contents writer.old.inner) (W.contents writer.new.inner) }
-    ensures asked { MayAsk (Some command) (R.remaining reader.old.inner) (R.remaining reader.new.inner) }
+    ensures ran { RanOn (Some command) (R.remaining reader.old.inner)
+        (ReadFails (Some command) reader.new.faults reader.new.interrupts)
+        (HasFailed writer.new.faults writer.new.interrupts) result (W.contents writer.old.inner)
+        (W.contents writer.new.inner) }
+    ensures asked { MayAsk (Some command) (R.remaining reader.old.inner)
+        (R.remaining reader.new.inner) }
 {
     if command.is_session() {
         return serve_gtp(alloc, reader, writer);
@@ -89,7 +95,8 @@ fn obey<R: Read, W: Write>(
 fn answer_of<R: Read>(alloc: Global, command: Command, reader: &mut R) -> Result<Response, Failure>
     requires fits { FitsRanges command }
     requires whole { IsFalse (is_session command) }
-    ensures reply { IfOk result (λ r. (bytes : List ℕ) × Tells (R.remaining reader.old) bytes × IsReply command bytes r) }
+    ensures reply { IfOk result (λ r. (bytes : List ℕ) × Tells (R.remaining reader.old) bytes
+        × IsReply command bytes r) }
     ensures asked { MayAsk (Some command) (R.remaining reader.old) (R.remaining reader.new) }
 {
     let mut front = Vec::new(alloc);

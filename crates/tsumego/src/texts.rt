@@ -121,7 +121,8 @@ pub fn problem_refusal(alloc: Global, fault: ProblemFault) -> Result<String, All
 
 /// Why a line of a claim is refused. The cause is not want of memory.
 pub fn reject_text(alloc: Global, size: Size, reject: &Reject) -> Result<String, AllocError>
-    ensures { IfOk result (λ text. (why : SpecWhy) → why_value size reject.now.why ≡ Some why → string_bytes text ≡ rejected_line_text size reject.now.place why) }
+    ensures { IfOk result (λ text. (why : SpecWhy) → why_value size reject.now.why ≡ Some why
+        → string_bytes text ≡ rejected_line_text size reject.now.place why) }
 {
     let why = why_text(alloc, size, reject.why)?;
     let place = reject.place;
@@ -129,7 +130,8 @@ pub fn reject_text(alloc: Global, size: Size, reject: &Reject) -> Result<String,
 }
 
 fn why_text(alloc: Global, size: Size, why: Why) -> Result<String, AllocError>
-    ensures { IfOk result (λ text. (w : SpecWhy) → why_value size why ≡ Some w → string_bytes text ≡ claim_fault_text size w) }
+    ensures { IfOk result (λ text. (w : SpecWhy) → why_value size why ≡ Some w
+        → string_bytes text ≡ claim_fault_text size w) }
 {
     match why {
         Why::Malformed => format!(in alloc; "C01 malformed"),
@@ -159,7 +161,9 @@ fn why_text(alloc: Global, size: Size, why: Why) -> Result<String, AllocError>
 
 /// Why a node of an answer tree is refused. The cause is not want of memory.
 pub fn node_reject_text(alloc: Global, size: Size, fault: &AuditFault) -> Result<String, AllocError>
-    ensures { IfOk result (λ text. (why : NodeWhy) → node_why size fault.now.why ≡ Some why → string_bytes text ≡ rejected_node_text size (record { node = fault.now.node; why = why })) }
+    ensures { IfOk result (λ text. (why : NodeWhy) → node_why size fault.now.why ≡ Some why
+        → string_bytes text ≡ rejected_node_text size
+        (record { node = fault.now.node; why = why })) }
 {
     let why = node_why_text(alloc, size, fault.why)?;
     let node = fault.node;
@@ -167,7 +171,8 @@ pub fn node_reject_text(alloc: Global, size: Size, fault: &AuditFault) -> Result
 }
 
 fn node_why_text(alloc: Global, size: Size, why: AuditWhy) -> Result<String, AllocError>
-    ensures { IfOk result (λ text. (w : NodeWhy) → node_why size why ≡ Some w → string_bytes text ≡ audit_fault_text size w) }
+    ensures { IfOk result (λ text. (w : NodeWhy) → node_why size why ≡ Some w
+        → string_bytes text ≡ audit_fault_text size w) }
 {
     match why {
         AuditWhy::NoTurn => format!(in alloc; "A01 no turn"),

@@ -128,7 +128,8 @@ pub fn past_nodes(alloc: Global, problem: &Problem) -> Result<Vec<SgfNode>, Allo
 /// The letters of the points of a set.
 fn point_values(alloc: Global, size: Size, set: &PointSet) -> Result<Vec<Bytes>, AllocError>
     requires { All (IsOn size) set.now }
-    ensures { IfOk result (λ values. values.items ≡ point_values size (map (number_of size) set.now)) }
+    ensures { IfOk result
+        (λ values. values.items ≡ point_values size (map (number_of size) set.now)) }
 {
     let mut values = Vec::new(alloc);
     for point in set.iter() {
@@ -190,7 +191,8 @@ pub fn marks_with_winner(
     problem: &Problem,
     winner: Colour,
 ) -> Result<SgfNode, AllocError>
-    ensures { IfOk result (λ node. node ≡ marks problem.now ++ property (codes "C") (verdict_text winner ∷ [])) }
+    ensures { IfOk result
+        (λ node. node ≡ marks problem.now ++ property (codes "C") (verdict_text winner ∷ [])) }
 {
     let mut properties = mark_properties(alloc, problem)?;
     push_one(alloc, &mut properties, b"C", verdict_text(winner))?;

@@ -77,8 +77,10 @@ fn add(number: Option<usize>, more: usize) -> Option<usize>
 /// The problem node, the first node of the main line that has TR or SQ. `None` where there is none.
 pub fn locate<'a>(tree: &'a Tree) -> Option<Mark<'a>>
     ensures found { is_some result ≡ is_some (problem_node tree.now) }
-    ensures number { IfSome result (λ m. m.number ≡ option_and_then usize_of (problem_node tree.now)) }
-    ensures below { IfSome result (λ m. below_problem tree.now ≡ Some (children_of m.nodes.now (forest_of m.children.now))) }
+    ensures number { IfSome result
+        (λ m. m.number ≡ option_and_then usize_of (problem_node tree.now)) }
+    ensures below { IfSome result
+        (λ m. below_problem tree.now ≡ Some (children_of m.nodes.now (forest_of m.children.now))) }
     ensures forest { IfSome result (λ m. IsTrue (is_forest (forest_of m.children.now))) }
 {
     let mut part = tree;

@@ -15,7 +15,8 @@ use sgf_text::{Bytes, SgfNode};
 
 /// Whether the point is neither left of nor above the first, and neither right of nor below the last.
 fn is_inside(first: Point, last: Point, point: Point) -> bool
-    ensures { result ≡ (nat_le first.column point.column && nat_le point.column last.column && nat_le first.row point.row && nat_le point.row last.row) }
+    ensures { result ≡ (nat_le first.column point.column && nat_le point.column last.column &&
+        nat_le first.row point.row && nat_le point.row last.row) }
 {
     first.col() <= point.col()
         && point.col() <= last.col()
@@ -27,7 +28,9 @@ fn is_inside(first: Point, last: Point, point: Point) -> bool
 fn add_inside(size: Size, first: Point, last: Point, set: &mut PointSet)
     requires first { IsOn size first }
     requires last { IsOn size last }
-    ensures { Gains size (filter (inside size (number_of size first) (number_of size last)) (points size)) set.old set.new }
+    ensures { Gains size
+        (filter (inside size (number_of size first) (number_of size last)) (points size)) set.old
+        set.new }
 {
     for number in 0..size.area() {
         let point = size.point_at(number);

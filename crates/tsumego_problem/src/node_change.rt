@@ -57,7 +57,9 @@ fn cell_after(
     point: Point,
     cell: Cell,
 ) -> Cell
-    ensures { result ≡ if holds_place black.now point then Stone Black else (if holds_place white.now point then Stone White else (if holds_place empty.now point then Empty else cell)) }
+    ensures { result ≡ if holds_place black.now point then Stone Black else
+        (if holds_place white.now point then Stone White else
+        (if holds_place empty.now point then Empty else cell)) }
 {
     if black.has(point) {
         Cell::Stone(Colour::Black)
@@ -98,7 +100,9 @@ fn cells_of(
     colouring: &Colouring,
 ) -> Result<Vec<(Point, Cell)>, AllocError>
     requires { side_of colouring.now ≡ size }
-    ensures { IfOk result (λ cells. map (numbered size) cells.items ≡ map (λ p. (p, cell_at colouring.now p)) (points size)) }
+    ensures { IfOk result
+        (λ cells. map (numbered size) cells.items
+        ≡ map (λ p. (p, cell_at colouring.now p)) (points size)) }
 {
     let mut cells = Vec::new(alloc);
     for number in 0..size.area() {
@@ -119,9 +123,13 @@ fn play(
 ) -> Result<Colour, ProblemFault>
     requires size { played.old.size ≡ size }
     requires on_board { StandsOn size (ply_of size turn) }
-    ensures ok { IfOk result (λ m. turned size number colour (ply_of size turn) (walk_of played.old mover) ≡ Ok (walk_of played.new m)) }
+    ensures ok { IfOk result
+        (λ m. turned size number colour (ply_of size turn) (walk_of played.old mover)
+        ≡ Ok (walk_of played.new m)) }
     ensures size { OnOk result (played.new.size ≡ size) }
-    ensures refused { IfErr result (λ e. IsRefusal (turned size number colour (ply_of size turn) (walk_of played.old mover)) e) }
+    ensures refused { IfErr result
+        (λ e. IsRefusal (turned size number colour (ply_of size turn) (walk_of played.old mover))
+        e) }
 {
     match played.play(colour, turn) {
         Ok(()) => Ok(colour.opponent()),
@@ -161,9 +169,14 @@ fn set_up(
     node: &SgfNode,
 ) -> Result<Colour, ProblemFault>
     requires { played.old.size ≡ size }
-    ensures ok { IfOk result (λ m. let c = assigned size node.now (walk_of played.old mover).present in set_to number node.now c (walk_of played.old mover) (has_no_liberty size c) ≡ Ok (walk_of played.new m)) }
+    ensures ok { IfOk result
+        (λ m. let c = assigned size node.now (walk_of played.old mover).present in set_to number
+        node.now c (walk_of played.old mover) (has_no_liberty size c)
+        ≡ Ok (walk_of played.new m)) }
     ensures size { OnOk result (played.new.size ≡ size) }
-    ensures refused { IfErr result (λ e. let c = assigned size node.now (walk_of played.old mover).present in IsRefusal (set_to number node.now c (walk_of played.old mover) (has_no_liberty size c)) e) }
+    ensures refused { IfErr result
+        (λ e. let c = assigned size node.now (walk_of played.old mover).present in IsRefusal
+        (set_to number node.now c (walk_of played.old mover) (has_no_liberty size c)) e) }
 {
     let after = assigned(size, node, &played.colouring());
     let Ok(cells) = cells_of(alloc, size, &after) else {
@@ -185,9 +198,11 @@ pub(crate) fn change(
     node: &SgfNode,
 ) -> Result<Colour, ProblemFault>
     requires { played.old.size ≡ size }
-    ensures ok { IfOk result (λ m. changed size number node.now (walk_of played.old mover) ≡ Ok (walk_of played.new m)) }
+    ensures ok { IfOk result
+        (λ m. changed size number node.now (walk_of played.old mover) ≡ Ok (walk_of played.new m)) }
     ensures size { OnOk result (played.new.size ≡ size) }
-    ensures refused { IfErr result (λ e. IsRefusal (changed size number node.now (walk_of played.old mover)) e) }
+    ensures refused { IfErr result
+        (λ e. IsRefusal (changed size number node.now (walk_of played.old mover)) e) }
 {
     if let Some((colour, turn)) = turn_at(size, node) {
         return play(played, size, number, mover, colour, turn);

@@ -23,7 +23,10 @@ fn has_many(name: &[u8], node: &SgfNode) -> bool
 
 /// The first of B, W and PL that has several values.
 fn many_values(node: &SgfNode) -> Option<SingleProperty>
-    ensures { (k : ℕ) → option_map (λ p. faults.ManyValues p k) result ≡ first_fault (when (has_many (codes "B") node.now) (faults.ManyValues single.B k) ∷ when (has_many (codes "W") node.now) (faults.ManyValues single.W k) ∷ when (has_many (codes "PL") node.now) (faults.ManyValues single.PL k) ∷ []) }
+    ensures { (k : ℕ) → option_map (λ p. faults.ManyValues p k) result
+        ≡ first_fault (when (has_many (codes "B") node.now) (faults.ManyValues single.B k)
+        ∷ when (has_many (codes "W") node.now) (faults.ManyValues single.W k)
+        ∷ when (has_many (codes "PL") node.now) (faults.ManyValues single.PL k) ∷ []) }
 {
     if has_many(b"B", node) {
         Some(SingleProperty::B)
@@ -45,7 +48,8 @@ fn is_bad(size: Size, name: &[u8], node: &SgfNode) -> bool
 
 /// Whether a value of AB, AW, AE, TR or SQ names no points.
 fn has_bad_points(size: Size, node: &SgfNode) -> bool
-    ensures { result ≡ list_any (λ name. is_bad size name node.now) (codes "AB" ∷ codes "AW" ∷ codes "AE" ∷ codes "TR" ∷ codes "SQ" ∷ []) }
+    ensures { result ≡ list_any (λ name. is_bad size name node.now)
+        (codes "AB" ∷ codes "AW" ∷ codes "AE" ∷ codes "TR" ∷ codes "SQ" ∷ []) }
 {
     is_bad(size, b"AB", node)
         || is_bad(size, b"AW", node)
@@ -88,7 +92,9 @@ fn share_point(size: Size, first: &[u8], second: &[u8], node: &SgfNode) -> bool
 
 /// Whether two of AB, AW and AE share a point.
 fn setup_overlaps(size: Size, node: &SgfNode) -> bool
-    ensures { result ≡ (share_point size (codes "AB") (codes "AW") node.now || share_point size (codes "AB") (codes "AE") node.now || share_point size (codes "AW") (codes "AE") node.now) }
+    ensures { result ≡ (share_point size (codes "AB") (codes "AW") node.now || share_point size
+        (codes "AB") (codes "AE") node.now || share_point size (codes "AW")
+        (codes "AE") node.now) }
 {
     share_point(size, b"AB", b"AW", node)
         || share_point(size, b"AB", b"AE", node)

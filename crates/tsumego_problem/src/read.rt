@@ -52,7 +52,9 @@ fn open(alloc: Global, size: Size, root: &SgfNode) -> Result<PlayRecord, Problem
     ensures ok { IfOk result (λ r. walk_of r Black ≡ opening size root.now) }
     ensures size { IfOk result (λ r. r.size ≡ size) }
     ensures history { IfOk result (λ r. IsHistory size r.present.history) }
-    ensures refused { IfErr result (λ e. IsRefusal (walk_node (Some history_limit) size 0 root.now (opening size root.now)) e) }
+    ensures refused { IfErr result
+        (λ e. IsRefusal (walk_node (Some history_limit) size 0 root.now (opening size root.now))
+        e) }
 {
     let board = PlayBoard::new(size);
     let colouring = assigned(size, root, &board.colouring());
@@ -119,7 +121,8 @@ fn problem_at(
 /// The problem of a record: its main line is walked up to the first node with TR or SQ (SGF FF[4], with this project's own walk). Else the first refusal.
 pub fn read_problem(alloc: Global, tree: &Tree) -> Result<Problem, ProblemFault>
     ensures ok { IfOk result (λ q. problem_within (Some history_limit) tree.now ≡ Ok q) }
-    ensures refused { IfErr result (λ e. IsRefusal (problem_within (Some history_limit) tree.now) e) }
+    ensures refused { IfErr result
+        (λ e. IsRefusal (problem_within (Some history_limit) tree.now) e) }
 {
     let root = &tree.nodes()[0];
     if !is_go(root) {

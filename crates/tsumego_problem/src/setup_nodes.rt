@@ -25,7 +25,8 @@ pub(crate) fn push_property(
     name: &[u8],
     values: Vec<Bytes>,
 ) -> Result<(), AllocError>
-    ensures { OnOk result (properties.new.items ≡ properties.old.items ++ property name.now values.items) }
+    ensures { OnOk result
+        (properties.new.items ≡ properties.old.items ++ property name.now values.items) }
 {
     if values.is_empty() {
         return Ok(());
@@ -43,7 +44,8 @@ pub(crate) fn push_one(
     name: &[u8],
     value: &[u8],
 ) -> Result<(), AllocError>
-    ensures { OnOk result (properties.new.items ≡ properties.old.items ++ property name.now (value.now ∷ [])) }
+    ensures { OnOk result
+        (properties.new.items ≡ properties.old.items ++ property name.now (value.now ∷ [])) }
 {
     let mut values = Vec::new(alloc);
     values.push(Bytes::from_vec(value.to_vec(alloc)?))?;
@@ -78,7 +80,8 @@ fn changed_to(
 ) -> Result<Vec<Bytes>, AllocError>
     requires old { side_of old.now ≡ size }
     requires new { side_of new.now ≡ size }
-    ensures { IfOk result (λ values. values.items ≡ point_values size (changed_to size cell old.now new.now)) }
+    ensures { IfOk result
+        (λ values. values.items ≡ point_values size (changed_to size cell old.now new.now)) }
 {
     let mut values = Vec::new(alloc);
     for number in 0..size.area() {
@@ -100,7 +103,8 @@ fn push_changes(
 ) -> Result<(), AllocError>
     requires old { side_of old.now ≡ size }
     requires new { side_of new.now ≡ size }
-    ensures { OnOk result (properties.new.items ≡ properties.old.items ++ changes size old.now new.now) }
+    ensures { OnOk result
+        (properties.new.items ≡ properties.old.items ++ changes size old.now new.now) }
 {
     let black = changed_to(alloc, size, Cell::Stone(Colour::Black), old, new)?;
     push_property(alloc, properties, b"AB", black)?;

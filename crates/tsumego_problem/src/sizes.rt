@@ -11,7 +11,8 @@ use go_points::{MAX_SIZE, Size};
 /// The number with one more digit, where it is one and the number does not pass `MAX_SIZE`.
 fn with_digit(number: u8, digit: u8) -> Option<u8>
     requires { number ≤ MAX_SIZE }
-    ensures { result ≡ if is_digit digit && nat_le (10 * number + (digit - 48)) MAX_SIZE then Some (10 * number + (digit - 48)) else None }
+    ensures { result ≡ if is_digit digit && nat_le (10 * number + (digit - 48)) MAX_SIZE then Some
+        (10 * number + (digit - 48)) else None }
 {
     if !digit.is_ascii_digit() {
         return None;
@@ -60,7 +61,8 @@ fn colon_in(value: &[u8]) -> Option<usize>
 
 /// The board with so many rows as both these numbers say.
 fn read_square(first: &[u8], second: &[u8]) -> Option<Size>
-    ensures { result ≡ option_and_then board_of (equal (number_named first.now) (number_named second.now)) }
+    ensures { result ≡ option_and_then board_of
+        (equal (number_named first.now) (number_named second.now)) }
 {
     let Some(columns) = read_number(first) else {
         return None;

@@ -22,7 +22,9 @@ use target_game::MAX_HISTORY;
 /// Whether each of these points holds this.
 fn all_hold(colouring: &Colouring, points: &PointSet, cell: Cell) -> bool
     requires { All (IsOn (side_of colouring.now)) points.now }
-    ensures { result ≡ list_all (λ p. same_cell (cell_at colouring.now (number_of (side_of colouring.now) p)) cell) points.now }
+    ensures { result ≡ list_all
+        (λ p. same_cell (cell_at colouring.now (number_of (side_of colouring.now) p)) cell)
+        points.now }
 {
     for point in points.iter() {
         if colouring.get(point) != cell {
@@ -35,7 +37,8 @@ fn all_hold(colouring: &Colouring, points: &PointSet, cell: Cell) -> bool
 /// Whether these points are stones of one colour, one at least.
 fn are_targets(colouring: &Colouring, points: &PointSet) -> bool
     requires { All (IsOn (side_of colouring.now)) points.now }
-    ensures { result ≡ are_targets colouring.now (map (number_of (side_of colouring.now)) points.now) }
+    ensures { result ≡ are_targets colouring.now
+        (map (number_of (side_of colouring.now)) points.now) }
 {
     let Some(first) = points.first() else {
         return false;
@@ -52,7 +55,8 @@ fn late_fault(
     node: &SgfNode,
 ) -> Option<ProblemFault>
     requires { played.now.size ≡ size }
-    ensures { (mover : Colour) → result ≡ late_fault (Some history_limit) size number node.now (walk_of played.now mover) }
+    ensures { (mover : Colour)
+        → result ≡ late_fault (Some history_limit) size number node.now (walk_of played.now mover) }
 {
     if is_marked(node) && !are_targets(&played.colouring(), &points_at(size, b"TR", node)) {
         return Some(ProblemFault::BadTargets { node: number });
@@ -79,9 +83,13 @@ fn walk_node(
     node: &SgfNode,
 ) -> Result<Colour, ProblemFault>
     requires { played.old.size ≡ size }
-    ensures ok { IfOk result (λ m. walk_node (Some history_limit) size number node.now (walk_of played.old mover) ≡ Ok (walk_of played.new m)) }
+    ensures ok { IfOk result
+        (λ m. walk_node (Some history_limit) size number node.now (walk_of played.old mover)
+        ≡ Ok (walk_of played.new m)) }
     ensures size { OnOk result (played.new.size ≡ size) }
-    ensures refused { IfErr result (λ e. IsRefusal (walk_node (Some history_limit) size number node.now (walk_of played.old mover)) e) }
+    ensures refused { IfErr result
+        (λ e. IsRefusal (walk_node (Some history_limit) size number node.now
+        (walk_of played.old mover)) e) }
 {
     if let Some(fault) = node_fault(size, number, node) {
         return Err(fault);
@@ -109,9 +117,18 @@ fn walk_sequence(
     requires few { first + length part.now.nodes < 2 ^ 64 }
     ensures size { OnOk result (played.new.size ≡ size) }
     ensures place { IfOk result (λ r. IfSome r.0 (λ p. p < length part.now.nodes)) }
-    ensures marked { IfOk result (λ r. IfSome r.0 (λ p. walk_to_mark (Some history_limit) size first (main_line part.now) (walk_of played.old mover) ≡ Ok (slice_index_or part.now.nodes p [], walk_of played.new r.1))) }
-    ensures unmarked { IfOk result (λ r. r.0 ≡ None → walk_to_mark (Some history_limit) size (first + length part.now.nodes) (line_below part.now.children) (walk_of played.new r.1) ≡ walk_to_mark (Some history_limit) size first (main_line part.now) (walk_of played.old mover)) }
-    ensures refused { IfErr result (λ e. IsRefusal (walk_to_mark (Some history_limit) size first (main_line part.now) (walk_of played.old mover)) e) }
+    ensures marked { IfOk result
+        (λ r. IfSome r.0 (λ p. walk_to_mark (Some history_limit) size first (main_line part.now)
+        (walk_of played.old mover)
+        ≡ Ok (slice_index_or part.now.nodes p [], walk_of played.new r.1))) }
+    ensures unmarked { IfOk result (λ r. r.0 ≡ None
+        → walk_to_mark (Some history_limit) size (first + length part.now.nodes)
+        (line_below part.now.children) (walk_of played.new r.1)
+        ≡ walk_to_mark (Some history_limit) size first (main_line part.now)
+        (walk_of played.old mover)) }
+    ensures refused { IfErr result
+        (λ e. IsRefusal (walk_to_mark (Some history_limit) size first (main_line part.now)
+        (walk_of played.old mover)) e) }
 {
     let nodes = part.nodes();
     let mut mover = mover;
@@ -138,8 +155,12 @@ pub(crate) fn walk_line<'a>(
 ) -> Result<(&'a SgfNode, Colour), ProblemFault>
     requires size { played.old.size ≡ size }
     ensures size { OnOk result (played.new.size ≡ size) }
-    ensures ok { IfOk result (λ r. walk_to_mark (Some history_limit) size 0 (main_line tree.now) (walk_of played.old mover) ≡ Ok (r.0.now, walk_of played.new r.1)) }
-    ensures refused { IfErr result (λ e. IsRefusal (walk_to_mark (Some history_limit) size 0 (main_line tree.now) (walk_of played.old mover)) e) }
+    ensures ok { IfOk result
+        (λ r. walk_to_mark (Some history_limit) size 0 (main_line tree.now)
+        (walk_of played.old mover) ≡ Ok (r.0.now, walk_of played.new r.1)) }
+    ensures refused { IfErr result
+        (λ e. IsRefusal (walk_to_mark (Some history_limit) size 0 (main_line tree.now)
+        (walk_of played.old mover)) e) }
 {
     let mut part = tree;
     let mut first: usize = 0;

@@ -78,7 +78,8 @@ pub enum NoCommand {
 pub fn read_command<'a, S: AsStr>(alloc: Global, words: &'a [S]) -> Result<Command, NoCommand>
     ensures ok { IfOk result (λ c. command_of (map S.text words.now) ≡ Some c) }
     ensures ranges { IfOk result FitsRanges }
-    ensures refused { IfErr result (λ e. IsWordsFault e → command_of (map S.text words.now) ≡ None) }
+    ensures refused { IfErr result (λ e. IsWordsFault e
+        → command_of (map S.text words.now) ≡ None) }
     ensures fault { IfErr result (λ e. IsWordsFault e → HasFault (map S.text words.now)) }
 {
     let Ok(command) = program(alloc) else {
@@ -109,7 +110,8 @@ fn fault(alloc: Global, error: &Error) -> NoCommand
 
 /// The command that a parse found.
 fn chosen(matches: &ArgMatches<'_>) -> Option<Command>
-    ensures value { result ≡ option_and_then (λ p. command_named p.0 p.1) (subcommand_rows_of matches.now) }
+    ensures value { result
+        ≡ option_and_then (λ p. command_named p.0 p.1) (subcommand_rows_of matches.now) }
     ensures ranges { IfSome result FitsRanges }
 {
     let (name, given) = matches.subcommand()?;
@@ -176,7 +178,8 @@ fn program<'a>(alloc: Global) -> Result<clap::Command<'a>, AllocError>
 
 /// The program with the subcommands that judge: all but `solve` and `gtp`.
 fn judging<'a>(alloc: Global) -> Result<clap::Command<'a>, AllocError>
-    ensures { IfOk result (λ c. with_subcommand (with_subcommand (app_of c) solve_shape) gtp_shape ≡ grammar) }
+    ensures { IfOk result (λ c. with_subcommand (with_subcommand (app_of c) solve_shape) gtp_shape
+        ≡ grammar) }
 {
     let program = clap::Command::new(alloc, "tsumego")
         .about(
@@ -196,7 +199,8 @@ fn check_command<'a>(alloc: Global) -> clap::Command<'a>
 }
 
 fn within_command<'a>(alloc: Global) -> Result<clap::Command<'a>, AllocError>
-    ensures app { IfOk result (λ c. app_of c ≡ with_rule (with_rule (new_app (codes "within")) turns_rule) nodes_rule) }
+    ensures app { IfOk result
+        (λ c. app_of c ≡ with_rule (with_rule (new_app (codes "within")) turns_rule) nodes_rule) }
     ensures local { IfOk result (λ c. (fields_of c).has_globals ≡ false) }
 {
     let within = clap::Command::new(alloc, "within").about(
@@ -216,7 +220,10 @@ fn audit_command<'a>(alloc: Global) -> clap::Command<'a>
 }
 
 fn solve_command<'a>(alloc: Global) -> Result<clap::Command<'a>, AllocError>
-    ensures app { IfOk result (λ c. app_of c ≡ with_rule (with_rule (with_rule (with_rule (new_app (codes "solve")) steps_rule) table_rule) proof_rule) lift_rule) }
+    ensures app { IfOk result
+        (λ c. app_of c ≡ with_rule
+        (with_rule (with_rule (with_rule (new_app (codes "solve")) steps_rule) table_rule)
+        proof_rule) lift_rule) }
     ensures local { IfOk result (λ c. (fields_of c).has_globals ≡ false) }
 {
     let solve = clap::Command::new(alloc, "solve").about(

@@ -6,7 +6,7 @@ use go_turns::{PlayBoard, PlaySeen};
 use std::alloc::{AllocError, Global};
 use target_game::{Problem, State};
 
-/// So many turns of Black, each at the last legal point, and behind each the first of the replies that are due.
+/// So many turns of Black, each at the last legal point, and after each the first of the replies that are due.
 pub fn deep_path(alloc: Global, problem: &Problem, rounds: u32) -> Result<Vec<u8>, AllocError> {
     let mut state = State::of(alloc, problem)?;
     let mut text = Vec::new(alloc);

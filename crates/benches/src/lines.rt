@@ -3,7 +3,7 @@
 use go_points::{Turn, to_sgf};
 use std::alloc::AllocError;
 
-/// The bytes, behind what is there.
+/// The bytes, after what is there.
 pub fn add(text: &mut Vec<u8>, bytes: &[u8]) -> Result<(), AllocError> {
     text.extend_from_slice(bytes)?;
     Ok(())

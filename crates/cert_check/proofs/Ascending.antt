@@ -26,7 +26,7 @@ ascends_more [] c h last = (tt, tt)
 ascends_more (d ∷ []) c h last = (last, (tt, tt))
 ascends_more (d ∷ e ∷ cs) c h last = (h.0, ascends_more (e ∷ cs) c h.1 last)
 
--- each is before all behind it
+-- each is before all after it
 abbrev pub AllAbove : List Cell → List (List Cell) → Type 0
 AllAbove c [] = Unit {0}
 AllAbove c (d ∷ cs) = (text_order c d ≡ Less) × AllAbove c cs

@@ -184,7 +184,7 @@ last_fits cs c n o is long h = at o (last_of cs) (is ∙ last_get cs) h
     at None b e k = tt
     at (Some d) b e k = let there = subst (λ (x : Option (List Cell)). IfSome x (λ y. length y ≡ n)) (sym e) k in there ∙ sym long
 
--- a colouring is behind the last one
+-- a colouring is after the last one
 listed_behind : (c : List Cell) (o : Option (List Cell)) → IfSome o (λ d. length d ≡ length c) → is_after o c ≡ true → IfSome o (λ d. text_order d c ≡ Less)
 listed_behind c None long after = tt
 listed_behind c (Some d) long after = go (text_order d c) (before_is d c long ∙ after)

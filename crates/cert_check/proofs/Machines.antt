@@ -91,7 +91,7 @@ module _ (q : GameProblem) (f : Heading) (inside : Option Head) (ph : Phase) (ls
   abbrev now : Machine
   now = record { phase = ph; place = p; nodes = k; listed = i }
 
-  -- what stands behind a body
+  -- what stands after a body
   abbrev after : Unit {0} → Reading → Judged Colour
   after u r1 = then_judge (judge_end r1) (λ _ r2. behind q f inside r2)
 
@@ -267,7 +267,7 @@ then_then (faulty place why) f g = refl
 abbrev rest_of : ℕ → Game → Colour → List Head → Head → Reading → Judged Head
 rest_of m g x heads h r2 = then_judge (judge_node m (lemma_body x heads h) 1 (lemma_start g h) r2) (λ _ r3. then_judge (judge_end r3) (λ _ r4. fine h r4))
 
--- behind a first line, its lists and what follows
+-- after a first line, its lists and what follows
 abbrev lists_of : ℕ → Game → Colour → List Head → Head → Reading → Judged Head
 lists_of m g x heads h r1 = then_judge (judge_not r1) (λ absent r2. rest_of m g x heads (record h { absent = absent }) r2)
 
@@ -302,7 +302,7 @@ opening_same g heads before go go' (all_line m) r h = refl
 opening_same g heads before go go' (reply_line t) r h = refl
 opening_same g heads before go go' end_line r h = refl
 
--- a lemma behind its first line, and the lemmas behind it
+-- a lemma after its first line, and the lemmas after it
 abbrev lemma_and : ℕ → Game → ℕ → Colour → List Head → Colour → ℕ → List Cell → Reading → Judged (List Head)
 lemma_and m g v x heads mover passes root r1 = then_judge (judge_lemma m g v x heads mover passes root r1) (λ h r2. judge_lemmas m g v x (heads ++ h ∷ []) r2)
 
@@ -441,7 +441,7 @@ lines_verdict q m (l ∷ ls) = step_verdict q m.phase m.place m.nodes m.listed (
     at (goes_on m') below = below m'
     at (stops place why) below = refl
 
--- behind the header, by the recursion with a bound
+-- after the header, by the recursion with a bound
 abbrev claim_behind : GameProblem → ℕ → ℕ × Colour → Reading → Judged Colour
 claim_behind q m head r2 = then_judge (judge_lemmas m q.game head.0 head.1 [] r2) (λ heads r3. then_judge (judge_node m (main_body head.1 heads) 1 (start q) r3) (λ _ r4. then_judge (judge_end r4) (λ _ r5. fine head.1 r5)))
 

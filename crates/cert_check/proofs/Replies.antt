@@ -36,7 +36,7 @@ fault_said n f why o same is p said = at o (sym same ∙ ap (option_map (why_val
         unwrapped None = None
         unwrapped (Some x) = x
 
--- a node's line, by its questions and what is due behind it
+-- a node's line, by its questions and what is due after it
 pub node_taken_is : (m : Machine) (f : Heading) (inside : Option Head) (d : ℕ) (s : GameState) (os : List Owed) (n : ℕ) (k : NodeLine)
     → node_taken m f inside d s os (node_value n k) ≡ counted m d (node_fault (body_of f inside) s (node_value n k)) (phase_of f inside (node_next d s os (node_value n k)))
 node_taken_is m f inside d s os n Won = refl

@@ -20,7 +20,7 @@ pub(crate) fn audited(
     Ok(audit(alloc, &problem, &tree))
 }
 
-// The text with a front and n copies of a piece behind it.
+// The text with a front and n copies of a piece after it.
 pub(crate) fn repeated(
     alloc: Global,
     front: &[u8],
@@ -51,7 +51,7 @@ const CAPTURE: &[u8] = b"(;FF[4]GM[1]SZ[3]AB[ab]AW[aa];PL[B]TR[aa]SQ[ba]";
 // A ko: White has just taken at aa, and Black may take back at ba only after a move at cc. The problem node has the number 2.
 const KO: &[u8] = b"(;FF[4]GM[1]SZ[3]AB[ba][ab]AW[ca][bb];AW[aa]AE[ba];PL[B]TR[aa]SQ[ba][cc]";
 
-// The audit of the front with these nodes behind it.
+// The audit of the front with these nodes after it.
 fn behind(
     alloc: Global,
     rt: &impl Abort,

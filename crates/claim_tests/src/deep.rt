@@ -17,7 +17,7 @@ use target_game::{Problem, State};
 pub(crate) type PlayState = State<PlayBoard, PlaySeen>;
 
 // A line of play in which the game does not end: the turns of black, `-` for a pass and else the point whose number is that
-// of the character behind `0`. White makes the first turn that is legal. It was found by a search outside this program.
+// of the character after `0`. White makes the first turn that is legal. It was found by a search outside this program.
 pub(crate) const TURNS: [&str; 10] = [
     "CNF?P8@QSEMLBIOHRNIQFRS-MONQSRS-SN5J;K-R@--I;-PCQ-M-O-SKJ-OQ-K--KSBMH8NGCQIO--R-JP-PKQS-JO-KQPQ-QKH>",
     "GN@JRLPDSBO--MKDJHNP-QRD-RP-RHK:JMLPEOBSFCQINJLEQRSNMPM-SQM-MLK9;AH?QENSJFPAGRJNAPRMQ-SP-S---PNCR?9E",

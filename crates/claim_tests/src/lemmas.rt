@@ -18,7 +18,7 @@ fn open_ko(alloc: Global, rt: &impl Abort) -> Problem {
     problem(alloc, rt, 3, &["O.OXO...."], Colour::Black, &[(1, 0)])
 }
 
-// The same behind the other position of the ko, so that black may not.
+// The same after the other position of the ko, so that black may not.
 fn closed_ko(alloc: Global, rt: &impl Abort) -> Problem {
     problem(
         alloc,

@@ -7,7 +7,7 @@ use std::alloc::Global;
 use std::process::Abort;
 use target_game::Problem;
 
-// A ko in which black is to take, behind these colourings.
+// A ko in which black is to take, after these colourings.
 fn ko(alloc: Global, rt: &impl Abort, texts: &[&str]) -> Problem {
     problem(alloc, rt, 3, texts, Colour::Black, &[(1, 0)])
 }

@@ -1,4 +1,4 @@
-//! The checker over a reader that fails behind its bytes.
+//! The checker over a reader that fails after its bytes.
 
 use crate::small_claims::{problem, refused};
 use cert_check::{Reject, Why, check};

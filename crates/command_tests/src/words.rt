@@ -4,7 +4,7 @@ use std::alloc::Global;
 use std::process::Abort;
 use tsumego_words::{Command, NoCommand, read_command};
 
-// The words, behind the program's name, give this command.
+// The words, after the program's name, give this command.
 fn gives(rt: &impl Abort, alloc: Global, words: &[&str], wanted: Command) {
     match read_command(alloc, words) {
         Ok(command) => assert_eq!(rt; command, wanted),

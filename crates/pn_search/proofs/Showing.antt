@@ -124,7 +124,7 @@ shows_won x s k e = record {
   wins = wins_over x x s k e ∙ same_colour-refl x;
 }
 
--- the mover wins behind a legal turn
+-- the mover wins after a legal turn
 pub shows_play : (x : Colour) (s : GameState) (k : ℕ) (t : Ply) (n : Node) → s.mover ≡ x → over s ≡ None → IsTrue (legal s t) → Shows x (next s t) k n → Shows x s (k + 1) (play t n)
 shows_play x s k t n m e l below = record {
   fits = (legal-may x s t (to_move x s e m) l, below.fits);
@@ -159,7 +159,7 @@ not_won : (b : Bool) → (b ≡ true → ⊥) → b ≡ false
 not_won true h = absurd (h refl)
 not_won false h = refl
 
--- the other side wins behind it
+-- the other side wins after it
 mover_loses : (s r : GameState) (k : ℕ) → wins (opponent_of s.mover) r k ≡ true → wins s.mover r k ≡ false
 mover_loses s r k h = not_won (wins s.mover r k) (λ e. not_both s.mover r k k e h)
 
@@ -170,7 +170,7 @@ seen_late s k ts t seen n now h before = record {
   all = λ e. absurd (cc);
 }
 
--- a branch more, behind the others
+-- a branch more, after the others
 module _ (t : Ply) (n : Node) where
   joined_turns : (bs : Branches) → branch_turns (joined bs (branch t n no_branch)) ≡ branch_turns bs ++ t ∷ []
   joined_turns no_branch = refl
@@ -282,14 +282,14 @@ turns_more s k before left now t ds us old new here h fewer steps seen = record 
   steps = let a = h.steps in let b = behind_more s k h.turns t in omega arith;
 }
 
--- the steps behind some of the turns are no more than those behind all
+-- the steps after some of the turns are no more than those after all
 pub turns_steps : (s : GameState) (k before left now : ℕ) (t : Ply) (ds us : List Ply) (old : Seen) → ds ≡ t ∷ us → TurnsSeen s k ds before left old → left ≤ now + nodes (next s t) k → before ≤ now + nodes_behind s k (legal_turns s)
 turns_steps s k before left now t ds us old here h steps =
     let a = behind_all s k h.turns us t (ap (λ vs. h.turns ++ vs) (sym here) ∙ h.all_turns) in
     let b = h.steps in
     omega arith
 
--- what decides the search behind a turn decides it
+-- what decides the search after a turn decides it
 pub turns_found : (s : GameState) (k before left : ℕ) (t : Ply) (ds us : List Ply) (old new : Seen) (found : Found) → over s ≡ None → ds ≡ t ∷ us → TurnsSeen s k ds before left old → IsTurnSeen s k t left old new (Some found) → IsFound s (k + 1) (before + 1) found
 turns_found s k before left t ds us old new (Wins x tree) e here h seen = seen
 turns_found s k before left t ds us old new Open e here h seen = absurd seen

@@ -26,7 +26,7 @@ use Rattle.pn_search.specs.declared.full_search.Found.{Found}
 use Rattle.pn_search.specs.declared.full_search.Found.TheVariants.{Wins, Open, OutOfSteps}
 use Rattle.pn_search.specs.declared.full_search.Seen.{Seen}
 
--- the number of states of the trees of all play of at most k turns behind these turns
+-- the number of states of the trees of all play of at most k turns after these turns
 abbrev pub nodes_behind : GameState → ℕ → List Ply → ℕ
 nodes_behind s k ts = sum_by (λ t. nodes (next s t) k) ts
 
@@ -36,7 +36,7 @@ pub record Shows (x : Colour) (s : GameState) (k : ℕ) (n : claim.Node) : Type 
   pub depth : depth_of n ≤ k + 1
   pub wins : wins x s k ≡ true
 
--- the same of the trees behind these turns, one for each
+-- the same of the trees after these turns, one for each
 pub record AllShow (x : Colour) (s : GameState) (k : ℕ) (ts : List Ply) (bs : Branches) : Type 0 where
   pub turns : branch_turns bs ≡ ts
   pub fits : FitsBranches (main_body x []) s bs
@@ -86,7 +86,7 @@ pub record IsConfirmable (q : GameProblem) (x : Colour) (tree : Node) : Type 0 w
   pub count : node_count (node_of q.game.size tree) ≤ max_nodes
   pub depth : depth_of (node_of q.game.size tree) ≤ max_depth
 
--- what was found is this side's win by this turn and the tree behind it
+-- what was found is this side's win by this turn and the tree after it
 abbrev pub IsWonBy : Colour → Turn → Node → Found → Type 0
 IsWonBy x t below (Wins y tree) = (y ≡ x) × ((n : ℕ) → node_of n tree ≡ claim.play (ply_of n t) (node_of n below))
 IsWonBy x t below Open = ⊥

@@ -174,7 +174,7 @@ fn a_ko_without_a_past_is_taken(rt: HostRuntime) {
     check(&rt, alloc, ko, Colour::Black, 1);
 }
 
-// After Black's cc the ko would no longer repeat, so White fills ba. Behind a pass White passes, which ends the game,
+// After Black's cc the ko would no longer repeat, so White fills ba. After a pass White passes, which ends the game,
 // though ba wins as well.
 #[test]
 fn the_ko_is_filled_where_it_opens(rt: HostRuntime) {
@@ -290,7 +290,7 @@ fn the_table_has_an_effect(rt: HostRuntime) {
 }
 
 // Black may play at aa, at ca, or pass, and White may only pass. Both orders of Black's moves lead to one colouring, where
-// White is to move. What stands behind White's pass there stands in that one lemma alone.
+// White is to move. What stands after White's pass there stands in that one lemma alone.
 #[test]
 fn two_orders_of_moves_meet(rt: HostRuntime) {
     let alloc = rt.alloc();
@@ -331,7 +331,7 @@ fn becomes(
     assert_eq!(rt; text.as_slice(), expected);
 }
 
-// White always passes. Both orders of Black's moves lead to one colouring with White to move. The state behind White's
+// White always passes. Both orders of Black's moves lead to one colouring with White to move. The state after White's
 // pass stands in that lemma alone, and so in line.
 #[test]
 fn what_is_inside_one_lemma_alone_stays_in_line(rt: HostRuntime) {

@@ -139,7 +139,7 @@ fn is_side(winner: Colour, side: Colour) -> bool
     winner == side
 }
 
-/// The side wins by this turn and the tree behind it.
+/// The side wins by this turn and the tree after it.
 #[tactic(auto, using(proof_cert::proofs::Certificates::node_of_play))]
 fn won_by(alloc: Global, winner: Colour, turn: Turn, below: Node) -> Result<Found, AllocError>
     ensures { IfOk result (λ f. IsWonBy winner turn below f) }
@@ -213,7 +213,7 @@ fn decided(state: &PlayState, turns: u32, seen: Seen) -> Found
 }
 
 /// Searches one turn more, after which this side has won: nothing, where it is seen as well; what is found, where it decides
-/// the search of the state. It is made only where play goes on behind it.
+/// the search of the state. It is made only where play goes on after it.
 #[cycle(full)]
 fn search_turn(
     alloc: Global,
@@ -247,7 +247,7 @@ fn search_turn(
     with_turn(alloc, mover, turn, below, seen)
 }
 
-/// The same, where this was found behind the turn.
+/// The same, where this was found after the turn.
 fn with_turn(
     alloc: Global,
     mover: Colour,

@@ -135,7 +135,7 @@ fn a_ko_that_is_barred(rt: HostRuntime) -> Result<(), Fail> {
     Ok(())
 }
 
-// With a threat at cc Black may take again, so White fills ba behind it. After Black's pass White passes at once, though
+// With a threat at cc Black may take again, so White fills ba after it. After Black's pass White passes at once, though
 // ba, which comes before it, wins as well.
 #[test]
 fn a_second_pass_comes_first(rt: HostRuntime) -> Result<(), Fail> {

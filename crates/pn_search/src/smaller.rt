@@ -500,7 +500,7 @@ fn has_turn(branches: &[Branch], played: Move) -> bool {
     false
 }
 
-/// Whether the same proofs stand behind the branches.
+/// Whether the same proofs stand after the branches.
 fn is_same(made: &[Branch], branches: &[Branch]) -> bool {
     if made.len() != branches.len() {
         return false;

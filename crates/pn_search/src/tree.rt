@@ -15,7 +15,7 @@ struct Visit {
     proof: Proof,
     /// The place of the next branch.
     next: usize,
-    /// Where the nodes behind its branches begin.
+    /// Where the nodes after its branches begin.
     first: usize,
 }
 
@@ -175,7 +175,7 @@ impl Writer {
         }
     }
 
-    /// Writes the node behind the turn that was just made, takes the turn back, and turns to the next branch.
+    /// Writes the node after the turn that was just made, takes the turn back, and turns to the next branch.
     fn write_leaf(&mut self, turn: Turn, node: Node) -> Result<(), Refusal> {
         self.count_node()?;
         self.play.back();
@@ -223,7 +223,7 @@ impl Writer {
         Ok(None)
     }
 
-    /// The node of the proof, from the nodes behind its branches.
+    /// The node of the proof, from the nodes after its branches.
     fn node(&mut self, alloc: Global, visit: Visit) -> Result<Node, AllocError> {
         if visit.first > self.written.len() {
             return Err(AllocError);

@@ -371,7 +371,7 @@ fn reads_no_other_bytes(rt: HostRuntime) -> Result<(), Fail> {
     Ok(())
 }
 
-/// A claim of so many turns one behind another.
+/// A claim of so many turns one after another.
 fn line_of_play(alloc: Global, turns: usize) -> Result<Vec<u8>, Fail> {
     let mut text = b"tsucert 1 3 B\nmain\n".to_vec(alloc)?;
     for _ in 0..turns {

@@ -10,7 +10,7 @@ fn fault_of(alloc: Global, text: &[u8]) -> Option<SgfFault> {
     read_tree(alloc, text).err()
 }
 
-/// The text and n copies of a piece behind it.
+/// The text and n copies of a piece after it.
 fn repeated(alloc: Global, front: &[u8], piece: &[u8], n: usize) -> Result<Vec<u8>, Fail> {
     let mut text = front.to_vec(alloc)?;
     for _ in 0..n {

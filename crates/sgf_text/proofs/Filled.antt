@@ -30,7 +30,7 @@ values_filled InValue o F = o.values ++ (o.word ++ F.word) ∷ F.values
 values_filled AfterBackslash o F = o.values ++ (o.word ++ F.word) ∷ F.values
 values_filled place o F = o.values ++ F.values
 
--- the open node, with a property of this name and these values and what comes behind it
+-- the open node, with a property of this name and these values and what comes after it
 abbrev pub node_with : Open → Front → List ℕ → List (List ℕ) → List Node
 node_with o F name values = o.tree.nodes ++ joined_onto (added o.properties name values) F.properties ∷ map joined F.nodes
 

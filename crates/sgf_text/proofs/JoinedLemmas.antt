@@ -14,7 +14,7 @@ abbrev pub joined_onto : List Property → List Property → List Property
 joined_onto old [] = old
 joined_onto old (p ∷ ps) = joined_onto (added old p.ident p.values) ps
 
--- what is joined behind goes to the properties that are there, and the rest behind them
+-- what is joined later goes to the properties that are there, and the rest after them
 abbrev pub laid : List Property → List Property → List Property
 laid [] later = later
 laid (q ∷ old) later = property q.ident (q.values ++ values_at q.ident later) ∷ laid old (without q.ident later)

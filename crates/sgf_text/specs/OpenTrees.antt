@@ -61,7 +61,7 @@ pub record Open : Type 0 where
   pub outer : List GameTree
   pub nodes : ℕ
 
--- just behind the "(" of the first tree
+-- just after the "(" of the first tree
 abbrev pub at_start : Open
 at_start = record { place = AfterOpen; word = []; ident = []; values = []; properties = []; tree = bare_tree; outer = []; nodes = 0 }
 

@@ -60,7 +60,7 @@ impl Model for OpenTrees {
 }
 
 impl OpenTrees {
-    /// Just behind the "(" of the first tree.
+    /// Just after the "(" of the first tree.
     pub fn new(alloc: Global) -> Self
         ensures { result ≡ at_start }
     {

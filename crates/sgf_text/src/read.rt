@@ -66,7 +66,7 @@ fn cut_fault(text: &[u8]) -> SgfFault
 fn tree_place(text: &[u8]) -> Option<usize>
     ensures { result ≡ tree_place text.now }
 {
-    // The last "(", while only white space has come behind it.
+    // The last "(", while only white space has come after it.
     let mut last = None;
     for at in 0..text.len() {
         match text[at] {

@@ -1,4 +1,4 @@
--- What follows a node: the rest of its sequence, or the child trees behind it.
+-- What follows a node: the rest of its sequence, or the child trees after it.
 use Rattle.std.proofs.Common.{◌≡◌, true, false, not, nat_eq, nat_lt, List, [], ◌∷◌, length, refl, ◌∙◌, arith, rules}
 use Rattle.std.proofs.lemmas.Bool.{le-ltb}
 use Rattle.sgf_text.specs.Trees.{Node, GameTree, no_tree, tree_then, forest_of}

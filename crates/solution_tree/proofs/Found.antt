@@ -46,7 +46,7 @@ module _ (x : Colour) (s : GameState) (k : ℕ) (node : Node) (below : Nodes) wh
 pub new_turn : (own had : Bool) → (own ≡ true) ⊎ (had ≡ false) → (own || not had) ≡ true
 new_turn own had h = search rules
 
--- a later fault stays hidden behind an earlier one
+-- a later fault stays hidden after an earlier one
 pub found_first : (n : ℕ) (o later : Option Fault) (e : AuditFault) → IsFound n o e → IsFound n (or_later o later) e
 found_first n o later e h = search rules
 

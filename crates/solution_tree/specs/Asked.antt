@@ -1,4 +1,4 @@
--- The audit as the program makes it, along the rest of a sequence with the child trees behind it. Words of private calls.
+-- The audit as the program makes it, along the rest of a sequence with the child trees after it. Words of private calls.
 --     follows nodes trees      what stands below a node that these nodes of its sequence and these child trees follow
 --     IsWhy n o w, IsFound n o e      the program's fault is the one that is due; where memory was refused, nothing is said
 --     Tells n given turns      the set holds just these turns

@@ -14,7 +14,7 @@ use go_points::Colour;
 use sgf_text::{SgfNode, Tree};
 use target_game::PlayState;
 
-/// Makes the turns of a sequence behind the node with this number. The number of its last node.
+/// Makes the turns of a sequence after the node with this number. The number of its last node.
 fn follow(state: &mut PlayState, number: usize, nodes: &[SgfNode]) -> Result<usize, AuditFault>
     ensures size { OnOk result (state.new.state.game.size ≡ state.old.state.game.size) }
     ensures ok { IfOk result (λ last. (below : Nodes)

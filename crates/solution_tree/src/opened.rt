@@ -23,7 +23,7 @@ use target_game::PlayState;
 pub(crate) enum Open<'a> {
     /// The winner's turn.
     Made(Turn),
-    /// A turn of the other side, with the replies before it, whose trees are finished, and those behind it, not all of which are legal.
+    /// A turn of the other side, with the replies before it, whose trees are finished, and those after it, not all of which are legal.
     Reply {
         done: Vec<(Turn, Answer)>,
         turn: Turn,
@@ -40,7 +40,7 @@ pub(crate) enum Part<'a> {
     Finished(Answer),
 }
 
-/// The first of the replies that is legal, and those behind it.
+/// The first of the replies that is legal, and those after it.
 #[tactic(auto, using(crate::proofs::NextReplies::replies_kept, crate::proofs::NextReplies::replies_left_out, crate::proofs::NextReplies::reply_below))]
 fn next_reply<'a>(
     state: &PlayState,

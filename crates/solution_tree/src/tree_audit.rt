@@ -45,7 +45,7 @@ fn take_back(state: &mut PlayState, turns: usize)
     }
 }
 
-/// Audits the rest of a sequence behind the node with this number, without what follows its last node; the state is then that of the last node. The number of the last node.
+/// Audits the rest of a sequence after the node with this number, without what follows its last node; the state is then that of the last node. The number of the last node.
 fn audit_nodes(
     winner: Colour,
     state: &mut PlayState,
@@ -82,7 +82,7 @@ fn audit_nodes(
     Ok(last)
 }
 
-/// Audits what follows the node with this number: the rest of its sequence, and the child trees behind it. The state is then as it was. The number of the last node.
+/// Audits what follows the node with this number: the rest of its sequence, and the child trees after it. The state is then as it was. The number of the last node.
 #[cycle(audit)]
 fn audit_sequence(
     winner: Colour,

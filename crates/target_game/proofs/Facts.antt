@@ -27,7 +27,7 @@ all_pass f [] h k d low = absurd (omega arith)
 all_pass f (x ∷ xs) h zero d low = and_left (f x) (list_all f xs) h
 all_pass f (x ∷ xs) h (suc k) d low = all_pass f xs (and_right (f x) (list_all f xs) h) k d (omega arith)
 
--- a test that did not refuse, and those behind it
+-- a test that did not refuse, and those after it
 not_refused : (t : Bool) (x : BadProblem) (rest : Option BadProblem) → cond t (Some x) rest ≡ None → (t ≡ false) × (rest ≡ None)
 not_refused true x rest h = absurd (cc)
 not_refused false x rest h = (refl, h)

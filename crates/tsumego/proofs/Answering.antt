@@ -59,7 +59,7 @@ module _ (k : CheckedClaim) (checked : IsChecked k.problem (claim_of k.certifica
   pub too_large : (lift : Bool) → IsSolutionOf k None → MayAnswer false lift k Unanswered too_large_text
   too_large lift large = inr (refl, (claim_of k.certificate, checked.valid, large), refl)
 
-  -- what is written of the claim, behind the record's text
+  -- what is written of the claim, after the record's text
   pub claim_solves : AcceptsValidTexts → CanonicalReads → IsProblem k.problem → 1 ≤ k.problem.game.size → k.problem.game.size ≤ MAX_SIZE → (tree : GameTree) → IsTrue (is_tree tree) → tree ≡ canonical k.problem
       → (y : Claim) → IsChecked k.problem y → y.winner ≡ (claim_of k.certificate).winner → (lift : Bool) → IsWritten lift k.problem (claim_of k.certificate) y
       → (bytes : List ℕ) → text y ≡ Some bytes → IsProofBy lift k.problem (claim_of k.certificate) (line (tree_text tree) ++ bytes)
@@ -108,7 +108,7 @@ ran_left command told read fails bytes k proof lift result old new tells says (w
     because (inr (inl (none, is))) = absurd none
     because (inr (inr fault)) = inr (inr fault)
 
--- A claim's text behind the record's.
+-- A claim's text after the record's.
 pub claim_behind : (Said : Saying) (status : Status) (front old new : List ℕ) (spelled : Option (List ℕ)) → ((bytes : List ℕ) → spelled ≡ Some bytes → Said status (front ++ bytes)) → old ≡ front
     → IsSomeAnd spelled (λ bytes. new ≡ old ++ bytes) → Said status new
 claim_behind Said status front old new None says is all = absurd all

@@ -114,7 +114,7 @@ solve_is_true steps table lift bytes written (inl (inr (q, tree, n, r, inl (e, (
       record { tree = s; end = length (tree_text s); reads = subst (λ w. Reads w s (length (tree_text s))) (sym text) read; problem = is.problem; below = below },
     )
 
--- what is behind the first of two texts
+-- what is after the first of two texts
 behind_front : (front rest : List ℕ) → drop (length front) (front ++ rest) ≡ rest
 behind_front [] rest = refl
 behind_front (b ∷ front) rest = behind_front front rest

@@ -16,7 +16,7 @@ use Rattle.tsumego.specs.declared.record.NoRecord.TheVariants as no
 use Rattle.tsumego.specs.Texts.{line}
 use Rattle.tsumego.specs.Replies.{HasNoRecord, IsTold}
 
--- all that stands behind a place
+-- all that stands after a place
 pub all_behind : (n : ℕ) (bytes : List ℕ) → take (length bytes - n) (drop n bytes) ≡ drop n bytes
 all_behind n bytes = take_all (length bytes - n) (drop n bytes) (omega (arith, length-drop n bytes))
 

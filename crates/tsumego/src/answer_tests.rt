@@ -27,7 +27,7 @@ fn push(claim: &mut Vec<u8>, text: &str) -> Result<(), AllocError> {
 // The stone on each column in a set of stones.
 const STONES: [usize; 8] = [1, 2, 4, 8, 16, 32, 64, 128];
 
-// Black's turns where it has these stones: behind each White passes, and the lemma of the larger set goes on.
+// Black's turns where it has these stones: after each White passes, and the lemma of the larger set goes on.
 fn push_replies(
     alloc: Global,
     claim: &mut Vec<u8>,

@@ -105,7 +105,7 @@ fn faulty_branches_are_rejected(rt: HostRuntime) {
     }
 }
 
-// What is no record, and a record without a problem, are refused as for the other commands; what stands behind the record
+// What is no record, and a record without a problem, are refused as for the other commands; what stands after the record
 // is not read.
 #[test]
 fn the_record_counts_and_nothing_behind_it(rt: HostRuntime) {

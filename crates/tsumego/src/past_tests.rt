@@ -1,4 +1,4 @@
-//! Claims of version 2 behind their records, with what `check` says of them, from the rules and the formats.
+//! Claims of version 2 after their records, with what `check` says of them, from the rules and the formats.
 
 use crate::status::Status;
 use crate::tests::checks;

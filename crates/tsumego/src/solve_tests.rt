@@ -19,7 +19,7 @@ fn solves(rt: &impl Abort, alloc: Global, record: &str, text: &str) {
     );
 }
 
-// What `solve` writes with these words behind it.
+// What `solve` writes with these words after it.
 fn written(rt: &impl Abort, alloc: Global, words: &[&str], record: &str) -> String {
     let mut reader = Counting::new(record.as_bytes());
     let mut writer = Counting::new(Vec::new(alloc));
@@ -54,7 +54,7 @@ fn solutions_of_one_answer(rt: HostRuntime) {
             "(;FF[4]GM[1]SZ[3]AB[ba][ab]AW[ca][bb]PL[W];W[aa]TR[aa]SQ[ba])",
             "(;FF[4]GM[1]SZ[3]AB[ba][ab]AW[ca][bb];AW[aa]AE[ba];PL[B]TR[aa]SQ[ba]C[White wins];B[];W[])\n",
         ),
-        // The same with a place for a threat, behind which the ko has to be filled.
+        // The same with a place for a threat, after which the ko has to be filled.
         (
             "(;FF[4]GM[1]SZ[3]AB[ba][ab]AW[ca][bb]PL[W];W[aa]TR[aa]SQ[ba][cc])",
             "(;FF[4]GM[1]SZ[3]AB[ba][ab]AW[ca][bb];AW[aa]AE[ba];PL[B]TR[aa]SQ[ba][cc]C[White wins](;B[cc];W[ba];B[];W[])(;B[];W[]))\n",

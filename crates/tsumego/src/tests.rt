@@ -214,7 +214,7 @@ fn a_failed_read_is_told(rt: HostRuntime) {
     }
 }
 
-// The claim stands behind more white space than is read with the record, and a read fails in it.
+// The claim stands after more white space than is read with the record, and a read fails in it.
 #[test]
 fn a_failed_read_in_a_claim_is_told(rt: HostRuntime) {
     let alloc = rt.alloc();

@@ -205,7 +205,7 @@ fn turn_text(alloc: Global, size: Size, turn: Turn) -> Result<String, AllocError
     }
 }
 
-/// The letters of a point. One that the board does not hold, which no reply that is due is, has those of the place behind
+/// The letters of a point. One that the board does not hold, which no reply that is due is, has those of the place after
 /// the last point.
 fn letters_of(size: Size, point: Point) -> [u8; 2]
     ensures value { result ≡ vertex_text size (ply_of size (At point)) }

@@ -1,4 +1,4 @@
--- The first place that passes, in a list and in one with more behind it.
+-- The first place that passes, in a list and in one with more after it.
 use Rattle.std.proofs.Common.{◌≡◌, ℕ, suc, ◌+◌, ◌-◌, Bool, true, false, cond, if◌then◌else◌, List, [], ◌∷◌, ◌++◌, length, take, drop, Option, Some, None, is_some, position, option_map, option_and_then, slice_get, refl, sym, ◌∙◌, ap, arith, rules}
 use Rattle.std.proofs.lemmas.Bool.Decides.{nat_tests}
 use Rattle.std.proofs.lemmas.List.{take_rest}

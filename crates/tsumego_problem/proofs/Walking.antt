@@ -32,7 +32,7 @@ module _ (limit : Option ℕ) (n k : ℕ) (node : Node) (w v : Walk) where
   pub walked_to : (fault : ProblemFault) → node_fault n k node ≡ None → changed n k node w ≡ Ok v → late_fault limit n k node v ≡ Some fault → walk_node limit n k node w ≡ Err fault
   walked_to fault fine does late = walked fine does ∙ ap (λ o. unless o v) late
 
--- the nodes of a sequence from the place i on, with what stands behind it
+-- the nodes of a sequence from the place i on, with what stands after it
 abbrev pub left_of : List Node → List Node → ℕ → List Node
 left_of nodes rest i = drop i nodes ++ rest
 

@@ -47,7 +47,7 @@ fn are_targets(colouring: &Colouring, points: &PointSet) -> bool
     !cell.is_empty() && all_hold(colouring, points, cell)
 }
 
-/// The first of the refusals that are asked behind what a node does.
+/// The first of the refusals that are asked after what a node does.
 fn late_fault(
     played: &PlayRecord,
     size: Size,

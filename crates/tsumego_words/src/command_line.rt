@@ -29,7 +29,7 @@ const MOST_ENTRIES: u64 = 1_000_000;
 /// What the words ask for.
 #[derive(Clone, Copy, Debug, PartialEq, Eq)]
 pub enum Command {
-    /// Judge the claim behind a record.
+    /// Judge the claim after a record.
     Check,
     /// Decide who wins the problem of a record within so many turns, where the tree has at most so many states.
     Within {
@@ -195,7 +195,7 @@ fn check_command<'a>(alloc: Global) -> clap::Command<'a>
     ensures app { app_of result ≡ new_app (codes "check") }
     ensures local { (fields_of result).has_globals ≡ false }
 {
-    clap::Command::new(alloc, "check").about("Judges the claim that stands behind a record.")
+    clap::Command::new(alloc, "check").about("Judges the claim that follows a record.")
 }
 
 fn within_command<'a>(alloc: Global) -> Result<clap::Command<'a>, AllocError>

@@ -14,7 +14,7 @@ use Rattle.go_points.specs.Order.{text_order, same_cells_ties}
 use Rattle.go_points.specs.Text.{text_of}
 use Rattle.go_turns.specs.History.{has_occurred, repeats}
 use Rattle.cert_check.specs.Machine.{last_of}
-use Rattle.cert_check.specs.Ascending.{Ascends}
+use Rattle.cert_check.specs.Private.Ascending.{Ascends}
 
 pub order : IsTotalOrder text_order
 order = on_texts text_of

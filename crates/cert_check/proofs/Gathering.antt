@@ -26,7 +26,7 @@ use Rattle.cert_check.specs.declared.results.Later.{Later}
 use Rattle.cert_check.specs.Body.{Body, is_open, is_known, is_to_move, result_of}
 use Rattle.cert_check.specs.Validity.{FitsNode, FitsBranches}
 use Rattle.cert_check.specs.Lift.{reply_results_below}
-use Rattle.cert_check.specs.Results.{Gathered, gathered, nothing, joined, of_node, of_branches, of_later, left_at, node_at, due_at, reversed, is_past, IsPlayable, ArePlayable}
+use Rattle.cert_check.specs.Private.Results.{Gathered, gathered, nothing, joined, of_node, of_branches, of_later, left_at, node_at, due_at, reversed, is_past, IsPlayable, ArePlayable}
 use Rattle.cert_check.proofs.Members.{Member, and_first, and_both}
 use Rattle.cert_check.proofs.Game.{legal_at}
 use Rattle.cert_check.proofs.Soundness.{game-next}

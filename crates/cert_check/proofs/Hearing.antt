@@ -14,7 +14,7 @@ use Rattle.cert_check.specs.Verdict.{Verdict, verdict, accepted, rejected}
 use Rattle.cert_check.specs.Machine.{Machine, begun, Phase, header, opening, listing_had, listing_not, node_due, reply_due, done, goes_on, stops, taken, ended, ended_at, after_step, verdict_from}
 use Rattle.cert_check.specs.Parts.{line_values}
 use Rattle.cert_check.specs.Checks.{Answers, Accepts, RejectsAt, FailsAt}
-use Rattle.cert_check.specs.Heard.{Heard}
+use Rattle.cert_check.specs.Private.Heard.{Heard}
 use Rattle.cert_check.proofs.Machines.{lines_judged}
 use Rattle.cert_check.proofs.Taking.{took_more, one_more}
 

@@ -11,8 +11,8 @@ use Rattle.go_points.specs.Equal.{same_cells_eq}
 use Rattle.go_points.specs.Order.{text_order, same_cells_ties}
 use Rattle.go_turns.specs.History.{has_occurred}
 use Rattle.proof_cert.specs.Claim.{cells_before, is_ascending}
-use Rattle.cert_check.specs.Ascending.{Ascends}
-use Rattle.cert_check.specs.Known.{SameMembers}
+use Rattle.cert_check.specs.Private.Ascending.{Ascends}
+use Rattle.cert_check.specs.Private.Known.{SameMembers}
 use Rattle.cert_check.proofs.Ascending.{order, above_all, none_among, above_from, same_from}
 use Rattle.cert_check.proofs.Lists.{before_is}
 use Rattle.cert_check.proofs.Members.{Member, and_first, and_second, and_both}

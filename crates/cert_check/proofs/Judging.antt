@@ -10,7 +10,7 @@ use Rattle.target_game.specs.State.{GameProblem}
 use Rattle.std.specs.List.{All}
 use Rattle.std.proofs.lemmas.List.Elements.{All-push}
 use Rattle.go_points.specs.Grid.{side_of}
-use Rattle.go_points.specs.Sides.{side_of-whole}
+use Rattle.go_points.specs.Private.Sides.{side_of-whole}
 use Rattle.proof_cert.specs.Claim.{Head, max_nodes, max_depth, max_listed}
 use Rattle.proof_cert.specs.Lines.{Line, header_line, lemma_line, had_line, not_line, main_line, won_line, use_line, play_line, all_line, reply_line, end_line, line_fits}
 use Rattle.cert_check.specs.declared.judge.Judge.{Judge}
@@ -23,10 +23,10 @@ use Rattle.cert_check.specs.declared.lines.NodeLine.{NodeLine}
 use Rattle.cert_check.specs.Body.{Why, limit, list_order, ask, lemma_start}
 use Rattle.cert_check.specs.Verdict.{had_of, not_of, is_after}
 use Rattle.cert_check.specs.Machine.{Machine, Heading, Phase, goes_on, stops, goes_if, last_of, listed_taken, listing_had, listing_not, had_taken, not_taken, phase_taken, taken, body_of, node_taken}
-use Rattle.cert_check.specs.Inside.{Inside, phase_of, owed_by, node_fault, node_next}
+use Rattle.cert_check.specs.Private.Inside.{Inside, phase_of, owed_by, node_fault, node_next}
 use Rattle.cert_check.specs.Parts.{head_of, had_line_of, listed_line, node_line, node_value}
-use Rattle.cert_check.specs.Judging.{GoesOn, IsBehind, machine_of, heading_of, lemma_of, within_of, inside_now, phase_held, IsBehindFor, AwaitsHad, AwaitsList, AwaitsNode, had_here, list_here, node_here, body_here, had_more, listed_more}
-use Rattle.cert_check.specs.Ascending.{Ascends}
+use Rattle.cert_check.specs.Private.Judging.{GoesOn, IsBehind, machine_of, heading_of, lemma_of, within_of, inside_now, phase_held, IsBehindFor, AwaitsHad, AwaitsList, AwaitsNode, had_here, list_here, node_here, body_here, had_more, listed_more}
+use Rattle.cert_check.specs.Private.Ascending.{Ascends}
 use Rattle.cert_check.proofs.Ascending.{ascends_more}
 use Rattle.cert_check.proofs.Lists.{before_is}
 use Rattle.cert_check.proofs.Machines.{last_pushed}

@@ -12,7 +12,7 @@ use Rattle.go_turns.specs.History.{has_occurred}
 use Rattle.target_game.specs.State.{Game, GameState, GameProblem, start, state_alone, state_with}
 use Rattle.target_game.specs.Next.{next}
 use Rattle.cert_check.specs.Body.{is_known}
-use Rattle.cert_check.specs.Known.{SameMembers, IsKnownAt, AreKnown}
+use Rattle.cert_check.specs.Private.Known.{SameMembers, IsKnownAt, AreKnown}
 use Rattle.cert_check.proofs.Ascending.{any_at}
 
 or_swap : (a b : Bool) → (a || b) ≡ (b || a)

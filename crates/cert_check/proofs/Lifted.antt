@@ -26,15 +26,15 @@ use Rattle.proof_cert.specs.declared.certificate.Node as code
 use Rattle.proof_cert.specs.declared.certificate.Node.TheVariants.{Use}
 use Rattle.proof_cert.proofs.Certificates.{node_of_use}
 use Rattle.cert_check.specs.Body.{lemma_body, lemma_start}
-use Rattle.cert_check.specs.Ascending.{Ascends}
+use Rattle.cert_check.specs.Private.Ascending.{Ascends}
 use Rattle.cert_check.specs.Checked.{IsChecked}
 use Rattle.cert_check.specs.Laws.{IsRight, LiftedClaimsAreRight}
 use Rattle.cert_check.specs.Lift.{play_results, play_results_below, reply_results, IsLiftedHead, IsLifted}
 use Rattle.cert_check.specs.Parts.{head_of}
-use Rattle.cert_check.specs.Results.{is_past, version_for, claim_with}
+use Rattle.cert_check.specs.Private.Results.{is_past, version_for, claim_with}
 use Rattle.cert_check.proofs.Claiming.{AllFitting, AllFitting-append, node_fitting, both_spelled}
 use Rattle.cert_check.proofs.Game.{occurred-member, member-occurred}
-use Rattle.cert_check.specs.Known.{SameMembers}
+use Rattle.cert_check.specs.Private.Known.{SameMembers}
 use Rattle.cert_check.proofs.InOrder.{AreLong, same_list, ascending_is, ascends_is, long_left}
 use Rattle.cert_check.proofs.Members.{Member, and_both, or_cases, Member-append_cases}
 use Rattle.cert_check.proofs.ReadingClaims.{HadFits}

@@ -4,7 +4,7 @@ use Rattle.std.specs.Prelude.{slice_get}
 use Rattle.std.specs.List.{Contains}
 use Rattle.std.proofs.lemmas.List.Elements.{All-contains, All-push, All-weaker}
 use Rattle.std.proofs.lemmas.Option.{slice_get_past, get_or_from_slice_get}
-use Rattle.cert_check.specs.Places.{IsPlaced, ArePlaced, KeepsAll}
+use Rattle.cert_check.specs.Private.Places.{IsPlaced, ArePlaced, KeepsAll}
 
 get_more : (xs ys : List ℕ) (i v : ℕ) → slice_get xs i ≡ Some v → slice_get (xs ++ ys) i ≡ Some v
 get_more [] ys i v e = absurd (cc)

@@ -2,7 +2,7 @@
 
 ghost use Rattle.std.specs.Prelude.{◌≡◌, Some, is_some, option_map};
 ghost use Rattle.std.specs.List.{list_all};
-ghost use Rattle.cert_check.specs.Ascending.{Ascends};
+ghost use Rattle.cert_check.specs.Private.Ascending.{Ascends};
 ghost use Rattle.cert_check.specs.Body.{is_known, is_listed, lemma_at, main_body, same_state};
 ghost use Rattle.cert_check.specs.Parts.{head_of};
 
@@ -29,7 +29,7 @@ impl Model for Head {
 
     ghost view = { λ a. head_of a.mover a.passes a.root a.had.items a.absent };
 
-    ghost use Rattle.cert_check.specs.Ascending.{Ascends};
+    ghost use Rattle.cert_check.specs.Private.Ascending.{Ascends};
 
     ghost invariant = { λ a. Ascends a.absent };
 }
@@ -97,7 +97,7 @@ impl<'a> Model for Body<'a> {
         { winner = a.winner; earlier = a.earlier.now; listed = option_map (λ l. l.now) a.listed } };
 
     ghost use Rattle.std.specs.Prelude.{IfSome};
-    ghost use Rattle.cert_check.specs.Ascending.{Ascends};
+    ghost use Rattle.cert_check.specs.Private.Ascending.{Ascends};
 
     ghost invariant = { λ a. IfSome a.listed (λ l. Ascends l.now) };
 }

@@ -13,7 +13,7 @@ ghost use Rattle.target_game.specs.Legal.{legal};
 ghost use Rattle.target_game.specs.Next.{next};
 ghost use Rattle.target_game.specs.Over.{over};
 ghost use Rattle.target_game.specs.declared.state.AtFault.TheVariants as AtFault;
-ghost use Rattle.cert_check.specs.Ascending.{Ascends};
+ghost use Rattle.cert_check.specs.Private.Ascending.{Ascends};
 ghost use Rattle.cert_check.specs.Body.{is_known};
 
 use crate::listed::stands_on;
@@ -33,7 +33,7 @@ pub(crate) struct BodyState {
 impl Model for BodyState {
     ghost use Rattle.std.specs.Prelude.{reverse};
     ghost use Rattle.target_game.specs.State.{Line};
-    ghost use Rattle.cert_check.specs.Known.{AreKnown};
+    ghost use Rattle.cert_check.specs.Private.Known.{AreKnown};
 
     ghost Value = { Line };
 

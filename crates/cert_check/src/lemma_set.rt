@@ -2,7 +2,7 @@
 
 ghost use Rattle.std.specs.Prelude.{◌≡◌, ◌<◌, ◌^◌, ◌++◌, ◌∷◌, [], IsTrue, OnErr, OnOk, length};
 ghost use Rattle.std.specs.List.{Contains};
-ghost use Rattle.cert_check.specs.Places.{KeepsAll};
+ghost use Rattle.cert_check.specs.Private.Places.{KeepsAll};
 
 use std::alloc::{AllocError, Global};
 use std::marker::Model;
@@ -24,7 +24,7 @@ impl Model for LemmaSet {
 
     ghost view = { λ a. a.numbers.items };
 
-    ghost use Rattle.cert_check.specs.Places.{ArePlaced};
+    ghost use Rattle.cert_check.specs.Private.Places.{ArePlaced};
 
     ghost invariant = { λ a. ArePlaced a.numbers.items a.places.items };
 }

@@ -7,7 +7,7 @@ ghost use Rattle.proof_cert.specs.Stage.{version_number};
 ghost use Rattle.proof_cert.specs.Text.{text};
 ghost use Rattle.cert_check.specs.Checked.{IsChecked};
 ghost use Rattle.cert_check.specs.Lift.{IsLifted};
-ghost use Rattle.cert_check.specs.Results.{claim_with, version_for};
+ghost use Rattle.cert_check.specs.Private.Results.{claim_with, version_for};
 
 use crate::held_claim::Checked;
 use crate::laws::lifted_claims_are_right;

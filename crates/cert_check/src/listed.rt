@@ -3,7 +3,7 @@
 ghost use Rattle.std.specs.Prelude.{◌≡◌};
 ghost use Rattle.std.specs.List.{list_all};
 ghost use Rattle.go_turns.specs.History.{has_occurred};
-ghost use Rattle.cert_check.specs.Ascending.{Ascends};
+ghost use Rattle.cert_check.specs.Private.Ascending.{Ascends};
 
 use go_points::{Colouring, ColouringList};
 

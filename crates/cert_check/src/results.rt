@@ -7,7 +7,7 @@ ghost use Rattle.proof_cert.specs.Claim.{node_count};
 ghost use Rattle.proof_cert.specs.Certificate.{claim_of, node_of, replies_of};
 ghost use Rattle.cert_check.specs.Body.{is_open, result_of};
 ghost use Rattle.cert_check.specs.Lift.{play_results, reply_results};
-ghost use Rattle.cert_check.specs.Results.{ArePlayable, AreOpen, IsPlayable, IsPlayablePart, due_at, gathered, is_past, joined, left_at, reversed};
+ghost use Rattle.cert_check.specs.Private.Results.{ArePlayable, AreOpen, IsPlayable, IsPlayablePart, due_at, gathered, is_past, joined, left_at, reversed};
 
 use crate::held_claim::Checked;
 use go_points::{Colouring, Turn};

@@ -5,7 +5,7 @@ use Rattle.std.proofs.lemmas.List.{map-append}
 use Rattle.go_points.specs.Place.{Place}
 use Rattle.go_points.specs.Grid.{adjacent, neighbours}
 use Rattle.go_points.proofs.Cells.{member_neighbours}
-use Rattle.go_chains.specs.Chains.{IsIn, total}
+use Rattle.go_chains.specs.Private.Chains.{IsIn, total}
 use Rattle.go_chains.proofs.Totals.{total_append}
 use Rattle.go_chains.proofs.Exchange.{in_append, in_left, in_right}
 use Rattle.go_chains.proofs.Counts.{in_member}

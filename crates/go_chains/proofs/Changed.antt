@@ -10,7 +10,7 @@ use Rattle.go_points.proofs.Lists.{and_false, not_false, none_found, true_or_fal
 use Rattle.go_points.proofs.Cells.{same_cell_eq, eq_same_cell, same_cell_false, points_member, adjacent_back, adjacent_on_board}
 use Rattle.go_points.proofs.Liberties.{first_none, lacks_empty}
 use Rattle.go_points.proofs.Paths.{reaches_path}
-use Rattle.go_chains.specs.Chains.{LivesAround, LivesWhereNew}
+use Rattle.go_chains.specs.Private.Chains.{LivesAround, LivesWhereNew}
 
 cell_or_not : (a b : Cell) → (a ≡ b) ⊎ (a ≢ b)
 cell_or_not a b = elim (true_or_false (same_cell a b)) [

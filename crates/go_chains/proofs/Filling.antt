@@ -9,7 +9,7 @@ use Rattle.go_points.specs.declared.Cell.TheVariants.{Empty, Stone}
 use Rattle.go_points.specs.Grid.{same_cell, adjacent, neighbours, points, cell_at}
 use Rattle.go_points.proofs.Cells.{adjacent_on_board, adjacent_back, eq_same_cell, neighbours_member, points_member}
 use Rattle.go_chains.specs.Joined.{Joined}
-use Rattle.go_chains.specs.Chains.{nowhere, IsIn, touches, liberty_count, AreFull, HasCircles, HasCounts, IsSettled, KeepsTogether, KeepsOthers}
+use Rattle.go_chains.specs.Private.Chains.{nowhere, IsIn, touches, liberty_count, AreFull, HasCircles, HasCounts, IsSettled, KeepsTogether, KeepsOthers}
 use Rattle.go_chains.proofs.Joins.{joined_self, joined_on, joined_back, joined_beside}
 use Rattle.go_chains.proofs.Totals.{total_from}
 use Rattle.go_chains.proofs.Counts.{member_in}

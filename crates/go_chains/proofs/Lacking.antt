@@ -11,7 +11,7 @@ use Rattle.go_points.proofs.Cells.{same_cell_false, points_member}
 use Rattle.go_points.proofs.Lists.{none_found, not_false}
 use Rattle.go_points.proofs.Liberties.{first_none, lacks_empty}
 use Rattle.go_points.proofs.Paths.{reaches_path}
-use Rattle.go_chains.specs.Chains.{nowhere, liberty_count, IsSettled, IsBoard, LacksLiberties, TellsLiberties}
+use Rattle.go_chains.specs.Private.Chains.{nowhere, liberty_count, IsSettled, IsBoard, LacksLiberties, TellsLiberties}
 use Rattle.go_chains.proofs.Counts.{counted_reaches, reaches_counted}
 use Rattle.go_chains.proofs.Boards.{heads_joined}
 use Rattle.go_chains.proofs.Playing.{board_of}

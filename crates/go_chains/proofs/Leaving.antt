@@ -8,10 +8,10 @@ use Rattle.go_points.specs.declared.Cell.TheVariants.{Empty, Stone}
 use Rattle.go_points.specs.Grid.{same_cell, adjacent, neighbours, points, cell_at}
 use Rattle.go_points.specs.Reach.{Reaches}
 use Rattle.go_points.specs.Clear.{clear}
-use Rattle.go_points.specs.Stones.{stone_count}
+use Rattle.go_points.specs.Private.Stones.{stone_count}
 use Rattle.go_points.proofs.Cells.{same_cell_eq, eq_same_cell, member_points, neighbours_member, adjacent_on_board}
 use Rattle.go_chains.specs.Joined.{Joined}
-use Rattle.go_chains.specs.Chains.{nowhere, IsIn, touches, liberty_count, HasCircles, IsSettled, LacksLiberties, LeavesLiberties}
+use Rattle.go_chains.specs.Private.Chains.{nowhere, IsIn, touches, liberty_count, HasCircles, IsSettled, LacksLiberties, LeavesLiberties}
 use Rattle.go_chains.proofs.Joins.{joined_holds}
 use Rattle.go_chains.proofs.Totals.{total_le_within}
 use Rattle.go_chains.proofs.Counts.{member_in, in_member, touches_same, touches_to, counted_reaches}

@@ -11,7 +11,7 @@ use Rattle.go_points.specs.Reach.{Reaches}
 use Rattle.go_points.specs.Clear.{clear}
 use Rattle.go_points.proofs.Cells.{opponent_ne, adjacent_on_board}
 use Rattle.go_points.proofs.Clearing.{one_or_other, cleared_reaches}
-use Rattle.go_chains.specs.Chains.{nowhere, touches, liberty_count, IsSettled, IsBoard, LacksLiberties, LeavesLiberties, KeepsOthers}
+use Rattle.go_chains.specs.Private.Chains.{nowhere, touches, liberty_count, IsSettled, IsBoard, LacksLiberties, LeavesLiberties, KeepsOthers}
 use Rattle.go_chains.proofs.Counts.{touches_same, touches_to, count_filled, reaches_counted}
 use Rattle.go_points.proofs.Quiet.{clear_none}
 use Rattle.go_chains.proofs.Leaving.{head_holds, stone_reaches}

@@ -15,8 +15,8 @@ use Rattle.go_points.proofs.Cells.{same_cell_eq, eq_same_cell, adjacent_on_board
 use Rattle.go_points.proofs.Clearing.{EveryStoneReaches, one_or_other, on_or_off}
 use Rattle.go_points.proofs.Quiet.{quiet_reaches}
 use Rattle.go_chains.specs.Joined.{IsWay, Joined}
-use Rattle.go_chains.specs.Chains.{nowhere, touches, liberty_count, IsBoard}
-use Rattle.go_chains.specs.Quiet.{has_more, loses_last, lets_stay}
+use Rattle.go_chains.specs.Private.Chains.{nowhere, touches, liberty_count, IsBoard}
+use Rattle.go_chains.specs.Private.Quiet.{has_more, loses_last, lets_stay}
 use Rattle.go_chains.proofs.Joins.{joined_self, joined_on, joined_beside, reaches_beside}
 use Rattle.go_chains.proofs.Counts.{touches_from, touches_to, count_from, count_to, count_filled}
 use Rattle.go_chains.proofs.Boards.{heads_joined}

@@ -5,8 +5,8 @@ ghost use Rattle.go_points.specs.declared.Cell.TheVariants.{Stone};
 ghost use Rattle.go_points.specs.declared.TheConstants.{MAX_POINTS};
 ghost use Rattle.go_points.specs.Clear.{clear};
 ghost use Rattle.go_points.specs.Grid.{cell_at, side_of};
-ghost use Rattle.go_points.specs.Stones.{stone_count};
-ghost use Rattle.go_chains.specs.Chains.{touches, IsSettled, LacksLiberties, LeavesLiberties};
+ghost use Rattle.go_points.specs.Private.Stones.{stone_count};
+ghost use Rattle.go_chains.specs.Private.Chains.{touches, IsSettled, LacksLiberties, LeavesLiberties};
 
 use crate::circles::remove;
 use go_points::{Colour, MAX_POINTS};

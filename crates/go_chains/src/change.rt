@@ -6,7 +6,7 @@ ghost use Rattle.go_points.specs.declared.TheConstants.{MAX_POINTS};
 ghost use Rattle.go_points.specs.Grid.{cell_at, side_of};
 ghost use Rattle.go_points.specs.Liberty.{lacks_liberty as lacks_liberty_of, first_without_liberty};
 ghost use Rattle.go_points.specs.Place.{IsOn, number_of};
-ghost use Rattle.go_chains.specs.Chains.{nowhere, IsBoard, IsSettled, TellsLiberties, LivesAround, LivesWhereNew};
+ghost use Rattle.go_chains.specs.Private.Chains.{nowhere, IsBoard, IsSettled, TellsLiberties, LivesAround, LivesWhereNew};
 
 use crate::NoLiberty;
 use crate::cut_point::take_off;

@@ -4,7 +4,7 @@ ghost use Rattle.std.specs.Prelude.{◌≡◌, ◌≢◌, ◌⊎◌, ◌*◌, �
 ghost use Rattle.go_points.specs.declared.Cell.TheVariants.{Empty};
 ghost use Rattle.go_points.specs.declared.TheConstants.{MAX_POINTS, MAX_SIZE};
 ghost use Rattle.go_points.specs.Grid.{adjacent, cell_at, differ_by_one, side_of};
-ghost use Rattle.go_chains.specs.Chains.{nowhere, IsSettled, Meet, MeetAt, IsNoCutPoint};
+ghost use Rattle.go_chains.specs.Private.Chains.{nowhere, IsSettled, Meet, MeetAt, IsNoCutPoint};
 
 use crate::circles::{give_back, remove};
 use crate::liberties::shared;

@@ -5,8 +5,8 @@ ghost use Rattle.std.specs.List.{list_any};
 ghost use Rattle.go_points.specs.declared.TheConstants.{MAX_POINTS};
 ghost use Rattle.go_points.specs.Grid.{side_of, neighbours};
 ghost use Rattle.go_chains.specs.Joined.{HoldsThose};
-ghost use Rattle.go_chains.specs.Chains.{touches, TellsLiberties};
-ghost use Rattle.go_chains.specs.Quiet.{has_more as has_more_of, loses_last, lets_stay, is_liberty};
+ghost use Rattle.go_chains.specs.Private.Chains.{touches, TellsLiberties};
+ghost use Rattle.go_chains.specs.Private.Quiet.{has_more as has_more_of, loses_last, lets_stay, is_liberty};
 
 use go_points::{Colour, MAX_POINTS, PointSet, Size};
 use stone_key::KeyedColouring;

@@ -4,7 +4,7 @@ ghost use Rattle.std.specs.Prelude.{◌≡◌, ◌*◌, ◌<◌, slice_index};
 ghost use Rattle.go_points.specs.declared.TheConstants.{MAX_POINTS};
 ghost use Rattle.go_points.specs.Grid.{side_of};
 ghost use Rattle.go_points.specs.Move.{after_move, taken_by_move};
-ghost use Rattle.go_chains.specs.Chains.{nowhere, IsBoard};
+ghost use Rattle.go_chains.specs.Private.Chains.{nowhere, IsBoard};
 
 use crate::capture::{capture, remove_without_liberty};
 use crate::stones::fill;

@@ -4,7 +4,7 @@ ghost use Rattle.std.specs.Prelude.{◌≡◌, ◌≢◌, ◌*◌, ◌<◌, ◌�
 ghost use Rattle.go_points.specs.declared.Cell.TheVariants.{Stone};
 ghost use Rattle.go_points.specs.declared.TheConstants.{MAX_POINTS};
 ghost use Rattle.go_points.specs.Grid.{adjacent, cell_at, side_of};
-ghost use Rattle.go_chains.specs.Chains.{nowhere, empties_beside, AreFull, HasCircles, HasCounts, IsSettled, KeepsTogether, KeepsOthers};
+ghost use Rattle.go_chains.specs.Private.Chains.{nowhere, empties_beside, AreFull, HasCircles, HasCounts, IsSettled, KeepsTogether, KeepsOthers};
 
 use crate::circles::{merge, take_from};
 use go_points::{Cell, Colour, MAX_POINTS};

@@ -12,8 +12,8 @@ use Rattle.std.proofs.lemmas.List.FromFn.{length-range_with_len}
 use Rattle.go_points.specs.Grid.{points}
 use Rattle.go_points.specs.Place.{place_of}
 use Rattle.go_points.specs.Points.{has_bit, places_that, first_place}
-use Rattle.go_points.specs.Words.{IsWords, word_that}
-use Rattle.go_points.specs.Inverses.{word_back, bit_there}
+use Rattle.go_points.specs.Private.Words.{IsWords, word_that}
+use Rattle.go_points.specs.Private.Inverses.{word_back, bit_there}
 use Rattle.go_points.proofs.PlaceSets.{places_first, places_none}
 
 range_split : (a m k : ℕ) → range_with_len a (m + k) ≡ range_with_len a m ++ range_with_len (a + m) k

@@ -8,7 +8,7 @@ use Rattle.go_points.specs.Clear.{clear}
 use Rattle.go_points.specs.Liberty.{first_without_liberty}
 use Rattle.go_points.specs.Move.{after_move, taken_by_move}
 use Rattle.go_points.proofs.Clearing.{moves_leave_liberties}
-use Rattle.go_points.specs.Stones.{stone_count}
+use Rattle.go_points.specs.Private.Stones.{stone_count}
 use Rattle.go_points.proofs.Liberties.{none_is}
 use Rattle.go_points.proofs.Taken.{taken_count}
 

@@ -9,10 +9,10 @@ use Rattle.std.specs.Int.{bit_at}
 use Rattle.go_points.specs.declared.point_bits.TheConstants.{NARROW_SIZE}
 use Rattle.go_points.specs.declared.Cell.TheVariants.{Empty}
 use Rattle.go_points.specs.Points.{has_bit}
-use Rattle.go_points.specs.Words.{word_count, IsWords}
+use Rattle.go_points.specs.Private.Words.{word_count, IsWords}
 use Rattle.go_points.specs.Packed.{IsPacked, cell_of_bits, packed_cells, packed_length, packed_at}
 use Rattle.go_points.proofs.Bits.{zeros}
-use Rattle.go_points.specs.Narrow.{narrow_count, first_words, IsNarrow}
+use Rattle.go_points.specs.Private.Narrow.{narrow_count, first_words, IsNarrow}
 
 -- words that are the same at a place say the same of its bits, and none past their end says anything
 same_bit : (v w : List ℕ) (i : ℕ) → get_or v (i / 64) 0 ≡ get_or w (i / 64) 0 → has_bit v i ≡ has_bit w i

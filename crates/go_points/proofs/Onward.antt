@@ -7,8 +7,8 @@ use Rattle.std.proofs.lemmas.Nat.Bits.{bit_at-zero, bit_at-trailing_zeros, bit_a
 use Rattle.go_points.specs.declared.TheConstants.{MAX_SIZE}
 use Rattle.go_points.specs.Place.{Place, IsOn, place_of, number_of}
 use Rattle.go_points.specs.Points.{has_bit, holds_place, is_before, places_that, IsFirstFrom}
-use Rattle.go_points.specs.Words.{IsWords}
-use Rattle.go_points.specs.Inverses.{bit_there, holds_that}
+use Rattle.go_points.specs.Private.Words.{IsWords}
+use Rattle.go_points.specs.Private.Inverses.{bit_there, holds_that}
 use Rattle.go_points.proofs.PlaceSets.{before, not_before}
 
 -- the bits from a on, up to b, are not set

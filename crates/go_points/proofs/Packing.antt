@@ -9,7 +9,7 @@ use Rattle.go_points.specs.declared.Colour.TheVariants.{Black, White}
 use Rattle.go_points.specs.Grid.{cell_at, same_cell, side_of, IsColouring}
 use Rattle.go_points.specs.Place.{Place, IsOn, number_of}
 use Rattle.go_points.specs.Points.{has_bit}
-use Rattle.go_points.specs.Words.{word_count, IsWords}
+use Rattle.go_points.specs.Private.Words.{word_count, IsWords}
 use Rattle.go_points.specs.Packed.{IsPacked, cell_of_bits, is_stone, is_black, packed_cell, packed_cells, packed_side, packed_length, packed_at}
 use Rattle.go_points.proofs.Bits.{no_bit, words_of_zeros}
 use Rattle.go_points.proofs.Sides.{number_below}

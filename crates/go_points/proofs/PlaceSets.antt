@@ -10,7 +10,7 @@ use Rattle.go_points.specs.declared.TheConstants.{MAX_SIZE}
 use Rattle.go_points.specs.Grid.{points}
 use Rattle.go_points.specs.Place.{Place, IsOn, place_of}
 use Rattle.go_points.specs.Points.{same_place, is_before, with_place, without_place, first_place, places_that, IsPointSet}
-use Rattle.go_points.specs.Inverses.{same_numbers}
+use Rattle.go_points.specs.Private.Inverses.{same_numbers}
 use Rattle.go_points.proofs.Lists.{and_both, and_right, or_cases, or_left, or_right, some_same, none_some}
 
 -- a lower number comes before

@@ -11,7 +11,7 @@ use Rattle.go_points.specs.Grid.{opponent_of, same_cell, cell_at}
 use Rattle.go_points.specs.Clear.{is_captured, clear}
 use Rattle.go_points.specs.Move.{after_move, taken_by_move}
 use Rattle.go_points.proofs.Clearing.{length-clear, cell_at-clear, cell_at_past, on_or_off}
-use Rattle.go_points.specs.Stones.{is_stone, stone_count}
+use Rattle.go_points.specs.Private.Stones.{is_stone, stone_count}
 
 -- a stone that is gone
 abbrev pub is_gone : List Cell → List Cell → ℕ → Bool

@@ -6,7 +6,7 @@ use Rattle.std.proofs.lemmas.Nat.{shr-shr, shr_le, div-add-mod', mod_below, div-
 use Rattle.std.proofs.lemmas.Nat.Bits.{bit_at-zero, bit_at-lt, bit_at-trailing_zeros, bit_at_above, bit_at_or, bit_at_xor}
 use Rattle.go_points.specs.Grid.{cell_at}
 use Rattle.go_points.specs.Points.{has_bit}
-use Rattle.go_points.specs.Words.{AreAlike}
+use Rattle.go_points.specs.Private.Words.{AreAlike}
 use Rattle.go_points.specs.Packed.{IsPacked, cell_of_bits, packed_cells, packed_at, packed_past, is_stone, is_black}
 
 -- the bits of a word from one on

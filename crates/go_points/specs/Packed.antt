@@ -11,9 +11,9 @@ use Rattle.go_points.specs.declared.Cell.{Cell}
 use Rattle.go_points.specs.declared.Cell.TheVariants.{Empty, Stone}
 use Rattle.go_points.specs.Grid.{points, cell_at, side_of}
 use Rattle.go_points.specs.Points.{has_bit}
-use Rattle.go_points.specs.Words.{word_count, words_that, word_that, IsWords}
-use Rattle.go_points.specs.Inverses.{word_back, bit_there}
-use Rattle.go_points.specs.Sides.{side_of-whole}
+use Rattle.go_points.specs.Private.Words.{word_count, words_that, word_that, IsWords}
+use Rattle.go_points.specs.Private.Inverses.{word_back, bit_there}
+use Rattle.go_points.specs.Private.Sides.{side_of-whole}
 
 -- A cell by its two bits: is there a stone, and is it black?
 abbrev pub cell_of_bits : Bool → Bool → Cell

@@ -21,7 +21,7 @@ impl Model for NarrowColouring {
     ghost use Rattle.std.specs.Prelude.{List};
     ghost use Rattle.go_points.specs.declared.Cell.{Cell};
     ghost use Rattle.go_points.specs.Packed.{packed_cells};
-    ghost use Rattle.go_points.specs.Narrow.{IsNarrow};
+    ghost use Rattle.go_points.specs.Private.Narrow.{IsNarrow};
 
     ghost Value = { List Cell };
 

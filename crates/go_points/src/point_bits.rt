@@ -4,8 +4,8 @@ ghost use Rattle.std.specs.Prelude.{◌≡◌, ◌≢◌, ◌<◌, ◌≤◌, �
 ghost use Rattle.std.specs.Int.{bit_at};
 ghost use Rattle.go_points.specs.declared.TheConstants.{MAX_POINTS};
 ghost use Rattle.go_points.specs.Points.{has_bit};
-ghost use Rattle.go_points.specs.Words.{IsWords, AreAlike, word_count};
-ghost use Rattle.go_points.specs.Narrow.{first_words, narrow_count};
+ghost use Rattle.go_points.specs.Private.Words.{IsWords, AreAlike, word_count};
+ghost use Rattle.go_points.specs.Private.Narrow.{first_words, narrow_count};
 
 use crate::MAX_POINTS;
 

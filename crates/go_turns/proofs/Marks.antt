@@ -13,7 +13,7 @@ use Rattle.go_points.specs.Liberty.{lacks_liberty}
 use Rattle.go_points.proofs.Lists.{any_from, any_to}
 use Rattle.go_points.proofs.Cells.{same_cell_eq, eq_same_cell, adjacent_on_board, member_neighbours, neighbours_member}
 use Rattle.go_points.proofs.Paths.{reaches_path}
-use Rattle.go_turns.specs.Marks.{is_marked, mark_count, IsFree, IsSound, HasSeeds, IsClosedBelow, AreFree}
+use Rattle.go_turns.specs.Private.Marks.{is_marked, mark_count, IsFree, IsSound, HasSeeds, IsClosedBelow, AreFree}
 use Rattle.go_points.proofs.Anywhere.{same_tests}
 
 -- one more mark

@@ -12,8 +12,8 @@ use Rattle.go_points.specs.Reach.{reaches}
 use Rattle.go_points.specs.Clear.{is_captured, clear}
 use Rattle.go_points.proofs.Lists.{and_both, true_or_false}
 use Rattle.go_points.proofs.Cells.{same_cell_eq}
-use Rattle.go_turns.specs.Marks.{AreFree, is_marked}
-use Rattle.go_points.specs.Stones.{is_stone, stone_count}
+use Rattle.go_turns.specs.Private.Marks.{AreFree, is_marked}
+use Rattle.go_points.specs.Private.Stones.{is_stone, stone_count}
 use Rattle.go_turns.proofs.Marks.{reaches_marked}
 
 -- what clearing leaves at p

@@ -14,7 +14,7 @@ use Rattle.go_turns.specs.declared.fault.TurnFault.{TurnFault}
 use Rattle.go_turns.specs.declared.fault.TurnFault.TheVariants.{OffBoard, NoLiberty}
 use Rattle.go_turns.specs.History.{place_in}
 use Rattle.go_turns.specs.Record.{GameRecord, colouring_of, numbered, assigned, set_to, with_liberties, stepped, setup_of, Did}
-use Rattle.go_turns.specs.Steps.{IsAt, StepsFit, Joins}
+use Rattle.go_turns.specs.Private.Steps.{IsAt, StepsFit, Joins}
 use Rattle.go_turns.proofs.Steps.{at_end, fit_longer}
 use Rattle.go_turns.proofs.Turns.{on_from, is_on_from}
 use Rattle.go_turns.proofs.Openings.{place_back}

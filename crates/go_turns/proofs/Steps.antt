@@ -7,7 +7,7 @@ use Rattle.std.proofs.lemmas.List.Quantifiers.{all_pairs_push}
 use Rattle.go_points.specs.declared.Cell.{Cell}
 use Rattle.go_points.specs.Grid.{side_of}
 use Rattle.go_points.specs.Liberty.{first_without_liberty}
-use Rattle.go_turns.specs.Steps.{IsAt, CanStand, StepsFit}
+use Rattle.go_turns.specs.Private.Steps.{IsAt, CanStand, StepsFit}
 
 -- the colouring that is present can be taken over again
 pub can_stand : (h : List (List Cell)) (place : ℕ) (c : List Cell) → IsAt h place c → first_without_liberty (side_of c) c ≡ None → CanStand (side_of c) h place

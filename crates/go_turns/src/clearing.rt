@@ -8,8 +8,8 @@ ghost use Rattle.go_points.specs.Grid.{side_of, same_cell, neighbours as neighbo
 ghost use Rattle.go_points.specs.Place.{IsOn, number_of};
 ghost use Rattle.go_points.specs.Clear.{clear};
 ghost use Rattle.go_points.specs.Liberty.{first_without_liberty};
-ghost use Rattle.go_turns.specs.Marks.{AreFree, is_marked, mark_count, IsSound, HasSeeds, IsClosedBelow};
-ghost use Rattle.go_points.specs.Stones.{stone_count};
+ghost use Rattle.go_turns.specs.Private.Marks.{AreFree, is_marked, mark_count, IsSound, HasSeeds, IsClosedBelow};
+ghost use Rattle.go_points.specs.Private.Stones.{stone_count};
 
 use go_points::{Cell, Colour, Colouring, MAX_POINTS, Point, Size};
 

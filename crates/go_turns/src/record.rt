@@ -11,7 +11,7 @@ ghost use Rattle.go_points.specs.Ply.{ply_of, pass as a_pass, move as a_move};
 ghost use Rattle.go_turns.specs.History.{place_in, repeats};
 ghost use Rattle.stone_key.specs.Key.{key_of};
 ghost use Rattle.go_turns.specs.Record.{colouring_of, numbered, assigned, play_of, setup_of, undo_of, opened, reopened, Did, DidIfLegal, DidWithoutMemory, Opens};
-ghost use Rattle.go_turns.specs.Steps.{IsNotAdded, Joins};
+ghost use Rattle.go_turns.specs.Private.Steps.{IsNotAdded, Joins};
 
 use crate::board::Board;
 use crate::fault::TurnFault;
@@ -45,7 +45,7 @@ impl<B: Board, S: Seen> Model for Record<B, S> {
     ghost use Rattle.go_points.specs.Grid.{side_of};
     ghost use Rattle.go_points.specs.Liberty.{first_without_liberty};
     ghost use Rattle.go_turns.specs.Record.{GameRecord};
-    ghost use Rattle.go_turns.specs.Steps.{IsAt, StepsFit};
+    ghost use Rattle.go_turns.specs.Private.Steps.{IsAt, StepsFit};
 
     ghost Value = { GameRecord };
 

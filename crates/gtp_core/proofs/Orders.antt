@@ -30,7 +30,7 @@ use Rattle.go_points.specs.Points.{same_place, is_before, with_place}
 use Rattle.gtp_core.specs.declared.command.Command.TheVariants as command
 use Rattle.gtp_core.specs.Commands.{Order, point_at, region_named, region_order, whole_board, with_points}
 use Rattle.gtp_core.specs.Lines.{words_of}
-use Rattle.gtp_core.specs.Pieces.{HasNone, IsAtSpace, BeginsWord}
+use Rattle.gtp_core.specs.Private.Pieces.{HasNone, IsAtSpace, BeginsWord}
 use Rattle.gtp_core.specs.Serving.{fed_rows}
 use Rattle.gtp_core.specs.Session.{new_record}
 use Rattle.gtp_core.specs.Words.{is_on_board, place_at, turn_text}

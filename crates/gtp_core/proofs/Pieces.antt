@@ -4,9 +4,9 @@ use Rattle.std.proofs.lemmas.Bool.{cases_lt}
 use Rattle.std.proofs.lemmas.List.{append-nil, length-append, length-take-le, take_all, take-append-le}
 use Rattle.std.proofs.KnownBytes.{Consumes-trans}
 use Rattle.gtp_core.specs.declared.input.Ending.TheVariants.{LineFeed}
-use Rattle.gtp_core.specs.Taking.{Bounded, CannotGoOn, Gives, kept, IsRawLine}
+use Rattle.gtp_core.specs.Private.Taking.{Bounded, CannotGoOn, Gives, kept, IsRawLine}
 use Rattle.gtp_core.specs.Lines.{with_byte, parted_at, whole_words, words_of}
-use Rattle.gtp_core.specs.Pieces.{HasNone, IsAtSpace}
+use Rattle.gtp_core.specs.Private.Pieces.{HasNone, IsAtSpace}
 
 -- one byte more, without and with a piece's end
 pub parted_other : (k c : ℕ) (rest : List ℕ) → nat_eq c k ≡ false → parted_at k (c ∷ rest) ≡ with_byte c (parted_at k rest)

@@ -9,12 +9,12 @@ use Rattle.gtp_core.specs.declared.end.GtpEnd.TheVariants.{Read, Write}
 use Rattle.gtp_core.specs.declared.input.Ending.{Ending}
 use Rattle.gtp_core.specs.declared.input.Ending.TheVariants.{LineFeed, End}
 use Rattle.gtp_core.specs.Lines.{bad_line, request_of, request_with, cleaned, words_of, raw_lines, with_byte}
-use Rattle.gtp_core.specs.Pieces.{HasNone}
+use Rattle.gtp_core.specs.Private.Pieces.{HasNone}
 use Rattle.gtp_core.specs.Session.{GtpSession}
 use Rattle.gtp_core.specs.Words.{failure}
 use Rattle.gtp_core.specs.Serving.{Output, needs_memory, reply, last_reply, Answers, HadNoMemory, Serves}
 use Rattle.gtp_core.specs.Runs.{GoesThrough, IsRun, first_session, input_limit, Tells, IsReadTo, HasRun, HasStoppedOn}
-use Rattle.gtp_core.specs.Taking.{Bounded, CannotGoOn, kept, IsRawLine, IsServed, IsPartServed, IsUnderWay}
+use Rattle.gtp_core.specs.Private.Taking.{Bounded, CannotGoOn, kept, IsRawLine, IsServed, IsPartServed, IsUnderWay}
 use Rattle.gtp_core.proofs.Pieces.{parted_one, parted_more}
 
 -- one line more

@@ -5,7 +5,7 @@ use Rattle.go_points.specs.declared.Colour.{Colour}
 use Rattle.target_game.specs.State.{GameProblem}
 use Rattle.gtp_core.specs.declared.search.Found.{Found}
 use Rattle.gtp_core.specs.declared.search.Found.TheVariants.{Loss, Unknown}
-use Rattle.gtp_core.specs.Following.{IsFoundAt}
+use Rattle.gtp_core.specs.Private.Following.{IsFoundAt}
 use Rattle.gtp_core.specs.Session.{GtpSession}
 use Rattle.gtp_core.specs.Serving.{Meets, solve_due, reply}
 use Rattle.gtp_core.specs.Words.{success}

@@ -1,9 +1,7 @@
 pub mod Lines
-pub mod Pieces
 pub mod Words
 pub mod Commands
 pub mod Session
 pub mod Serving
-pub mod Following
 pub mod Runs
-pub mod Taking
+pub mod Private

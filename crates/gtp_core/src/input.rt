@@ -1,7 +1,7 @@
 //! The raw lines of a reader, one at a time, from a block of fixed size.
 
 ghost use Rattle.std.specs.Prelude.{◌≡◌, ◌++◌, ◌∷◌, [], IfOk, OnErr};
-ghost use Rattle.gtp_core.specs.Taking.{HasByte, IsByte, IsRawLine, CannotGoOn, kept, bounded};
+ghost use Rattle.gtp_core.specs.Private.Taking.{HasByte, IsByte, IsRawLine, CannotGoOn, kept, bounded};
 
 use crate::channel::ReadFrom;
 use crate::run::MAX_INPUT;
@@ -39,7 +39,7 @@ pub(crate) struct Input {
 
 impl Model for Input {
     ghost use Rattle.std.specs.Prelude.{◌≡◌, ◌≤◌, length, take, drop};
-    ghost use Rattle.gtp_core.specs.Taking.{HeldInput};
+    ghost use Rattle.gtp_core.specs.Private.Taking.{HeldInput};
 
     ghost Value = { HeldInput };
 

@@ -3,7 +3,7 @@
 ghost use Rattle.std.specs.Prelude.{◌≡◌, ◌≤◌, [], ◌∷◌, List, ℕ, drop, take, length, map, option_map, is_some};
 ghost use Rattle.std.specs.Str.{all_ascii_digits};
 ghost use Rattle.gtp_core.specs.Lines.{cleaned, is_control, spaced, words_of, number_named, max_line};
-ghost use Rattle.gtp_core.specs.Pieces.{HasNone, IsAtSpace, BeginsWord, words_from};
+ghost use Rattle.gtp_core.specs.Private.Pieces.{HasNone, IsAtSpace, BeginsWord, words_from};
 
 use crate::session::MAX_LINE;
 use arrayvec::ArrayVec;

@@ -7,7 +7,7 @@ ghost use Rattle.go_points.specs.Place.{IsOn};
 ghost use Rattle.gtp_core.specs.Lines.{number_named, words_of};
 ghost use Rattle.gtp_core.specs.Words.{colour_named};
 ghost use Rattle.gtp_core.specs.Commands as spec;
-ghost use Rattle.gtp_core.specs.Following.{FitsBoard, first_colour, size_numbered};
+ghost use Rattle.gtp_core.specs.Private.Following.{FitsBoard, first_colour, size_numbered};
 
 use crate::command::{Command, Saying};
 use crate::line::{number_named, take_word};

@@ -1,7 +1,7 @@
 //! What a search finds for a side.
 
 ghost use Rattle.std.specs.Prelude.{◌≡◌, IfOk};
-ghost use Rattle.gtp_core.specs.Following.{IsFound, FoundOnBoard, win_on_board};
+ghost use Rattle.gtp_core.specs.Private.Following.{IsFound, FoundOnBoard, win_on_board};
 
 use go_points::{Colour, Size, Turn};
 use pn_search::{Budget, Verdict, solve};

@@ -11,7 +11,7 @@ ghost use Rattle.gtp_core.specs.Runs.{first_session};
 ghost use Rattle.gtp_core.specs.Session as spec;
 ghost use Rattle.gtp_core.specs.Serving.{Answers, Due, Meets, answers, board_text, command_due, due_of, fed_rows, needs_memory, output_of, plays, record_due, refuses, reply, solve_due, target_due, turn_due, with_region, within_due, within_text};
 ghost use Rattle.gtp_core.specs.declared.refusal.Refusal.TheVariants as refusal;
-ghost use Rattle.gtp_core.specs.Following.{FitsBoard, FoundOnBoard, IsFoundAt, IsTurnFault};
+ghost use Rattle.gtp_core.specs.Private.Following.{FitsBoard, FoundOnBoard, IsFoundAt, IsTurnFault};
 ghost use Rattle.go_turns.specs.Record.{undo_of};
 
 use crate::command::Command;

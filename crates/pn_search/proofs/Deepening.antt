@@ -8,7 +8,7 @@ use Rattle.proof_cert.specs.Claim.{Node, node_count, max_nodes}
 use Rattle.proof_cert.specs.Certificate.{node_of}
 use Rattle.proof_cert.specs.declared.certificate.Node as code
 use Rattle.pn_search.specs.Search.{full_steps, IsHard}
-use Rattle.pn_search.specs.Shown.{NeitherWins, NoneWithin, IsFirst, IsConfirmable}
+use Rattle.pn_search.specs.Private.Shown.{NeitherWins, NoneWithin, IsFirst, IsConfirmable}
 use Rattle.pn_search.proofs.Showing.{nodes_within}
 
 -- neither side wins within less than k turns, and each depth had no more steps than its tree has states

@@ -31,7 +31,7 @@ use Rattle.cert_check.proofs.Soundness.{game-next}
 use Rattle.pn_search.specs.declared.full_search.Found.{Found}
 use Rattle.pn_search.specs.declared.full_search.Found.TheVariants.{Wins, Open, OutOfSteps}
 use Rattle.pn_search.specs.declared.full_search.Seen.{Seen}
-use Rattle.pn_search.specs.Shown.{nodes_behind, Shows, AllShow, NeitherWins, AreSeen, IsFound, IsWonBy, IsTurnSeen}
+use Rattle.pn_search.specs.Private.Shown.{nodes_behind, Shows, AllShow, NeitherWins, AreSeen, IsFound, IsWonBy, IsTurnSeen}
 
 -- THE NUMBER OF STATES
 

@@ -1,2 +1,2 @@
 pub mod Search
-pub mod Shown
+pub mod Private

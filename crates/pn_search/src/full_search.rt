@@ -12,7 +12,7 @@ ghost use Rattle.target_game.specs.Legal.{legal, legal_turns};
 ghost use Rattle.target_game.specs.Next.{next};
 ghost use Rattle.target_game.specs.Over.{over};
 ghost use Rattle.target_game.specs.Wins.{is_winner, nodes};
-ghost use Rattle.pn_search.specs.Shown.{nodes_behind, IsFound, AreSeen, IsTurnSeen, IsWonBy, IsDecided};
+ghost use Rattle.pn_search.specs.Private.Shown.{nodes_behind, IsFound, AreSeen, IsTurnSeen, IsWonBy, IsDecided};
 
 use go_points::{Colour, Turn};
 use proof_cert::Node;

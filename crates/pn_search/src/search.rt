@@ -2,7 +2,7 @@
 
 ghost use Rattle.std.specs.Prelude.{◌≡◌, ◌≢◌, ◌≤◌, ◌⊎◌, IfOk, IfErr};
 ghost use Rattle.pn_search.specs.Search.{IfWins, IfUnknown, IsHard, cause_told, full_steps};
-ghost use Rattle.pn_search.specs.Shown.{IsConfirmable};
+ghost use Rattle.pn_search.specs.Private.Shown.{IsConfirmable};
 ghost use Rattle.pn_search.specs.declared.verdict.Cause.TheVariants.{Steps, Memory};
 
 use crate::claim::{Choice, Pasts, Shared, claim_with_lemmas, claim_without_lemmas};

@@ -14,8 +14,8 @@ use Rattle.proof_cert.specs.declared.certificate.Lemma as code_lemma
 use Rattle.proof_cert.specs.Certificate.{node_of, replies_of, lemma_of}
 use Rattle.proof_cert.specs.Claim.{Node, Branches, no_branch, branch, Lemma, max_nodes}
 use Rattle.proof_cert.specs.declared.source.SourceFault.{SourceFault}
-use Rattle.proof_cert.specs.Source.{Source, answer, answer_from, later, later_from}
-use Rattle.proof_cert.specs.Reading.{Left, left_of, first_of, line_read, opened, counted, reply_read, replies_read, below_read, tree_read, listed_more, listed_read, lemma_read, lemmas_more, lemmas_read}
+use Rattle.proof_cert.specs.Private.Source.{Source, answer, answer_from, later, later_from}
+use Rattle.proof_cert.specs.Private.Reading.{Left, left_of, first_of, line_read, opened, counted, reply_read, replies_read, below_read, tree_read, listed_more, listed_read, lemma_read, lemmas_more, lemmas_read}
 
 line_given : (s : Source) (nodes listed : ℕ) (failed : Bool) (left : List (Option Line)) (l : Line) → s.has_failed ≡ failed → Ok (Some l) ≡ answer_from failed left
     → first_of (record { lines = cond failed (None ∷ []) left; nodes = nodes; listed = listed }) (cond failed (None ∷ []) left)

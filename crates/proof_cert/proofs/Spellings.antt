@@ -11,7 +11,7 @@ use Rattle.proof_cert.specs.Lines.{Line, play_line, all_line, use_line, won_line
 use Rattle.proof_cert.specs.Text.{is_spelled, line_bytes, line_feed, with_line, text_of_lines}
 use Rattle.proof_cert.specs.Stage.{version_number}
 use Rattle.proof_cert.specs.Certificate.{node_of, replies_of, lemma_of, claim_of}
-use Rattle.proof_cert.specs.Taken.{line_text, lines_text}
+use Rattle.proof_cert.specs.Private.Taken.{line_text, lines_text}
 use Rattle.proof_cert.specs.declared.certificate.Node.{Node}
 use Rattle.proof_cert.specs.declared.certificate.Node.TheVariants.{Won, Use, Play, All}
 use Rattle.proof_cert.specs.declared.certificate.Lemma.{Lemma}

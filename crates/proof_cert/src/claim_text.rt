@@ -8,7 +8,7 @@ ghost use Rattle.proof_cert.specs.Stage.{version_number};
 ghost use Rattle.proof_cert.specs.Text.{is_spelled, text};
 ghost use Rattle.proof_cert.specs.Certificate.{node_of, replies_of, lemma_of, claim_of};
 ghost use Rattle.byte_writer.specs.Taken.{HasPut, TakesPart};
-ghost use Rattle.proof_cert.specs.Taken.{lines_text};
+ghost use Rattle.proof_cert.specs.Private.Taken.{lines_text};
 
 use crate::certificate::{Certificate, Lemma, Node};
 use crate::line_text::{

@@ -7,7 +7,7 @@ ghost use Rattle.byte_writer.specs.Taken.{HasPut};
 ghost use Rattle.proof_cert.specs.Lines.{turn_fits, lemma_line, had_line, had_spelled, not_line, header_line};
 ghost use Rattle.proof_cert.specs.Stage.{version_number};
 ghost use Rattle.proof_cert.specs.Text.{colour_letter, vertex_text, line_feed};
-ghost use Rattle.proof_cert.specs.Taken.{line_text};
+ghost use Rattle.proof_cert.specs.Private.Taken.{line_text};
 
 use crate::certificate::Lemma;
 use crate::version::Version;

@@ -3,7 +3,7 @@
 ghost use Rattle.std.specs.Prelude.{◌≡◌, ◌+◌, ◌-◌, ◌^◌, ◌<◌, ℕ, Option, Result, Some, None, Err, IfSome, OnSome};
 ghost use Rattle.proof_cert.specs.declared.source.SourceFault.{SourceFault as Fault};
 ghost use Rattle.proof_cert.specs.Lines.{Line as SpecLine};
-ghost use Rattle.proof_cert.specs.Source.{answer_value};
+ghost use Rattle.proof_cert.specs.Private.Source.{answer_value};
 ghost use Rattle.proof_cert.specs.Given.{fault_of, lines_counted};
 
 use crate::line::Line;

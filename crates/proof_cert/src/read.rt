@@ -6,7 +6,7 @@ ghost use Rattle.proof_cert.specs.Claim.{Claim, IsWithinLimits, max_depth, max_l
 ghost use Rattle.proof_cert.specs.Text.{text};
 ghost use Rattle.proof_cert.specs.Stage.{line_value};
 ghost use Rattle.proof_cert.specs.Certificate.{node_of, replies_of, lemma_of, claim_of};
-ghost use Rattle.proof_cert.specs.Reading.{with_rest, left_of, line_read, reply_read, replies_read, below_read, tree_read, reply_value, picks, list_read, lists_read, listed_value, lists_value, body_read, lemma_read, all_lemmas_read, claim_read, CountsTree, CountsReplies, CountsListed, CountsLemma, CountsLemmas};
+ghost use Rattle.proof_cert.specs.Private.Reading.{with_rest, left_of, line_read, reply_read, replies_read, below_read, tree_read, reply_value, picks, list_read, lists_read, listed_value, lists_value, body_read, lemma_read, all_lemmas_read, claim_read, CountsTree, CountsReplies, CountsListed, CountsLemma, CountsLemmas};
 
 use crate::certificate::{Certificate, Lemma, Node};
 use crate::claim_text::write_cert;
@@ -147,7 +147,7 @@ fn read_replies(
 
 /// A reply, and the tree below it.
 #[cycle(read)]
-#[tactic(auto, unfolding(crate::specs::Reading::line_as))]
+#[tactic(auto, unfolding(crate::specs::Private::Reading::line_as))]
 fn read_reply(
     alloc: Global,
     reading: &mut Reading<'_>,
@@ -217,7 +217,7 @@ fn read_listed(
 }
 
 /// Both lists of a lemma, of which the first line is given, and the line after them.
-#[tactic(auto, unfolding(crate::specs::Reading::lists_read))]
+#[tactic(auto, unfolding(crate::specs::Private::Reading::lists_read))]
 fn read_lists(
     alloc: Global,
     reading: &mut Reading<'_>,
@@ -244,7 +244,7 @@ fn read_lists(
 }
 
 /// The tree that has this first line, with its `end`.
-#[tactic(auto, unfolding(crate::specs::Reading::body_read))]
+#[tactic(auto, unfolding(crate::specs::Private::Reading::body_read))]
 fn read_body(
     alloc: Global,
     reading: &mut Reading<'_>,
@@ -270,7 +270,7 @@ fn read_body(
 }
 
 /// A lemma after its first line.
-#[tactic(auto, unfolding(crate::specs::Reading::lemma_read))]
+#[tactic(auto, unfolding(crate::specs::Private::Reading::lemma_read))]
 fn read_lemma(
     alloc: Global,
     reading: &mut Reading<'_>,
@@ -345,7 +345,7 @@ fn read_lemmas(alloc: Global, reading: &mut Reading<'_>) -> Result<Option<Vec<Le
 }
 
 /// A whole claim, and maybe more after it.
-#[tactic(auto, unfolding(crate::specs::Reading::claim_read, crate::specs::Reading::line_as))]
+#[tactic(auto, unfolding(crate::specs::Private::Reading::claim_read, crate::specs::Private::Reading::line_as))]
 fn read_claim(
     alloc: Global,
     size: Size,

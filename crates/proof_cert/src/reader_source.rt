@@ -2,7 +2,7 @@
 
 ghost use Rattle.std.specs.Prelude.{◌≡◌, ◌<◌, ◌^◌, [], None, IfOk};
 ghost use Rattle.std.specs.Io.KnownBytes.{Consumes};
-ghost use Rattle.proof_cert.specs.Source.{answer_value};
+ghost use Rattle.proof_cert.specs.Private.Source.{answer_value};
 ghost use Rattle.proof_cert.specs.Streamed.{IsPiece, IsRead, streamed_of};
 
 use crate::line::Line;

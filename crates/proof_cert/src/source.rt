@@ -2,7 +2,7 @@
 
 ghost use Rattle.std.specs.Prelude.{◌≡◌, ◌<◌, ◌^◌, ◌∷◌, length, option_map};
 ghost use Rattle.proof_cert.specs.Stage.{line_value};
-ghost use Rattle.proof_cert.specs.Source.{source_of, answer, answer_value, later};
+ghost use Rattle.proof_cert.specs.Private.Source.{source_of, answer, answer_value, later};
 ghost use Rattle.proof_cert.specs.Text.{lines};
 
 use crate::line::{Line, place_of_byte};
@@ -35,7 +35,7 @@ pub(crate) struct TextSource<'a> {
 
 impl<'a> Model for TextSource<'a> {
     ghost use Rattle.std.specs.Prelude.{◌+◌, ◌^◌, ◌<◌, length};
-    ghost use Rattle.proof_cert.specs.Source.{Source};
+    ghost use Rattle.proof_cert.specs.Private.Source.{Source};
     ghost use Rattle.proof_cert.specs.Text.{lines};
 
     ghost Value = { Source };

@@ -18,7 +18,7 @@ pub struct OpenTree {
 
 impl Model for OpenTree {
     ghost use Rattle.sgf_text.specs.Trees.{GameTree, tree_of};
-    ghost use Rattle.sgf_text.specs.TreeCodes.{coded_tree};
+    ghost use Rattle.sgf_text.specs.Private.TreeCodes.{coded_tree};
 
     ghost Value = { GameTree };
 

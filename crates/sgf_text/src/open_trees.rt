@@ -41,7 +41,7 @@ impl Model for OpenTrees {
     ghost use Rattle.std.specs.Prelude.{reverse};
     ghost use Rattle.std.specs.Coded.{codes};
     ghost use Rattle.sgf_text.specs.OpenTrees.{Open};
-    ghost use Rattle.sgf_text.specs.TreeCodes.{coded_tree};
+    ghost use Rattle.sgf_text.specs.Private.TreeCodes.{coded_tree};
 
     ghost Value = { Open };
 

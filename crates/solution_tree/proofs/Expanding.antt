@@ -15,7 +15,7 @@ use Rattle.cert_check.specs.Checked.{CheckedClaim}
 use Rattle.solution_tree.specs.Answer.{replies_of}
 use Rattle.solution_tree.specs.declared.opened.Open.{Open}
 use Rattle.solution_tree.specs.declared.opened.Open.TheVariants.{Made, Reply}
-use Rattle.solution_tree.specs.Opened.{branches_at, closed, finish, lemma_count, all_below, open_below, open_size, open_sizes, played, replies_then, turn_of}
+use Rattle.solution_tree.specs.Private.Opened.{branches_at, closed, finish, lemma_count, all_below, open_below, open_size, open_sizes, played, replies_then, turn_of}
 
 -- ---- play
 

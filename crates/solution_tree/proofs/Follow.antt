@@ -5,7 +5,7 @@ use Rattle.sgf_text.specs.Trees.{Node, GameTree, no_tree, tree_then, forest_of}
 use Rattle.sgf_text.specs.Text.{is_forest}
 use Rattle.solution_tree.specs.Below.{nodes_of}
 use Rattle.solution_tree.specs.Audit.{has_children, has_several}
-use Rattle.solution_tree.specs.Asked.{follows}
+use Rattle.solution_tree.specs.Private.Asked.{follows}
 
 some_length : {A : Type 0} (x : A) (xs : List A) → nat_eq (length (x ∷ xs)) 0 ≡ false
 some_length x xs = search rules

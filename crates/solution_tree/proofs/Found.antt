@@ -12,7 +12,7 @@ use Rattle.solution_tree.specs.Below.{Nodes, no_node, node_then, sequence, nodes
 use Rattle.solution_tree.specs.declared.fault.AuditFault.{AuditFault}
 use Rattle.solution_tree.specs.Audit.{Why, Fault, ask, at_or, or_later, reply_twice, turn_fault, after_turn, with_turn, is_new, rest_fault, faults_below, faults_of}
 use Rattle.solution_tree.specs.Faults.{IsFault}
-use Rattle.solution_tree.specs.Asked.{follows, IsWhy, IsFound}
+use Rattle.solution_tree.specs.Private.Asked.{follows, IsWhy, IsFound}
 
 pub fault_same : (n m : ℕ) (r q : Result Colour Fault) (e : AuditFault) → n ≡ m → r ≡ q → IsFault n r e → IsFault m q e
 fault_same n m r q e size same h = subst (λ k. IsFault k q e) size (subst (λ z. IsFault n z e) same h)

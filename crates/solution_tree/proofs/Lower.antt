@@ -20,7 +20,7 @@ use Rattle.cert_check.specs.Body.{Body, lemma_body, main_body}
 use Rattle.cert_check.specs.Validity.{FitsNode, FitsBranches, IsValidLemma, AreValidLemmas}
 use Rattle.cert_check.specs.Checked.{CheckedClaim, IsChecked}
 use Rattle.cert_check.specs.Expand.{answer_at, expand_node, expand_branches, answers_behind}
-use Rattle.solution_tree.specs.Opened.{lemma_answers, lemma_count, tree_at, uses_below, all_below, lemmas_below}
+use Rattle.solution_tree.specs.Private.Opened.{lemma_answers, lemma_count, tree_at, uses_below, all_below, lemmas_below}
 
 abbrev Answers : Type 0
 Answers = List (GameState → AnswerTree)

@@ -10,7 +10,7 @@ use Rattle.proof_cert.specs.Claim.{Node, Branches, branch}
 use Rattle.proof_cert.specs.Certificate.{node_of, replies_of}
 use Rattle.proof_cert.specs.declared.certificate.Node as claim
 use Rattle.cert_check.specs.Expand.{expand_node, expand_branches}
-use Rattle.solution_tree.specs.Opened.{uses_below, all_below}
+use Rattle.solution_tree.specs.Private.Opened.{uses_below, all_below}
 
 kept : (es : List (GameState → AnswerTree)) (t : Ply) (n : Node) (bs : Branches) (s : GameState) → legal s t ≡ true → expand_branches es (branch t n bs) s ≡ reply t (expand_node es n (next s t)) (expand_branches es bs s)
 kept es t n bs s h = search rules

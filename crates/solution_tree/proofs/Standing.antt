@@ -22,7 +22,7 @@ use Rattle.solution_tree.specs.declared.answer.Answer.{Answer}
 use Rattle.solution_tree.specs.declared.answer.Answer.TheVariants as code
 use Rattle.solution_tree.specs.declared.opened.Open.{Open}
 use Rattle.solution_tree.specs.declared.opened.Open.TheVariants.{Made, Reply}
-use Rattle.solution_tree.specs.Opened.{Expands, all_below, branches_at, closed, expanded, finish, lemma_answers, lemma_count, open_below, played, replies_then, tree_at, turn_of, uses_below}
+use Rattle.solution_tree.specs.Private.Opened.{Expands, all_below, branches_at, closed, expanded, finish, lemma_answers, lemma_count, open_below, played, replies_then, tree_at, turn_of, uses_below}
 use Rattle.solution_tree.proofs.AnswerTrees.{answer_of_replies, answer_of_turn}
 use Rattle.solution_tree.proofs.Expanding.{reached, reached_game, played_state, played_push, finish_push, then_none, then_then, turn_answers, replies_answer, inner_answers, below_push}
 

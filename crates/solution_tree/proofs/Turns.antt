@@ -15,7 +15,7 @@ use Rattle.target_game.specs.Legal.{legal, holds_point}
 use Rattle.target_game.proofs.Playing.{ply_at}
 use Rattle.tsumego_problem.specs.Walked.{StandsOn}
 use Rattle.solution_tree.specs.declared.given.Given.{Given}
-use Rattle.solution_tree.specs.Asked.{Tells}
+use Rattle.solution_tree.specs.Private.Asked.{Tells}
 
 -- a turn that stands on the board is at a point of it
 pub point_on : (n : ℕ) (p : Place) → StandsOn n (ply_of n (At p)) → IsOn n p

@@ -11,7 +11,7 @@ use Rattle.sgf_text.specs.Trees.{Node, tree_then, GameTree, forest_of}
 use Rattle.tsumego_problem.specs.Canonical.{Rest, rest_of, rest_of_replies, forest_of_replies}
 use Rattle.solution_tree.specs.declared.answer.Answer.{Answer}
 use Rattle.solution_tree.specs.Answer.{answer_of, replies_of}
-use Rattle.solution_tree.specs.Written.{is_one, is_single}
+use Rattle.solution_tree.specs.Private.Written.{is_one, is_single}
 
 -- ---- one turn alone, or not
 

@@ -3,6 +3,4 @@ pub mod Audit
 pub mod Laws
 pub mod Answer
 pub mod Faults
-pub mod Opened
-pub mod Asked
-pub mod Written
+pub mod Private

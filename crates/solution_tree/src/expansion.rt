@@ -7,7 +7,7 @@ ghost use Rattle.proof_cert.specs.Certificate.{claim_of, node_of};
 ghost use Rattle.cert_check.specs.Expand.{expand};
 ghost use Rattle.solution_tree.specs.declared.fault.Expand.TheVariants.{TooLarge};
 ghost use Rattle.solution_tree.specs.Answer.{answer_of};
-ghost use Rattle.solution_tree.specs.Opened.{Expands, IfFinished, is_use, lemma_count, open_sizes, part_below, part_size, part_tree, part_turns, tree_at, uses_below};
+ghost use Rattle.solution_tree.specs.Private.Opened.{Expands, IfFinished, is_use, lemma_count, open_sizes, part_below, part_size, part_tree, part_turns, tree_at, uses_below};
 
 use crate::answer::Answer;
 use crate::fault::Expand;

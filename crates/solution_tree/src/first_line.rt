@@ -5,7 +5,7 @@ ghost use Rattle.target_game.specs.Over.{over};
 ghost use Rattle.sgf_text.specs.Trees.{forest_of};
 ghost use Rattle.solution_tree.specs.Below.{Nodes, sequence};
 ghost use Rattle.solution_tree.specs.Audit.{first_line, won_at};
-ghost use Rattle.solution_tree.specs.Asked.{follows};
+ghost use Rattle.solution_tree.specs.Private.Asked.{follows};
 ghost use Rattle.solution_tree.specs.Faults.{IsFault};
 
 use crate::fault::{AuditFault, AuditWhy};

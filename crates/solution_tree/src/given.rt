@@ -3,7 +3,7 @@
 ghost use Rattle.std.specs.Prelude.{◌≡◌, [], ◌∷◌, ◌++◌, ℕ, List};
 ghost use Rattle.go_points.specs.Ply.{Ply, ply_of};
 ghost use Rattle.tsumego_problem.specs.Walked.{StandsOn};
-ghost use Rattle.solution_tree.specs.Asked.{Tells, given_has};
+ghost use Rattle.solution_tree.specs.Private.Asked.{Tells, given_has};
 
 use go_points::{PointSet, Turn};
 

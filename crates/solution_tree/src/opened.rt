@@ -9,7 +9,7 @@ ghost use Rattle.target_game.specs.State.{GameState};
 ghost use Rattle.cert_check.specs.Expand.{expand_node, expand_branches};
 ghost use Rattle.proof_cert.specs.Certificate as claim;
 ghost use Rattle.solution_tree.specs.Answer.{answer_of, replies_of};
-ghost use Rattle.solution_tree.specs.Opened.{Expands, IfFinished, all_below, branches_at, closed, is_use, lemma_count, open_below, open_size, open_sizes, part_below, part_size, part_tree, part_turns, replies_then, tree_at, uses_below};
+ghost use Rattle.solution_tree.specs.Private.Opened.{Expands, IfFinished, all_below, branches_at, closed, is_use, lemma_count, open_below, open_size, open_sizes, part_below, part_size, part_tree, part_turns, replies_then, tree_at, uses_below};
 
 use crate::answer::Answer;
 use cert_check::Checked;

@@ -11,7 +11,7 @@ ghost use Rattle.sgf_text.specs.Trees.{forest_of};
 ghost use Rattle.tsumego_problem.specs.Walked.{StandsOn};
 ghost use Rattle.solution_tree.specs.Below.{has_one_turn, carried, nodes_of};
 ghost use Rattle.solution_tree.specs.Audit.{turn_fault, with_turn, rest_fault, turns_in, missing, reply_missing, has_children, has_several};
-ghost use Rattle.solution_tree.specs.Asked.{follows, IsWhy, Tells};
+ghost use Rattle.solution_tree.specs.Private.Asked.{follows, IsWhy, Tells};
 
 use crate::fault::AuditWhy;
 use crate::given::Given;

@@ -8,7 +8,7 @@ ghost use Rattle.sgf_text.specs.Trees.{forest_of, tree_of};
 ghost use Rattle.tsumego_problem.specs.Canonical.{rest_of, forest_of_replies, solution};
 ghost use Rattle.proof_cert.specs.Certificate.{claim_of};
 ghost use Rattle.solution_tree.specs.Answer.{answer_of, replies_of};
-ghost use Rattle.solution_tree.specs.Written.{is_single};
+ghost use Rattle.solution_tree.specs.Private.Written.{is_single};
 
 use crate::answer::Answer;
 use cert_check::Checked;

@@ -9,7 +9,7 @@ ghost use Rattle.sgf_text.specs.Trees.{Forest, tree_then, forest_of};
 ghost use Rattle.tsumego_problem.specs.Walk.{problem_node};
 ghost use Rattle.solution_tree.specs.Below.{nodes_of, count_nodes};
 ghost use Rattle.solution_tree.specs.Audit.{Fault, first_line, faults_of, faults_below, unless_fault, audit};
-ghost use Rattle.solution_tree.specs.Asked.{follows, IsFound, Tells, Leads, back};
+ghost use Rattle.solution_tree.specs.Private.Asked.{follows, IsFound, Tells, Leads, back};
 ghost use Rattle.solution_tree.specs.Faults.{IsFault};
 
 use crate::fault::{AuditFault, AuditWhy};

@@ -10,7 +10,7 @@ use Rattle.go_points.proofs.Lists.{true_or_false}
 use Rattle.go_turns.specs.History.{place_in, repeats}
 use Rattle.go_turns.proofs.Repeats.{no_position, no_element, once_more, next_is_new}
 use Rattle.stone_key.specs.Key.{key_of}
-use Rattle.target_game.specs.Buckets.{bucket_at, bucket_count, AreChained}
+use Rattle.target_game.specs.Private.Buckets.{bucket_at, bucket_count, AreChained}
 
 zeros : (m k : ℕ) → slice_index (replicate {A = ℕ} m 0) k ≡ 0
 zeros m k = elim (cases_lt k m) [

@@ -9,7 +9,7 @@ use Rattle.go_points.specs.declared.Cell.TheVariants.{Empty, Stone}
 use Rattle.go_points.specs.Grid.{same_cell, cell_at, side_of}
 use Rattle.go_points.specs.Liberty.{all_reach_empty}
 use Rattle.go_points.specs.Place.{Place, IsOn, on_board, number_of}
-use Rattle.go_points.specs.Sides.{side_of-whole}
+use Rattle.go_points.specs.Private.Sides.{side_of-whole}
 use Rattle.go_points.proofs.Lists.{and_left, and_right, not_false}
 use Rattle.go_points.proofs.Cells.{same_cell_eq, same_cell_refl, eq_same_cell}
 use Rattle.go_turns.specs.History.{repeats}

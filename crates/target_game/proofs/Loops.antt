@@ -13,7 +13,7 @@ use Rattle.go_points.proofs.Cells.{same_cell_refl}
 use Rattle.go_points.proofs.Lists.{and_left, and_right}
 use Rattle.target_game.specs.declared.bad_problem.BadProblem.TheVariants.{BadPlace}
 use Rattle.target_game.specs.Problem.{one_colour, problem_on, problem_of}
-use Rattle.go_points.specs.Sides.{side_of-whole}
+use Rattle.go_points.specs.Private.Sides.{side_of-whole}
 
 module _ {A : Type 0} (f : A → Bool) (xs : List A) where
   -- all pass exactly where all from i on do

@@ -12,7 +12,7 @@ use Rattle.target_game.specs.Legal.{legal_turns}
 use Rattle.target_game.specs.Next.{next}
 use Rattle.target_game.specs.Over.{over}
 use Rattle.target_game.specs.Wins.{some_or_each, is_winner, wins, nodes}
-use Rattle.target_game.specs.Tally.{tally_of, either_or_both, before_turns, with_below, with_turns}
+use Rattle.target_game.specs.Private.Tally.{tally_of, either_or_both, before_turns, with_below, with_turns}
 use Rattle.target_game.specs.Within.{decision}
 use Rattle.target_game.proofs.Winning.{over_cases, wins_over, wins_next}
 

@@ -4,7 +4,7 @@
 ghost use Rattle.std.specs.Prelude.{◌≡◌, ◌-◌, ◌<◌, ◌≤◌, ℕ, true, false, [], length, replicate, slice_index, slice_index_or};
 ghost use Rattle.go_points.specs.Grid.{same_cells};
 ghost use Rattle.go_turns.specs.History.{repeats};
-ghost use Rattle.target_game.specs.Buckets.{bucket_at, bucket_count, history_most};
+ghost use Rattle.target_game.specs.Private.Buckets.{bucket_at, bucket_count, history_most};
 
 use crate::MAX_HISTORY;
 use go_points::Colouring;

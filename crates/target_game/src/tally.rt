@@ -9,7 +9,7 @@ ghost use Rattle.go_points.specs.declared.Colour.TheVariants.{Black, White};
 ghost use Rattle.target_game.specs.Legal.{legal_turns};
 ghost use Rattle.target_game.specs.Over.{over};
 ghost use Rattle.target_game.specs.Wins.{is_winner};
-ghost use Rattle.target_game.specs.Tally.{tally_of, before_turns, with_below, with_turns};
+ghost use Rattle.target_game.specs.Private.Tally.{tally_of, before_turns, with_below, with_turns};
 ghost use Rattle.target_game.specs.declared.within.Within.TheVariants.{Wins, Neither};
 
 use crate::PlayState;

@@ -12,7 +12,7 @@ use Rattle.go_points.specs.declared.Cell.TheVariants.{Empty, Stone}
 use Rattle.go_points.specs.Grid.{points, cell_at, same_cell, side_of, row_of, column_of}
 use Rattle.go_points.specs.Liberty.{all_reach_empty}
 use Rattle.go_points.specs.Place.{Place, IsOn, on_board, number_of}
-use Rattle.go_points.specs.Sides.{side_of-whole}
+use Rattle.go_points.specs.Private.Sides.{side_of-whole}
 use Rattle.go_points.proofs.Cells.{same_cell_eq, same_cell_refl}
 use Rattle.std.proofs.lemmas.List.{length-map}
 use Rattle.std.proofs.lemmas.Bool.{not-false}

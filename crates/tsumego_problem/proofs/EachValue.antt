@@ -15,7 +15,7 @@ use Rattle.go_points.specs.Points.{places_that}
 use Rattle.go_points.proofs.PlaceSets.{places_none}
 use Rattle.target_game.specs.Legal.{holds_point}
 use Rattle.tsumego_problem.specs.Values.{trim, points_named, points_of_each, points_of}
-use Rattle.tsumego_problem.specs.Named.{points_in, Adds}
+use Rattle.tsumego_problem.specs.Private.Named.{points_in, Adds}
 
 -- the set holds the points of the values before i
 abbrev pub EachFrom : ℕ → List (List ℕ) → ℕ → List Place → Type 0

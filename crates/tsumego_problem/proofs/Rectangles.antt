@@ -13,7 +13,7 @@ use Rattle.go_points.specs.Sgf.{sgf_place}
 use Rattle.go_points.specs.declared.TheConstants.{MAX_SIZE}
 use Rattle.std.proofs.lemmas.Bool.Decides.{nat_tests}
 use Rattle.tsumego_problem.specs.Values.{inside, point_at, points_named, rectangle}
-use Rattle.tsumego_problem.specs.Named.{points_in, Gains, Adds}
+use Rattle.tsumego_problem.specs.Private.Named.{points_in, Gains, Adds}
 
 or_false : (a : Bool) → (a || false) ≡ a
 or_false a = search rules

@@ -5,7 +5,7 @@ ghost use Rattle.std.specs.List.{All};
 ghost use Rattle.go_points.specs.Grid.{points};
 ghost use Rattle.go_points.specs.Place.{IsOn, number_of};
 ghost use Rattle.tsumego_problem.specs.Values.{trim, inside, rectangle, points_named, points_of};
-ghost use Rattle.tsumego_problem.specs.Named.{Gains, Adds};
+ghost use Rattle.tsumego_problem.specs.Private.Named.{Gains, Adds};
 ghost use Rattle.tsumego_problem.specs.Walk.{points_at};
 
 use crate::main_line::values_at;

@@ -10,7 +10,7 @@ use Rattle.cert_check.specs.Verdict.{accepted}
 use Rattle.cert_check.specs.Parts.{line_values}
 use Rattle.cert_check.specs.Checks.{Accepts}
 use Rattle.cert_check.specs.Machine.{taken, goes_on, stops, ended}
-use Rattle.cert_check.specs.Judging.{machine_of}
+use Rattle.cert_check.specs.Private.Judging.{machine_of}
 use Rattle.cert_check.specs.Stage.{why_value}
 use Rattle.cert_check.proofs.ReadingClaims.{accepted_sides_win}
 use Rattle.cert_check.proofs.Steps.{if_ok_map, if_err_map}

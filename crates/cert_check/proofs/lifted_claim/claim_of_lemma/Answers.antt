@@ -3,7 +3,7 @@ use Rattle.target_game.specs.State.{GameProblem, start}
 use Rattle.proof_cert.specs.declared.certificate.Certificate.{Certificate}
 use Rattle.proof_cert.specs.declared.certificate.Lemma.{Lemma}
 use Rattle.proof_cert.specs.declared.certificate.Node.TheVariants.{Use}
-use Rattle.cert_check.specs.Results.{version_for}
+use Rattle.cert_check.specs.Private.Results.{version_for}
 use Rattle.cert_check.proofs.Lifted.{made_claim}
 use Rattle.cert_check.proofs.lifted_claim.claim_of_lemma.Goals as goal
 

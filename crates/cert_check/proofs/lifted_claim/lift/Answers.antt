@@ -8,8 +8,8 @@ use Rattle.proof_cert.specs.Claim.{Claim, node_count}
 use Rattle.proof_cert.specs.Certificate.{claim_of, lemma_of, node_of}
 use Rattle.cert_check.specs.Checked.{CheckedClaim, IsChecked}
 use Rattle.cert_check.specs.Lift.{IsLifted, play_results, reply_results}
-use Rattle.cert_check.specs.Results.{is_past, claim_with}
-use Rattle.cert_check.specs.Known.{SameMembers}
+use Rattle.cert_check.specs.Private.Results.{is_past, claim_with}
+use Rattle.cert_check.specs.Private.Known.{SameMembers}
 use Rattle.cert_check.proofs.Lifted.{empty_list, over_cases, under_both, past_nodes, past_listed, lifted, lifted_checked}
 use Rattle.cert_check.proofs.lifted_claim.lift.Goals as goal
 

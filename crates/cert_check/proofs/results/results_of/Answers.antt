@@ -7,7 +7,7 @@ use Rattle.proof_cert.specs.declared.certificate.Node.{Node}
 use Rattle.cert_check.specs.declared.results.Later.{Later}
 use Rattle.cert_check.specs.Body.{main_body}
 use Rattle.cert_check.specs.Checked.{CheckedClaim}
-use Rattle.cert_check.specs.Results.{Gathered, AreOpen, IsPlayable, IsPlayablePart, gathered, joined, left_at, node_at, of_node, nothing, reversed}
+use Rattle.cert_check.specs.Private.Results.{Gathered, AreOpen, IsPlayable, IsPlayablePart, gathered, joined, left_at, node_at, of_node, nothing, reversed}
 use Rattle.cert_check.proofs.Gathering.{walked, walked_all, walked_less, walk_begins, begins_playable, walk_room}
 use Rattle.cert_check.proofs.results.results_of.Goals as goal
 

@@ -5,7 +5,7 @@ use Rattle.go_points.specs.declared.Cell.TheVariants.{Stone}
 use Rattle.go_points.specs.Clear.{clear}
 use Rattle.go_points.specs.Grid.{neighbours, cell_at, side_of}
 use Rattle.go_points.specs.Place.{number_of}
-use Rattle.go_chains.specs.Chains.{IsIn, IsSettled, LacksLiberties, LeavesLiberties}
+use Rattle.go_chains.specs.Private.Chains.{IsIn, IsSettled, LacksLiberties, LeavesLiberties}
 use Rattle.go_chains.proofs.Beside.{in_more}
 use Rattle.go_chains.proofs.Leaving.{CapturedSoFar, captured_step, captured_end}
 use Rattle.go_chains.proofs.capture.capture.Goals as goal

@@ -3,7 +3,7 @@ use Rattle.std.proofs.lemmas.List.{take_all}
 use Rattle.go_points.specs.Grid.{neighbours, side_of}
 use Rattle.go_points.specs.Place.{number_of}
 use Rattle.go_points.proofs.Cells.{neighbours_member}
-use Rattle.go_chains.specs.Chains.{IsIn}
+use Rattle.go_chains.specs.Private.Chains.{IsIn}
 use Rattle.go_chains.proofs.Counts.{member_in}
 use Rattle.go_chains.proofs.change.live_around.Goals as goal
 

@@ -5,7 +5,7 @@ use Rattle.go_points.specs.declared.Cell.TheVariants.{Empty}
 use Rattle.go_points.specs.declared.TheConstants.{MAX_POINTS}
 use Rattle.go_points.specs.Grid.{cell_at, side_of}
 use Rattle.go_points.specs.Place.{number_of}
-use Rattle.go_chains.specs.Chains.{touches}
+use Rattle.go_chains.specs.Private.Chains.{touches}
 use Rattle.go_chains.proofs.Counts.{count_most, touches_most}
 use Rattle.go_chains.proofs.Removing.{set_empty}
 use Rattle.go_chains.proofs.CutPoints.{rest_circles, rest_closed, rest_count, rest_counts}

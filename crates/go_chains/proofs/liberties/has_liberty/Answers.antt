@@ -5,7 +5,7 @@ use Rattle.go_points.specs.Grid.{same_cell, adjacent, neighbours, cell_at, side_
 use Rattle.go_points.specs.Place.{number_of}
 use Rattle.go_points.proofs.Lists.{any_to, or_left, or_right}
 use Rattle.go_points.proofs.Cells.{neighbours_member}
-use Rattle.go_chains.specs.Quiet.{has_more, lets_stay}
+use Rattle.go_chains.specs.Private.Quiet.{has_more, lets_stay}
 use Rattle.go_chains.proofs.Beside.{item_beside}
 use Rattle.go_chains.proofs.liberties.has_liberty.Goals as goal
 

@@ -2,7 +2,7 @@ use Rattle.std.proofs.Common.{◌≡◌, false, map, take}
 use Rattle.std.specs.List.{list_any}
 use Rattle.go_points.specs.Grid.{side_of}
 use Rattle.go_points.specs.Place.{number_of}
-use Rattle.go_chains.specs.Quiet.{lets_stay}
+use Rattle.go_chains.specs.Private.Quiet.{lets_stay}
 use Rattle.go_chains.proofs.liberties.has_liberty.Given as goal
 
 -- none so far

@@ -2,7 +2,7 @@ use Rattle.std.proofs.Common.{◌≡◌, ℕ, Bool, List, cond, eq-eqb, length, 
 use Rattle.std.proofs.lemmas.List.{length-map, take_all}
 use Rattle.go_points.specs.Grid.{neighbours}
 use Rattle.go_points.specs.Place.{number_of}
-use Rattle.go_chains.specs.Chains.{total}
+use Rattle.go_chains.specs.Private.Chains.{total}
 use Rattle.go_chains.proofs.Counts.{is_head, touches_is, neighbours_most}
 use Rattle.go_chains.proofs.Giving.{few}
 use Rattle.go_chains.proofs.Beside.{total_more}

@@ -1,6 +1,6 @@
 use Rattle.std.proofs.Common.{◌≡◌, map, take}
 use Rattle.go_points.specs.Place.{number_of}
-use Rattle.go_chains.specs.Chains.{total}
+use Rattle.go_chains.specs.Private.Chains.{total}
 use Rattle.go_chains.proofs.Counts.{is_head}
 use Rattle.go_chains.proofs.liberties.shared.Given as goal
 

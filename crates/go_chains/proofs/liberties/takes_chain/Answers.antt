@@ -6,7 +6,7 @@ use Rattle.go_points.specs.Grid.{opponent_of, same_cell, adjacent, neighbours, c
 use Rattle.go_points.specs.Place.{number_of}
 use Rattle.go_points.proofs.Lists.{any_to}
 use Rattle.go_points.proofs.Cells.{neighbours_member}
-use Rattle.go_chains.specs.Quiet.{has_more, loses_last}
+use Rattle.go_chains.specs.Private.Quiet.{has_more, loses_last}
 use Rattle.go_chains.proofs.Beside.{item_beside}
 use Rattle.go_chains.proofs.liberties.takes_chain.Goals as goal
 

@@ -5,7 +5,7 @@ use Rattle.go_points.specs.declared.Cell.TheVariants.{Empty, Stone}
 use Rattle.go_points.specs.declared.TheConstants.{MAX_POINTS}
 use Rattle.go_points.specs.Grid.{adjacent, neighbours, cell_at, side_of}
 use Rattle.go_points.specs.Place.{number_of}
-use Rattle.go_chains.specs.Chains.{IsIn, HasCircles, HasCounts, KeepsTogether, KeepsOthers, nowhere}
+use Rattle.go_chains.specs.Private.Chains.{IsIn, HasCircles, HasCounts, KeepsTogether, KeepsOthers, nowhere}
 use Rattle.go_chains.proofs.Beside.{in_more, item_beside}
 use Rattle.go_chains.proofs.Filling.{FilledSoFar, filled_start, filled_step, filled_end}
 use Rattle.go_chains.proofs.stones.fill.Goals as goal

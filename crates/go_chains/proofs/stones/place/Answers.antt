@@ -5,7 +5,7 @@ use Rattle.go_points.specs.declared.Cell.TheVariants.{Empty, Stone}
 use Rattle.go_points.specs.declared.TheConstants.{MAX_POINTS}
 use Rattle.go_points.specs.Grid.{cell_at, side_of}
 use Rattle.go_points.specs.Place.{number_of}
-use Rattle.go_chains.specs.Chains.{touches, empties_beside}
+use Rattle.go_chains.specs.Private.Chains.{touches, empties_beside}
 use Rattle.go_chains.proofs.Filling.{touches_few}
 use Rattle.go_chains.proofs.Placing.{placed_circles, placed_counts}
 use Rattle.go_chains.proofs.stones.place.Goals as goal

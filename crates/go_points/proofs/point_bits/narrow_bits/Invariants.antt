@@ -1,5 +1,5 @@
 use Rattle.go_points.proofs.Narrowing.{IsCopied}
-use Rattle.go_points.specs.Narrow.{narrow_count}
+use Rattle.go_points.specs.Private.Narrow.{narrow_count}
 use Rattle.go_points.proofs.point_bits.narrow_bits.Given as goal
 
 abbrev pub invariant-loop-index : goal.invariant-loop-index

@@ -1,5 +1,5 @@
 use Rattle.go_points.proofs.Narrowing.{IsCopied}
-use Rattle.go_points.specs.Words.{word_count}
+use Rattle.go_points.specs.Private.Words.{word_count}
 use Rattle.go_points.proofs.point_bits.wide_bits.Given as goal
 
 abbrev pub invariant-loop-index : goal.invariant-loop-index

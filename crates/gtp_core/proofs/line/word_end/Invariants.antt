@@ -1,5 +1,5 @@
 use Rattle.std.proofs.Common.{take}
-use Rattle.gtp_core.specs.Pieces.{HasNone}
+use Rattle.gtp_core.specs.Private.Pieces.{HasNone}
 use Rattle.gtp_core.proofs.line.word_end.Given as goal
 
 abbrev pub invariant-loop-end : goal.invariant-loop-end

@@ -3,7 +3,7 @@ use Rattle.std.proofs.KnownBytes.{prepend_known-nil}
 use Rattle.std.specs.Io.KnownBytes.{prepend_known}
 use Rattle.gtp_core.specs.declared.input.Ending.{Ending}
 use Rattle.gtp_core.specs.Session.{GtpSession}
-use Rattle.gtp_core.specs.Taking.{IsRawLine, IsServed, IsPartServed, IsUnderWay, bounded}
+use Rattle.gtp_core.specs.Private.Taking.{IsRawLine, IsServed, IsPartServed, IsUnderWay, bounded}
 use Rattle.gtp_core.proofs.Running.{begins, goes_on, ends_with_input, ends_with_line, read_failed, write_failed}
 use Rattle.gtp_core.proofs.run.serve_lines.Goals as goal
 

@@ -1,4 +1,4 @@
-use Rattle.gtp_core.specs.Taking.{IsUnderWay, bounded}
+use Rattle.gtp_core.specs.Private.Taking.{IsUnderWay, bounded}
 use Rattle.gtp_core.proofs.run.serve_lines.Given as goal
 
 abbrev pub invariant-loop-ending : goal.invariant-loop-ending

@@ -5,7 +5,7 @@ use Rattle.proof_cert.specs.Claim.{Node}
 use Rattle.proof_cert.specs.Certificate.{node_of}
 use Rattle.proof_cert.specs.declared.certificate.Node.TheVariants.{All}
 use Rattle.proof_cert.proofs.Certificates.{node_of_all}
-use Rattle.pn_search.specs.Shown.{Shows}
+use Rattle.pn_search.specs.Private.Shown.{Shows}
 use Rattle.pn_search.proofs.Showing.{decided_open, decided_lost}
 use Rattle.pn_search.proofs.full_search.decided.Goals as goal
 

@@ -1,7 +1,7 @@
 use Rattle.std.proofs.Common.{sym, ◌∙◌, subst}
 use Rattle.proof_cert.specs.Claim.{Node}
 use Rattle.proof_cert.proofs.Certificates.{node_of_won}
-use Rattle.pn_search.specs.Shown.{Shows, NeitherWins}
+use Rattle.pn_search.specs.Private.Shown.{Shows, NeitherWins}
 use Rattle.pn_search.proofs.Showing.{open_last, shows_won}
 use Rattle.pn_search.proofs.full_search.found_at_once.Goals as goal
 

@@ -1,7 +1,7 @@
 use Rattle.std.proofs.Common.{◌+◌, ◌≤◌, ◌∙◌, subst}
 use Rattle.target_game.specs.State.{Line, start}
 use Rattle.target_game.specs.Wins.{nodes}
-use Rattle.pn_search.specs.Shown.{IsFound}
+use Rattle.pn_search.specs.Private.Shown.{IsFound}
 use Rattle.pn_search.proofs.Deepening.{undecided_more, undecided_out}
 use Rattle.pn_search.proofs.full_search.search_depths.Goals as goal
 

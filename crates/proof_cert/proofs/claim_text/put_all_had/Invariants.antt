@@ -1,7 +1,7 @@
 use Rattle.std.proofs.Common.{drop, map}
 use Rattle.proof_cert.specs.Lines.{had_spelled}
 use Rattle.proof_cert.specs.Stage.{version_number}
-use Rattle.proof_cert.specs.Taken.{lines_text}
+use Rattle.proof_cert.specs.Private.Taken.{lines_text}
 use Rattle.byte_writer.proofs.TakenLemmas.{SoFar}
 use Rattle.proof_cert.proofs.claim_text.put_all_had.Given as goal
 

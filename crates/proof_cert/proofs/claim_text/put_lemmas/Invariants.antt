@@ -4,7 +4,7 @@ use Rattle.proof_cert.specs.Lines.{lemmas_lines}
 use Rattle.proof_cert.specs.Text.{is_spelled}
 use Rattle.proof_cert.specs.Stage.{version_number}
 use Rattle.proof_cert.specs.Certificate.{lemma_of}
-use Rattle.proof_cert.specs.Taken.{lines_text}
+use Rattle.proof_cert.specs.Private.Taken.{lines_text}
 use Rattle.byte_writer.proofs.TakenLemmas.{SoFar}
 use Rattle.proof_cert.proofs.claim_text.put_lemmas.Given as goal
 

@@ -6,7 +6,7 @@ use Rattle.proof_cert.specs.Lines.{lines_of}
 use Rattle.proof_cert.specs.Text.{is_spelled, text}
 use Rattle.proof_cert.specs.Certificate.{claim_of}
 use Rattle.byte_writer.specs.Taken.{TakesPart}
-use Rattle.proof_cert.specs.Taken.{lines_text}
+use Rattle.proof_cert.specs.Private.Taken.{lines_text}
 use Rattle.proof_cert.proofs.Spellings.{AreSpelled, text_is, no_text}
 use Rattle.proof_cert.proofs.claim_text.write_cert.Goals as goal
 

@@ -6,7 +6,7 @@ use Rattle.proof_cert.specs.Claim.{Lemma}
 use Rattle.proof_cert.specs.Lines.{lemma_line}
 use Rattle.proof_cert.specs.Certificate.{lemma_of}
 use Rattle.proof_cert.specs.declared.certificate.Lemma as code
-use Rattle.proof_cert.specs.Reading.{Left, with_rest, left_of, line_read, lemma_read, lemmas_read, all_lemmas_read, CountsLemmas}
+use Rattle.proof_cert.specs.Private.Reading.{Left, with_rest, left_of, line_read, lemma_read, lemmas_read, all_lemmas_read, CountsLemmas}
 use Rattle.proof_cert.proofs.ReadTrees.{lemmas_front, no_lemmas_front, lemmas_after, no_lemma, lemma_is_read, lemmas_pushed}
 use Rattle.proof_cert.proofs.ReadCounts.{lemma_counted}
 use Rattle.proof_cert.proofs.read.read_lemmas.Goals as goal

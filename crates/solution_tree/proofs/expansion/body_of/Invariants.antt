@@ -1,7 +1,7 @@
 use Rattle.std.proofs.Common.{◌≡◌, ◌≤◌, IsTrue}
 use Rattle.target_game.specs.State.{GameState}
 use Rattle.proof_cert.specs.Certificate.{node_of}
-use Rattle.solution_tree.specs.Opened.{lemma_count, tree_at, uses_below}
+use Rattle.solution_tree.specs.Private.Opened.{lemma_count, tree_at, uses_below}
 use Rattle.solution_tree.proofs.expansion.body_of.Given as goal
 
 -- The part is expanded as the node is, and uses lower and lower lemmas.

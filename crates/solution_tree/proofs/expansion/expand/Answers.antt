@@ -5,7 +5,7 @@ use Rattle.proof_cert.specs.declared.certificate.Certificate.{Certificate}
 use Rattle.solution_tree.specs.declared.opened.Open.{Open}
 use Rattle.proof_cert.specs.Certificate.{claim_of, node_of}
 use Rattle.cert_check.specs.Checked.{CheckedClaim}
-use Rattle.solution_tree.specs.Opened.{Expands, expanded, finish, lemma_count, open_sizes, part_size, part_turns, part_tree, uses_below}
+use Rattle.solution_tree.specs.Private.Opened.{Expands, expanded, finish, lemma_count, open_sizes, part_size, part_turns, part_tree, uses_below}
 use Rattle.solution_tree.proofs.Expanding.{whole_size}
 use Rattle.solution_tree.proofs.Lower.{main_is_below}
 use Rattle.solution_tree.proofs.Standing.{begins}

@@ -2,7 +2,7 @@ use Rattle.std.proofs.Common.{◌≡◌, ℕ, ◌+◌, ◌++◌, [], ◌∷◌, 
 use Rattle.target_game.specs.Answers.{answer_size}
 use Rattle.cert_check.specs.Checked.{CheckedClaim}
 use Rattle.solution_tree.specs.Answer.{answer_of}
-use Rattle.solution_tree.specs.Opened.{Expands, open_sizes, open_size, part_size, part_tree, part_turns}
+use Rattle.solution_tree.specs.Private.Opened.{Expands, open_sizes, open_size, part_size, part_tree, part_turns}
 use Rattle.solution_tree.proofs.Expanding.{sizes_push}
 use Rattle.solution_tree.proofs.Standing.{made_before, popped}
 use Rattle.solution_tree.proofs.opened.close.Goals as goal

@@ -6,7 +6,7 @@ use Rattle.go_points.specs.Ply.{ply_of}
 use Rattle.proof_cert.specs.Certificate as claim
 use Rattle.cert_check.specs.Checked.{CheckedClaim}
 use Rattle.solution_tree.specs.Answer.{replies_of}
-use Rattle.solution_tree.specs.Opened.{Expands, all_below, branches_at, lemma_answers, lemma_count, open_sizes, replies_then, tree_at, uses_below}
+use Rattle.solution_tree.specs.Private.Opened.{Expands, all_below, branches_at, lemma_answers, lemma_count, open_sizes, replies_then, tree_at, uses_below}
 use Rattle.solution_tree.specs.declared.opened.Open.{Open}
 use Rattle.solution_tree.specs.declared.opened.Open.TheVariants.{Reply}
 use Rattle.solution_tree.proofs.AnswerTrees.{size_replies}

@@ -4,7 +4,7 @@ use Rattle.go_points.specs.Ply.{ply_of}
 use Rattle.target_game.specs.Answers.{turn, answer_size}
 use Rattle.tsumego_problem.specs.Canonical.{rest_of}
 use Rattle.solution_tree.specs.Answer.{answer_of}
-use Rattle.solution_tree.specs.Written.{is_single}
+use Rattle.solution_tree.specs.Private.Written.{is_single}
 use Rattle.solution_tree.proofs.AnswerTrees.{answer_of_won, answer_of_turn, answer_of_replies, size_turn, size_replies}
 use Rattle.solution_tree.proofs.Writing.{one_reply, only_reply, only_size}
 use Rattle.solution_tree.proofs.solution.single_turn.Goals as goal

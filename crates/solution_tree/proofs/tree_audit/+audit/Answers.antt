@@ -8,7 +8,7 @@ use Rattle.sgf_text.specs.Text.{are_nodes, is_forest}
 use Rattle.sgf_text.specs.Trees.{tree_then, forest_of, forest_count}
 use Rattle.solution_tree.specs.Below.{node_then, nodes_of, count_nodes}
 use Rattle.solution_tree.specs.Audit.{faults_of, faults_below}
-use Rattle.solution_tree.specs.Asked.{follows, IsFound, Tells}
+use Rattle.solution_tree.specs.Private.Asked.{follows, IsFound, Tells}
 use Rattle.solution_tree.proofs.Found.{new_turn, found_first, opened_child, child_new, child_done, sequence_count}
 use Rattle.solution_tree.proofs.Going.{went_size}
 use Rattle.solution_tree.proofs.tree_audit.+audit.Goals as goal

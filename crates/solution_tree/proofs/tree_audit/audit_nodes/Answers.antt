@@ -4,7 +4,7 @@ use Rattle.target_game.specs.State.{Line}
 use Rattle.target_game.specs.Next.{next}
 use Rattle.solution_tree.specs.Below.{no_node, node_then}
 use Rattle.solution_tree.specs.Audit.{rest_fault, faults_of}
-use Rattle.solution_tree.specs.Asked.{follows}
+use Rattle.solution_tree.specs.Private.Asked.{follows}
 use Rattle.solution_tree.proofs.Found.{went_on}
 use Rattle.solution_tree.proofs.Going.{leads_more, went_size}
 use Rattle.solution_tree.proofs.tree_audit.audit_nodes.Goals as goal

@@ -1,5 +1,5 @@
 use Rattle.std.proofs.Common.{◌≡◌, ◌≤◌, length}
-use Rattle.solution_tree.specs.Asked.{back}
+use Rattle.solution_tree.specs.Private.Asked.{back}
 use Rattle.solution_tree.proofs.tree_audit.take_back.Given as goal
 
 abbrev pub invariant-loop-left : goal.invariant-loop-left

@@ -6,7 +6,7 @@ use Rattle.target_game.specs.Left.{turns_due}
 use Rattle.target_game.specs.Next.{next}
 use Rattle.target_game.specs.Over.{over}
 use Rattle.target_game.specs.Wins.{is_winner}
-use Rattle.target_game.specs.Tally.{tally_of, before_turns, with_below, with_turns}
+use Rattle.target_game.specs.Private.Tally.{tally_of, before_turns, with_below, with_turns}
 use Rattle.target_game.proofs.Due.{turns_begun}
 use Rattle.target_game.proofs.Tallies.{tally_none, tally_last, turn_more, turn_past, turns_done}
 use Rattle.target_game.proofs.Children.{child_winner}

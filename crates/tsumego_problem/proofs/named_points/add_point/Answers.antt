@@ -1,6 +1,6 @@
 use Rattle.std.proofs.Common.{sym, ◌∙◌, subst, true}
 use Rattle.tsumego_problem.specs.Values.{points_named}
-use Rattle.tsumego_problem.specs.Named.{Adds}
+use Rattle.tsumego_problem.specs.Private.Named.{Adds}
 use Rattle.tsumego_problem.proofs.Rectangles.{adds_point}
 use Rattle.tsumego_problem.proofs.named_points.add_point.Goals as goal
 

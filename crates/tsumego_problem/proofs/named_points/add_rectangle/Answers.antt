@@ -2,7 +2,7 @@ use Rattle.std.proofs.Common.{true, false, cond, Some, None, filter, refl, sym, 
 use Rattle.go_points.specs.Grid.{points}
 use Rattle.go_points.specs.Place.{number_of}
 use Rattle.tsumego_problem.specs.Values.{inside}
-use Rattle.tsumego_problem.specs.Named.{Adds}
+use Rattle.tsumego_problem.specs.Private.Named.{Adds}
 use Rattle.tsumego_problem.proofs.Rectangles.{corners}
 use Rattle.tsumego_problem.proofs.named_points.add_rectangle.Goals as goal
 

@@ -1,7 +1,7 @@
 use Rattle.std.proofs.Common.{rules, ◌≡◌, List, [], ◌∷◌, reverse, subst, sym}
 use Rattle.go_points.specs.declared.Cell.{Cell}
 use Rattle.target_game.specs.State.{Game, Line, state_alone}
-use Rattle.cert_check.specs.Known.{AreKnown}
+use Rattle.cert_check.specs.Private.Known.{AreKnown}
 use Rattle.cert_check.proofs.Known.{alone_known}
 use Rattle.cert_check.proofs.body_state.BodyState.begin.Goals as goal
 

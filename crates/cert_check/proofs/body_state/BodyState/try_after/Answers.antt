@@ -4,7 +4,7 @@ use Rattle.go_points.specs.Ply.{Ply, ply_of}
 use Rattle.target_game.specs.State.{Line}
 use Rattle.target_game.specs.Left.{line_if}
 use Rattle.target_game.specs.Next.{next}
-use Rattle.cert_check.specs.Known.{AreKnown}
+use Rattle.cert_check.specs.Private.Known.{AreKnown}
 use Rattle.cert_check.proofs.Known.{one_known_more}
 use Rattle.cert_check.proofs.body_state.BodyState.try_after.Goals as goal
 

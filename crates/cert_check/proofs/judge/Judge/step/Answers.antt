@@ -1,7 +1,7 @@
 use Rattle.std.proofs.Common.{rules, ◌≡◌, true, ◌∙◌, subst}
 use Rattle.proof_cert.specs.Lines.{line_fits}
 use Rattle.proof_cert.specs.Stage.{line_value}
-use Rattle.cert_check.specs.Judging.{IsReadyFor, AwaitsNode}
+use Rattle.cert_check.specs.Private.Judging.{IsReadyFor, AwaitsNode}
 use Rattle.cert_check.specs.declared.judge.Phase.{Phase}
 use Rattle.cert_check.proofs.Steps.{on_ok_map, if_err_map}
 use Rattle.cert_check.proofs.Judging.{body_line}

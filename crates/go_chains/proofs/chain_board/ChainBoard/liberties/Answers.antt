@@ -4,7 +4,7 @@ use Rattle.go_points.specs.declared.TheConstants.{MAX_POINTS}
 use Rattle.go_points.specs.Grid.{side_of}
 use Rattle.go_points.specs.Place.{number_of}
 use Rattle.go_chains.specs.Joined.{HoldsThose, AreLibertiesOf}
-use Rattle.go_chains.specs.Quiet.{is_liberty}
+use Rattle.go_chains.specs.Private.Quiet.{is_liberty}
 use Rattle.go_chains.proofs.Gathering.{liberties_are}
 use Rattle.go_chains.proofs.chain_board.ChainBoard.liberties.Goals as goal
 

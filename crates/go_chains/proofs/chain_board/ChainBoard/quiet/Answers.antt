@@ -6,7 +6,7 @@ use Rattle.go_points.specs.declared.TheConstants.{MAX_POINTS}
 use Rattle.go_points.specs.Grid.{neighbours, cell_at, side_of}
 use Rattle.go_points.specs.Place.{number_of}
 use Rattle.go_points.specs.Move.{after_move}
-use Rattle.go_chains.specs.Quiet.{loses_last, lets_stay}
+use Rattle.go_chains.specs.Private.Quiet.{loses_last, lets_stay}
 use Rattle.go_chains.proofs.Lacking.{settled_tells}
 use Rattle.go_chains.proofs.Quietness.{quiet_is}
 use Rattle.go_chains.proofs.chain_board.ChainBoard.quiet.Goals as goal

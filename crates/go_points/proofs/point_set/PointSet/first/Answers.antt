@@ -3,7 +3,7 @@ use Rattle.go_points.specs.declared.TheConstants.{MAX_SIZE, MAX_POINTS}
 use Rattle.go_points.specs.Points.{has_bit, first_place}
 use Rattle.go_points.proofs.Counting.{none_more, lowest_on, first_bit, no_first}
 use Rattle.go_points.proofs.PlaceSets.{is_point_set}
-use Rattle.go_points.specs.Words.{word_count}
+use Rattle.go_points.specs.Private.Words.{word_count}
 use Rattle.go_points.proofs.point_set.PointSet.first.Goals as goal
 
 pub point_with-requires : goal.point_with-requires

@@ -3,7 +3,7 @@ use Rattle.go_points.specs.declared.TheConstants.{MAX_SIZE, MAX_POINTS}
 use Rattle.go_points.specs.Points.{has_bit, with_place}
 use Rattle.go_points.proofs.Bits.{bit_put, bit_same, bit_other, words_kept}
 use Rattle.go_points.proofs.PlaceSets.{places_with}
-use Rattle.go_points.specs.Words.{word_count}
+use Rattle.go_points.specs.Private.Words.{word_count}
 use Rattle.go_points.proofs.point_set.PointSet.insert.Goals as goal
 
 pub invariant_of-self : goal.invariant_of-self

@@ -3,7 +3,7 @@ use Rattle.go_points.specs.declared.TheConstants.{MAX_SIZE}
 use Rattle.go_points.specs.Points.{has_bit}
 use Rattle.go_points.proofs.Counting.{bits_below, no_bits_below, bits_few, bits_more, bits_all, places_few}
 use Rattle.go_points.proofs.PlaceSets.{is_point_set}
-use Rattle.go_points.specs.Words.{word_count}
+use Rattle.go_points.specs.Private.Words.{word_count}
 use Rattle.go_points.proofs.point_set.PointSet.len.Goals as goal
 
 pub loop-index-init : goal.loop-index-init

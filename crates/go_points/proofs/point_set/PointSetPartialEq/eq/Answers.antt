@@ -3,8 +3,8 @@ use Rattle.std.specs.Cmp.Lexicographic.{pointwise, pointwise_decides}
 use Rattle.go_points.specs.declared.TheConstants.{MAX_SIZE, MAX_POINTS}
 use Rattle.go_points.specs.Place.{Place}
 use Rattle.go_points.specs.Points.{same_places, places_of}
-use Rattle.go_points.specs.Words.{word_count, IsWords, words_of}
-use Rattle.go_points.specs.Inverses.{words_back}
+use Rattle.go_points.specs.Private.Words.{word_count, IsWords, words_of}
+use Rattle.go_points.specs.Private.Inverses.{words_back}
 use Rattle.go_points.specs.Equal.{same_place_decides}
 use Rattle.go_points.proofs.point_set.PointSetPartialEq.eq.Goals as goal
 

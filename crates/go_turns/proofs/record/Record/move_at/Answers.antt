@@ -11,7 +11,7 @@ use Rattle.go_points.proofs.Sides.{number_below}
 use Rattle.go_turns.specs.declared.record.Step.{Step}
 use Rattle.go_turns.specs.History.{place_in}
 use Rattle.go_turns.specs.Record.{Moment, GameRecord, colouring_of, play_of, Did}
-use Rattle.go_turns.specs.Steps.{CanStand}
+use Rattle.go_turns.specs.Private.Steps.{CanStand}
 use Rattle.go_turns.proofs.Steps.{can_stand, at_end, fit_longer, fit_push, earlier_split}
 use Rattle.go_turns.proofs.Turns.{did_move, was_empty, was_moved}
 use Rattle.go_turns.proofs.record.Record.move_at.Goals as goal

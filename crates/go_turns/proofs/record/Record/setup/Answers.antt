@@ -9,7 +9,7 @@ use Rattle.go_turns.specs.declared.fault.TurnFault.TheVariants.{NoLiberty}
 use Rattle.go_turns.specs.declared.record.Step.{Step}
 use Rattle.go_turns.specs.History.{place_in}
 use Rattle.go_turns.specs.Record.{Moment, GameRecord, colouring_of, numbered, assigned, setup_of, Did}
-use Rattle.go_turns.specs.Steps.{CanStand}
+use Rattle.go_turns.specs.Private.Steps.{CanStand}
 use Rattle.go_turns.proofs.Steps.{can_stand, fit_push, earlier_split}
 use Rattle.go_turns.proofs.Setups.{joined_at, joined_front, joined_fit, did_smother, did_set}
 use Rattle.go_turns.proofs.record.Record.setup.Goals as goal

@@ -8,7 +8,7 @@ use Rattle.go_points.specs.Liberty.{first_without_liberty}
 use Rattle.go_chains.specs.declared.NoLiberty.{NoLiberty}
 use Rattle.go_turns.specs.declared.record.Step.{Step}
 use Rattle.go_turns.specs.Record.{Moment, GameRecord, undo_of, DidWithoutMemory}
-use Rattle.go_turns.specs.Steps.{CanStand, IsAt}
+use Rattle.go_turns.specs.Private.Steps.{CanStand, IsAt}
 use Rattle.go_turns.proofs.Steps.{fit_pop, last_stands, last_few, below_last, earlier_split}
 use Rattle.go_turns.proofs.Turns.{did_undo, was_made}
 use Rattle.go_turns.proofs.record.Record.undo.Given.{Over}

@@ -1,5 +1,5 @@
 use Rattle.std.proofs.Common.{rules, ◌≡◌, ◌∷◌, [], Option, ℕ, false, nat_eq, subst}
-use Rattle.gtp_core.specs.Taking.{Gives, IsByte, bounded}
+use Rattle.gtp_core.specs.Private.Taking.{Gives, IsByte, bounded}
 use Rattle.gtp_core.proofs.Pieces.{line_more, line_fed, no_further}
 use Rattle.gtp_core.proofs.input.Input.next_line.Goals as goal
 

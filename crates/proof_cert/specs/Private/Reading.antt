@@ -12,7 +12,7 @@ use Rattle.go_points.specs.Ply.{Ply, ply_of}
 use Rattle.proof_cert.specs.Claim.{Node, won, by_lemma, play, all, Branches, no_branch, branch, Lemma, Claim, node_count, node_count_below, depth_of, depth_below, AreShallow, listed_count, max_nodes, max_depth, max_listed}
 use Rattle.proof_cert.specs.Lines.{Line, header_line, lemma_line, had_line, not_line, main_line, won_line, use_line, play_line, all_line, reply_line}
 use Rattle.std.specs.declared.alloc.Global.{Global}
-use Rattle.proof_cert.specs.Source.{Source}
+use Rattle.proof_cert.specs.Private.Source.{Source}
 use Rattle.proof_cert.specs.Stage.{line_value, version_number}
 use Rattle.proof_cert.specs.declared.line.Line as code_line
 use Rattle.proof_cert.specs.Certificate.{node_of}

@@ -5,7 +5,7 @@ use Rattle.byte_writer.specs.Taken.{TakesPart}
 use Rattle.gtp_core.specs.declared.input.Ending.{Ending}
 use Rattle.gtp_core.specs.declared.input.Ending.TheVariants.{LineFeed, End}
 use Rattle.gtp_core.specs.Lines.{raw_lines}
-use Rattle.gtp_core.specs.Pieces.{HasNone}
+use Rattle.gtp_core.specs.Private.Pieces.{HasNone}
 use Rattle.gtp_core.specs.Runs.{GoesThrough, first_session, input_limit}
 use Rattle.gtp_core.specs.Serving.{Output, Serves}
 use Rattle.gtp_core.specs.Session.{GtpSession}

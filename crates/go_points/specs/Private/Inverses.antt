@@ -11,7 +11,7 @@ use Rattle.std.proofs.lemmas.List.FromFn.{fill_by_all, get_or-map-range_with_len
 use Rattle.go_points.specs.Grid.{points}
 use Rattle.go_points.specs.Place.{place_of}
 use Rattle.go_points.specs.Points.{same_place, holds_place, places_that, has_bit}
-use Rattle.go_points.specs.Words.{word_that, words_that, IsWords}
+use Rattle.go_points.specs.Private.Words.{word_that, words_that, IsWords}
 
 -- two points are the same where their numbers are
 pub same_numbers : (n i k : ℕ) → same_place (place_of n i) (place_of n k) ≡ nat_eq i k

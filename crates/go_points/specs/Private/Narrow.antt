@@ -3,7 +3,7 @@ use Rattle.std.specs.Prelude.{◌≡◌, ℕ, ◌+◌, ◌*◌, ◌/◌, ◌≤�
 use Rattle.std.specs.List.{range_with_len}
 use Rattle.go_points.specs.declared.point_bits.TheConstants.{NARROW_SIZE}
 use Rattle.go_points.specs.Points.{has_bit}
-use Rattle.go_points.specs.Words.{IsWords}
+use Rattle.go_points.specs.Private.Words.{IsWords}
 
 -- The words that such a board needs.
 abbrev pub narrow_count : ℕ

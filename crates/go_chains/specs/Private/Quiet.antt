@@ -4,7 +4,7 @@ use Rattle.go_points.specs.declared.Colour.{Colour}
 use Rattle.go_points.specs.declared.Cell.{Cell}
 use Rattle.go_points.specs.declared.Cell.TheVariants.{Empty, Stone}
 use Rattle.go_points.specs.Grid.{opponent_of, same_cell, cell_at}
-use Rattle.go_chains.specs.Chains.{touches}
+use Rattle.go_chains.specs.Private.Chains.{touches}
 
 -- Has the chain of q a liberty besides p?
 abbrev pub has_more : ℕ → List ℕ → List ℕ → ℕ → ℕ → Bool

@@ -1,0 +1,8 @@
+-- Words of private calls and of the insides of types: no public clause rests on them.
+pub mod Ascending
+pub mod Heard
+pub mod Inside
+pub mod Judging
+pub mod Known
+pub mod Places
+pub mod Results

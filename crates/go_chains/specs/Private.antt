@@ -1,0 +1,3 @@
+-- Words of private calls and of the insides of types: no public clause rests on them.
+pub mod Chains
+pub mod Quiet

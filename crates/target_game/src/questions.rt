@@ -41,7 +41,7 @@ fn are_on_board(points: &PointSet, size: Size) -> bool
 }
 
 /// Whether each of these points holds this.
-pub(crate) fn all_hold(colouring: &Colouring, points: &PointSet, cell: Cell) -> bool
+pub fn all_hold(colouring: &Colouring, points: &PointSet, cell: Cell) -> bool
     requires { All (IsOn (side_of colouring.now)) points.now }
     ensures { result ≡ list_all
         (λ p. same_cell (cell_at colouring.now (number_of (side_of colouring.now) p)) cell)

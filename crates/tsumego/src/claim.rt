@@ -5,7 +5,7 @@ ghost use Rattle.target_game.specs.State.{GameProblem};
 ghost use Rattle.tsumego.specs.Bounds.{white_limit};
 ghost use Rattle.tsumego.specs.Replies.{IsCheckedAfter, IsJudged, IsJudgedAfter, IsRejectionOf};
 
-use crate::input::{White, read_past_white, skip_white};
+use crate::input::{White, read_past_white};
 use crate::reply::{Failure, Reply, said};
 use crate::status::Status;
 use crate::texts::{reject_text, wins_text};
@@ -16,6 +16,7 @@ use proof_cert::ReaderSource;
 use std::alloc::Global;
 use std::io::Read;
 use target_game::Problem;
+use tsumego_problem::skip_white;
 
 /// The most white space between a record and a claim, in bytes.
 pub const MAX_WHITE: usize = 1_048_576;

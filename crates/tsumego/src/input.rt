@@ -2,7 +2,6 @@
 
 ghost use Rattle.std.specs.Prelude.{◌≡◌, ◌≤◌, ◌+◌, ◌++◌, ℕ, List, length, OnOk, IfOk};
 ghost use Rattle.std.specs.Io.KnownBytes.{Consumes, IsAtEnd};
-ghost use Rattle.tsumego_problem.specs.Values.{skip_white};
 ghost use Rattle.tsumego.specs.Replies.{IsPastWhite};
 
 use sgf_text::token::is_white;
@@ -63,19 +62,6 @@ pub fn read_to_limit<R: Read>(
         }
     }
     Ok(Reading::Full)
-}
-
-/// The text from its first byte on that is no white space.
-pub fn skip_white(text: &[u8]) -> &[u8]
-    ensures value { result.now ≡ skip_white text.now }
-    ensures shorter { length result.now ≤ length text.now }
-{
-    for start in 0..text.len() {
-        if !is_white(text[start]) {
-            return &text[start..];
-        }
-    }
-    &[]
 }
 
 /// The first byte that is no white space, after fewer than so many that are. It is read byte by byte.

@@ -20,4 +20,4 @@ pub use main_line::{Mark, first_marked, has_setup, locate, problem_node, values_
 pub use named_points::{all_points, points_at};
 pub use node_change::{assigned, turn_at};
 pub use read::{board_size, history_of, read_problem};
-pub use values::read_turn;
+pub use values::{read_turn, skip_white};

@@ -1,6 +1,6 @@
 //! What the values of a record stand for.
 
-ghost use Rattle.std.specs.Prelude.{◌≡◌, reverse, option_map, option_and_then};
+ghost use Rattle.std.specs.Prelude.{◌≡◌, ◌≤◌, length, reverse, option_map, option_and_then};
 ghost use Rattle.go_points.specs.Ply.{ply_of};
 ghost use Rattle.tsumego_problem.specs.Values.{skip_white, trim, turn_in, colour_in};
 
@@ -8,8 +8,9 @@ use go_points::{Colour, Size, Turn, sgf_point};
 use sgf_text::token::is_white;
 
 /// The text from its first byte on that is no white space.
-fn skip_white(text: &[u8]) -> &[u8]
-    ensures { result.now ≡ skip_white text.now }
+pub fn skip_white(text: &[u8]) -> &[u8]
+    ensures value { result.now ≡ skip_white text.now }
+    ensures shorter { length result.now ≤ length text.now }
 {
     for start in 0..text.len() {
         if !is_white(text[start]) {

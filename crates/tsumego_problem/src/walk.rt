@@ -1,8 +1,8 @@
 //! The walk along the main line, up to the problem node.
 
 ghost use Rattle.std.specs.Prelude.{◌≡◌, ◌+◌, ◌<◌, ◌^◌, [], length, map, slice_index_or, IfOk, IfErr, IfSome, OnOk, Ok, Some, None};
-ghost use Rattle.std.specs.List.{All, list_all};
-ghost use Rattle.go_points.specs.Grid.{side_of, same_cell, cell_at};
+ghost use Rattle.std.specs.List.{All};
+ghost use Rattle.go_points.specs.Grid.{side_of};
 ghost use Rattle.go_points.specs.Place.{IsOn, number_of};
 ghost use Rattle.tsumego_problem.specs.Walk.{are_targets, late_fault, walk_node, main_line, line_below, history_limit};
 ghost use Rattle.tsumego_problem.specs.Walked.{walk_of, walk_to_mark, IsRefusal};
@@ -17,22 +17,7 @@ use go_points::{Cell, Colour, Colouring, PointSet, Size};
 use go_turns::{Board, PlayBoard, PlayRecord, Record, Seen, TurnFault};
 use sgf_text::{SgfNode, Tree};
 use std::alloc::Global;
-use target_game::MAX_HISTORY;
-
-/// Whether each of these points holds this.
-fn all_hold(colouring: &Colouring, points: &PointSet, cell: Cell) -> bool
-    requires { All (IsOn (side_of colouring.now)) points.now }
-    ensures { result ≡ list_all
-        (λ p. same_cell (cell_at colouring.now (number_of (side_of colouring.now) p)) cell)
-        points.now }
-{
-    for point in points.iter() {
-        if colouring.get(point) != cell {
-            return false;
-        }
-    }
-    true
-}
+use target_game::{MAX_HISTORY, all_hold};
 
 /// Whether these points are stones of one colour, one at least.
 fn are_targets(colouring: &Colouring, points: &PointSet) -> bool

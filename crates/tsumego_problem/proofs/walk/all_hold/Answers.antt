@@ -1,8 +1,0 @@
-use Rattle.std.proofs.Common.{rules}
-use Rattle.go_points.specs.Grid.{side_of}
-use Rattle.go_points.specs.Place.{IsOn}
-use Rattle.target_game.proofs.Loops.{left_on}
-use Rattle.tsumego_problem.proofs.walk.all_hold.Goals as goal
-
-pub loop-point-preserved : goal.loop-point-preserved
-loop-point-preserved c = (search rules, search rules, left_on (IsOn (side_of c.args.colouring.now)) c.loop-point.point-iterator c.next.new.self c.in-Some.point c.in-Some.ensures.steps c.loop-point.invariant.2, search rules)

@@ -21,7 +21,7 @@ use Rattle.tsumego.specs.declared.reply.Response.TheVariants.{Text, Solution, To
 use Rattle.tsumego.specs.declared.status.Status.{Status}
 use Rattle.tsumego.specs.declared.status.Status.TheVariants.{Answered, Unanswered, Failed}
 use Rattle.tsumego.specs.Texts.{line, no_memory_text, no_read_text, too_large_text}
-use Rattle.tsumego.specs.Solutions.{IsProofBy, IsWritten, Solved, MayAnswer, Unsolved}
+use Rattle.tsumego.specs.Solutions.{IsProofBy, IsWritten, Solved, SolvedBy, MayAnswer, Unsolved}
 use Rattle.tsumego.specs.Answers.{IsRecord, Says, SaysFailure}
 use Rattle.tsumego.specs.Outcome.{Saying, Leaves, HasLeftOn, Outcome, Tells, RanOn}
 use Rattle.tsumego.proofs.Running.{explained}
@@ -41,23 +41,23 @@ module _ (Said : Saying) (fails : Type 0) (old new : Option (List ℕ)) (text : 
 -- what may be said of a claim is no failure
 pub answers_no_failure : (proof lift : Bool) (k : CheckedClaim) (status : Status) (text : List ℕ) → MayAnswer proof lift k status text → status ≡ Failed → ⊥
 answers_no_failure true lift k status text (answered, by_claim) failed = absurd (cc (sym answered ∙ failed))
-answers_no_failure false lift k status text (inl (answered, solved)) failed = absurd (cc (sym answered ∙ failed))
+answers_no_failure false lift k status text (inl (answered, few, solved)) failed = absurd (cc (sym answered ∙ failed))
 answers_no_failure false lift k status text (inr (unanswered, large, is)) failed = absurd (cc (sym unanswered ∙ failed))
 
 -- WHAT MAY BE SAID
 
 module _ (k : CheckedClaim) (checked : IsChecked k.problem (claim_of k.certificate)) where
   pub tree_solves : ExpansionsAscend → ValidClaimsAnswer → SolutionReads → IsProblem k.problem → k.problem.place < length k.problem.history → (tree : GameTree) → IsTrue (is_tree tree) → IsSolutionOf k (Some tree)
-      → (lift : Bool) → Solved false lift k.problem (line (tree_text tree))
-  tree_solves ascend answer read kept place tree whole is lift =
+      → SolvedBy k.problem (claim_of k.certificate).winner (expand (claim_of k.certificate) (start k.problem)) (line (tree_text tree))
+  tree_solves ascend answer read kept place tree whole (few, is) =
       let q = k.problem in
       let z = claim_of k.certificate in
       let wins = answer q z place checked.valid in
       let again = read q z.winner (expand z (start q)) kept wins in
-      (z.winner, expand z (start q), wins, ascend q z checked.valid, record { whole = subst (λ t. IsTrue (is_tree t)) is whole; problem = again.0 }, again.1, ap (λ t. line (tree_text t)) is)
+      (wins, ascend q z checked.valid, record { whole = subst (λ t. IsTrue (is_tree t)) is whole; problem = again.0 }, again.1, ap (λ t. line (tree_text t)) is)
 
   pub too_large : (lift : Bool) → IsSolutionOf k None → MayAnswer false lift k Unanswered too_large_text
-  too_large lift large = inr (refl, (claim_of k.certificate, checked.valid, large), refl)
+  too_large lift large = inr (refl, (checked.valid, large), refl)
 
   -- what is written of the claim, after the record's text
   pub claim_solves : AcceptsValidTexts → CanonicalReads → IsProblem k.problem → 1 ≤ k.problem.game.size → k.problem.game.size ≤ MAX_SIZE → (tree : GameTree) → IsTrue (is_tree tree) → tree ≡ canonical k.problem
@@ -89,8 +89,8 @@ searched_says budget table proof lift bytes tree n q (Solution k as_proof as_lif
 
     go : (proof lift : Bool) (status : Status) (said : List ℕ) → MayAnswer proof lift k status said → Answers k.problem proof lift status said
     go true lift status said (answered, by_claim) = inl (answered, (claim_of k.certificate, by_claim))
-    go false lift status said (inl (answered, solved)) = inl (answered, solved)
-    go false lift status said (inr (unanswered, large, is)) = inr (unanswered, inr (refl, large, is))
+    go false lift status said (inl (answered, few, solved)) = inl (answered, ((claim_of k.certificate).winner, expand (claim_of k.certificate) (start k.problem), solved))
+    go false lift status said (inr (unanswered, large, is)) = inr (unanswered, inr (refl, (claim_of k.certificate, large), is))
 
 -- What is left of it is left by the run.
 pub ran_left : (command : Command) (told : Option (List ℕ)) (read : List ℕ → Type 0) (fails : Type 0) (bytes : List ℕ) (k : CheckedClaim) (proof lift : Bool) (result : Status) (old new : Option (List ℕ)) → Tells told bytes

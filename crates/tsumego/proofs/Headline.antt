@@ -104,7 +104,7 @@ pub solve_is_true : SolveIsTrue
 solve_is_true steps table lift bytes written (inr (failed, _)) = absurd cc
 solve_is_true steps table lift bytes written (inl (inl (refusal, r, e, t))) = absurd cc
 solve_is_true steps table lift bytes written (inl (inr (q, tree, n, r, inr (e, unsolved)))) = absurd cc
-solve_is_true steps table lift bytes written (inl (inr (q, tree, n, r, inl (e, (x, a, answer, ascend, is, below, text))))) =
+solve_is_true steps table lift bytes written (inl (inr (q, tree, n, r, inl (e, (x, a, (answer, ascend, is, below, text)))))) =
     let s = solution q x a in
     let read = written_reads s (10 ∷ []) is.whole in (
       q,

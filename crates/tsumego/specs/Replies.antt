@@ -1,5 +1,5 @@
 -- What the private calls of the program give. No public clause rests on these words.
-use Rattle.std.specs.Prelude.{◌≡◌, ℕ, ◌<◌, Bool, true, false, List, [], ◌∷◌, ◌++◌, length, Option, Some, None, ◌⊎◌, string_bytes}
+use Rattle.std.specs.Prelude.{◌≡◌, ℕ, ◌<◌, ◌≤◌, Bool, true, false, List, [], ◌∷◌, ◌++◌, length, Option, Some, None, ◌⊎◌, string_bytes}
 use Rattle.std.specs.Io.KnownBytes.{Appends, Consumes, IsAtEnd}
 use Rattle.sgf_text.specs.Bytes.{is_white}
 use Rattle.sgf_text.specs.Followers.{byte_limit}
@@ -58,9 +58,11 @@ abbrev pub IsNodeRejectionOf : ℕ → AuditFault → Status → List ℕ → Ty
 IsNodeRejectionOf n e status text =
     (why : audit.Why) × (fault.why_value n e.why ≡ Some why) × (status ≡ Unanswered) × (text ≡ rejected_node_text n (record { node = e.node; why = why }))
 
--- the solution record of a claim's expansion; or that has more turns than are written
+-- the solution record of a claim's expansion, exactly where that has no more turns than are written
 abbrev pub IsSolutionOf : CheckedClaim → Option GameTree → Type 0
-IsSolutionOf k (Some tree) = tree ≡ solution k.problem (claim_of k.certificate).winner (expand (claim_of k.certificate) (start k.problem))
+IsSolutionOf k (Some tree) =
+    (answer_size (expand (claim_of k.certificate) (start k.problem)) ≤ tree_limit)
+    × (tree ≡ solution k.problem (claim_of k.certificate).winner (expand (claim_of k.certificate) (start k.problem)))
 IsSolutionOf k None = tree_limit < answer_size (expand (claim_of k.certificate) (start k.problem))
 
 -- a reply is a text that may be said; or a claim, and then what may be said for its problem; or that a bound is passed

@@ -1,5 +1,6 @@
 -- What is said of a problem that a search was made for.
 --     IsWritten lift q z y      of the claim z that was found the claim y is written
+--     SolvedBy q x a text      the solution record of this answer tree
 --     Solved proof lift q text      a solution record; or, as a proof, the canonical record and a claim
 --     MayAnswer proof lift k status text      what is said where the search has found the claim k
 --     Unsolved budget proof q text      the search has found none, or its answer tree is not written
@@ -56,26 +57,35 @@ pub record IsProofBy (lift : Bool) (q : GameProblem) (z : Claim) (text : List �
   pub kept : IsRecordOf q (canonical q)
   pub whole : text ≡ line (tree_text (canonical q)) ++ spelling
 
--- The record of the same problem with an answer tree of a side below the problem node, where the replies ascend; or, as a proof, the canonical record and a claim that is accepted.
-abbrev pub Solved : Bool → Bool → GameProblem → List ℕ → Type 0
-Solved false lift q text =
-    (x : Colour) × (a : AnswerTree) × IsTrue (answers x (start q) a) × IsTrue (ascends a)
+-- The record of the same problem with this answer tree of this side below the problem node, where the replies ascend.
+abbrev pub SolvedBy : GameProblem → Colour → AnswerTree → List ℕ → Type 0
+SolvedBy q x a text =
+    IsTrue (answers x (start q) a) × IsTrue (ascends a)
     × IsRecordOf q (solution q x a) × Below (solution q x a) x (start q) × (text ≡ line (tree_text (solution q x a)))
+
+-- The record of the same problem with an answer tree of a side; or, as a proof, the canonical record and a claim that is accepted.
+abbrev pub Solved : Bool → Bool → GameProblem → List ℕ → Type 0
+Solved false lift q text = (x : Colour) × (a : AnswerTree) × SolvedBy q x a text
 Solved true lift q text = (z : Claim) × IsProofBy lift q z text
 
 -- the most turns of an answer tree that is written
 abbrev pub tree_limit : ℕ
 tree_limit = 90000
 
+-- The claim is valid, and its answer tree has more turns than the limit.
+abbrev pub IsOverLimit : GameProblem → Claim → Type 0
+IsOverLimit q z = IsValid q z × (tree_limit < answer_size (expand z (start q)))
+
 -- Some valid claim has an answer tree over the limit.
 abbrev pub IsTooLarge : GameProblem → Type 0
-IsTooLarge q = (z : Claim) × IsValid q z × (tree_limit < answer_size (expand z (start q)))
+IsTooLarge q = (z : Claim) × IsOverLimit q z
 
--- With a claim that the search found the problem is solved; but a tree over the limit is not written.
+-- With a claim that the search found the problem is solved by this claim's own answer tree; but one over the limit, and no other, is not written.
 abbrev pub MayAnswer : Bool → Bool → CheckedClaim → Status → List ℕ → Type 0
 MayAnswer false lift k status text =
-    ((status ≡ Answered) × Solved false lift k.problem text)
-    ⊎ ((status ≡ Unanswered) × IsTooLarge k.problem × (text ≡ too_large_text))
+    ((status ≡ Answered) × (answer_size (expand (claim_of k.certificate) (start k.problem)) ≤ tree_limit)
+    × SolvedBy k.problem (claim_of k.certificate).winner (expand (claim_of k.certificate) (start k.problem)) text)
+    ⊎ ((status ≡ Unanswered) × IsOverLimit k.problem (claim_of k.certificate) × (text ≡ too_large_text))
 MayAnswer true lift k status text = (status ≡ Answered) × IsProofBy lift k.problem (claim_of k.certificate) text
 
 -- A search with this budget may end so after this many steps: not more than it had, all of them where they are the cause; and for want of anything but memory only where the problem is hard.

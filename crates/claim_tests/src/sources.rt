@@ -32,6 +32,30 @@ impl<'a> Read for Failing<'a> {
     }
 }
 
+// Gives a text, and then one line for ever, a line at a time.
+#[derive(Drop)]
+struct Endless<'a> {
+    left: &'a [u8],
+    line: &'a [u8],
+}
+
+impl<'a> Read for Endless<'a> {
+    ghost use Rattle.std.specs.Prelude.{None};
+
+    ghost remaining = { λ r. None };
+
+    fn read(&mut self, buf: &mut [u8]) -> io::Result<usize> {
+        if self.left.is_empty() {
+            self.left = self.line;
+        }
+        let count = self.left.len().min(buf.len());
+        let (front, rest) = self.left.split_at(count);
+        buf[..count].copy_from_slice(front);
+        self.left = rest;
+        Ok(count)
+    }
+}
+
 // The answer where these bytes come, and then a failed read.
 fn answer_behind(rt: &impl Abort, alloc: Global, text: &str) -> Result<Colour, Reject> {
     let problem = problem(alloc, rt, 3, &["O..X....."], Colour::Black, &[(1, 0)]);
@@ -66,4 +90,20 @@ fn faults_before_a_line_that_cannot_be_read(rt: HostRuntime) {
     assert_eq!(rt; more, refused(6, Why::TextAfterEnd));
     let malformed = answer_behind(&rt, rt.alloc(), "tsucert 1 3 B\nmain\nplay\n");
     assert_eq!(rt; malformed, refused(3, Why::Malformed));
+}
+
+// White would have to reply to the first pass, so the second one is refused, and no line after it is asked for.
+#[test]
+fn passes_for_ever(rt: HostRuntime) {
+    let alloc = rt.alloc();
+    let problem = problem(alloc, &rt, 3, &["O..X....."], Colour::Black, &[(1, 0)]);
+    let reader = Endless {
+        left: b"tsucert 1 3 B\nmain\n".as_slice(),
+        line: b"play pass\n".as_slice(),
+    };
+    let mut source = ReaderSource::new(problem.size(), b"".as_slice(), reader);
+    assert_eq!(rt;
+        check(alloc, &problem, &mut source),
+        refused(4, Why::WrongSide)
+    );
 }

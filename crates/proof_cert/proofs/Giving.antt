@@ -27,7 +27,7 @@ lines_given_of_claim z ls t given =
     let front = front_held (held_source_of z) ls t given in
     record {
       front = front;
-      all = λ u ended. front ∙ ap (λ x. ls ++ x) ended.1 ∙ append-nil ls;
+      all = λ u ended. front ∙ ap (λ x. ls ++ x) ended.1.0 ∙ append-nil ls;
     }
 
 all_spelled : (n : ℕ) (ls : List (Option Line)) → IsTrue (list_all (is_spelled n) ls) → map (spelled_line n) ls ≡ ls

@@ -30,9 +30,9 @@ pub record Held : Type 0 where
 abbrev pub held_source_of : Claim → Held
 held_source_of z = record { size = z.size; left = map (spelled_line z.size) (lines_of z); number = 0; fault = None }
 
--- A line; None after the last; a fault at a line that has no spelling, for want of memory, and where the lines cannot be counted.
+-- A line; None after the last, and from then on; a fault at a line that has no spelling, for want of memory, and where the lines cannot be counted.
 abbrev pub held_answer : Held → Result (Option Line) SourceFault → Held → Type 0
-held_answer s (Ok None) t = s.left ≡ []
+held_answer s (Ok None) t = (s.left ≡ []) × (t.left ≡ [])
 held_answer s (Ok (Some l)) t = s.left ≡ Some l ∷ t.left
 held_answer s (Err Malformed) t = s.left ≡ None ∷ t.left
 held_answer s (Err Memory) t = ⊤

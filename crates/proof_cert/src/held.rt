@@ -76,6 +76,7 @@ fn begin<'a>(certificate: &'a Certificate, tasks: &mut Vec<Task<'a>>) -> Result<
 #[tactic(auto, using(crate::proofs::Tasks::left_pushed))]
 fn next_line<'a>(size: Size, tasks: &mut Vec<Task<'a>>) -> Result<Option<Option<Line>>, AllocError>
     ensures none { IfOk result (λ next. IfNone next (lines_left size tasks.old.items ≡ [])) }
+    ensures rest { IfOk result (λ next. IfNone next (lines_left size tasks.new.items ≡ [])) }
     ensures line { IfOk result
         (λ next. IfSome next (λ line. map (spelled_line size) (lines_left size tasks.old.items)
         ≡ option_map (line_value size) line
@@ -107,6 +108,7 @@ impl<'a> HeldSource<'a> {
     /// The next line, which may have no spelling; `None` where no line is left.
     fn walk(&mut self) -> Result<Option<Option<Line>>, AllocError>
         ensures none { IfOk result (λ next. IfNone next (self.old.left ≡ [])) }
+        ensures rest { IfOk result (λ next. IfNone next (self.new.left ≡ [])) }
         ensures line { IfOk result
             (λ next. IfSome next
             (λ line. self.old.left ≡ option_map (line_value self.old.size) line

@@ -2,3 +2,4 @@
 pub mod Asked
 pub mod Opened
 pub mod Written
+pub mod Counting

@@ -1,51 +1,23 @@
 //! The answer tree that a checked claim gives at the problem's start.
 
-ghost use Rattle.std.specs.Prelude.{◌≡◌, ◌+◌, ◌≤◌, ◌<◌, [], IsTrue, IsFalse, IfOk, IfErr};
+ghost use Rattle.std.specs.Prelude.{◌≡◌, ◌+◌, ◌≤◌, ◌<◌, [], IsTrue, IfOk, IfErr};
 ghost use Rattle.target_game.specs.Answers.{answer_size, answers};
-ghost use Rattle.target_game.specs.State.{GameState, start};
+ghost use Rattle.target_game.specs.State.{start};
 ghost use Rattle.proof_cert.specs.Certificate.{claim_of, node_of};
 ghost use Rattle.cert_check.specs.Expand.{expand};
 ghost use Rattle.solution_tree.specs.declared.fault.Expand.TheVariants.{TooLarge};
 ghost use Rattle.solution_tree.specs.Answer.{answer_of};
-ghost use Rattle.solution_tree.specs.Private.Opened.{Expands, IfFinished, is_use, lemma_count, open_sizes, part_below, part_size, part_tree, part_turns, tree_at, uses_below};
+ghost use Rattle.solution_tree.specs.Private.Opened.{Expands, IfFinished, lemma_count, open_sizes, part_below, part_size, part_tree, part_turns, tree_at, uses_below};
 
 use crate::answer::Answer;
 use crate::fault::Expand;
-use crate::opened::{Open, Part, close, open_node};
+use crate::opened::{Open, Part, body_of, close, open_node};
+use crate::turn_count::is_over;
 use cert_check::Checked;
 use cert_check::laws::valid_claims_answer;
 use proof_cert::Node;
 use std::alloc::{AllocError, Global};
 use target_game::{PlayState, State};
-
-/// The node, or where it uses a lemma the body of that lemma.
-#[tactic(auto, using(proof_cert::proofs::Certificates::node_of_won, proof_cert::proofs::Certificates::node_of_play, proof_cert::proofs::Certificates::node_of_all))]
-fn body_of<'a>(checked: &'a Checked, node: &'a Node) -> &'a Node
-    requires { IsTrue (uses_below (lemma_count checked.now)
-        (node_of checked.now.certificate.size node.now)) }
-    ensures same { (s : GameState)
-        → tree_at checked.now (node_of checked.now.certificate.size result.now) s
-        ≡ tree_at checked.now (node_of checked.now.certificate.size node.now) s }
-    ensures below { IsTrue
-        (uses_below (lemma_count checked.now) (node_of checked.now.certificate.size result.now)) }
-    ensures no_use { IsFalse (is_use (node_of checked.now.certificate.size result.now)) }
-{
-    let _winner = checked.winner();
-    let lemmas = checked.certificate().lemmas.as_slice();
-    let mut part = node;
-    let mut below = lemmas.len();
-    loop {
-        match part {
-            Node::Won => return part,
-            Node::Play(_, _) => return part,
-            Node::All(_) => return part,
-            Node::Use(lemma) => {
-                below = *lemma as usize - 1;
-                part = &lemmas[below].body;
-            }
-        }
-    }
-}
 
 /// Expands a node until a turn was made that it has to go on below, or all is finished.
 fn step<'a>(
@@ -78,7 +50,7 @@ fn step<'a>(
 
 /// The answer tree that the claim gives at the start of its problem, with all earlier positions: each use of a lemma is
 /// replaced by the lemma's body, and of the replies those stay that are legal there. Refused where it has more turns
-/// than `limit`.
+/// than `limit`; the turns are counted before, so that no memory is taken for a tree that is refused.
 pub fn expand(alloc: Global, checked: &Checked, limit: usize) -> Result<Answer, Expand>
     ensures tree { IfOk result
         (λ a. answer_of checked.now.problem.game.size a
@@ -97,6 +69,11 @@ pub fn expand(alloc: Global, checked: &Checked, limit: usize) -> Result<Answer, 
     let _winner = checked.winner();
     let problem = checked.problem();
     prove!(problem.place() < problem.history().len());
+    match is_over(alloc, checked, limit) {
+        Err(_) => return Err(Expand::Memory),
+        Ok(true) => return Err(Expand::TooLarge),
+        Ok(false) => {}
+    }
     let Ok(mut state) = State::of(alloc, problem) else {
         return Err(Expand::Memory);
     };

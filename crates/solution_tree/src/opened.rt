@@ -40,9 +40,39 @@ pub(crate) enum Part<'a> {
     Finished(Answer),
 }
 
+/// The node, or where it uses a lemma the body of that lemma.
+#[tactic(auto, using(proof_cert::proofs::Certificates::node_of_won, proof_cert::proofs::Certificates::node_of_play, proof_cert::proofs::Certificates::node_of_all))]
+pub(crate) fn body_of<'a>(checked: &'a Checked, node: &'a Node) -> &'a Node
+    requires { IsTrue (uses_below (lemma_count checked.now)
+        (claim.node_of checked.now.certificate.size node.now)) }
+    ensures same { (s : GameState)
+        → tree_at checked.now (claim.node_of checked.now.certificate.size result.now) s
+        ≡ tree_at checked.now (claim.node_of checked.now.certificate.size node.now) s }
+    ensures below { IsTrue
+        (uses_below (lemma_count checked.now)
+        (claim.node_of checked.now.certificate.size result.now)) }
+    ensures no_use { IsFalse (is_use (claim.node_of checked.now.certificate.size result.now)) }
+{
+    let _winner = checked.winner();
+    let lemmas = checked.certificate().lemmas.as_slice();
+    let mut part = node;
+    let mut below = lemmas.len();
+    loop {
+        match part {
+            Node::Won => return part,
+            Node::Play(_, _) => return part,
+            Node::All(_) => return part,
+            Node::Use(lemma) => {
+                below = *lemma as usize - 1;
+                part = &lemmas[below].body;
+            }
+        }
+    }
+}
+
 /// The first of the replies that is legal, and those after it.
 #[tactic(auto, using(crate::proofs::NextReplies::replies_kept, crate::proofs::NextReplies::replies_left_out, crate::proofs::NextReplies::reply_below))]
-fn next_reply<'a>(
+pub(crate) fn next_reply<'a>(
     state: &PlayState,
     replies: &'a [(Turn, Node)],
 ) -> Option<(&'a (Turn, Node), &'a [(Turn, Node)])>

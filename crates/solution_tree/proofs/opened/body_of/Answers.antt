@@ -4,7 +4,7 @@ use Rattle.proof_cert.specs.Certificate.{node_of}
 use Rattle.cert_check.specs.Checked.{CheckedClaim}
 use Rattle.solution_tree.specs.Private.Opened.{lemma_count}
 use Rattle.solution_tree.proofs.Lower.{used_bounds, next_body, below_more}
-use Rattle.solution_tree.proofs.expansion.body_of.Goals as goal
+use Rattle.solution_tree.proofs.opened.body_of.Goals as goal
 
 pub overflow_sub-below : goal.overflow_sub-below
 overflow_sub-below c =

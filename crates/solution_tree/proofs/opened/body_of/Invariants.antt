@@ -2,7 +2,7 @@ use Rattle.std.proofs.Common.{◌≡◌, ◌≤◌, IsTrue}
 use Rattle.target_game.specs.State.{GameState}
 use Rattle.proof_cert.specs.Certificate.{node_of}
 use Rattle.solution_tree.specs.Private.Opened.{lemma_count, tree_at, uses_below}
-use Rattle.solution_tree.proofs.expansion.body_of.Given as goal
+use Rattle.solution_tree.proofs.opened.body_of.Given as goal
 
 -- The part is expanded as the node is, and uses lower and lower lemmas.
 abbrev pub invariant-loop-part : goal.invariant-loop-part

@@ -1,10 +1,12 @@
 -- Counting the turns of a claim's tree: what a turn more leaves to be counted.
-use Rattle.std.proofs.Common.{◌≡◌, ℕ, ◌+◌, ◌≤◌, Bool, true, IsTrue, List, [], ◌∷◌, ◌++◌, Option, Some, Result, Ok, Err, IfOk, Bor, Box, Vec, Global, refl, sym, ap, ◌∙◌, subst, arith}
+use Rattle.std.proofs.Common.{◌≡◌, ℕ, ◌+◌, ◌≤◌, Bool, true, false, ◌&&◌, IsTrue, List, [], ◌∷◌, ◌++◌, Option, Some, Result, Ok, Err, IfOk, Bor, Box, Vec, Global, refl, sym, ap, ◌∙◌, subst, arith}
 use Rattle.std.proofs.lemmas.List.{reverse-append}
 use Rattle.go_points.specs.declared.Turn.{Turn}
 use Rattle.go_points.specs.Ply.{Ply, ply_of}
+use Rattle.go_points.proofs.Lists.{and_left, and_right}
 use Rattle.target_game.specs.State.{GameState, Line, start}
 use Rattle.target_game.specs.Left.{line_after, line_if}
+use Rattle.target_game.specs.Legal.{legal}
 use Rattle.target_game.specs.Next.{next}
 use Rattle.target_game.specs.Answers.{AnswerTree, ReplyTrees, turn, replies, none, reply, answer_size, reply_sizes}
 use Rattle.proof_cert.specs.Certificate as claim
@@ -16,9 +18,10 @@ use Rattle.proof_cert.proofs.Certificates.{node_of_play, node_of_all}
 use Rattle.cert_check.specs.Checked.{CheckedClaim, IsChecked}
 use Rattle.cert_check.specs.Expand.{expand_node, expand_branches}
 use Rattle.solution_tree.specs.declared.turn_count.Waiting.{Waiting}
-use Rattle.solution_tree.specs.Private.Opened.{branches_at, expanded, lemma_answers, lemma_count, tree_at, uses_below}
+use Rattle.solution_tree.specs.Private.Opened.{all_below, branches_at, expanded, lemma_answers, lemma_count, tree_at, uses_below}
 use Rattle.solution_tree.specs.Private.Counting.{IsPlayed, due, due_before, found_size, latest_first, waiting_size, with_one}
 use Rattle.solution_tree.proofs.Lower.{main_is_below}
+use Rattle.solution_tree.proofs.NextReplies.{replies_kept, replies_left_out}
 
 latest : (ws : List Waiting) (w : Waiting) → latest_first (ws ++ w ∷ []) ≡ w ∷ latest_first ws
 latest ws w = reverse-append ws (w ∷ [])
@@ -73,6 +76,22 @@ module _ (k : CheckedClaim) (ws : List Waiting) (line : Line) where
       let waits : due k now after ≡ reply_sizes rest + due k ws line = made_due t w now after more played in
       omega (arith, here, whole, waits)
 
+  -- a reply that was not made is left out
+  pub reply_passed : (these rs : List (Turn × code.Node)) (r : Turn × code.Node) → these ≡ r ∷ rs → IsPlayed k ws line
+      → reply_sizes (branches_at k (claim.replies_of n rs) line.state) ≤ reply_sizes (branches_at k (claim.replies_of n these) line.state)
+  reply_passed these rs r is it =
+      subst (λ m. reply_sizes (branches_at k (claim.replies_of m rs) line.state) ≤ reply_sizes (branches_at k (claim.replies_of m these) line.state)) it.size
+      (go (legal line.state (ply_of line.state.game.size r.0)) refl)
+    where
+      go : (b : Bool) → legal line.state (ply_of line.state.game.size r.0) ≡ b
+          → reply_sizes (branches_at k (claim.replies_of line.state.game.size rs) line.state) ≤ reply_sizes (branches_at k (claim.replies_of line.state.game.size these) line.state)
+      go true e =
+          let t : Ply = ply_of line.state.game.size r.0 in
+          let rest : ReplyTrees = branches_at k (claim.replies_of line.state.game.size rs) line.state in
+          let a : AnswerTree = tree_at k (claim.node_of line.state.game.size r.1) (next line.state t) in
+          omega (arith, ap reply_sizes (replies_kept line.state these rs r is e (lemma_answers k)), size_of_reply t a rest)
+      go false e = omega (arith, ap reply_sizes (replies_left_out line.state these rs r is e (lemma_answers k)))
+
   -- the winner's turn, and nothing waits
   pub play_made : (t : Turn) (below : Box code.Node Global) (node under : code.Node) (w : Waiting) (now : List Waiting) (after : Line)
       → node ≡ node_of_claim.Play t below → under ≡ below.value → (made : Bool) → made ≡ true → now ≡ with_one made ws w → w.replies.now ≡ [] → after ≡ line_if made line (ply_of line.state.game.size t)
@@ -96,6 +115,13 @@ module _ (k : CheckedClaim) (ws : List Waiting) (line : Line) where
   all_due rs node is =
       let spelled : claim.node_of n node ≡ all (claim.replies_of n rs.items) = ap (claim.node_of n) is ∙ node_of_all n rs in
       ap (λ (x : Node). answer_size (tree_at k x line.state)) spelled ∙ size_of_replies (branches_at k (claim.replies_of n rs.items) line.state)
+
+-- the first of the replies, and the others
+pub first_below : (m size : ℕ) (these rs : List (Turn × code.Node)) (r : Turn × code.Node) → these ≡ r ∷ rs → IsTrue (all_below m (claim.replies_of size these))
+    → IsTrue (uses_below m (claim.node_of size r.1)) × IsTrue (all_below m (claim.replies_of size rs))
+first_below m size these rs r is h =
+    let both : IsTrue (uses_below m (claim.node_of size r.1) && all_below m (claim.replies_of size rs)) = subst (λ (xs : List (Turn × code.Node)). IsTrue (all_below m (claim.replies_of size xs))) is h in
+    (and_left (uses_below m (claim.node_of size r.1)) (all_below m (claim.replies_of size rs)) both, and_right (uses_below m (claim.node_of size r.1)) (all_below m (claim.replies_of size rs)) both)
 
 -- ---- what a call gives
 

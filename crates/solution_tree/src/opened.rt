@@ -72,7 +72,7 @@ pub(crate) fn body_of<'a>(checked: &'a Checked, node: &'a Node) -> &'a Node
 
 /// The first of the replies that is legal, and those after it.
 #[tactic(auto, using(crate::proofs::NextReplies::replies_kept, crate::proofs::NextReplies::replies_left_out, crate::proofs::NextReplies::reply_below))]
-pub(crate) fn next_reply<'a>(
+fn next_reply<'a>(
     state: &PlayState,
     replies: &'a [(Turn, Node)],
 ) -> Option<(&'a (Turn, Node), &'a [(Turn, Node)])>

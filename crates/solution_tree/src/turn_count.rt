@@ -4,13 +4,14 @@ ghost use Rattle.std.specs.Prelude.{◌≡◌, ◌+◌, ◌≤◌, ◌<◌, IsTr
 ghost use Rattle.go_points.specs.Ply.{ply_of};
 ghost use Rattle.target_game.specs.Answers.{answer_size, reply_sizes};
 ghost use Rattle.target_game.specs.Left.{line_if};
+ghost use Rattle.target_game.specs.Legal.{legal};
 ghost use Rattle.target_game.specs.State.{start};
 ghost use Rattle.proof_cert.specs.Certificate.{claim_of, node_of, replies_of};
 ghost use Rattle.cert_check.specs.Expand.{expand};
 ghost use Rattle.solution_tree.specs.Private.Opened.{all_below, branches_at, lemma_count, tree_at, uses_below};
 ghost use Rattle.solution_tree.specs.Private.Counting.{IsPlayed, due, found_below, found_size, with_one};
 
-use crate::opened::{body_of, next_reply};
+use crate::opened::body_of;
 use cert_check::Checked;
 use go_points::Turn;
 use proof_cert::Node;
@@ -36,6 +37,8 @@ fn make<'a>(
         state.new ≡ line_if made state.old (ply_of state.old.state.game.size turn)) }
     ensures waiting { IfOk result (λ made.
         waiting.new.items ≡ with_one made waiting.old.items later.entry) }
+    ensures legal { IfOk result (λ made. IsTrue made
+        → IsTrue (legal state.old.state (ply_of state.old.state.game.size turn))) }
 {
     if state.over().is_some() {
         return Ok(false);
@@ -67,13 +70,16 @@ fn make_next<'a>(
         + due checked.now waiting.old.items state.old) }
     ensures none { IfOk result (λ found. IfNone found (waiting.new.items ≡ waiting.old.items)) }
 {
-    let Some((reply, replies)) = next_reply(state, replies) else {
-        return Ok(None);
-    };
-    if !make(reply.0, Waiting { replies }, state, waiting)? {
-        return Ok(None);
+    let mut later = replies;
+    loop {
+        let Some((reply, others)) = later.split_first() else {
+            return Ok(None);
+        };
+        if make(reply.0, Waiting { replies: others }, state, waiting)? {
+            return Ok(Some(&reply.1));
+        }
+        later = others;
     }
-    Ok(Some(&reply.1))
 }
 
 /// Makes the next of the replies here, or at the latest state before that still has one, and gives

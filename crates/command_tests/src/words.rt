@@ -140,11 +140,11 @@ fn faulty_words_of_solve_are_refused(rt: HostRuntime) {
         (&["--steps"], "value is required"),
         (&["3"], "unexpected argument"),
     ];
-    for (behind, part) in faults {
+    for (more, part) in faults {
         let mut words = Vec::new(alloc);
         words.push("tsumego").expect(&rt, "memory");
         words.push("solve").expect(&rt, "memory");
-        words.extend_from_slice(behind).expect(&rt, "memory");
+        words.extend_from_slice(more).expect(&rt, "memory");
         refuses(&rt, alloc, words.as_slice(), part);
     }
 }
@@ -248,7 +248,7 @@ fn help_is_a_text_and_no_command(rt: HostRuntime) {
         "Usage: tsumego <COMMAND>",
     );
     refuses(&rt, alloc, &["tsumego", "help"], "Usage: tsumego <COMMAND>");
-    refuses(&rt, alloc, &["tsumego", "help"], "the claim that stands");
+    refuses(&rt, alloc, &["tsumego", "help"], "the claim that follows");
     refuses(&rt, alloc, &["tsumego", "help"], "within K turns");
     refuses(
         &rt,

@@ -13,7 +13,7 @@ use Rattle.cert_check.specs.Body.{Why}
 use Rattle.cert_check.specs.Verdict.{Verdict, verdict, accepted, rejected}
 use Rattle.cert_check.specs.Machine.{Machine, begun, Phase, header, opening, listing_had, listing_not, node_due, reply_due, done, goes_on, stops, taken, ended, ended_at, after_step, verdict_from}
 use Rattle.cert_check.specs.Parts.{line_values}
-use Rattle.cert_check.specs.Checks.{Answers, Accepts, RejectsAt, FailsAt}
+use Rattle.cert_check.specs.Checks.{Answers, Accepts, RejectsAt, FailsAt, IsReached}
 use Rattle.cert_check.specs.Private.Heard.{Heard}
 use Rattle.cert_check.proofs.Machines.{lines_judged}
 use Rattle.cert_check.proofs.Taking.{took_more, one_more}
@@ -88,6 +88,17 @@ module _ {S : Type 0} (gives : S → Result (Option Line) SourceFault → S → 
         counted = h.counted;
         few = omega (arith, small, at, put);
         failed = last;
+        behind = at ∙ put;
+        faultless = λ k w said. let here = ended_behind m.place k m.phase w (sym (heard_all t m h) ∙ said) in omega (arith, here, put);
+      }
+
+  pub heard_reaches : (t : S) (m : Machine) (p : ℕ) → Heard gives number n q s t m → p ≡ m.place → IsReached gives n q s p
+  heard_reaches t m p h at =
+      let put = h.placed in
+      record {
+        taken = h.taken;
+        left = t;
+        took = h.took;
         behind = at ∙ put;
         faultless = λ k w said. let here = ended_behind m.place k m.phase w (sym (heard_all t m h) ∙ said) in omega (arith, here, put);
       }

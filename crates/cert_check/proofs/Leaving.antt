@@ -6,7 +6,7 @@ use Rattle.target_game.specs.State.{Game}
 use Rattle.proof_cert.specs.Claim.{Head, max_listed}
 use Rattle.proof_cert.specs.Lines.{Line, header_line, lemma_line, had_line, not_line, main_line, won_line, use_line, play_line, all_line, reply_line, end_line}
 use Rattle.cert_check.specs.Body.{Why, limit, list_order, ask, lemma_body, lemma_start}
-use Rattle.cert_check.specs.Verdict.{Reading, Judged, fine, faulty, then_judge, asked, judge_node, judge_end, judge_end_line, had_of, not_of, is_after, with_first, judge_list, judge_had, judge_not, judge_lemma, lemma_fault, judge_opening, judge_lemmas}
+use Rattle.cert_check.specs.Verdict.{Cursor, Judged, fine, faulty, then_judge, asked, judge_node, judge_end, judge_end_line, had_of, not_of, is_after, with_first, judge_list, judge_had, judge_not, judge_lemma, lemma_fault, judge_opening, judge_lemmas}
 use Rattle.cert_check.proofs.Bounds.{reading, Leaves, Leaves-more, Leaves-then, Leaves-node}
 
 Leaves-first : (c : List Cell) (j : Judged (List (List Cell))) (n : ℕ) → Leaves j n → Leaves (with_first c j) n
@@ -26,17 +26,17 @@ module _ (pick : Option Line → Option (List Cell)) where
       at None h = le_refl _
       at (Some c) h = go (ask (nat_lt i max_listed) limit (ask (is_after last c) list_order None)) c (h c)
 
-pub Leaves-not : (r : Reading) → Leaves (judge_not r) (length r.rest)
+pub Leaves-not : (r : Cursor) → Leaves (judge_not r) (length r.rest)
 Leaves-not r = Leaves-list not_of r.rest None r.place r.nodes r.listed
 
-pub Leaves-had : (v : ℕ) (r : Reading) → Leaves (judge_had v r) (length r.rest)
+pub Leaves-had : (v : ℕ) (r : Cursor) → Leaves (judge_had v r) (length r.rest)
 Leaves-had v r = at (nat_eq v 2)
   where
     at : (b : Bool) → Leaves (if b then judge_list had_of None r.rest r else fine [] r) (length r.rest)
     at true = Leaves-list had_of r.rest None r.place r.nodes r.listed
     at false = le_refl _
 
-pub Leaves-end : (r : Reading) → Leaves (judge_end r) (length r.rest)
+pub Leaves-end : (r : Cursor) → Leaves (judge_end r) (length r.rest)
 Leaves-end r = at r.rest r.place r.nodes r.listed
   where
     line : (l : Line) (ls : List (Option Line)) (p k i : ℕ) → Leaves (judge_end_line (reading (Some l ∷ ls) p k i) l (reading ls (suc p) k i)) (suc (length ls))
@@ -57,7 +57,7 @@ Leaves-end r = at r.rest r.place r.nodes r.listed
     at (None ∷ ls) p k i = tt
     at (Some l ∷ ls) p k i = line l ls p k i
 
-pub Leaves-lemma : (m : ℕ) (g : Game) (v : ℕ) (x : Colour) (heads : List Head) (mover : Colour) (passes : ℕ) (root : List Cell) (r : Reading) → Leaves (judge_lemma m g v x heads mover passes root r) (length r.rest)
+pub Leaves-lemma : (m : ℕ) (g : Game) (v : ℕ) (x : Colour) (heads : List Head) (mover : Colour) (passes : ℕ) (root : List Cell) (r : Cursor) → Leaves (judge_lemma m g v x heads mover passes root r) (length r.rest)
 Leaves-lemma m g v x heads mover passes root r =
     Leaves-then (judge_had v r) _ (length r.rest) (length r.rest) (Leaves-had v r)
     (λ had r1 le1. Leaves-then (judge_not r1) _ (length r1.rest) (length r.rest) (Leaves-not r1)
@@ -72,7 +72,7 @@ Leaves-lemmas_at (suc m) g v x heads [] p k i = tt
 Leaves-lemmas_at (suc m) g v x heads (None ∷ ls) p k i = tt
 Leaves-lemmas_at (suc m) g v x heads (Some l ∷ ls) p k i = at l (λ hd r2. Leaves-lemmas_at m g v x (heads ++ hd ∷ []) r2.rest r2.place r2.nodes r2.listed)
   where
-    at : (y : Line) → ((hd : Head) (r2 : Reading) → Leaves (judge_lemmas m g v x (heads ++ hd ∷ []) r2) (length r2.rest)) → Leaves (judge_opening g heads (reading (Some l ∷ ls) p k i) (λ mover passes root r1. then_judge (judge_lemma m g v x heads mover passes root r1) (λ hd r2. judge_lemmas m g v x (heads ++ hd ∷ []) r2)) y (reading ls (suc p) k i)) (suc (length ls))
+    at : (y : Line) → ((hd : Head) (r2 : Cursor) → Leaves (judge_lemmas m g v x (heads ++ hd ∷ []) r2) (length r2.rest)) → Leaves (judge_opening g heads (reading (Some l ∷ ls) p k i) (λ mover passes root r1. then_judge (judge_lemma m g v x heads mover passes root r1) (λ hd r2. judge_lemmas m g v x (heads ++ hd ∷ []) r2)) y (reading ls (suc p) k i)) (suc (length ls))
     at main_line below = omega arith
     at (lemma_line mover passes root) below = after (lemma_fault g heads root)
       where

@@ -8,45 +8,45 @@ use Rattle.target_game.specs.Next.{next}
 use Rattle.proof_cert.specs.Claim.{Head, max_nodes, max_depth, max_listed}
 use Rattle.proof_cert.specs.Lines.{Line, header_line, lemma_line, had_line, not_line, main_line, won_line, use_line, play_line, all_line, reply_line, end_line, fitting}
 use Rattle.cert_check.specs.Body.{Body, Why, malformed, size_differs, limit, list_order, ask, due_replies, won_fault, play_fault, use_fault, all_fault, reply_fault, lemma_body, lemma_start, main_body}
-use Rattle.cert_check.specs.Verdict.{Reading, Judged, fine, faulty, then_judge, read_line, asked, judge_reply, judge_end, judge_end_line, judge_had, judge_not, judge_lemma, lemma_fault, judge_opening, is_after, with_first, judge_claim, judge_node, judge_lemmas, judge_list, judge_header, had_of, not_of, verdict_of}
-use Rattle.cert_check.specs.Resume.{Open, awaited, owed, resume, opened}
-use Rattle.cert_check.specs.Machine.{Owed, Heading, Phase, header, opening, listing_had, listing_not, node_due, reply_due, done, Machine, Step, goes_on, stops, begun, body_of, owing, goes_if, there, node_taken, reply_taken, closed, end_taken, last_of, first_of, lists_due, opening_taken, listed_taken, header_taken, first_taken, not_taken, had_taken, phase_taken, taken, ended_at, after_step, verdict_from, LinesJudged}
+use Rattle.cert_check.specs.Verdict.{Cursor, Judged, fine, faulty, then_judge, read_line, asked, judge_reply, judge_end, judge_end_line, judge_had, judge_not, judge_lemma, lemma_fault, judge_opening, is_after, with_first, judge_claim, judge_node, judge_lemmas, judge_list, judge_header, had_of, not_of, verdict_of}
+use Rattle.cert_check.specs.Resume.{OpenNode, awaited, owed, resume, opened}
+use Rattle.cert_check.specs.Machine.{Owed, Heading, Phase, header, opening, listing_had, listing_not, node_due, reply_due, done, Machine, AfterLine, goes_on, stops, begun, body_of, owing, goes_if, there, node_taken, reply_taken, closed, end_taken, last_of, first_of, lists_due, opening_taken, listed_taken, header_taken, first_taken, not_taken, had_taken, phase_taken, taken, ended_at, after_step, verdict_from, LinesJudged}
 use Rattle.cert_check.proofs.Bounds.{reading, Leaves, Leaves-then, then_same, same_node, Leaves-asked, Leaves-node}
 use Rattle.cert_check.proofs.Resuming.{resume_laws}
 use Rattle.cert_check.proofs.Leaving.{Leaves-not, Leaves-had, Leaves-end, Leaves-lemma, Leaves-lemmas_at}
 
 -- what is open, as the stack that is resumed
-abbrev pub opens : List Owed → List Open
+abbrev pub opens : List Owed → List OpenNode
 opens [] = []
 opens (o ∷ os) = owed o.depth o.state (o.due ∷ o.others) ∷ opens os
 
 -- what is still to be judged, by the recursion: main, the lemmas and main, what follows a body, a body and what follows it, and a lemma's lists
-abbrev pub main_on : GameProblem → Heading → Reading → Judged Colour
+abbrev pub main_on : GameProblem → Heading → Cursor → Judged Colour
 main_on q f r = then_judge (judge_node (length r.rest) (main_body f.winner f.heads) 1 (start q) r) (λ _ r1. then_judge (judge_end r1) (λ _ r2. fine f.winner r2))
 
-abbrev pub lemmas_on : GameProblem → Heading → Reading → Judged Colour
+abbrev pub lemmas_on : GameProblem → Heading → Cursor → Judged Colour
 lemmas_on q f r = then_judge (judge_lemmas (length r.rest) q.game f.version f.winner f.heads r) (λ hs r1. main_on q (record f { heads = hs }) r1)
 
-abbrev pub behind : GameProblem → Heading → Option Head → Reading → Judged Colour
+abbrev pub behind : GameProblem → Heading → Option Head → Cursor → Judged Colour
 behind q f None r = fine f.winner r
 behind q f (Some h) r = lemmas_on q (record f { heads = f.heads ++ h ∷ [] }) r
 
-abbrev pub body_on : GameProblem → Heading → Option Head → List Open → Reading → Judged Colour
+abbrev pub body_on : GameProblem → Heading → Option Head → List OpenNode → Cursor → Judged Colour
 body_on q f inside st r = then_judge (resume (body_of f inside) st r) (λ _ r1. then_judge (judge_end r1) (λ _ r2. behind q f inside r2))
 
-abbrev pub lemma_on : GameProblem → Heading → Head → Reading → Judged Colour
+abbrev pub lemma_on : GameProblem → Heading → Head → Cursor → Judged Colour
 lemma_on q f h r = body_on q f (Some h) (awaited 1 (lemma_start q.game h) ∷ []) r
 
-abbrev pub not_on : GameProblem → Heading → Head → Reading → Judged Colour
+abbrev pub not_on : GameProblem → Heading → Head → Cursor → Judged Colour
 not_on q f h r = then_judge (judge_list not_of (last_of h.absent) r.rest r) (λ cs r1. lemma_on q f (record h { absent = h.absent ++ cs }) r1)
 
-abbrev pub had_on : GameProblem → Heading → Head → Reading → Judged Colour
+abbrev pub had_on : GameProblem → Heading → Head → Cursor → Judged Colour
 had_on q f h r = then_judge (judge_list had_of (last_of h.had) r.rest r) (λ cs r1. not_on q f (record h { had = h.had ++ cs }) r1)
 
-abbrev pub header_on : GameProblem → Reading → Judged Colour
+abbrev pub header_on : GameProblem → Cursor → Judged Colour
 header_on q r = then_judge (read_line r) (λ line r1. then_judge (judge_header q.game line r1) (λ head r2. lemmas_on q (record { version = head.0; winner = head.1; heads = [] }) r2))
 
-abbrev pub phase_on : GameProblem → Phase → Reading → Judged Colour
+abbrev pub phase_on : GameProblem → Phase → Cursor → Judged Colour
 phase_on q header r = header_on q r
 phase_on q (opening f) r = lemmas_on q f r
 phase_on q (listing_had f h) r = had_on q f h r
@@ -58,7 +58,7 @@ phase_on q (done x) r = fine x r
 abbrev pub machine_on : GameProblem → Machine → List (Option Line) → Judged Colour
 machine_on q m ls = phase_on q m.phase (reading ls m.place m.nodes m.listed)
 
-abbrev pub step_on : GameProblem → Step → List (Option Line) → Judged Colour
+abbrev pub step_on : GameProblem → AfterLine → List (Option Line) → Judged Colour
 step_on q (goes_on m) ls = machine_on q m ls
 step_on q (stops place why) ls = faulty place why
 
@@ -78,12 +78,12 @@ ends q (done x) p k i = refl
 
 -- BODIES
 
-then_ext : {A B : Type 0} (j : Judged A) (f g : A → Reading → Judged B) → ((a : A) (r : Reading) → f a r ≡ g a r) → then_judge j f ≡ then_judge j g
+then_ext : {A B : Type 0} (j : Judged A) (f g : A → Cursor → Judged B) → ((a : A) (r : Cursor) → f a r ≡ g a r) → then_judge j f ≡ then_judge j g
 then_ext (fine a r) f g h = h a r
 then_ext (faulty place why) f g h = refl
 
 -- where no reply is due any more, nothing is open
-owing_opens : (b : Body) (d : ℕ) (s : GameState) (ts : List Ply) (os : List Owed) (r : Reading) → resume b (owed d s ts ∷ opens os) r ≡ resume b (opens (owing d s ts os)) r
+owing_opens : (b : Body) (d : ℕ) (s : GameState) (ts : List Ply) (os : List Owed) (r : Cursor) → resume b (owed d s ts ∷ opens os) r ≡ resume b (opens (owing d s ts os)) r
 owing_opens b d s [] os r = resume_laws.answered b d s (opens os) r
 owing_opens b d s (t ∷ ts) os r = refl
 
@@ -92,7 +92,7 @@ module _ (q : GameProblem) (f : Heading) (inside : Option Head) (ph : Phase) (ls
   now = record { phase = ph; place = p; nodes = k; listed = i }
 
   -- what stands after a body
-  abbrev after : Unit {0} → Reading → Judged Colour
+  abbrev after : Unit {0} → Cursor → Judged Colour
   after u r1 = then_judge (judge_end r1) (λ _ r2. behind q f inside r2)
 
   abbrev counted_fault : ℕ → Option Why → Option Why
@@ -159,7 +159,7 @@ module _ (q : GameProblem) (f : Heading) (inside : Option Head) (ph : Phase) (ls
       ap (λ j. then_judge j after) (resume_laws.owed (body_of f inside) o.depth o.state o.due o.others (opens os) (reading (Some l ∷ ls) p k i))
       ∙ reply_line_on o os l
 
-  closed_on : (o : Option Head) (r : Reading) → behind q f o r ≡ phase_on q (closed f o) r
+  closed_on : (o : Option Head) (r : Cursor) → behind q f o r ≡ phase_on q (closed f o) r
   closed_on None r = refl
   closed_on (Some h) r = refl
 
@@ -187,18 +187,18 @@ last_pushed [] c = refl
 last_pushed (d ∷ []) c = refl
 last_pushed (d ∷ e ∷ cs) c = last_pushed (e ∷ cs) c
 
-first_then : {B : Type 0} (c : List Cell) (j : Judged (List (List Cell))) (g : List (List Cell) → Reading → Judged B) → then_judge (with_first c j) g ≡ then_judge j (λ cs r. g (c ∷ cs) r)
+first_then : {B : Type 0} (c : List Cell) (j : Judged (List (List Cell))) (g : List (List Cell) → Cursor → Judged B) → then_judge (with_first c j) g ≡ then_judge j (λ cs r. g (c ∷ cs) r)
 first_then c (fine cs r) g = refl
 first_then c (faulty place why) g = refl
 
 -- the lines of a list, by what its first line is
-abbrev list_by : (Option Line → Option (List Cell)) → Option (List Cell) → List (Option Line) → Reading → Option (List Cell) → Judged (List (List Cell))
+abbrev list_by : (Option Line → Option (List Cell)) → Option (List Cell) → List (Option Line) → Cursor → Option (List Cell) → Judged (List (List Cell))
 list_by pick last ls r None = fine [] r
 list_by pick last ls r (Some c) =
     then_judge (asked r.place (ask (nat_lt r.listed max_listed) limit (ask (is_after last c) list_order None)) (record r { rest = ls; place = suc r.place; listed = suc r.listed })) (λ _ r'.
     with_first c (judge_list pick (Some c) ls r'))
 
-list_at : (pick : Option Line → Option (List Cell)) (last : Option (List Cell)) (ls : List (Option Line)) (r : Reading) (o : Option (List Cell))
+list_at : (pick : Option Line → Option (List Cell)) (last : Option (List Cell)) (ls : List (Option Line)) (r : Cursor) (o : Option (List Cell))
     → elim o [
       | None ↦ fine [] r
       | Some c ↦
@@ -217,12 +217,12 @@ module _ (q : GameProblem) (f : Heading) (h : Head) (ph : Phase) (ls : List (Opt
   listed_fault last c = ask (nat_lt i max_listed) limit (ask (is_after last c) list_order None)
 
   -- a line of a list, whatever follows the list
-  listed_on : (pick : Option Line → Option (List Cell)) (had : List (List Cell)) (c : List Cell) (next_phase : Phase) (go : List (List Cell) → Reading → Judged Colour)
-      → ((r : Reading) → phase_on q next_phase r ≡ then_judge (judge_list pick (last_of (had ++ c ∷ [])) r.rest r) (λ cs r1. go ((had ++ c ∷ []) ++ cs) r1))
+  listed_on : (pick : Option Line → Option (List Cell)) (had : List (List Cell)) (c : List Cell) (next_phase : Phase) (go : List (List Cell) → Cursor → Judged Colour)
+      → ((r : Cursor) → phase_on q next_phase r ≡ then_judge (judge_list pick (last_of (had ++ c ∷ [])) r.rest r) (λ cs r1. go ((had ++ c ∷ []) ++ cs) r1))
       → then_judge (then_judge (asked p (listed_fault (last_of had) c) (reading ls (suc p) k (suc i))) (λ _ r'. with_first c (judge_list pick (Some c) ls r'))) (λ cs r1. go (had ++ cs) r1) ≡ step_on q (listed_taken now_in_list (last_of had) c next_phase) ls
   listed_on pick had c next_phase go is = at (listed_fault (last_of had) c)
     where
-      r0 : Reading
+      r0 : Cursor
       r0 = reading ls (suc p) k (suc i)
 
       at : (o : Option Why) → then_judge (then_judge (asked p o (reading ls (suc p) k (suc i))) (λ _ r'. with_first c (judge_list pick (Some c) ls r'))) (λ cs r1. go (had ++ cs) r1) ≡ step_on q (goes_if p o (record { phase = next_phase; place = suc p; nodes = k; listed = suc i })) ls
@@ -259,35 +259,35 @@ module _ (q : GameProblem) (f : Heading) (h : Head) (ph : Phase) (ls : List (Opt
 
 -- LEMMAS
 
-then_then : {A B C : Type 0} (j : Judged A) (f : A → Reading → Judged B) (g : B → Reading → Judged C) → then_judge (then_judge j f) g ≡ then_judge j (λ a r. then_judge (f a r) g)
+then_then : {A B C : Type 0} (j : Judged A) (f : A → Cursor → Judged B) (g : B → Cursor → Judged C) → then_judge (then_judge j f) g ≡ then_judge j (λ a r. then_judge (f a r) g)
 then_then (fine a r) f g = refl
 then_then (faulty place why) f g = refl
 
 -- a lemma's tree and `end`
-abbrev rest_of : ℕ → Game → Colour → List Head → Head → Reading → Judged Head
+abbrev rest_of : ℕ → Game → Colour → List Head → Head → Cursor → Judged Head
 rest_of m g x heads h r2 = then_judge (judge_node m (lemma_body x heads h) 1 (lemma_start g h) r2) (λ _ r3. then_judge (judge_end r3) (λ _ r4. fine h r4))
 
 -- after a first line, its lists and what follows
-abbrev lists_of : ℕ → Game → Colour → List Head → Head → Reading → Judged Head
+abbrev lists_of : ℕ → Game → Colour → List Head → Head → Cursor → Judged Head
 lists_of m g x heads h r1 = then_judge (judge_not r1) (λ absent r2. rest_of m g x heads (record h { absent = absent }) r2)
 
-rest_same : (m n : ℕ) (g : Game) (x : Colour) (heads : List Head) (h : Head) (r : Reading) → length r.rest ≤ m → length r.rest ≤ n → rest_of m g x heads h r ≡ rest_of n g x heads h r
+rest_same : (m n : ℕ) (g : Game) (x : Colour) (heads : List Head) (h : Head) (r : Cursor) → length r.rest ≤ m → length r.rest ≤ n → rest_of m g x heads h r ≡ rest_of n g x heads h r
 rest_same m n g x heads h r le le' = ap (λ j. then_judge j (λ _ r3. then_judge (judge_end r3) (λ _ r4. fine h r4))) (same_node m n (lemma_body x heads h) 1 (lemma_start g h) r le le')
 
-lists_same : (m n : ℕ) (g : Game) (x : Colour) (heads : List Head) (h : Head) (r : Reading) → length r.rest ≤ m → length r.rest ≤ n → lists_of m g x heads h r ≡ lists_of n g x heads h r
+lists_same : (m n : ℕ) (g : Game) (x : Colour) (heads : List Head) (h : Head) (r : Cursor) → length r.rest ≤ m → length r.rest ≤ n → lists_of m g x heads h r ≡ lists_of n g x heads h r
 lists_same m n g x heads h r le le' =
     then_same (judge_not r) (λ absent r2. rest_of m g x heads (record h { absent = absent }) r2) (λ absent r2. rest_of n g x heads (record h { absent = absent }) r2) (length r.rest) (Leaves-not r)
     (λ absent r2 less. rest_same m n g x heads (record h { absent = absent }) r2 (omega arith) (omega arith))
 
 -- the bound of the recursion on lemmas says nothing
-lemma_same : (m n : ℕ) (g : Game) (v : ℕ) (x : Colour) (heads : List Head) (mover : Colour) (passes : ℕ) (root : List Cell) (r : Reading) → length r.rest ≤ m → length r.rest ≤ n
+lemma_same : (m n : ℕ) (g : Game) (v : ℕ) (x : Colour) (heads : List Head) (mover : Colour) (passes : ℕ) (root : List Cell) (r : Cursor) → length r.rest ≤ m → length r.rest ≤ n
     → judge_lemma m g v x heads mover passes root r ≡ judge_lemma n g v x heads mover passes root r
 lemma_same m n g v x heads mover passes root r le le' =
     then_same (judge_had v r) (λ had r1. lists_of m g x heads (record { mover = mover; passes = passes; root = root; had = had; absent = [] }) r1) (λ had r1. lists_of n g x heads (record { mover = mover; passes = passes; root = root; had = had; absent = [] }) r1) (length r.rest) (Leaves-had v r)
     (λ had r1 less. lists_same m n g x heads (record { mover = mover; passes = passes; root = root; had = had; absent = [] }) r1 (omega arith) (omega arith))
 
-opening_same : (g : Game) (heads : List Head) (before : Reading) (go go' : Colour → ℕ → List Cell → Reading → Judged (List Head)) (l : Line) (r : Reading)
-    → ((mover : Colour) (passes : ℕ) (root : List Cell) (r' : Reading) → length r'.rest ≤ length r.rest → go mover passes root r' ≡ go' mover passes root r')
+opening_same : (g : Game) (heads : List Head) (before : Cursor) (go go' : Colour → ℕ → List Cell → Cursor → Judged (List Head)) (l : Line) (r : Cursor)
+    → ((mover : Colour) (passes : ℕ) (root : List Cell) (r' : Cursor) → length r'.rest ≤ length r.rest → go mover passes root r' ≡ go' mover passes root r')
     → judge_opening g heads before go l r ≡ judge_opening g heads before go' l r
 opening_same g heads before go go' (lemma_line mover passes root) r h =
     then_same (asked before.place (lemma_fault g heads root) r) (λ _ r'. go mover passes root r') (λ _ r'. go' mover passes root r') (length r.rest) (Leaves-asked before.place _ r) (λ _ r' le. h mover passes root r' le)
@@ -303,7 +303,7 @@ opening_same g heads before go go' (reply_line t) r h = refl
 opening_same g heads before go go' end_line r h = refl
 
 -- a lemma after its first line, and the lemmas after it
-abbrev lemma_and : ℕ → Game → ℕ → Colour → List Head → Colour → ℕ → List Cell → Reading → Judged (List Head)
+abbrev lemma_and : ℕ → Game → ℕ → Colour → List Head → Colour → ℕ → List Cell → Cursor → Judged (List Head)
 lemma_and m g v x heads mover passes root r1 = then_judge (judge_lemma m g v x heads mover passes root r1) (λ h r2. judge_lemmas m g v x (heads ++ h ∷ []) r2)
 
 lemmas_same_at : (m n : ℕ) (g : Game) (v : ℕ) (x : Colour) (heads : List Head) (ls : List (Option Line)) (p k i : ℕ) → length ls ≤ m → length ls ≤ n → judge_lemmas m g v x heads (reading ls p k i) ≡ judge_lemmas n g v x heads (reading ls p k i)
@@ -321,15 +321,15 @@ lemmas_same_at (suc m) (suc n) g v x heads (Some l ∷ ls) p k i h h' =
     ∙ then_same (judge_lemma n g v x heads mover passes root r1) (λ hd r2. judge_lemmas m g v x (heads ++ hd ∷ []) r2) (λ hd r2. judge_lemmas n g v x (heads ++ hd ∷ []) r2) (length r1.rest) (Leaves-lemma n g v x heads mover passes root r1)
     (λ hd r2 less. lemmas_same_at m n g v x (heads ++ hd ∷ []) r2.rest r2.place r2.nodes r2.listed (omega arith) (omega arith)))
 
-lemmas_same : (m n : ℕ) (g : Game) (v : ℕ) (x : Colour) (heads : List Head) (r : Reading) → length r.rest ≤ m → length r.rest ≤ n → judge_lemmas m g v x heads r ≡ judge_lemmas n g v x heads r
+lemmas_same : (m n : ℕ) (g : Game) (v : ℕ) (x : Colour) (heads : List Head) (r : Cursor) → length r.rest ≤ m → length r.rest ≤ n → judge_lemmas m g v x heads r ≡ judge_lemmas n g v x heads r
 lemmas_same m n g v x heads r h h' = lemmas_same_at m n g v x heads r.rest r.place r.nodes r.listed h h'
 
 module _ (q : GameProblem) (f : Heading) (m : ℕ) where
   -- what follows a lemma, with a bound
-  abbrev follows : Head → Reading → Judged Colour
+  abbrev follows : Head → Cursor → Judged Colour
   follows h r2 = then_judge (judge_lemmas m q.game f.version f.winner (f.heads ++ h ∷ []) r2) (λ hs r1. main_on q (record f { heads = hs }) r1)
 
-  rest_then : (h : Head) (r2 : Reading) → length r2.rest ≤ m → then_judge (rest_of m q.game f.winner f.heads h r2) follows ≡ lemma_on q f h r2
+  rest_then : (h : Head) (r2 : Cursor) → length r2.rest ≤ m → then_judge (rest_of m q.game f.winner f.heads h r2) follows ≡ lemma_on q f h r2
   rest_then h r2 le =
       then_then (judge_node m (lemma_body f.winner f.heads h) 1 (lemma_start q.game h) r2) (λ _ r3. then_judge (judge_end r3) (λ _ r4. fine h r4)) follows
       ∙ ap (λ j. then_judge j (λ _ r3. then_judge (then_judge (judge_end r3) (λ _ r4. fine h r4)) follows)) (same_node m (length r2.rest) (lemma_body f.winner f.heads h) 1 (lemma_start q.game h) r2 le (le_refl _))
@@ -343,13 +343,13 @@ module _ (q : GameProblem) (f : Heading) (m : ℕ) where
       (λ _ r4 less'. ap (λ j. then_judge j (λ hs r1. main_on q (record f { heads = hs }) r1)) (lemmas_same m (length r4.rest) q.game f.version f.winner (f.heads ++ h ∷ []) r4 (omega arith) (le_refl _))))
       ∙ sym (then_then (judge_node (length r2.rest) (lemma_body f.winner f.heads h) 1 (lemma_start q.game h) r2) (λ _ r'. fine tt r') (λ _ r3. then_judge (judge_end r3) (λ _ r4. behind q f (Some h) r4)))
 
-  lists_then : (h : Head) (r1 : Reading) → length r1.rest ≤ m → then_judge (lists_of m q.game f.winner f.heads h r1) follows ≡ not_on q f (record h { absent = [] }) r1
+  lists_then : (h : Head) (r1 : Cursor) → length r1.rest ≤ m → then_judge (lists_of m q.game f.winner f.heads h r1) follows ≡ not_on q f (record h { absent = [] }) r1
   lists_then h r1 le =
       then_then (judge_not r1) (λ absent r2. rest_of m q.game f.winner f.heads (record h { absent = absent }) r2) follows
       ∙ then_same (judge_not r1) (λ absent r2. then_judge (rest_of m q.game f.winner f.heads (record h { absent = absent }) r2) follows) (λ absent r2. lemma_on q f (record h { absent = absent }) r2) (length r1.rest) (Leaves-not r1)
       (λ absent r2 less. rest_then (record h { absent = absent }) r2 (omega arith))
 
-  begin_then : (mover : Colour) (passes : ℕ) (root : List Cell) (r : Reading) → length r.rest ≤ m → then_judge (judge_lemma m q.game f.version f.winner f.heads mover passes root r) follows ≡ phase_on q (lists_due f (first_of mover passes root)) r
+  begin_then : (mover : Colour) (passes : ℕ) (root : List Cell) (r : Cursor) → length r.rest ≤ m → then_judge (judge_lemma m q.game f.version f.winner f.heads mover passes root r) follows ≡ phase_on q (lists_due f (first_of mover passes root)) r
   begin_then mover passes root r le =
       then_then (judge_had f.version r) (λ had r1. lists_of m q.game f.winner f.heads (record { mover = mover; passes = passes; root = root; had = had; absent = [] }) r1) follows
       ∙ then_same (judge_had f.version r)
@@ -437,15 +437,15 @@ lines_verdict : (q : GameProblem) (m : Machine) (ls : List (Option Line)) → ve
 lines_verdict q m [] = ends q m.phase m.place m.nodes m.listed
 lines_verdict q m (l ∷ ls) = step_verdict q m.phase m.place m.nodes m.listed (fitting q.game.size l) (map (fitting q.game.size) ls) ∙ at (taken q m l) (λ m'. lines_verdict q m' ls)
   where
-    at : (s : Step) → ((m' : Machine) → verdict_of (machine_on q m' (map (fitting q.game.size) ls)) ≡ verdict_from q m' ls) → verdict_of (step_on q s (map (fitting q.game.size) ls)) ≡ after_step s (λ m'. verdict_from q m' ls)
+    at : (s : AfterLine) → ((m' : Machine) → verdict_of (machine_on q m' (map (fitting q.game.size) ls)) ≡ verdict_from q m' ls) → verdict_of (step_on q s (map (fitting q.game.size) ls)) ≡ after_step s (λ m'. verdict_from q m' ls)
     at (goes_on m') below = below m'
     at (stops place why) below = refl
 
 -- after the header, by the recursion with a bound
-abbrev claim_behind : GameProblem → ℕ → ℕ × Colour → Reading → Judged Colour
+abbrev claim_behind : GameProblem → ℕ → ℕ × Colour → Cursor → Judged Colour
 claim_behind q m head r2 = then_judge (judge_lemmas m q.game head.0 head.1 [] r2) (λ heads r3. then_judge (judge_node m (main_body head.1 heads) 1 (start q) r3) (λ _ r4. then_judge (judge_end r4) (λ _ r5. fine head.1 r5)))
 
-claim_same : (q : GameProblem) (m : ℕ) (head : ℕ × Colour) (r : Reading) → length r.rest ≤ m → claim_behind q m head r ≡ lemmas_on q (record { version = head.0; winner = head.1; heads = [] }) r
+claim_same : (q : GameProblem) (m : ℕ) (head : ℕ × Colour) (r : Cursor) → length r.rest ≤ m → claim_behind q m head r ≡ lemmas_on q (record { version = head.0; winner = head.1; heads = [] }) r
 claim_same q m head r le =
     ap (λ j. then_judge j (λ heads r3. then_judge (judge_node m (main_body head.1 heads) 1 (start q) r3) (λ _ r4. then_judge (judge_end r4) (λ _ r5. fine head.1 r5)))) (lemmas_same m (length r.rest) q.game head.0 head.1 [] r le (le_refl _))
     ∙ then_same (judge_lemmas (length r.rest) q.game head.0 head.1 [] r)
@@ -454,7 +454,7 @@ claim_same q m head r le =
     (length r.rest) (Leaves-lemmas_at (length r.rest) q.game head.0 head.1 [] r.rest r.place r.nodes r.listed)
     (λ heads r3 less. ap (λ j. then_judge j (λ _ r4. then_judge (judge_end r4) (λ _ r5. fine head.1 r5))) (same_node m (length r3.rest) (main_body head.1 heads) 1 (start q) r3 (omega arith) (le_refl _)))
 
-Leaves-header : (g : Game) (l : Line) (r : Reading) → Leaves (judge_header g l r) (length r.rest)
+Leaves-header : (g : Game) (l : Line) (r : Cursor) → Leaves (judge_header g l r) (length r.rest)
 Leaves-header g (header_line v n x) r =
     Leaves-then (asked 1 (ask (nat_eq v 1 || nat_eq v 2) malformed (ask (nat_eq n g.size) size_differs None)) r) (λ _ r'. fine (v, x) r') (length r.rest) (length r.rest) (Leaves-asked 1 _ r)
     (λ _ r' le. le)

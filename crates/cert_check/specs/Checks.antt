@@ -1,7 +1,7 @@
 -- What a source of lines gave to the checker, and what is answered of it.
 --     Took gives n s ls t      calls one after another gave these lines of the program, from the source s of size n on, and left t
 --     Answers gives t r      a call may answer so there
---     Accepts, RejectsAt, FailsAt      the answers, by the lines taken
+--     Accepts, RejectsAt, FailsAt, IsReached      the answers, by the lines taken
 use Rattle.std.specs.Prelude.{◌≡◌, ℕ, suc, ◌+◌, ◌^◌, ◌<◌, ◌≤◌, ◌⊎◌, List, ◌++◌, length, Option, None, Result, Ok, Err}
 use Rattle.go_points.specs.declared.Colour.{Colour}
 use Rattle.target_game.specs.State.{GameProblem}
@@ -46,6 +46,14 @@ pub record FailsAt {S : Type 0} (gives : S → Result (Option Line) SourceFault 
   pub counted : number left ≡ number s + length taken
   pub few : length taken < 2 ^ 63
   pub failed : Answers gives left (Err Read)
+  pub behind : place ≡ suc (length taken)
+  pub faultless : (p : ℕ) (w : Why) → verdict q (line_values q.game.size taken) ≡ rejected p w → length taken < p
+
+-- The lines before the one of this number have no fault.
+pub record IsReached {S : Type 0} (gives : S → Result (Option Line) SourceFault → S → Type 0) (n : ℕ) (q : GameProblem) (s : S) (place : ℕ) : Type 0 where
+  pub taken : List (Option code.Line)
+  pub left : S
+  pub took : Took gives n s taken left
   pub behind : place ≡ suc (length taken)
   pub faultless : (p : ℕ) (w : Why) → verdict q (line_values q.game.size taken) ≡ rejected p w → length taken < p
 

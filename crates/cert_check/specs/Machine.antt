@@ -51,16 +51,16 @@ pub record Machine : Type 0 where
 abbrev pub begun : Machine
 begun = record { phase = header; place = 1; nodes = 0; listed = 0 }
 
-pub data Step : Type 0 where
-  goes_on : Machine → Step
-  stops : (place : ℕ) → Why → Step
+pub data AfterLine : Type 0 where
+  goes_on : Machine → AfterLine
+  stops : (place : ℕ) → Why → AfterLine
 
 -- the line is taken, and this is due
 abbrev pub moved : Machine → Phase → Machine
 moved m p = record m { phase = p; place = suc m.place }
 
 -- goes on where the questions of the line at this place leave no fault
-abbrev pub goes_if : ℕ → Option Why → Machine → Step
+abbrev pub goes_if : ℕ → Option Why → Machine → AfterLine
 goes_if place None m = goes_on m
 goes_if place (Some why) m = stops place why
 
@@ -76,18 +76,18 @@ owing depth s [] os = os
 owing depth s (due ∷ others) os = record { depth = depth; state = s; due = due; others = others } ∷ os
 
 -- a node's line, which is counted, where its questions leave no fault
-abbrev pub counted : Machine → ℕ → Option Why → Phase → Step
+abbrev pub counted : Machine → ℕ → Option Why → Phase → AfterLine
 counted m depth fault p =
     goes_if m.place (ask (nat_lt m.nodes max_nodes && nat_le depth max_depth) limit fault) (record m { phase = p; place = suc m.place; nodes = suc m.nodes })
 
-abbrev pub node_taken : Machine → Heading → Option Head → ℕ → GameState → List Owed → Line → Step
+abbrev pub node_taken : Machine → Heading → Option Head → ℕ → GameState → List Owed → Line → AfterLine
 node_taken m f inside depth s os won_line = counted m depth (won_fault (body_of f inside) s) (reply_due f inside os)
 node_taken m f inside depth s os (use_line j) = counted m depth (use_fault (body_of f inside) s j) (reply_due f inside os)
 node_taken m f inside depth s os (play_line t) = counted m depth (play_fault (body_of f inside) s t) (node_due f inside (suc depth) (next s t) os)
 node_taken m f inside depth s os (all_line k) = counted m depth (all_fault (body_of f inside) s k) (reply_due f inside (owing depth s (due_replies s) os))
 node_taken m f inside depth s os _ = stops m.place malformed
 
-abbrev pub reply_taken : Machine → Heading → Option Head → Owed → List Owed → Line → Step
+abbrev pub reply_taken : Machine → Heading → Option Head → Owed → List Owed → Line → AfterLine
 reply_taken m f inside o os (reply_line t) =
     goes_if m.place (reply_fault o.due t) (moved m (node_due f inside (suc o.depth) (next o.state o.due) (owing o.depth o.state o.others os)))
 reply_taken m f inside o os _ = stops m.place malformed
@@ -97,7 +97,7 @@ abbrev pub closed : Heading → Option Head → Phase
 closed f None = done f.winner
 closed f (Some h) = opening (record f { heads = f.heads ++ h ∷ [] })
 
-abbrev pub end_taken : Machine → Heading → Option Head → Line → Step
+abbrev pub end_taken : Machine → Heading → Option Head → Line → AfterLine
 end_taken m f inside end_line = goes_on (moved m (closed f inside))
 end_taken m f inside _ = stops m.place malformed
 
@@ -116,17 +116,17 @@ first_of mover passes root = record { mover = mover; passes = passes; root = roo
 abbrev pub lists_due : Heading → Head → Phase
 lists_due f h = (if nat_eq f.version 2 then listing_had f h else listing_not f h)
 
-abbrev pub opening_taken : GameProblem → Machine → Heading → Line → Step
+abbrev pub opening_taken : GameProblem → Machine → Heading → Line → AfterLine
 opening_taken q m f (lemma_line mover passes root) = goes_if m.place (lemma_fault q.game f.heads root) (moved m (lists_due f (first_of mover passes root)))
 opening_taken q m f main_line = goes_on (moved m (node_due f None 1 (start q) []))
 opening_taken q m f _ = stops m.place malformed
 
 -- a line of a list, after the colouring before it; it is counted
-abbrev pub listed_taken : Machine → Option (List Cell) → List Cell → Phase → Step
+abbrev pub listed_taken : Machine → Option (List Cell) → List Cell → Phase → AfterLine
 listed_taken m last c p =
     goes_if m.place (ask (nat_lt m.listed max_listed) limit (ask (is_after last c) list_order None)) (record m { phase = p; place = suc m.place; listed = suc m.listed })
 
-abbrev pub header_taken : GameProblem → Machine → Line → Step
+abbrev pub header_taken : GameProblem → Machine → Line → AfterLine
 header_taken q m (header_line version size x) =
     goes_if 1 (ask (nat_eq version 1 || nat_eq version 2) malformed (ask (nat_eq size q.game.size) size_differs None)) (moved m (opening (record { version = version; winner = x; heads = [] })))
 header_taken q m _ = stops 1 malformed
@@ -134,23 +134,23 @@ header_taken q m _ = stops 1 malformed
 -- LINES
 
 -- a line that is there; one that is None is malformed
-abbrev pub there : Machine → Option Line → (Line → Step) → Step
+abbrev pub there : Machine → Option Line → (Line → AfterLine) → AfterLine
 there m None take = stops m.place malformed
 there m (Some l) take = take l
 
 -- where a lemma's lists end its body begins, with the same line
-abbrev pub first_taken : GameProblem → Machine → Heading → Head → Option Line → Step
+abbrev pub first_taken : GameProblem → Machine → Heading → Head → Option Line → AfterLine
 first_taken q m f h l = there m l (node_taken m f (Some h) 1 (lemma_start q.game h) [])
 
-abbrev pub not_taken : GameProblem → Machine → Heading → Head → Option Line → Option (List Cell) → Step
+abbrev pub not_taken : GameProblem → Machine → Heading → Head → Option Line → Option (List Cell) → AfterLine
 not_taken q m f h l None = first_taken q m f h l
 not_taken q m f h l (Some c) = listed_taken m (last_of h.absent) c (listing_not f (record h { absent = h.absent ++ c ∷ [] }))
 
-abbrev pub had_taken : GameProblem → Machine → Heading → Head → Option Line → Option (List Cell) → Step
+abbrev pub had_taken : GameProblem → Machine → Heading → Head → Option Line → Option (List Cell) → AfterLine
 had_taken q m f h l None = not_taken q m f h l (not_of l)
 had_taken q m f h l (Some c) = listed_taken m (last_of h.had) c (listing_had f (record h { had = h.had ++ c ∷ [] }))
 
-abbrev pub phase_taken : GameProblem → Machine → Phase → Option Line → Step
+abbrev pub phase_taken : GameProblem → Machine → Phase → Option Line → AfterLine
 phase_taken q m header l = there m l (header_taken q m)
 phase_taken q m (opening f) l = there m l (opening_taken q m f)
 phase_taken q m (listing_had f h) l = had_taken q m f h l (had_of l)
@@ -161,7 +161,7 @@ phase_taken q m (reply_due f inside (o ∷ os)) l = there m l (reply_taken m f i
 phase_taken q m (done x) l = stops m.place text_after_end
 
 -- A line that does not fit the problem's board is malformed.
-abbrev pub taken : GameProblem → Machine → Option Line → Step
+abbrev pub taken : GameProblem → Machine → Option Line → AfterLine
 taken q m l = phase_taken q m m.phase (fitting q.game.size l)
 
 -- a line that is missing is malformed, at the number that it would have
@@ -172,7 +172,7 @@ ended_at place _ = rejected place malformed
 abbrev pub ended : Machine → Verdict
 ended m = ended_at m.place m.phase
 
-abbrev pub after_step : Step → (Machine → Verdict) → Verdict
+abbrev pub after_step : AfterLine → (Machine → Verdict) → Verdict
 after_step (goes_on m) go = go m
 after_step (stops place why) go = rejected place why
 

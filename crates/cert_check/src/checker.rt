@@ -3,10 +3,10 @@
 ghost use Rattle.std.specs.Prelude.{◌≡◌, ◌<◌, ◌^◌, [], Some, None, IfOk, IfErr, OnOk, OnSome};
 ghost use Rattle.target_game.specs.State.{start};
 ghost use Rattle.target_game.specs.Wins.{Wins};
-ghost use Rattle.cert_check.specs.declared.reject.Why.TheVariants.{Read};
+ghost use Rattle.cert_check.specs.declared.reject.Why.TheVariants.{Memory, Read};
 ghost use Rattle.cert_check.specs.Body.{Why as SpecWhy};
 ghost use Rattle.cert_check.specs.Stage.{why_value};
-ghost use Rattle.cert_check.specs.Checks.{Accepts, RejectsAt, FailsAt};
+ghost use Rattle.cert_check.specs.Checks.{Accepts, RejectsAt, FailsAt, IsReached};
 
 use crate::judge::Judge;
 use crate::reject::{Reject, Why};
@@ -34,6 +34,9 @@ pub fn check<S: NodeSource>(
     ensures read { S.fault source.old ≡ None
         → IfErr result (λ e. e.why ≡ Read
         → FailsAt S.gives S.number (S.size source.old) problem.now source.old e.place) }
+    ensures memory { S.fault source.old ≡ None
+        → IfErr result (λ e. e.why ≡ Memory
+        → IsReached S.gives (S.size source.old) problem.now source.old e.place) }
 {
     prove!(problem.place() < problem.history().len());
     let Ok(mut judge) = Judge::new(alloc, problem) else {

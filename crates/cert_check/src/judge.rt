@@ -639,6 +639,7 @@ impl<'p> Judge<'p> {
         ensures value { why_value self.now.problem.now.game.size result
             ≡ Some (bad_line (machine_of self.now).phase) }
         ensures judged { IsJudged result }
+        ensures heard { result ≡ Memory → ⊥ }
     {
         match self.phase {
             Phase::Done => Why::TextAfterEnd,
@@ -708,6 +709,7 @@ impl<'p> Judge<'p> {
             → taken self.now.problem.now (machine_of self.now) None ≡ stops result.place why }
         ensures there { result.place ≡ self.now.place }
         ensures judged { IsJudged result.why }
+        ensures heard { result.why ≡ Memory → ⊥ }
     {
         self.reject(self.malformed_why())
     }
@@ -719,6 +721,7 @@ impl<'p> Judge<'p> {
             → why_value self.now.problem.now.game.size e.why ≡ Some why
             → ended (machine_of self.now) ≡ rejected e.place why) }
         ensures judged { IfErr result (λ e. IsJudged e.why) }
+        ensures heard { IfErr result (λ e. e.why ≡ Memory → ⊥) }
     {
         match self.phase {
             Phase::Done => Ok(self.winner),

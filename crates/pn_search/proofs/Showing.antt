@@ -30,7 +30,7 @@ use Rattle.cert_check.proofs.Members.{and_both, and_first, and_second}
 use Rattle.cert_check.proofs.Soundness.{game-next}
 use Rattle.pn_search.specs.declared.full_search.Found.{Found}
 use Rattle.pn_search.specs.declared.full_search.Found.TheVariants.{Wins, Open, OutOfSteps}
-use Rattle.pn_search.specs.declared.full_search.Seen.{Seen}
+use Rattle.pn_search.specs.declared.full_search.Tried.{Tried}
 use Rattle.pn_search.specs.Private.Shown.{nodes_behind, Shows, AllShow, NeitherWins, AreSeen, IsFound, IsWonBy, IsTurnSeen}
 
 -- THE NUMBER OF STATES
@@ -139,7 +139,7 @@ open_last s e x = wins_none x s e
 
 -- ALL TURNS
 
-pub nothing_seen : (s : GameState) (k : ℕ) (seen : Seen) → seen.is_open ≡ false → seen.replies.items ≡ [] → AreSeen s k [] seen
+pub nothing_seen : (s : GameState) (k : ℕ) (seen : Tried) → seen.is_open ≡ false → seen.replies.items ≡ [] → AreSeen s k [] seen
 nothing_seen s k seen closed none = record {
   mover = refl;
   some = λ e. absurd (cc);
@@ -163,7 +163,7 @@ not_won false h = refl
 mover_loses : (s r : GameState) (k : ℕ) → wins (opponent_of s.mover) r k ≡ true → wins s.mover r k ≡ false
 mover_loses s r k h = not_won (wins s.mover r k) (λ e. not_both s.mover r k k e h)
 
-pub seen_late : (s : GameState) (k : ℕ) (ts : List Ply) (t : Ply) (seen : Seen) (n : Node) → seen.is_open ≡ true → Shows (opponent_of s.mover) (next s t) k n → AreSeen s k ts seen → AreSeen s k (ts ++ t ∷ []) seen
+pub seen_late : (s : GameState) (k : ℕ) (ts : List Ply) (t : Ply) (seen : Tried) (n : Node) → seen.is_open ≡ true → Shows (opponent_of s.mover) (next s t) k n → AreSeen s k ts seen → AreSeen s k (ts ++ t ∷ []) seen
 seen_late s k ts t seen n now h before = record {
   mover = not_any (λ u. wins s.mover (next s u) k) ts t before.mover (mover_loses s (next s t) k h.wins);
   some = λ e. not_all_before (λ u. wins (opponent_of s.mover) (next s u) k) ts (t ∷ []) (before.some e);
@@ -202,7 +202,7 @@ all_show_more x s k ts bs t n before h = record {
   wins = all_more (λ u. wins x (next s u) k) ts t before.wins h.wins;
 }
 
-pub seen_reply : (s : GameState) (k : ℕ) (ts : List Ply) (turn : Turn) (old new : Seen) (tree : code.Node) → old.is_open ≡ false → new.is_open ≡ false → new.replies.items ≡ old.replies.items ++ (turn, tree) ∷ [] → Shows (opponent_of s.mover) (next s (ply_of s.game.size turn)) k (node_of s.game.size tree) → AreSeen s k ts old → AreSeen s k (ts ++ ply_of s.game.size turn ∷ []) new
+pub seen_reply : (s : GameState) (k : ℕ) (ts : List Ply) (turn : Turn) (old new : Tried) (tree : code.Node) → old.is_open ≡ false → new.is_open ≡ false → new.replies.items ≡ old.replies.items ++ (turn, tree) ∷ [] → Shows (opponent_of s.mover) (next s (ply_of s.game.size turn)) k (node_of s.game.size tree) → AreSeen s k ts old → AreSeen s k (ts ++ ply_of s.game.size turn ∷ []) new
 seen_reply s k ts turn old new tree was is items h before = record {
   mover = not_any (λ u. wins s.mover (next s u) k) ts (ply_of s.game.size turn) before.mover (mover_loses s (next s (ply_of s.game.size turn)) k h.wins);
   some = λ e. absurd (cc);
@@ -217,14 +217,14 @@ turned Black White h = refl
 turned White Black h = refl
 turned White White h = h
 
-pub decided_open : (s : GameState) (k : ℕ) (seen : Seen) → over s ≡ None → seen.is_open ≡ true → AreSeen s k (legal_turns s) seen → NeitherWins s (k + 1)
+pub decided_open : (s : GameState) (k : ℕ) (seen : Tried) → over s ≡ None → seen.is_open ≡ true → AreSeen s k (legal_turns s) seen → NeitherWins s (k + 1)
 decided_open s k seen e now known x = ap (wins x s) (add-one k) ∙ wins_next x s k e ∙ at (same_colour s.mover x) refl
   where
     at : (b : Bool) → same_colour s.mover x ≡ b → some_or_each b (λ t. wins x (next s t) k) (legal_turns s) ≡ false
     at true m = subst (λ y. list_any (λ t. wins y (next s t) k) (legal_turns s) ≡ false) (same_colour-eq s.mover x m) known.mover
     at false m = subst (λ y. list_all (λ t. wins y (next s t) k) (legal_turns s) ≡ false) (sym (other_side x s.mover (turned s.mover x m))) (known.some now)
 
-pub decided_lost : (s : GameState) (k : ℕ) (seen : Seen) → over s ≡ None → seen.is_open ≡ false → AreSeen s k (legal_turns s) seen → Shows (opponent_of s.mover) s (k + 1) (all (replies_of s.game.size seen.replies.items))
+pub decided_lost : (s : GameState) (k : ℕ) (seen : Tried) → over s ≡ None → seen.is_open ≡ false → AreSeen s k (legal_turns s) seen → Shows (opponent_of s.mover) s (k + 1) (all (replies_of s.game.size seen.replies.items))
 decided_lost s k seen e now known =
     let h = known.all now in
     record {
@@ -241,7 +241,7 @@ found_won s k left t below x tree is f =
     let shown : Shows x (next s t) k (node_of (next s t).game.size tree) = subst (λ b. IsFound (next s t) k left b) is f in
     subst (λ (g : Game). Shows x (next s t) k (node_of g.size tree)) (game-next s t) shown
 
-pub turn_won : (s : GameState) (k left : ℕ) (turn : Turn) (x : Colour) (old new : Seen) (tree : code.Node) (found : Found) → s.mover ≡ x → over s ≡ None → IsTrue (legal s (ply_of s.game.size turn)) → Shows x (next s (ply_of s.game.size turn)) k (node_of s.game.size tree) → IsWonBy x turn tree found → IsTurnSeen s k (ply_of s.game.size turn) left old new (Some found)
+pub turn_won : (s : GameState) (k left : ℕ) (turn : Turn) (x : Colour) (old new : Tried) (tree : code.Node) (found : Found) → s.mover ≡ x → over s ≡ None → IsTrue (legal s (ply_of s.game.size turn)) → Shows x (next s (ply_of s.game.size turn)) k (node_of s.game.size tree) → IsWonBy x turn tree found → IsTurnSeen s k (ply_of s.game.size turn) left old new (Some found)
 turn_won s k left turn x old new tree (Wins y above) m e l h by =
     let shown = shows_play x s k (ply_of s.game.size turn) (node_of s.game.size tree) m e l h in
     subst (λ (z : Colour). Shows z s (k + 1) (node_of s.game.size above)) (sym by.0) (subst (λ (n : Node). Shows x s (k + 1) n) (sym (by.1 s.game.size)) shown)
@@ -251,14 +251,14 @@ turn_won s k left turn x old new tree OutOfSteps m e l h by = absurd by
 -- TURN BY TURN
 
 -- the turns at points below i were seen, with these steps left before and after
-pub record TurnsSeen (s : GameState) (k : ℕ) (due : List Ply) (before left : ℕ) (seen : Seen) : Type 0 where
+pub record TurnsSeen (s : GameState) (k : ℕ) (due : List Ply) (before left : ℕ) (seen : Tried) : Type 0 where
   pub turns : List Ply
   pub all_turns : turns ++ due ≡ legal_turns s
   pub known : AreSeen s k turns seen
   pub fewer : left ≤ before
   pub steps : before ≤ left + nodes_behind s k turns
 
-pub turns_begun : (s : GameState) (k before : ℕ) (due : List Ply) (seen : Seen) → due ≡ legal_turns s → seen.is_open ≡ false → seen.replies.items ≡ [] → TurnsSeen s k due before before seen
+pub turns_begun : (s : GameState) (k before : ℕ) (due : List Ply) (seen : Tried) → due ≡ legal_turns s → seen.is_open ≡ false → seen.replies.items ≡ [] → TurnsSeen s k due before before seen
 turns_begun s k before due seen whole closed none = record { turns = []; all_turns = whole; known = nothing_seen s k seen closed none; fewer = omega arith; steps = omega arith }
 
 -- a turn more
@@ -273,7 +273,7 @@ behind_all s k ts us t e =
     let c : nodes_behind s k (ts ++ t ∷ us) ≡ nodes_behind s k (legal_turns s) = ap (nodes_behind s k) e in
     omega arith
 
-pub turns_more : (s : GameState) (k before left now : ℕ) (t : Ply) (ds us : List Ply) (old new : Seen) → ds ≡ t ∷ us → TurnsSeen s k ds before left old → now ≤ left → left ≤ now + nodes (next s t) k → IsTurnSeen s k t left old new None → TurnsSeen s k us before now new
+pub turns_more : (s : GameState) (k before left now : ℕ) (t : Ply) (ds us : List Ply) (old new : Tried) → ds ≡ t ∷ us → TurnsSeen s k ds before left old → now ≤ left → left ≤ now + nodes (next s t) k → IsTurnSeen s k t left old new None → TurnsSeen s k us before now new
 turns_more s k before left now t ds us old new here h fewer steps seen = record {
   turns = h.turns ++ t ∷ [];
   all_turns = append_assoc h.turns (t ∷ []) us ∙ ap (λ us. h.turns ++ us) (sym here) ∙ h.all_turns;
@@ -283,14 +283,14 @@ turns_more s k before left now t ds us old new here h fewer steps seen = record 
 }
 
 -- the steps after some of the turns are no more than those after all
-pub turns_steps : (s : GameState) (k before left now : ℕ) (t : Ply) (ds us : List Ply) (old : Seen) → ds ≡ t ∷ us → TurnsSeen s k ds before left old → left ≤ now + nodes (next s t) k → before ≤ now + nodes_behind s k (legal_turns s)
+pub turns_steps : (s : GameState) (k before left now : ℕ) (t : Ply) (ds us : List Ply) (old : Tried) → ds ≡ t ∷ us → TurnsSeen s k ds before left old → left ≤ now + nodes (next s t) k → before ≤ now + nodes_behind s k (legal_turns s)
 turns_steps s k before left now t ds us old here h steps =
     let a = behind_all s k h.turns us t (ap (λ vs. h.turns ++ vs) (sym here) ∙ h.all_turns) in
     let b = h.steps in
     omega arith
 
 -- what decides the search after a turn decides it
-pub turns_found : (s : GameState) (k before left : ℕ) (t : Ply) (ds us : List Ply) (old new : Seen) (found : Found) → over s ≡ None → ds ≡ t ∷ us → TurnsSeen s k ds before left old → IsTurnSeen s k t left old new (Some found) → IsFound s (k + 1) (before + 1) found
+pub turns_found : (s : GameState) (k before left : ℕ) (t : Ply) (ds us : List Ply) (old new : Tried) (found : Found) → over s ≡ None → ds ≡ t ∷ us → TurnsSeen s k ds before left old → IsTurnSeen s k t left old new (Some found) → IsFound s (k + 1) (before + 1) found
 turns_found s k before left t ds us old new (Wins x tree) e here h seen = seen
 turns_found s k before left t ds us old new Open e here h seen = absurd seen
 turns_found s k before left t ds us old new OutOfSteps e here h seen =

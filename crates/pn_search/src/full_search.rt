@@ -32,7 +32,7 @@ pub(crate) enum Found {
 
 /// What is known of the turns that were searched, none of which the mover wins.
 #[derive(Drop)]
-pub(crate) struct Seen {
+pub(crate) struct Tried {
     /// Whether neither side wins by one of them.
     is_open: bool,
     /// The turns with the other side's trees, where it wins by all of them.
@@ -163,7 +163,7 @@ fn search_turns(
         (left.old ≤ left.new + nodes_behind state.old.state turns (legal_turns state.old.state)) }
     ensures found { IfOk result (λ f. IsFound state.old.state (turns + 1) (left.old + 1) f) }
 {
-    let mut seen = Seen {
+    let mut seen = Tried {
         is_open: false,
         replies: Vec::new(alloc),
     };
@@ -200,7 +200,7 @@ fn found_at_once(winner: Option<Colour>) -> Found
 }
 
 /// What is found where all turns were searched and the mover wins by none.
-fn decided(state: &PlayState, turns: u32, seen: Seen) -> Found
+fn decided(state: &PlayState, turns: u32, seen: Tried) -> Found
     requires nobody { over state.now.state ≡ None }
     requires seen { AreSeen state.now.state turns (legal_turns state.now.state) seen }
     ensures { (left : ℕ) → IsFound state.now.state (turns + 1) left result }
@@ -221,7 +221,7 @@ fn search_turn(
     turns: u32,
     turn: Turn,
     winner: Option<Colour>,
-    seen: &mut Seen,
+    seen: &mut Tried,
     left: &mut u64,
 ) -> Result<Option<Found>, AllocError>
     requires nobody { over state.old.state ≡ None }
@@ -253,7 +253,7 @@ fn with_turn(
     mover: Colour,
     turn: Turn,
     below: Found,
-    seen: &mut Seen,
+    seen: &mut Tried,
 ) -> Result<Option<Found>, AllocError>
     ensures { IfOk result (λ r. (s : GameState) (k left : ℕ) → s.mover ≡ mover → over s ≡ None
         → IsTrue (legal s (ply_of s.game.size turn))

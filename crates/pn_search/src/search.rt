@@ -3,20 +3,16 @@
 ghost use Rattle.std.specs.Prelude.{◌≡◌, ◌≢◌, ◌≤◌, ◌⊎◌, IfOk, IfErr};
 ghost use Rattle.pn_search.specs.Search.{IfWins, IfUnknown, IsHard, cause_told, full_steps};
 ghost use Rattle.pn_search.specs.Private.Shown.{IsConfirmable};
+ghost use Rattle.df_pn.specs.declared.refusal.Stop.TheVariants as stops;
 ghost use Rattle.pn_search.specs.declared.verdict.Cause.TheVariants.{Steps, Memory};
 
-use crate::claim::{Choice, Pasts, Shared, claim_with_lemmas, claim_without_lemmas};
-use crate::df_search::Search;
 use crate::full_search::full_search;
-use crate::full_tree::note_tree;
-use crate::line::Line;
-use crate::play::Play;
-use crate::proofs::{Below, Proofs};
-use crate::refusal::{Refusal, cause_of_refusal};
-use crate::share::Sharing;
-use crate::smaller::Smaller;
 use crate::verdict::{Budget, Cause, Verdict};
 use cert_check::{Checked, Why, check_held};
+use df_pn::{
+    Choice, Pasts, Refusal, Shared, Stop, claim_with_lemmas, claim_without_lemmas, prove,
+    share_tree,
+};
 use go_points::{Colour, MAX_SIZE};
 use proof_cert::{Certificate, Node, Version};
 use std::alloc::Global;
@@ -86,71 +82,10 @@ fn searched_by_numbers(alloc: Global, problem: Problem, budget: Budget, left: &m
     ensures fewer { left.new ≤ left.old }
     ensures all { IfErr result (λ r. r.1 ≡ Steps → left.new ≡ 0) }
 {
-    match shared_by_numbers(alloc, &problem, budget, left) {
+    match prove(alloc, &problem, budget.table, left) {
         Ok(shared) => confirmed_in_turn(alloc, problem, shared),
-        Err(cause) => Err((problem, cause)),
+        Err(stop) => Err((problem, cause_of_stop(stop))),
     }
-}
-
-/// The proofs that the search by proof numbers finds.
-pub(crate) fn shared_by_numbers(
-    alloc: Global,
-    problem: &Problem,
-    budget: Budget,
-    left: &mut u64,
-) -> Result<Shared, Cause>
-    ensures fewer { left.new ≤ left.old }
-    ensures all { IfErr result (λ cause. cause ≡ Steps → left.new ≡ 0) }
-{
-    let Ok(mut search) = Search::of(alloc, problem, budget.table) else {
-        return Err(Cause::Memory);
-    };
-    let found = search.settle(0, left)?;
-    let mut smaller = Smaller::of(alloc, search);
-    let root = smaller.shrink(found, left);
-    match shared(alloc, smaller, root) {
-        Ok(shared) => Ok(shared),
-        Err(refusal) => Err(cause_of_refusal(refusal)),
-    }
-}
-
-/// The proofs of what was found, shared.
-fn shared(alloc: Global, found: Smaller, root: u32) -> Result<Shared, Refusal> {
-    let Smaller { search, .. } = found;
-    let Search { line, proofs, .. } = search;
-    let Some(proof) = proofs.get(root) else {
-        return Err(Refusal::Fault);
-    };
-    let winner = proof.winner;
-    let mut sharing = Sharing::of(alloc, line, proofs);
-    let root = sharing.share(root)?;
-    Ok(Shared {
-        winner,
-        proofs: sharing.shared,
-        root,
-    })
-}
-
-/// The shared proofs of the tree that full search found.
-pub(crate) fn shared_from_tree(
-    alloc: Global,
-    problem: &Problem,
-    winner: Colour,
-    main: &Node,
-) -> Result<Shared, Refusal> {
-    let mut play = Play::of(alloc, problem)?;
-    let mut proofs = Proofs::new(alloc);
-    let Below::Proof(root) = note_tree(alloc, &mut proofs, &mut play, winner, main)? else {
-        return Err(Refusal::Fault);
-    };
-    let line = Line::of(alloc, problem)?;
-    let mut sharing = Sharing::of(alloc, line, proofs);
-    let root = sharing.share(root)?;
-    Ok(Shared {
-        winner,
-        proofs: sharing.shared,
-        root,
-    })
 }
 
 /// The claim of the tree that full search found, with lemmas where the checker accepts it, else without.
@@ -160,7 +95,7 @@ fn confirmed(alloc: Global, problem: Problem, winner: Colour, main: Node) -> Fou
     ensures cause { IfErr result (λ r. r.1 ≢ Steps) }
     ensures refused { IfErr result (λ r. r.1 ≢ Memory → IsConfirmable problem winner main → ⊥) }
 {
-    match shared_from_tree(alloc, &problem, winner, &main) {
+    match share_tree(alloc, &problem, winner, &main) {
         Err(_) => confirmed_plainly(alloc, problem, winner, main),
         Ok(shared) => match confirmed_by_lemmas(alloc, problem, &shared, 1) {
             Ok(checked) => Ok(checked),
@@ -292,5 +227,26 @@ fn cause_of(why: Why) -> Cause
         Why::Limit => Cause::Limit,
         Why::Memory => Cause::Memory,
         _ => Cause::NotConfirmed,
+    }
+}
+
+/// Why there is no verdict, where the search by proof numbers stopped for this.
+fn cause_of_stop(stop: Stop) -> Cause
+    ensures { result ≡ Steps → stop ≡ stops.Steps }
+{
+    match stop {
+        Stop::Steps => Cause::Steps,
+        Stop::Refused(refusal) => cause_of_refusal(refusal),
+    }
+}
+
+/// Why there is no verdict, where a claim could not be written for this.
+fn cause_of_refusal(refusal: Refusal) -> Cause
+    ensures { result ≢ Steps }
+{
+    match refusal {
+        Refusal::Memory => Cause::Memory,
+        Refusal::Limit => Cause::Limit,
+        Refusal::Fault => Cause::NotConfirmed,
     }
 }

@@ -27,7 +27,7 @@ pub(crate) enum Listing {
 
 /// The lines that are left, and how many nodes and listed colourings the claim has had so far.
 #[derive(Drop)]
-pub(crate) struct Reading<'a> {
+pub(crate) struct LineCursor<'a> {
     source: TextSource<'a>,
     nodes: u32,
     listed: u32,
@@ -35,7 +35,7 @@ pub(crate) struct Reading<'a> {
 
 /// The next line.
 #[tactic(auto, using(crate::proofs::ReadTrees::line_there, crate::proofs::ReadTrees::line_ended, crate::proofs::ReadTrees::line_bad))]
-fn next_line(reading: &mut Reading<'_>) -> Option<Line>
+fn next_line(reading: &mut LineCursor<'_>) -> Option<Line>
     ensures read { with_rest (line_value reading.old.source.size) result
         (left_of reading.new.source reading.new.nodes reading.new.listed)
         ≡ line_read (left_of reading.old.source reading.old.nodes reading.old.listed) }
@@ -55,7 +55,7 @@ fn next_line(reading: &mut Reading<'_>) -> Option<Line>
 #[tactic(auto, using(crate::proofs::Certificates::node_of_won, crate::proofs::Certificates::node_of_use, crate::proofs::Certificates::node_of_play, crate::proofs::Certificates::node_of_all, crate::proofs::ReadTrees::tree_opened))]
 fn read_tree(
     alloc: Global,
-    reading: &mut Reading<'_>,
+    reading: &mut LineCursor<'_>,
     first: &Line,
     room: u32,
 ) -> Result<Option<Node>, AllocError>
@@ -96,7 +96,7 @@ fn read_tree(
 #[cycle(read)]
 fn read_below(
     alloc: Global,
-    reading: &mut Reading<'_>,
+    reading: &mut LineCursor<'_>,
     room: u32,
 ) -> Result<Option<Node>, AllocError>
     ensures read { IfOk result
@@ -119,7 +119,7 @@ fn read_below(
 #[cycle(read)]
 fn read_replies(
     alloc: Global,
-    reading: &mut Reading<'_>,
+    reading: &mut LineCursor<'_>,
     count: u32,
     room: u32,
 ) -> Result<Option<Vec<(Turn, Node)>>, AllocError>
@@ -150,7 +150,7 @@ fn read_replies(
 #[tactic(auto, unfolding(crate::specs::Private::Reading::line_as))]
 fn read_reply(
     alloc: Global,
-    reading: &mut Reading<'_>,
+    reading: &mut LineCursor<'_>,
     room: u32,
 ) -> Result<Option<(Turn, Node)>, AllocError>
     ensures read { IfOk result
@@ -186,7 +186,7 @@ fn listed_of(listing: Listing, line: &Line) -> Option<Colouring>
 /// The listed colourings, of which the first line is given, and the line after them.
 fn read_listed(
     alloc: Global,
-    reading: &mut Reading<'_>,
+    reading: &mut LineCursor<'_>,
     listing: Listing,
     first: Line,
 ) -> Result<Option<(Vec<Colouring>, Line)>, AllocError>
@@ -220,7 +220,7 @@ fn read_listed(
 #[tactic(auto, unfolding(crate::specs::Private::Reading::lists_read))]
 fn read_lists(
     alloc: Global,
-    reading: &mut Reading<'_>,
+    reading: &mut LineCursor<'_>,
     first: Line,
 ) -> Result<Option<((Vec<Colouring>, Vec<Colouring>), Line)>, AllocError>
     ensures read { IfOk result
@@ -247,7 +247,7 @@ fn read_lists(
 #[tactic(auto, unfolding(crate::specs::Private::Reading::body_read))]
 fn read_body(
     alloc: Global,
-    reading: &mut Reading<'_>,
+    reading: &mut LineCursor<'_>,
     first: &Line,
 ) -> Result<Option<Node>, AllocError>
     ensures read { IfOk result
@@ -273,7 +273,7 @@ fn read_body(
 #[tactic(auto, unfolding(crate::specs::Private::Reading::lemma_read))]
 fn read_lemma(
     alloc: Global,
-    reading: &mut Reading<'_>,
+    reading: &mut LineCursor<'_>,
     mover: Colour,
     passes: u8,
     root: Colouring,
@@ -308,7 +308,10 @@ fn read_lemma(
 }
 
 /// The lemmas up to the line `main`.
-fn read_lemmas(alloc: Global, reading: &mut Reading<'_>) -> Result<Option<Vec<Lemma>>, AllocError>
+fn read_lemmas(
+    alloc: Global,
+    reading: &mut LineCursor<'_>,
+) -> Result<Option<Vec<Lemma>>, AllocError>
     requires { reading.old.listed ≤ max_listed }
     ensures read { IfOk result
         (λ read. with_rest (λ lemmas. map (lemma_of reading.old.source.size) lemmas.items) read
@@ -349,7 +352,7 @@ fn read_lemmas(alloc: Global, reading: &mut Reading<'_>) -> Result<Option<Vec<Le
 fn read_claim(
     alloc: Global,
     size: Size,
-    reading: &mut Reading<'_>,
+    reading: &mut LineCursor<'_>,
 ) -> Result<Option<Certificate>, AllocError>
     requires size { reading.old.source.size ≡ size }
     requires counts { (reading.old.nodes ≡ 0) × (reading.old.listed ≡ 0) }
@@ -413,7 +416,7 @@ pub fn read_cert(alloc: Global, size: Size, bytes: &[u8]) -> Result<Certificate,
     ensures fault { IfErr result (λ fault. (fault ≡ SourceFault.Malformed)
         ⊎ (fault ≡ SourceFault.Memory)) }
 {
-    let mut reading = Reading {
+    let mut reading = LineCursor {
         source: TextSource::new(size, bytes),
         nodes: 0,
         listed: 0,

@@ -7,17 +7,17 @@ use Rattle.std.proofs.lemmas.Bool.{and_from, and_parts}
 use Rattle.std.proofs.lemmas.Bool.Decides.{nat_tests}
 use Rattle.sgf_text.specs.declared.followers.Sign.{Sign}
 use Rattle.sgf_text.specs.declared.followers.Sign.TheVariants.{White, Upper, Lower, OpenRound, CloseRound, Semicolon, OpenSquare, CloseSquare, Backslash, Other}
-use Rattle.sgf_text.specs.declared.followers.Place.{Place}
-use Rattle.sgf_text.specs.declared.followers.Place.TheVariants.{AfterOpen, AfterSemicolon, InIdent, AfterIdent, InValue, AfterBackslash, AfterValue, AfterChild}
-use Rattle.sgf_text.specs.declared.followers.Move.{Move}
-use Rattle.sgf_text.specs.declared.followers.Move.TheVariants.{To}
+use Rattle.sgf_text.specs.declared.followers.ParserState.{ParserState}
+use Rattle.sgf_text.specs.declared.followers.ParserState.TheVariants.{AfterOpen, AfterSemicolon, InIdent, AfterIdent, InValue, AfterBackslash, AfterValue, AfterChild}
+use Rattle.sgf_text.specs.declared.followers.Transition.{Transition}
+use Rattle.sgf_text.specs.declared.followers.Transition.TheVariants.{To}
 use Rattle.sgf_text.specs.declared.node.Property.{Property}
 use Rattle.sgf_text.specs.Bytes.{is_upper}
 use Rattle.sgf_text.specs.Nodes.{is_value_after, is_value, is_ident}
 use Rattle.sgf_text.specs.Trees.{GameTree}
 use Rattle.sgf_text.specs.Text.{is_tree}
-use Rattle.sgf_text.specs.Followers.{move}
-use Rattle.sgf_text.specs.OpenTrees.{added, with_node, with_child, Open, moved, led, node_ended, can_close, begun_in, opened_in, closed_in, IsSound, IsSoundWord, IsSoundProperty, IsSoundNode, IsSoundTree}
+use Rattle.sgf_text.specs.Followers.{transition}
+use Rattle.sgf_text.specs.OpenTrees.{added, with_node, with_child, Parser, moved, led, node_ended, can_close, begun_in, opened_in, closed_in, IsSound, IsSoundWord, IsSoundProperty, IsSoundNode, IsSoundTree}
 use Rattle.sgf_text.proofs.Signs.{Means}
 use Rattle.sgf_text.proofs.Sound.{IsPlain, plain_white, plain_letter, plain_at}
 use Rattle.sgf_text.proofs.ForestLemmas.{join_good}
@@ -73,15 +73,15 @@ value_good w s = ap (is_value_after false) (sym (append-nil w)) ∙ s []
 
 -- ---- a byte that leads on
 
-abbrev pub LedSound : Open → Place → Sign → ℕ → Move → Type 0
+abbrev pub LedSound : Parser → ParserState → Sign → ℕ → Transition → Type 0
 LedSound o P s c (To next) = IsSound (moved next (led P s c o))
 LedSound o P s c m = Unit {0}
 
-module _ (o : Open) (h : IsTrue (list_all is_tree o.outer)) where
+module _ (o : Parser) (h : IsTrue (list_all is_tree o.outer)) where
   value_next : (c : ℕ) → IsPlain c → IsSoundWord InValue o.word → IsSoundProperty InValue o.ident o.values → IsSoundNode InValue o.properties → IsSoundTree InValue o.tree → IsSound (moved InValue (led AfterBackslash Other c o))
   value_next c k w p q t = record { word = word_plain c o.word k w; property = p; properties = q; tree = t; outer = h }
 
-  pub led_sound : (P : Place) (s : Sign) (c : ℕ) → Means s c → IsSoundWord P o.word → IsSoundProperty P o.ident o.values → IsSoundNode P o.properties → IsSoundTree P o.tree → LedSound o P s c (move P s)
+  pub led_sound : (P : ParserState) (s : Sign) (c : ℕ) → Means s c → IsSoundWord P o.word → IsSoundProperty P o.ident o.values → IsSoundNode P o.properties → IsSoundTree P o.tree → LedSound o P s c (transition P s)
   led_sound AfterOpen White c m w p q t = record { word = w; property = p; properties = q; tree = t; outer = h }
   led_sound AfterOpen Semicolon c m w p q t = tt
   led_sound AfterOpen _ c m w p q t = tt
@@ -121,7 +121,7 @@ module _ (o : Open) (h : IsTrue (list_all is_tree o.outer)) where
 -- ---- a tree that opens, a node that begins, a tree that ends
 
 module _ (w i : List ℕ) (vs : List (List ℕ)) (ps : List Property) (t : GameTree) (os : List GameTree) (n : ℕ) (h : IsTrue (list_all is_tree os)) where
-  begun_at : (P : Place) → IsSoundWord P w → IsSoundProperty P i vs → IsSoundNode P ps → IsSoundTree P t → can_begin P ≡ true → IsSound (begun_in (node_ended P (open_at P w i vs ps t os n)))
+  begun_at : (P : ParserState) → IsSoundWord P w → IsSoundProperty P i vs → IsSoundNode P ps → IsSoundTree P t → can_begin P ≡ true → IsSound (begun_in (node_ended P (open_at P w i vs ps t os n)))
   begun_at AfterOpen a p q r c = search rules
   begun_at AfterSemicolon a p q r c = record { word = a; property = p; properties = refl; tree = (all_nodes t.nodes ps r.0 q, r.1); outer = h }
   begun_at AfterValue a p q r c = record { word = a; property = refl; properties = refl; tree = (all_nodes t.nodes (added ps i vs) r.0 (value_node i vs ps p q), r.1); outer = h }
@@ -131,7 +131,7 @@ module _ (w i : List ℕ) (vs : List (List ℕ)) (ps : List Property) (t : GameT
   begun_at InValue a p q r c = absurd cc
   begun_at AfterBackslash a p q r c = absurd cc
 
-  opened_at : (P : Place) → IsSoundWord P w → IsSoundProperty P i vs → IsSoundNode P ps → IsTrue (is_tree (node_ended P (open_at P w i vs ps t os n)).tree) → can_close P ≡ true → IsSound (opened_in (node_ended P (open_at P w i vs ps t os n)))
+  opened_at : (P : ParserState) → IsSoundWord P w → IsSoundProperty P i vs → IsSoundNode P ps → IsTrue (is_tree (node_ended P (open_at P w i vs ps t os n)).tree) → can_close P ≡ true → IsSound (opened_in (node_ended P (open_at P w i vs ps t os n)))
   opened_at AfterSemicolon a p q r c = record { word = a; property = p; properties = refl; tree = refl; outer = and_from (is_tree (with_node t ps)) (list_all is_tree os) r h }
   opened_at AfterValue a p q r c = record { word = a; property = refl; properties = refl; tree = refl; outer = and_from (is_tree (with_node t (added ps i vs))) (list_all is_tree os) r h }
   opened_at AfterChild a p q r c = record { word = a; property = p; properties = q; tree = refl; outer = and_from (is_tree t) (list_all is_tree os) r h }
@@ -141,22 +141,22 @@ module _ (w i : List ℕ) (vs : List (List ℕ)) (ps : List Property) (t : GameT
   opened_at InValue a p q r c = absurd cc
   opened_at AfterBackslash a p q r c = absurd cc
 
-  closed_at : (P : Place) → IsSoundWord P w → IsSoundProperty P i vs → IsSoundNode P ps → can_close P ≡ true → (around : GameTree) (others : List GameTree)
+  closed_at : (P : ParserState) → IsSoundWord P w → IsSoundProperty P i vs → IsSoundNode P ps → can_close P ≡ true → (around : GameTree) (others : List GameTree)
       → IsTrue (is_tree (with_child around (node_ended P (open_at P w i vs ps t os n)).tree)) → IsTrue (list_all is_tree others) → IsSound (closed_in (node_ended P (open_at P w i vs ps t os n)) around others)
   closed_at P h g e f around others i j = search rules
 
 child_good : (around t : GameTree) → IsTrue (is_tree around) → IsTrue (is_tree t) → IsTrue (is_tree (with_child around t))
 child_good around t h g = grind (arith, nat_tests, and_parts, and_from, join_good)
 
-module _ (o : Open) (s : IsSound o) where
-  ended : can_close o.place ≡ true → IsTrue (is_tree (node_ended o.place o).tree)
-  ended c = ended_good o.place o.word o.ident o.values o.properties o.tree o.outer o.nodes s.property s.properties s.tree c
+module _ (o : Parser) (s : IsSound o) where
+  ended : can_close o.state ≡ true → IsTrue (is_tree (node_ended o.state o).tree)
+  ended c = ended_good o.state o.word o.ident o.values o.properties o.tree o.outer o.nodes s.property s.properties s.tree c
 
-  pub begun_sound : can_begin o.place ≡ true → IsSound (begun_in (node_ended o.place o))
-  begun_sound c = begun_at o.word o.ident o.values o.properties o.tree o.outer o.nodes s.outer o.place s.word s.property s.properties s.tree c
+  pub begun_sound : can_begin o.state ≡ true → IsSound (begun_in (node_ended o.state o))
+  begun_sound c = begun_at o.word o.ident o.values o.properties o.tree o.outer o.nodes s.outer o.state s.word s.property s.properties s.tree c
 
-  pub opened_sound : can_close o.place ≡ true → IsSound (opened_in (node_ended o.place o))
-  opened_sound c = opened_at o.word o.ident o.values o.properties o.tree o.outer o.nodes s.outer o.place s.word s.property s.properties (ended c) c
+  pub opened_sound : can_close o.state ≡ true → IsSound (opened_in (node_ended o.state o))
+  opened_sound c = opened_at o.word o.ident o.values o.properties o.tree o.outer o.nodes s.outer o.state s.word s.property s.properties (ended c) c
 
-  pub closed_sound : can_close o.place ≡ true → (around : GameTree) (others : List GameTree) → o.outer ≡ around ∷ others → IsSound (closed_in (node_ended o.place o) around others)
+  pub closed_sound : can_close o.state ≡ true → (around : GameTree) (others : List GameTree) → o.outer ≡ around ∷ others → IsSound (closed_in (node_ended o.state o) around others)
   closed_sound h around others g = grind (arith, nat_tests, and_parts, closed_at, child_good, ended)

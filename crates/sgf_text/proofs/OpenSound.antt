@@ -5,35 +5,35 @@ use Rattle.std.specs.List.{list_all}
 use Rattle.std.proofs.lemmas.Bool.{and_from, and_parts}
 use Rattle.std.proofs.lemmas.Bool.Decides.{nat_tests}
 use Rattle.sgf_text.specs.declared.followers.Sign.{Sign}
-use Rattle.sgf_text.specs.declared.followers.Place.{Place}
-use Rattle.sgf_text.specs.declared.followers.Place.TheVariants.{AfterOpen, AfterSemicolon, AfterValue}
-use Rattle.sgf_text.specs.declared.followers.Move.TheVariants.{Opens, Begins, Closes}
+use Rattle.sgf_text.specs.declared.followers.ParserState.{ParserState}
+use Rattle.sgf_text.specs.declared.followers.ParserState.TheVariants.{AfterOpen, AfterSemicolon, AfterValue}
+use Rattle.sgf_text.specs.declared.followers.Transition.TheVariants.{Opens, Begins, Closes}
 use Rattle.sgf_text.specs.declared.node.Property.{Property}
 use Rattle.sgf_text.specs.Nodes.{is_node}
 use Rattle.sgf_text.specs.Trees.{Node, GameTree}
 use Rattle.sgf_text.specs.Text.{is_tree, is_forest, are_nodes}
-use Rattle.sgf_text.specs.Followers.{move}
-use Rattle.sgf_text.specs.OpenTrees.{added, with_node, Open, node_ended, can_close, IsSound, IsSoundProperty, IsSoundNode, IsSoundTree}
+use Rattle.sgf_text.specs.Followers.{transition}
+use Rattle.sgf_text.specs.OpenTrees.{added, with_node, Parser, node_ended, can_close, IsSound, IsSoundProperty, IsSoundNode, IsSoundTree}
 use Rattle.sgf_text.proofs.AddedLemmas.{added_good}
 
-abbrev pub open_at : Place → List ℕ → List ℕ → List (List ℕ) → List Property → GameTree → List GameTree → ℕ → Open
-open_at P w i vs ps t os n = record { place = P; word = w; ident = i; values = vs; properties = ps; tree = t; outer = os; nodes = n }
+abbrev pub open_at : ParserState → List ℕ → List ℕ → List (List ℕ) → List Property → GameTree → List GameTree → ℕ → Parser
+open_at P w i vs ps t os n = record { state = P; word = w; ident = i; values = vs; properties = ps; tree = t; outer = os; nodes = n }
 
 -- ---- which places a byte can come to
 
-abbrev pub can_begin : Place → Bool
+abbrev pub can_begin : ParserState → Bool
 can_begin AfterOpen = true
 can_begin AfterSemicolon = true
 can_begin AfterValue = true
-can_begin place = false
+can_begin state = false
 
-pub closes_at : (P : Place) (s : Sign) → move P s ≡ Closes → can_close P ≡ true
+pub closes_at : (P : ParserState) (s : Sign) → transition P s ≡ Closes → can_close P ≡ true
 closes_at P s h = search rules
 
-pub opens_at : (P : Place) (s : Sign) → move P s ≡ Opens → can_close P ≡ true
+pub opens_at : (P : ParserState) (s : Sign) → transition P s ≡ Opens → can_close P ≡ true
 opens_at P s h = search rules
 
-pub begins_at : (P : Place) (s : Sign) → move P s ≡ Begins → can_begin P ≡ true
+pub begins_at : (P : ParserState) (s : Sign) → transition P s ≡ Begins → can_begin P ≡ true
 begins_at P s h = search rules
 
 -- ---- nodes that end
@@ -53,14 +53,14 @@ one_more : (t : GameTree) (n : Node) → IsTrue (list_all is_node t.nodes) × Is
 one_more t n h g = and_from (are_nodes (t.nodes ++ n ∷ [])) (is_forest t.children) (some_nodes t.nodes n (all_nodes t.nodes n h.0 g)) h.1
 
 -- the innermost tree is one where it can end
-pub ended_good : (P : Place) (w i : List ℕ) (vs : List (List ℕ)) (ps : List Property) (t : GameTree) (os : List GameTree) (n : ℕ)
+pub ended_good : (P : ParserState) (w i : List ℕ) (vs : List (List ℕ)) (ps : List Property) (t : GameTree) (os : List GameTree) (n : ℕ)
     → IsSoundProperty P i vs → IsSoundNode P ps → IsSoundTree P t → can_close P ≡ true → IsTrue (is_tree (node_ended P (open_at P w i vs ps t os n)).tree)
 ended_good P w i vs ps t os n h g e f = grind (arith, nat_tests, one_more, value_node)
 
-pub tree_good : (o : Open) → IsSound o → can_close o.place ≡ true → IsTrue (is_tree (node_ended o.place o).tree)
-tree_good o s c = ended_good o.place o.word o.ident o.values o.properties o.tree o.outer o.nodes s.property s.properties s.tree c
+pub tree_good : (o : Parser) → IsSound o → can_close o.state ≡ true → IsTrue (is_tree (node_ended o.state o).tree)
+tree_good o s c = ended_good o.state o.word o.ident o.values o.properties o.tree o.outer o.nodes s.property s.properties s.tree c
 
 -- ---- what stays when a node ends
 
-pub ended_outer : (P : Place) (o : Open) → (node_ended P o).outer ≡ o.outer
+pub ended_outer : (P : ParserState) (o : Parser) → (node_ended P o).outer ≡ o.outer
 ended_outer P o = search rules

@@ -5,15 +5,15 @@ use Rattle.std.proofs.Math.Seq.{drop-cons}
 use Rattle.std.proofs.Math.ListN.{drop_of_length-le}
 use Rattle.std.proofs.lemmas.List.{take-append-drop, get_or-take, length-take, length-append}
 use Rattle.std.proofs.lemmas.Bool.Decides.{nat_tests}
-use Rattle.sgf_text.specs.declared.followers.Place.TheVariants.{AfterOpen}
+use Rattle.sgf_text.specs.declared.followers.ParserState.TheVariants.{AfterOpen}
 use Rattle.sgf_text.specs.declared.fault.SgfFault.{SgfFault}
 use Rattle.sgf_text.specs.declared.fault.SgfFault.TheVariants.{NoTree, Syntax, TooLong, TooDeep, TooMany, Memory}
 use Rattle.sgf_text.specs.Bytes.{sign_of}
 use Rattle.sgf_text.specs.Trees.{GameTree}
 use Rattle.sgf_text.specs.Grammar.{tree_place, Reads, joined_tree}
-use Rattle.sgf_text.specs.Followers.{move, byte_limit, cut_fault, outcome_in, outcome_of}
+use Rattle.sgf_text.specs.Followers.{transition, byte_limit, cut_fault, outcome_in, outcome_of}
 use Rattle.sgf_text.specs.Laws.{IsWithin}
-use Rattle.sgf_text.specs.OpenTrees.{Open, at_start, Steps, IsSound}
+use Rattle.sgf_text.specs.OpenTrees.{Parser, at_start, Steps, IsSound}
 use Rattle.sgf_text.proofs.Readings.{finds_of, one_reading, no_fault_where_read, place_split, place_grow}
 use Rattle.sgf_text.proofs.Filled.{filled}
 use Rattle.sgf_text.proofs.Reading.{completed, ends, Follows, steps_follow}
@@ -22,7 +22,7 @@ pub place_within : (text : List ℕ) (k : ℕ) → tree_place text ≡ Some k �
 place_within text k h = let s = place_split text k h in let a = s.3 in let l = ap length s.2 in let m = length-append s.0 (40 ∷ s.1) in omega arith
 
 -- what has been read up to a place: the rest of the text makes the same tree, or has the same first fault, as from the start
-pub record ReadSoFar (text seen : List ℕ) (k at : ℕ) (o : Open) : Type 0 where
+pub record ReadSoFar (text seen : List ℕ) (k at : ℕ) (o : Parser) : Type 0 where
   pub sound : IsSound o
   pub tree : completed o (drop at text) ≡ completed at_start (drop (k + 1) text)
   pub fault : ends (cut_fault text) o at (drop at seen) ≡ ends (cut_fault text) at_start (k + 1) (drop (k + 1) seen)
@@ -34,7 +34,7 @@ module _ (text seen : List ℕ) (front_is : seen ≡ take byte_limit text) (k : 
   place_is : tree_place text ≡ Some k
   place_is = subst (λ t. tree_place t ≡ Some k) (ap (λ s. s ++ drop byte_limit text) front_is ∙ take-append-drop byte_limit text) (place_grow seen (drop byte_limit text) k place)
 
-  module _ (at : ℕ) (within : at < length seen) (o n : Open) (so_far : ReadSoFar text seen k at o) where
+  module _ (at : ℕ) (within : at < length seen) (o n : Parser) (so_far : ReadSoFar text seen k at o) where
     seen_head : drop at seen ≡ get_or seen at 0 ∷ drop (at + 1) seen
     seen_head = let e : suc at ≡ at + 1 = omega arith in drop-cons seen at 0 within ∙ ap (λ i. get_or seen at 0 ∷ drop i seen) e
 
@@ -49,14 +49,14 @@ module _ (text seen : List ℕ) (front_is : seen ≡ take byte_limit text) (k : 
         ∙ ap (λ c. c ∷ drop (suc at) text) (sym (get_or-take byte_limit text at 0 below) ∙ ap (λ s. get_or s at 0) (sym front_is))
         ∙ ap (λ i. get_or seen at 0 ∷ drop i text) e
 
-    pub read_on : Steps (move o.place (sign_of (get_or seen at 0))) (sign_of (get_or seen at 0)) (get_or seen at 0) at o (Ok None) n → ReadSoFar text seen k (at + 1) n
+    pub read_on : Steps (transition o.state (sign_of (get_or seen at 0))) (sign_of (get_or seen at 0)) (get_or seen at 0) at o (Ok None) n → ReadSoFar text seen k (at + 1) n
     read_on h = let f = steps_follow o (get_or seen at 0) at so_far.sound (Ok None) n h in record {
       sound = f.0;
       tree = f.1 (drop (at + 1) text) ∙ ap (completed o) (sym text_head) ∙ so_far.tree;
       fault = f.2 (cut_fault text) (drop (at + 1) seen) ∙ ap (ends (cut_fault text) o at) (sym seen_head) ∙ so_far.fault;
     }
 
-    pub read_fault : (e : SgfFault) → Steps (move o.place (sign_of (get_or seen at 0))) (sign_of (get_or seen at 0)) (get_or seen at 0) at o (Err e) n → e ≢ Memory → outcome_of text ≡ Err e
+    pub read_fault : (e : SgfFault) → Steps (transition o.state (sign_of (get_or seen at 0))) (sign_of (get_or seen at 0)) (get_or seen at 0) at o (Err e) n → e ≢ Memory → outcome_of text ≡ Err e
     read_fault e h not_memory = outcome_is ∙ sym so_far.fault ∙ ap (ends (cut_fault text) o at) seen_head ∙ at_fault e (steps_follow o (get_or seen at 0) at so_far.sound (Err e) n h) not_memory
       where
         at_fault : (e : SgfFault) → Follows o (get_or seen at 0) at (Err e) n → e ≢ Memory → ends (cut_fault text) o at (get_or seen at 0 ∷ drop (at + 1) seen) ≡ Err e
@@ -67,7 +67,7 @@ module _ (text seen : List ℕ) (front_is : seen ≡ take byte_limit text) (k : 
         at_fault TooMany f m = f (cut_fault text) (drop (at + 1) seen)
         at_fault Memory f m = absurd (m refl)
 
-    pub read_end : (tree : GameTree) → Steps (move o.place (sign_of (get_or seen at 0))) (sign_of (get_or seen at 0)) (get_or seen at 0) at o (Ok (Some tree)) n → Reads text tree (at + 1) × IsWithin tree (at + 1)
+    pub read_end : (tree : GameTree) → Steps (transition o.state (sign_of (get_or seen at 0))) (sign_of (get_or seen at 0)) (get_or seen at 0) at o (Ok (Some tree)) n → Reads text tree (at + 1) × IsWithin tree (at + 1)
     read_end tree h = go ((no_fault_where_read text (at + 1)).0 whole)
       where
         f : Follows o (get_or seen at 0) at (Ok (Some tree)) n
@@ -90,7 +90,7 @@ module _ (text seen : List ℕ) (front_is : seen ≡ take byte_limit text) (k : 
         go : (t : GameTree) × Reads text t (at + 1) × IsWithin t (at + 1) → Reads text tree (at + 1) × IsWithin tree (at + 1)
         go (t, r, w) = let e = same t r in (subst (λ x. Reads text x (at + 1)) e r, subst (λ x. IsWithin x (at + 1)) e w)
 
-  pub read_cut : (at : ℕ) → length seen ≤ at → (o : Open) → ReadSoFar text seen k at o → outcome_of text ≡ Err (cut_fault text)
+  pub read_cut : (at : ℕ) → length seen ≤ at → (o : Parser) → ReadSoFar text seen k at o → outcome_of text ≡ Err (cut_fault text)
   read_cut at h o so_far = outcome_is ∙ sym so_far.fault ∙ ap (ends (cut_fault text) o at) (drop_of_length-le seen h)
 
 pub read_none : (text seen : List ℕ) → seen ≡ take byte_limit text → tree_place seen ≡ None → outcome_of text ≡ Err NoTree

@@ -6,10 +6,10 @@ use Rattle.std.specs.Str.{bytes_eq}
 use Rattle.std.specs.BTreeMap.{BTreeMap, get}
 use Rattle.sgf_text.specs.declared.followers.Sign.{Sign}
 use Rattle.sgf_text.specs.declared.followers.Sign.TheVariants.{Upper, Lower, CloseSquare}
-use Rattle.sgf_text.specs.declared.followers.Place.{Place}
-use Rattle.sgf_text.specs.declared.followers.Place.TheVariants.{AfterOpen, AfterSemicolon, InIdent, AfterIdent, InValue, AfterBackslash, AfterValue, AfterChild}
-use Rattle.sgf_text.specs.declared.followers.Move.{Move}
-use Rattle.sgf_text.specs.declared.followers.Move.TheVariants.{Opens, Begins, Closes, To, Refused}
+use Rattle.sgf_text.specs.declared.followers.ParserState.{ParserState}
+use Rattle.sgf_text.specs.declared.followers.ParserState.TheVariants.{AfterOpen, AfterSemicolon, InIdent, AfterIdent, InValue, AfterBackslash, AfterValue, AfterChild}
+use Rattle.sgf_text.specs.declared.followers.Transition.{Transition}
+use Rattle.sgf_text.specs.declared.followers.Transition.TheVariants.{Opens, Begins, Closes, To, Refused}
 use Rattle.sgf_text.specs.declared.fault.SgfFault.{SgfFault}
 use Rattle.sgf_text.specs.declared.fault.SgfFault.TheVariants.{Syntax, TooDeep, TooMany, Memory}
 use Rattle.sgf_text.specs.declared.node.Property.{Property}
@@ -49,10 +49,10 @@ with_node tree node = record { nodes = tree.nodes ++ node ∷ []; children = tre
 abbrev pub bare_tree : GameTree
 bare_tree = record { nodes = []; children = no_tree }
 
--- the place; the letters of the open name or the bytes of the open value; the open property's name and values; the open
+-- the state of the parser; the letters of the open name or the bytes of the open value; the open property's name and values; the open
 -- node's properties; what has ended of the innermost open tree, and of those round it from within; the nodes begun
-pub record Open : Type 0 where
-  pub place : Place
+pub record Parser : Type 0 where
+  pub state : ParserState
   pub word : List ℕ
   pub ident : List ℕ
   pub values : List (List ℕ)
@@ -62,26 +62,26 @@ pub record Open : Type 0 where
   pub nodes : ℕ
 
 -- just after the "(" of the first tree
-abbrev pub at_start : Open
-at_start = record { place = AfterOpen; word = []; ident = []; values = []; properties = []; tree = bare_tree; outer = []; nodes = 0 }
+abbrev pub at_start : Parser
+at_start = record { state = AfterOpen; word = []; ident = []; values = []; properties = []; tree = bare_tree; outer = []; nodes = 0 }
 
-abbrev pub moved : Place → Open → Open
-moved place o = record { place = place; word = o.word; ident = o.ident; values = o.values; properties = o.properties; tree = o.tree; outer = o.outer; nodes = o.nodes }
+abbrev pub moved : ParserState → Parser → Parser
+moved state o = record { state = state; word = o.word; ident = o.ident; values = o.values; properties = o.properties; tree = o.tree; outer = o.outer; nodes = o.nodes }
 
-abbrev pub with_byte : ℕ → Open → Open
-with_byte c o = record { place = o.place; word = o.word ++ c ∷ []; ident = o.ident; values = o.values; properties = o.properties; tree = o.tree; outer = o.outer; nodes = o.nodes }
+abbrev pub with_byte : ℕ → Parser → Parser
+with_byte c o = record { state = o.state; word = o.word ++ c ∷ []; ident = o.ident; values = o.values; properties = o.properties; tree = o.tree; outer = o.outer; nodes = o.nodes }
 
-abbrev pub ident_ended : Open → Open
-ident_ended o = record { place = o.place; word = []; ident = o.word; values = o.values; properties = o.properties; tree = o.tree; outer = o.outer; nodes = o.nodes }
+abbrev pub ident_ended : Parser → Parser
+ident_ended o = record { state = o.state; word = []; ident = o.word; values = o.values; properties = o.properties; tree = o.tree; outer = o.outer; nodes = o.nodes }
 
-abbrev pub value_ended : Open → Open
-value_ended o = record { place = o.place; word = []; ident = o.ident; values = o.values ++ o.word ∷ []; properties = o.properties; tree = o.tree; outer = o.outer; nodes = o.nodes }
+abbrev pub value_ended : Parser → Parser
+value_ended o = record { state = o.state; word = []; ident = o.ident; values = o.values ++ o.word ∷ []; properties = o.properties; tree = o.tree; outer = o.outer; nodes = o.nodes }
 
-abbrev pub property_ended : Open → Open
-property_ended o = record { place = o.place; word = o.word; ident = []; values = []; properties = added o.properties o.ident o.values; tree = o.tree; outer = o.outer; nodes = o.nodes }
+abbrev pub property_ended : Parser → Parser
+property_ended o = record { state = o.state; word = o.word; ident = []; values = []; properties = added o.properties o.ident o.values; tree = o.tree; outer = o.outer; nodes = o.nodes }
 
 -- what a byte that leads on does
-abbrev pub led : Place → Sign → ℕ → Open → Open
+abbrev pub led : ParserState → Sign → ℕ → Parser → Parser
 led AfterSemicolon Upper c o = with_byte c o
 led AfterValue Upper c o = with_byte c (property_ended o)
 led AfterValue Lower c o = property_ended o
@@ -91,78 +91,78 @@ led (InIdent has) s c o = ident_ended o
 led InValue CloseSquare c o = value_ended o
 led InValue s c o = with_byte c o
 led AfterBackslash s c o = with_byte c o
-led place s c o = o
+led state s c o = o
 
-abbrev pub node_pushed : Open → Open
-node_pushed o = record { place = o.place; word = o.word; ident = o.ident; values = o.values; properties = []; tree = with_node o.tree o.properties; outer = o.outer; nodes = o.nodes }
+abbrev pub node_pushed : Parser → Parser
+node_pushed o = record { state = o.state; word = o.word; ident = o.ident; values = o.values; properties = []; tree = with_node o.tree o.properties; outer = o.outer; nodes = o.nodes }
 
--- the open node has ended, where one is open at the place
-abbrev pub node_ended : Place → Open → Open
+-- the open node has ended, where one is open in the state
+abbrev pub node_ended : ParserState → Parser → Parser
 node_ended AfterSemicolon o = node_pushed o
 node_ended AfterValue o = node_pushed (property_ended o)
-node_ended place o = o
+node_ended state o = o
 
 -- where a tree can end
-abbrev pub can_close : Place → Bool
+abbrev pub can_close : ParserState → Bool
 can_close AfterSemicolon = true
 can_close AfterValue = true
 can_close AfterChild = true
-can_close place = false
+can_close state = false
 
-abbrev pub begun_in : Open → Open
-begun_in o = record { place = AfterSemicolon; word = o.word; ident = o.ident; values = o.values; properties = o.properties; tree = o.tree; outer = o.outer; nodes = o.nodes + 1 }
+abbrev pub begun_in : Parser → Parser
+begun_in o = record { state = AfterSemicolon; word = o.word; ident = o.ident; values = o.values; properties = o.properties; tree = o.tree; outer = o.outer; nodes = o.nodes + 1 }
 
-abbrev pub opened_in : Open → Open
-opened_in o = record { place = AfterOpen; word = o.word; ident = o.ident; values = o.values; properties = o.properties; tree = bare_tree; outer = o.tree ∷ o.outer; nodes = o.nodes }
+abbrev pub opened_in : Parser → Parser
+opened_in o = record { state = AfterOpen; word = o.word; ident = o.ident; values = o.values; properties = o.properties; tree = bare_tree; outer = o.tree ∷ o.outer; nodes = o.nodes }
 
-abbrev pub closed_in : Open → GameTree → List GameTree → Open
+abbrev pub closed_in : Parser → GameTree → List GameTree → Parser
 closed_in o around others =
-    record { place = AfterChild; word = o.word; ident = o.ident; values = o.values; properties = o.properties; tree = with_child around o.tree; outer = others; nodes = o.nodes }
+    record { state = AfterChild; word = o.word; ident = o.ident; values = o.values; properties = o.properties; tree = with_child around o.tree; outer = others; nodes = o.nodes }
 
 -- the innermost tree has ended: it goes to the tree round it, or is the first
-abbrev pub ClosesTo : Open → Option GameTree → Open → Type 0
-ClosesTo o None n = (around : GameTree) × (others : List GameTree) × (o.outer ≡ around ∷ others) × (n ≡ closed_in (node_ended o.place o) around others)
-ClosesTo o (Some tree) n = (o.outer ≡ []) × (tree ≡ (node_ended o.place o).tree)
+abbrev pub ClosesTo : Parser → Option GameTree → Parser → Type 0
+ClosesTo o None n = (around : GameTree) × (others : List GameTree) × (o.outer ≡ around ∷ others) × (n ≡ closed_in (node_ended o.state o) around others)
+ClosesTo o (Some tree) n = (o.outer ≡ []) × (tree ≡ (node_ended o.state o).tree)
 
 -- what comes of a byte: no more than a changed state, the first tree as a whole, or a fault
-abbrev pub Steps : Move → Sign → ℕ → ℕ → Open → Result (Option GameTree) SgfFault → Open → Type 0
+abbrev pub Steps : Transition → Sign → ℕ → ℕ → Parser → Result (Option GameTree) SgfFault → Parser → Type 0
 Steps m s c at o (Err Memory) n = Unit {0}
-Steps Opens s c at o (Ok None) n = IsTrue (nat_lt (length o.outer + 1) depth_limit) × (n ≡ opened_in (node_ended o.place o))
+Steps Opens s c at o (Ok None) n = IsTrue (nat_lt (length o.outer + 1) depth_limit) × (n ≡ opened_in (node_ended o.state o))
 Steps Opens s c at o (Err TooDeep) n = nat_lt (length o.outer + 1) depth_limit ≡ false
-Steps Begins s c at o (Ok None) n = IsTrue (nat_lt o.nodes node_limit) × (n ≡ begun_in (node_ended o.place o))
+Steps Begins s c at o (Ok None) n = IsTrue (nat_lt o.nodes node_limit) × (n ≡ begun_in (node_ended o.state o))
 Steps Begins s c at o (Err TooMany) n = nat_lt o.nodes node_limit ≡ false
 Steps Closes s c at o (Ok tree) n = ClosesTo o tree n
-Steps (To next) s c at o (Ok None) n = n ≡ moved next (led o.place s c o)
-Steps Refused s c at o (Err (Syntax place)) n = place ≡ at
+Steps (To next) s c at o (Ok None) n = n ≡ moved next (led o.state s c o)
+Steps Refused s c at o (Err (Syntax state)) n = state ≡ at
 Steps m s c at o r n = ⊥
 
--- what the parts of an open tree keep, place by place
-abbrev pub IsSoundWord : Place → List ℕ → Type 0
+-- what the parts of an open tree keep, state by state
+abbrev pub IsSoundWord : ParserState → List ℕ → Type 0
 IsSoundWord (InIdent has) word = IsTrue (list_all is_upper word) × (has ≡ true → word ≢ [])
 IsSoundWord InValue word = (rest : List ℕ) → is_value_after false (word ++ rest) ≡ is_value_after false rest
 IsSoundWord AfterBackslash word = (rest : List ℕ) → is_value_after false (word ++ rest) ≡ is_value_after true rest
-IsSoundWord place word = word ≡ []
+IsSoundWord state word = word ≡ []
 
-abbrev pub IsSoundProperty : Place → List ℕ → List (List ℕ) → Type 0
+abbrev pub IsSoundProperty : ParserState → List ℕ → List (List ℕ) → Type 0
 IsSoundProperty AfterIdent ident values = IsTrue (is_ident ident) × (values ≡ [])
 IsSoundProperty InValue ident values = IsTrue (is_ident ident) × IsTrue (list_all is_value values)
 IsSoundProperty AfterBackslash ident values = IsTrue (is_ident ident) × IsTrue (list_all is_value values)
 IsSoundProperty AfterValue ident values = IsTrue (is_ident ident) × IsTrue (list_all is_value values) × (values ≢ [])
-IsSoundProperty place ident values = values ≡ []
+IsSoundProperty state ident values = values ≡ []
 
-abbrev pub IsSoundNode : Place → List Property → Type 0
+abbrev pub IsSoundNode : ParserState → List Property → Type 0
 IsSoundNode AfterOpen properties = properties ≡ []
 IsSoundNode AfterChild properties = properties ≡ []
-IsSoundNode place properties = IsTrue (is_node properties)
+IsSoundNode state properties = IsTrue (is_node properties)
 
-abbrev pub IsSoundTree : Place → GameTree → Type 0
+abbrev pub IsSoundTree : ParserState → GameTree → Type 0
 IsSoundTree AfterOpen tree = tree ≡ bare_tree
 IsSoundTree AfterChild tree = IsTrue (is_tree tree)
-IsSoundTree place tree = IsTrue (list_all is_node tree.nodes) × IsTrue (is_forest tree.children)
+IsSoundTree state tree = IsTrue (list_all is_node tree.nodes) × IsTrue (is_forest tree.children)
 
-pub record IsSound (o : Open) : Type 0 where
-  pub word : IsSoundWord o.place o.word
-  pub property : IsSoundProperty o.place o.ident o.values
-  pub properties : IsSoundNode o.place o.properties
-  pub tree : IsSoundTree o.place o.tree
+pub record IsSound (o : Parser) : Type 0 where
+  pub word : IsSoundWord o.state o.word
+  pub property : IsSoundProperty o.state o.ident o.values
+  pub properties : IsSoundNode o.state o.properties
+  pub tree : IsSoundTree o.state o.tree
   pub outer : IsTrue (list_all is_tree o.outer)

@@ -1,8 +1,8 @@
-//! Which byte may follow which, as a table of places and signs.
+//! Which byte may follow which, as a table of states and signs.
 
 ghost use Rattle.std.specs.Prelude.{◌≡◌};
 ghost use Rattle.sgf_text.specs.Bytes.{sign_of};
-ghost use Rattle.sgf_text.specs.Followers.{move, part};
+ghost use Rattle.sgf_text.specs.Followers.{transition, part};
 
 /// What a byte of a text is to the format.
 #[derive(Clone, Copy, Debug, PartialEq, Eq)]
@@ -21,7 +21,7 @@ pub enum Sign {
 
 /// What was read last, white space aside.
 #[derive(Clone, Copy, Debug, PartialEq, Eq)]
-pub enum Place {
+pub enum ParserState {
     AfterOpen,
     AfterSemicolon,
     /// Inside a name, which has an upper-case letter or none yet.
@@ -33,13 +33,13 @@ pub enum Place {
     AfterChild,
 }
 
-/// What a byte does at a place: it opens a tree, begins a node, closes a tree, leads on, or is no follower.
+/// What a byte does in a state: it opens a tree, begins a node, closes a tree, leads on, or is no follower.
 #[derive(Clone, Copy, Debug, PartialEq, Eq)]
-pub enum Move {
+pub enum Transition {
     Opens,
     Begins,
     Closes,
-    To(Place),
+    To(ParserState),
     Refused,
 }
 
@@ -62,38 +62,44 @@ pub fn sign_of(byte: u8) -> Sign
 }
 
 /// What may stand after the ";" of a node or after a value: a letter, ";", "(" or ")".
-fn part(sign: Sign) -> Move
+fn part(sign: Sign) -> Transition
     ensures { result ≡ part sign }
 {
     match sign {
-        Sign::Upper => Move::To(Place::InIdent(true)),
-        Sign::Lower => Move::To(Place::InIdent(false)),
-        Sign::Semicolon => Move::Begins,
-        Sign::OpenRound => Move::Opens,
-        Sign::CloseRound => Move::Closes,
-        _ => Move::Refused,
+        Sign::Upper => Transition::To(ParserState::InIdent(true)),
+        Sign::Lower => Transition::To(ParserState::InIdent(false)),
+        Sign::Semicolon => Transition::Begins,
+        Sign::OpenRound => Transition::Opens,
+        Sign::CloseRound => Transition::Closes,
+        _ => Transition::Refused,
     }
 }
 
-/// What a byte does at a place.
-pub fn follow(place: Place, sign: Sign) -> Move
-    ensures { result ≡ move place sign }
+/// What a byte does in a state.
+pub fn follow(state: ParserState, sign: Sign) -> Transition
+    ensures { result ≡ transition state sign }
 {
-    match (place, sign) {
-        (Place::InValue, Sign::Backslash) => Move::To(Place::AfterBackslash),
-        (Place::InValue, Sign::CloseSquare) => Move::To(Place::AfterValue),
-        (Place::InValue, _) | (Place::AfterBackslash, _) => Move::To(Place::InValue),
-        (Place::InIdent(_), Sign::Upper) => Move::To(Place::InIdent(true)),
-        (Place::InIdent(has_upper), Sign::Lower) => Move::To(Place::InIdent(has_upper)),
-        (Place::InIdent(true), Sign::White) => Move::To(Place::AfterIdent),
-        (Place::InIdent(false), _) => Move::Refused,
-        (_, Sign::White) => Move::To(place),
-        (Place::InIdent(true) | Place::AfterIdent | Place::AfterValue, Sign::OpenSquare) =>
-            Move::To(Place::InValue),
-        (Place::AfterSemicolon | Place::AfterValue, _) => part(sign),
-        (Place::AfterOpen, Sign::Semicolon) => Move::Begins,
-        (Place::AfterChild, Sign::OpenRound) => Move::Opens,
-        (Place::AfterChild, Sign::CloseRound) => Move::Closes,
-        _ => Move::Refused,
+    match (state, sign) {
+        (ParserState::InValue, Sign::Backslash) => Transition::To(ParserState::AfterBackslash),
+        (ParserState::InValue, Sign::CloseSquare) => Transition::To(ParserState::AfterValue),
+        (ParserState::InValue, _) | (ParserState::AfterBackslash, _) => Transition::To(
+            ParserState::InValue,
+        ),
+        (ParserState::InIdent(_), Sign::Upper) => Transition::To(ParserState::InIdent(true)),
+        (ParserState::InIdent(has_upper), Sign::Lower) => Transition::To(ParserState::InIdent(
+            has_upper,
+        )),
+        (ParserState::InIdent(true), Sign::White) => Transition::To(ParserState::AfterIdent),
+        (ParserState::InIdent(false), _) => Transition::Refused,
+        (_, Sign::White) => Transition::To(state),
+        (
+            ParserState::InIdent(true) | ParserState::AfterIdent | ParserState::AfterValue,
+            Sign::OpenSquare,
+        ) => Transition::To(ParserState::InValue),
+        (ParserState::AfterSemicolon | ParserState::AfterValue, _) => part(sign),
+        (ParserState::AfterOpen, Sign::Semicolon) => Transition::Begins,
+        (ParserState::AfterChild, Sign::OpenRound) => Transition::Opens,
+        (ParserState::AfterChild, Sign::CloseRound) => Transition::Closes,
+        _ => Transition::Refused,
     }
 }

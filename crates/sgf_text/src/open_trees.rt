@@ -4,11 +4,11 @@
 
 ghost use Rattle.std.specs.Prelude.{◌≡◌, ◌+◌, false, length, nat_lt, IsTrue, OnOk, IfOk, ◌<◌};
 ghost use Rattle.sgf_text.specs.Bytes.{sign_of};
-ghost use Rattle.sgf_text.specs.Followers.{move, depth_limit, node_limit};
+ghost use Rattle.sgf_text.specs.Followers.{transition, depth_limit, node_limit};
 ghost use Rattle.sgf_text.specs.OpenTrees.{Steps, IsSound, at_start, led, can_close, opened_in, begun_in, ClosesTo, node_ended, property_ended, ident_ended, value_ended, with_byte};
 
 use crate::fault::SgfFault;
-use crate::followers::{Move, Place, Sign, follow, sign_of};
+use crate::followers::{ParserState, Sign, Transition, follow, sign_of};
 use crate::node::{Bytes, Values};
 use crate::open_node::OpenNode;
 use crate::open_tree::OpenTree;
@@ -27,7 +27,7 @@ const MOST_NODES: usize = 100_000;
 #[derive(Drop)]
 pub struct OpenTrees {
     alloc: Global,
-    place: Place,
+    state: ParserState,
     word: Vec<u8>,
     ident: Bytes,
     values: Values,
@@ -40,15 +40,15 @@ pub struct OpenTrees {
 impl Model for OpenTrees {
     ghost use Rattle.std.specs.Prelude.{reverse};
     ghost use Rattle.std.specs.Coded.{codes};
-    ghost use Rattle.sgf_text.specs.OpenTrees.{Open};
+    ghost use Rattle.sgf_text.specs.OpenTrees.{Parser};
     ghost use Rattle.sgf_text.specs.Private.TreeCodes.{coded_tree};
 
-    ghost Value = { Open };
+    ghost Value = { Parser };
 
     ghost coded = { Prim.hlevel (codes, coded_tree) };
 
     ghost view = { λ o. record {
-      place = o.place;
+      state = o.state;
       word = o.word.items;
       ident = o.ident;
       values = o.values;
@@ -66,7 +66,7 @@ impl OpenTrees {
     {
         OpenTrees {
             alloc,
-            place: Place::AfterOpen,
+            state: ParserState::AfterOpen,
             word: Vec::new(alloc),
             ident: Bytes::from_vec(Vec::new(alloc)),
             values: Values::from_vec(Vec::new(alloc)),
@@ -80,59 +80,59 @@ impl OpenTrees {
     /// Takes the byte at a place of the text. Gives the first tree where the byte ends it.
     pub fn step(&mut self, byte: u8, at: usize) -> Result<Option<Tree>, SgfFault>
         requires { IsSound self.old }
-        ensures { Steps (move self.old.place (sign_of byte)) (sign_of byte) byte at self.old result
+        ensures { Steps (transition self.old.state (sign_of byte)) (sign_of byte) byte at self.old result
             self.new }
     {
         let sign = sign_of(byte);
-        match follow(self.place, sign) {
-            Move::Opens => {
+        match follow(self.state, sign) {
+            Transition::Opens => {
                 if self.outer.len() >= MOST_DEEP - 1 {
                     return Err(SgfFault::TooDeep);
                 }
                 self.open()?;
             }
-            Move::Begins => {
+            Transition::Begins => {
                 if self.nodes >= MOST_NODES {
                     return Err(SgfFault::TooMany);
                 }
                 self.begin()?;
             }
-            Move::Closes => return Ok(self.close()?),
-            Move::To(next) => {
+            Transition::Closes => return Ok(self.close()?),
+            Transition::To(next) => {
                 self.lead(sign, byte)?;
-                self.place = next;
+                self.state = next;
             }
-            Move::Refused => return Err(SgfFault::Syntax { at }),
+            Transition::Refused => return Err(SgfFault::Syntax { at }),
         }
         Ok(None)
     }
 
     fn open(&mut self) -> Result<(), AllocError>
         requires { IsSound self.old }
-        ensures { OnOk result (self.new ≡ opened_in (node_ended self.old.place self.old)) }
+        ensures { OnOk result (self.new ≡ opened_in (node_ended self.old.state self.old)) }
     {
         self.end_node()?;
         let tree = mem::replace(&mut self.tree, OpenTree::new(self.alloc));
         self.outer.push(tree)?;
-        self.place = Place::AfterOpen;
+        self.state = ParserState::AfterOpen;
         Ok(())
     }
 
     fn begin(&mut self) -> Result<(), AllocError>
         requires sound { IsSound self.old }
         requires few { self.old.nodes < node_limit }
-        ensures { OnOk result (self.new ≡ begun_in (node_ended self.old.place self.old)) }
+        ensures { OnOk result (self.new ≡ begun_in (node_ended self.old.state self.old)) }
     {
         self.end_node()?;
         self.nodes += 1;
-        self.place = Place::AfterSemicolon;
+        self.state = ParserState::AfterSemicolon;
         Ok(())
     }
 
     /// Ends the innermost tree, and gives it where it is the first.
     fn close(&mut self) -> Result<Option<Tree>, AllocError>
         requires sound { IsSound self.old }
-        requires closes { IsTrue (can_close self.old.place) }
+        requires closes { IsTrue (can_close self.old.state) }
         ensures { IfOk result (λ tree. ClosesTo self.old tree self.new) }
     {
         self.end_node()?;
@@ -142,18 +142,18 @@ impl OpenTrees {
         };
         around.push_child(tree)?;
         self.tree = around;
-        self.place = Place::AfterChild;
+        self.state = ParserState::AfterChild;
         Ok(None)
     }
 
     /// Ends the node that is open, if one is.
     fn end_node(&mut self) -> Result<(), AllocError>
         requires { IsSound self.old }
-        ensures { OnOk result (self.new ≡ node_ended self.old.place self.old) }
+        ensures { OnOk result (self.new ≡ node_ended self.old.state self.old) }
     {
-        match self.place {
-            Place::AfterSemicolon => {}
-            Place::AfterValue => self.end_property()?,
+        match self.state {
+            ParserState::AfterSemicolon => {}
+            ParserState::AfterValue => self.end_property()?,
             _ => return Ok(()),
         }
         let node = mem::replace(&mut self.node, OpenNode::new(self.alloc));
@@ -162,19 +162,21 @@ impl OpenTrees {
 
     /// Takes a byte that leads on.
     fn lead(&mut self, sign: Sign, byte: u8) -> Result<(), AllocError>
-        ensures { OnOk result (self.new ≡ led self.old.place sign byte self.old) }
+        ensures { OnOk result (self.new ≡ led self.old.state sign byte self.old) }
     {
-        match (self.place, sign) {
-            (Place::AfterValue, Sign::Upper) => {
+        match (self.state, sign) {
+            (ParserState::AfterValue, Sign::Upper) => {
                 self.end_property()?;
                 self.word.push(byte)?;
             }
-            (Place::AfterValue, Sign::Lower) => self.end_property()?,
-            (Place::AfterSemicolon | Place::InIdent(_), Sign::Upper) => self.word.push(byte)?,
-            (Place::InIdent(_), Sign::Lower) => {}
-            (Place::InIdent(_), _) => self.end_ident(),
-            (Place::InValue, Sign::CloseSquare) => self.end_value()?,
-            (Place::InValue | Place::AfterBackslash, _) => self.word.push(byte)?,
+            (ParserState::AfterValue, Sign::Lower) => self.end_property()?,
+            (ParserState::AfterSemicolon | ParserState::InIdent(_), Sign::Upper) => self
+                .word
+                .push(byte)?,
+            (ParserState::InIdent(_), Sign::Lower) => {}
+            (ParserState::InIdent(_), _) => self.end_ident(),
+            (ParserState::InValue, Sign::CloseSquare) => self.end_value()?,
+            (ParserState::InValue | ParserState::AfterBackslash, _) => self.word.push(byte)?,
             _ => {}
         }
         Ok(())

@@ -13,8 +13,8 @@ use Rattle.target_game.specs.Answers.{AnswerTree, turn, replies, ReplyTrees, non
 use Rattle.proof_cert.specs.Certificate as claim
 use Rattle.cert_check.specs.Checked.{CheckedClaim}
 use Rattle.solution_tree.specs.Answer.{replies_of}
-use Rattle.solution_tree.specs.declared.opened.Open.{Open}
-use Rattle.solution_tree.specs.declared.opened.Open.TheVariants.{Made, Reply}
+use Rattle.solution_tree.specs.declared.opened.OpenTurn.{OpenTurn}
+use Rattle.solution_tree.specs.declared.opened.OpenTurn.TheVariants.{Made, Reply}
 use Rattle.solution_tree.specs.Private.Opened.{branches_at, closed, finish, lemma_count, all_below, open_below, open_size, open_sizes, played, replies_then, turn_of}
 
 -- ---- play
@@ -24,25 +24,25 @@ next_game s pass = refl
 next_game s (move p) = refl
 
 -- the state that the open turns lead to
-abbrev pub reached : ℕ → List Open → GameState → GameState
+abbrev pub reached : ℕ → List OpenTurn → GameState → GameState
 reached n [] s = s
 reached n (o ∷ os) s = reached n os (next s (turn_of n o))
 
-pub reached_game : (n : ℕ) (os : List Open) (s : GameState) → (reached n os s).game ≡ s.game
+pub reached_game : (n : ℕ) (os : List OpenTurn) (s : GameState) → (reached n os s).game ≡ s.game
 reached_game n [] s = refl
 reached_game n (o ∷ os) s = reached_game n os (next s (turn_of n o)) ∙ next_game s (turn_of n o)
 
-pub played_state : (n : ℕ) (os : List Open) (line : Line) → (played n os line).state ≡ reached n os line.state
+pub played_state : (n : ℕ) (os : List OpenTurn) (line : Line) → (played n os line).state ≡ reached n os line.state
 played_state n [] line = refl
 played_state n (o ∷ os) line = played_state n os (record { state = next line.state (turn_of n o); before = line.state ∷ line.before })
 
-pub played_push : (n : ℕ) (os : List Open) (o : Open) (line : Line) → played n (os ++ o ∷ []) line ≡ record { state = next (played n os line).state (turn_of n o); before = (played n os line).state ∷ (played n os line).before }
+pub played_push : (n : ℕ) (os : List OpenTurn) (o : OpenTurn) (line : Line) → played n (os ++ o ∷ []) line ≡ record { state = next (played n os line).state (turn_of n o); before = (played n os line).state ∷ (played n os line).before }
 played_push n [] o line = refl
 played_push n (p ∷ os) o line = played_push n os o (record { state = next line.state (turn_of n p); before = line.state ∷ line.before })
 
 -- ---- the tree
 
-pub finish_push : (k : CheckedClaim) (os : List Open) (o : Open) (s : GameState) (a : AnswerTree) → finish k (os ++ o ∷ []) s a ≡ finish k os s (closed k o (reached k.certificate.size os s) a)
+pub finish_push : (k : CheckedClaim) (os : List OpenTurn) (o : OpenTurn) (s : GameState) (a : AnswerTree) → finish k (os ++ o ∷ []) s a ≡ finish k os s (closed k o (reached k.certificate.size os s) a)
 finish_push k [] o s a = refl
 finish_push k (p ∷ os) o s a = ap (closed k p s) (finish_push k os o (next s (turn_of k.certificate.size p)) a)
 
@@ -86,14 +86,14 @@ module _ (x : Colour) where
   unfolding answers
   first_answers s t a rs h = and_left (answers x (next s t) a) (all_answer x s rs) h
 
-  closed_answers : (k : CheckedClaim) (o : Open) (s : GameState) (a : AnswerTree) → answers x s (closed k o s a) ≡ true → answers x (next s (turn_of k.certificate.size o)) a ≡ true
+  closed_answers : (k : CheckedClaim) (o : OpenTurn) (s : GameState) (a : AnswerTree) → answers x s (closed k o s a) ≡ true → answers x (next s (turn_of k.certificate.size o)) a ≡ true
   closed_answers k (Made t) s a h = (turn_answers s (ply_of k.certificate.size t) a h).2
   closed_answers k (Reply done t later) s a h =
       let rest = branches_at k (claim.replies_of k.certificate.size later.now) s in
       let these = reply (ply_of k.certificate.size t) a rest in
       first_answers s (ply_of k.certificate.size t) a rest (behind_answers s (replies_of k.certificate.size done.items) these (replies_answer s (replies_then (replies_of k.certificate.size done.items) these) h).1)
 
-  pub inner_answers : (k : CheckedClaim) (os : List Open) (s : GameState) (a : AnswerTree) → answers x s (finish k os s a) ≡ true → answers x (reached k.certificate.size os s) a ≡ true
+  pub inner_answers : (k : CheckedClaim) (os : List OpenTurn) (s : GameState) (a : AnswerTree) → answers x s (finish k os s a) ≡ true → answers x (reached k.certificate.size os s) a ≡ true
   inner_answers k [] s a h = h
   inner_answers k (o ∷ os) s a h =
       let t = turn_of k.certificate.size o in
@@ -101,7 +101,7 @@ module _ (x : Colour) where
 
 -- ---- sizes
 
-pub sizes_push : (n : ℕ) (os : List Open) (o : Open) → open_sizes n (os ++ o ∷ []) ≡ open_sizes n os + open_size n o
+pub sizes_push : (n : ℕ) (os : List OpenTurn) (o : OpenTurn) → open_sizes n (os ++ o ∷ []) ≡ open_sizes n os + open_size n o
 sizes_push n [] o = omega arith
 sizes_push n (p ∷ os) o = omega (arith, sizes_push n os o)
 
@@ -111,7 +111,7 @@ module _ where
   then_sizes none us = omega arith
   then_sizes (reply t a rs) us = omega (arith, then_sizes rs us)
 
-  closed_size : (k : CheckedClaim) (o : Open) (s : GameState) (a : AnswerTree) → open_size k.certificate.size o + answer_size a ≤ answer_size (closed k o s a)
+  closed_size : (k : CheckedClaim) (o : OpenTurn) (s : GameState) (a : AnswerTree) → open_size k.certificate.size o + answer_size a ≤ answer_size (closed k o s a)
   unfolding answer_size
   closed_size k (Made t) s a = omega arith
   closed_size k (Reply done t later) s a =
@@ -119,7 +119,7 @@ module _ where
       let rest = branches_at k (claim.replies_of n later.now) s in
       omega (arith, then_sizes (replies_of n done.items) (reply (ply_of n t) a rest))
 
-  pub whole_size : (k : CheckedClaim) (os : List Open) (s : GameState) (a : AnswerTree) → open_sizes k.certificate.size os + answer_size a ≤ answer_size (finish k os s a)
+  pub whole_size : (k : CheckedClaim) (os : List OpenTurn) (s : GameState) (a : AnswerTree) → open_sizes k.certificate.size os + answer_size a ≤ answer_size (finish k os s a)
   whole_size k [] s a = omega arith
   whole_size k (o ∷ os) s a =
       let t = turn_of k.certificate.size o in
@@ -127,7 +127,7 @@ module _ where
 
 -- ---- the lemmas that are used
 
-pub below_push : (k : CheckedClaim) (os : List Open) (o : Open) → open_below k (os ++ o ∷ []) ≡ (open_below k os && open_below k (o ∷ []))
+pub below_push : (k : CheckedClaim) (os : List OpenTurn) (o : OpenTurn) → open_below k (os ++ o ∷ []) ≡ (open_below k os && open_below k (o ∷ []))
 below_push k [] (Made t) = refl
 below_push k [] (Reply done t later) = refl
 below_push k (Made t ∷ os) o = below_push k os o

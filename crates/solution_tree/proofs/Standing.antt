@@ -20,8 +20,8 @@ use Rattle.cert_check.specs.Expand.{expand_node, expand_branches}
 use Rattle.solution_tree.specs.Answer.{answer_of, replies_of}
 use Rattle.solution_tree.specs.declared.answer.Answer.{Answer}
 use Rattle.solution_tree.specs.declared.answer.Answer.TheVariants as code
-use Rattle.solution_tree.specs.declared.opened.Open.{Open}
-use Rattle.solution_tree.specs.declared.opened.Open.TheVariants.{Made, Reply}
+use Rattle.solution_tree.specs.declared.opened.OpenTurn.{OpenTurn}
+use Rattle.solution_tree.specs.declared.opened.OpenTurn.TheVariants.{Made, Reply}
 use Rattle.solution_tree.specs.Private.Opened.{Expands, all_below, branches_at, closed, expanded, finish, lemma_answers, lemma_count, open_below, played, replies_then, tree_at, turn_of, uses_below}
 use Rattle.solution_tree.proofs.AnswerTrees.{answer_of_replies, answer_of_turn}
 use Rattle.solution_tree.proofs.Expanding.{reached, reached_game, played_state, played_push, finish_push, then_none, then_then, turn_answers, replies_answer, inner_answers, below_push}
@@ -33,7 +33,7 @@ open_state s h = go (over s) h
     go None e = refl
     go (Some x) e = absurd cc
 
-module _ (k : CheckedClaim) (os : List Open) (line : Line) where
+module _ (k : CheckedClaim) (os : List OpenTurn) (line : Line) where
   abbrev n : ℕ
   n = k.certificate.size
 
@@ -63,7 +63,7 @@ module _ (k : CheckedClaim) (os : List Open) (line : Line) where
   legal_at_turn t a it = (turn_answers (claim.claim_of k.certificate).winner line.state t a (answers_here (turn t a) it)).1
 
   -- one more turn is open
-  pub pushed : (o : Open) (a : AnswerTree) → Expands k os line (closed k o line.state a) → IsTrue (open_below k (o ∷ []))
+  pub pushed : (o : OpenTurn) (a : AnswerTree) → Expands k os line (closed k o line.state a) → IsTrue (open_below k (o ∷ []))
       → Expands k (os ++ o ∷ []) (record { state = next line.state (turn_of n o); before = line.state ∷ line.before }) a
   pushed o a it low = record {
     play = ap (λ (l : Line). record { state = next l.state (turn_of n o); before = l.state ∷ l.before }) it.play ∙ sym (played_push n os o (record { state = start k.problem; before = [] }));
@@ -89,7 +89,7 @@ module _ (k : CheckedClaim) (os : List Open) (line : Line) where
       let size : line.state.game.size ≡ n = size_is (replies (replies_then (replies_of n done.items) (branches_at k (claim.replies_of n later) line.state))) it in
       let first : branches_at k (claim.replies_of n later) line.state ≡ reply (ply_of n r.0) (tree_at k (claim.node_of n r.1) (next line.state (ply_of n r.0))) (branches_at k (claim.replies_of n others.now) line.state) =
       subst (λ m. branches_at k (claim.replies_of m later) line.state ≡ reply (ply_of m r.0) (tree_at k (claim.node_of m r.1) (next line.state (ply_of m r.0))) (branches_at k (claim.replies_of m others.now) line.state)) size some in
-      let o : Open = Reply done r.0 others in
+      let o : OpenTurn = Reply done r.0 others in
       let a : AnswerTree = tree_at k (claim.node_of n r.1) (next line.state (ply_of n r.0)) in
       let before : Expands k os line (closed k o line.state a) =
       same_tree (replies (replies_then (replies_of n done.items) (branches_at k (claim.replies_of n later) line.state))) (closed k o line.state a)
@@ -110,10 +110,10 @@ module _ (k : CheckedClaim) (os : List Open) (line : Line) where
       no_reply_left done (branches_at k (claim.replies_of n later) line.state) (subst (λ m. branches_at k (claim.replies_of m later) line.state ≡ none) size e) it
 
   -- the last open turn is taken off, at the state before it
-  pub popped : (o : Open) (a : AnswerTree) (now : Line) → line.before ≡ now.state ∷ now.before → (all : List Open) → all ≡ os ++ o ∷ []
+  pub popped : (o : OpenTurn) (a : AnswerTree) (now : Line) → line.before ≡ now.state ∷ now.before → (all : List OpenTurn) → all ≡ os ++ o ∷ []
       → Expands k all line a → Expands k os now (closed k o now.state a) × IsTrue (open_below k (o ∷ []))
   popped o a now back all is given =
-      let it : Expands k (os ++ o ∷ []) line a = subst (λ (xs : List Open). Expands k xs line a) is given in
+      let it : Expands k (os ++ o ∷ []) line a = subst (λ (xs : List OpenTurn). Expands k xs line a) is given in
       let first : Line = record { state = start k.problem; before = [] } in
       let here : line ≡ record { state = next (played n os first).state (turn_of n o); before = (played n os first).state ∷ (played n os first).before } = it.play ∙ played_push n os o first in
       let parts : now.state ∷ now.before ≡ (played n os first).state ∷ (played n os first).before = sym back ∙ ap (λ (l : Line). l.before) here in
@@ -178,21 +178,21 @@ ok_weaker P Q f (Ok a) h = f a h
 ok_weaker P Q f (Err e) h = tt
 
 -- a turn that is open was made from a state before
-pub made_before : (k : CheckedClaim) (os all : List Open) (line : Line) (o : Open) (a : AnswerTree) → all ≡ os ++ o ∷ [] → Expands k all line a → 0 < length line.before
+pub made_before : (k : CheckedClaim) (os all : List OpenTurn) (line : Line) (o : OpenTurn) (a : AnswerTree) → all ≡ os ++ o ∷ [] → Expands k all line a → 0 < length line.before
 made_before k os all line o a is it =
     let n = k.certificate.size in
     let first : Line = record { state = start k.problem; before = [] } in
     let here : line ≡ record { state = next (played n os first).state (turn_of n o); before = (played n os first).state ∷ (played n os first).before } =
-    it.play ∙ ap (λ (xs : List Open). played n xs first) is ∙ played_push n os o first in
+    it.play ∙ ap (λ (xs : List OpenTurn). played n xs first) is ∙ played_push n os o first in
     let long : length line.before ≡ suc (length (played n os first).before) = ap (λ (l : Line). length l.before) here in
     omega (arith, long)
 
 -- an expansion begins with the claim's main tree at the problem's start
-pub begins : (k : CheckedClaim) (os : List Open) (line : Line) (certificate : certificate_type.Certificate) → certificate ≡ k.certificate → os ≡ [] → line ≡ record { state = start k.problem; before = [] } → IsChecked k.problem (claim.claim_of k.certificate) → IsTrue (answers (claim.claim_of k.certificate).winner (start k.problem) (expanded k))
+pub begins : (k : CheckedClaim) (os : List OpenTurn) (line : Line) (certificate : certificate_type.Certificate) → certificate ≡ k.certificate → os ≡ [] → line ≡ record { state = start k.problem; before = [] } → IsChecked k.problem (claim.claim_of k.certificate) → IsTrue (answers (claim.claim_of k.certificate).winner (start k.problem) (expanded k))
     → Expands k os line (tree_at k (claim.node_of k.certificate.size certificate.main) line.state)
 begins k os line certificate same none_open now valid answered =
     let it : Expands k [] (record { state = start k.problem; before = [] }) (tree_at k (claim.node_of k.certificate.size k.certificate.main) (start k.problem)) =
     record { play = refl; tree = refl; lemmas = refl; size = sym valid.valid.size; stands = answered } in
     subst (λ (c : certificate_type.Certificate). Expands k os line (tree_at k (claim.node_of k.certificate.size c.main) line.state)) (sym same)
-    (subst (λ (xs : List Open). Expands k xs line (tree_at k (claim.node_of k.certificate.size k.certificate.main) line.state)) (sym none_open)
+    (subst (λ (xs : List OpenTurn). Expands k xs line (tree_at k (claim.node_of k.certificate.size k.certificate.main) line.state)) (sym none_open)
     (subst (λ (l : Line). Expands k [] l (tree_at k (claim.node_of k.certificate.size k.certificate.main) l.state)) (sym now) it))

@@ -11,7 +11,7 @@ ghost use Rattle.solution_tree.specs.Private.Opened.{Expands, IfFinished, lemma_
 
 use crate::answer::Answer;
 use crate::fault::Expand;
-use crate::opened::{Open, Part, body_of, close, open_node};
+use crate::opened::{OpenTurn, Part, body_of, close, open_node};
 use crate::turn_count::is_over;
 use cert_check::Checked;
 use cert_check::laws::valid_claims_answer;
@@ -25,7 +25,7 @@ fn step<'a>(
     checked: &'a Checked,
     node: &'a Node,
     state: &mut PlayState,
-    opened: &mut Vec<Open<'a>>,
+    opened: &mut Vec<OpenTurn<'a>>,
 ) -> Result<Part<'a>, AllocError>
     requires stands { Expands checked.now opened.old.items state.old
         (tree_at checked.now (node_of checked.now.certificate.size node.now) state.old.state) }

@@ -20,7 +20,7 @@ use target_game::PlayState;
 
 /// A turn whose tree is not finished.
 #[derive(Drop)]
-pub(crate) enum Open<'a> {
+pub(crate) enum OpenTurn<'a> {
     /// The winner's turn.
     Made(Turn),
     /// A turn of the other side, with the replies before it, whose trees are finished, and those after it, not all of which are legal.
@@ -109,7 +109,7 @@ fn next_reply<'a>(
 fn go_on<'a>(
     checked: &Checked,
     state: &mut PlayState,
-    opened: &mut Vec<Open<'a>>,
+    opened: &mut Vec<OpenTurn<'a>>,
     done: Vec<(Turn, Answer)>,
     later: &'a [(Turn, Node)],
 ) -> Result<Part<'a>, AllocError>
@@ -135,7 +135,7 @@ fn go_on<'a>(
         return Ok(Part::Finished(Answer::Replies(done)));
     };
     let turn = reply.0;
-    opened.push(Open::Reply {
+    opened.push(OpenTurn::Reply {
         done,
         turn: reply.0,
         later: others,
@@ -151,7 +151,7 @@ pub(crate) fn open_node<'a>(
     checked: &Checked,
     node: &'a Node,
     state: &mut PlayState,
-    opened: &mut Vec<Open<'a>>,
+    opened: &mut Vec<OpenTurn<'a>>,
 ) -> Result<Part<'a>, AllocError>
     requires stands { Expands checked.now opened.old.items state.old
         (tree_at checked.now (claim.node_of checked.now.certificate.size node.now)
@@ -173,7 +173,7 @@ pub(crate) fn open_node<'a>(
         Node::Won => Ok(Part::Finished(Answer::Won)),
         Node::Use(_) => unreachable!(),
         Node::Play(turn, below) => {
-            opened.push(Open::Made(*turn))?;
+            opened.push(OpenTurn::Made(*turn))?;
             state.after(*turn)?;
             Ok(Part::Claimed(below))
         }
@@ -187,7 +187,7 @@ pub(crate) fn close<'a>(
     checked: &Checked,
     finished: Answer,
     state: &mut PlayState,
-    opened: &mut Vec<Open<'a>>,
+    opened: &mut Vec<OpenTurn<'a>>,
 ) -> Result<Part<'a>, AllocError>
     requires stands { Expands checked.now opened.old.items state.old
         (answer_of checked.now.certificate.size finished) }
@@ -220,10 +220,10 @@ pub(crate) fn close<'a>(
 fn put_below<'a>(
     alloc: Global,
     checked: &Checked,
-    last: Open<'a>,
+    last: OpenTurn<'a>,
     tree: Answer,
     state: &mut PlayState,
-    opened: &mut Vec<Open<'a>>,
+    opened: &mut Vec<OpenTurn<'a>>,
 ) -> Result<Part<'a>, AllocError>
     requires stands { Expands checked.now opened.old.items state.old
         (closed checked.now last state.old.state (answer_of checked.now.certificate.size tree)) }
@@ -241,8 +241,8 @@ fn put_below<'a>(
     ensures finished { IfOk result (λ p. IfFinished p (opened.new.items ≡ opened.old.items)) }
 {
     match last {
-        Open::Made(turn) => Ok(Part::Finished(Answer::Turn(turn, Box::new(alloc, tree)?))),
-        Open::Reply {
+        OpenTurn::Made(turn) => Ok(Part::Finished(Answer::Turn(turn, Box::new(alloc, tree)?))),
+        OpenTurn::Reply {
             mut done,
             turn,
             later,

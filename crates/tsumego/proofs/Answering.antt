@@ -1,8 +1,8 @@
 -- What is left of a text that was written, and what a claim that was found lets be said.
 use Rattle.std.proofs.Common.{◌≡◌, ℕ, ◌<◌, ◌≤◌, Bool, true, false, List, ◌++◌, length, Option, Some, None, Result, Ok, Err, IsTrue, inl, inr, refl, sym, ◌∙◌, ap, subst, ◌⊎◌}
-use Rattle.std.specs.Prelude.{IsSomeAnd, is_err, IfOk, OnOk}
+use Rattle.std.specs.Prelude.{IsSomeAnd, is_err, OnOk}
 use Rattle.go_points.specs.declared.TheConstants.{MAX_SIZE}
-use Rattle.target_game.specs.State.{GameProblem, start}
+use Rattle.target_game.specs.State.{start}
 use Rattle.sgf_text.specs.Trees.{GameTree}
 use Rattle.sgf_text.specs.Text.{is_tree, tree_text}
 use Rattle.tsumego_problem.specs.Laws.{IsProblem, CanonicalReads, SolutionReads}
@@ -15,17 +15,14 @@ use Rattle.cert_check.specs.Expand.{expand}
 use Rattle.cert_check.specs.Laws.{AcceptsValidTexts, ValidClaimsAnswer}
 use Rattle.solution_tree.specs.Laws.{ExpansionsAscend}
 use Rattle.tsumego_words.specs.declared.command_line.Command.{Command}
-use Rattle.tsumego_words.specs.declared.command_line.Command.TheVariants.{Solve}
-use Rattle.tsumego.specs.declared.reply.Response.{Response}
-use Rattle.tsumego.specs.declared.reply.Response.TheVariants.{Text, Solution, TooLong}
-use Rattle.tsumego.specs.declared.status.Status.{Status}
-use Rattle.tsumego.specs.declared.status.Status.TheVariants.{Answered, Unanswered, Failed}
-use Rattle.tsumego.specs.Texts.{line, no_memory_text, no_read_text, too_large_text}
-use Rattle.tsumego.specs.Solutions.{IsProofBy, IsWritten, Solved, SolvedBy, MayAnswer, Unsolved}
-use Rattle.tsumego.specs.Answers.{IsRecord, Says, SaysFailure}
-use Rattle.tsumego.specs.Outcome.{Saying, Leaves, HasLeftOn, Outcome, Tells, RanOn}
+use Rattle.tsumego_replies.specs.declared.status.Status.{Status}
+use Rattle.tsumego_replies.specs.declared.status.Status.TheVariants.{Unanswered, Failed}
+use Rattle.tsumego_replies.specs.Texts.{line, no_memory_text, no_read_text, too_large_text}
+use Rattle.tsumego_replies.specs.Solutions.{IsProofBy, IsWritten, SolvedBy, MayAnswer}
+use Rattle.tsumego_replies.specs.Answers.{Says, SaysFailure, Tells}
+use Rattle.tsumego.specs.Outcome.{Saying, Leaves, HasLeftOn, Outcome, RanOn}
 use Rattle.tsumego.proofs.Running.{explained}
-use Rattle.tsumego.specs.Replies.{IsSolutionOf, IsReply, IsSearched, Writes}
+use Rattle.tsumego.specs.Private.Written.{IsSolutionOf, Writes}
 
 -- WHAT IS LEFT
 
@@ -76,22 +73,6 @@ module _ (k : CheckedClaim) (checked : IsChecked k.problem (claim_of k.certifica
         whole = ap (λ t. line (tree_text t) ++ bytes) is;
       }
 
--- A search that found a claim, or did not, answers the command.
-pub searched_says : (budget table : ℕ) (proof lift : Bool) (bytes : List ℕ) (tree : GameTree) (n : ℕ) (q : GameProblem) (r : Response) → IsRecord bytes tree n q → IsSearched budget proof lift q r
-    → IsReply (Solve budget table proof lift) bytes r
-searched_says budget table proof lift bytes tree n q (Text reply) is (status, unsolved) = inr (q, tree, n, is, inr (status, unsolved))
-searched_says budget table proof lift bytes tree n q TooLong is none = absurd none
-searched_says budget table proof lift bytes tree n q (Solution k as_proof as_lifted) is (same, kind, form) =
-    λ status said may. inr (q, tree, n, is, subst (λ p. Answers p proof lift status said) same (go proof lift status said (subst (λ l. MayAnswer proof l k status said) form (subst (λ p. MayAnswer p as_lifted k status said) kind may))))
-  where
-    Answers : GameProblem → Bool → Bool → Status → List ℕ → Type 0
-    Answers p proof lift status said = ((status ≡ Answered) × Solved proof lift p said) ⊎ ((status ≡ Unanswered) × Unsolved budget proof p said)
-
-    go : (proof lift : Bool) (status : Status) (said : List ℕ) → MayAnswer proof lift k status said → Answers k.problem proof lift status said
-    go true lift status said (answered, by_claim) = inl (answered, (claim_of k.certificate, by_claim))
-    go false lift status said (inl (answered, few, solved)) = inl (answered, ((claim_of k.certificate).winner, expand (claim_of k.certificate) (start k.problem), solved))
-    go false lift status said (inr (unanswered, large, is)) = inr (unanswered, inr (refl, (claim_of k.certificate, large), is))
-
 -- What is left of it is left by the run.
 pub ran_left : (command : Command) (told : Option (List ℕ)) (read : List ℕ → Type 0) (fails : Type 0) (bytes : List ℕ) (k : CheckedClaim) (proof lift : Bool) (result : Status) (old new : Option (List ℕ)) → Tells told bytes
     → ((status : Status) (text : List ℕ) → MayAnswer proof lift k status text → Says command bytes status text) → HasLeftOn (MayAnswer proof lift k) fails result old new → RanOn (Some command) told read fails result old new
@@ -117,9 +98,3 @@ claim_behind Said status front old new (Some bytes) says is all = subst (Said st
 pub front_written : {E : Type 0} (r : Result (Unit {0}) E) (P : Type 0) → false ≡ is_err r → OnOk r P → P
 front_written (Ok x) P e h = h
 front_written (Err x) P e h = absurd (cc e)
-
--- What is replied to a search is a reply to the command, where the bytes hold the record.
-pub searched_for : {E : Type 0} (budget table : ℕ) (proof lift : Bool) (bytes : List ℕ) (tree : GameTree) (n : ℕ) (q : GameProblem) (r : Result Response E) → IsRecord bytes tree n q
-    → IfOk r (λ x. IsSearched budget proof lift q x) → IfOk r (λ x. IsReply (Solve budget table proof lift) bytes x)
-searched_for budget table proof lift bytes tree n q (Ok x) is said = searched_says budget table proof lift bytes tree n q x is said
-searched_for budget table proof lift bytes tree n q (Err e) is said = tt

@@ -23,12 +23,12 @@ use Rattle.tsumego_problem.specs.Below.{Below}
 use Rattle.solution_tree.specs.Audit.{Fault, audit}
 use Rattle.solution_tree.proofs.Sound.{below_wins}
 use Rattle.solution_tree.proofs.Exact.{audit_is_exact}
-use Rattle.tsumego.specs.declared.status.Status.TheVariants.{Answered}
-use Rattle.tsumego.specs.Texts.{wins_text, neither_text}
-use Rattle.tsumego.specs.Answers.{Answer, IsRecord, check_answer, within_answer, audit_answer}
-use Rattle.tsumego.specs.Solutions.{claim_verdict}
+use Rattle.tsumego_replies.specs.declared.status.Status.TheVariants.{Answered}
+use Rattle.tsumego_replies.specs.Texts.{wins_text, neither_text}
+use Rattle.tsumego_replies.specs.Answers.{Answer, IsRecord, check_answer, within_answer, audit_answer}
+use Rattle.tsumego_replies.specs.Solutions.{claim_verdict}
 use Rattle.tsumego.specs.Laws.{SideWins, CheckIsTrue, WithinIsTrue, AuditIsTrue, SolveIsTrue, ProofIsTrue}
-use Rattle.tsumego.proofs.Records.{placed, has_problem_node}
+use Rattle.tsumego_replies.proofs.Records.{placed, has_problem_node}
 
 side_wins : (bytes : List ℕ) (tree : GameTree) (n : ℕ) (q : GameProblem) (x : Colour) → IsRecord bytes tree n q → Wins x (start q) → SideWins bytes q x
 side_wins bytes tree n q x r w = record { tree = tree; end = n; reads = r.reads; problem = (placed history_limit tree q r.problem).free; wins = w }

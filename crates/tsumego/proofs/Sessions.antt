@@ -12,12 +12,12 @@ use Rattle.gtp_core.specs.Runs.{GoesThrough, IsRun, IsEnded, HasRun, HasStoppedO
 use Rattle.tsumego_words.specs.CommandLine.{is_session}
 use Rattle.tsumego_words.specs.declared.command_line.Command.{Command}
 use Rattle.tsumego_words.specs.declared.command_line.Command.TheVariants.{Check, Within, Audit, Solve, Gtp}
-use Rattle.tsumego.specs.declared.status.Status.{Status}
-use Rattle.tsumego.specs.declared.status.Status.TheVariants.{Answered, Failed}
-use Rattle.tsumego.specs.Texts.{no_read_text}
-use Rattle.tsumego.specs.Answers.{Says}
-use Rattle.tsumego.specs.Outcome.{Tells, RanOn}
-use Rattle.tsumego.specs.Replies.{Writes}
+use Rattle.tsumego_replies.specs.declared.status.Status.{Status}
+use Rattle.tsumego_replies.specs.declared.status.Status.TheVariants.{Answered, Failed}
+use Rattle.tsumego_replies.specs.Texts.{no_read_text}
+use Rattle.tsumego_replies.specs.Answers.{Says, Tells}
+use Rattle.tsumego.specs.Outcome.{RanOn}
+use Rattle.tsumego.specs.Private.Written.{Writes}
 
 -- every session can serve every line
 served : (s : GtpSession) (line : List ℕ) → (bytes : List ℕ) × (new : GtpSession) × Serves s line (reply bytes) new

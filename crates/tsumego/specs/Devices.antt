@@ -3,7 +3,7 @@
 --     ReadFails command faults interrupts bytes      that, or the bytes pass a bound of the command
 use Rattle.std.specs.Prelude.{ℕ, ◌<◌, List, Option, Some, None, ◌⊎◌}
 use Rattle.tsumego_words.specs.declared.command_line.Command.{Command}
-use Rattle.tsumego.specs.Answers.{PassesBound}
+use Rattle.tsumego_replies.specs.Answers.{PassesBound}
 
 -- so often a device may be interrupted
 abbrev pub interrupt_limit : ℕ

@@ -15,15 +15,15 @@ use Rattle.tsumego_problem.specs.Walk.{problem_of}
 use Rattle.tsumego_problem.specs.Below.{Below}
 use Rattle.tsumego_problem.specs.Canonical.{solution}
 use Rattle.tsumego_words.specs.declared.command_line.Command.TheVariants as command
-use Rattle.tsumego.specs.declared.status.Status.TheVariants.{Answered}
+use Rattle.tsumego_replies.specs.declared.status.Status.TheVariants.{Answered}
 use Rattle.cert_check.specs.Verdict.{accepted}
 use Rattle.gtp_core.specs.Lines.{asks, raw_lines, request_of}
 use Rattle.gtp_core.specs.Words.{colour_named, success, turn_text}
 use Rattle.gtp_core.specs.Session.{GtpSession, problem_at, size_of}
 use Rattle.gtp_core.specs.Serving.{Serves, reply, last_reply}
 use Rattle.gtp_core.specs.Runs.{first_session}
-use Rattle.tsumego.specs.Texts.{line, wins_text}
-use Rattle.tsumego.specs.Solutions.{claim_verdict}
+use Rattle.tsumego_replies.specs.Texts.{line, wins_text}
+use Rattle.tsumego_replies.specs.Solutions.{claim_verdict}
 use Rattle.tsumego.specs.Outcome.{Outcome}
 
 -- The bytes begin with a record, and this side wins its problem, with all its earlier positions.

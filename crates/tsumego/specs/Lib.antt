@@ -1,9 +1,4 @@
-pub mod Bounds
-pub mod Texts
-pub mod Solutions
-pub mod Answers
 pub mod Outcome
-pub mod Replies
 pub mod Laws
-pub mod Codes
 pub mod Devices
+pub mod Private

@@ -8,10 +8,10 @@ use Rattle.std.specs.Prelude.{◌≡◌, ℕ, List, ◌++◌, Option, Some, None
 use Rattle.std.specs.Io.KnownBytes.{Appends}
 use Rattle.tsumego_words.specs.declared.command_line.Command.{Command}
 use Rattle.tsumego_words.specs.declared.command_line.Command.TheVariants.{Gtp}
-use Rattle.tsumego.specs.declared.status.Status.{Status}
-use Rattle.tsumego.specs.declared.status.Status.TheVariants.{BadWords, Failed}
-use Rattle.tsumego.specs.Texts.{no_memory_text, no_read_text}
-use Rattle.tsumego.specs.Answers.{Says, SaysFailure}
+use Rattle.tsumego_replies.specs.declared.status.Status.{Status}
+use Rattle.tsumego_replies.specs.declared.status.Status.TheVariants.{BadWords, Failed}
+use Rattle.tsumego_replies.specs.Texts.{no_memory_text, no_read_text}
+use Rattle.tsumego_replies.specs.Answers.{Says, SaysFailure}
 
 -- What a run may have said in full: a status and a text.
 abbrev pub Saying : Type 1
@@ -33,11 +33,6 @@ HasLeft Said status old new = (written : List ℕ) × Appends old new written ×
 abbrev pub Outcome : Option Command → List ℕ → Status → List ℕ → Type 0
 Outcome None bytes status written = (status ≡ BadWords) ⊎ (status ≡ Failed)
 Outcome (Some command) bytes status written = Leaves (Says command bytes) status written
-
--- The bytes are those that the reader tells, where it tells them.
-abbrev pub Tells : Option (List ℕ) → List ℕ → Type 0
-Tells None bytes = Unit {0}
-Tells (Some told) bytes = bytes ≡ told
 
 -- Why a run ended as failed: memory was refused, and the text says that alone; or a read failed, and it says that alone; or a write failed.
 abbrev pub Explains : Type 0 → Type 0 → Status → List ℕ → Type 0

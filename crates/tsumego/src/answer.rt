@@ -4,17 +4,15 @@ ghost use Rattle.std.specs.Prelude.{◌≡◌, Bool, IfOk, OnOk, OnErr, true, fa
 ghost use Rattle.std.specs.Io.KnownBytes.{Appends};
 ghost use Rattle.byte_writer.specs.Taken.{TakesPart};
 ghost use Rattle.sgf_text.specs.Text.{tree_text};
-ghost use Rattle.tsumego.specs.Texts.{line};
+ghost use Rattle.tsumego_replies.specs.Texts.{line};
 ghost use Rattle.proof_cert.specs.Certificate.{claim_of};
 ghost use Rattle.cert_check.specs.Checked.{IsChecked};
-ghost use Rattle.tsumego.specs.Solutions.{IsWritten, MayAnswer};
+ghost use Rattle.tsumego_replies.specs.Solutions.{IsWritten, MayAnswer};
 ghost use Rattle.tsumego.specs.Devices.{HasFailed};
 ghost use Rattle.tsumego.specs.Outcome.{HasLeftOn};
-ghost use Rattle.tsumego.specs.Replies.{IsSolutionOf, Writes};
+ghost use Rattle.tsumego.specs.Private.Written.{IsSolutionOf, Writes};
 
 use crate::counting::Counting;
-use crate::status::Status;
-use crate::texts::{NO_MEMORY, TOO_LARGE};
 use cert_check::laws::{accepts_valid_texts, valid_claims_answer};
 use cert_check::{Checked, Lift, lift};
 use proof_cert::{Certificate, write_cert};
@@ -25,6 +23,7 @@ use std::alloc::{AllocError, Global};
 use std::io::Write;
 use tsumego_problem::laws::{canonical_reads, problems_are_kept, solution_reads};
 use tsumego_problem::problem_tree;
+use tsumego_replies::{NO_MEMORY, Status, TOO_LARGE};
 
 /// The most turns of an answer tree that is written.
 pub const MAX_TURNS: usize = 90_000;

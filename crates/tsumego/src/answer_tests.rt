@@ -2,13 +2,13 @@
 
 use crate::answer::answer;
 use crate::counting::Counting;
-use crate::status::Status;
 use cert_check::{Checked, check_held};
 use proof_cert::read_cert;
 use sgf_text::read_tree;
 use std::alloc::{AllocError, Global};
 use std::process::Abort;
 use tsumego_problem::read_problem;
+use tsumego_replies::Status;
 
 // Black may only move on the last row, and White passes: nothing can be captured.
 const LAST_ROW: &[u8] = b"(;FF[4]SZ[9]AW[aa]PL[B]TR[aa]SQ[ai:hi])";

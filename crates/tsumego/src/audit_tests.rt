@@ -1,9 +1,9 @@
 //! Records and what `audit` says of the trees below their problem nodes, from the rules of the game and of answer trees.
 
-use crate::status::Status;
 use crate::tests::answers;
 use std::alloc::Global;
 use std::process::Abort;
+use tsumego_replies::Status;
 
 // For this record `audit` has this status and this text.
 fn audits(rt: &impl Abort, alloc: Global, record: &str, status: Status, text: &str) {

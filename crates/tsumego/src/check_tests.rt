@@ -1,10 +1,10 @@
 //! Records and claims with what `check` says of them, from the rules and the formats.
 
-use crate::status::Status;
 use crate::tests::checks;
 use go_points::MAX_POINTS;
 use std::alloc::Global;
 use std::process::Abort;
+use tsumego_replies::Status;
 
 #[test]
 fn claims_without_lemmas(rt: HostRuntime) {

@@ -3,10 +3,10 @@
 use crate::counting::Counting;
 use crate::devices::Faulty;
 use crate::run::run;
-use crate::status::Status;
 use std::alloc::{AllocError, Global};
 use std::io::{ErrorKind, Read};
 use std::process::Abort;
+use tsumego_replies::Status;
 
 const INPUT: &str =
     "(;FF[4]GM[1]SZ[3]AB[ab]AW[aa]PL[B]TR[aa]SQ[ba])\ntsucert 1 3 B\nmain\nplay ba\nwon\nend\n";

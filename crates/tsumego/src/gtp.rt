@@ -6,13 +6,12 @@ ghost use Rattle.tsumego.specs.Outcome.{RanOn};
 
 use crate::answer::{write_all, write_text};
 use crate::counting::Counting;
-use crate::status::Status;
-use crate::texts::{NO_MEMORY, NO_READ};
 use gtp_core::{GtpEnd, ReadFrom, WriteTo, run_over};
 use sgf_text::WriteFault;
 use std::alloc::Global;
 use std::io;
 use std::io::{Read, Write};
+use tsumego_replies::{NO_MEMORY, NO_READ, Status};
 use tsumego_words::Command;
 
 /// Devices that count their failures.

@@ -3,11 +3,11 @@
 use crate::counting::Counting;
 use crate::devices::Faulty;
 use crate::run::run;
-use crate::status::Status;
 use crate::tests::answers;
 use std::alloc::Global;
 use std::io::ErrorKind;
 use std::process::Abort;
+use tsumego_replies::Status;
 
 #[test]
 fn a_session(rt: HostRuntime) {

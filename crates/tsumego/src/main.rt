@@ -8,7 +8,6 @@ mod answer_tests;
 mod audit_tests;
 #[cfg(test)]
 mod check_tests;
-mod claim;
 pub mod counting;
 #[cfg(test)]
 mod counting_tests;
@@ -16,25 +15,20 @@ pub mod devices;
 mod gtp;
 #[cfg(test)]
 mod gtp_tests;
-mod input;
 pub mod laws;
 #[cfg(test)]
 mod lift_tests;
 #[cfg(test)]
 mod past_tests;
-mod record;
 #[cfg(test)]
 mod record_tests;
 #[cfg(test)]
 mod region_tests;
-mod reply;
 mod run;
 #[cfg(test)]
 mod solve_tests;
-mod status;
 #[cfg(test)]
 mod tests;
-mod texts;
 #[cfg(test)]
 mod widest_tests;
 #[cfg(test)]
@@ -43,13 +37,12 @@ mod within_tests;
 use answer::write_text;
 use counting::Counting;
 use run::run;
-use status::Status;
 use std::alloc::AllocError;
 use std::convert::AsStr;
 use std::env;
 use std::io::ErrorKind;
 use std::process::ExitCode;
-use texts::NO_MEMORY;
+use tsumego_replies::{NO_MEMORY, Status};
 
 fn main(rt: HostRuntime) -> ExitCode {
     let alloc = rt.alloc();

@@ -1,7 +1,7 @@
 //! Claims of version 2 after their records, with what `check` says of them, from the rules and the formats.
 
-use crate::status::Status;
 use crate::tests::checks;
+use tsumego_replies::Status;
 
 #[test]
 fn lemmas_that_need_a_past(rt: HostRuntime) {

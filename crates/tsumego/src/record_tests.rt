@@ -1,9 +1,9 @@
 //! Records that have a problem, and records that are refused.
 
-use crate::status::Status;
 use crate::tests::{answers, checks};
 use std::alloc::Global;
 use std::process::Abort;
+use tsumego_replies::Status;
 
 #[test]
 fn records_are_refused(rt: HostRuntime) {

@@ -1,8 +1,8 @@
 //! Claims over regions of one to four points, with either side as winner and either to move. They were found by a search
 //! outside this program, which knows the rules alone.
 
-use crate::status::Status;
 use crate::tests::checks;
+use tsumego_replies::Status;
 
 #[test]
 fn claims_over_small_regions(rt: HostRuntime) {

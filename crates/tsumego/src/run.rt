@@ -2,21 +2,21 @@
 
 ghost use Rattle.std.specs.Prelude.{◌≡◌, ℕ, List, map, Some, IfOk, IsFalse};
 ghost use Rattle.tsumego_words.specs.CommandLine.{command_of, is_session, FitsRanges};
-ghost use Rattle.tsumego.specs.Bounds.{MayAsk};
+ghost use Rattle.tsumego_replies.specs.Bounds.{MayAsk};
 ghost use Rattle.tsumego.specs.Devices.{HasFailed, ReadFails};
-ghost use Rattle.tsumego.specs.Outcome.{RanOn, Tells};
-ghost use Rattle.tsumego.specs.Replies.{IsReply};
+ghost use Rattle.tsumego.specs.Outcome.{RanOn};
+ghost use Rattle.tsumego_replies.specs.Answers.{Tells};
+ghost use Rattle.tsumego_replies.specs.Replies.{IsReply};
 
 use crate::answer::{answer, write_text};
 use crate::counting::Counting;
 use crate::gtp::serve_gtp;
-use crate::input::{Reading, read_to_limit};
-use crate::reply::{Failure, Response, reply_to};
-use crate::status::Status;
-use crate::texts::{NO_MEMORY, NO_READ};
 use std::alloc::Global;
 use std::convert::AsStr;
 use std::io::{Read, Write};
+use tsumego_replies::{
+    Failure, InputEnd, NO_MEMORY, NO_READ, Response, Status, read_to_limit, reply_to,
+};
 use tsumego_words::{Command, NoCommand, read_command};
 
 /// The most bytes that are asked for a record: one more than a record may have.
@@ -101,12 +101,12 @@ fn answer_of<R: Read>(alloc: Global, command: Command, reader: &mut R) -> Result
 {
     let mut front = Vec::new(alloc);
     match read_to_limit(reader, &mut front, MAX_FRONT) {
-        Ok(Reading::Whole) => {
+        Ok(InputEnd::Whole) => {
             let mut nothing = b"".as_slice();
             reply_to(alloc, command, front.as_slice(), &mut nothing)
         }
-        Ok(Reading::Full) => reply_to(alloc, command, front.as_slice(), reader),
-        Ok(Reading::Failed) => Err(Failure::Read),
+        Ok(InputEnd::Full) => reply_to(alloc, command, front.as_slice(), reader),
+        Ok(InputEnd::Failed) => Err(Failure::Read),
         Err(_) => Err(Failure::Memory),
     }
 }

@@ -2,10 +2,10 @@
 
 use crate::counting::Counting;
 use crate::run::run;
-use crate::status::Status;
 use crate::tests::{answers, checks};
 use std::alloc::Global;
 use std::process::Abort;
+use tsumego_replies::Status;
 
 // For this record `solve` writes this.
 fn solves(rt: &impl Abort, alloc: Global, record: &str, text: &str) {

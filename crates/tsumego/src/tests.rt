@@ -3,10 +3,10 @@
 use crate::counting::Counting;
 use crate::devices::{Endless, Faulty, Pieces};
 use crate::run::run;
-use crate::status::Status;
 use std::alloc::Global;
 use std::io::ErrorKind;
 use std::process::Abort;
+use tsumego_replies::Status;
 
 // For these words and this input the program has this status and this text.
 pub fn answers(

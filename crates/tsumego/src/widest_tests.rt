@@ -1,9 +1,9 @@
 //! Boards of more than 19 rows through every command: `tt` names a point of theirs.
 
-use crate::status::Status;
 use crate::tests::{answers, checks};
 use std::alloc::Global;
 use std::process::Abort;
+use tsumego_replies::Status;
 
 // With these words the program answers this input by this text.
 fn says(rt: &impl Abort, alloc: Global, words: &[&str], input: &str, text: &str) {

@@ -1,7 +1,7 @@
 //! Decisions by full search, and words that ask for nothing.
 
-use crate::status::Status;
 use crate::tests::answers;
+use tsumego_replies::Status;
 
 #[test]
 fn decisions_within_turns(rt: HostRuntime) {

@@ -25,7 +25,7 @@ use Rattle.cert_check.specs.declared.open_nodes.Due.TheVariants.{Node, Reply, En
 use Rattle.cert_check.specs.Verdict.{had_of, not_of}
 use Rattle.cert_check.specs.Body.{Why, malformed, text_after_end, lemma_body, lemma_start}
 use Rattle.cert_check.specs.Stage.{why_value}
-use Rattle.cert_check.specs.Machine.{Machine, Heading, header, opening, listing_had, listing_not, done, last_of, Step, goes_on, stops, had_taken, not_taken, node_taken, reply_taken, end_taken}
+use Rattle.cert_check.specs.Machine.{Machine, Heading, header, opening, listing_had, listing_not, done, last_of, AfterLine, goes_on, stops, had_taken, not_taken, node_taken, reply_taken, end_taken}
 use Rattle.cert_check.specs.Machine as machine
 use Rattle.cert_check.specs.Private.Ascending.{Ascends}
 use Rattle.cert_check.specs.Private.Inside.{Follows, MayBeMade, Inside, inside_of, phase_of, owed_by}
@@ -122,29 +122,29 @@ abbrev pub IsBehind : Judge → Type 0
 IsBehind j = IsBehindFor j j.phase
 
 -- The line is not counted yet: its number is that of the judge before and after the call.
-abbrev pub GoesOn : Judge → Judge → Step → Type 0
+abbrev pub GoesOn : Judge → Judge → AfterLine → Type 0
 GoesOn old new step = step ≡ goes_on (record (machine_of new) { place = suc old.place })
 
-abbrev pub StopsFor : Judge → Step → stop.Why → Type 0
+abbrev pub StopsFor : Judge → AfterLine → stop.Why → Type 0
 StopsFor j step why = ((p : Why) → why_value j.problem.now.game.size why ≡ Some p → step ≡ stops j.place p) × IsJudged why
 
 -- What the machine does with a line that fits the board: of one of the lists or after it, of a body's node, of a reply, and of a body.
-abbrev pub had_here : Judge → Read.Line → Step
+abbrev pub had_here : Judge → Read.Line → AfterLine
 had_here j l = had_taken j.problem.now (machine_of j) (heading_of j) (lemma_of j) (Some l) (had_of (Some l))
 
-abbrev pub list_here : Judge → Read.Line → Step
+abbrev pub list_here : Judge → Read.Line → AfterLine
 list_here j l = not_taken j.problem.now (machine_of j) (heading_of j) (lemma_of j) (Some l) (not_of (Some l))
 
-abbrev pub node_here : Judge → Within → Read.Line → Step
+abbrev pub node_here : Judge → Within → Read.Line → AfterLine
 node_here j within l = node_taken (machine_of j) (heading_of j) (within_of j within) (suc (length j.state.before)) j.state.state (owed_by j.state.before (reverse j.open_nodes.items)) l
 
-abbrev pub reply_here : Judge → Within → Turn → TurnsLeft → Read.Line → Step
+abbrev pub reply_here : Judge → Within → Turn → TurnsLeft → Read.Line → AfterLine
 reply_here j within due left l =
     reply_taken (machine_of j) (heading_of j) (within_of j within)
     (record { depth = suc (length j.state.before); state = j.state.state; due = ply_of j.state.state.game.size due; others = turns_due j.state.state left.next })
     (owed_by j.state.before (reverse j.open_nodes.items)) l
 
-abbrev pub body_here : Judge → Within → Due → Read.Line → Step
+abbrev pub body_here : Judge → Within → Due → Read.Line → AfterLine
 body_here j within Node l = node_here j within l
 body_here j within (Reply due left) l = reply_here j within due left l
 body_here j within End l = end_taken (machine_of j) (heading_of j) (within_of j within) l

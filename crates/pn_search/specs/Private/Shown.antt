@@ -24,7 +24,7 @@ use Rattle.cert_check.specs.Body.{main_body}
 use Rattle.cert_check.specs.Validity.{FitsNode, FitsBranches}
 use Rattle.pn_search.specs.declared.full_search.Found.{Found}
 use Rattle.pn_search.specs.declared.full_search.Found.TheVariants.{Wins, Open, OutOfSteps}
-use Rattle.pn_search.specs.declared.full_search.Seen.{Seen}
+use Rattle.pn_search.specs.declared.full_search.Tried.{Tried}
 
 -- the number of states of the trees of all play of at most k turns after these turns
 abbrev pub nodes_behind : GameState → ℕ → List Ply → ℕ
@@ -53,13 +53,13 @@ IsFound s k left (Wins x tree) = Shows x s k (node_of s.game.size tree)
 IsFound s k left Open = NeitherWins s k
 IsFound s k left OutOfSteps = left < nodes s k
 
-pub record AreSeen (s : GameState) (k : ℕ) (ts : List Ply) (seen : Seen) : Type 0 where
+pub record AreSeen (s : GameState) (k : ℕ) (ts : List Ply) (seen : Tried) : Type 0 where
   pub mover : list_any (λ t. wins s.mover (next s t) k) ts ≡ false
   pub some : seen.is_open ≡ true → list_all (λ t. wins (opponent_of s.mover) (next s t) k) ts ≡ false
   pub all : seen.is_open ≡ false → AllShow (opponent_of s.mover) s k ts (replies_of s.game.size seen.replies.items)
 
 -- one turn more was searched, with so many steps left before it: it is seen as well, or it decides the search of the state
-abbrev pub IsTurnSeen : GameState → ℕ → Ply → ℕ → Seen → Seen → Option Found → Type 0
+abbrev pub IsTurnSeen : GameState → ℕ → Ply → ℕ → Tried → Tried → Option Found → Type 0
 IsTurnSeen s k t left old new None = (ts : List Ply) → AreSeen s k ts old → AreSeen s k (ts ++ t ∷ []) new
 IsTurnSeen s k t left old new (Some (Wins x tree)) = Shows x s (k + 1) (node_of s.game.size tree)
 IsTurnSeen s k t left old new (Some Open) = ⊥

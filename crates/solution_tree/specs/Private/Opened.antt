@@ -13,8 +13,8 @@ use Rattle.proof_cert.specs.Certificate as claim
 use Rattle.cert_check.specs.Checked.{CheckedClaim}
 use Rattle.cert_check.specs.Expand.{expand, expand_node, expand_branches, answers_behind}
 use Rattle.solution_tree.specs.Answer.{answer_of, replies_of}
-use Rattle.solution_tree.specs.declared.opened.Open.{Open}
-use Rattle.solution_tree.specs.declared.opened.Open.TheVariants.{Made, Reply}
+use Rattle.solution_tree.specs.declared.opened.OpenTurn.{OpenTurn}
+use Rattle.solution_tree.specs.declared.opened.OpenTurn.TheVariants.{Made, Reply}
 use Rattle.solution_tree.specs.declared.opened.Part.{Part}
 use Rattle.solution_tree.specs.declared.opened.Part.TheVariants as part
 
@@ -37,34 +37,34 @@ abbrev pub replies_then : ReplyTrees → ReplyTrees → ReplyTrees
 replies_then none rs = rs
 replies_then (reply t a more) rs = reply t a (replies_then more rs)
 
-abbrev pub turn_of : ℕ → Open → Ply
+abbrev pub turn_of : ℕ → OpenTurn → Ply
 turn_of n (Made t) = ply_of n t
 turn_of n (Reply done t later) = ply_of n t
 
 -- the tree at the state of an open turn, where a stands below that turn
-abbrev pub closed : CheckedClaim → Open → GameState → AnswerTree → AnswerTree
+abbrev pub closed : CheckedClaim → OpenTurn → GameState → AnswerTree → AnswerTree
 closed k (Made t) s a = turn (ply_of k.certificate.size t) a
 closed k (Reply done t later) s a =
     replies (replies_then (replies_of k.certificate.size done.items) (reply (ply_of k.certificate.size t) a (branches_at k (claim.replies_of k.certificate.size later.now) s)))
 
-abbrev pub finish : CheckedClaim → List Open → GameState → AnswerTree → AnswerTree
+abbrev pub finish : CheckedClaim → List OpenTurn → GameState → AnswerTree → AnswerTree
 finish k [] s a = a
 finish k (o ∷ os) s a = closed k o s (finish k os (next s (turn_of k.certificate.size o)) a)
 
-abbrev pub whole : CheckedClaim → List Open → AnswerTree → AnswerTree
+abbrev pub whole : CheckedClaim → List OpenTurn → AnswerTree → AnswerTree
 whole k os a = finish k os (start k.problem) a
 
 -- the line of play that the open turns make
-abbrev pub played : ℕ → List Open → Line → Line
+abbrev pub played : ℕ → List OpenTurn → Line → Line
 played n [] line = line
 played n (o ∷ os) line = played n os (record { state = next line.state (turn_of n o); before = line.state ∷ line.before })
 
 -- how many turns are finished, or open
-abbrev pub open_size : ℕ → Open → ℕ
+abbrev pub open_size : ℕ → OpenTurn → ℕ
 open_size n (Made t) = 1
 open_size n (Reply done t later) = 1 + reply_sizes (replies_of n done.items)
 
-abbrev pub open_sizes : ℕ → List Open → ℕ
+abbrev pub open_sizes : ℕ → List OpenTurn → ℕ
 open_sizes n [] = 0
 open_sizes n (o ∷ os) = open_size n o + open_sizes n os
 
@@ -90,7 +90,7 @@ abbrev pub lemma_count : CheckedClaim → ℕ
 lemma_count k = length k.certificate.lemmas.items
 
 -- what still follows the open turns uses the claim's lemmas alone
-abbrev pub open_below : CheckedClaim → List Open → Bool
+abbrev pub open_below : CheckedClaim → List OpenTurn → Bool
 open_below k [] = true
 open_below k (Made t ∷ os) = open_below k os
 open_below k (Reply done t later ∷ os) = all_below (lemma_count k) (claim.replies_of k.certificate.size later.now) && open_below k os
@@ -98,7 +98,7 @@ open_below k (Reply done t later ∷ os) = all_below (lemma_count k) (claim.repl
 -- ---- where the expansion stands
 
 -- The line of play is that of the open turns; with the tree a below the last of them the whole is the expansion, which answers; and the boards have one size.
-pub record Expands (k : CheckedClaim) (turns : List Open) (line : Line) (a : AnswerTree) : Type 0 where
+pub record Expands (k : CheckedClaim) (turns : List OpenTurn) (line : Line) (a : AnswerTree) : Type 0 where
   pub play : line ≡ played k.certificate.size turns (record { state = start k.problem; before = [] })
   pub tree : whole k turns a ≡ expanded k
   pub lemmas : IsTrue (open_below k turns)

@@ -15,7 +15,7 @@ use Rattle.cert_check.specs.Stage.{why_value}
 use Rattle.cert_check.proofs.ReadingClaims.{accepted_sides_win}
 use Rattle.cert_check.proofs.Steps.{if_ok_map, if_err_map}
 use Rattle.cert_check.proofs.Taking.{never}
-use Rattle.cert_check.proofs.Hearing.{either_way, heard_more, heard_accepts, heard_ends, heard_rejects, heard_fails}
+use Rattle.cert_check.proofs.Hearing.{either_way, heard_more, heard_accepts, heard_ends, heard_rejects, heard_fails, heard_reaches}
 use Rattle.cert_check.proofs.checker.check.Goals as goal
 
 pub returns-in-Err-clause-err : goal.returns-in-Err-clause-err
@@ -101,6 +101,24 @@ returns-in-Err-Read-clause-read g c = λ fresh read.
     let at = c.reject-in-Err-Read.ensures.place in
     let less = c.loop-count-test.true in
     heard_fails gives g.S.NodeSource.number (g.S.NodeSource.size s) q s t (machine_of c.loop-count.judge) c.reject-in-Err-Read.result.place inv.2 (u, here) at (omega (arith, placed, at, less))
+
+pub returns-in-Err-clause-memory : goal.returns-in-Err-clause-memory
+returns-in-Err-clause-memory g c = λ fresh told.
+    let gives = g.S.NodeSource.gives in
+    let s = c.args.source.now in
+    heard_reaches gives g.S.NodeSource.number (g.S.NodeSource.size s) c.args.problem.now s c.loop-count.source (machine_of c.loop-count.judge) c.in-Err.reject.place (c.loop-count.invariant.0 fresh).2 c.in-Err.ensures.there
+
+pub returns-in-Err-Memory-clause-memory : goal.returns-in-Err-Memory-clause-memory
+returns-in-Err-Memory-clause-memory g c = λ fresh told.
+    let gives = g.S.NodeSource.gives in
+    let s = c.args.source.now in
+    heard_reaches gives g.S.NodeSource.number (g.S.NodeSource.size s) c.args.problem.now s c.loop-count.source (machine_of c.loop-count.judge) c.reject.result.place (c.loop-count.invariant.0 fresh).2 c.reject.ensures.place
+
+pub returns-clause-memory : goal.returns-clause-memory
+returns-clause-memory g c = λ fresh told.
+    let gives = g.S.NodeSource.gives in
+    let s = c.args.source.now in
+    heard_reaches gives g.S.NodeSource.number (g.S.NodeSource.size s) c.args.problem.now s c.loop-count.source (machine_of c.loop-count.judge) c.reject-2.result.place (c.loop-count.invariant.0 fresh).2 c.reject-2.ensures.place
 
 pub loop-count-preserved : goal.loop-count-preserved
 loop-count-preserved g c = (

@@ -2,7 +2,7 @@ use Rattle.std.proofs.Common.{◌≡◌, ℕ, ◌+◌, ◌<◌, length, List, []
 use Rattle.target_game.specs.State.{GameProblem, Line, start}
 use Rattle.target_game.specs.Answers.{AnswerTree, answers, answer_size}
 use Rattle.proof_cert.specs.declared.certificate.Certificate.{Certificate}
-use Rattle.solution_tree.specs.declared.opened.Open.{Open}
+use Rattle.solution_tree.specs.declared.opened.OpenTurn.{OpenTurn}
 use Rattle.proof_cert.specs.Certificate.{claim_of, node_of}
 use Rattle.cert_check.specs.Checked.{CheckedClaim}
 use Rattle.solution_tree.specs.Private.Opened.{Expands, expanded, finish, lemma_count, open_sizes, part_size, part_turns, part_tree, uses_below}
@@ -31,7 +31,7 @@ pub returns-then-left-eq0-clause-large : goal.returns-then-left-eq0-clause-large
 returns-then-left-eq0-clause-large c =
     let k : CheckedClaim = c.args.checked.now in
     let n : ℕ = k.certificate.size in
-    let os : List Open = c.step.new.opened.items in
+    let os : List OpenTurn = c.step.new.opened.items in
     let a : AnswerTree = part_tree k c.in-Ok-Claimed.field-0 c.step.new.state.state in
     let stands : Expands k os c.step.new.state a = c.in-Ok-Claimed.ensures.stands in
     let size : open_sizes n os + 0 ≡ open_sizes n c.loop-opened.opened.items + 1 =

@@ -7,8 +7,8 @@ use Rattle.proof_cert.specs.Certificate as claim
 use Rattle.cert_check.specs.Checked.{CheckedClaim}
 use Rattle.solution_tree.specs.Answer.{replies_of}
 use Rattle.solution_tree.specs.Private.Opened.{Expands, all_below, branches_at, lemma_answers, lemma_count, open_sizes, replies_then, tree_at, uses_below}
-use Rattle.solution_tree.specs.declared.opened.Open.{Open}
-use Rattle.solution_tree.specs.declared.opened.Open.TheVariants.{Reply}
+use Rattle.solution_tree.specs.declared.opened.OpenTurn.{OpenTurn}
+use Rattle.solution_tree.specs.declared.opened.OpenTurn.TheVariants.{Reply}
 use Rattle.solution_tree.proofs.AnswerTrees.{size_replies}
 use Rattle.solution_tree.proofs.Expanding.{sizes_push}
 use Rattle.solution_tree.proofs.Standing.{no_reply, reply_opened, open_at_replies, size_is}
@@ -40,7 +40,7 @@ returns c =
     let now : c.after.new.self ≡ record { state = next line.state (ply_of line.state.game.size c.in-Some.reply.now.0); before = line.state ∷ line.before } = c.in_ok-after.ensures.ok in
     record {
       stands =
-          subst (λ (os : List Open). Expands k os c.after.new.self (tree_at k (claim.node_of k.certificate.size c.in-Some.reply.now.1) c.after.new.self.state)) (sym items)
+          subst (λ (os : List OpenTurn). Expands k os c.after.new.self (tree_at k (claim.node_of k.certificate.size c.in-Some.reply.now.1) c.after.new.self.state)) (sym items)
           (subst (λ (l : Line). Expands k (c.args.opened.now.items ++ Reply c.args.done c.in-Some.reply.now.0 c.in-Some.others ∷ []) l (tree_at k (claim.node_of k.certificate.size c.in-Some.reply.now.1) l.state)) (sym now) it);
       below = both.0;
       size = omega (arith, ap (open_sizes k.certificate.size) items, sizes_push k.certificate.size c.args.opened.now.items (Reply c.args.done c.in-Some.reply.now.0 c.in-Some.others));

@@ -7,8 +7,8 @@ use Rattle.proof_cert.specs.Certificate as claim
 use Rattle.cert_check.specs.Checked.{CheckedClaim}
 use Rattle.solution_tree.specs.Answer.{replies_of}
 use Rattle.solution_tree.specs.Private.Opened.{Expands, lemma_count, open_sizes, part_size, part_turns, tree_at, uses_below}
-use Rattle.solution_tree.specs.declared.opened.Open.{Open}
-use Rattle.solution_tree.specs.declared.opened.Open.TheVariants.{Made}
+use Rattle.solution_tree.specs.declared.opened.OpenTurn.{OpenTurn}
+use Rattle.solution_tree.specs.declared.opened.OpenTurn.TheVariants.{Made}
 use Rattle.solution_tree.proofs.AnswerTrees.{no_sizes}
 use Rattle.solution_tree.proofs.Expanding.{sizes_push}
 use Rattle.solution_tree.proofs.Standing.{turn_opened, play_below, ok_weaker}
@@ -29,7 +29,7 @@ returns-in_ok-after-in-Play-clause-stands c =
     let now : c.after.new.self ≡ record { state = next line.state (ply_of line.state.game.size c.in-Play.turn); before = line.state ∷ line.before } = c.in_ok-after-in-Play.ensures.ok in
     let node : c.deref.result.now ≡ c.in-Play.below.value = c.deref.ensures in
     subst (λ n. Expands k c.push.new.self.items c.after.new.self (tree_at k (claim.node_of k.certificate.size n) c.after.new.self.state)) (sym node)
-    (subst (λ (os : List Open). Expands k os c.after.new.self (tree_at k (claim.node_of k.certificate.size c.in-Play.below.value) c.after.new.self.state)) (sym items)
+    (subst (λ (os : List OpenTurn). Expands k os c.after.new.self (tree_at k (claim.node_of k.certificate.size c.in-Play.below.value) c.after.new.self.state)) (sym items)
     (subst (λ (l : Line). Expands k (c.args.opened.now.items ++ Made c.in-Play.turn ∷ []) l (tree_at k (claim.node_of k.certificate.size c.in-Play.below.value) l.state)) (sym now) it))
 
 pub returns-in_ok-after-in-Play-clause-below : goal.returns-in_ok-after-in-Play-clause-below

@@ -1,12 +1,12 @@
 use Rattle.std.proofs.Common.{◌≡◌, ◌<◌, ◌++◌, ◌∙◌, false, length, refl, inl, rules, sym, ap, Some, subst, IsTrue}
 use Rattle.sgf_text.specs.Text.{is_tree, tree_text}
 use Rattle.tsumego_problem.specs.Laws.{IsProblem}
-use Rattle.tsumego.specs.Texts.{line}
+use Rattle.tsumego_replies.specs.Texts.{line}
 use Rattle.target_game.specs.State.{start}
 use Rattle.proof_cert.specs.Certificate.{claim_of}
 use Rattle.cert_check.specs.Expand.{expand}
-use Rattle.tsumego.specs.Solutions.{SolvedBy}
-use Rattle.tsumego.specs.Replies.{IsSolutionOf}
+use Rattle.tsumego_replies.specs.Solutions.{SolvedBy}
+use Rattle.tsumego.specs.Private.Written.{IsSolutionOf}
 use Rattle.tsumego.proofs.Answering.{tree_solves}
 use Rattle.tsumego.proofs.answer.said_as_tree.Goals as goal
 

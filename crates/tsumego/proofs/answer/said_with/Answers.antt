@@ -5,9 +5,9 @@ use Rattle.tsumego_problem.specs.Laws.{IsProblem}
 use Rattle.tsumego_problem.specs.Canonical.{canonical}
 use Rattle.proof_cert.specs.Certificate.{claim_of}
 use Rattle.proof_cert.specs.Text.{text}
-use Rattle.tsumego.specs.declared.status.Status.TheVariants.{Answered}
-use Rattle.tsumego.specs.Texts.{line}
-use Rattle.tsumego.specs.Solutions.{MayAnswer}
+use Rattle.tsumego_replies.specs.declared.status.Status.TheVariants.{Answered}
+use Rattle.tsumego_replies.specs.Texts.{line}
+use Rattle.tsumego_replies.specs.Solutions.{MayAnswer}
 use Rattle.tsumego.proofs.Answering.{claim_behind, claim_solves, front_written}
 use Rattle.tsumego.proofs.answer.said_with.Goals as goal
 

@@ -2,9 +2,9 @@ use Rattle.std.proofs.Common.{subst, refl, Some}
 use Rattle.gtp_core.specs.declared.end.GtpEnd.{GtpEnd}
 use Rattle.gtp_core.specs.Runs.{HasStoppedOn}
 use Rattle.tsumego_words.specs.declared.command_line.Command.TheVariants.{Gtp}
-use Rattle.tsumego.specs.declared.status.Status.TheVariants.{Failed}
+use Rattle.tsumego_replies.specs.declared.status.Status.TheVariants.{Failed}
 use Rattle.tsumego.specs.Devices.{HasFailed, ReadFails}
-use Rattle.tsumego.specs.Texts.{no_memory_text}
+use Rattle.tsumego_replies.specs.Texts.{no_memory_text}
 use Rattle.tsumego.proofs.Running.{ran_no_memory}
 use Rattle.tsumego.proofs.Sessions.{session_ends, session_read_fails, session_write_fails, writes_after}
 use Rattle.tsumego.proofs.gtp.serve_gtp.Goals as goal

@@ -1,9 +1,9 @@
 use Rattle.std.proofs.Common.{◌≡◌, ◌++◌, [], length, arith, Some, ◌∙◌, ap, sym, subst}
 use Rattle.std.specs.Prelude.{IfOk}
 use Rattle.std.specs.Io.KnownBytes.{Consumes}
-use Rattle.tsumego.specs.Replies.{IsReplyAfter}
-use Rattle.tsumego.proofs.Running.{all_told}
-use Rattle.tsumego.proofs.Judged.{may_ask, replied_to_all, replied_to_whole}
+use Rattle.tsumego_replies.specs.Replies.{IsReplyAfter}
+use Rattle.tsumego_replies.proofs.Saying.{all_told}
+use Rattle.tsumego_replies.proofs.Judged.{may_ask, replied_to_all, replied_to_whole}
 use Rattle.tsumego.proofs.run.answer_of.Goals as goal
 
 pub returns-in-Ok-Whole-clause-reply : goal.returns-in-Ok-Whole-clause-reply

@@ -1,14 +1,16 @@
 use Rattle.std.proofs.Common.{◌≡◌, subst, refl, inl, inr, sym, ◌∙◌, Some}
 use Rattle.tsumego_words.specs.declared.command_line.Command.{Command}
 use Rattle.tsumego_words.specs.declared.command_line.Command.TheVariants.{Gtp}
-use Rattle.tsumego.specs.Bounds.{MayAsk}
+use Rattle.tsumego_replies.specs.Bounds.{MayAsk}
 use Rattle.tsumego.specs.Devices.{HasFailed, ReadFails}
 use Rattle.tsumego.specs.Outcome.{RanOn}
 use Rattle.tsumego.proofs.Sessions.{is_gtp}
 use Rattle.std.specs.Prelude.{string_bytes}
-use Rattle.tsumego.specs.Replies.{IsReply, Writes}
-use Rattle.tsumego.specs.Texts.{no_memory_text, no_read_text}
-use Rattle.tsumego.proofs.Running.{some_bytes, ran_said, ran_no_memory, ran_no_read}
+use Rattle.tsumego_replies.specs.Replies.{IsReply}
+use Rattle.tsumego.specs.Private.Written.{Writes}
+use Rattle.tsumego_replies.specs.Texts.{no_memory_text, no_read_text}
+use Rattle.tsumego_replies.proofs.Saying.{some_bytes}
+use Rattle.tsumego.proofs.Running.{ran_said, ran_no_memory, ran_no_read}
 use Rattle.tsumego.proofs.Answering.{ran_left}
 use Rattle.tsumego.proofs.run.obey.Goals as goal
 

@@ -1,0 +1,356 @@
+//! The claim of shared proofs: lemmas for the states that stand at several places, and the main tree.
+
+use crate::line::Line;
+use crate::play::Play;
+use crate::proofs::{Below, Branch, Proof, Proofs};
+use crate::refusal::Refusal;
+use crate::tree::Writer;
+use go_points::{Colour, Colouring};
+use indexmap::IndexMap;
+use pn_table::Key;
+use proof_cert::{Certificate, Lemma, MAX_LEMMAS, MAX_LISTED, Version};
+use std::alloc::{AllocError, Global};
+use target_game::Problem;
+
+/// Who wins, with shared proofs and the number of the first state's.
+#[derive(Drop)]
+pub struct Shared {
+    pub winner: Colour,
+    pub(crate) proofs: Proofs,
+    pub(crate) root: u32,
+}
+
+/// At how many places a state stands.
+#[derive(Clone, Copy, Debug, PartialEq, Eq)]
+enum Places {
+    One,
+    Several,
+}
+
+/// Which proofs may become lemmas.
+#[derive(Clone, Copy, Debug, PartialEq, Eq)]
+pub enum Pasts {
+    /// Those too that leave out a move which the past bars.
+    Needed,
+    /// Those alone that need no past.
+    None,
+}
+
+/// Which proofs become lemmas.
+#[derive(Clone, Copy)]
+pub struct Choice {
+    pub pasts: Pasts,
+    /// The fewest turns of such a proof.
+    pub least: u64,
+}
+
+/// The lemmas, and which proof each is of.
+#[derive(Drop)]
+pub(crate) struct Lemmas {
+    pub(crate) made: Vec<Lemma>,
+    version: Version,
+    /// For each proof the number of its lemma, counted from 1.
+    numbers: Vec<u32>,
+    /// How many colourings are listed.
+    listed: usize,
+}
+
+impl Lemmas {
+    /// The number of the proof's lemma.
+    pub(crate) fn of_proof(&self, proof: u32) -> Option<u32> {
+        match self.numbers.get(proof as usize).copied() {
+            Some(number) if number > 0 => Some(number),
+            _ => None,
+        }
+    }
+
+    /// The lemma of this number.
+    pub(crate) fn get(&self, number: u32) -> Option<&Lemma> {
+        self.made.get((number as usize).checked_sub(1)?)
+    }
+}
+
+/// At how many places each state of the proofs stands, all of which the root uses.
+fn count_places(
+    alloc: Global,
+    proofs: &Proofs,
+    root: u32,
+) -> Result<IndexMap<Key, Places>, AllocError> {
+    let mut places = IndexMap::new(alloc);
+    if let Some(proof) = proofs.get(root) {
+        places.insert(proof.key, Places::One)?;
+    }
+    for number in 0..proofs.len() {
+        if let Some(proof) = proofs.at(number) {
+            for branch in proofs.branches(proof) {
+                count_place(proofs, branch.below, &mut places)?;
+            }
+        }
+    }
+    Ok(places)
+}
+
+/// One place more.
+fn count_place(
+    proofs: &Proofs,
+    below: Below,
+    places: &mut IndexMap<Key, Places>,
+) -> Result<(), AllocError> {
+    if let Below::Proof(number) = below {
+        if let Some(proof) = proofs.get(number) {
+            let count = match places.get(&proof.key) {
+                None => Places::One,
+                Some(_) => Places::Several,
+            };
+            places.insert(proof.key, count)?;
+        }
+    }
+    Ok(())
+}
+
+/// The walk over the proofs that makes the lemmas: each proof is met once, lower ones first.
+#[derive(Drop)]
+struct Walk {
+    line: Line,
+    places: IndexMap<Key, Places>,
+    /// The colourings that have occurred at the end of the line, in the order of the line's past.
+    occurred: Vec<Colouring>,
+    /// Whether a proof was met.
+    met: Vec<bool>,
+    choice: Choice,
+    visits: Vec<Visit>,
+    lemmas: Lemmas,
+}
+
+/// A proof of the line of play, with the place of its next branch.
+#[derive(Clone, Copy)]
+struct Visit {
+    number: u32,
+    proof: Proof,
+    next: usize,
+}
+
+impl Walk {
+    fn new(
+        alloc: Global,
+        problem: &Problem,
+        proofs: &Proofs,
+        root: u32,
+        choice: Choice,
+    ) -> Result<Walk, AllocError> {
+        let mut met = Vec::with_capacity(alloc, proofs.len())?;
+        let mut numbers = Vec::with_capacity(alloc, proofs.len())?;
+        for _ in 0..proofs.len() {
+            met.push(false)?;
+            numbers.push(0)?;
+        }
+        Ok(Walk {
+            line: Line::of(alloc, problem)?,
+            places: count_places(alloc, proofs, root)?,
+            occurred: problem.history().to_vec(alloc)?,
+            met,
+            choice,
+            visits: Vec::new(alloc),
+            lemmas: Lemmas {
+                made: Vec::new(alloc),
+                version: Version::One,
+                numbers,
+                listed: 0,
+            },
+        })
+    }
+
+    /// Meets the proof of the state at the end of the line.
+    fn enter(&mut self, proofs: &Proofs, number: u32) -> Result<(), Refusal> {
+        let Some(proof) = proofs.get(number) else {
+            return Err(Refusal::Fault);
+        };
+        let place = number as usize;
+        if place < self.met.len() {
+            self.met[place] = true;
+        }
+        let visit = Visit {
+            number,
+            proof,
+            next: 0,
+        };
+        self.visits.push(visit)?;
+        Ok(())
+    }
+
+    /// Goes down the branch where it leads to a proof that was not met.
+    fn follow(&mut self, proofs: &Proofs, branch: Branch) -> Result<(), Refusal> {
+        let last = self.visits.len().saturating_sub(1);
+        if last < self.visits.len() {
+            self.visits[last].next = self.visits[last].next.saturating_add(1);
+        }
+        let Below::Proof(number) = branch.below else {
+            return Ok(());
+        };
+        if self.met.get(number as usize).copied() != Some(false) {
+            return Ok(());
+        }
+        let Some(proof) = proofs.get(number) else {
+            return Err(Refusal::Fault);
+        };
+        self.line.go(branch.turn, proof.key)?;
+        if self.line.past().len() > self.occurred.len() {
+            self.occurred.push(self.line.play().colouring())?;
+        }
+        self.enter(proofs, number)
+    }
+
+    /// Whether the proof is to be a lemma: its state stands at several places, and it is one of those that are chosen.
+    fn is_lemma(&self, proofs: &Proofs, proof: Proof) -> bool {
+        proof.turns >= self.choice.least
+            && (self.choice.pasts == Pasts::Needed || !proofs.needs_a_past(proof))
+            && matches!(self.places.get(&proof.key), Some(Places::Several))
+    }
+
+    /// Leaves the last proof, all of whose branches were followed, and makes its lemma where it is to be one.
+    fn leave(
+        &mut self,
+        alloc: Global,
+        problem: &Problem,
+        proofs: &Proofs,
+        visit: Visit,
+    ) -> Result<(), Refusal> {
+        self.visits.pop();
+        if self.is_lemma(proofs, visit.proof) {
+            self.add_lemma(alloc, problem, proofs, visit)?;
+        }
+        self.line.back();
+        self.occurred.truncate(self.line.past().len());
+        Ok(())
+    }
+
+    /// The colourings that the proof of the state at the end of the line needs to have occurred, ascending.
+    fn had(&self, alloc: Global, proofs: &Proofs, proof: Proof) -> Result<Vec<Colouring>, Refusal> {
+        let mut had = Vec::new(alloc);
+        for position in proofs.had(proof) {
+            match self.occurred_at(*position) {
+                Some(colouring) => had.push(colouring)?,
+                None => return Err(Refusal::Fault),
+            }
+        }
+        had.sort_unstable();
+        had.dedup();
+        Ok(had)
+    }
+
+    /// The colouring of the position, where it has occurred.
+    fn occurred_at(&self, position: u64) -> Option<Colouring> {
+        let place = self.line.past().place_of(position)?;
+        self.occurred.get(place).copied()
+    }
+
+    /// Makes the lemma of the proof of the state at the end of the line.
+    fn add_lemma(
+        &mut self,
+        alloc: Global,
+        problem: &Problem,
+        proofs: &Proofs,
+        visit: Visit,
+    ) -> Result<(), Refusal> {
+        let key = visit.proof.key;
+        let root = self.line.play().colouring();
+        let Some(play) = Play::at(alloc, problem, &root, key.mover, key.passes) else {
+            return Err(Refusal::Memory);
+        };
+        let mut writer = Writer::of_lemma(alloc, play, visit.proof);
+        let body = writer.write(alloc, proofs, &self.lemmas, visit.number)?;
+        let had = self.had(alloc, proofs, visit.proof)?;
+        let absent = writer.absent();
+        let own = had.len().saturating_add(absent.len());
+        let listed = self.lemmas.listed.saturating_add(own);
+        if self.lemmas.made.len() >= MAX_LEMMAS || listed > MAX_LISTED as usize {
+            return Err(Refusal::Limit);
+        }
+        if !had.is_empty() {
+            self.lemmas.version = Version::Two;
+        }
+        let lemma = Lemma {
+            mover: key.mover,
+            passes: key.passes,
+            root,
+            had,
+            absent,
+            body,
+        };
+        self.lemmas.made.push(lemma)?;
+        self.lemmas.listed = listed;
+        let place = visit.number as usize;
+        if place < self.lemmas.numbers.len() {
+            self.lemmas.numbers[place] = self.lemmas.made.len() as u32;
+        }
+        Ok(())
+    }
+}
+
+/// The lemmas of the proofs.
+fn lemmas_of(
+    alloc: Global,
+    problem: &Problem,
+    proofs: &Proofs,
+    root: u32,
+    choice: Choice,
+) -> Result<Lemmas, Refusal> {
+    let mut walk = Walk::new(alloc, problem, proofs, root, choice)?;
+    walk.enter(proofs, root)?;
+    for _ in 0..u64::MAX {
+        let Some(visit) = walk.visits.last().copied() else {
+            return Ok(walk.lemmas);
+        };
+        match proofs.branch(visit.proof, visit.next) {
+            Some(branch) => walk.follow(proofs, branch)?,
+            None => walk.leave(alloc, problem, proofs, visit)?,
+        }
+    }
+    Err(Refusal::Fault)
+}
+
+/// The claim of the proof in which each state that stands at several places is a lemma, for each of its proofs that is
+/// chosen; others stand in line. A lemma needs what its proof needs to have occurred. Refused past the limits of claims.
+pub fn claim_with_lemmas(
+    alloc: Global,
+    problem: &Problem,
+    shared: &Shared,
+    choice: Choice,
+) -> Result<Certificate, Refusal> {
+    let lemmas = lemmas_of(alloc, problem, &shared.proofs, shared.root, choice)?;
+    claim(alloc, problem, shared, lemmas)
+}
+
+/// The claim of the proof without lemmas.
+pub fn claim_without_lemmas(
+    alloc: Global,
+    problem: &Problem,
+    shared: &Shared,
+) -> Result<Certificate, Refusal> {
+    let lemmas = Lemmas {
+        made: Vec::new(alloc),
+        version: Version::One,
+        numbers: Vec::new(alloc),
+        listed: 0,
+    };
+    claim(alloc, problem, shared, lemmas)
+}
+
+/// The claim with these lemmas.
+fn claim(
+    alloc: Global,
+    problem: &Problem,
+    shared: &Shared,
+    lemmas: Lemmas,
+) -> Result<Certificate, Refusal> {
+    let play = Play::of(alloc, problem)?;
+    let mut writer = Writer::of_main(alloc, play, shared.winner);
+    let main = writer.write(alloc, &shared.proofs, &lemmas, shared.root)?;
+    Ok(Certificate {
+        version: lemmas.version,
+        size: problem.size(),
+        winner: shared.winner,
+        lemmas: lemmas.made,
+        main,
+    })
+}

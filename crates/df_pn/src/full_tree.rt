@@ -1,0 +1,74 @@
+//! The tree that full search found, as proofs without conditions.
+
+use crate::play::Play;
+use crate::proofs::{Below, Branch, Form, Proofs, Settled};
+use crate::refusal::Refusal;
+use go_points::{Colour, Turn};
+use proof_cert::Node;
+use std::alloc::Global;
+
+/// Adds a proof for each node of the tree at the state where nobody has won: what stands there. The tree is at most 201
+/// deep, as full search makes it.
+#[cycle(full_tree)]
+pub(crate) fn note_tree(
+    alloc: Global,
+    proofs: &mut Proofs,
+    play: &mut Play,
+    winner: Colour,
+    node: &Node,
+) -> Result<Below, Refusal> {
+    match node {
+        Node::Won => Ok(Below::Won),
+        // Full search uses no lemma, so this is never so.
+        Node::Use(_) => Err(Refusal::Fault),
+        Node::Play(turn, below) => {
+            let mut branches = Vec::new(alloc);
+            branches.push(branch_by(alloc, proofs, play, winner, *turn, below)?)?;
+            add(proofs, play, winner, Form::Turn, branches.as_slice())
+        }
+        Node::All(replies) => {
+            let mut branches = Vec::new(alloc);
+            for reply in replies.as_slice() {
+                let branch = branch_by(alloc, proofs, play, winner, reply.0, &reply.1)?;
+                branches.push(branch)?;
+            }
+            add(proofs, play, winner, Form::Replies, branches.as_slice())
+        }
+    }
+}
+
+/// The branch of the turn, with the proofs of what stands below it added.
+#[cycle(full_tree)]
+fn branch_by(
+    alloc: Global,
+    proofs: &mut Proofs,
+    play: &mut Play,
+    winner: Colour,
+    turn: Turn,
+    below: &Node,
+) -> Result<Branch, Refusal> {
+    let made = turn;
+    // The tree has legal turns alone, so one is always made.
+    if !play.go(made)? {
+        return Err(Refusal::Fault);
+    }
+    let noted = note_tree(alloc, proofs, play, winner, below)?;
+    play.back();
+    Ok(Branch { turn, below: noted })
+}
+
+/// Adds the proof of the state by these branches.
+fn add(
+    proofs: &mut Proofs,
+    play: &Play,
+    winner: Colour,
+    form: Form,
+    branches: &[Branch],
+) -> Result<Below, Refusal> {
+    let settled = Settled {
+        key: play.key(),
+        winner,
+        form,
+    };
+    Ok(Below::Proof(proofs.add(settled, branches, None, &[])?))
+}

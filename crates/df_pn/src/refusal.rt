@@ -1,0 +1,35 @@
+//! Why a search or the writing of a claim stops early.
+
+use std::alloc::{AllocError, AllocFailed};
+
+/// Why there is nothing to put to the checker, although no step was wanting.
+#[derive(Clone, Copy, Debug, PartialEq, Eq)]
+pub enum Refusal {
+    /// Memory was refused.
+    Memory,
+    /// A limit of claims is passed.
+    Limit,
+    /// A turn or a number is not what it was: two colourings have one key.
+    Fault,
+}
+
+impl From<AllocError> for Refusal {
+    fn from(_error: AllocError) -> Refusal {
+        Refusal::Memory
+    }
+}
+
+impl<T: Drop> From<AllocFailed<T>> for Refusal {
+    fn from(_error: AllocFailed<T>) -> Refusal {
+        Refusal::Memory
+    }
+}
+
+/// Why a search ends without a proof.
+#[derive(Clone, Copy, Debug, PartialEq, Eq)]
+pub enum Stop {
+    /// No step is left.
+    Steps,
+    /// This was met before.
+    Refused(Refusal),
+}

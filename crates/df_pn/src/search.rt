@@ -1,0 +1,382 @@
+//! Depth-first proof-number search.
+//!
+//! The line of play that is searched stands on a stack of frames, with the children of all of them in one list. The work
+//! goes down to the child with the least number for its mover, and comes back where the child is settled or its numbers
+//! reach their thresholds; its own children are kept, so that it need not be expanded again where the work comes back to
+//! it. A settled state becomes a proof, which is used again wherever its conditions on the past hold.
+//!
+//! Nothing is promised of the numbers: what is found is put to the checker.
+
+ghost use Rattle.std.specs.Prelude.{◌≡◌, ◌≤◌, ◌<◌, ◌+◌, IfErr};
+ghost use Rattle.df_pn.specs.declared.refusal.Stop.TheVariants.{Steps};
+
+use crate::frame::{Child, Frame, Outcome, Standing, standing_of};
+use crate::kept::{KeptChildren, KeptState};
+use crate::line::{Line, key_after};
+use crate::numbers::{Count, MoverNumbers, Thresholds};
+use crate::play::Move;
+use crate::proofs::{Below, Branch, Form, MAX_LINE, Proofs};
+use crate::refusal::{Refusal, Stop};
+use go_points::{Colour, Turn};
+use pn_table::{Key, Table};
+use std::alloc::{AllocError, Global};
+use std::num::NonZeroUsize;
+use target_game::Problem;
+
+/// The most rounds between two steps. Each takes a frame away, settles a child, or goes down to one whose children were
+/// kept and whose numbers are below its thresholds, so there are fewer of them.
+const MAX_ROUNDS: u32 = 1_000_000;
+
+/// A search, between two steps.
+#[derive(Drop)]
+pub struct Search {
+    pub(crate) line: Line,
+    pub proofs: Proofs,
+    table: Table,
+    attacker: Colour,
+    frames: Vec<Frame>,
+    pub(crate) children: Vec<Child>,
+    kept: KeptChildren,
+    /// The moves of one state.
+    pub(crate) moves: Vec<Move>,
+    /// The branches of one proof.
+    pub(crate) branches: Vec<Branch>,
+    /// The barred positions of one state.
+    pub(crate) barred: Vec<u64>,
+}
+
+/// What is to be done after a round.
+#[derive(Clone, Copy)]
+enum Round {
+    /// Another round.
+    Again,
+    /// The state at the end of the line is to be expanded, and to be worked on until it reaches these thresholds.
+    Expand(Thresholds),
+    /// The first state is settled.
+    Settled(u32),
+}
+
+impl Search {
+    /// A search that knows nothing, at the start of the problem.
+    pub fn of(
+        alloc: Global,
+        problem: &Problem,
+        capacity: NonZeroUsize,
+    ) -> Result<Search, AllocError> {
+        Ok(Search {
+            line: Line::of(alloc, problem)?,
+            proofs: Proofs::new(alloc),
+            table: Table::with_capacity(alloc, capacity)?,
+            attacker: problem.defender().opponent(),
+            frames: Vec::new(alloc),
+            children: Vec::new(alloc),
+            kept: KeptChildren::new(alloc),
+            moves: Vec::new(alloc),
+            branches: Vec::new(alloc),
+            barred: Vec::new(alloc),
+        })
+    }
+
+    pub(crate) fn is_attacker(&self, side: Colour) -> bool {
+        side == self.attacker
+    }
+
+    /// Searches the state at the end of the line until it is settled or no more steps than `floor` are left. The line is
+    /// then as it was.
+    pub fn settle(&mut self, floor: u64, left: &mut u64) -> Result<u32, Stop>
+        requires floor { floor ≤ left.old }
+        ensures fewer { left.new ≤ left.old }
+        ensures floor { floor ≤ left.new }
+        ensures all { IfErr result (λ stop. stop ≡ Steps → left.new ≡ floor) }
+    {
+        let turns = self.line.len();
+        self.frames.clear();
+        self.children.clear();
+        let settled = self.search(floor, left);
+        self.line.back_to(turns);
+        settled
+    }
+
+    /// The search, which leaves the line where it ends.
+    fn search(&mut self, floor: u64, left: &mut u64) -> Result<u32, Stop>
+        requires floor { floor ≤ left.old }
+        ensures fewer { left.new ≤ left.old }
+        ensures floor { floor ≤ left.new }
+        ensures all { IfErr result (λ stop. stop ≡ Steps → left.new ≡ floor) }
+    {
+        let mut thresholds = Thresholds::none();
+        while *left > floor {
+            *left -= 1;
+            match self.step(thresholds) {
+                Ok(Round::Settled(number)) => return Ok(number),
+                Ok(Round::Expand(below)) => thresholds = below,
+                // The work never stops in the middle of rounds.
+                Ok(Round::Again) => return Err(Stop::Refused(Refusal::Fault)),
+                Err(refusal) => return Err(Stop::Refused(refusal)),
+            }
+        }
+        Err(Stop::Steps)
+    }
+
+    /// Adds the frame of the state at the end of the line.
+    fn expand(&mut self, thresholds: Thresholds) -> Result<(), AllocError> {
+        let first = self.children.len();
+        self.line.list_moves(&mut self.moves)?;
+        let mut is_barred = false;
+        for place in 0..self.moves.len() {
+            if let Some(found) = self.moves.get(place).copied() {
+                if found.is_barred {
+                    is_barred = true;
+                } else {
+                    let child = self.child_by(Turn::At(found.point), found.position, found.wins);
+                    self.children.push(child)?;
+                }
+            }
+        }
+        let end = self.line.end();
+        let child = self.child_by(Turn::Pass, end.position, false);
+        self.children.push(child)?;
+        self.frames.push(Frame {
+            key: end,
+            thresholds,
+            first,
+            current: first,
+            is_barred,
+        })?;
+        Ok(())
+    }
+
+    /// The child by this turn, which leads to this position, where the attacker has won if this is so.
+    fn child_by(&mut self, turn: Turn, position: u64, attacker_wins: bool) -> Child {
+        let end = self.line.end();
+        let made = turn;
+        let key = key_after(end, made, position);
+        let is_attacker = end.mover == self.attacker;
+        let outcome = if attacker_wins {
+            outcome_by(is_attacker, Below::Won)
+        } else if key.passes >= 2 {
+            outcome_by(!is_attacker, Below::Won)
+        } else {
+            match self.known(key) {
+                Some(outcome) => outcome,
+                None => Outcome::Open(MoverNumbers::unknown()),
+            }
+        };
+        Child {
+            turn,
+            key,
+            outcome,
+            kept: None,
+        }
+    }
+
+    /// What is known of a state one turn further, as the mover before it sees it: a proof that holds there, or its numbers.
+    fn known(&mut self, key: Key) -> Option<Outcome> {
+        let mover = key.mover.opponent();
+        if let Some((winner, number)) = self.proved(key) {
+            return Some(outcome_by(winner == mover, Below::Proof(number)));
+        }
+        let is_attacker = mover == self.attacker;
+        match self.table.look(key) {
+            Some(numbers) => Some(Outcome::Open(MoverNumbers::from_table(numbers, is_attacker))),
+            None => None,
+        }
+    }
+
+    /// The proof of a state one turn further that holds there, and who wins by it.
+    pub(crate) fn proved(&self, key: Key) -> Option<(Colour, u32)> {
+        let line = self.line.len().saturating_add(1);
+        let number = self.proofs.find(key, self.line.past(), line)?;
+        let proof = self.proofs.get(number)?;
+        Some((proof.winner, number))
+    }
+
+    /// Expands the state at the end of the line, and goes on until another is to be expanded or the first is settled.
+    fn step(&mut self, thresholds: Thresholds) -> Result<Round, Refusal> {
+        self.expand(thresholds)?;
+        for _ in 0..MAX_ROUNDS {
+            let round = self.round()?;
+            if !matches!(round, Round::Again) {
+                return Ok(round);
+            }
+        }
+        // There are fewer rounds, so this is never so.
+        Err(Refusal::Fault)
+    }
+
+    /// The children of the frame, which is the last.
+    pub(crate) fn children_of(&self, frame: Frame) -> &[Child] {
+        if frame.first <= self.children.len() {
+            &self.children[frame.first..]
+        } else {
+            &self.children[..0]
+        }
+    }
+
+    /// Settles the last frame, leaves it, or goes down from it.
+    fn round(&mut self) -> Result<Round, Refusal> {
+        let Some(frame) = self.frames.last().copied() else {
+            return Err(Refusal::Fault);
+        };
+        match standing_of(self.children_of(frame)) {
+            Standing::Wins => self.settle_last(frame, Form::Turn),
+            Standing::Loses => self.settle_last(frame, Form::Replies),
+            Standing::Open(count) => {
+                let numbers = count.numbers();
+                if self.frames.len() > 1 && frame.thresholds.are_reached(numbers) {
+                    self.leave_open(frame, numbers);
+                    return Ok(Round::Again);
+                }
+                self.go_down(frame, count)
+            }
+        }
+    }
+
+    /// Makes the proof of the last frame, and gives it to the frame above.
+    fn settle_last(&mut self, frame: Frame, form: Form) -> Result<Round, Refusal> {
+        let winner = match form {
+            Form::Turn => frame.key.mover,
+            Form::Replies => frame.key.mover.opponent(),
+        };
+        let number = self.prove(frame, winner, form)?;
+        self.leave(frame);
+        match self.frames.last().copied() {
+            None => Ok(Round::Settled(number)),
+            Some(above) => {
+                let outcome = outcome_by(winner == above.key.mover, Below::Proof(number));
+                self.set_outcome(above.current, outcome, None);
+                Ok(Round::Again)
+            }
+        }
+    }
+
+    /// Takes the last frame off.
+    fn leave(&mut self, frame: Frame) {
+        self.frames.pop();
+        self.children.truncate(frame.first);
+        if !self.frames.is_empty() {
+            self.line.back();
+        }
+    }
+
+    /// Leaves the last frame, which is not settled, with these numbers.
+    fn leave_open(&mut self, frame: Frame, numbers: MoverNumbers) {
+        let is_attacker = frame.key.mover == self.attacker;
+        // Where memory is refused the table does without.
+        let _stored = self.table.store(frame.key, numbers.for_table(is_attacker));
+        let kept = self.keep_children(frame);
+        self.leave(frame);
+        if let Some(above) = self.frames.last().copied() {
+            self.set_outcome(above.current, Outcome::Open(numbers.turned()), kept);
+        }
+    }
+
+    /// Keeps the children of the last frame.
+    fn keep_children(&mut self, frame: Frame) -> Option<KeptState> {
+        let mut state = self.kept.begin(frame.is_barred);
+        for place in frame.first..self.children.len() {
+            if let Some(child) = self.children.get(place).copied() {
+                state = self.kept.add(state, child)?;
+            }
+        }
+        Some(state)
+    }
+
+    fn set_outcome(&mut self, place: usize, outcome: Outcome, kept: Option<KeptState>) {
+        if place < self.children.len() {
+            self.children[place].outcome = outcome;
+            self.children[place].kept = kept;
+        }
+    }
+
+    /// Goes down to the child with the least number, or settles it where it has been proved meanwhile.
+    fn go_down(&mut self, frame: Frame, count: Count) -> Result<Round, Refusal> {
+        let place = frame.first.saturating_add(count.best);
+        let Some(child) = self.children.get(place).copied() else {
+            return Err(Refusal::Fault);
+        };
+        if let Some((winner, number)) = self.proved(child.key) {
+            let outcome = outcome_by(winner == frame.key.mover, Below::Proof(number));
+            self.set_outcome(place, outcome, None);
+            return Ok(Round::Again);
+        }
+        let Outcome::Open(numbers) = child.outcome else {
+            return Err(Refusal::Fault);
+        };
+        if self.line.len() >= MAX_LINE {
+            return Err(Refusal::Limit);
+        }
+        let last = self.frames.len().saturating_sub(1);
+        if last < self.frames.len() {
+            self.frames[last].current = place;
+        }
+        self.line.go(child.turn, child.key)?;
+        let thresholds = frame
+            .thresholds
+            .below(count.numbers(), numbers, count.second);
+        if let Some(kept) = child.kept {
+            if self.open_again(kept, thresholds)? {
+                return Ok(Round::Again);
+            }
+        }
+        Ok(Round::Expand(thresholds))
+    }
+
+    /// Adds the frame of the state at the end of the line with the children that were kept of it, and with what has become
+    /// known of them; whether they all still are. It is no step: nothing is expanded.
+    fn open_again(&mut self, kept: KeptState, thresholds: Thresholds) -> Result<bool, AllocError> {
+        let first = self.children.len();
+        for place in 0..kept.count {
+            if !self.add_kept(kept, place)? {
+                self.children.truncate(first);
+                return Ok(false);
+            }
+        }
+        self.frames.push(Frame {
+            key: self.line.end(),
+            thresholds,
+            first,
+            current: first,
+            is_barred: kept.is_barred,
+        })?;
+        Ok(true)
+    }
+
+    /// Adds the child of this place with what is known of it now, if it is still kept.
+    fn add_kept(&mut self, kept: KeptState, place: usize) -> Result<bool, AllocError> {
+        let Some(child) = self.kept.get(kept, place) else {
+            return Ok(false);
+        };
+        let turn = child.turn;
+        let key = child.key;
+        let kept = child.kept;
+        let outcome = self.outcome_now(key, child.outcome);
+        self.children.push(Child {
+            turn,
+            key,
+            outcome,
+            kept,
+        })?;
+        Ok(true)
+    }
+
+    /// What is known of a child now that had this outcome.
+    fn outcome_now(&mut self, key: Key, outcome: Outcome) -> Outcome {
+        if !matches!(outcome, Outcome::Open(_)) {
+            return outcome;
+        }
+        match self.known(key) {
+            Some(known) => known,
+            None => outcome,
+        }
+    }
+}
+
+/// The outcome of a settled child.
+fn outcome_by(mover_wins: bool, below: Below) -> Outcome {
+    if mover_wins {
+        Outcome::Wins(below)
+    } else {
+        Outcome::Loses(below)
+    }
+}

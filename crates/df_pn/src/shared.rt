@@ -1,0 +1,81 @@
+//! The shared proofs of a problem, by the search or from a tree that is there.
+
+ghost use Rattle.std.specs.Prelude.{◌≡◌, ◌≤◌, IfErr};
+ghost use Rattle.df_pn.specs.declared.refusal.Stop.TheVariants.{Steps};
+
+use crate::claim::Shared;
+use crate::full_tree::note_tree;
+use crate::line::Line;
+use crate::play::Play;
+use crate::proofs::{Below, Proofs};
+use crate::refusal::{Refusal, Stop};
+use crate::search::Search;
+use crate::share::Sharing;
+use crate::smaller::Smaller;
+use go_points::Colour;
+use proof_cert::Node;
+use std::alloc::Global;
+use std::num::NonZeroUsize;
+use target_game::Problem;
+
+/// The proofs that the search finds with a table of so many states, made smaller by the steps that are then left.
+/// Each step is one expansion.
+pub fn prove(
+    alloc: Global,
+    problem: &Problem,
+    table: NonZeroUsize,
+    left: &mut u64,
+) -> Result<Shared, Stop>
+    ensures fewer { left.new ≤ left.old }
+    ensures all { IfErr result (λ stop. stop ≡ Steps → left.new ≡ 0) }
+{
+    let Ok(mut search) = Search::of(alloc, problem, table) else {
+        return Err(Stop::Refused(Refusal::Memory));
+    };
+    let found = search.settle(0, left)?;
+    let mut smaller = Smaller::of(alloc, search);
+    let root = smaller.shrink(found, left);
+    match shared(alloc, smaller, root) {
+        Ok(shared) => Ok(shared),
+        Err(refusal) => Err(Stop::Refused(refusal)),
+    }
+}
+
+/// The proofs of what was found, shared.
+fn shared(alloc: Global, found: Smaller, root: u32) -> Result<Shared, Refusal> {
+    let Smaller { search, .. } = found;
+    let Search { line, proofs, .. } = search;
+    let Some(proof) = proofs.get(root) else {
+        return Err(Refusal::Fault);
+    };
+    let winner = proof.winner;
+    let mut sharing = Sharing::of(alloc, line, proofs);
+    let root = sharing.share(root)?;
+    Ok(Shared {
+        winner,
+        proofs: sharing.shared,
+        root,
+    })
+}
+
+/// The proofs of this tree of the problem, by which the side wins. The tree is at most 201 deep, and uses no lemma.
+pub fn share_tree(
+    alloc: Global,
+    problem: &Problem,
+    winner: Colour,
+    main: &Node,
+) -> Result<Shared, Refusal> {
+    let mut play = Play::of(alloc, problem)?;
+    let mut proofs = Proofs::new(alloc);
+    let Below::Proof(root) = note_tree(alloc, &mut proofs, &mut play, winner, main)? else {
+        return Err(Refusal::Fault);
+    };
+    let line = Line::of(alloc, problem)?;
+    let mut sharing = Sharing::of(alloc, line, proofs);
+    let root = sharing.share(root)?;
+    Ok(Shared {
+        winner,
+        proofs: sharing.shared,
+        root,
+    })
+}

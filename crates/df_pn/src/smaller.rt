@@ -1,0 +1,513 @@
+//! A smaller answer, by the steps that are left after a proof is found.
+//!
+//! Each round walks the proof along the real line of play, and puts smaller proofs in place of larger ones: for a state one
+//! that was made elsewhere and holds here, for the winner's turn another one that a short search shows to win as well.
+
+ghost use Rattle.std.specs.Prelude.{◌≤◌};
+
+use crate::line::key_after;
+use crate::play::{Move, move_of};
+use crate::proofs::{Below, Branch, Form, Proof, Settled};
+use crate::refusal::{Refusal, Stop};
+use crate::search::Search;
+use go_points::{Colour, Turn};
+use indexmap::IndexMap;
+use pn_table::Key;
+use std::alloc::{AllocError, Global};
+
+/// A proof of so many turns is left as it is.
+const FEW_TURNS: u64 = 2;
+
+/// In a proof of more turns than this the winner's other turns are searched, each by at most so many steps.
+const MAX_TRIED: u64 = 20;
+
+/// What is asked of a turn.
+#[derive(Clone, Copy)]
+enum Question {
+    /// Nothing: this stands after it.
+    Known(Below),
+    /// Whether this proof of the state after it can be made smaller.
+    Smaller(u32),
+    /// Whether the winner wins by it, and by how small a proof.
+    Wins,
+}
+
+/// A turn at a state of the line, and the state after it.
+#[derive(Clone, Copy)]
+struct Asked {
+    turn: Turn,
+    key: Key,
+    question: Question,
+}
+
+/// A state of the line whose proof is made smaller.
+#[derive(Clone, Copy)]
+struct Visit {
+    /// The proof that is walked, and its number.
+    number: u32,
+    proof: Proof,
+    /// The place of the turn that is asked of next.
+    next: usize,
+    /// Where its turns, its new branches and its barred positions begin.
+    asked: usize,
+    made: usize,
+    barred: usize,
+    /// Where the mover wins, the best turn that is smaller than the proof's own, with the position after it, and the
+    /// turns of the tree by it.
+    best: Option<(Branch, u64)>,
+    least: u64,
+}
+
+/// The rounds over a proof.
+#[derive(Drop)]
+pub(crate) struct Smaller {
+    pub(crate) search: Search,
+    visits: Vec<Visit>,
+    asked: Vec<Asked>,
+    made: Vec<Branch>,
+    barred: Vec<u64>,
+    /// What each proof of the round has become.
+    better: IndexMap<u32, u32>,
+}
+
+impl Smaller {
+    /// Rounds over what was found, at the start of the problem.
+    pub(crate) fn of(alloc: Global, search: Search) -> Smaller {
+        Smaller {
+            search,
+            visits: Vec::new(alloc),
+            asked: Vec::new(alloc),
+            made: Vec::new(alloc),
+            barred: Vec::new(alloc),
+            better: IndexMap::new(alloc),
+        }
+    }
+
+    /// A smaller proof than this one of the first state: rounds until one gains less than a hundredth, or no step is left.
+    /// Where memory is refused the last one stands.
+    pub(crate) fn shrink(&mut self, root: u32, left: &mut u64) -> u32
+        ensures { left.new ≤ left.old }
+    {
+        let mut root = root;
+        for _ in 0..u64::MAX {
+            let before = self.turns_of(root);
+            let found = self.round(root, left);
+            self.search.line.back_to(0);
+            let Ok(next) = found else {
+                return root;
+            };
+            let after = self.turns_of(next);
+            if after <= before {
+                root = next;
+            }
+            if *left == 0 || after >= before - before / 100 {
+                return root;
+            }
+        }
+        root
+    }
+
+    fn turns_of(&self, number: u32) -> u64 {
+        self.search.proofs.turns_below(Below::Proof(number))
+    }
+
+    /// One round from the first state: its proof then.
+    fn round(&mut self, root: u32, left: &mut u64) -> Result<u32, Refusal>
+        ensures { left.new ≤ left.old }
+    {
+        self.visits.clear();
+        self.asked.clear();
+        self.made.clear();
+        self.barred.clear();
+        self.better.clear();
+        let mut done = self.enter(root, left)?;
+        for _ in 0..u64::MAX {
+            if let Some(number) = done {
+                if self.visits.is_empty() {
+                    return Ok(number);
+                }
+                self.search.line.back();
+                self.take_smallest(number)?;
+            }
+            done = self.go_on(left)?;
+        }
+        Err(Refusal::Fault)
+    }
+
+    /// Asks the next question of the last state, or makes its proof: the proof of the state at the end of the line, once
+    /// there is one.
+    fn go_on(&mut self, left: &mut u64) -> Result<Option<u32>, Refusal>
+        ensures { left.new ≤ left.old }
+    {
+        let Some(visit) = self.visits.last().copied() else {
+            return Err(Refusal::Fault);
+        };
+        let Some(asked) = self.asked.get(visit.next).copied() else {
+            return Ok(Some(self.leave(visit)?));
+        };
+        match asked.question {
+            Question::Known(below) => {
+                self.take(visit, asked, below)?;
+                Ok(None)
+            }
+            Question::Smaller(number) => {
+                self.search.line.go(asked.turn, asked.key)?;
+                self.enter(number, left)
+            }
+            Question::Wins => {
+                self.ask_another(visit, asked, left)?;
+                Ok(None)
+            }
+        }
+    }
+
+    /// The better proof of this one that was made in the round, where it holds at the end of the line.
+    fn known(&self, number: u32) -> Option<u32> {
+        let better = self.better.get(&number).copied()?;
+        if self.search.proofs.holds_at(better, self.search.line.past()) {
+            Some(better)
+        } else {
+            None
+        }
+    }
+
+    /// Begins with the proof of the state at the end of the line; or the proof that stands for it at once.
+    fn enter(&mut self, number: u32, left: &mut u64) -> Result<Option<u32>, Refusal>
+        ensures { left.new ≤ left.old }
+    {
+        let Some(proof) = self.search.proofs.get(number) else {
+            return Err(Refusal::Fault);
+        };
+        if proof.turns <= FEW_TURNS || *left == 0 {
+            return Ok(Some(number));
+        }
+        if let Some(better) = self.known(number) {
+            return Ok(Some(better));
+        }
+        *left -= 1;
+        self.search.line.list_moves(&mut self.search.moves)?;
+        let visit = Visit {
+            number,
+            proof,
+            next: self.asked.len(),
+            asked: self.asked.len(),
+            made: self.made.len(),
+            barred: self.barred.len(),
+            best: None,
+            least: proof.turns,
+        };
+        match proof.form {
+            Form::Turn => self.list_turns(proof)?,
+            Form::Replies => {
+                self.list_replies(proof)?;
+                self.list_barred(proof)?;
+            }
+        }
+        self.visits.push(visit)?;
+        Ok(None)
+    }
+
+    /// Lists the turns of the winner, who is to move, that may be better: an end of the game alone, where there is one.
+    fn list_turns(&mut self, proof: Proof) -> Result<(), AllocError> {
+        let first = self.asked.len();
+        let end = self.search.line.end();
+        let attacks = self.search.is_attacker(proof.winner);
+        for place in 0..self.search.moves.len() {
+            let Some(played) = self.search.moves.get(place).copied() else {
+                return Ok(());
+            };
+            let Move {
+                point,
+                position,
+                is_barred,
+                wins,
+            } = played;
+            let key = key_after(end, Turn::At(point), position);
+            if wins && attacks && !is_barred {
+                return self.ask_alone(first, Turn::At(point), key);
+            }
+            if !wins && !is_barred {
+                let own = self.search.proofs.branch(proof, 0);
+                self.ask_turn(own, Turn::At(point), key)?;
+            }
+        }
+        let key = key_after(end, Turn::Pass, end.position);
+        if key.passes < 2 {
+            let own = self.search.proofs.branch(proof, 0);
+            return self.ask_turn(own, Turn::Pass, key);
+        }
+        if !attacks {
+            return self.ask_alone(first, Turn::Pass, key);
+        }
+        Ok(())
+    }
+
+    /// Lists the turn, by which the winner has won, and no other.
+    fn ask_alone(&mut self, first: usize, turn: Turn, key: Key) -> Result<(), AllocError> {
+        self.asked.truncate(first);
+        self.asked.push(Asked {
+            turn,
+            key,
+            question: Question::Known(Below::Won),
+        })?;
+        Ok(())
+    }
+
+    /// Lists a turn of the winner's, which may be the proof's own.
+    fn ask_turn(&mut self, own: Option<Branch>, turn: Turn, key: Key) -> Result<(), AllocError> {
+        let question = match own {
+            Some(own) if own.turn == turn => match own.below {
+                Below::Won => Question::Known(Below::Won),
+                Below::Proof(number) => Question::Smaller(number),
+            },
+            _ => Question::Wins,
+        };
+        self.asked.push(Asked {
+            turn,
+            key,
+            question,
+        })?;
+        Ok(())
+    }
+
+    /// Lists the replies of the proof.
+    fn list_replies(&mut self, proof: Proof) -> Result<(), AllocError> {
+        for place in 0..self.search.proofs.branches(proof).len() {
+            if let Some(branch) = self.search.proofs.branch(proof, place) {
+                let asked = self.asked_of(branch);
+                self.asked.push(asked)?;
+            }
+        }
+        Ok(())
+    }
+
+    /// Lists the positions of the moves that the proof leaves out, which are barred here.
+    fn list_barred(&mut self, proof: Proof) -> Result<(), AllocError> {
+        for place in 0..self.search.moves.len() {
+            let Some(played) = self.search.moves.get(place).copied() else {
+                return Ok(());
+            };
+            let position = played.position;
+            let left_out = self.leaves_out(proof, played);
+            if left_out {
+                self.barred.push(position)?;
+            }
+        }
+        Ok(())
+    }
+
+    /// Whether the proof leaves the move out.
+    fn leaves_out(&self, proof: Proof, played: Move) -> bool {
+        !has_turn(self.search.proofs.branches(proof), played)
+    }
+
+    /// What is asked of a reply: nothing, where it is not legal here.
+    fn asked_of(&self, branch: Branch) -> Asked {
+        let end = self.search.line.end();
+        let played = move_of(self.search.moves.as_slice(), branch.turn);
+        let is_legal = match played {
+            Some(played) => !played.is_barred,
+            None => true,
+        };
+        let (key, question) = match branch.below {
+            Below::Proof(number) => match self.search.proofs.get(number) {
+                Some(proof) if is_legal => (proof.key, Question::Smaller(number)),
+                _ => (end, Question::Known(branch.below)),
+            },
+            Below::Won => (end, Question::Known(Below::Won)),
+        };
+        Asked {
+            turn: branch.turn,
+            key,
+            question,
+        }
+    }
+
+    /// Asks whether the winner wins by another turn than the proof's own.
+    fn ask_another(&mut self, visit: Visit, asked: Asked, left: &mut u64) -> Result<(), Refusal>
+        ensures { left.new ≤ left.old }
+    {
+        let turns = visit.proof.turns;
+        let tried = asked;
+        if let Some((winner, number)) = self.found_after(turns, tried, left)? {
+            if winner == visit.proof.winner {
+                return self.take(visit, asked, Below::Proof(number));
+            }
+        }
+        self.pass_on();
+        Ok(())
+    }
+
+    /// Who wins after the turn, by which proof: one that is known, or, in a proof of many turns, one that a few steps find.
+    fn found_after(
+        &mut self,
+        turns: u64,
+        asked: Asked,
+        left: &mut u64,
+    ) -> Result<Option<(Colour, u32)>, Refusal>
+        ensures { left.new ≤ left.old }
+    {
+        if let Some(found) = self.search.proved(asked.key) {
+            return Ok(Some(found));
+        }
+        if turns <= MAX_TRIED {
+            return Ok(None);
+        }
+        self.try_turn(asked, left)
+    }
+
+    /// Searches the state after the turn for a few steps.
+    fn try_turn(&mut self, asked: Asked, left: &mut u64) -> Result<Option<(Colour, u32)>, Refusal>
+        ensures { left.new ≤ left.old }
+    {
+        self.search.line.go(asked.turn, asked.key)?;
+        let floor = left.saturating_sub(MAX_TRIED);
+        let found = self.search.settle(floor, left);
+        self.search.line.back();
+        match found {
+            Ok(number) => match self.search.proofs.get(number) {
+                Some(proof) => Ok(Some((proof.winner, number))),
+                None => Err(Refusal::Fault),
+            },
+            Err(Stop::Steps) => Ok(None),
+            Err(Stop::Refused(Refusal::Limit)) => Ok(None),
+            Err(Stop::Refused(refusal)) => Err(refusal),
+        }
+    }
+
+    /// Takes the proof of the state after the turn that was asked of, or a smaller one that was made elsewhere.
+    fn take_smallest(&mut self, number: u32) -> Result<(), Refusal> {
+        let Some(visit) = self.visits.last().copied() else {
+            return Err(Refusal::Fault);
+        };
+        let Some(asked) = self.asked.get(visit.next).copied() else {
+            return Err(Refusal::Fault);
+        };
+        let smallest = match self.search.proved(asked.key) {
+            Some((winner, other))
+                if winner == visit.proof.winner && self.turns_of(other) < self.turns_of(number) => {
+                other
+            }
+            _ => number,
+        };
+        self.take(visit, asked, Below::Proof(smallest))
+    }
+
+    /// Takes this for the turn that was asked of.
+    fn take(&mut self, visit: Visit, asked: Asked, below: Below) -> Result<(), Refusal> {
+        let branch = Branch {
+            turn: asked.turn,
+            below,
+        };
+        match visit.proof.form {
+            Form::Replies => self.made.push(branch)?,
+            Form::Turn => self.prefer(visit, branch, asked.key.position),
+        }
+        self.pass_on();
+        Ok(())
+    }
+
+    /// Prefers the winner's turn, where it is smaller than those before.
+    fn prefer(&mut self, visit: Visit, branch: Branch, position: u64) {
+        let turns = self
+            .search
+            .proofs
+            .turns_below(branch.below)
+            .saturating_add(1);
+        let last = self.visits.len().saturating_sub(1);
+        if turns < visit.least && last < self.visits.len() {
+            self.visits[last].least = turns;
+            self.visits[last].best = Some((branch, position));
+        }
+    }
+
+    /// Turns to the next question of the last state.
+    fn pass_on(&mut self) {
+        let last = self.visits.len().saturating_sub(1);
+        if last < self.visits.len() {
+            self.visits[last].next = self.visits[last].next.saturating_add(1);
+        }
+    }
+
+    /// Takes the last state off, all of whose questions are answered: its proof then.
+    fn leave(&mut self, visit: Visit) -> Result<u32, AllocError> {
+        let before = visit.number;
+        let asked = visit.asked;
+        let made = visit.made;
+        let barred = visit.barred;
+        let number = self.proof_of(visit)?;
+        self.better.insert(before, number)?;
+        self.better.insert(number, number)?;
+        self.asked.truncate(asked);
+        self.made.truncate(made);
+        self.barred.truncate(barred);
+        self.visits.pop();
+        Ok(number)
+    }
+
+    /// The proof of the last state by what was taken.
+    fn proof_of(&mut self, visit: Visit) -> Result<u32, AllocError> {
+        match visit.proof.form {
+            Form::Turn => self.with_turn(visit),
+            Form::Replies => self.with_replies(visit),
+        }
+    }
+
+    fn with_turn(&mut self, visit: Visit) -> Result<u32, AllocError> {
+        let number = visit.number;
+        let settled = settled_as(visit.proof);
+        let Some((branch, position)) = visit.best else {
+            return Ok(number);
+        };
+        let is_move = branch.turn != Turn::Pass;
+        let reached = if is_move { Some(position) } else { None };
+        self.search.proofs.add(settled, &[branch], reached, &[])
+    }
+
+    fn with_replies(&mut self, visit: Visit) -> Result<u32, AllocError> {
+        if visit.made > self.made.len() || visit.barred > self.barred.len() {
+            return Err(AllocError);
+        }
+        let made = &self.made[visit.made..];
+        if is_same(made, self.search.proofs.branches(visit.proof)) {
+            return Ok(visit.number);
+        }
+        let settled = settled_as(visit.proof);
+        let barred = &self.barred[visit.barred..];
+        self.search.proofs.add(settled, made, None, barred)
+    }
+}
+
+/// What the proof settles.
+fn settled_as(proof: Proof) -> Settled {
+    Settled {
+        key: proof.key,
+        winner: proof.winner,
+        form: proof.form,
+    }
+}
+
+/// Whether one of the branches is this move.
+fn has_turn(branches: &[Branch], played: Move) -> bool {
+    for branch in branches {
+        if let Turn::At(point) = branch.turn {
+            if point == played.point {
+                return true;
+            }
+        }
+    }
+    false
+}
+
+/// Whether the same proofs stand after the branches.
+fn is_same(made: &[Branch], branches: &[Branch]) -> bool {
+    if made.len() != branches.len() {
+        return false;
+    }
+    for place in 0..made.len() {
+        if place < branches.len() && made[place].below != branches[place].below {
+            return false;
+        }
+    }
+    true
+}

@@ -1,0 +1,238 @@
+//! The tree of a claim, written from proofs along a line of play.
+
+use crate::claim::Lemmas;
+use crate::play::Play;
+use crate::proofs::{Below, Branch, Form, Proof, Proofs};
+use crate::refusal::Refusal;
+use go_points::{Colour, Colouring, Turn};
+use proof_cert::{MAX_NODES, Node};
+use std::alloc::{AllocError, Global};
+
+/// A proof of the line of play whose node is written.
+#[derive(Clone, Copy)]
+struct Visit {
+    proof: Proof,
+    /// The place of the next branch.
+    next: usize,
+    /// Where the nodes after its branches begin.
+    first: usize,
+}
+
+/// What writes one tree, the main one or the body of a lemma, at a state of its own.
+#[derive(Drop)]
+pub(crate) struct Writer {
+    play: Play,
+    winner: Colour,
+    /// The proof that the lemma is of.
+    lemma: Option<Proof>,
+    visits: Vec<Visit>,
+    /// The nodes that are written, each with the turn before it.
+    written: Vec<(Turn, Node)>,
+    nodes: u64,
+    /// For a lemma the results of the winner's moves, and the lists of the lemmas that are used.
+    absent: Vec<Colouring>,
+}
+
+impl Writer {
+    pub(crate) fn of_main(alloc: Global, play: Play, winner: Colour) -> Writer {
+        Writer {
+            play,
+            winner,
+            lemma: None,
+            visits: Vec::new(alloc),
+            written: Vec::new(alloc),
+            nodes: 0,
+            absent: Vec::new(alloc),
+        }
+    }
+
+    /// The writer of the body of this proof's lemma. What the proof needs to have occurred is known there.
+    pub(crate) fn of_lemma(alloc: Global, play: Play, proof: Proof) -> Writer {
+        Writer {
+            play,
+            winner: proof.winner,
+            lemma: Some(proof),
+            visits: Vec::new(alloc),
+            written: Vec::new(alloc),
+            nodes: 0,
+            absent: Vec::new(alloc),
+        }
+    }
+
+    /// The list of a lemma whose body is written: ascending, each colouring once.
+    pub(crate) fn absent(self) -> Vec<Colouring> {
+        let mut absent = self.absent;
+        absent.sort_unstable();
+        absent.dedup();
+        absent
+    }
+
+    /// The tree of the proof, with uses of these lemmas below its first node. Refused past the greatest number of nodes.
+    pub(crate) fn write(
+        &mut self,
+        alloc: Global,
+        proofs: &Proofs,
+        lemmas: &Lemmas,
+        root: u32,
+    ) -> Result<Node, Refusal> {
+        if self.lemma.is_none() {
+            if let Some(number) = lemmas.of_proof(root) {
+                return Ok(Node::Use(number));
+            }
+        }
+        self.enter(proofs, root)?;
+        for _ in 0..u64::MAX {
+            let Some(visit) = self.visits.last().copied() else {
+                return Err(Refusal::Fault);
+            };
+            match proofs.branch(visit.proof, visit.next) {
+                Some(branch) => self.follow(proofs, lemmas, visit, branch)?,
+                None => {
+                    if let Some(node) = self.leave(alloc, proofs, visit)? {
+                        return Ok(node);
+                    }
+                }
+            }
+        }
+        Err(Refusal::Fault)
+    }
+
+    fn enter(&mut self, proofs: &Proofs, number: u32) -> Result<(), Refusal> {
+        let Some(proof) = proofs.get(number) else {
+            return Err(Refusal::Fault);
+        };
+        self.count_node()?;
+        let visit = Visit {
+            proof,
+            next: 0,
+            first: self.written.len(),
+        };
+        self.visits.push(visit)?;
+        Ok(())
+    }
+
+    fn count_node(&mut self) -> Result<(), Refusal> {
+        if self.nodes >= MAX_NODES as u64 {
+            return Err(Refusal::Limit);
+        }
+        self.nodes += 1;
+        Ok(())
+    }
+
+    /// Turns to the next branch of the last proof.
+    fn pass_on(&mut self) {
+        let last = self.visits.len().saturating_sub(1);
+        if last < self.visits.len() {
+            self.visits[last].next = self.visits[last].next.saturating_add(1);
+        }
+    }
+
+    /// Writes the branch, or goes down it. A reply that is not legal here is left out.
+    fn follow(
+        &mut self,
+        proofs: &Proofs,
+        lemmas: &Lemmas,
+        visit: Visit,
+        branch: Branch,
+    ) -> Result<(), Refusal> {
+        if !self.play.go(branch.turn)? {
+            if visit.proof.form == Form::Replies {
+                self.pass_on();
+                return Ok(());
+            }
+            return Err(Refusal::Fault);
+        }
+        if self.has_occurred(proofs, visit, branch.turn) {
+            self.play.back();
+            self.pass_on();
+            return Ok(());
+        }
+        self.list_result(visit, branch.turn)?;
+        match branch.below {
+            Below::Won => self.write_leaf(branch.turn, Node::Won),
+            Below::Proof(number) => match lemmas.of_proof(number) {
+                None => self.enter(proofs, number),
+                Some(lemma) => {
+                    self.list_lemma(lemmas, lemma)?;
+                    self.write_leaf(branch.turn, Node::Use(lemma))
+                }
+            },
+        }
+    }
+
+    /// Whether the reply that was just made leads to what must have occurred before the lemma.
+    fn has_occurred(&self, proofs: &Proofs, visit: Visit, turn: Turn) -> bool {
+        if visit.proof.form != Form::Replies || turn == Turn::Pass {
+            return false;
+        }
+        match self.lemma {
+            Some(lemma) => {
+                let position = self.play.key().position;
+                proofs.had(lemma).binary_search(&position).is_ok()
+            }
+            None => false,
+        }
+    }
+
+    /// Writes the node after the turn that was just made, takes the turn back, and turns to the next branch.
+    fn write_leaf(&mut self, turn: Turn, node: Node) -> Result<(), Refusal> {
+        self.count_node()?;
+        self.play.back();
+        self.written.push((turn, node))?;
+        self.pass_on();
+        Ok(())
+    }
+
+    /// Lists the colouring that the winner's move has led to.
+    fn list_result(&mut self, visit: Visit, turn: Turn) -> Result<(), Refusal> {
+        if self.lemma.is_some() && turn != Turn::Pass && visit.proof.key.mover == self.winner {
+            self.absent.push(self.play.colouring())?;
+        }
+        Ok(())
+    }
+
+    /// Lists what the lemma lists, which is used.
+    fn list_lemma(&mut self, lemmas: &Lemmas, number: u32) -> Result<(), Refusal> {
+        if self.lemma.is_some() {
+            if let Some(lemma) = lemmas.get(number) {
+                self.absent.extend_from_slice(lemma.absent.as_slice())?;
+            }
+        }
+        Ok(())
+    }
+
+    /// Writes the node of the last proof, all of whose branches are written: the whole tree, where it is the first.
+    fn leave(
+        &mut self,
+        alloc: Global,
+        proofs: &Proofs,
+        visit: Visit,
+    ) -> Result<Option<Node>, Refusal> {
+        let node = self.node(alloc, visit)?;
+        self.visits.pop();
+        let Some(above) = self.visits.last().copied() else {
+            return Ok(Some(node));
+        };
+        let Some(branch) = proofs.branch(above.proof, above.next) else {
+            return Err(Refusal::Fault);
+        };
+        self.play.back();
+        self.written.push((branch.turn, node))?;
+        self.pass_on();
+        Ok(None)
+    }
+
+    /// The node of the proof, from the nodes after its branches.
+    fn node(&mut self, alloc: Global, visit: Visit) -> Result<Node, AllocError> {
+        if visit.first > self.written.len() {
+            return Err(AllocError);
+        }
+        match visit.proof.form {
+            Form::Replies => Ok(Node::All(self.written.split_off(visit.first)?)),
+            Form::Turn => match self.written.pop() {
+                Some((turn, below)) => Ok(Node::Play(turn, Box::new(alloc, below)?)),
+                None => Ok(Node::Won),
+            },
+        }
+    }
+}

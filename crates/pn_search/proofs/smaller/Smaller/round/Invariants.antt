@@ -1,5 +1,0 @@
-use Rattle.std.proofs.Common.{◌≤◌}
-use Rattle.pn_search.proofs.smaller.Smaller.round.Given as goal
-
-abbrev pub invariant-loop : goal.invariant-loop
-invariant-loop l = l.left ≤ l.fn.left

@@ -1,0 +1,432 @@
+//! What the search by proof numbers finds, put to the checker.
+
+use cert_check::check_held;
+use df_pn::{
+    Choice, Pasts, Search, Shared, Stop, claim_with_lemmas, claim_without_lemmas, prove, share_tree,
+};
+use go_points::{Colour, Colouring, PointSet, Size, sgf_point};
+use proof_cert::{Certificate, Version, read_cert, write_cert};
+use std::alloc::Global;
+use std::num::NonZeroUsize;
+use std::process::Abort;
+use target_game::Problem;
+
+// The points with these letters, two for each.
+fn points(rt: &impl Abort, size: Size, letters: &str) -> PointSet {
+    let mut found = PointSet::new();
+    for pair in letters.as_bytes().chunks(2) {
+        found.insert(sgf_point(size, pair).expect(rt, "a point"));
+    }
+    found
+}
+
+// The problem on a board of so many rows whose present colouring is the last of its history.
+fn problem(
+    rt: &impl Abort,
+    alloc: Global,
+    rows: u8,
+    texts: &[&str],
+    mover: Colour,
+    targets: &str,
+    region: &str,
+) -> Problem {
+    let size = Size::new(rows).expect(rt, "a size");
+    let mut history = Vec::new(alloc);
+    for text in texts {
+        let colouring = Colouring::from_text(size, text.as_bytes()).expect(rt, "a colouring");
+        history.push(colouring).expect(rt, "memory");
+    }
+    let place = texts.len().saturating_sub(1);
+    let targets = points(rt, size, targets);
+    let region = points(rt, size, region);
+    Problem::new(history, place, mover, 0, targets, region).expect(rt, "a problem")
+}
+
+fn states(rt: &impl Abort, table: usize) -> NonZeroUsize {
+    NonZeroUsize::new(table).expect(rt, "a table")
+}
+
+// Why so many steps do not settle the problem, none where they do, and how many are left.
+fn settled(
+    rt: &impl Abort,
+    alloc: Global,
+    problem: &Problem,
+    table: usize,
+    steps: u64,
+) -> (Option<Stop>, u64) {
+    let mut left = steps;
+    let mut search = Search::of(alloc, problem, states(rt, table)).expect(rt, "memory");
+    match search.settle(0, &mut left) {
+        Ok(_) => (None, left),
+        Err(stop) => (Some(stop), left),
+    }
+}
+
+// The proofs that are found with a table of so many entries, by steps enough.
+fn found(rt: &impl Abort, alloc: Global, problem: &Problem, table: usize) -> Shared {
+    let mut left = 200_000;
+    match prove(alloc, problem, states(rt, table), &mut left) {
+        Ok(shared) => shared,
+        Err(_) => panic!(rt; "a proof"),
+    }
+}
+
+// How many lemmas the claim has, which the checker accepts.
+fn accepted(rt: &impl Abort, alloc: Global, problem: &Problem, claim: Certificate) -> usize {
+    let copy = problem.copy(alloc).expect(rt, "memory");
+    let lemmas = claim.lemmas.len();
+    let winner = claim.winner;
+    match check_held(alloc, copy, claim) {
+        Ok(checked) => assert_eq!(rt; checked.winner(), winner),
+        Err(_) => assert!(rt; false, "a valid claim"),
+    }
+    lemmas
+}
+
+// All proofs of states that stand at several places; or those of them that need no past.
+const ALL: Choice = Choice {
+    pasts: Pasts::Needed,
+    least: 0,
+};
+
+const WITHOUT_PASTS: Choice = Choice {
+    pasts: Pasts::None,
+    least: 0,
+};
+
+// This side wins; the claims with all lemmas, with those that need no past, and without any are accepted: how many lemmas
+// there are.
+fn wins(rt: &impl Abort, alloc: Global, problem: &Problem, winner: Colour, table: usize) -> usize {
+    let shared = found(rt, alloc, problem, table);
+    assert_eq!(rt; shared.winner, winner);
+    match claim_without_lemmas(alloc, problem, &shared) {
+        Ok(claim) => assert_eq!(rt; accepted(rt, alloc, problem, claim), 0),
+        Err(_) => assert!(rt; false, "a claim"),
+    }
+    match claim_with_lemmas(alloc, problem, &shared, WITHOUT_PASTS) {
+        Ok(claim) => {
+            assert_eq!(rt; claim.version, Version::One);
+            let _fewer = accepted(rt, alloc, problem, claim);
+        }
+        Err(_) => assert!(rt; false, "a claim with lemmas"),
+    }
+    match claim_with_lemmas(alloc, problem, &shared, ALL) {
+        Ok(claim) => accepted(rt, alloc, problem, claim),
+        Err(_) => panic!(rt; "a claim with lemmas"),
+    }
+}
+
+// So many steps suffice, and one fewer does not; the side wins, and no claim is refused.
+fn check(rt: &impl Abort, alloc: Global, problem: Problem, winner: Colour, steps: u64) {
+    let (stop, none_left) = settled(rt, alloc, &problem, 100, steps.saturating_sub(1));
+    assert_eq!(rt; stop, Some(Stop::Steps));
+    assert_eq!(rt; none_left, 0);
+    let (no_stop, left) = settled(rt, alloc, &problem, 100, steps);
+    assert_eq!(rt; no_stop, None);
+    assert_eq!(rt; left, 0);
+    let _lemmas = wins(rt, alloc, &problem, winner, 100);
+}
+
+// White's aa is in atari, and Black takes it at ba.
+#[test]
+fn a_capture_takes_one_step(rt: HostRuntime) {
+    let alloc = rt.alloc();
+    let corner = problem(&rt, alloc, 3, &["O..X....."], Colour::Black, "aa", "ba");
+    check(&rt, alloc, corner, Colour::Black, 1);
+}
+
+// White fills ba, Black passes, and White passes: these three states have to be expanded.
+#[test]
+fn a_liberty_filled_takes_three_steps(rt: HostRuntime) {
+    let alloc = rt.alloc();
+    let corner = problem(&rt, alloc, 3, &["O..X....."], Colour::White, "aa", "ba");
+    check(&rt, alloc, corner, Colour::White, 3);
+}
+
+// Both of White's moves are suicides of one stone. So White passes, and Black passes too.
+#[test]
+fn suicides_of_one_stone_are_barred(rt: HostRuntime) {
+    let alloc = rt.alloc();
+    let eyes = problem(&rt, alloc, 3, &[".XXXXXXX."], Colour::White, "bb", "aacc");
+    check(&rt, alloc, eyes, Colour::Black, 2);
+}
+
+// White has just taken the ko, so Black may only pass, and White's pass ends the game.
+#[test]
+fn a_ko_is_barred_by_the_past(rt: HostRuntime) {
+    let alloc = rt.alloc();
+    let texts = [".XOXO....", "O.OXO...."];
+    let ko = problem(&rt, alloc, 3, &texts, Colour::Black, "aa", "ba");
+    check(&rt, alloc, ko, Colour::White, 2);
+}
+
+// The same colouring with no past: Black takes the ko.
+#[test]
+fn a_ko_without_a_past_is_taken(rt: HostRuntime) {
+    let alloc = rt.alloc();
+    let ko = problem(&rt, alloc, 3, &["O.OXO...."], Colour::Black, "aa", "ba");
+    check(&rt, alloc, ko, Colour::Black, 1);
+}
+
+// After Black's cc the ko would no longer repeat, so White fills ba. After a pass White passes, which ends the game,
+// though ba wins as well.
+#[test]
+fn the_ko_is_filled_where_it_opens(rt: HostRuntime) {
+    let alloc = rt.alloc();
+    let texts = [".XOXO....", "O.OXO...."];
+    let ko = problem(&rt, alloc, 3, &texts, Colour::Black, "aa", "bacc");
+    let shared = found(&rt, alloc, &ko, 100);
+    let mut text = Vec::new(alloc);
+    if let Ok(claim) = claim_without_lemmas(alloc, &ko, &shared) {
+        assert!(&rt; write_cert(&claim, &mut text).is_ok());
+    }
+    let expected =
+        "tsucert 1 3 W\nmain\nall 2\nreply cc\nplay ba\nall 1\nreply pass\nplay pass\nwon\n\
+        reply pass\nplay pass\nwon\nend\n";
+    assert_eq!(&rt; text.as_slice(), expected.as_bytes());
+}
+
+// White's stone has two liberties that no move of Black's can take.
+#[test]
+fn moves_far_away_take_nothing(rt: HostRuntime) {
+    let alloc = rt.alloc();
+    let far = problem(&rt, alloc, 3, &["O........"], Colour::Black, "aa", "bccc");
+    let _lemmas = wins(&rt, alloc, &far, Colour::White, 100);
+}
+
+#[test]
+fn no_steps_find_nothing(rt: HostRuntime) {
+    let alloc = rt.alloc();
+    let corner = problem(&rt, alloc, 3, &["O..X....."], Colour::Black, "aa", "ba");
+    let (stop, left) = settled(&rt, alloc, &corner, 100, 0);
+    assert_eq!(&rt; stop, Some(Stop::Steps));
+    assert_eq!(&rt; left, 0);
+}
+
+// White's eye space in the corner is aa, ba and ca, and all other liberties are taken. The mover takes the middle: White has
+// two eyes then, and else one.
+#[test]
+fn three_points_are_decided_by_their_middle(rt: HostRuntime) {
+    let alloc = rt.alloc();
+    let texts = ["...OXOOOOXXXXXX.........."];
+    for mover in [Colour::Black, Colour::White] {
+        let corner = problem(&rt, alloc, 5, &texts, mover, "ab", "aabaca");
+        let _lemmas = wins(&rt, alloc, &corner, mover, 100_000);
+    }
+}
+
+// White's eye space in the corner has three points by two, and all other liberties are taken.
+fn six_points(rt: &impl Abort, alloc: Global, mover: Colour) -> Problem {
+    let texts = ["...OX.....OX..OOOOX..XXXXX......................."];
+    problem(rt, alloc, 7, &texts, mover, "ac", "aabacaabbbcb")
+}
+
+// Moves meet in many orders, kos among them; whatever the table forgets, the mover wins and no claim is refused.
+#[test]
+fn six_points_in_a_corner_are_the_movers(rt: HostRuntime) {
+    let alloc = rt.alloc();
+    for mover in [Colour::Black, Colour::White] {
+        let corner = six_points(&rt, alloc, mover);
+        for table in [1, 100, 10_000] {
+            assert!(&rt; wins(&rt, alloc, &corner, mover, table) > 0);
+        }
+    }
+}
+
+// Whether an earlier proof is of the same state.
+fn is_proved_before(search: &Search, place: usize) -> bool {
+    let Some(proof) = search.proofs.at(place) else {
+        return false;
+    };
+    for earlier in 0..place {
+        if let Some(other) = search.proofs.at(earlier) {
+            if other.key == proof.key {
+                return true;
+            }
+        }
+    }
+    false
+}
+
+fn is_a_state_proved_twice(search: &Search) -> bool {
+    for place in 0..search.proofs.len() {
+        if is_proved_before(search, place) {
+            return true;
+        }
+    }
+    false
+}
+
+// In a ko a proof of a state does not hold where what it forbids has occurred, or what it needs has not: the state is proved
+// anew there. The search would make claims that the checker refuses if it used the first proof again.
+#[test]
+fn a_state_is_proved_anew_where_its_proof_does_not_hold(rt: HostRuntime) {
+    let alloc = rt.alloc();
+    let corner = six_points(&rt, alloc, Colour::Black);
+    let mut left = 200_000;
+    let mut search = Search::of(alloc, &corner, states(&rt, 10_000)).expect(&rt, "memory");
+    assert!(&rt; search.settle(0, &mut left).is_ok());
+    assert!(&rt; is_a_state_proved_twice(&search));
+    assert!(&rt; wins(&rt, alloc, &corner, Colour::Black, 10_000) > 0);
+}
+
+// What a table of one entry forgets is searched in another order.
+#[test]
+fn the_table_has_an_effect(rt: HostRuntime) {
+    let alloc = rt.alloc();
+    let corner = six_points(&rt, alloc, Colour::Black);
+    let (none, left_by_one) = settled(&rt, alloc, &corner, 1, 200_000);
+    let (no_stop, left) = settled(&rt, alloc, &corner, 10_000, 200_000);
+    assert_eq!(&rt; none, None);
+    assert_eq!(&rt; no_stop, None);
+    assert!(&rt; left_by_one != left);
+}
+
+// Black may play at aa, at ca, or pass, and White may only pass. Both orders of Black's moves lead to one colouring, where
+// White is to move. What stands after White's pass there stands in that one lemma alone.
+#[test]
+fn two_orders_of_moves_meet(rt: HostRuntime) {
+    let alloc = rt.alloc();
+    let texts = [".X.X.XXXX...............O"];
+    let two_eyes = problem(&rt, alloc, 5, &texts, Colour::Black, "ee", "aaca");
+    assert_eq!(&rt; wins(&rt, alloc, &two_eyes, Colour::White, 1_000), 1);
+}
+
+#[test]
+fn a_capture_shares_no_state(rt: HostRuntime) {
+    let alloc = rt.alloc();
+    let corner = problem(&rt, alloc, 3, &["O..X....."], Colour::Black, "aa", "ba");
+    assert_eq!(&rt; wins(&rt, alloc, &corner, Colour::Black, 1_000), 0);
+}
+
+// The tree of this text for the problem gives the claim of that text, with these lemmas, which the checker accepts.
+fn becomes(
+    rt: &impl Abort,
+    alloc: Global,
+    problem: Problem,
+    choice: Choice,
+    tree: &[u8],
+    expected: &[u8],
+) {
+    let size = problem.size();
+    let given = read_cert(alloc, size, tree).expect(rt, "a claim");
+    let mut text = Vec::new(alloc);
+    match share_tree(alloc, &problem, given.winner, &given.main) {
+        Err(_) => assert!(rt; false, "a tree of legal turns"),
+        Ok(shared) => match claim_with_lemmas(alloc, &problem, &shared, choice) {
+            Err(_) => assert!(rt; false, "a claim"),
+            Ok(claim) => {
+                assert!(rt; write_cert(&claim, &mut text).is_ok());
+                let _lemmas = accepted(rt, alloc, &problem, claim);
+            }
+        },
+    }
+    assert_eq!(rt; text.as_slice(), expected);
+}
+
+// White always passes. Both orders of Black's moves lead to one colouring with White to move. The state after White's
+// pass stands in that lemma alone, and so in line.
+#[test]
+fn what_is_inside_one_lemma_alone_stays_in_line(rt: HostRuntime) {
+    let alloc = rt.alloc();
+    let far = problem(&rt, alloc, 3, &["O........"], Colour::Black, "aa", "bccc");
+    let tree = "tsucert 1 3 W\nmain\nall 3\n\
+        reply bc\nplay pass\nall 2\nreply cc\nplay pass\nall 1\nreply pass\nwon\nreply pass\nwon\n\
+        reply cc\nplay pass\nall 2\nreply bc\nplay pass\nall 1\nreply pass\nwon\nreply pass\nwon\n\
+        reply pass\nplay pass\nwon\nend\n";
+    let expected = "tsucert 1 3 W\n\
+        lemma W 0 O......XX\nplay pass\nall 1\nreply pass\nwon\nend\n\
+        main\nall 3\n\
+        reply bc\nplay pass\nall 2\nreply cc\nuse 1\nreply pass\nwon\n\
+        reply cc\nplay pass\nall 2\nreply bc\nuse 1\nreply pass\nwon\n\
+        reply pass\nplay pass\nwon\nend\n";
+    becomes(&rt, alloc, far, ALL, tree.as_bytes(), expected.as_bytes());
+}
+
+// White fills its eye aa once Black has played at bc and cc: the lemma lists what comes of it. Black may never play at
+// aa, since that would be a suicide of one stone.
+#[test]
+fn a_lemma_lists_the_results_of_the_winners_moves(rt: HostRuntime) {
+    let alloc = rt.alloc();
+    let eye = problem(&rt, alloc, 3, &[".O.O....."], Colour::Black, "ba", "aabccc");
+    let tree = "tsucert 1 3 W\nmain\nall 3\n\
+        reply bc\nplay pass\nall 2\nreply cc\nplay aa\nall 1\nreply pass\nplay pass\nwon\nreply pass\nwon\n\
+        reply cc\nplay pass\nall 2\nreply bc\nplay aa\nall 1\nreply pass\nplay pass\nwon\nreply pass\nwon\n\
+        reply pass\nplay pass\nwon\nend\n";
+    let expected = "tsucert 1 3 W\n\
+        lemma W 0 .O.O...XX\nnot OO.O...XX\nplay aa\nall 1\nreply pass\nplay pass\nwon\nend\n\
+        main\nall 3\n\
+        reply bc\nplay pass\nall 2\nreply cc\nuse 1\nreply pass\nwon\n\
+        reply cc\nplay pass\nall 2\nreply bc\nuse 1\nreply pass\nwon\n\
+        reply pass\nplay pass\nwon\nend\n";
+    becomes(&rt, alloc, eye, ALL, tree.as_bytes(), expected.as_bytes());
+}
+
+// White always passes. Black may play at two of cb, bc and cc, and never at the third, since that has occurred. Each pair is
+// reached by two orders, and the proof there leaves out the third.
+#[test]
+fn lemmas_that_need_a_past(rt: HostRuntime) {
+    let alloc = rt.alloc();
+    let texts = ["O....X.XX", "O........"];
+    let pair = "play pass\nall 1\nreply pass\nwon\n";
+    let three = |first: &str, second: &str, third: &str, fourth: &str, fifth: &str, sixth: &str| {
+        format!(in alloc;
+            "main\nall 4\n\
+            reply cb\nplay pass\nall 3\nreply bc\n{first}reply cc\n{second}reply pass\nwon\n\
+            reply bc\nplay pass\nall 3\nreply cb\n{third}reply cc\n{fourth}reply pass\nwon\n\
+            reply cc\nplay pass\nall 3\nreply cb\n{fifth}reply bc\n{sixth}reply pass\nwon\n\
+            reply pass\nplay pass\nwon\nend\n"
+        )
+    };
+    let tree = three(pair, pair, pair, pair, pair, pair).expect(&rt, "memory");
+    let plain = format!(in alloc; "tsucert 1 3 W\n{tree}").expect(&rt, "memory");
+    let main = three(
+        "use 1\n", "use 2\n", "use 1\n", "use 3\n", "use 2\n", "use 3\n",
+    )
+    .expect(&rt, "memory");
+    let expected = format!(in alloc;
+        "tsucert 2 3 W\n\
+        lemma W 0 O....X.X.\nhad O....X.XX\n{pair}end\n\
+        lemma W 0 O....X..X\nhad O....X.XX\n{pair}end\n\
+        lemma W 0 O......XX\nhad O....X.XX\n{pair}end\n{main}"
+    )
+    .expect(&rt, "memory");
+    let all = problem(&rt, alloc, 3, &texts, Colour::Black, "aa", "cbbccc");
+    let text = plain.as_bytes();
+    becomes(&rt, alloc, all, ALL, text, expected.as_bytes());
+    // Without such lemmas each pair stands in line.
+    let fewer = problem(&rt, alloc, 3, &texts, Colour::Black, "aa", "cbbccc");
+    becomes(&rt, alloc, fewer, WITHOUT_PASTS, text, text);
+}
+
+// Whether a lemma needs what stands in no history of the problem: what was played above its first place.
+fn needs_what_was_played(problem: &Problem, claim: &Certificate) -> bool {
+    for lemma in claim.lemmas.as_slice() {
+        for colouring in lemma.had.as_slice() {
+            if !problem.history().contains(colouring) {
+                return true;
+            }
+        }
+    }
+    false
+}
+
+// White has to live in ten points on the edge, and does not. Where Black takes a ko on them, the proof rests on the position
+// before, which White may not bring back.
+#[test]
+fn a_lemma_may_need_what_was_played_above_it(rt: HostRuntime) {
+    let alloc = rt.alloc();
+    let texts = [".O...X.....OOOXXOXXXXXX............."];
+    let region = "aabacadaeaabbbcbdbeb";
+    let edge = problem(&rt, alloc, 6, &texts, Colour::White, "acbc", region);
+    let shared = found(&rt, alloc, &edge, 10_000);
+    assert_eq!(&rt; shared.winner, Colour::Black);
+    match claim_with_lemmas(alloc, &edge, &shared, ALL) {
+        Ok(claim) => {
+            assert_eq!(&rt; claim.version, Version::Two);
+            assert!(&rt; needs_what_was_played(&edge, &claim));
+            assert!(&rt; accepted(&rt, alloc, &edge, claim) > 0);
+        }
+        Err(_) => assert!(&rt; false, "a claim with lemmas"),
+    }
+}

@@ -1,8 +1,0 @@
-use Rattle.std.proofs.Common.{subst}
-use Rattle.std.specs.Prelude.{string_bytes}
-use Rattle.tsumego.specs.Replies.{HasNoRecord}
-use Rattle.tsumego.proofs.Running.{refused_says}
-use Rattle.tsumego.proofs.reply.refused.Goals as goal
-
-pub returns-in-Refused : goal.returns-in-Refused
-returns-in-Refused c = λ command bytes whole none. refused_says command bytes (string_bytes c.in-Refused.text) whole (subst (HasNoRecord bytes) c.in-Refused.is none)

@@ -1,0 +1,36 @@
+-- What was read of the input so far, a read more.
+use Rattle.std.proofs.Common.{◌≡◌, ℕ, ◌+◌, ◌≤◌, true, List, [], ◌∷◌, ◌++◌, length, take, get_or, Option, ◌∙◌, ap, subst, arith, length-append}
+use Rattle.std.specs.Io.KnownBytes.{Consumes}
+use Rattle.std.proofs.KnownBytes.{Consumes-trans}
+use Rattle.std.proofs.lemmas.List.{length-take}
+use Rattle.sgf_text.specs.Bytes.{is_white}
+use Rattle.tsumego_replies.specs.Replies.{AllWhite}
+
+pub asked_more : (a b c : Option (List ℕ)) (bytes old items buf : List ℕ) (n limit : ℕ) → Consumes a b bytes → items ≡ old ++ bytes → Consumes b c (take n buf) → length items + n ≤ limit
+    → (all : List ℕ) × Consumes a c all × (length old + length all ≤ limit)
+asked_more a b c bytes old items buf n limit p is q few =
+    let held = ap length is ∙ length-append old bytes in
+    let long = length-append bytes (take n buf) in
+    let cut = length-take {A = ℕ} n buf in
+    (bytes ++ take n buf, Consumes-trans a b c bytes (take n buf) p q, omega (arith, held, long, cut, few))
+
+all_white_more : (white : List ℕ) (x : ℕ) → AllWhite white → is_white x ≡ true → AllWhite (white ++ x ∷ [])
+all_white_more [] x all e = (e, tt)
+all_white_more (y ∷ white) x all e = (all.0, all_white_more white x all.1 e)
+
+one_byte : (buf : List ℕ) (n : ℕ) → length buf ≡ 1 → n ≡ 1 → take n buf ≡ get_or buf 0 0 ∷ []
+one_byte [] n one is = absurd (omega (arith, one))
+one_byte (x ∷ []) n one is = ap (λ k. take k (x ∷ [])) is
+one_byte (x ∷ y ∷ buf) n one is = absurd (omega (arith, one))
+
+pub white_more : (a b c : Option (List ℕ)) (white buf : List ℕ) (n k : ℕ) → AllWhite white → length white ≡ k → Consumes a b white → Consumes b c (take n buf) → length buf ≡ 1 → n ≡ 1 → is_white (get_or buf 0 0) ≡ true
+    → (all : List ℕ) × AllWhite all × (length all ≡ k + 1) × Consumes a c all × (length buf ≡ 1)
+white_more a b c white buf n k all count p q one is e =
+    let x = get_or buf 0 0 in
+    let long = length-append white (x ∷ []) in (
+      white ++ x ∷ [],
+      all_white_more white x all e,
+      omega (arith, long, count),
+      Consumes-trans a b c white (x ∷ []) p (subst (Consumes b c) (one_byte buf n one is) q),
+      one,
+    )

@@ -1,0 +1,7 @@
+pub mod Records
+pub mod Recording
+pub mod Phrases
+pub mod Saying
+pub mod Searching
+pub mod Judged
+pub mod Front

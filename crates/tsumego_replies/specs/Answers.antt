@@ -1,0 +1,106 @@
+-- What each command answers: the whole text, and the status with it.
+--     check_answer, within_answer, audit_answer      of what the definitions of claims, of winning and of answer trees say
+--     Says command bytes status text      the whole text that the command may have for these bytes
+use Rattle.std.specs.Prelude.{◌≡◌, ℕ, ◌-◌, ◌<◌, ◌≤◌, List, ◌++◌, length, drop, Option, Some, None, Result, Ok, Err, ◌⊎◌}
+use Rattle.go_points.specs.declared.Colour.{Colour}
+use Rattle.target_game.specs.State.{GameProblem, start}
+use Rattle.target_game.specs.Within.{decision}
+use Rattle.target_game.specs.declared.within.Within.{Within}
+use Rattle.target_game.specs.declared.within.Within.TheVariants as within
+use Rattle.sgf_text.specs.Trees.{GameTree}
+use Rattle.sgf_text.specs.Grammar.{Reads}
+use Rattle.sgf_text.specs.Laws.{IsWithin}
+use Rattle.tsumego_problem.specs.Values.{skip_white}
+use Rattle.tsumego_problem.specs.Walk.{problem_within, history_limit}
+use Rattle.tsumego_problem.specs.Refusals.{Refuses}
+use Rattle.cert_check.specs.Verdict.{Verdict, accepted, rejected}
+use Rattle.gtp_core.specs.Lines.{raw_lines}
+use Rattle.gtp_core.specs.Runs.{IsRun, IsReadTo, first_session, input_limit}
+use Rattle.solution_tree.specs.Audit.{Fault, audit}
+use Rattle.tsumego_words.specs.declared.command_line.Command.{Command}
+use Rattle.tsumego_words.specs.declared.command_line.Command.TheVariants as command
+use Rattle.tsumego_replies.specs.declared.status.Status.{Status}
+use Rattle.tsumego_replies.specs.declared.status.Status.TheVariants.{Answered, Unanswered, Refused, Failed}
+use Rattle.tsumego_replies.specs.Bounds.{white_limit}
+use Rattle.tsumego_replies.specs.Solutions.{claim_verdict, Solved, Unsolved}
+use Rattle.tsumego_replies.specs.Texts.{line, wins_text, rejected_line_text, rejected_node_text, neither_text, limit_text, no_memory_text, no_read_text}
+
+-- a status and the whole text with it
+abbrev pub Answer : Type 0
+Answer = Status × List ℕ
+
+-- The bytes begin with a record, of which this is the tree, and this is its problem; the record ends before the place n.
+pub record IsRecord (bytes : List ℕ) (tree : GameTree) (n : ℕ) (q : GameProblem) : Type 0 where
+  pub reads : Reads bytes tree n
+  pub within : IsWithin tree n
+  pub problem : problem_within (Some history_limit) tree ≡ Ok q
+
+-- The bytes are refused; or they begin with a record, and what is said of its problem is said.
+abbrev pub RefusedOr : (GameProblem → GameTree → ℕ → Status → List ℕ → Type 0) → List ℕ → Status → List ℕ → Type 0
+RefusedOr Said bytes status text =
+    ((refusal : List ℕ) × Refuses bytes refusal × (status ≡ Refused) × (text ≡ line refusal))
+    ⊎ ((q : GameProblem) × (tree : GameTree) × (n : ℕ) × IsRecord bytes tree n q × Said q tree n status text)
+
+-- ---- check
+
+abbrev pub check_answer : ℕ → Verdict → Answer
+check_answer n (accepted x) = (Answered, wins_text x)
+check_answer n (rejected place why) = (Unanswered, rejected_line_text n place why)
+
+-- how many bytes of white space stand at the front
+abbrev pub white_before : List ℕ → ℕ
+white_before bytes = length bytes - length (skip_white bytes)
+
+-- After a record stands white space, no more than may be, and then the claim: what is said is the verdict on it.
+abbrev pub JudgesClaim : GameProblem → List ℕ → Status → List ℕ → Type 0
+JudgesClaim q bytes status text = (white_before bytes ≤ white_limit) × ((status, text) ≡ check_answer q.game.size (claim_verdict q (skip_white bytes)))
+
+-- After a record stands more white space than may be.
+abbrev pub PassesWhite : List ℕ → Type 0
+PassesWhite bytes = (q : GameProblem) × (tree : GameTree) × (n : ℕ) × IsRecord bytes tree n q × (white_limit < white_before (drop n bytes))
+
+-- a bound on what is read is passed
+abbrev pub PassesBound : Command → List ℕ → Type 0
+PassesBound command.Check bytes = PassesWhite bytes
+PassesBound command.Gtp bytes = input_limit < length bytes
+PassesBound _ bytes = ⊥
+
+-- ---- within
+
+abbrev pub within_answer : Within → Answer
+within_answer (within.Wins x) = (Answered, wins_text x)
+within_answer within.Neither = (Answered, neither_text)
+within_answer within.Limit = (Unanswered, limit_text)
+
+-- ---- audit
+
+abbrev pub audit_answer : ℕ → Result Colour Fault → Answer
+audit_answer n (Ok x) = (Answered, wins_text x)
+audit_answer n (Err fault) = (Unanswered, rejected_node_text n fault)
+
+-- ---- gtp
+
+-- the replies of a session over all lines; or, where a read failed, those to the lines that had ended, and that it failed
+abbrev pub SessionSays : List ℕ → Status → List ℕ → Type 0
+SessionSays bytes status text =
+    ((status ≡ Answered) × IsRun first_session (raw_lines bytes) text)
+    ⊎ ((status ≡ Failed) × ((replies : List ℕ) × IsReadTo bytes replies × (text ≡ replies ++ no_read_text)))
+
+-- ---- all commands
+
+abbrev pub Says : Command → List ℕ → Status → List ℕ → Type 0
+Says command.Check bytes = RefusedOr (λ q tree n status text. JudgesClaim q (drop n bytes) status text) bytes
+Says (command.Within turns nodes) bytes = RefusedOr (λ q tree n status text. (status, text) ≡ within_answer (decision (start q) turns nodes)) bytes
+Says command.Audit bytes = RefusedOr (λ q tree n status text. (status, text) ≡ audit_answer q.game.size (audit q tree)) bytes
+Says (command.Solve steps table proof lift) bytes =
+    RefusedOr (λ q tree n status text. ((status ≡ Answered) × Solved proof lift q text) ⊎ ((status ≡ Unanswered) × Unsolved steps proof q text)) bytes
+Says command.Gtp bytes = SessionSays bytes
+
+-- Memory was refused, or a read failed, or the input has no end in sight.
+abbrev pub SaysFailure : List ℕ → Type 0
+SaysFailure text = (text ≡ no_memory_text) ⊎ (text ≡ no_read_text)
+
+-- The bytes are those that the reader tells, where it tells them.
+abbrev pub Tells : Option (List ℕ) → List ℕ → Type 0
+Tells None bytes = Unit {0}
+Tells (Some told) bytes = bytes ≡ told

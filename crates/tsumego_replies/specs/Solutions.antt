@@ -1,0 +1,100 @@
+-- What is said of a problem that a search was made for.
+--     IsWritten lift q z y      of the claim z that was found the claim y is written
+--     SolvedBy q x a text      the solution record of this answer tree
+--     Solved proof lift q text      a solution record; or, as a proof, the canonical record and a claim
+--     MayAnswer proof lift k status text      what is said where the search has found the claim k
+--     Unsolved budget proof q text      the search has found none, or its answer tree is not written
+use Rattle.std.specs.Prelude.{◌≡◌, ◌≢◌, ℕ, ◌<◌, ◌≤◌, Bool, true, false, List, [], ◌++◌, length, Some, IsTrue, Ok, ◌⊎◌}
+use Rattle.go_points.specs.declared.Colour.{Colour}
+use Rattle.target_game.specs.State.{GameProblem, start}
+use Rattle.target_game.specs.Answers.{AnswerTree, answers, answer_size}
+use Rattle.sgf_text.specs.Trees.{GameTree}
+use Rattle.sgf_text.specs.Text.{is_tree, tree_text}
+use Rattle.tsumego_problem.specs.Walk.{problem_of}
+use Rattle.tsumego_problem.specs.Below.{Below}
+use Rattle.tsumego_problem.specs.Canonical.{canonical, solution, ascends}
+use Rattle.proof_cert.specs.Certificate.{claim_of}
+use Rattle.proof_cert.specs.Claim.{Claim, IsWithinLimits}
+use Rattle.proof_cert.specs.Text.{lines, text as claim_text}
+use Rattle.cert_check.specs.Verdict.{Verdict, accepted, verdict}
+use Rattle.cert_check.specs.Validity.{IsValid}
+use Rattle.cert_check.specs.Checked.{CheckedClaim, IsChecked}
+use Rattle.cert_check.specs.Lift.{IsLifted}
+use Rattle.cert_check.specs.Expand.{expand}
+use Rattle.pn_search.specs.Search.{IsHard}
+use Rattle.pn_search.specs.declared.verdict.Cause.{Cause}
+use Rattle.pn_search.specs.declared.verdict.Cause.TheVariants.{Steps, Memory}
+use Rattle.tsumego_replies.specs.declared.status.Status.{Status}
+use Rattle.tsumego_replies.specs.declared.status.Status.TheVariants.{Answered, Unanswered}
+use Rattle.tsumego_replies.specs.Texts.{line, unknown_text, too_large_text}
+
+-- the verdict on a claim's lines
+abbrev pub claim_verdict : GameProblem → List ℕ → Verdict
+claim_verdict q claim = verdict q (lines q.game.size claim)
+
+-- A tree as records have it, of this same problem, the order of the history included.
+pub record IsRecordOf (q : GameProblem) (tree : GameTree) : Type 0 where
+  pub whole : IsTrue (is_tree tree)
+  pub problem : problem_of tree ≡ Ok q
+
+-- The claim is not made into one lemma: it has lemmas, or as one lemma it would pass a limit.
+abbrev pub StaysAsFound : GameProblem → Claim → Type 0
+StaysAsFound q z = (0 < length z.lemmas) ⊎ ((y : Claim) → IsLifted q z y → IsWithinLimits y → ⊥)
+
+-- Of the claim z that was found it is written itself; or, where that is asked for, z as one lemma, wherever it can be made into one.
+abbrev pub IsWritten : Bool → GameProblem → Claim → Claim → Type 0
+IsWritten false q z y = y ≡ z
+IsWritten true q z y = ((z.lemmas ≡ []) × IsLifted q z y × IsWithinLimits y) ⊎ (StaysAsFound q z × (y ≡ z))
+
+-- A proof by the claim z, which is valid: the canonical record and the claim that is written of it, which is accepted and names the same side.
+pub record IsProofBy (lift : Bool) (q : GameProblem) (z : Claim) (text : List ℕ) : Type 0 where
+  pub found : IsChecked q z
+  pub claim : Claim
+  pub written : IsWritten lift q z claim
+  pub spelling : List ℕ
+  pub spelled : claim_text claim ≡ Some spelling
+  pub judged : claim_verdict q spelling ≡ accepted z.winner
+  pub kept : IsRecordOf q (canonical q)
+  pub whole : text ≡ line (tree_text (canonical q)) ++ spelling
+
+-- The record of the same problem with this answer tree of this side below the problem node, where the replies ascend.
+abbrev pub SolvedBy : GameProblem → Colour → AnswerTree → List ℕ → Type 0
+SolvedBy q x a text =
+    IsTrue (answers x (start q) a) × IsTrue (ascends a)
+    × IsRecordOf q (solution q x a) × Below (solution q x a) x (start q) × (text ≡ line (tree_text (solution q x a)))
+
+-- The record of the same problem with an answer tree of a side; or, as a proof, the canonical record and a claim that is accepted.
+abbrev pub Solved : Bool → Bool → GameProblem → List ℕ → Type 0
+Solved false lift q text = (x : Colour) × (a : AnswerTree) × SolvedBy q x a text
+Solved true lift q text = (z : Claim) × IsProofBy lift q z text
+
+-- the most turns of an answer tree that is written
+abbrev pub tree_limit : ℕ
+tree_limit = 90000
+
+-- The claim is valid, and its answer tree has more turns than the limit.
+abbrev pub IsOverLimit : GameProblem → Claim → Type 0
+IsOverLimit q z = IsValid q z × (tree_limit < answer_size (expand z (start q)))
+
+-- Some valid claim has an answer tree over the limit.
+abbrev pub IsTooLarge : GameProblem → Type 0
+IsTooLarge q = (z : Claim) × IsOverLimit q z
+
+-- With a claim that the search found the problem is solved by this claim's own answer tree; but one over the limit, and no other, is not written.
+abbrev pub MayAnswer : Bool → Bool → CheckedClaim → Status → List ℕ → Type 0
+MayAnswer false lift k status text =
+    ((status ≡ Answered) × (answer_size (expand (claim_of k.certificate) (start k.problem)) ≤ tree_limit)
+    × SolvedBy k.problem (claim_of k.certificate).winner (expand (claim_of k.certificate) (start k.problem)) text)
+    ⊎ ((status ≡ Unanswered) × IsOverLimit k.problem (claim_of k.certificate) × (text ≡ too_large_text))
+MayAnswer true lift k status text = (status ≡ Answered) × IsProofBy lift k.problem (claim_of k.certificate) text
+
+-- A search with this budget may end so after this many steps: not more than it had, all of them where they are the cause; and for want of anything but memory only where the problem is hard.
+pub record MayBeUnknown (q : GameProblem) (budget : ℕ) (cause : Cause) (count : ℕ) : Type 0 where
+  pub most : count ≤ budget
+  pub all : cause ≡ Steps → count ≡ budget
+  pub hard : cause ≢ Memory → IsHard q budget
+
+abbrev pub Unsolved : ℕ → Bool → GameProblem → List ℕ → Type 0
+Unsolved budget proof q text =
+    ((cause : Cause) × (count : ℕ) × MayBeUnknown q budget cause count × (text ≡ unknown_text cause count))
+    ⊎ ((proof ≡ false) × IsTooLarge q × (text ≡ too_large_text))

@@ -1,0 +1,14 @@
+//! The replies of the program: what a command answers for its input, and the texts.
+#![tactic(auto)]
+
+mod claim;
+mod input;
+mod record;
+mod reply;
+mod status;
+mod texts;
+
+pub use input::{InputEnd, read_to_limit};
+pub use reply::{Failure, Reply, Response, reply_to};
+pub use status::Status;
+pub use texts::{NO_MEMORY, NO_READ, TOO_LARGE};

@@ -1,10 +1,5 @@
-pub mod Records
 pub mod Headline
-pub mod Recording
-pub mod Phrases
 pub mod Running
 pub mod Answering
-pub mod Judged
-pub mod Front
 pub mod Sessions
 pub mod Telling

@@ -18,6 +18,7 @@ use Rattle.tsumego_replies.specs.Solutions.{claim_verdict}
 use Rattle.tsumego_replies.specs.Answers.{Says, SaysFailure, check_answer, audit_answer, within_answer, Tells}
 use Rattle.tsumego.specs.Outcome.{Outcome, Explains, ExplainsRun, RanOn}
 use Rattle.tsumego.specs.Private.Written.{Writes}
+use Rattle.tsumego_replies.proofs.Saying.{some_bytes}
 
 -- ---- why a run failed
 

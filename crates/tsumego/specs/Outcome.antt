@@ -11,7 +11,7 @@ use Rattle.tsumego_words.specs.declared.command_line.Command.TheVariants.{Gtp}
 use Rattle.tsumego_replies.specs.declared.status.Status.{Status}
 use Rattle.tsumego_replies.specs.declared.status.Status.TheVariants.{BadWords, Failed}
 use Rattle.tsumego_replies.specs.Texts.{no_memory_text, no_read_text}
-use Rattle.tsumego_replies.specs.Answers.{Says, SaysFailure}
+use Rattle.tsumego_replies.specs.Answers.{Says, SaysFailure, Tells}
 
 -- What a run may have said in full: a status and a text.
 abbrev pub Saying : Type 1

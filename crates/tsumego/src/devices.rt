@@ -13,7 +13,7 @@ pub struct Pieces<'a> {
 }
 
 impl<'a> Read for Pieces<'a> {
-    ghost use Rattle.std.specs.Prelude.{Some, None};
+    ghost use Rattle.std.specs.Prelude.{Some};
 
     ghost remaining = { λ r. Some r.left.now };
 
@@ -34,6 +34,8 @@ pub struct Endless<'a> {
 }
 
 impl<'a> Read for Endless<'a> {
+    ghost use Rattle.std.specs.Prelude.{None};
+
     ghost remaining = { λ r. None };
 
     fn read(&mut self, buf: &mut [u8]) -> io::Result<usize> {

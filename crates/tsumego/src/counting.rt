@@ -2,10 +2,10 @@
 //!
 //! A run ends as failed only for what is counted here, so that whoever reads the count knows whether a device was at fault.
 
-ghost use Rattle.std.specs.Prelude.{◌≡◌, ◌<◌, true, length, IfOk, OnErr};
+ghost use Rattle.std.specs.Prelude.{◌≡◌, ◌<◌, ◌≤◌, true, false, length, IfOk, OnErr};
 ghost use Rattle.std.specs.Io.{ReadsAtMost, WritesAtMost};
 ghost use Rattle.std.specs.Io.KnownBytes.{Keeps, ReadConsumes, WriteAppends};
-ghost use Rattle.tsumego.specs.Devices.{HasFailed};
+ghost use Rattle.tsumego.specs.Devices.{HasFailed, interrupt_limit};
 
 use std::io;
 use std::io::{ErrorKind, Read, Write};
@@ -51,7 +51,9 @@ impl<T> Counting<T> {
 
     /// Whether a call failed, or too many were interrupted.
     pub fn has_failed(&self) -> bool
-        ensures { result ≡ true → HasFailed self.now.faults self.now.interrupts }
+        ensures some { result ≡ true → HasFailed self.now.faults self.now.interrupts }
+        ensures none { result ≡ false
+            → (self.now.faults ≡ 0) × (self.now.interrupts ≤ interrupt_limit) }
     {
         self.faults > 0 || self.interrupts > MAX_INTERRUPTS
     }

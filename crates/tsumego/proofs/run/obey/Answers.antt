@@ -69,7 +69,7 @@ returns-then-has_failed-clause-ran g c =
     let reader = c.answer_of.new.reader in let writer = c.write_text-then-has_failed.new.writer in
     let all = some_bytes told in
     ran_no_read old new no_read_text (HasFailed writer.faults writer.interrupts) c.args.command told (ReadFails (Some c.args.command) reader.faults reader.interrupts) all.0 c.write_text-then-has_failed.result all.1
-    (inl (c.has_failed.ensures c.if-has_failed.true)) refl c.write_text-then-has_failed.ensures
+    (inl (c.has_failed.ensures.some c.if-has_failed.true)) refl c.write_text-then-has_failed.ensures
 
 pub returns-else-has_failed-clause-ran : goal.returns-else-has_failed-clause-ran
 returns-else-has_failed-clause-ran g c =

@@ -1,5 +1,6 @@
 //! Both boards are asked the same, turn by turn, and answer alike.
 
+use crate::expect::expect_that;
 use go_chains::ChainBoard;
 use go_points::{Cell, Colour, Colouring, MAX_SIZE, Point, Size};
 use go_turns::*;
@@ -86,20 +87,20 @@ fn agree(rows: u8, turns: u32, start: u64) -> bool {
 
 #[test]
 fn both_boards_answer_alike_on_nine_rows(rt: HostRuntime) -> Result<(), Fail> {
-    assert!(rt; agree(9, 20_000, 1));
+    expect_that(&rt, agree(9, 20_000, 1));
     Ok(())
 }
 
 #[test]
 fn both_boards_answer_alike_on_two_and_three_rows(rt: HostRuntime) -> Result<(), Fail> {
-    assert!(rt; agree(1, 100, 2));
-    assert!(rt; agree(2, 3_000, 3));
-    assert!(rt; agree(3, 6_000, 4));
+    expect_that(&rt, agree(1, 100, 2));
+    expect_that(&rt, agree(2, 3_000, 3));
+    expect_that(&rt, agree(3, 6_000, 4));
     Ok(())
 }
 
 #[test]
 fn both_boards_answer_alike_on_the_widest(rt: HostRuntime) -> Result<(), Fail> {
-    assert!(rt; agree(MAX_SIZE, 1_500, 5));
+    expect_that(&rt, agree(MAX_SIZE, 1_500, 5));
     Ok(())
 }

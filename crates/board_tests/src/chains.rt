@@ -3,6 +3,7 @@
 ghost use Rattle.go_points.specs.Grid.{side_of};
 ghost use Rattle.go_points.specs.Place.{IsOn};
 
+use crate::expect::{expect_same, expect_that};
 use go_chains::{ChainBoard, NoLiberty, Occupied};
 use go_points::{Cell, Colour, Colouring, Point, PointSet, Size};
 use std::process::Abort;
@@ -45,11 +46,11 @@ fn holds_just(set: &PointSet, size: Size, places: &[(u8, u8)]) -> bool {
 fn a_captured_stone_gives_its_liberty_back(rt: HostRuntime) {
     let mut board = board(&rt, 3, "O.OXO....");
     let point = at(&rt, &board, 1, 0);
-    assert_eq!(rt; board.play(Colour::Black, point), Ok(1));
-    assert!(rt; board.colouring() == painted(&rt, 3, ".XOXO...."));
+    expect_same(&rt, board.play(Colour::Black, point), Ok(1));
+    expect_that(&rt, board.colouring() == painted(&rt, 3, ".XOXO...."));
     let point = at(&rt, &board, 0, 1);
     let liberties = board.liberties(point).expect(&rt, "a stone");
-    assert!(rt; holds_just(&liberties, board.size(), &[(0, 0), (0, 2)]));
+    expect_that(&rt, holds_just(&liberties, board.size(), &[(0, 0), (0, 2)]));
 }
 
 #[test]
@@ -57,12 +58,18 @@ fn a_chain_has_its_stones_and_liberties(rt: HostRuntime) {
     let board = board(&rt, 3, "XX.OX.O..");
     let point = at(&rt, &board, 0, 0);
     let chain = board.chain_of(point).expect(&rt, "a stone");
-    assert!(rt; holds_just(&chain, board.size(), &[(0, 0), (1, 0), (1, 1)]));
+    expect_that(
+        &rt,
+        holds_just(&chain, board.size(), &[(0, 0), (1, 0), (1, 1)]),
+    );
     let liberties = board.liberties(point).expect(&rt, "a stone");
-    assert!(rt; holds_just(&liberties, board.size(), &[(2, 0), (2, 1), (1, 2)]));
+    expect_that(
+        &rt,
+        holds_just(&liberties, board.size(), &[(2, 0), (2, 1), (1, 2)]),
+    );
     let point = at(&rt, &board, 2, 2);
-    assert!(rt; board.chain_of(point).is_none());
-    assert!(rt; board.liberties(point).is_none());
+    expect_that(&rt, board.chain_of(point).is_none());
+    expect_that(&rt, board.liberties(point).is_none());
 }
 
 #[test]
@@ -71,7 +78,7 @@ fn the_least_stone_without_liberty_is_named(rt: HostRuntime) {
     match ChainBoard::from_colouring(&wanted) {
         Ok(_) => panic!(&rt; "the corner stone has no liberty"),
         Err(NoLiberty { point }) => {
-            assert_eq!(rt; (point.col(), point.row()), (0, 0));
+            expect_same(&rt, (point.col(), point.row()), (0, 0));
         }
     }
 }
@@ -80,16 +87,16 @@ fn the_least_stone_without_liberty_is_named(rt: HostRuntime) {
 fn a_stone_on_a_stone_changes_nothing(rt: HostRuntime) {
     let mut board = board(&rt, 3, ".XOXO....");
     let point = at(&rt, &board, 1, 1);
-    assert_eq!(rt; board.play(Colour::Black, point), Err(Occupied));
-    assert!(rt; board.colouring() == painted(&rt, 3, ".XOXO...."));
+    expect_same(&rt, board.play(Colour::Black, point), Err(Occupied));
+    expect_that(&rt, board.colouring() == painted(&rt, 3, ".XOXO...."));
 }
 
 #[test]
 fn a_last_liberty_makes_no_quiet_move(rt: HostRuntime) {
     let board = board(&rt, 3, "O.OXO....");
-    assert!(rt; quiet(&rt, &board, Colour::White, 2, 2));
-    assert!(rt; quiet(&rt, &board, Colour::White, 1, 0));
-    assert!(rt; !quiet(&rt, &board, Colour::Black, 1, 0));
+    expect_that(&rt, quiet(&rt, &board, Colour::White, 2, 2));
+    expect_that(&rt, quiet(&rt, &board, Colour::White, 1, 0));
+    expect_that(&rt, !quiet(&rt, &board, Colour::Black, 1, 0));
 }
 
 // Whether a move at this empty point is quiet.

@@ -1,5 +1,6 @@
 //! Problems and play on small boards, with results worked out by the rules.
 
+use crate::expect::{expect_same, expect_that};
 use arrayvec::ArrayVec;
 use go_points::{Cell, Colour, Colouring, MAX_SIZE, Point, PointSet, Size, Turn, sgf_point};
 use go_turns::{PlayBoard, PlaySeen};
@@ -90,57 +91,59 @@ fn turns_one_by_one(state: &mut Play) -> ArrayVec<Turn, MAX_TURNS> {
 #[test]
 fn a_capture_wins_for_the_attacker(rt: HostRuntime) {
     let mut state = start(&rt, rt.alloc(), &["O..X....."], Colour::Black, "aa", "ba");
-    assert_eq!(rt; state.over(), None);
-    assert_eq!(rt;
+    expect_same(&rt, state.over(), None);
+    expect_same(
+        &rt,
         state.turns().as_slice(),
-        [turn(&rt, "ba"), Turn::Pass].as_slice()
+        [turn(&rt, "ba"), Turn::Pass].as_slice(),
     );
-    assert_eq!(rt; state.next_turn(0), turn(&rt, "ba"));
-    assert_eq!(rt; state.next_turn(2), Turn::Pass);
-    assert!(rt; play(&mut state, turn(&rt, "ba")));
-    assert_eq!(rt; state.over(), Some(Colour::Black));
-    assert_eq!(rt; state.mover(), Colour::White);
-    assert_eq!(rt; state.colouring(), three(&rt, ".X.X....."));
-    assert!(rt; state.turns().is_empty());
+    expect_same(&rt, state.next_turn(0), turn(&rt, "ba"));
+    expect_same(&rt, state.next_turn(2), Turn::Pass);
+    expect_that(&rt, play(&mut state, turn(&rt, "ba")));
+    expect_same(&rt, state.over(), Some(Colour::Black));
+    expect_same(&rt, state.mover(), Colour::White);
+    expect_same(&rt, state.colouring(), three(&rt, ".X.X....."));
+    expect_that(&rt, state.turns().is_empty());
 }
 
 // The keys are exclusive ors of words that another program drew, from its own PCG64 made by the number 1.
 #[test]
 fn a_state_has_the_key_of_its_colouring(rt: HostRuntime) {
     let mut state = start(&rt, rt.alloc(), &["O..X....."], Colour::Black, "aa", "ba");
-    assert_eq!(rt; state.key(), 3_778_989_091_018_136_610);
+    expect_same(&rt, state.key(), 3_778_989_091_018_136_610);
     let capture = Child {
         key: 3_257_418_155_030_562_517,
         winner: Some(Colour::Black),
     };
-    assert_eq!(rt; state.child(turn(&rt, "ba")), Some(capture));
-    assert_eq!(rt; state.child(turn(&rt, "ca")), None);
-    assert!(rt; play(&mut state, turn(&rt, "ba")));
-    assert_eq!(rt; state.key(), 3_257_418_155_030_562_517);
+    expect_same(&rt, state.child(turn(&rt, "ba")), Some(capture));
+    expect_same(&rt, state.child(turn(&rt, "ca")), None);
+    expect_that(&rt, play(&mut state, turn(&rt, "ba")));
+    expect_same(&rt, state.key(), 3_257_418_155_030_562_517);
     let other_mover = start(&rt, rt.alloc(), &["O..X....."], Colour::White, "aa", "ba");
-    assert_eq!(rt; other_mover.key(), 3_778_989_091_018_136_610);
+    expect_same(&rt, other_mover.key(), 3_778_989_091_018_136_610);
 }
 
 #[test]
 fn two_passes_win_for_the_defender(rt: HostRuntime) {
     let mut state = start(&rt, rt.alloc(), &["O..X....."], Colour::White, "aa", "ba");
-    assert!(rt; play(&mut state, turn(&rt, "ba")));
-    assert!(rt; play(&mut state, Turn::Pass));
-    assert_eq!(rt; state.passes(), 1);
-    assert_eq!(rt; state.over(), None);
+    expect_that(&rt, play(&mut state, turn(&rt, "ba")));
+    expect_that(&rt, play(&mut state, Turn::Pass));
+    expect_same(&rt, state.passes(), 1);
+    expect_same(&rt, state.over(), None);
     let end = state.child(Turn::Pass);
-    assert_eq!(rt; end.and_then(|child| child.winner), Some(Colour::White));
-    assert!(rt; play(&mut state, Turn::Pass));
-    assert_eq!(rt; state.over(), Some(Colour::White));
-    assert!(rt; !play(&mut state, Turn::Pass));
+    expect_same(&rt, end.and_then(|child| child.winner), Some(Colour::White));
+    expect_that(&rt, play(&mut state, Turn::Pass));
+    expect_same(&rt, state.over(), Some(Colour::White));
+    expect_that(&rt, !play(&mut state, Turn::Pass));
 }
 
 #[test]
 fn the_past_decides_at_a_ko(rt: HostRuntime) {
     let free = start(&rt, rt.alloc(), &["O.OXO...."], Colour::Black, "aa", "ba");
-    assert_eq!(rt;
+    expect_same(
+        &rt,
         free.turns().as_slice(),
-        [turn(&rt, "ba"), Turn::Pass].as_slice()
+        [turn(&rt, "ba"), Turn::Pass].as_slice(),
     );
     let mut barred = start(
         &rt,
@@ -150,17 +153,18 @@ fn the_past_decides_at_a_ko(rt: HostRuntime) {
         "aa",
         "ba",
     );
-    assert_eq!(rt; barred.turns().as_slice(), [Turn::Pass].as_slice());
-    assert_eq!(rt;
+    expect_same(&rt, barred.turns().as_slice(), [Turn::Pass].as_slice());
+    expect_same(
+        &rt,
         turns_one_by_one(&mut barred).as_slice(),
-        [Turn::Pass].as_slice()
+        [Turn::Pass].as_slice(),
     );
-    assert_eq!(rt; play(&mut barred, turn(&rt, "ba")), false);
-    assert_eq!(rt; barred.colouring(), three(&rt, "O.OXO...."));
-    assert_eq!(rt; barred.mover(), Colour::Black);
-    assert_eq!(rt; barred.child(turn(&rt, "ba")), None);
-    assert_eq!(rt; barred.holds(&three(&rt, ".XOXO....")), Some(0));
-    assert_eq!(rt; barred.holds(&three(&rt, ".X.XO....")), None);
+    expect_same(&rt, play(&mut barred, turn(&rt, "ba")), false);
+    expect_same(&rt, barred.colouring(), three(&rt, "O.OXO...."));
+    expect_same(&rt, barred.mover(), Colour::Black);
+    expect_same(&rt, barred.child(turn(&rt, "ba")), None);
+    expect_same(&rt, barred.holds(&three(&rt, ".XOXO....")), Some(0));
+    expect_same(&rt, barred.holds(&three(&rt, ".X.XO....")), None);
 }
 
 // The state with this colouring alone, one pass just made, in a problem whose history bars the capture at the upper left.
@@ -175,7 +179,7 @@ fn alone(rt: &impl Abort, alloc: Global, text: &str) -> Result<Play, AtFault> {
     )
     .expect(rt, "a problem");
     let colouring = three(rt, text);
-    assert!(rt; colouring.size() == problem.size());
+    expect_that(rt, colouring.size() == problem.size());
     State::at(alloc, &problem, &colouring, Colour::Black, 1)
 }
 
@@ -190,14 +194,14 @@ fn names(fault: AtFault, point: Point) -> bool {
 #[test]
 fn a_colouring_alone_forgets_the_past(rt: HostRuntime) {
     let mut state = alone(&rt, rt.alloc(), "O.OXO....").expect(&rt, "a state");
-    assert_eq!(rt; state.mover(), Colour::Black);
-    assert_eq!(rt; state.passes(), 1);
-    assert_eq!(rt; state.colouring(), three(&rt, "O.OXO...."));
-    assert_eq!(rt; state.holds(&three(&rt, "O.OXO....")), Some(0));
-    assert_eq!(rt; state.holds(&three(&rt, ".XOXO....")), None);
-    assert!(rt; play(&mut state, turn(&rt, "ba")));
-    assert_eq!(rt; state.colouring(), three(&rt, ".XOXO...."));
-    assert_eq!(rt; state.over(), Some(Colour::Black));
+    expect_same(&rt, state.mover(), Colour::Black);
+    expect_same(&rt, state.passes(), 1);
+    expect_same(&rt, state.colouring(), three(&rt, "O.OXO...."));
+    expect_same(&rt, state.holds(&three(&rt, "O.OXO....")), Some(0));
+    expect_same(&rt, state.holds(&three(&rt, ".XOXO....")), None);
+    expect_that(&rt, play(&mut state, turn(&rt, "ba")));
+    expect_same(&rt, state.colouring(), three(&rt, ".XOXO...."));
+    expect_same(&rt, state.over(), Some(Colour::Black));
 }
 
 #[test]
@@ -206,7 +210,7 @@ fn a_colouring_alone_has_its_liberties(rt: HostRuntime) {
     let second = sgf_point(size, b"ba").expect(&rt, "a point");
     // The white stone has black stones at both sides and below it.
     let found = alone(&rt, rt.alloc(), "XOX.X....");
-    assert!(rt; found.is_err_and(|fault| names(fault, second)));
+    expect_that(&rt, found.is_err_and(|fault| names(fault, second)));
 }
 
 #[test]
@@ -215,69 +219,77 @@ fn a_state_begins_anew_in_the_same_game(rt: HostRuntime) {
     let second = sgf_point(size, b"ba").expect(&rt, "a point");
     let mut state = alone(&rt, rt.alloc(), ".XOXO....").expect(&rt, "a state");
     let smothered = three(&rt, "XOX.X....");
-    assert!(rt; smothered.size() == state.size());
+    expect_that(&rt, smothered.size() == state.size());
     let refused = state.restart(rt.alloc(), &smothered, Colour::White, 0);
-    assert!(rt; refused.is_err_and(|fault| names(fault, second)));
-    assert_eq!(rt; state.colouring(), three(&rt, ".XOXO...."));
-    assert_eq!(rt; state.mover(), Colour::Black);
+    expect_that(&rt, refused.is_err_and(|fault| names(fault, second)));
+    expect_same(&rt, state.colouring(), three(&rt, ".XOXO...."));
+    expect_same(&rt, state.mover(), Colour::Black);
     let taken = three(&rt, "O.OXO....");
-    assert!(rt; taken.size() == state.size());
-    assert!(rt; state.restart(rt.alloc(), &taken, Colour::Black, 1).is_ok());
-    assert_eq!(rt; state.passes(), 1);
-    assert_eq!(rt; state.holds(&three(&rt, ".XOXO....")), None);
-    assert!(rt; play(&mut state, turn(&rt, "ba")));
-    assert_eq!(rt; state.over(), Some(Colour::Black));
+    expect_that(&rt, taken.size() == state.size());
+    expect_that(
+        &rt,
+        state.restart(rt.alloc(), &taken, Colour::Black, 1).is_ok(),
+    );
+    expect_same(&rt, state.passes(), 1);
+    expect_same(&rt, state.holds(&three(&rt, ".XOXO....")), None);
+    expect_that(&rt, play(&mut state, turn(&rt, "ba")));
+    expect_same(&rt, state.over(), Some(Colour::Black));
 }
 
 #[test]
 fn suicide_of_one_stone_is_no_turn(rt: HostRuntime) {
     let state = start(&rt, rt.alloc(), &[".XXXXXXX."], Colour::White, "bb", "aacc");
-    assert_eq!(rt; state.turns().as_slice(), [Turn::Pass].as_slice());
+    expect_same(&rt, state.turns().as_slice(), [Turn::Pass].as_slice());
 }
 
 #[test]
 fn suicide_of_two_stones_is_a_turn_and_loses_the_targets(rt: HostRuntime) {
     let mut state = start(&rt, rt.alloc(), &["X.OOO...."], Colour::Black, "aa", "ba");
-    assert_eq!(rt;
+    expect_same(
+        &rt,
         state.turns().as_slice(),
-        [turn(&rt, "ba"), Turn::Pass].as_slice()
+        [turn(&rt, "ba"), Turn::Pass].as_slice(),
     );
-    assert!(rt; play(&mut state, turn(&rt, "ba")));
-    assert_eq!(rt; state.colouring(), three(&rt, "..OOO...."));
-    assert_eq!(rt; state.over(), Some(Colour::White));
+    expect_that(&rt, play(&mut state, turn(&rt, "ba")));
+    expect_same(&rt, state.colouring(), three(&rt, "..OOO...."));
+    expect_same(&rt, state.over(), Some(Colour::White));
 }
 
 #[test]
 fn the_region_binds_both_sides(rt: HostRuntime) {
     let mut state = start(&rt, rt.alloc(), &["O........"], Colour::Black, "aa", "ba");
-    assert_eq!(rt;
+    expect_same(
+        &rt,
         state.turns().as_slice(),
-        [turn(&rt, "ba"), Turn::Pass].as_slice()
+        [turn(&rt, "ba"), Turn::Pass].as_slice(),
     );
-    assert!(rt; !play(&mut state, turn(&rt, "ab")));
-    assert!(rt; play(&mut state, turn(&rt, "ba")));
-    assert_eq!(rt; state.turns().as_slice(), [Turn::Pass].as_slice());
+    expect_that(&rt, !play(&mut state, turn(&rt, "ab")));
+    expect_that(&rt, play(&mut state, turn(&rt, "ba")));
+    expect_same(&rt, state.turns().as_slice(), [Turn::Pass].as_slice());
 }
 
 #[test]
 fn a_turn_is_taken_back_whole(rt: HostRuntime) {
     let mut state = start(&rt, rt.alloc(), &["O..X....."], Colour::Black, "aa", "bacc");
-    assert!(rt; play(&mut state, Turn::Pass));
+    expect_that(&rt, play(&mut state, Turn::Pass));
     let corner = Size::new(3)
         .expect(&rt, "a size")
         .point(2, 2)
         .expect(&rt, "a point");
-    assert!(rt; state.over().is_none() && state.size().holds(corner) && state.may_move(corner));
+    expect_that(
+        &rt,
+        state.over().is_none() && state.size().holds(corner) && state.may_move(corner),
+    );
     if state.over().is_none() && state.size().holds(corner) && state.may_move(corner) {
-        assert!(rt; state.after(Turn::At(corner)).is_ok());
-        assert_eq!(rt; state.colouring(), three(&rt, "O..X....O"));
-        assert_eq!(rt; state.passes(), 0);
+        expect_that(&rt, state.after(Turn::At(corner)).is_ok());
+        expect_same(&rt, state.colouring(), three(&rt, "O..X....O"));
+        expect_same(&rt, state.passes(), 0);
         state.back();
     }
-    assert_eq!(rt; state.passes(), 1);
-    assert_eq!(rt; state.mover(), Colour::White);
-    assert_eq!(rt; state.colouring(), three(&rt, "O..X....."));
-    assert_eq!(rt; state.holds(&three(&rt, "O..X....O")), None);
+    expect_same(&rt, state.passes(), 1);
+    expect_same(&rt, state.mover(), Colour::White);
+    expect_same(&rt, state.colouring(), three(&rt, "O..X....."));
+    expect_same(&rt, state.holds(&three(&rt, "O..X....O")), None);
 }
 
 // The refusal of a problem on 3 by 3, if it is refused.
@@ -309,44 +321,53 @@ fn each_refusal_comes_alone(rt: HostRuntime) {
     let alloc = rt.alloc();
     let fine = ["O..X....."];
     let fine = fine.as_slice();
-    assert_eq!(rt; refusal(&rt, alloc, fine, 0, 1, "aa", "ba"), None);
-    assert_eq!(rt;
+    expect_same(&rt, refusal(&rt, alloc, fine, 0, 1, "aa", "ba"), None);
+    expect_same(
+        &rt,
         refusal(&rt, alloc, &[], 0, 0, "aa", "ba"),
-        Some(BadProblem::BadPlace)
+        Some(BadProblem::BadPlace),
     );
-    assert_eq!(rt;
+    expect_same(
+        &rt,
         refusal(&rt, alloc, fine, 1, 0, "aa", "ba"),
-        Some(BadProblem::BadPlace)
+        Some(BadProblem::BadPlace),
     );
-    assert_eq!(rt;
+    expect_same(
+        &rt,
         refusal(&rt, alloc, fine, 0, 0, "", "ba"),
-        Some(BadProblem::BadTargets)
+        Some(BadProblem::BadTargets),
     );
-    assert_eq!(rt;
+    expect_same(
+        &rt,
         refusal(&rt, alloc, fine, 0, 0, "cc", "ba"),
-        Some(BadProblem::BadTargets)
+        Some(BadProblem::BadTargets),
     );
-    assert_eq!(rt;
+    expect_same(
+        &rt,
         refusal(&rt, alloc, fine, 0, 0, "aaab", "ba"),
-        Some(BadProblem::BadTargets)
+        Some(BadProblem::BadTargets),
     );
-    assert_eq!(rt;
+    expect_same(
+        &rt,
         refusal(&rt, alloc, fine, 0, 2, "aa", "ba"),
-        Some(BadProblem::Ended)
+        Some(BadProblem::Ended),
     );
-    assert_eq!(rt;
+    expect_same(
+        &rt,
         refusal(&rt, alloc, fine, 0, 0, "aa", ""),
-        Some(BadProblem::EmptyRegion)
+        Some(BadProblem::EmptyRegion),
     );
     let dead = ["OX.X.....", "O..X....."];
-    assert_eq!(rt;
+    expect_same(
+        &rt,
         refusal(&rt, alloc, &dead, 1, 0, "aa", "ba"),
-        Some(BadProblem::NoLiberty)
+        Some(BadProblem::NoLiberty),
     );
     let twice = ["O..X.....", ".........", "O..X....."];
-    assert_eq!(rt;
+    expect_same(
+        &rt,
         refusal(&rt, alloc, &twice, 2, 0, "aa", "ba"),
-        Some(BadProblem::Repeated)
+        Some(BadProblem::Repeated),
     );
 }
 
@@ -355,26 +376,31 @@ fn the_earlier_refusal_is_named(rt: HostRuntime) {
     let alloc = rt.alloc();
     let fine = ["O..X....."];
     let fine = fine.as_slice();
-    assert_eq!(rt;
+    expect_same(
+        &rt,
         refusal(&rt, alloc, fine, 1, 2, "", ""),
-        Some(BadProblem::BadPlace)
+        Some(BadProblem::BadPlace),
     );
-    assert_eq!(rt;
+    expect_same(
+        &rt,
         refusal(&rt, alloc, fine, 0, 2, "cc", ""),
-        Some(BadProblem::BadTargets)
+        Some(BadProblem::BadTargets),
     );
-    assert_eq!(rt;
+    expect_same(
+        &rt,
         refusal(&rt, alloc, fine, 0, 2, "aa", ""),
-        Some(BadProblem::Ended)
+        Some(BadProblem::Ended),
     );
     let dead = ["OX.X.....", "O..X.....", "O..X....."];
-    assert_eq!(rt;
+    expect_same(
+        &rt,
         refusal(&rt, alloc, &dead, 1, 0, "aa", ""),
-        Some(BadProblem::EmptyRegion)
+        Some(BadProblem::EmptyRegion),
     );
-    assert_eq!(rt;
+    expect_same(
+        &rt,
         refusal(&rt, alloc, &dead, 1, 0, "aa", "ba"),
-        Some(BadProblem::NoLiberty)
+        Some(BadProblem::NoLiberty),
     );
 }
 
@@ -391,8 +417,8 @@ fn a_colouring_of_another_size_is_refused(rt: HostRuntime) {
         points(&rt, "aa"),
         points(&rt, "ba"),
     ) {
-        Ok(_) => assert!(rt; false),
-        Err(fault) => assert_eq!(rt; fault, BadProblem::OtherSize),
+        Ok(_) => expect_that(&rt, false),
+        Err(fault) => expect_same(&rt, fault, BadProblem::OtherSize),
     }
 }
 
@@ -422,11 +448,14 @@ fn a_history_has_a_thousand_colourings_at_most(rt: HostRuntime) {
     let size = Size::new(MAX_SIZE).expect(&rt, "a size");
     targets.insert(size.point(0, 0).expect(&rt, "a point"));
     let fits = long_history(&rt, rt.alloc(), MAX_HISTORY);
-    assert!(rt; Problem::new(fits, 0, Colour::White, 0, targets, targets).is_ok());
+    expect_that(
+        &rt,
+        Problem::new(fits, 0, Colour::White, 0, targets, targets).is_ok(),
+    );
     let long = long_history(&rt, rt.alloc(), MAX_HISTORY + 1);
     match Problem::new(long, 0, Colour::White, 0, targets, targets) {
-        Ok(_) => assert!(rt; false),
-        Err(fault) => assert_eq!(rt; fault, BadProblem::LongHistory),
+        Ok(_) => expect_that(&rt, false),
+        Err(fault) => expect_same(&rt, fault, BadProblem::LongHistory),
     }
 }
 
@@ -459,12 +488,13 @@ fn turns_on_the_widest_board(rt: HostRuntime) {
     }
     let state = start_on_the_widest(&rt, rt.alloc(), colouring, first);
     let turns = state.turns();
-    assert_eq!(rt; turns.len(), 625);
-    assert_eq!(rt; turns.as_slice().last(), Some(&Turn::Pass));
+    expect_same(&rt, turns.len(), 625);
+    expect_same(&rt, turns.as_slice().last(), Some(&Turn::Pass));
     for number in 1..size.area() {
-        assert_eq!(rt;
+        expect_same(
+            &rt,
             turns.as_slice().get(number - 1),
-            Some(&Turn::At(size.point_at(number)))
+            Some(&Turn::At(size.point_at(number))),
         );
     }
 }
@@ -482,15 +512,16 @@ fn a_capture_of_all_the_widest_board_holds(rt: HostRuntime) {
     }
     let last = size.point_at(size.area() - 1);
     let mut state = start_on_the_widest(&rt, rt.alloc(), colouring, size.point_at(0));
-    assert_eq!(rt;
+    expect_same(
+        &rt,
         state.turns().as_slice(),
-        [Turn::At(last), Turn::Pass].as_slice()
+        [Turn::At(last), Turn::Pass].as_slice(),
     );
-    assert!(rt; play(&mut state, Turn::At(last)));
-    assert_eq!(rt; state.over(), Some(Colour::Black));
+    expect_that(&rt, play(&mut state, Turn::At(last)));
+    expect_same(&rt, state.over(), Some(Colour::Black));
     let mut left = Colouring::empty(size);
     left.set(last, Cell::Stone(Colour::Black));
-    assert_eq!(rt; state.colouring(), left);
+    expect_same(&rt, state.colouring(), left);
 }
 
 #[test]
@@ -506,15 +537,15 @@ fn a_problem_tells_its_parts(rt: HostRuntime) {
     );
     let made = made.expect(&rt, "a problem");
     let problem = made.copy(rt.alloc()).expect(&rt, "memory");
-    assert_eq!(rt; problem.size().rows(), 3);
-    assert_eq!(rt; problem.history().len(), 2);
-    assert_eq!(rt; problem.place(), 1);
-    assert_eq!(rt; *problem.colouring(), three(&rt, "O.OXO...."));
-    assert_eq!(rt; problem.mover(), Colour::Black);
-    assert_eq!(rt; problem.passes(), 1);
-    assert_eq!(rt; problem.defender(), Colour::White);
-    assert_eq!(rt; *problem.targets(), points(&rt, "aa"));
-    assert_eq!(rt; *problem.region(), points(&rt, "bacc"));
+    expect_same(&rt, problem.size().rows(), 3);
+    expect_same(&rt, problem.history().len(), 2);
+    expect_same(&rt, problem.place(), 1);
+    expect_same(&rt, *problem.colouring(), three(&rt, "O.OXO...."));
+    expect_same(&rt, problem.mover(), Colour::Black);
+    expect_same(&rt, problem.passes(), 1);
+    expect_same(&rt, problem.defender(), Colour::White);
+    expect_same(&rt, *problem.targets(), points(&rt, "aa"));
+    expect_same(&rt, *problem.region(), points(&rt, "bacc"));
 }
 
 #[test]
@@ -531,6 +562,6 @@ fn refusals_have_texts(rt: HostRuntime) {
     ];
     for (fault, text) in rows {
         let shown = format!(in rt.alloc(); "{fault}").expect(&rt, "memory");
-        assert_eq!(rt; shown.as_str(), text);
+        expect_same(&rt, shown.as_str(), text);
     }
 }

@@ -6,6 +6,8 @@ mod boards;
 #[cfg(test)]
 mod chains;
 #[cfg(test)]
+mod expect;
+#[cfg(test)]
 mod game;
 #[cfg(test)]
 mod keys;

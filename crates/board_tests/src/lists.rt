@@ -1,5 +1,6 @@
 //! Lists of colourings of several sizes, read back.
 
+use crate::expect::expect_same;
 use go_points::{Cell, Colour, Colouring, ColouringList, Size};
 use std::alloc::{AllocError, Global};
 use std::process::Abort;
@@ -16,19 +17,19 @@ fn board(rt: &impl Abort, rows: u8, last: Colour) -> Colouring {
 /// Puts boards of these rows into a list and reads them back.
 fn expect_back(rt: &impl Abort, alloc: Global, rows: &[u8]) -> Result<(), AllocError> {
     let mut list = ColouringList::new(alloc);
-    assert_eq!(rt; list.last(), None);
+    expect_same(rt, list.last(), None);
     for row in rows {
         let colouring = board(rt, *row, Colour::White);
         list.push(&colouring)?;
-        assert_eq!(rt; list.last(), Some(colouring));
+        expect_same(rt, list.last(), Some(colouring));
     }
-    assert_eq!(rt; list.len(), rows.len());
+    expect_same(rt, list.len(), rows.len());
     for index in 0..rows.len() {
         let found = list.get(index);
-        assert_eq!(rt; found, Some(board(rt, rows[index], Colour::White)));
+        expect_same(rt, found, Some(board(rt, rows[index], Colour::White)));
         assert_ne!(rt; found, Some(board(rt, rows[index], Colour::Black)));
     }
-    assert_eq!(rt; list.get(rows.len()), None);
+    expect_same(rt, list.get(rows.len()), None);
     Ok(())
 }
 

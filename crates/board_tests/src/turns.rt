@@ -1,5 +1,6 @@
 //! Games on small boards and on the widest, with results worked out by the rules.
 
+use crate::expect::{expect_same, expect_that};
 use go_points::{Cell, Colour, Colouring, MAX_SIZE, Point, Size, Turn, sgf_point};
 use go_turns::*;
 use std::alloc::{AllocError, Global};
@@ -36,23 +37,24 @@ fn a_ko_may_not_be_retaken(rt: HostRuntime) -> Result<(), Fail> {
     let mut record = Record::<PlayBoard, PlaySeen>::new(rt.alloc(), &Colouring::empty(size)).expect(
         &rt, "memory",
     );
-    assert_eq!(rt; record.play(Colour::Black, at(size, 1, 0)), Ok(()));
-    assert_eq!(rt; record.play(Colour::White, at(size, 2, 0)), Ok(()));
-    assert_eq!(rt; record.play(Colour::Black, at(size, 0, 1)), Ok(()));
-    assert_eq!(rt; record.play(Colour::White, at(size, 1, 1)), Ok(()));
-    assert_eq!(rt; record.play(Colour::White, at(size, 0, 0)), Ok(()));
-    assert_eq!(rt; record.colouring(), painted(size, "O.OXO...."));
-    assert_eq!(rt;
+    expect_same(&rt, record.play(Colour::Black, at(size, 1, 0)), Ok(()));
+    expect_same(&rt, record.play(Colour::White, at(size, 2, 0)), Ok(()));
+    expect_same(&rt, record.play(Colour::Black, at(size, 0, 1)), Ok(()));
+    expect_same(&rt, record.play(Colour::White, at(size, 1, 1)), Ok(()));
+    expect_same(&rt, record.play(Colour::White, at(size, 0, 0)), Ok(()));
+    expect_same(&rt, record.colouring(), painted(size, "O.OXO...."));
+    expect_same(
+        &rt,
         record.play(Colour::Black, at(size, 1, 0)),
-        Err(TurnFault::Repeats { earlier: 4 })
+        Err(TurnFault::Repeats { earlier: 4 }),
     );
-    assert_eq!(rt; record.colouring(), painted(size, "O.OXO...."));
-    assert_eq!(rt; record.seen().len(), 6);
-    assert_eq!(rt; record.undo(), Ok(()));
-    assert_eq!(rt; record.colouring(), painted(size, ".XOXO...."));
-    assert_eq!(rt; record.seen().len(), 5);
-    assert_eq!(rt; record.play(Colour::White, at(size, 0, 0)), Ok(()));
-    assert_eq!(rt; record.colouring(), painted(size, "O.OXO...."));
+    expect_same(&rt, record.colouring(), painted(size, "O.OXO...."));
+    expect_same(&rt, record.seen().len(), 6);
+    expect_same(&rt, record.undo(), Ok(()));
+    expect_same(&rt, record.colouring(), painted(size, ".XOXO...."));
+    expect_same(&rt, record.seen().len(), 5);
+    expect_same(&rt, record.play(Colour::White, at(size, 0, 0)), Ok(()));
+    expect_same(&rt, record.colouring(), painted(size, "O.OXO...."));
     Ok(())
 }
 
@@ -62,23 +64,25 @@ fn two_stones_may_die_by_their_own_move(rt: HostRuntime) -> Result<(), Fail> {
     let mut record = Record::<PlayBoard, PlaySeen>::new(rt.alloc(), &Colouring::empty(size)).expect(
         &rt, "memory",
     );
-    assert_eq!(rt; record.play(Colour::Black, at(size, 0, 0)), Ok(()));
-    assert_eq!(rt; record.play(Colour::White, at(size, 0, 1)), Ok(()));
-    assert_eq!(rt; record.play(Colour::White, at(size, 1, 1)), Ok(()));
-    assert_eq!(rt; record.play(Colour::White, at(size, 2, 0)), Ok(()));
-    assert_eq!(rt; record.colouring(), painted(size, "X.OOO...."));
-    assert_eq!(rt; record.play(Colour::Black, at(size, 1, 0)), Ok(()));
-    assert_eq!(rt; record.colouring(), painted(size, "..OOO...."));
-    assert_eq!(rt; record.play(Colour::White, at(size, 1, 0)), Ok(()));
-    assert_eq!(rt;
+    expect_same(&rt, record.play(Colour::Black, at(size, 0, 0)), Ok(()));
+    expect_same(&rt, record.play(Colour::White, at(size, 0, 1)), Ok(()));
+    expect_same(&rt, record.play(Colour::White, at(size, 1, 1)), Ok(()));
+    expect_same(&rt, record.play(Colour::White, at(size, 2, 0)), Ok(()));
+    expect_same(&rt, record.colouring(), painted(size, "X.OOO...."));
+    expect_same(&rt, record.play(Colour::Black, at(size, 1, 0)), Ok(()));
+    expect_same(&rt, record.colouring(), painted(size, "..OOO...."));
+    expect_same(&rt, record.play(Colour::White, at(size, 1, 0)), Ok(()));
+    expect_same(
+        &rt,
         record.play(Colour::Black, at(size, 0, 0)),
-        Err(TurnFault::Repeats { earlier: 6 })
+        Err(TurnFault::Repeats { earlier: 6 }),
     );
-    assert_eq!(rt;
+    expect_same(
+        &rt,
         record.play(Colour::Black, at(size, 1, 1)),
-        Err(TurnFault::Occupied)
+        Err(TurnFault::Occupied),
     );
-    assert_eq!(rt; record.last_colour(), Some(Colour::White));
+    expect_same(&rt, record.last_colour(), Some(Colour::White));
     Ok(())
 }
 
@@ -88,25 +92,27 @@ fn one_point_has_no_legal_move(rt: HostRuntime) -> Result<(), Fail> {
     let mut record = Record::<PlayBoard, PlaySeen>::new(rt.alloc(), &Colouring::empty(size)).expect(
         &rt, "memory",
     );
-    assert_eq!(rt;
+    expect_same(
+        &rt,
         record.play(Colour::Black, at(size, 0, 0)),
-        Err(TurnFault::Repeats { earlier: 0 })
+        Err(TurnFault::Repeats { earlier: 0 }),
     );
-    assert_eq!(rt; record.last_colour(), None);
-    assert_eq!(rt; record.undo(), Err(TurnFault::CannotUndo));
-    assert_eq!(rt; record.play(Colour::White, Turn::Pass), Ok(()));
-    assert_eq!(rt; record.play(Colour::Black, Turn::Pass), Ok(()));
-    assert_eq!(rt; record.passes(), 2);
-    assert_eq!(rt; record.last_colour(), Some(Colour::Black));
-    assert_eq!(rt; record.undo(), Ok(()));
-    assert_eq!(rt; record.passes(), 1);
-    assert_eq!(rt; record.last_colour(), Some(Colour::White));
+    expect_same(&rt, record.last_colour(), None);
+    expect_same(&rt, record.undo(), Err(TurnFault::CannotUndo));
+    expect_same(&rt, record.play(Colour::White, Turn::Pass), Ok(()));
+    expect_same(&rt, record.play(Colour::Black, Turn::Pass), Ok(()));
+    expect_same(&rt, record.passes(), 2);
+    expect_same(&rt, record.last_colour(), Some(Colour::Black));
+    expect_same(&rt, record.undo(), Ok(()));
+    expect_same(&rt, record.passes(), 1);
+    expect_same(&rt, record.last_colour(), Some(Colour::White));
     let wide = Size::new(2).ok_or("size")?;
-    assert_eq!(rt;
+    expect_same(
+        &rt,
         record.play(Colour::Black, at(wide, 1, 0)),
-        Err(TurnFault::OffBoard)
+        Err(TurnFault::OffBoard),
     );
-    assert_eq!(rt; record.size(), size);
+    expect_same(&rt, record.size(), size);
     Ok(())
 }
 
@@ -116,17 +122,19 @@ fn a_stone_without_liberty_is_taken(rt: HostRuntime) -> Result<(), Fail> {
     let mut record = Record::<PlayBoard, PlaySeen>::new(rt.alloc(), &Colouring::empty(size)).expect(
         &rt, "memory",
     );
-    assert_eq!(rt; record.play(Colour::Black, at(size, 0, 0)), Ok(()));
-    assert_eq!(rt; record.play(Colour::White, at(size, 1, 0)), Ok(()));
-    assert_eq!(rt; record.play(Colour::Black, at(size, 1, 1)), Ok(()));
-    assert_eq!(rt; record.colouring(), painted(size, "X..X"));
-    assert_eq!(rt;
+    expect_same(&rt, record.play(Colour::Black, at(size, 0, 0)), Ok(()));
+    expect_same(&rt, record.play(Colour::White, at(size, 1, 0)), Ok(()));
+    expect_same(&rt, record.play(Colour::Black, at(size, 1, 1)), Ok(()));
+    expect_same(&rt, record.colouring(), painted(size, "X..X"));
+    expect_same(
+        &rt,
         record.play(Colour::White, at(size, 0, 1)),
-        Err(TurnFault::Repeats { earlier: 3 })
+        Err(TurnFault::Repeats { earlier: 3 }),
     );
-    assert_eq!(rt;
+    expect_same(
+        &rt,
         record.play(Colour::White, at(size, 1, 0)),
-        Err(TurnFault::Repeats { earlier: 3 })
+        Err(TurnFault::Repeats { earlier: 3 }),
     );
     Ok(())
 }
@@ -143,21 +151,22 @@ fn a_past_forbids_and_a_smothered_opening_is_refused(rt: HostRuntime) -> Result<
             0,
             1,
         ).expect(&rt, "memory");
-        assert_eq!(rt; record.colouring(), empty);
-        assert_eq!(rt; record.passes(), 1);
-        assert_eq!(rt;
+        expect_same(&rt, record.colouring(), empty);
+        expect_same(&rt, record.passes(), 1);
+        expect_same(
+            &rt,
             record.play(Colour::Black, at(size, 0, 0)),
-            Err(TurnFault::Repeats { earlier: 1 })
+            Err(TurnFault::Repeats { earlier: 1 }),
         );
-        assert_eq!(rt; record.play(Colour::White, at(size, 0, 0)), Ok(()));
-        assert_eq!(rt; record.passes(), 0);
+        expect_same(&rt, record.play(Colour::White, at(size, 0, 0)), Ok(()));
+        expect_same(&rt, record.passes(), 0);
     }
     let smothered = painted(size, ".X.XOX.X.");
     match Record::<PlayBoard, PlaySeen>::new(rt.alloc(), &smothered) {
         Ok(_) => return Err("a stone without liberty stands")?,
         Err(fault) => {
             let point = size.point(1, 1).ok_or("point")?;
-            assert_eq!(rt; fault, TurnFault::NoLiberty { point });
+            expect_same(&rt, fault, TurnFault::NoLiberty { point });
         }
     }
     Ok(())
@@ -168,25 +177,26 @@ fn a_record_begins_anew(rt: HostRuntime) -> Result<(), Fail> {
     let size = Size::new(3).ok_or("size")?;
     let corner = painted(size, "X........");
     let mut record = Record::<PlayBoard, PlaySeen>::new(rt.alloc(), &corner).expect(&rt, "memory");
-    assert_eq!(rt; record.play(Colour::White, at(size, 1, 1)), Ok(()));
+    expect_same(&rt, record.play(Colour::White, at(size, 1, 1)), Ok(()));
     let smothered = painted(size, ".X.XOX.X.");
-    assert!(rt; smothered.size() == record.size());
+    expect_that(&rt, smothered.size() == record.size());
     let point = size.point(1, 1).ok_or("point")?;
-    assert_eq!(rt;
+    expect_same(
+        &rt,
         record.reopen(rt.alloc(), &smothered, 0),
-        Err(TurnFault::NoLiberty { point })
+        Err(TurnFault::NoLiberty { point }),
     );
-    assert_eq!(rt; record.colouring(), painted(size, "X...O...."));
-    assert_eq!(rt; record.seen().len(), 2);
+    expect_same(&rt, record.colouring(), painted(size, "X...O...."));
+    expect_same(&rt, record.seen().len(), 2);
     let other = painted(size, "X.O......");
-    assert!(rt; other.size() == record.size());
-    assert_eq!(rt; record.reopen(rt.alloc(), &other, 1), Ok(()));
-    assert_eq!(rt; record.colouring(), other);
-    assert_eq!(rt; record.passes(), 1);
-    assert_eq!(rt; record.last_colour(), None);
-    assert_eq!(rt; record.seen().holds(&corner), None);
-    assert_eq!(rt; record.seen().holds(&other), Some(0));
-    assert_eq!(rt; record.undo(), Err(TurnFault::CannotUndo));
+    expect_that(&rt, other.size() == record.size());
+    expect_same(&rt, record.reopen(rt.alloc(), &other, 1), Ok(()));
+    expect_same(&rt, record.colouring(), other);
+    expect_same(&rt, record.passes(), 1);
+    expect_same(&rt, record.last_colour(), None);
+    expect_same(&rt, record.seen().holds(&corner), None);
+    expect_same(&rt, record.seen().holds(&other), Some(0));
+    expect_same(&rt, record.undo(), Err(TurnFault::CannotUndo));
     Ok(())
 }
 
@@ -202,36 +212,40 @@ fn a_setup_is_a_step(rt: HostRuntime) -> Result<(), Fail> {
     let mut record = Record::<PlayBoard, PlaySeen>::new(rt.alloc(), &Colouring::empty(size)).expect(
         &rt, "memory",
     );
-    assert_eq!(rt; record.play(Colour::White, Turn::Pass), Ok(()));
-    assert_eq!(rt;
+    expect_same(&rt, record.play(Colour::White, Turn::Pass), Ok(()));
+    expect_same(
+        &rt,
         record.setup(&[
             (upper_left, white),
             (upper_left, black),
-            (upper_right, white)
+            (upper_right, white),
         ]),
-        Ok(())
+        Ok(()),
     );
-    assert_eq!(rt; record.colouring(), painted(size, "XO.."));
-    assert_eq!(rt; record.passes(), 0);
-    assert_eq!(rt; record.last_colour(), Some(Colour::White));
-    assert_eq!(rt;
+    expect_same(&rt, record.colouring(), painted(size, "XO.."));
+    expect_same(&rt, record.passes(), 0);
+    expect_same(&rt, record.last_colour(), Some(Colour::White));
+    expect_same(
+        &rt,
         record.setup(&[(lower_left, white)]),
-        Err(TurnFault::NoLiberty { point: upper_left })
+        Err(TurnFault::NoLiberty { point: upper_left }),
     );
-    assert_eq!(rt;
+    expect_same(
+        &rt,
         record.setup(&[(lower_left, white), (beyond, black)]),
-        Err(TurnFault::OffBoard)
+        Err(TurnFault::OffBoard),
     );
-    assert_eq!(rt; record.colouring(), painted(size, "XO.."));
-    assert_eq!(rt;
+    expect_same(&rt, record.colouring(), painted(size, "XO.."));
+    expect_same(
+        &rt,
         record.setup(&[(upper_left, Cell::Empty), (upper_right, Cell::Empty)]),
-        Ok(())
+        Ok(()),
     );
-    assert_eq!(rt; record.seen().len(), 2);
-    assert_eq!(rt; record.undo(), Ok(()));
-    assert_eq!(rt; record.undo(), Ok(()));
-    assert_eq!(rt; record.seen().len(), 1);
-    assert_eq!(rt; record.passes(), 1);
+    expect_same(&rt, record.seen().len(), 2);
+    expect_same(&rt, record.undo(), Ok(()));
+    expect_same(&rt, record.undo(), Ok(()));
+    expect_same(&rt, record.seen().len(), 1);
+    expect_same(&rt, record.passes(), 1);
     Ok(())
 }
 
@@ -254,16 +268,16 @@ fn moves_on_the_widest_board_count_what_they_take(rt: HostRuntime) -> Result<(),
     let beyond = size.point(last, last - 2).ok_or("point")?;
     let beside = size.point(last - 1, last - 1).ok_or("point")?;
     let mut board = PlayBoard::new(size);
-    assert_eq!(rt; taken(&mut board, Colour::White, corner), Some(0));
-    assert_eq!(rt; taken(&mut board, Colour::White, corner), None);
-    assert_eq!(rt; taken(&mut board, Colour::Black, left), Some(0));
-    assert_eq!(rt; taken(&mut board, Colour::Black, above), Some(1));
-    assert_eq!(rt; taken(&mut board, Colour::White, corner), Some(1));
-    assert_eq!(rt; taken(&mut board, Colour::White, beyond), Some(0));
-    assert_eq!(rt; taken(&mut board, Colour::White, beside), Some(0));
-    assert_eq!(rt; taken(&mut board, Colour::White, corner), Some(1));
-    assert_eq!(rt; taken(&mut board, Colour::Black, corner), None);
-    assert_eq!(rt; taken(&mut board, Colour::Black, above), Some(1));
+    expect_same(&rt, taken(&mut board, Colour::White, corner), Some(0));
+    expect_same(&rt, taken(&mut board, Colour::White, corner), None);
+    expect_same(&rt, taken(&mut board, Colour::Black, left), Some(0));
+    expect_same(&rt, taken(&mut board, Colour::Black, above), Some(1));
+    expect_same(&rt, taken(&mut board, Colour::White, corner), Some(1));
+    expect_same(&rt, taken(&mut board, Colour::White, beyond), Some(0));
+    expect_same(&rt, taken(&mut board, Colour::White, beside), Some(0));
+    expect_same(&rt, taken(&mut board, Colour::White, corner), Some(1));
+    expect_same(&rt, taken(&mut board, Colour::Black, corner), None);
+    expect_same(&rt, taken(&mut board, Colour::Black, above), Some(1));
     Ok(())
 }
 
@@ -295,14 +309,30 @@ fn taken_in_the_middle<B: Board>(board: &mut B, colour: Colour) -> Option<u16> {
 fn a_move_empties_the_widest_board(rt: HostRuntime) -> Result<(), Fail> {
     let size = Size::new(MAX_SIZE).ok_or("size")?;
     let mut board = PlayBoard::new(size);
-    assert_eq!(rt; taken_in_the_middle(&mut board, Colour::White), Some(624));
+    expect_same(
+        &rt,
+        taken_in_the_middle(&mut board, Colour::White),
+        Some(624),
+    );
     let mut plain = PlainBoard::new(size);
-    assert_eq!(rt; taken_in_the_middle(&mut plain, Colour::White), Some(624));
-    assert_eq!(rt; board.colouring(), plain.colouring());
-    assert_eq!(rt; taken_in_the_middle(&mut board, Colour::Black), Some(625));
-    assert_eq!(rt; taken_in_the_middle(&mut plain, Colour::Black), Some(625));
-    assert_eq!(rt; board.colouring(), Colouring::empty(size));
-    assert_eq!(rt; plain.colouring(), Colouring::empty(size));
+    expect_same(
+        &rt,
+        taken_in_the_middle(&mut plain, Colour::White),
+        Some(624),
+    );
+    expect_same(&rt, board.colouring(), plain.colouring());
+    expect_same(
+        &rt,
+        taken_in_the_middle(&mut board, Colour::Black),
+        Some(625),
+    );
+    expect_same(
+        &rt,
+        taken_in_the_middle(&mut plain, Colour::Black),
+        Some(625),
+    );
+    expect_same(&rt, board.colouring(), Colouring::empty(size));
+    expect_same(&rt, plain.colouring(), Colouring::empty(size));
     Ok(())
 }
 
@@ -315,12 +345,16 @@ fn a_board_refuses_a_stone_without_liberty(rt: HostRuntime) -> Result<(), Fail> 
     let smothered = painted(size, ".X.XOX.X.");
     let size = board.size();
     if crossed.size() == size && smothered.size() == size {
-        assert_eq!(rt; board.assign(&crossed), Ok(()));
-        assert_eq!(rt; board.assign(&smothered), Err(NoLiberty { point: centre }));
-        assert_eq!(rt; board.colouring(), crossed);
+        expect_same(&rt, board.assign(&crossed), Ok(()));
+        expect_same(
+            &rt,
+            board.assign(&smothered),
+            Err(NoLiberty { point: centre }),
+        );
+        expect_same(&rt, board.colouring(), crossed);
     }
     if board.size().holds(centre) {
-        assert_eq!(rt; board.cell(centre), Cell::Empty);
+        expect_same(&rt, board.cell(centre), Cell::Empty);
     }
     Ok(())
 }
@@ -346,7 +380,7 @@ fn are_found<S: Seen>(
 fn each_colouring_has_its_place(rt: HostRuntime) -> Result<(), Fail> {
     let size = Size::new(2).ok_or("size")?;
     let are_found = are_found::<PlaySeen>(rt.alloc(), painted(size, "X..."), painted(size, "O..."));
-    assert_eq!(rt; are_found.ok(), Some(true));
+    expect_same(&rt, are_found.ok(), Some(true));
     Ok(())
 }
 
@@ -368,13 +402,15 @@ fn each_colouring_joins_once(rt: HostRuntime) -> Result<(), Fail> {
     let size = Size::new(2).ok_or("size")?;
     let first = painted(size, "X...");
     let second = painted(size, "O...");
-    assert_eq!(rt;
+    expect_same(
+        &rt,
         are_joined::<PlaySeen>(rt.alloc(), first, second).ok(),
-        Some(true)
+        Some(true),
     );
-    assert_eq!(rt;
+    expect_same(
+        &rt,
         are_joined::<ListSeen>(rt.alloc(), first, second).ok(),
-        Some(true)
+        Some(true),
     );
     Ok(())
 }
@@ -386,25 +422,29 @@ fn a_turn_is_made_just_where_it_is_legal(rt: HostRuntime) -> Result<(), Fail> {
         rt.alloc(),
         &painted(size, ".XOXO...."),
     ).expect(&rt, "liberties");
-    assert_eq!(rt;
+    expect_same(
+        &rt,
         record.play_if_legal(Colour::White, at(size, 1, 0)).ok(),
-        Some(false)
+        Some(false),
     );
-    assert_eq!(rt;
+    expect_same(
+        &rt,
         record.play_if_legal(Colour::White, at(size, 0, 0)).ok(),
-        Some(true)
+        Some(true),
     );
-    assert_eq!(rt;
+    expect_same(
+        &rt,
         record.play_if_legal(Colour::Black, at(size, 1, 0)).ok(),
-        Some(false)
+        Some(false),
     );
-    assert_eq!(rt; record.colouring(), painted(size, "O.OXO...."));
-    assert_eq!(rt; record.seen().len(), 2);
-    assert_eq!(rt;
+    expect_same(&rt, record.colouring(), painted(size, "O.OXO...."));
+    expect_same(&rt, record.seen().len(), 2);
+    expect_same(
+        &rt,
         record.play_if_legal(Colour::Black, Turn::Pass).ok(),
-        Some(true)
+        Some(true),
     );
-    assert_eq!(rt; record.passes(), 1);
+    expect_same(&rt, record.passes(), 1);
     Ok(())
 }
 
@@ -420,7 +460,7 @@ fn faults_have_texts(rt: HostRuntime) -> Result<(), Fail> {
         (TurnFault::Memory, "out of memory"),
     ];
     for (fault, text) in rows {
-        assert_eq!(rt; format!(in rt.alloc(); "{fault}")?.as_str(), text);
+        expect_same(&rt, format!(in rt.alloc(); "{fault}")?.as_str(), text);
     }
     Ok(())
 }

@@ -1,5 +1,6 @@
 //! Audits of records, with the answers that follow by hand from the questions and the rules of the game.
 
+use crate::expect::{expect_same, expect_that};
 use go_points::{Colour, Size, Turn, sgf_point, to_sgf};
 use sgf_text::read_tree;
 use solution_tree::{AuditFault, AuditWhy, audit};
@@ -16,7 +17,7 @@ pub(crate) fn audited(
 ) -> Result<Result<Colour, AuditFault>, Fail> {
     let (tree, _end) = read_tree(alloc, text)?;
     let problem = read_problem(alloc, &tree)?;
-    assert!(rt; problem_node(&tree).is_some(), "a problem node");
+    expect_that(rt, problem_node(&tree).is_some());
     Ok(audit(alloc, &problem, &tree))
 }
 
@@ -85,7 +86,7 @@ fn follows_the_first_line(rt: HostRuntime) -> Result<(), Fail> {
         (b";B[ba];B[ba])", at(3, AuditWhy::WrongColour)),
     ];
     for (nodes, answer) in rows {
-        assert_eq!(rt; behind(alloc, &rt, CAPTURE, nodes)?, answer);
+        expect_same(&rt, behind(alloc, &rt, CAPTURE, nodes)?, answer);
     }
     Ok(())
 }
@@ -110,7 +111,7 @@ fn asks_every_branch(rt: HostRuntime) -> Result<(), Fail> {
         (b"(;B[];W[];B[])(;B[ba]))", at(4, AuditWhy::AfterTheEnd)),
     ];
     for (nodes, answer) in rows {
-        assert_eq!(rt; behind(alloc, &rt, CAPTURE, nodes)?, answer);
+        expect_same(&rt, behind(alloc, &rt, CAPTURE, nodes)?, answer);
     }
     Ok(())
 }
@@ -143,7 +144,7 @@ fn numbers_nodes_across_branches(rt: HostRuntime) -> Result<(), Fail> {
         ),
     ];
     for (nodes, answer) in rows {
-        assert_eq!(rt; behind(alloc, &rt, KO, nodes)?, answer);
+        expect_same(&rt, behind(alloc, &rt, KO, nodes)?, answer);
     }
     Ok(())
 }
@@ -171,7 +172,7 @@ fn finds_the_problem_node(rt: HostRuntime) -> Result<(), Fail> {
         ),
     ];
     for (text, answer) in rows {
-        assert_eq!(rt; audited(alloc, &rt, text)?, answer);
+        expect_same(&rt, audited(alloc, &rt, text)?, answer);
     }
     Ok(())
 }
@@ -186,7 +187,7 @@ fn stops_early_in_long_trees(rt: HostRuntime) -> Result<(), Fail> {
     let alloc = rt.alloc();
     let front = repeated(alloc, CAPTURE, b";B[];W[]", 49_999)?;
     let text = repeated(alloc, front.as_slice(), b")", 1)?;
-    assert!(rt; ends_before_four(alloc, &rt, text.as_slice())?);
+    expect_that(&rt, ends_before_four(alloc, &rt, text.as_slice())?);
     Ok(())
 }
 
@@ -195,7 +196,7 @@ fn stops_early_in_deep_trees(rt: HostRuntime) -> Result<(), Fail> {
     let alloc = rt.alloc();
     let front = repeated(alloc, CAPTURE, b"(;B[](;W[]", 499)?;
     let text = repeated(alloc, front.as_slice(), b")", 999)?;
-    assert!(rt; ends_before_four(alloc, &rt, text.as_slice())?);
+    expect_that(&rt, ends_before_four(alloc, &rt, text.as_slice())?);
     Ok(())
 }
 
@@ -244,7 +245,7 @@ fn goes_down_a_sequence(rt: HostRuntime) -> Result<(), Fail> {
     let alloc = rt.alloc();
     let front = filled(alloc, &rt, b";")?;
     let text = repeated(alloc, front.as_slice(), b")", 1)?;
-    assert!(rt; black_wins(alloc, &rt, text.as_slice())?);
+    expect_that(&rt, black_wins(alloc, &rt, text.as_slice())?);
     Ok(())
 }
 
@@ -254,6 +255,6 @@ fn goes_down_nested_trees(rt: HostRuntime) -> Result<(), Fail> {
     let alloc = rt.alloc();
     let front = filled(alloc, &rt, b"(;")?;
     let text = repeated(alloc, front.as_slice(), b")", 80)?;
-    assert!(rt; black_wins(alloc, &rt, text.as_slice())?);
+    expect_that(&rt, black_wins(alloc, &rt, text.as_slice())?);
     Ok(())
 }

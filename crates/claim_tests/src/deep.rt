@@ -5,6 +5,7 @@ ghost use Rattle.go_points.specs.declared.Turn.TheVariants.{At};
 ghost use Rattle.go_points.specs.Ply.{ply_of};
 ghost use Rattle.target_game.specs.Legal.{legal};
 
+use crate::expect::{expect_same, expect_that};
 use crate::small_claims::judged;
 use cert_check::{MAX_DEPTH, Reject, Why};
 use go_points::{Colour, Colouring, Point, PointSet, Size, Turn, to_sgf};
@@ -70,14 +71,11 @@ fn first_move(state: &PlayState) -> Option<Point>
 
 // Makes the turn, which is a pass or a legal move of a game that is not over.
 pub(crate) fn make(rt: &impl Abort, state: &mut PlayState, turn: Turn) {
-    assert!(rt; state.over().is_none(), "the game goes on");
+    expect_that(rt, state.over().is_none());
     match turn {
         Turn::Pass => state.after(Turn::Pass).expect(rt, "memory"),
         Turn::At(point) => {
-            assert!(rt;
-                state.size().holds(point) && state.may_move(point),
-                "a legal move"
-            );
+            expect_that(rt, state.size().holds(point) && state.may_move(point));
             state.after(Turn::At(point)).expect(rt, "memory");
         }
     }
@@ -142,15 +140,16 @@ fn depths_up_to_the_limit(rt: HostRuntime) -> Result<(), Fail> {
         }
     }
     // Three lines make two depths: depth 1 stands at line 3, depth 2,000 at line 3,001, depth 2,001 at line 3,003.
-    assert_eq!(rt; MAX_DEPTH, 2000);
+    expect_same(&rt, MAX_DEPTH, 2000);
     claim.extend_from_slice(b"won\n")?;
     let deeper = judged(rt.alloc(), &problem, claim.as_slice());
-    assert_eq!(rt;
+    expect_same(
+        &rt,
         deeper,
         Err(Reject {
             place: 3003,
-            why: Why::Limit
-        })
+            why: Why::Limit,
+        }),
     );
     Ok(())
 }

@@ -2,6 +2,7 @@
 
 use crate::audits::{at, audited, repeated};
 use crate::deep::{PlayState, TURNS, first_turn, make, turn_of};
+use crate::expect::expect_that;
 use go_points::{Turn, to_sgf};
 use sgf_text::read_tree;
 use solution_tree::AuditWhy;
@@ -113,6 +114,6 @@ fn goes_down_to_the_depth_of_a_record(rt: HostRuntime) -> Result<(), Fail> {
     let (tree, _end) = read_tree(alloc, front.as_slice())?;
     let problem = read_problem(alloc, &tree)?;
     let text = record_of(alloc, &rt, &problem)?;
-    assert!(rt; is_left_off(alloc, &rt, text.as_slice())?);
+    expect_that(&rt, is_left_off(alloc, &rt, text.as_slice())?);
     Ok(())
 }

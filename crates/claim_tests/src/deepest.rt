@@ -1,6 +1,7 @@
 //! Claims as deep as a claim may be, right and wrong: black could take a stone at any time, and plays elsewhere first.
 
 use crate::deep::{PlayState, add_count, add_line, make};
+use crate::expect::expect_same;
 use crate::small_claims::judged;
 use cert_check::{Reject, Why};
 use go_points::{Cell, Colour, Colouring, PointSet, Size, Turn, sgf_point};
@@ -192,7 +193,7 @@ fn check_rounds(
         }),
         None => Ok(Colour::Black),
     };
-    assert_eq!(rt; judged(alloc, &problem, text.as_slice()), wanted);
+    expect_same(rt, judged(alloc, &problem, text.as_slice()), wanted);
 }
 
 const TAKEN: &[u8] = b"play ba\nwon\nend\n";

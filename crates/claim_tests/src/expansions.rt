@@ -1,5 +1,6 @@
 //! Claims expanded: how large their trees are, and which replies they keep.
 
+use crate::expect::expect_same;
 use cert_check::{Checked, check_held};
 use go_points::{Colour, Colouring, Point, PointSet, Size, Turn};
 use proof_cert::{Certificate, Lemma, Node, Version};
@@ -136,10 +137,11 @@ fn a_lemma_for_each_set(alloc: Global, rt: &impl Abort, columns: u8) -> Result<C
 fn four_places_of_the_last_row(rt: HostRuntime) -> Result<(), Fail> {
     let checked = a_lemma_for_each_set(rt.alloc(), &rt, 4)?;
     let answer = expand(rt.alloc(), &checked, 194).expect(&rt, "a tree");
-    assert_eq!(rt; answer.size(), Some(194));
-    assert_eq!(rt;
+    expect_same(&rt, answer.size(), Some(194));
+    expect_same(
+        &rt,
         expand(rt.alloc(), &checked, 193).err(),
-        Some(Expand::TooLarge)
+        Some(Expand::TooLarge),
     );
     Ok(())
 }
@@ -148,21 +150,23 @@ fn four_places_of_the_last_row(rt: HostRuntime) -> Result<(), Fail> {
 #[test]
 fn the_whole_last_row(rt: HostRuntime) -> Result<(), Fail> {
     let seven = a_lemma_for_each_set(rt.alloc(), &rt, 7)?;
-    assert_eq!(rt; seven.certificate().lemmas.len(), 127);
+    expect_same(&rt, seven.certificate().lemmas.len(), 127);
     let answer = expand(rt.alloc(), &seven, 90_000).expect(&rt, "a tree");
-    assert_eq!(rt; answer.size(), Some(41_099));
+    expect_same(&rt, answer.size(), Some(41_099));
     let eight = a_lemma_for_each_set(rt.alloc(), &rt, 8)?;
-    assert_eq!(rt; eight.certificate().lemmas.len(), 255);
-    assert_eq!(rt;
+    expect_same(&rt, eight.certificate().lemmas.len(), 255);
+    expect_same(
+        &rt,
         expand(rt.alloc(), &eight, 90_000).err(),
-        Some(Expand::TooLarge)
+        Some(Expand::TooLarge),
     );
-    assert_eq!(rt;
+    expect_same(
+        &rt,
         expand(rt.alloc(), &eight, 328_801).err(),
-        Some(Expand::TooLarge)
+        Some(Expand::TooLarge),
     );
     let answer = expand(rt.alloc(), &eight, 328_802).expect(&rt, "a tree");
-    assert_eq!(rt; answer.size(), Some(328_802));
+    expect_same(&rt, answer.size(), Some(328_802));
     Ok(())
 }
 
@@ -180,6 +184,6 @@ fn line(alloc: Global, turns: u32) -> Result<Answer, AllocError> {
 #[test]
 fn a_long_line_is_counted_and_dropped(rt: HostRuntime) -> Result<(), Fail> {
     let answer = line(rt.alloc(), 100_000)?;
-    assert_eq!(rt; answer.size(), Some(100_000));
+    expect_same(&rt, answer.size(), Some(100_000));
     Ok(())
 }

@@ -1,5 +1,6 @@
 //! Certificates that are held, checked for problems on boards of three rows.
 
+use crate::expect::{expect_same, expect_that};
 use crate::small_claims::{point, problem};
 use cert_check::{Checked, Reject, Why, check_held};
 use go_points::{Colour, Colouring, Size, Turn};
@@ -40,18 +41,12 @@ fn takes_ko(alloc: Global, rt: &impl Abort, rows: u8, number: u32) -> Result<Cer
 // The first fault, with the problem and the certificate as they were handed in.
 fn refused(rt: &impl Abort, answer: Result<Checked, (Reject, Problem, Certificate)>) -> Reject {
     match answer {
-        Ok(_) => {
-            assert!(rt; false, "a refusal");
-            Reject {
-                place: 0,
-                why: Why::Memory,
-            }
-        }
+        Ok(_) => panic!(rt; "a refusal was due"),
         Err((reject, problem, certificate)) => {
-            assert_eq!(rt; problem.size().rows(), 3);
-            assert_eq!(rt; problem.mover(), Colour::Black);
-            assert_eq!(rt; certificate.winner, Colour::Black);
-            assert_eq!(rt; certificate.lemmas.len(), 1);
+            expect_same(rt, problem.size().rows(), 3);
+            expect_same(rt, problem.mover(), Colour::Black);
+            expect_same(rt, certificate.winner, Colour::Black);
+            expect_same(rt, certificate.lemmas.len(), 1);
             reject
         }
     }
@@ -63,11 +58,11 @@ fn a_certificate_that_is_valid(rt: HostRuntime) -> Result<(), Fail> {
     let certificate = takes_ko(rt.alloc(), &rt, 3, 1)?;
     match check_held(rt.alloc(), open, certificate) {
         Ok(checked) => {
-            assert_eq!(rt; checked.winner(), Colour::Black);
-            assert_eq!(rt; checked.problem().history().len(), 1);
-            assert_eq!(rt; checked.certificate().lemmas.len(), 1);
+            expect_same(&rt, checked.winner(), Colour::Black);
+            expect_same(&rt, checked.problem().history().len(), 1);
+            expect_same(&rt, checked.certificate().lemmas.len(), 1);
         }
-        Err(_) => assert!(rt; false, "a valid certificate"),
+        Err(_) => panic!(&rt; "a valid certificate"),
     }
     Ok(())
 }
@@ -76,30 +71,33 @@ fn a_certificate_that_is_valid(rt: HostRuntime) -> Result<(), Fail> {
 fn certificates_that_are_not_valid(rt: HostRuntime) -> Result<(), Fail> {
     let closed = ko(rt.alloc(), &rt, &["O.OXO....", ".XOXO...."]);
     let occurred = check_held(rt.alloc(), closed, takes_ko(rt.alloc(), &rt, 3, 1)?);
-    assert_eq!(rt;
+    expect_same(
+        &rt,
         refused(&rt, occurred),
         Reject {
             place: 8,
-            why: Why::ListedOccurred
-        }
+            why: Why::ListedOccurred,
+        },
     );
     let open = ko(rt.alloc(), &rt, &["O.OXO...."]);
     let number = check_held(rt.alloc(), open, takes_ko(rt.alloc(), &rt, 3, 2)?);
-    assert_eq!(rt;
+    expect_same(
+        &rt,
         refused(&rt, number),
         Reject {
             place: 8,
-            why: Why::LemmaNotLower
-        }
+            why: Why::LemmaNotLower,
+        },
     );
     let wide = ko(rt.alloc(), &rt, &["O.OXO...."]);
     let size = check_held(rt.alloc(), wide, takes_ko(rt.alloc(), &rt, 4, 1)?);
-    assert_eq!(rt;
+    expect_same(
+        &rt,
         refused(&rt, size),
         Reject {
             place: 1,
-            why: Why::SizeDiffers
-        }
+            why: Why::SizeDiffers,
+        },
     );
     Ok(())
 }

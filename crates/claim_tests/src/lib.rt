@@ -12,6 +12,8 @@ mod deepest;
 #[cfg(test)]
 mod expansions;
 #[cfg(test)]
+mod expect;
+#[cfg(test)]
 mod held;
 #[cfg(test)]
 mod lemmas;

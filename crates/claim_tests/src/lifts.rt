@@ -1,5 +1,6 @@
 //! Claims that are made into one lemma, as the format's rules give them.
 
+use crate::expect::{expect_same, expect_that};
 use crate::small_claims::problem;
 use cert_check::{Lift, MAX_LISTED, MAX_NODES, check_held, lift};
 use go_points::Colour;
@@ -19,8 +20,7 @@ fn lifted(
     let again = problem.copy(alloc)?;
     let certificate = read_cert(alloc, problem.size(), claim.as_bytes()).expect(rt, "a claim");
     let Ok(checked) = check_held(alloc, problem, certificate) else {
-        assert!(rt; false, "a valid claim");
-        return Ok(Err(Lift::Memory));
+        panic!(rt; "a valid claim");
     };
     let winner = checked.winner();
     let certificate = match lift(alloc, &checked) {
@@ -30,8 +30,8 @@ fn lifted(
     let mut text = Vec::new(alloc);
     write_cert(&certificate, &mut text)?;
     match check_held(alloc, again, certificate) {
-        Ok(anew) => assert_eq!(rt; anew.winner(), winner),
-        Err(_) => assert!(rt; false, "valid for the same problem"),
+        Ok(anew) => expect_same(rt, anew.winner(), winner),
+        Err(_) => panic!(rt; "valid for the same problem"),
     }
     Ok(Ok(text))
 }
@@ -44,8 +44,8 @@ fn becomes(
     wanted: &str,
 ) -> Result<(), Fail> {
     match lifted(alloc, rt, problem, claim)? {
-        Ok(text) => assert_eq!(rt; text.as_slice(), wanted.as_bytes()),
-        Err(_) => assert!(rt; false, "a lifted claim"),
+        Ok(text) => expect_same(rt, text.as_slice(), wanted.as_bytes()),
+        Err(_) => panic!(rt; "a lifted claim"),
     }
     Ok(())
 }
@@ -136,8 +136,8 @@ fn claims_with_lemmas_are_not_lifted(rt: HostRuntime) -> Result<(), Fail> {
     let claim =
         "tsucert 1 3 B\nlemma B 0 O..X.....\nnot .X.X.....\nplay ba\nwon\nend\nmain\nuse 1\nend\n";
     match lifted(alloc, &rt, open, claim)? {
-        Ok(_) => assert!(rt; false, "a claim with a lemma"),
-        Err(fault) => assert_eq!(rt; fault, Lift::HasLemmas),
+        Ok(_) => panic!(&rt; "a claim with a lemma"),
+        Err(fault) => expect_same(&rt, fault, Lift::HasLemmas),
     }
     Ok(())
 }
@@ -145,6 +145,6 @@ fn claims_with_lemmas_are_not_lifted(rt: HostRuntime) -> Result<(), Fail> {
 // A claim of one lemma is refused as `Limit` exactly where it would pass one of these: so the clauses of `lift` say.
 #[test]
 fn the_limits_of_a_lifted_claim(rt: HostRuntime) {
-    assert_eq!(rt; MAX_NODES, 10_000_000);
-    assert_eq!(rt; MAX_LISTED, 1_000_000);
+    expect_same(&rt, MAX_NODES, 10_000_000);
+    expect_same(&rt, MAX_LISTED, 1_000_000);
 }

@@ -62,6 +62,15 @@ pub(crate) fn refused(place: u64, why: Why) -> Result<Colour, Reject> {
     Err(Reject { place, why })
 }
 
+// The answer is the one that is wanted. (The prover takes no `Reject` by value as a type parameter's.)
+pub(crate) fn expect_judged(
+    rt: &impl Abort,
+    found: Result<Colour, Reject>,
+    wanted: Result<Colour, Reject>,
+) {
+    assert_eq!(rt; found, wanted);
+}
+
 // White may capture at the point below the target.
 fn capture(alloc: Global, rt: &impl Abort) -> Problem {
     problem(alloc, rt, 2, &["XO.."], Colour::White, &[(1, 0), (0, 1)])
@@ -82,31 +91,38 @@ fn claims_of_both_sides(rt: HostRuntime) {
         &capture(rt.alloc(), &rt),
         b"tsucert 1 2 W\nmain\nplay ab\nwon\nend\n",
     );
-    assert_eq!(rt; white, Ok(Colour::White));
+    expect_judged(&rt, white, Ok(Colour::White));
     let black = judged(rt.alloc(), &quiet(rt.alloc(), &rt), QUIET.as_bytes());
-    assert_eq!(rt; black, Ok(Colour::Black));
+    expect_judged(&rt, black, Ok(Colour::Black));
 }
 
 #[test]
 fn lines_that_are_malformed(rt: HostRuntime) {
     let quiet = quiet(rt.alloc(), &rt);
     let check = |claim: &[u8]| judged(rt.alloc(), &quiet, claim);
-    assert_eq!(rt; check(b""), refused(1, Why::Malformed));
-    assert_eq!(rt; check(b"tsucert 3 2 B\n"), refused(1, Why::Malformed));
-    assert_eq!(rt; check(b"tsucert 2 2 B\n"), refused(2, Why::Malformed));
-    assert_eq!(rt; check(b"tsucert 1 02 B\n"), refused(1, Why::Malformed));
-    assert_eq!(rt; check(b"tsucert 1 2 B\nmain\n"), refused(3, Why::Malformed));
-    assert_eq!(rt;
+    expect_judged(&rt, check(b""), refused(1, Why::Malformed));
+    expect_judged(&rt, check(b"tsucert 3 2 B\n"), refused(1, Why::Malformed));
+    expect_judged(&rt, check(b"tsucert 2 2 B\n"), refused(2, Why::Malformed));
+    expect_judged(&rt, check(b"tsucert 1 02 B\n"), refused(1, Why::Malformed));
+    expect_judged(
+        &rt,
+        check(b"tsucert 1 2 B\nmain\n"),
+        refused(3, Why::Malformed),
+    );
+    expect_judged(
+        &rt,
         check(b"tsucert 1 2 B\nmain\nend\n"),
-        refused(3, Why::Malformed)
+        refused(3, Why::Malformed),
     );
-    assert_eq!(rt;
+    expect_judged(
+        &rt,
         check(b"tsucert 1 2 B\nmain\nall 2\nreply ab\nplay pass"),
-        refused(5, Why::Malformed)
+        refused(5, Why::Malformed),
     );
-    assert_eq!(rt;
+    expect_judged(
+        &rt,
         check(b"tsucert 1 3 B\nmain\n"),
-        refused(1, Why::SizeDiffers)
+        refused(1, Why::SizeDiffers),
     );
 }
 
@@ -114,25 +130,30 @@ fn lines_that_are_malformed(rt: HostRuntime) {
 fn lines_of_lemmas_that_are_malformed(rt: HostRuntime) {
     let quiet = quiet(rt.alloc(), &rt);
     let check = |claim: &[u8]| judged(rt.alloc(), &quiet, claim);
-    assert_eq!(rt;
+    expect_judged(
+        &rt,
         check(b"tsucert 1 2 B\nlemma B 0 X...\n"),
-        refused(3, Why::Malformed)
+        refused(3, Why::Malformed),
     );
-    assert_eq!(rt;
+    expect_judged(
+        &rt,
         check(b"tsucert 1 2 B\nlemma B 2 X...\n"),
-        refused(2, Why::Malformed)
+        refused(2, Why::Malformed),
     );
-    assert_eq!(rt;
+    expect_judged(
+        &rt,
         check(b"tsucert 1 2 B\nlemma B 0 X..\n"),
-        refused(2, Why::Malformed)
+        refused(2, Why::Malformed),
     );
-    assert_eq!(rt;
+    expect_judged(
+        &rt,
         check(b"tsucert 1 2 B\nnot X...\n"),
-        refused(2, Why::Malformed)
+        refused(2, Why::Malformed),
     );
-    assert_eq!(rt;
+    expect_judged(
+        &rt,
         check(b"tsucert 1 2 B\nmain\nnot X...\n"),
-        refused(3, Why::Malformed)
+        refused(3, Why::Malformed),
     );
 }
 
@@ -143,7 +164,7 @@ fn every_cut_is_malformed(rt: HostRuntime) {
     let mut place = 1u64;
     for length in 0..claim.len() {
         let cut = judged(rt.alloc(), &quiet, &claim[..length]);
-        assert_eq!(rt; cut, refused(place, Why::Malformed));
+        expect_judged(&rt, cut, refused(place, Why::Malformed));
         if claim[length] == b'\n' {
             place = place.saturating_add(1);
         }
@@ -154,36 +175,42 @@ fn every_cut_is_malformed(rt: HostRuntime) {
 fn nodes_that_are_wrong(rt: HostRuntime) {
     let quiet = quiet(rt.alloc(), &rt);
     let check = |claim: &[u8]| judged(rt.alloc(), &quiet, claim);
-    assert_eq!(rt;
+    expect_judged(
+        &rt,
         check(b"tsucert 1 2 B\nmain\nwon\n"),
-        refused(3, Why::NotWon)
+        refused(3, Why::NotWon),
     );
-    assert_eq!(rt;
+    expect_judged(
+        &rt,
         check(b"tsucert 1 2 W\nmain\nplay ab\nwon\n"),
-        refused(4, Why::NotWon)
+        refused(4, Why::NotWon),
     );
-    assert_eq!(rt;
+    expect_judged(
+        &rt,
         check(b"tsucert 1 2 B\nmain\nplay pass\n"),
-        refused(3, Why::WrongSide)
+        refused(3, Why::WrongSide),
     );
-    assert_eq!(rt;
+    expect_judged(
+        &rt,
         check(b"tsucert 1 2 W\nmain\nall 2\n"),
-        refused(3, Why::WrongSide)
+        refused(3, Why::WrongSide),
     );
-    assert_eq!(rt;
+    expect_judged(
+        &rt,
         check(b"tsucert 1 2 W\nmain\nplay bb\n"),
-        refused(3, Why::TurnBarred)
+        refused(3, Why::TurnBarred),
     );
-    assert_eq!(rt;
+    expect_judged(
+        &rt,
         check(b"tsucert 1 2 B\nmain\nuse 1\n"),
-        refused(3, Why::LemmaNotLower)
+        refused(3, Why::LemmaNotLower),
     );
     let occupied = judged(
         rt.alloc(),
         &capture(rt.alloc(), &rt),
         b"tsucert 1 2 W\nmain\nplay ba\n",
     );
-    assert_eq!(rt; occupied, refused(3, Why::TurnBarred));
+    expect_judged(&rt, occupied, refused(3, Why::TurnBarred));
 }
 
 #[test]
@@ -191,19 +218,22 @@ fn replies_that_differ(rt: HostRuntime) {
     let quiet = quiet(rt.alloc(), &rt);
     let check = |claim: &[u8]| judged(rt.alloc(), &quiet, claim);
     let below = Turn::At(point(&rt, 2, 0, 1));
-    assert_eq!(rt;
+    expect_judged(
+        &rt,
         check(b"tsucert 1 2 B\nmain\nall 1\n"),
-        refused(3, Why::RepliesDiffer { due: Turn::Pass })
+        refused(3, Why::RepliesDiffer { due: Turn::Pass }),
     );
-    assert_eq!(rt;
+    expect_judged(
+        &rt,
         check(b"tsucert 1 2 B\nmain\nall 2\nreply pass\n"),
-        refused(4, Why::RepliesDiffer { due: below })
+        refused(4, Why::RepliesDiffer { due: below }),
     );
     let twice =
         b"tsucert 1 2 B\nmain\nall 2\nreply ab\nplay pass\nall 1\nreply pass\nwon\nreply ab\n";
-    assert_eq!(rt;
+    expect_judged(
+        &rt,
         check(twice),
-        refused(9, Why::RepliesDiffer { due: Turn::Pass })
+        refused(9, Why::RepliesDiffer { due: Turn::Pass }),
     );
 }
 
@@ -218,13 +248,13 @@ fn positions_that_repeat(rt: HostRuntime) {
         &[(0, 1)],
     );
     let played = judged(rt.alloc(), &known, b"tsucert 1 2 W\nmain\nplay ab\n");
-    assert_eq!(rt; played, refused(3, Why::RepeatsKnown));
+    expect_judged(&rt, played, refused(3, Why::RepeatsKnown));
     let answered = judged(
         rt.alloc(),
         &known,
         b"tsucert 1 2 B\nmain\nall 1\nreply pass\nplay pass\nwon\nend\n",
     );
-    assert_eq!(rt; answered, Ok(Colour::Black));
+    expect_judged(&rt, answered, Ok(Colour::Black));
 }
 
 #[test]
@@ -233,7 +263,7 @@ fn text_behind_the_end(rt: HostRuntime) -> Result<(), Fail> {
     for more in ["\n", "x", "end\n"] {
         let claim = format!(in rt.alloc(); "{QUIET}{more}")?;
         let found = judged(rt.alloc(), &quiet, claim.as_bytes());
-        assert_eq!(rt; found, refused(13, Why::TextAfterEnd));
+        expect_judged(&rt, found, refused(13, Why::TextAfterEnd));
     }
     Ok(())
 }

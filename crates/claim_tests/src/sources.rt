@@ -1,6 +1,6 @@
 //! The checker over a reader that fails after its bytes.
 
-use crate::small_claims::{problem, refused};
+use crate::small_claims::{expect_judged, problem, refused};
 use cert_check::{Reject, Why, check};
 use go_points::Colour;
 use proof_cert::ReaderSource;
@@ -69,27 +69,27 @@ fn answer_behind(rt: &impl Abort, alloc: Global, text: &str) -> Result<Colour, R
 #[test]
 fn a_line_that_cannot_be_read(rt: HostRuntime) {
     let none = answer_behind(&rt, rt.alloc(), "");
-    assert_eq!(rt; none, refused(1, Why::Read));
+    expect_judged(&rt, none, refused(1, Why::Read));
     let some = answer_behind(&rt, rt.alloc(), "tsucert 1 3 B\nmain\nplay ba\n");
-    assert_eq!(rt; some, refused(4, Why::Read));
+    expect_judged(&rt, some, refused(4, Why::Read));
     let part = answer_behind(&rt, rt.alloc(), "tsucert 1 3 B\nmain\nplay b");
-    assert_eq!(rt; part, refused(3, Why::Read));
+    expect_judged(&rt, part, refused(3, Why::Read));
     let whole = answer_behind(&rt, rt.alloc(), "tsucert 1 3 B\nmain\nplay ba\nwon\nend\n");
-    assert_eq!(rt; whole, refused(6, Why::Read));
+    expect_judged(&rt, whole, refused(6, Why::Read));
 }
 
 #[test]
 fn faults_before_a_line_that_cannot_be_read(rt: HostRuntime) {
     let faulty = answer_behind(&rt, rt.alloc(), "tsucert 1 3 B\nmain\nplay pass\nwon\n");
-    assert_eq!(rt; faulty, refused(4, Why::NotWon));
+    expect_judged(&rt, faulty, refused(4, Why::NotWon));
     let more = answer_behind(
         &rt,
         rt.alloc(),
         "tsucert 1 3 B\nmain\nplay ba\nwon\nend\nmain\n",
     );
-    assert_eq!(rt; more, refused(6, Why::TextAfterEnd));
+    expect_judged(&rt, more, refused(6, Why::TextAfterEnd));
     let malformed = answer_behind(&rt, rt.alloc(), "tsucert 1 3 B\nmain\nplay\n");
-    assert_eq!(rt; malformed, refused(3, Why::Malformed));
+    expect_judged(&rt, malformed, refused(3, Why::Malformed));
 }
 
 // White would have to reply to the first pass, so the second one is refused, and no line after it is asked for.
@@ -102,8 +102,9 @@ fn passes_for_ever(rt: HostRuntime) {
         line: b"play pass\n".as_slice(),
     };
     let mut source = ReaderSource::new(problem.size(), b"".as_slice(), reader);
-    assert_eq!(rt;
+    expect_judged(
+        &rt,
         check(alloc, &problem, &mut source),
-        refused(4, Why::WrongSide)
+        refused(4, Why::WrongSide),
     );
 }

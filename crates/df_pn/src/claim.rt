@@ -178,6 +178,31 @@ impl Walk {
         Ok(())
     }
 
+    /// Walks over the proof and all below it. The walk is lent, so that no way out of the loop owes its end.
+    fn make_lemmas(
+        &mut self,
+        alloc: Global,
+        problem: &Problem,
+        proofs: &Proofs,
+        root: u32,
+    ) -> Result<(), Refusal> {
+        self.enter(proofs, root)?;
+        for _ in 0..u64::MAX {
+            let Some(visit) = self.visits.last().copied() else {
+                return Ok(());
+            };
+            match proofs.branch(visit.proof, visit.next) {
+                Some(branch) => self.follow(proofs, branch)?,
+                None => self.leave(alloc, problem, proofs, visit)?,
+            }
+        }
+        Err(Refusal::Fault)
+    }
+
+    fn into_lemmas(self) -> Lemmas {
+        self.lemmas
+    }
+
     /// Goes down the branch where it leads to a proof that was not met.
     fn follow(&mut self, proofs: &Proofs, branch: Branch) -> Result<(), Refusal> {
         let last = self.visits.len().saturating_sub(1);
@@ -296,17 +321,8 @@ fn lemmas_of(
     choice: Choice,
 ) -> Result<Lemmas, Refusal> {
     let mut walk = Walk::new(alloc, problem, proofs, root, choice)?;
-    walk.enter(proofs, root)?;
-    for _ in 0..u64::MAX {
-        let Some(visit) = walk.visits.last().copied() else {
-            return Ok(walk.lemmas);
-        };
-        match proofs.branch(visit.proof, visit.next) {
-            Some(branch) => walk.follow(proofs, branch)?,
-            None => walk.leave(alloc, problem, proofs, visit)?,
-        }
-    }
-    Err(Refusal::Fault)
+    walk.make_lemmas(alloc, problem, proofs, root)?;
+    Ok(walk.into_lemmas())
 }
 
 /// The claim of the proof in which each state that stands at several places is a lemma, for each of its proofs that is

@@ -1,5 +1,6 @@
 //! Full search on boards of three rows, where every claim and every step is worked out by hand.
 
+use crate::expect::{expect_same, expect_that};
 use crate::full_search::full_search;
 use crate::{Budget, Verdict, solve};
 use go_points::{Colour, Colouring, PointSet, Size, sgf_point};
@@ -103,8 +104,8 @@ fn a_capture_of_one_turn(rt: HostRuntime) -> Result<(), Fail> {
     let alloc = rt.alloc();
     let text = "tsucert 1 3 B\nmain\nplay ba\nwon\nend\n";
     let corner = problem(&rt, alloc, &["O..X....."], Colour::Black, "aa", "ba");
-    assert!(rt; finds(alloc, &corner, 1, text)?);
-    assert!(rt; solves(&rt, alloc, corner, Colour::Black, text)?);
+    expect_that(&rt, finds(alloc, &corner, 1, text)?);
+    expect_that(&rt, solves(&rt, alloc, corner, Colour::Black, text)?);
     Ok(())
 }
 
@@ -115,8 +116,8 @@ fn a_liberty_filled(rt: HostRuntime) -> Result<(), Fail> {
     let alloc = rt.alloc();
     let text = "tsucert 1 3 W\nmain\nplay ba\nall 1\nreply pass\nplay pass\nwon\nend\n";
     let corner = problem(&rt, alloc, &["O..X....."], Colour::White, "aa", "ba");
-    assert!(rt; finds(alloc, &corner, 7, text)?);
-    assert!(rt; solves(&rt, alloc, corner, Colour::White, text)?);
+    expect_that(&rt, finds(alloc, &corner, 7, text)?);
+    expect_that(&rt, solves(&rt, alloc, corner, Colour::White, text)?);
     Ok(())
 }
 
@@ -127,11 +128,11 @@ fn a_ko_that_is_barred(rt: HostRuntime) -> Result<(), Fail> {
     let text = "tsucert 1 3 W\nmain\nall 1\nreply pass\nplay pass\nwon\nend\n";
     let texts = [".XOXO....", "O.OXO...."];
     let barred = problem(&rt, alloc, &texts, Colour::Black, "aa", "ba");
-    assert!(rt; finds(alloc, &barred, 3, text)?);
-    assert!(rt; solves(&rt, alloc, barred, Colour::White, text)?);
+    expect_that(&rt, finds(alloc, &barred, 3, text)?);
+    expect_that(&rt, solves(&rt, alloc, barred, Colour::White, text)?);
     let open = problem(&rt, alloc, &["O.OXO...."], Colour::Black, "aa", "ba");
     let taken = "tsucert 1 3 B\nmain\nplay ba\nwon\nend\n";
-    assert!(rt; solves(&rt, alloc, open, Colour::Black, taken)?);
+    expect_that(&rt, solves(&rt, alloc, open, Colour::Black, taken)?);
     Ok(())
 }
 
@@ -144,7 +145,7 @@ fn a_second_pass_comes_first(rt: HostRuntime) -> Result<(), Fail> {
         "tsucert 1 3 W\nmain\nall 2\nreply cc\nplay ba\nall 1\nreply pass\nplay pass\nwon\nreply pass\nplay pass\nwon\nend\n";
     let texts = [".XOXO....", "O.OXO...."];
     let threat = problem(&rt, alloc, &texts, Colour::Black, "aa", "bacc");
-    assert!(rt; solves(&rt, alloc, threat, Colour::White, text)?);
+    expect_that(&rt, solves(&rt, alloc, threat, Colour::White, text)?);
     Ok(())
 }
 
@@ -155,7 +156,7 @@ fn an_answer_to_each_reply(rt: HostRuntime) -> Result<(), Fail> {
     let text =
         "tsucert 1 3 W\nmain\nall 3\nreply bc\nplay cc\nall 1\nreply pass\nplay pass\nwon\nreply cc\nplay bc\nall 1\nreply pass\nplay pass\nwon\nreply pass\nplay pass\nwon\nend\n";
     let two = problem(&rt, alloc, &["O........"], Colour::Black, "aa", "bccc");
-    assert!(rt; solves(&rt, alloc, two, Colour::White, text)?);
+    expect_that(&rt, solves(&rt, alloc, two, Colour::White, text)?);
     Ok(())
 }
 
@@ -165,8 +166,8 @@ fn no_move_is_legal(rt: HostRuntime) -> Result<(), Fail> {
     let alloc = rt.alloc();
     let text = "tsucert 1 3 B\nmain\nall 1\nreply pass\nplay pass\nwon\nend\n";
     let eyes = problem(&rt, alloc, &[".XXXXXXX."], Colour::White, "bb", "aacc");
-    assert!(rt; finds(alloc, &eyes, 3, text)?);
-    assert!(rt; solves(&rt, alloc, eyes, Colour::Black, text)?);
+    expect_that(&rt, finds(alloc, &eyes, 3, text)?);
+    expect_that(&rt, solves(&rt, alloc, eyes, Colour::Black, text)?);
     Ok(())
 }
 
@@ -177,19 +178,19 @@ fn a_problem_is_handed_back(rt: HostRuntime) {
     let texts = [".XOXO....", "O.OXO...."];
     let barred = problem(&rt, alloc, &texts, Colour::Black, "aa", "ba");
     match solve(alloc, barred, budget(&rt, 0)) {
-        Verdict::Wins(_) => assert!(rt; false, "no claim"),
+        Verdict::Wins(_) => panic!(&rt; "no claim"),
         Verdict::Unknown {
             problem: rest,
             cause: _,
             steps,
         } => {
-            assert_eq!(rt; steps, 0);
-            assert_eq!(rt; rest.history().len(), 2);
-            assert_eq!(rt; rest.place(), 1);
-            assert_eq!(rt; rest.mover(), Colour::Black);
-            assert_eq!(rt; rest.passes(), 0);
-            assert!(rt; *rest.targets() == points(&rt, "aa"));
-            assert!(rt; *rest.region() == points(&rt, "ba"));
+            expect_same(&rt, steps, 0);
+            expect_same(&rt, rest.history().len(), 2);
+            expect_same(&rt, rest.place(), 1);
+            expect_same(&rt, rest.mover(), Colour::Black);
+            expect_same(&rt, rest.passes(), 0);
+            expect_that(&rt, *rest.targets() == points(&rt, "aa"));
+            expect_that(&rt, *rest.region() == points(&rt, "ba"));
         }
     }
 }
@@ -200,10 +201,10 @@ fn full_search_stops_at_its_floor(rt: HostRuntime) -> Result<(), Fail> {
     let alloc = rt.alloc();
     let corner = problem(&rt, alloc, &["O..X....."], Colour::White, "aa", "ba");
     let mut left = 100;
-    assert!(rt; full_search(alloc, &corner, 94, &mut left)?.is_none());
-    assert_eq!(rt; left, 94);
+    expect_that(&rt, full_search(alloc, &corner, 94, &mut left)?.is_none());
+    expect_same(&rt, left, 94);
     let mut enough = 100;
-    assert!(rt; full_search(alloc, &corner, 93, &mut enough)?.is_some());
-    assert_eq!(rt; enough, 93);
+    expect_that(&rt, full_search(alloc, &corner, 93, &mut enough)?.is_some());
+    expect_same(&rt, enough, 93);
     Ok(())
 }

@@ -4,8 +4,6 @@
 mod key;
 mod numbers;
 mod table;
-#[cfg(test)]
-mod tests;
 
 pub use key::Key;
 pub use numbers::{INFINITY, Numbers};

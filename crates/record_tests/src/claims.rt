@@ -1,5 +1,6 @@
 //! Claims written and walked, against texts that were spelled by hand from the format.
 
+use crate::expect::{expect_same, expect_that};
 use go_points::{Colour, Colouring, Point, Size, Turn};
 use proof_cert::*;
 use std::alloc::Global;
@@ -130,17 +131,20 @@ fn taken<S: NodeSource>(alloc: Global, source: &mut S) -> Result<(Vec<Line>, boo
 #[test]
 fn writes_the_worked_claims(rt: HostRuntime) -> Result<(), Fail> {
     let alloc = rt.alloc();
-    assert_eq!(rt;
+    expect_same(
+        &rt,
         written(alloc, &shared(alloc, &rt)?)?.as_slice(),
-        SHARED.as_bytes()
+        SHARED.as_bytes(),
     );
-    assert_eq!(rt;
+    expect_same(
+        &rt,
         written(alloc, &answered(alloc, &rt)?)?.as_slice(),
-        ANSWERED.as_bytes()
+        ANSWERED.as_bytes(),
     );
-    assert_eq!(rt;
+    expect_same(
+        &rt,
         written(alloc, &meeting(alloc, &rt)?)?.as_slice(),
-        MEETING.as_bytes()
+        MEETING.as_bytes(),
     );
     let plain = claim(
         &rt,
@@ -148,9 +152,10 @@ fn writes_the_worked_claims(rt: HostRuntime) -> Result<(), Fail> {
         Vec::new(alloc),
         play(alloc, at(&rt, 1, 0), Node::Won)?,
     );
-    assert_eq!(rt;
+    expect_same(
+        &rt,
         written(alloc, &plain)?.as_slice(),
-        b"tsucert 1 3 B\nmain\nplay ba\nwon\nend\n".as_slice()
+        b"tsucert 1 3 B\nmain\nplay ba\nwon\nend\n".as_slice(),
     );
     Ok(())
 }
@@ -166,13 +171,13 @@ fn walks_the_lines_of_the_text(rt: HostRuntime) -> Result<(), Fail> {
     for (certificate, text) in &claims {
         let mut held = HeldSource::new(alloc, certificate);
         let mut spelled = ReaderSource::new(certificate.size, text.as_bytes(), b"".as_slice());
-        assert_eq!(rt; NodeSource::size(&held).rows(), 3);
-        assert_eq!(rt; NodeSource::line_number(&held), 0);
+        expect_same(&rt, NodeSource::size(&held).rows(), 3);
+        expect_same(&rt, NodeSource::line_number(&held), 0);
         let (walked, walk_failed) = taken(alloc, &mut held)?;
         let (read, read_failed) = taken(alloc, &mut spelled)?;
-        assert!(rt; walked.as_slice() == read.as_slice());
-        assert!(rt; !walk_failed && !read_failed);
-        assert_eq!(rt; NodeSource::line_number(&held), read.len() as u64);
+        expect_that(&rt, walked.as_slice() == read.as_slice());
+        expect_that(&rt, !walk_failed && !read_failed);
+        expect_same(&rt, NodeSource::line_number(&held), read.len() as u64);
     }
     Ok(())
 }
@@ -198,18 +203,19 @@ fn refuses_what_has_no_spelling(rt: HostRuntime) -> Result<(), Fail> {
     ];
     for certificate in &unspelled {
         let mut out = Vec::new(alloc);
-        assert_eq!(rt;
+        expect_same(
+            &rt,
             write_cert(certificate, &mut out),
-            Err(CertWrite::NoSpelling)
+            Err(CertWrite::NoSpelling),
         );
-        assert!(rt; out.is_empty());
+        expect_that(&rt, out.is_empty());
         // The header and `main` have a spelling, the third line has none.
         let mut held = HeldSource::new(alloc, certificate);
-        assert!(rt; matches!(held.next(), Ok(Some(Line::Header { .. }))));
-        assert!(rt; matches!(held.next(), Ok(Some(Line::Main))));
-        assert!(rt; matches!(held.next(), Err(SourceFault::Malformed)));
-        assert!(rt; matches!(held.next(), Err(SourceFault::Malformed)));
-        assert_eq!(rt; held.line_number(), 3);
+        expect_that(&rt, matches!(held.next(), Ok(Some(Line::Header { .. }))));
+        expect_that(&rt, matches!(held.next(), Ok(Some(Line::Main))));
+        expect_that(&rt, matches!(held.next(), Err(SourceFault::Malformed)));
+        expect_that(&rt, matches!(held.next(), Err(SourceFault::Malformed)));
+        expect_same(&rt, held.line_number(), 3);
     }
     Ok(())
 }
@@ -219,19 +225,21 @@ fn lemmas_may_have_no_spelling(rt: HostRuntime) -> Result<(), Fail> {
     let alloc = rt.alloc();
     let listed = [colouring(&rt, 3, ".XOXO...."), colouring(&rt, 2, "....")];
     let wide = one_lemma(alloc, &rt, 0, &listed)?;
-    assert_eq!(rt;
+    expect_same(
+        &rt,
         write_cert(&wide, &mut Vec::new(alloc)),
-        Err(CertWrite::NoSpelling)
+        Err(CertWrite::NoSpelling),
     );
     let (lines, failed) = taken(alloc, &mut HeldSource::new(alloc, &wide))?;
-    assert!(rt; failed && lines.len() == 3);
+    expect_that(&rt, failed && lines.len() == 3);
     let passes = one_lemma(alloc, &rt, 2, &[])?;
-    assert_eq!(rt;
+    expect_same(
+        &rt,
         write_cert(&passes, &mut Vec::new(alloc)),
-        Err(CertWrite::NoSpelling)
+        Err(CertWrite::NoSpelling),
     );
     let (lines, failed) = taken(alloc, &mut HeldSource::new(alloc, &passes))?;
-    assert!(rt; failed && lines.len() == 1);
+    expect_that(&rt, failed && lines.len() == 1);
     Ok(())
 }
 
@@ -272,8 +280,8 @@ fn a_failed_write_leaves_a_front(rt: HostRuntime) -> Result<(), Fail> {
             room,
         };
         let result = write_cert(&certificate, &mut writer);
-        assert_eq!(rt; result.is_ok(), room == MEETING.len());
-        assert_eq!(rt; writer.taken.as_slice(), &MEETING.as_bytes()[..room]);
+        expect_same(&rt, result.is_ok(), room == MEETING.len());
+        expect_same(&rt, writer.taken.as_slice(), &MEETING.as_bytes()[..room]);
     }
     Ok(())
 }
@@ -294,22 +302,27 @@ fn trees_may_be_deep(rt: HostRuntime) -> Result<(), Fail> {
     text.extend_from_slice(body.as_slice())?;
     text.extend_from_slice(b"won\nend\n")?;
     let certificate = claim(&rt, Colour::Black, Vec::new(alloc), tree);
-    assert!(rt; written(alloc, &certificate)?.as_slice() == text.as_slice());
+    expect_that(
+        &rt,
+        written(alloc, &certificate)?.as_slice() == text.as_slice(),
+    );
     let (lines, failed) = taken(alloc, &mut HeldSource::new(alloc, &certificate))?;
-    assert!(rt; !failed && lines.len() == 3 * 999 + 4);
+    expect_that(&rt, !failed && lines.len() == 3 * 999 + 4);
     Ok(())
 }
 
 #[test]
 fn faults_say_what_they_are(rt: HostRuntime) -> Result<(), Fail> {
     let alloc = rt.alloc();
-    assert_eq!(rt;
+    expect_same(
+        &rt,
         format!(in alloc; "{}", CertWrite::Write)?.as_str(),
-        "write"
+        "write",
     );
-    assert_eq!(rt;
+    expect_same(
+        &rt,
         format!(in alloc; "{}", CertWrite::NoSpelling)?.as_str(),
-        "no spelling"
+        "no spelling",
     );
     Ok(())
 }
@@ -329,7 +342,11 @@ fn reads_back_what_is_written(rt: HostRuntime) -> Result<(), Fail> {
     ];
     for text in &texts {
         let certificate = read_cert(alloc, size_of(&rt, 3), text.as_bytes())?;
-        assert_eq!(rt; written(alloc, &certificate)?.as_slice(), text.as_bytes());
+        expect_same(
+            &rt,
+            written(alloc, &certificate)?.as_slice(),
+            text.as_bytes(),
+        );
     }
     Ok(())
 }
@@ -366,7 +383,7 @@ fn reads_no_other_bytes(rt: HostRuntime) -> Result<(), Fail> {
     ];
     for text in &texts {
         let read = read_cert(alloc, size_of(&rt, 3), text.as_bytes());
-        assert!(rt; matches!(read, Err(SourceFault::Malformed)));
+        expect_that(&rt, matches!(read, Err(SourceFault::Malformed)));
     }
     Ok(())
 }
@@ -386,10 +403,13 @@ fn reads_as_deep_as_a_claim_may_be(rt: HostRuntime) -> Result<(), Fail> {
     let alloc = rt.alloc();
     let deepest = line_of_play(alloc, 1_999)?;
     let certificate = read_cert(alloc, size_of(&rt, 3), deepest.as_slice())?;
-    assert!(rt; written(alloc, &certificate)?.as_slice() == deepest.as_slice());
+    expect_that(
+        &rt,
+        written(alloc, &certificate)?.as_slice() == deepest.as_slice(),
+    );
     let deeper = line_of_play(alloc, 2_000)?;
     let read = read_cert(alloc, size_of(&rt, 3), deeper.as_slice());
-    assert!(rt; matches!(read, Err(SourceFault::Malformed)));
+    expect_that(&rt, matches!(read, Err(SourceFault::Malformed)));
     Ok(())
 }
 
@@ -408,9 +428,12 @@ fn reads_as_many_lemmas_as_a_claim_may_have(rt: HostRuntime) -> Result<(), Fail>
     let alloc = rt.alloc();
     let most = many_lemmas(alloc, 65_535)?;
     let certificate = read_cert(alloc, size_of(&rt, 1), most.as_slice())?;
-    assert!(rt; written(alloc, &certificate)?.as_slice() == most.as_slice());
+    expect_that(
+        &rt,
+        written(alloc, &certificate)?.as_slice() == most.as_slice(),
+    );
     let more = many_lemmas(alloc, 65_536)?;
     let read = read_cert(alloc, size_of(&rt, 1), more.as_slice());
-    assert!(rt; matches!(read, Err(SourceFault::Malformed)));
+    expect_that(&rt, matches!(read, Err(SourceFault::Malformed)));
     Ok(())
 }

@@ -6,6 +6,8 @@ mod canonical;
 #[cfg(test)]
 mod claims;
 #[cfg(test)]
+mod expect;
+#[cfg(test)]
 mod pasts;
 #[cfg(test)]
 mod problems;

@@ -1,5 +1,6 @@
 //! Claims of version 2, whose lemmas say which colourings must have occurred.
 
+use crate::expect::{expect_same, expect_that};
 use go_points::{Colour, Colouring, Size, Turn};
 use proof_cert::*;
 use std::alloc::Global;
@@ -59,17 +60,17 @@ fn writes_what_must_have_occurred_before_what_must_not(rt: HostRuntime) -> Resul
     let alloc = rt.alloc();
     let needed = [colouring(&rt, ".XOXO....")];
     let one = of_lists(alloc, &rt, Version::Two, &needed, &[])?;
-    assert!(rt; written(alloc, &one)?.as_slice() == NEEDED.as_bytes());
+    expect_that(&rt, written(alloc, &one)?.as_slice() == NEEDED.as_bytes());
     let had = [colouring(&rt, "........."), colouring(&rt, "O........")];
     let absent = [colouring(&rt, "X........")];
     let both = of_lists(alloc, &rt, Version::Two, &had, &absent)?;
     let text =
         b"tsucert 2 3 W\nlemma B 0 O.OXO....\nhad .........\nhad O........\nnot X........\nall 1\nreply pass\nplay pass\nwon\nend\nmain\nuse 1\nend\n";
-    assert!(rt; written(alloc, &both)?.as_slice() == text.as_slice());
+    expect_that(&rt, written(alloc, &both)?.as_slice() == text.as_slice());
     let none = of_lists(alloc, &rt, Version::Two, &[], &[])?;
     let text =
         b"tsucert 2 3 W\nlemma B 0 O.OXO....\nall 1\nreply pass\nplay pass\nwon\nend\nmain\nuse 1\nend\n";
-    assert!(rt; written(alloc, &none)?.as_slice() == text.as_slice());
+    expect_that(&rt, written(alloc, &none)?.as_slice() == text.as_slice());
     Ok(())
 }
 
@@ -79,23 +80,24 @@ fn version_one_has_no_line_for_what_must_have_occurred(rt: HostRuntime) -> Resul
     let needed = [colouring(&rt, ".XOXO....")];
     let old = of_lists(alloc, &rt, Version::One, &needed, &[])?;
     let mut out = Vec::new(alloc);
-    assert_eq!(rt; write_cert(&old, &mut out), Err(CertWrite::NoSpelling));
-    assert!(rt; out.is_empty());
+    expect_same(&rt, write_cert(&old, &mut out), Err(CertWrite::NoSpelling));
+    expect_that(&rt, out.is_empty());
     // The header and the lemma's first line have a spelling, the third line has none.
     let mut held = HeldSource::new(alloc, &old);
-    assert!(rt;
+    expect_that(
+        &rt,
         matches!(
             held.next(),
             Ok(Some(Line::Header {
                 version: Version::One,
                 ..
             }))
-        )
+        ),
     );
-    assert!(rt; matches!(held.next(), Ok(Some(Line::Lemma { .. }))));
-    assert!(rt; matches!(held.next(), Err(SourceFault::Malformed)));
-    assert!(rt; matches!(held.next(), Err(SourceFault::Malformed)));
-    assert_eq!(rt; held.line_number(), 3);
+    expect_that(&rt, matches!(held.next(), Ok(Some(Line::Lemma { .. }))));
+    expect_that(&rt, matches!(held.next(), Err(SourceFault::Malformed)));
+    expect_that(&rt, matches!(held.next(), Err(SourceFault::Malformed)));
+    expect_same(&rt, held.line_number(), 3);
     Ok(())
 }
 
@@ -105,9 +107,10 @@ fn what_must_have_occurred_is_of_the_size(rt: HostRuntime) -> Result<(), Fail> {
     let two = Size::new(2).expect(&rt, "a size");
     let small = [Colouring::from_text(two, b"....").expect(&rt, "a colouring")];
     let other = of_lists(alloc, &rt, Version::Two, &small, &[])?;
-    assert_eq!(rt;
+    expect_same(
+        &rt,
         write_cert(&other, &mut Vec::new(alloc)),
-        Err(CertWrite::NoSpelling)
+        Err(CertWrite::NoSpelling),
     );
     Ok(())
 }
@@ -124,7 +127,10 @@ fn reads_what_it_writes(rt: HostRuntime) -> Result<(), Fail> {
     ];
     for text in &texts {
         let certificate = read_cert(alloc, three(&rt), text.as_bytes())?;
-        assert!(rt; written(alloc, &certificate)?.as_slice() == text.as_bytes());
+        expect_that(
+            &rt,
+            written(alloc, &certificate)?.as_slice() == text.as_bytes(),
+        );
     }
     Ok(())
 }
@@ -142,7 +148,7 @@ fn reads_no_such_line_elsewhere(rt: HostRuntime) -> Result<(), Fail> {
     ];
     for text in &texts {
         let read = read_cert(alloc, three(&rt), text.as_bytes());
-        assert!(rt; matches!(read, Err(SourceFault::Malformed)));
+        expect_that(&rt, matches!(read, Err(SourceFault::Malformed)));
     }
     Ok(())
 }
@@ -157,10 +163,10 @@ fn gives_the_lines_of_its_text(rt: HostRuntime) -> Result<(), Fail> {
     let mut read = ReaderSource::new(three(&rt), text.as_slice(), b"".as_slice());
     for _ in 0..12 {
         let line = held.next();
-        assert!(rt; matches!(line, Ok(Some(_))));
-        assert!(rt; line == read.next());
+        expect_that(&rt, matches!(line, Ok(Some(_))));
+        expect_that(&rt, line == read.next());
     }
-    assert_eq!(rt; held.next(), Ok(None));
-    assert_eq!(rt; read.next(), Ok(None));
+    expect_same(&rt, held.next(), Ok(None));
+    expect_same(&rt, read.next(), Ok(None));
     Ok(())
 }

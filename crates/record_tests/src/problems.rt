@@ -1,5 +1,6 @@
 //! Values with what they stand for, and records with their problem nodes.
 
+use crate::expect::{expect_same, expect_that};
 use go_points::{Colour, MAX_SIZE, Size, Turn, sgf_point, to_sgf};
 use sgf_text::read_tree;
 use std::alloc::Global;
@@ -20,15 +21,15 @@ fn reads_turns(rt: HostRuntime) {
     let point = sgf_point(size, b"ba").expect(&rt, "a point");
     let moves: [&[u8]; 2] = [b"ba", b" \t\x0bba\r\n"];
     for value in moves {
-        assert_eq!(rt; read_turn(size, value), Some(Turn::At(point)));
+        expect_same(&rt, read_turn(size, value), Some(Turn::At(point)));
     }
     let passes: [&[u8]; 3] = [b"", b" \n", b"tt"];
     for value in passes {
-        assert_eq!(rt; read_turn(size, value), Some(Turn::Pass));
+        expect_same(&rt, read_turn(size, value), Some(Turn::Pass));
     }
     let bad: [&[u8]; 5] = [b"da", b"BA", b"b a", b"b", b"baa"];
     for value in bad {
-        assert!(rt; read_turn(size, value).is_none());
+        expect_that(&rt, read_turn(size, value).is_none());
     }
 }
 
@@ -38,7 +39,7 @@ fn reads_moves_at_every_point_of_every_board(rt: HostRuntime) {
         let size = Size::new(rows).expect(&rt, "a size");
         for number in 0..size.area() {
             let point = size.point_at(number);
-            assert_eq!(rt; read_turn(size, &to_sgf(point)), Some(Turn::At(point)));
+            expect_same(&rt, read_turn(size, &to_sgf(point)), Some(Turn::At(point)));
         }
     }
 }
@@ -51,9 +52,9 @@ fn reads_tt_as_a_point_where_it_is_one(rt: HostRuntime) {
             Some(point) => Turn::At(point),
             None => Turn::Pass,
         };
-        assert_eq!(rt; read_turn(size, b"tt"), Some(turn));
-        assert_eq!(rt; read_turn(size, b" tt "), Some(turn));
-        assert_eq!(rt; turn == Turn::Pass, rows <= 19);
+        expect_same(&rt, read_turn(size, b"tt"), Some(turn));
+        expect_same(&rt, read_turn(size, b" tt "), Some(turn));
+        expect_same(&rt, turn == Turn::Pass, rows <= 19);
     }
 }
 
@@ -90,7 +91,7 @@ fn reads_sizes(rt: HostRuntime) -> Result<(), Fail> {
     for (value, rows_of_it) in rows {
         let (tree, _end) = read_tree(alloc, around(alloc, b"(;SZ[", value, b"])")?.as_slice())?;
         let size = board_size(&tree.nodes()[0]);
-        assert_eq!(rt; size.map(|size| size.rows()), rows_of_it);
+        expect_same(&rt, size.map(|size| size.rows()), rows_of_it);
     }
     Ok(())
 }
@@ -128,7 +129,7 @@ fn reads_colours(rt: HostRuntime) -> Result<(), Fail> {
                 Some(colour) => Ok(colour),
                 None => Err(ProblemFault::BadColour { node: 2 }),
             };
-            assert_eq!(rt; mover_of(alloc, front, value)?, wanted);
+            expect_same(&rt, mover_of(alloc, front, value)?, wanted);
         }
     }
     Ok(())
@@ -161,7 +162,7 @@ fn reads_points(rt: HostRuntime) -> Result<(), Fail> {
     ];
     for (text, places) in good {
         let found = black_points(alloc, &rt, text)?;
-        assert_eq!(rt; found.as_slice(), places);
+        expect_same(&rt, found.as_slice(), places);
     }
     let bad: [&[u8]; 6] = [
         b"(;SZ[3]AB[]TR[aa])",
@@ -172,11 +173,12 @@ fn reads_points(rt: HostRuntime) -> Result<(), Fail> {
         b"(;SZ[3]AB[tt]TR[aa])",
     ];
     for text in bad {
-        assert!(rt; black_points(alloc, &rt, text)?.is_empty());
+        expect_that(&rt, black_points(alloc, &rt, text)?.is_empty());
         let (tree, _end) = read_tree(alloc, text)?;
-        assert_eq!(rt;
+        expect_same(
+            &rt,
             read_problem(alloc, &tree).err(),
-            Some(ProblemFault::BadPoint { node: 0 })
+            Some(ProblemFault::BadPoint { node: 0 }),
         );
     }
     Ok(())
@@ -195,7 +197,7 @@ fn finds_the_problem_node(rt: HostRuntime) -> Result<(), Fail> {
     ];
     for (text, number) in rows {
         let (tree, _end) = read_tree(alloc, text)?;
-        assert_eq!(rt; problem_node(&tree), number);
+        expect_same(&rt, problem_node(&tree), number);
     }
     Ok(())
 }
@@ -240,10 +242,10 @@ fn walks_along_the_main_line(rt: HostRuntime) -> Result<(), Fail> {
     for (text, colourings, place, mover, passes) in rows {
         let (tree, _end) = read_tree(alloc, text)?;
         let problem = read_problem(alloc, &tree)?;
-        assert_eq!(rt; problem.history().len(), colourings);
-        assert_eq!(rt; problem.place(), place);
-        assert_eq!(rt; problem.mover(), mover);
-        assert_eq!(rt; problem.passes(), passes);
+        expect_same(&rt, problem.history().len(), colourings);
+        expect_same(&rt, problem.place(), place);
+        expect_same(&rt, problem.mover(), mover);
+        expect_same(&rt, problem.passes(), passes);
     }
     Ok(())
 }
@@ -268,7 +270,7 @@ fn faults_have_texts(rt: HostRuntime) -> Result<(), Fail> {
         (ProblemFault::Memory, "out of memory"),
     ];
     for (fault, text) in rows {
-        assert_eq!(rt; format!(in rt.alloc(); "{fault}")?.as_str(), text);
+        expect_same(&rt, format!(in rt.alloc(); "{fault}")?.as_str(), text);
     }
     Ok(())
 }

@@ -1,5 +1,6 @@
 //! Lines that a reader gives, however it cuts its bytes, and where it fails.
 
+use crate::expect::{expect_same, expect_that};
 use go_points::{Colour, MAX_POINTS, MAX_SIZE, Size, Turn};
 use proof_cert::{Line, MAX_LINE, NodeSource, ReaderSource, SourceFault, Version};
 use std::io;
@@ -61,24 +62,25 @@ fn the_same_lines_however_the_bytes_are_cut(rt: HostRuntime) {
             fails: false,
         };
         let mut source = ReaderSource::new(three(&rt), b"".as_slice(), pieces);
-        assert_eq!(rt;
+        expect_same(
+            &rt,
             source.next(),
             Ok(Some(Line::Header {
                 version: Version::One,
                 size: 3,
-                winner: Colour::Black
-            }))
+                winner: Colour::Black,
+            })),
         );
         for _ in 0..3 {
-            assert!(rt; source.next().is_ok());
+            expect_that(&rt, source.next().is_ok());
         }
-        assert_eq!(rt; source.next(), Ok(Some(Line::Won)));
-        assert_eq!(rt; source.line_number(), 5);
+        expect_same(&rt, source.next(), Ok(Some(Line::Won)));
+        expect_same(&rt, source.line_number(), 5);
         for line in [Line::End, Line::Main, Line::Use(1), Line::End] {
-            assert_eq!(rt; source.next(), Ok(Some(line)));
+            expect_same(&rt, source.next(), Ok(Some(line)));
         }
-        assert_eq!(rt; source.next(), Ok(None));
-        assert_eq!(rt; source.line_number(), 9);
+        expect_same(&rt, source.next(), Ok(None));
+        expect_same(&rt, source.line_number(), 9);
     }
 }
 
@@ -94,7 +96,7 @@ fn a_reader_that_fails(rt: HostRuntime) {
             piece: 5,
             fails: true,
         };
-        assert_eq!(rt; count(size, pieces), (feeds, Some(SourceFault::Read)));
+        expect_same(&rt, count(size, pieces), (feeds, Some(SourceFault::Read)));
         let cut = Pieces {
             left,
             piece: 5,
@@ -106,7 +108,7 @@ fn a_reader_that_fails(rt: HostRuntime) {
         } else {
             Some(SourceFault::Malformed)
         };
-        assert_eq!(rt; count(size, cut), (feeds, fault));
+        expect_same(&rt, count(size, cut), (feeds, fault));
         if bytes[end] == b'\n' {
             feeds = feeds.saturating_add(1);
         }
@@ -121,17 +123,17 @@ fn the_longest_line(rt: HostRuntime) -> Result<(), Fail> {
     for _ in 0..MAX_POINTS {
         text.push(b'.')?;
     }
-    assert_eq!(rt; text.len(), 635);
-    assert_eq!(rt; MAX_LINE, 635);
+    expect_same(&rt, text.len(), 635);
+    expect_same(&rt, MAX_LINE, 635);
     let mut longer = text.clone()?;
     text.push(b'\n')?;
     let malformed = (0, Some(SourceFault::Malformed));
-    assert_eq!(rt; count(size, longer.as_slice()), malformed);
+    expect_same(&rt, count(size, longer.as_slice()), malformed);
     longer.push(b'.')?;
-    assert_eq!(rt; count(size, longer.as_slice()), malformed);
+    expect_same(&rt, count(size, longer.as_slice()), malformed);
     longer.push(b'\n')?;
-    assert_eq!(rt; count(size, text.as_slice()), (1, None));
-    assert_eq!(rt; count(size, longer.as_slice()), malformed);
+    expect_same(&rt, count(size, text.as_slice()), (1, None));
+    expect_same(&rt, count(size, longer.as_slice()), malformed);
     Ok(())
 }
 
@@ -142,13 +144,13 @@ fn a_fault_stays(rt: HostRuntime) {
         b"".as_slice(),
         b"won\n\nplay pass\n".as_slice(),
     );
-    assert_eq!(rt; source.next(), Ok(Some(Line::Won)));
+    expect_same(&rt, source.next(), Ok(Some(Line::Won)));
     for _ in 0..3 {
-        assert_eq!(rt; source.next(), Err(SourceFault::Malformed));
+        expect_same(&rt, source.next(), Err(SourceFault::Malformed));
     }
-    assert_eq!(rt; source.line_number(), 2);
+    expect_same(&rt, source.line_number(), 2);
     let mut good = ReaderSource::new(three(&rt), b"".as_slice(), b"play pass\n".as_slice());
-    assert_eq!(rt; good.next(), Ok(Some(Line::Play(Turn::Pass))));
+    expect_same(&rt, good.next(), Ok(Some(Line::Play(Turn::Pass))));
 }
 
 // A line may begin in the bytes that are held and end in the reader's.
@@ -163,9 +165,9 @@ fn the_same_lines_wherever_the_front_ends(rt: HostRuntime) {
         };
         let mut source = ReaderSource::new(three(&rt), &bytes[..end], pieces);
         for _ in 0..8 {
-            assert!(rt; source.next().is_ok());
+            expect_that(&rt, source.next().is_ok());
         }
-        assert_eq!(rt; source.next(), Ok(Some(Line::End)));
-        assert_eq!(rt; source.next(), Ok(None));
+        expect_same(&rt, source.next(), Ok(Some(Line::End)));
+        expect_same(&rt, source.next(), Ok(None));
     }
 }

@@ -1,5 +1,6 @@
 //! Texts of the format with what they read as, and trees with what they are written as.
 
+use crate::expect::{expect_same, expect_that};
 use sgf_text::*;
 use std::alloc::Global;
 use std::io;
@@ -46,8 +47,8 @@ fn reads_and_writes(rt: HostRuntime) -> Result<(), Fail> {
         (b"((;B[aa])", b"(;B[aa])"),
     ];
     for (text, out) in rows {
-        assert_eq!(rt; written(alloc, text)?.as_slice(), out);
-        assert_eq!(rt; written(alloc, out)?.as_slice(), out);
+        expect_same(&rt, written(alloc, text)?.as_slice(), out);
+        expect_same(&rt, written(alloc, out)?.as_slice(), out);
     }
     Ok(())
 }
@@ -55,8 +56,8 @@ fn reads_and_writes(rt: HostRuntime) -> Result<(), Fail> {
 #[test]
 fn gives_the_place_behind_the_tree(rt: HostRuntime) -> Result<(), Fail> {
     let alloc = rt.alloc();
-    assert_eq!(rt; read_tree(alloc, b"(;AB[aa]AB[bb]C[a\\]b])")?.1, 22);
-    assert_eq!(rt; read_tree(alloc, b"x(;)(;)")?.1, 4);
+    expect_same(&rt, read_tree(alloc, b"(;AB[aa]AB[bb]C[a\\]b])")?.1, 22);
+    expect_same(&rt, read_tree(alloc, b"x(;)(;)")?.1, 4);
     Ok(())
 }
 
@@ -80,7 +81,7 @@ fn gives_the_first_fault(rt: HostRuntime) {
         (b"(;[x])", SgfFault::Syntax { at: 2 }),
     ];
     for (text, fault) in rows {
-        assert_eq!(rt; fault_of(alloc, text), Some(fault));
+        expect_same(&rt, fault_of(alloc, text), Some(fault));
     }
 }
 
@@ -88,11 +89,12 @@ fn gives_the_first_fault(rt: HostRuntime) {
 fn cuts_off_each_front(rt: HostRuntime) {
     let alloc = rt.alloc();
     let text = b"(;FF[4]GM[1]SZ[3]AB[aa];B[bb](;W[cc])(;W[ba]C[a\\]b]))";
-    assert!(rt; fault_of(alloc, text).is_none());
+    expect_that(&rt, fault_of(alloc, text).is_none());
     for end in 2..text.len() {
-        assert_eq!(rt;
+        expect_same(
+            &rt,
             fault_of(alloc, &text[..end]),
-            Some(SgfFault::Syntax { at: end })
+            Some(SgfFault::Syntax { at: end }),
         );
     }
 }
@@ -101,14 +103,23 @@ fn cuts_off_each_front(rt: HostRuntime) {
 fn keeps_the_limits(rt: HostRuntime) -> Result<(), Fail> {
     let alloc = rt.alloc();
     let deep = repeated(alloc, b"", b"(;", 1000)?;
-    assert_eq!(rt;
+    expect_same(
+        &rt,
         fault_of(alloc, deep.as_slice()),
-        Some(SgfFault::Syntax { at: 2000 })
+        Some(SgfFault::Syntax { at: 2000 }),
     );
     let deeper = repeated(alloc, deep.as_slice(), b"(;", 1)?;
-    assert_eq!(rt; fault_of(alloc, deeper.as_slice()), Some(SgfFault::TooDeep));
+    expect_same(
+        &rt,
+        fault_of(alloc, deeper.as_slice()),
+        Some(SgfFault::TooDeep),
+    );
     let many = repeated(alloc, b"(", b";", 100_001)?;
-    assert_eq!(rt; fault_of(alloc, many.as_slice()), Some(SgfFault::TooMany));
+    expect_same(
+        &rt,
+        fault_of(alloc, many.as_slice()),
+        Some(SgfFault::TooMany),
+    );
     Ok(())
 }
 
@@ -117,24 +128,37 @@ fn keeps_the_limit_of_bytes(rt: HostRuntime) -> Result<(), Fail> {
     let alloc = rt.alloc();
     // Five bytes begin the value, so that the text has 1,048,576 bytes and is cut off there.
     let cut = repeated(alloc, b"(;CC[", b"a", 1_048_571)?;
-    assert_eq!(rt;
+    expect_same(
+        &rt,
         fault_of(alloc, cut.as_slice()),
-        Some(SgfFault::Syntax { at: 1_048_576 })
+        Some(SgfFault::Syntax { at: 1_048_576 }),
     );
     let long = repeated(alloc, cut.as_slice(), b"a", 1)?;
-    assert_eq!(rt; fault_of(alloc, long.as_slice()), Some(SgfFault::TooLong));
+    expect_same(
+        &rt,
+        fault_of(alloc, long.as_slice()),
+        Some(SgfFault::TooLong),
+    );
     // A whole tree that ends with the last byte that is read.
     let most = repeated(alloc, b"(;CC[", b"a", 1_048_569)?;
     let whole = repeated(alloc, most.as_slice(), b"])(;", 1)?;
-    assert_eq!(rt; read_tree(alloc, whole.as_slice())?.1, 1_048_576);
+    expect_same(&rt, read_tree(alloc, whole.as_slice())?.1, 1_048_576);
     // A byte more, and the tree ends too late.
     let more = repeated(alloc, b"(;CC[", b"a", 1_048_570)?;
     let late = repeated(alloc, more.as_slice(), b"])", 1)?;
-    assert_eq!(rt; fault_of(alloc, late.as_slice()), Some(SgfFault::TooLong));
+    expect_same(
+        &rt,
+        fault_of(alloc, late.as_slice()),
+        Some(SgfFault::TooLong),
+    );
     // A ";" past the bytes that are read begins no tree.
     let far = repeated(alloc, b"(", b" ", 1_048_575)?;
     let none = repeated(alloc, far.as_slice(), b";)", 1)?;
-    assert_eq!(rt; fault_of(alloc, none.as_slice()), Some(SgfFault::NoTree));
+    expect_same(
+        &rt,
+        fault_of(alloc, none.as_slice()),
+        Some(SgfFault::NoTree),
+    );
     Ok(())
 }
 
@@ -143,10 +167,16 @@ fn holds_deep_and_long_trees(rt: HostRuntime) -> Result<(), Fail> {
     let alloc = rt.alloc();
     let open = repeated(alloc, b"", b"(;", 1000)?;
     let deep = repeated(alloc, open.as_slice(), b")", 1000)?;
-    assert!(rt; written(alloc, deep.as_slice())?.as_slice() == deep.as_slice());
+    expect_that(
+        &rt,
+        written(alloc, deep.as_slice())?.as_slice() == deep.as_slice(),
+    );
     let nodes = repeated(alloc, b"(", b";B[aa]", 100_000)?;
     let long = repeated(alloc, nodes.as_slice(), b")", 1)?;
-    assert!(rt; written(alloc, long.as_slice())?.as_slice() == long.as_slice());
+    expect_that(
+        &rt,
+        written(alloc, long.as_slice())?.as_slice() == long.as_slice(),
+    );
     Ok(())
 }
 
@@ -167,7 +197,10 @@ fn many_names(alloc: Global, n: usize) -> Result<Vec<u8>, Fail> {
 fn reads_many_names(rt: HostRuntime) -> Result<(), Fail> {
     let alloc = rt.alloc();
     let text = many_names(alloc, 170_000)?;
-    assert!(rt; written(alloc, text.as_slice())?.as_slice() == text.as_slice());
+    expect_that(
+        &rt,
+        written(alloc, text.as_slice())?.as_slice() == text.as_slice(),
+    );
     Ok(())
 }
 
@@ -185,11 +218,11 @@ fn cuts_into_tokens(rt: HostRuntime) -> Result<(), Fail> {
         (TokenKind::Value, 18, b"[ab\\]"),
     ];
     for (token, (kind, at, part)) in tokens(text).zip(wanted) {
-        assert_eq!(rt; token.kind, kind);
-        assert_eq!(rt; token.at, at);
-        assert_eq!(rt; token.text, part);
+        expect_same(&rt, token.kind, kind);
+        expect_same(&rt, token.at, at);
+        expect_same(&rt, token.text, part);
     }
-    assert_eq!(rt; tokens(text).count(), 8);
+    expect_same(&rt, tokens(text).count(), 8);
     Ok(())
 }
 
@@ -225,16 +258,16 @@ fn leaves_a_front_where_writing_fails(rt: HostRuntime) -> Result<(), Fail> {
             piece: 3,
             room,
         };
-        assert_eq!(rt; write_tree(&tree, &mut narrow), Err(WriteFault::Write));
-        assert_eq!(rt; narrow.taken.as_slice(), &text[..room]);
+        expect_same(&rt, write_tree(&tree, &mut narrow), Err(WriteFault::Write));
+        expect_same(&rt, narrow.taken.as_slice(), &text[..room]);
     }
     let mut narrow = Narrow {
         taken: Vec::new(alloc),
         piece: 3,
         room: 1000,
     };
-    assert_eq!(rt; write_tree(&tree, &mut narrow), Ok(()));
-    assert_eq!(rt; narrow.taken.as_slice(), text.as_slice());
+    expect_same(&rt, write_tree(&tree, &mut narrow), Ok(()));
+    expect_same(&rt, narrow.taken.as_slice(), text.as_slice());
     Ok(())
 }
 
@@ -259,27 +292,27 @@ fn is_node_of(alloc: Global, ident: &[u8], values: &[&[u8]]) -> Result<bool, Fai
 #[test]
 fn makes_nodes_of_good_properties_alone(rt: HostRuntime) -> Result<(), Fail> {
     let alloc = rt.alloc();
-    assert!(rt; is_node_of(alloc, b"A", &[b""])?);
-    assert!(rt; is_node_of(alloc, b"C", &[b"x\\\\", b"[("])?);
-    assert!(rt; !is_node_of(alloc, b"AB", &[b"cc"])?);
-    assert!(rt; !is_node_of(alloc, b"", &[b"cc"])?);
-    assert!(rt; !is_node_of(alloc, b"Ab", &[b"cc"])?);
-    assert!(rt; !is_node_of(alloc, b"C", &[])?);
-    assert!(rt; !is_node_of(alloc, b"C", &[b"a]"])?);
-    assert!(rt; !is_node_of(alloc, b"C", &[b"a\\"])?);
-    assert!(rt; SgfNode::new(Vec::new(alloc)).is_some());
+    expect_that(&rt, is_node_of(alloc, b"A", &[b""])?);
+    expect_that(&rt, is_node_of(alloc, b"C", &[b"x\\\\", b"[("])?);
+    expect_that(&rt, !is_node_of(alloc, b"AB", &[b"cc"])?);
+    expect_that(&rt, !is_node_of(alloc, b"", &[b"cc"])?);
+    expect_that(&rt, !is_node_of(alloc, b"Ab", &[b"cc"])?);
+    expect_that(&rt, !is_node_of(alloc, b"C", &[])?);
+    expect_that(&rt, !is_node_of(alloc, b"C", &[b"a]"])?);
+    expect_that(&rt, !is_node_of(alloc, b"C", &[b"a\\"])?);
+    expect_that(&rt, SgfNode::new(Vec::new(alloc)).is_some());
     Ok(())
 }
 
 #[test]
 fn makes_trees_with_a_node_alone(rt: HostRuntime) -> Result<(), Fail> {
     let alloc = rt.alloc();
-    assert!(rt; Tree::new(Vec::new(alloc), Vec::new(alloc)).is_none());
+    expect_that(&rt, Tree::new(Vec::new(alloc), Vec::new(alloc)).is_none());
     let mut nodes = Vec::new(alloc);
     nodes.push(SgfNode::new(Vec::new(alloc)).ok_or("a node")?)?;
     let tree = Tree::new(nodes, Vec::new(alloc)).ok_or("a tree")?;
-    assert_eq!(rt; tree.nodes().len(), 1);
-    assert_eq!(rt; tree.children().len(), 0);
+    expect_same(&rt, tree.nodes().len(), 1);
+    expect_same(&rt, tree.children().len(), 0);
     Ok(())
 }
 
@@ -295,11 +328,12 @@ fn prints_faults(rt: HostRuntime) -> Result<(), Fail> {
         (SgfFault::Memory, "memory"),
     ];
     for (fault, text) in rows {
-        assert_eq!(rt; format!(in alloc; "{fault}")?.as_str(), text);
+        expect_same(&rt, format!(in alloc; "{fault}")?.as_str(), text);
     }
-    assert_eq!(rt;
+    expect_same(
+        &rt,
         format!(in alloc; "{}", WriteFault::Write)?.as_str(),
-        "write"
+        "write",
     );
     Ok(())
 }

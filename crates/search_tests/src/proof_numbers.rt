@@ -1,5 +1,6 @@
 //! What the search by proof numbers finds, put to the checker.
 
+use crate::expect::{expect_same, expect_that};
 use cert_check::check_held;
 use df_pn::{
     Choice, Pasts, Search, Shared, Stop, claim_with_lemmas, claim_without_lemmas, prove, share_tree,
@@ -77,8 +78,8 @@ fn accepted(rt: &impl Abort, alloc: Global, problem: &Problem, claim: Certificat
     let lemmas = claim.lemmas.len();
     let winner = claim.winner;
     match check_held(alloc, copy, claim) {
-        Ok(checked) => assert_eq!(rt; checked.winner(), winner),
-        Err(_) => assert!(rt; false, "a valid claim"),
+        Ok(checked) => expect_same(rt, checked.winner(), winner),
+        Err(_) => panic!(rt; "a valid claim"),
     }
     lemmas
 }
@@ -98,17 +99,17 @@ const WITHOUT_PASTS: Choice = Choice {
 // there are.
 fn wins(rt: &impl Abort, alloc: Global, problem: &Problem, winner: Colour, table: usize) -> usize {
     let shared = found(rt, alloc, problem, table);
-    assert_eq!(rt; shared.winner, winner);
+    expect_same(rt, shared.winner, winner);
     match claim_without_lemmas(alloc, problem, &shared) {
-        Ok(claim) => assert_eq!(rt; accepted(rt, alloc, problem, claim), 0),
-        Err(_) => assert!(rt; false, "a claim"),
+        Ok(claim) => expect_same(rt, accepted(rt, alloc, problem, claim), 0),
+        Err(_) => panic!(rt; "a claim"),
     }
     match claim_with_lemmas(alloc, problem, &shared, WITHOUT_PASTS) {
         Ok(claim) => {
-            assert_eq!(rt; claim.version, Version::One);
+            expect_same(rt, claim.version, Version::One);
             let _fewer = accepted(rt, alloc, problem, claim);
         }
-        Err(_) => assert!(rt; false, "a claim with lemmas"),
+        Err(_) => panic!(rt; "a claim with lemmas"),
     }
     match claim_with_lemmas(alloc, problem, &shared, ALL) {
         Ok(claim) => accepted(rt, alloc, problem, claim),
@@ -119,11 +120,11 @@ fn wins(rt: &impl Abort, alloc: Global, problem: &Problem, winner: Colour, table
 // So many steps suffice, and one fewer does not; the side wins, and no claim is refused.
 fn check(rt: &impl Abort, alloc: Global, problem: Problem, winner: Colour, steps: u64) {
     let (stop, none_left) = settled(rt, alloc, &problem, 100, steps.saturating_sub(1));
-    assert_eq!(rt; stop, Some(Stop::Steps));
-    assert_eq!(rt; none_left, 0);
+    expect_same(rt, stop, Some(Stop::Steps));
+    expect_same(rt, none_left, 0);
     let (no_stop, left) = settled(rt, alloc, &problem, 100, steps);
-    assert_eq!(rt; no_stop, None);
-    assert_eq!(rt; left, 0);
+    expect_same(rt, no_stop, None);
+    expect_same(rt, left, 0);
     let _lemmas = wins(rt, alloc, &problem, winner, 100);
 }
 
@@ -178,12 +179,12 @@ fn the_ko_is_filled_where_it_opens(rt: HostRuntime) {
     let shared = found(&rt, alloc, &ko, 100);
     let mut text = Vec::new(alloc);
     if let Ok(claim) = claim_without_lemmas(alloc, &ko, &shared) {
-        assert!(&rt; write_cert(&claim, &mut text).is_ok());
+        expect_that(&rt, write_cert(&claim, &mut text).is_ok());
     }
     let expected =
         "tsucert 1 3 W\nmain\nall 2\nreply cc\nplay ba\nall 1\nreply pass\nplay pass\nwon\n\
         reply pass\nplay pass\nwon\nend\n";
-    assert_eq!(&rt; text.as_slice(), expected.as_bytes());
+    expect_same(&rt, text.as_slice(), expected.as_bytes());
 }
 
 // White's stone has two liberties that no move of Black's can take.
@@ -199,8 +200,8 @@ fn no_steps_find_nothing(rt: HostRuntime) {
     let alloc = rt.alloc();
     let corner = problem(&rt, alloc, 3, &["O..X....."], Colour::Black, "aa", "ba");
     let (stop, left) = settled(&rt, alloc, &corner, 100, 0);
-    assert_eq!(&rt; stop, Some(Stop::Steps));
-    assert_eq!(&rt; left, 0);
+    expect_same(&rt, stop, Some(Stop::Steps));
+    expect_same(&rt, left, 0);
 }
 
 // White's eye space in the corner is aa, ba and ca, and all other liberties are taken. The mover takes the middle: White has
@@ -228,7 +229,7 @@ fn six_points_in_a_corner_are_the_movers(rt: HostRuntime) {
     for mover in [Colour::Black, Colour::White] {
         let corner = six_points(&rt, alloc, mover);
         for table in [1, 100, 10_000] {
-            assert!(&rt; wins(&rt, alloc, &corner, mover, table) > 0);
+            expect_that(&rt, wins(&rt, alloc, &corner, mover, table) > 0);
         }
     }
 }
@@ -265,9 +266,9 @@ fn a_state_is_proved_anew_where_its_proof_does_not_hold(rt: HostRuntime) {
     let corner = six_points(&rt, alloc, Colour::Black);
     let mut left = 200_000;
     let mut search = Search::of(alloc, &corner, states(&rt, 10_000)).expect(&rt, "memory");
-    assert!(&rt; search.settle(0, &mut left).is_ok());
-    assert!(&rt; is_a_state_proved_twice(&search));
-    assert!(&rt; wins(&rt, alloc, &corner, Colour::Black, 10_000) > 0);
+    expect_that(&rt, search.settle(0, &mut left).is_ok());
+    expect_that(&rt, is_a_state_proved_twice(&search));
+    expect_that(&rt, wins(&rt, alloc, &corner, Colour::Black, 10_000) > 0);
 }
 
 // What a table of one entry forgets is searched in another order.
@@ -277,9 +278,9 @@ fn the_table_has_an_effect(rt: HostRuntime) {
     let corner = six_points(&rt, alloc, Colour::Black);
     let (none, left_by_one) = settled(&rt, alloc, &corner, 1, 200_000);
     let (no_stop, left) = settled(&rt, alloc, &corner, 10_000, 200_000);
-    assert_eq!(&rt; none, None);
-    assert_eq!(&rt; no_stop, None);
-    assert!(&rt; left_by_one != left);
+    expect_same(&rt, none, None);
+    expect_same(&rt, no_stop, None);
+    expect_that(&rt, left_by_one != left);
 }
 
 // Black may play at aa, at ca, or pass, and White may only pass. Both orders of Black's moves lead to one colouring, where
@@ -289,14 +290,14 @@ fn two_orders_of_moves_meet(rt: HostRuntime) {
     let alloc = rt.alloc();
     let texts = [".X.X.XXXX...............O"];
     let two_eyes = problem(&rt, alloc, 5, &texts, Colour::Black, "ee", "aaca");
-    assert_eq!(&rt; wins(&rt, alloc, &two_eyes, Colour::White, 1_000), 1);
+    expect_same(&rt, wins(&rt, alloc, &two_eyes, Colour::White, 1_000), 1);
 }
 
 #[test]
 fn a_capture_shares_no_state(rt: HostRuntime) {
     let alloc = rt.alloc();
     let corner = problem(&rt, alloc, 3, &["O..X....."], Colour::Black, "aa", "ba");
-    assert_eq!(&rt; wins(&rt, alloc, &corner, Colour::Black, 1_000), 0);
+    expect_same(&rt, wins(&rt, alloc, &corner, Colour::Black, 1_000), 0);
 }
 
 // The tree of this text for the problem gives the claim of that text, with these lemmas, which the checker accepts.
@@ -312,16 +313,16 @@ fn becomes(
     let given = read_cert(alloc, size, tree).expect(rt, "a claim");
     let mut text = Vec::new(alloc);
     match share_tree(alloc, &problem, given.winner, &given.main) {
-        Err(_) => assert!(rt; false, "a tree of legal turns"),
+        Err(_) => panic!(rt; "a tree of legal turns"),
         Ok(shared) => match claim_with_lemmas(alloc, &problem, &shared, choice) {
-            Err(_) => assert!(rt; false, "a claim"),
+            Err(_) => panic!(rt; "a claim"),
             Ok(claim) => {
-                assert!(rt; write_cert(&claim, &mut text).is_ok());
+                expect_that(rt, write_cert(&claim, &mut text).is_ok());
                 let _lemmas = accepted(rt, alloc, &problem, claim);
             }
         },
     }
-    assert_eq!(rt; text.as_slice(), expected);
+    expect_same(rt, text.as_slice(), expected);
 }
 
 // White always passes. Both orders of Black's moves lead to one colouring with White to move. The state after White's
@@ -420,13 +421,13 @@ fn a_lemma_may_need_what_was_played_above_it(rt: HostRuntime) {
     let region = "aabacadaeaabbbcbdbeb";
     let edge = problem(&rt, alloc, 6, &texts, Colour::White, "acbc", region);
     let shared = found(&rt, alloc, &edge, 10_000);
-    assert_eq!(&rt; shared.winner, Colour::Black);
+    expect_same(&rt, shared.winner, Colour::Black);
     match claim_with_lemmas(alloc, &edge, &shared, ALL) {
         Ok(claim) => {
-            assert_eq!(&rt; claim.version, Version::Two);
-            assert!(&rt; needs_what_was_played(&edge, &claim));
-            assert!(&rt; accepted(&rt, alloc, &edge, claim) > 0);
+            expect_same(&rt, claim.version, Version::Two);
+            expect_that(&rt, needs_what_was_played(&edge, &claim));
+            expect_that(&rt, accepted(&rt, alloc, &edge, claim) > 0);
         }
-        Err(_) => assert!(&rt; false, "a claim with lemmas"),
+        Err(_) => panic!(&rt; "a claim with lemmas"),
     }
 }

@@ -2,6 +2,7 @@
 
 use crate::counting::Counting;
 use crate::devices::Faulty;
+use crate::expect::expect_same;
 use crate::run::run;
 use std::alloc::{AllocError, Global};
 use std::io::{ErrorKind, Read};
@@ -30,13 +31,14 @@ fn reads(rt: &impl Abort, alloc: Global, interrupts: u64, status: Status, text: 
         kind: ErrorKind::Interrupted,
     });
     let mut writer = Counting::new(Vec::new(alloc));
-    assert_eq!(rt;
+    expect_same(
+        rt,
         run(alloc, &["tsumego", "check"], &mut reader, &mut writer),
-        status
+        status,
     );
-    assert_eq!(rt; writer.inner.as_slice(), text.as_bytes());
-    assert_eq!(rt; reader.faults(), 0);
-    assert_eq!(rt; u64::from(reader.interrupts()), interrupts);
+    expect_same(rt, writer.inner.as_slice(), text.as_bytes());
+    expect_same(rt, reader.faults(), 0);
+    expect_same(rt, u64::from(reader.interrupts()), interrupts);
 }
 
 #[test]
@@ -55,13 +57,14 @@ fn writes(rt: &impl Abort, alloc: Global, interrupts: u64, status: Status, text:
         failing: calls.as_slice(),
         kind: ErrorKind::Interrupted,
     });
-    assert_eq!(rt;
+    expect_same(
+        rt,
         run(alloc, &["tsumego", "check"], &mut reader, &mut writer),
-        status
+        status,
     );
-    assert_eq!(rt; writer.inner.inner.as_slice(), text.as_bytes());
-    assert_eq!(rt; writer.faults(), 0);
-    assert_eq!(rt; u64::from(writer.interrupts()), interrupts);
+    expect_same(rt, writer.inner.inner.as_slice(), text.as_bytes());
+    expect_same(rt, writer.faults(), 0);
+    expect_same(rt, u64::from(writer.interrupts()), interrupts);
 }
 
 #[test]
@@ -81,7 +84,7 @@ fn each_failed_call_is_counted_once(rt: HostRuntime) {
     let mut byte = [0u8; 1];
     for wanted in [0u64, 1, 2, 2, 2] {
         let _result = reader.read(&mut byte);
-        assert_eq!(rt; reader.faults(), wanted);
-        assert_eq!(rt; reader.interrupts(), 0);
+        expect_same(&rt, reader.faults(), wanted);
+        expect_same(&rt, reader.interrupts(), 0);
     }
 }

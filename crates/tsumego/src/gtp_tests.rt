@@ -2,6 +2,7 @@
 
 use crate::counting::Counting;
 use crate::devices::Faulty;
+use crate::expect::expect_same;
 use crate::run::run;
 use crate::tests::answers;
 use std::alloc::Global;
@@ -81,13 +82,14 @@ fn fails(
         failing: writes,
         kind: ErrorKind::Other,
     });
-    assert_eq!(rt;
+    expect_same(
+        rt,
         run(alloc, &["tsumego", "gtp"], &mut reader, &mut writer),
-        Status::Failed
+        Status::Failed,
     );
-    assert_eq!(rt; writer.inner.inner.as_slice(), text.as_bytes());
-    assert_eq!(rt; reader.faults(), faults.0);
-    assert_eq!(rt; writer.faults(), faults.1);
+    expect_same(rt, writer.inner.inner.as_slice(), text.as_bytes());
+    expect_same(rt, reader.faults(), faults.0);
+    expect_same(rt, writer.faults(), faults.1);
 }
 
 #[test]

@@ -1,6 +1,7 @@
 //! Claims that are written as one lemma, from the format of claims.
 
 use crate::counting::Counting;
+use crate::expect::{expect_same, expect_that};
 use crate::run::run;
 use crate::tests::{answers, checks};
 use std::alloc::Global;
@@ -80,13 +81,14 @@ fn a_claim_that_has_lemmas_is_written_as_it_is(rt: HostRuntime) {
     let mut reader = Counting::new(TWO_ORDERS.as_bytes());
     let mut writer = Counting::new(Vec::new(alloc));
     let words = &["tsumego", "solve", "--proof"];
-    assert_eq!(rt;
+    expect_same(
+        &rt,
         run(alloc, words, &mut reader, &mut writer),
-        Status::Answered
+        Status::Answered,
     );
     let text = String::from_utf8(writer.inner).ok().expect(&rt, "a text");
-    assert!(rt; text.as_str().contains("\nuse 1\n"));
-    assert!(rt; !text.as_str().ends_with("main\nuse 1\nend\n"));
+    expect_that(&rt, text.as_str().contains("\nuse 1\n"));
+    expect_that(&rt, !text.as_str().ends_with("main\nuse 1\nend\n"));
     answers(
         &rt,
         alloc,

@@ -12,6 +12,8 @@ pub mod counting;
 #[cfg(test)]
 mod counting_tests;
 pub mod devices;
+#[cfg(test)]
+mod expect;
 mod gtp;
 #[cfg(test)]
 mod gtp_tests;

@@ -1,6 +1,7 @@
 //! Records and what `solve` writes for them, from the rules of the game and of solution records.
 
 use crate::counting::Counting;
+use crate::expect::expect_that;
 use crate::run::run;
 use crate::tests::{answers, checks};
 use std::alloc::Global;
@@ -139,7 +140,7 @@ fn a_written_claim_shares_its_states(rt: HostRuntime) {
         &["tsumego", "solve", "--proof"],
         "(;SZ[5]AB[ba][da][ab][bb][cb][db]AW[ee]PL[B]TR[ee]SQ[aa][ca])",
     );
-    assert!(rt; claim.as_str().contains("\nlemma "));
+    expect_that(&rt, claim.as_str().contains("\nlemma "));
 }
 
 #[test]

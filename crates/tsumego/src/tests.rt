@@ -2,6 +2,7 @@
 
 use crate::counting::Counting;
 use crate::devices::{Endless, Faulty, Pieces};
+use crate::expect::{expect_same, expect_that};
 use crate::run::run;
 use std::alloc::Global;
 use std::io::ErrorKind;
@@ -64,11 +65,11 @@ fn each_cut_of_a_claim_is_malformed(rt: HostRuntime) {
         let mut writer = Counting::new(Vec::new(alloc));
         let mut reader = Counting::new(input.as_slice());
         let status = run(alloc, &["tsumego", "check"], &mut reader, &mut writer);
-        assert_eq!(rt; status, Status::Unanswered);
+        expect_same(&rt, status, Status::Unanswered);
         let wanted = format!(in alloc; "rejected line {line}: C01 malformed\n").expect(
             &rt, "memory",
         );
-        assert_eq!(rt; writer.inner.as_slice(), wanted.as_bytes());
+        expect_same(&rt, writer.inner.as_slice(), wanted.as_bytes());
         if claim[cut] == b'\n' {
             line = line.saturating_add(1);
         }
@@ -91,11 +92,12 @@ fn other_words_have_clap_s_text(rt: HostRuntime) {
     for words in asked {
         let mut reader = Counting::new("".as_bytes());
         let mut writer = Counting::new(Vec::new(alloc));
-        assert_eq!(rt;
+        expect_same(
+            &rt,
             run(alloc, words, &mut reader, &mut writer),
-            Status::BadWords
+            Status::BadWords,
         );
-        assert!(rt; !writer.inner.is_empty());
+        expect_that(&rt, !writer.inner.is_empty());
     }
 }
 
@@ -120,11 +122,12 @@ fn white_space_past_the_bound_is_a_failed_read(rt: HostRuntime) {
             .expect(&rt, "memory");
         let mut reader = Counting::new(input.as_slice());
         let mut writer = Counting::new(Vec::new(alloc));
-        assert_eq!(rt;
+        expect_same(
+            &rt,
             run(alloc, &["tsumego", "check"], &mut reader, &mut writer),
-            status
+            status,
         );
-        assert_eq!(rt; writer.inner.as_slice(), text.as_bytes());
+        expect_same(&rt, writer.inner.as_slice(), text.as_bytes());
     }
 }
 
@@ -143,8 +146,8 @@ fn endless(
         byte,
     });
     let mut writer = Counting::new(Vec::new(alloc));
-    assert_eq!(rt; run(alloc, words, &mut reader, &mut writer), status);
-    assert_eq!(rt; writer.inner.as_slice(), text.as_bytes());
+    expect_same(rt, run(alloc, words, &mut reader, &mut writer), status);
+    expect_same(rt, writer.inner.as_slice(), text.as_bytes());
 }
 
 #[test]
@@ -206,11 +209,12 @@ fn a_failed_read_is_told(rt: HostRuntime) {
             kind: ErrorKind::Other,
         });
         let mut writer = Counting::new(Vec::new(alloc));
-        assert_eq!(rt;
+        expect_same(
+            &rt,
             run(alloc, &["tsumego", "check"], &mut reader, &mut writer),
-            Status::Failed
+            Status::Failed,
         );
-        assert_eq!(rt; writer.inner.as_slice(), "failed: read\n".as_bytes());
+        expect_same(&rt, writer.inner.as_slice(), "failed: read\n".as_bytes());
     }
 }
 
@@ -244,11 +248,12 @@ fn a_failed_read_in_a_claim_is_told(rt: HostRuntime) {
             kind: ErrorKind::Other,
         });
         let mut writer = Counting::new(Vec::new(alloc));
-        assert_eq!(rt;
+        expect_same(
+            &rt,
             run(alloc, &["tsumego", "check"], &mut reader, &mut writer),
-            status
+            status,
         );
-        assert_eq!(rt; writer.inner.as_slice(), text.as_bytes());
+        expect_same(&rt, writer.inner.as_slice(), text.as_bytes());
     }
 }
 
@@ -261,9 +266,10 @@ fn a_failed_write_has_its_status_alone(rt: HostRuntime) {
         failing: &[0],
         kind: ErrorKind::Other,
     });
-    assert_eq!(rt;
+    expect_same(
+        &rt,
         run(rt.alloc(), &["tsumego", "check"], &mut reader, &mut writer),
-        Status::Failed
+        Status::Failed,
     );
-    assert!(rt; writer.inner.inner.is_empty());
+    expect_that(&rt, writer.inner.inner.is_empty());
 }

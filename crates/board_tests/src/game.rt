@@ -1,6 +1,9 @@
 //! Problems and play on small boards, with results worked out by the rules.
 
-use crate::expect::{expect_same, expect_that};
+use crate::expect::{
+    expect_colour, expect_colouring, expect_count, expect_number, expect_optional_colour,
+    expect_optional_count, expect_same, expect_that,
+};
 use arrayvec::ArrayVec;
 use go_points::{Cell, Colour, Colouring, MAX_SIZE, Point, PointSet, Size, Turn, sgf_point};
 use go_turns::{PlayBoard, PlaySeen};
@@ -88,11 +91,15 @@ fn turns_one_by_one(state: &mut Play) -> ArrayVec<Turn, MAX_TURNS> {
     all
 }
 
+fn expect_turns(rt: &impl Abort, found: &[Turn], wanted: &[Turn]) {
+    assert_eq!(rt; found, wanted);
+}
+
 #[test]
 fn a_capture_wins_for_the_attacker(rt: HostRuntime) {
     let mut state = start(&rt, rt.alloc(), &["O..X....."], Colour::Black, "aa", "ba");
-    expect_same(&rt, state.over(), None);
-    expect_same(
+    expect_optional_colour(&rt, state.over(), None);
+    expect_turns(
         &rt,
         state.turns().as_slice(),
         [turn(&rt, "ba"), Turn::Pass].as_slice(),
@@ -100,9 +107,9 @@ fn a_capture_wins_for_the_attacker(rt: HostRuntime) {
     expect_same(&rt, state.next_turn(0), turn(&rt, "ba"));
     expect_same(&rt, state.next_turn(2), Turn::Pass);
     expect_that(&rt, play(&mut state, turn(&rt, "ba")));
-    expect_same(&rt, state.over(), Some(Colour::Black));
-    expect_same(&rt, state.mover(), Colour::White);
-    expect_same(&rt, state.colouring(), three(&rt, ".X.X....."));
+    expect_optional_colour(&rt, state.over(), Some(Colour::Black));
+    expect_colour(&rt, state.mover(), Colour::White);
+    expect_colouring(&rt, state.colouring(), three(&rt, ".X.X....."));
     expect_that(&rt, state.turns().is_empty());
 }
 
@@ -110,7 +117,7 @@ fn a_capture_wins_for_the_attacker(rt: HostRuntime) {
 #[test]
 fn a_state_has_the_key_of_its_colouring(rt: HostRuntime) {
     let mut state = start(&rt, rt.alloc(), &["O..X....."], Colour::Black, "aa", "ba");
-    expect_same(&rt, state.key(), 3_778_989_091_018_136_610);
+    expect_number(&rt, state.key(), 3_778_989_091_018_136_610);
     let capture = Child {
         key: 3_257_418_155_030_562_517,
         winner: Some(Colour::Black),
@@ -118,9 +125,9 @@ fn a_state_has_the_key_of_its_colouring(rt: HostRuntime) {
     expect_same(&rt, state.child(turn(&rt, "ba")), Some(capture));
     expect_same(&rt, state.child(turn(&rt, "ca")), None);
     expect_that(&rt, play(&mut state, turn(&rt, "ba")));
-    expect_same(&rt, state.key(), 3_257_418_155_030_562_517);
+    expect_number(&rt, state.key(), 3_257_418_155_030_562_517);
     let other_mover = start(&rt, rt.alloc(), &["O..X....."], Colour::White, "aa", "ba");
-    expect_same(&rt, other_mover.key(), 3_778_989_091_018_136_610);
+    expect_number(&rt, other_mover.key(), 3_778_989_091_018_136_610);
 }
 
 #[test]
@@ -128,19 +135,19 @@ fn two_passes_win_for_the_defender(rt: HostRuntime) {
     let mut state = start(&rt, rt.alloc(), &["O..X....."], Colour::White, "aa", "ba");
     expect_that(&rt, play(&mut state, turn(&rt, "ba")));
     expect_that(&rt, play(&mut state, Turn::Pass));
-    expect_same(&rt, state.passes(), 1);
-    expect_same(&rt, state.over(), None);
+    expect_number(&rt, state.passes(), 1);
+    expect_optional_colour(&rt, state.over(), None);
     let end = state.child(Turn::Pass);
-    expect_same(&rt, end.and_then(|child| child.winner), Some(Colour::White));
+    expect_optional_colour(&rt, end.and_then(|child| child.winner), Some(Colour::White));
     expect_that(&rt, play(&mut state, Turn::Pass));
-    expect_same(&rt, state.over(), Some(Colour::White));
+    expect_optional_colour(&rt, state.over(), Some(Colour::White));
     expect_that(&rt, !play(&mut state, Turn::Pass));
 }
 
 #[test]
 fn the_past_decides_at_a_ko(rt: HostRuntime) {
     let free = start(&rt, rt.alloc(), &["O.OXO...."], Colour::Black, "aa", "ba");
-    expect_same(
+    expect_turns(
         &rt,
         free.turns().as_slice(),
         [turn(&rt, "ba"), Turn::Pass].as_slice(),
@@ -153,18 +160,18 @@ fn the_past_decides_at_a_ko(rt: HostRuntime) {
         "aa",
         "ba",
     );
-    expect_same(&rt, barred.turns().as_slice(), [Turn::Pass].as_slice());
-    expect_same(
+    expect_turns(&rt, barred.turns().as_slice(), [Turn::Pass].as_slice());
+    expect_turns(
         &rt,
         turns_one_by_one(&mut barred).as_slice(),
         [Turn::Pass].as_slice(),
     );
     expect_same(&rt, play(&mut barred, turn(&rt, "ba")), false);
-    expect_same(&rt, barred.colouring(), three(&rt, "O.OXO...."));
-    expect_same(&rt, barred.mover(), Colour::Black);
+    expect_colouring(&rt, barred.colouring(), three(&rt, "O.OXO...."));
+    expect_colour(&rt, barred.mover(), Colour::Black);
     expect_same(&rt, barred.child(turn(&rt, "ba")), None);
-    expect_same(&rt, barred.holds(&three(&rt, ".XOXO....")), Some(0));
-    expect_same(&rt, barred.holds(&three(&rt, ".X.XO....")), None);
+    expect_optional_count(&rt, barred.holds(&three(&rt, ".XOXO....")), Some(0));
+    expect_optional_count(&rt, barred.holds(&three(&rt, ".X.XO....")), None);
 }
 
 // The state with this colouring alone, one pass just made, in a problem whose history bars the capture at the upper left.
@@ -194,14 +201,14 @@ fn names(fault: AtFault, point: Point) -> bool {
 #[test]
 fn a_colouring_alone_forgets_the_past(rt: HostRuntime) {
     let mut state = alone(&rt, rt.alloc(), "O.OXO....").expect(&rt, "a state");
-    expect_same(&rt, state.mover(), Colour::Black);
-    expect_same(&rt, state.passes(), 1);
-    expect_same(&rt, state.colouring(), three(&rt, "O.OXO...."));
-    expect_same(&rt, state.holds(&three(&rt, "O.OXO....")), Some(0));
-    expect_same(&rt, state.holds(&three(&rt, ".XOXO....")), None);
+    expect_colour(&rt, state.mover(), Colour::Black);
+    expect_number(&rt, state.passes(), 1);
+    expect_colouring(&rt, state.colouring(), three(&rt, "O.OXO...."));
+    expect_optional_count(&rt, state.holds(&three(&rt, "O.OXO....")), Some(0));
+    expect_optional_count(&rt, state.holds(&three(&rt, ".XOXO....")), None);
     expect_that(&rt, play(&mut state, turn(&rt, "ba")));
-    expect_same(&rt, state.colouring(), three(&rt, ".XOXO...."));
-    expect_same(&rt, state.over(), Some(Colour::Black));
+    expect_colouring(&rt, state.colouring(), three(&rt, ".XOXO...."));
+    expect_optional_colour(&rt, state.over(), Some(Colour::Black));
 }
 
 #[test]
@@ -222,50 +229,50 @@ fn a_state_begins_anew_in_the_same_game(rt: HostRuntime) {
     expect_that(&rt, smothered.size() == state.size());
     let refused = state.restart(rt.alloc(), &smothered, Colour::White, 0);
     expect_that(&rt, refused.is_err_and(|fault| names(fault, second)));
-    expect_same(&rt, state.colouring(), three(&rt, ".XOXO...."));
-    expect_same(&rt, state.mover(), Colour::Black);
+    expect_colouring(&rt, state.colouring(), three(&rt, ".XOXO...."));
+    expect_colour(&rt, state.mover(), Colour::Black);
     let taken = three(&rt, "O.OXO....");
     expect_that(&rt, taken.size() == state.size());
     expect_that(
         &rt,
         state.restart(rt.alloc(), &taken, Colour::Black, 1).is_ok(),
     );
-    expect_same(&rt, state.passes(), 1);
-    expect_same(&rt, state.holds(&three(&rt, ".XOXO....")), None);
+    expect_number(&rt, state.passes(), 1);
+    expect_optional_count(&rt, state.holds(&three(&rt, ".XOXO....")), None);
     expect_that(&rt, play(&mut state, turn(&rt, "ba")));
-    expect_same(&rt, state.over(), Some(Colour::Black));
+    expect_optional_colour(&rt, state.over(), Some(Colour::Black));
 }
 
 #[test]
 fn suicide_of_one_stone_is_no_turn(rt: HostRuntime) {
     let state = start(&rt, rt.alloc(), &[".XXXXXXX."], Colour::White, "bb", "aacc");
-    expect_same(&rt, state.turns().as_slice(), [Turn::Pass].as_slice());
+    expect_turns(&rt, state.turns().as_slice(), [Turn::Pass].as_slice());
 }
 
 #[test]
 fn suicide_of_two_stones_is_a_turn_and_loses_the_targets(rt: HostRuntime) {
     let mut state = start(&rt, rt.alloc(), &["X.OOO...."], Colour::Black, "aa", "ba");
-    expect_same(
+    expect_turns(
         &rt,
         state.turns().as_slice(),
         [turn(&rt, "ba"), Turn::Pass].as_slice(),
     );
     expect_that(&rt, play(&mut state, turn(&rt, "ba")));
-    expect_same(&rt, state.colouring(), three(&rt, "..OOO...."));
-    expect_same(&rt, state.over(), Some(Colour::White));
+    expect_colouring(&rt, state.colouring(), three(&rt, "..OOO...."));
+    expect_optional_colour(&rt, state.over(), Some(Colour::White));
 }
 
 #[test]
 fn the_region_binds_both_sides(rt: HostRuntime) {
     let mut state = start(&rt, rt.alloc(), &["O........"], Colour::Black, "aa", "ba");
-    expect_same(
+    expect_turns(
         &rt,
         state.turns().as_slice(),
         [turn(&rt, "ba"), Turn::Pass].as_slice(),
     );
     expect_that(&rt, !play(&mut state, turn(&rt, "ab")));
     expect_that(&rt, play(&mut state, turn(&rt, "ba")));
-    expect_same(&rt, state.turns().as_slice(), [Turn::Pass].as_slice());
+    expect_turns(&rt, state.turns().as_slice(), [Turn::Pass].as_slice());
 }
 
 #[test]
@@ -282,14 +289,14 @@ fn a_turn_is_taken_back_whole(rt: HostRuntime) {
     );
     if state.over().is_none() && state.size().holds(corner) && state.may_move(corner) {
         expect_that(&rt, state.after(Turn::At(corner)).is_ok());
-        expect_same(&rt, state.colouring(), three(&rt, "O..X....O"));
-        expect_same(&rt, state.passes(), 0);
+        expect_colouring(&rt, state.colouring(), three(&rt, "O..X....O"));
+        expect_number(&rt, state.passes(), 0);
         state.back();
     }
-    expect_same(&rt, state.passes(), 1);
-    expect_same(&rt, state.mover(), Colour::White);
-    expect_same(&rt, state.colouring(), three(&rt, "O..X....."));
-    expect_same(&rt, state.holds(&three(&rt, "O..X....O")), None);
+    expect_number(&rt, state.passes(), 1);
+    expect_colour(&rt, state.mover(), Colour::White);
+    expect_colouring(&rt, state.colouring(), three(&rt, "O..X....."));
+    expect_optional_count(&rt, state.holds(&three(&rt, "O..X....O")), None);
 }
 
 // The refusal of a problem on 3 by 3, if it is refused.
@@ -316,55 +323,59 @@ fn refusal(
     }
 }
 
+fn expect_refusal(rt: &impl Abort, found: Option<BadProblem>, wanted: Option<BadProblem>) {
+    assert_eq!(rt; found, wanted);
+}
+
 #[test]
 fn each_refusal_comes_alone(rt: HostRuntime) {
     let alloc = rt.alloc();
     let fine = ["O..X....."];
     let fine = fine.as_slice();
-    expect_same(&rt, refusal(&rt, alloc, fine, 0, 1, "aa", "ba"), None);
-    expect_same(
+    expect_refusal(&rt, refusal(&rt, alloc, fine, 0, 1, "aa", "ba"), None);
+    expect_refusal(
         &rt,
         refusal(&rt, alloc, &[], 0, 0, "aa", "ba"),
         Some(BadProblem::BadPlace),
     );
-    expect_same(
+    expect_refusal(
         &rt,
         refusal(&rt, alloc, fine, 1, 0, "aa", "ba"),
         Some(BadProblem::BadPlace),
     );
-    expect_same(
+    expect_refusal(
         &rt,
         refusal(&rt, alloc, fine, 0, 0, "", "ba"),
         Some(BadProblem::BadTargets),
     );
-    expect_same(
+    expect_refusal(
         &rt,
         refusal(&rt, alloc, fine, 0, 0, "cc", "ba"),
         Some(BadProblem::BadTargets),
     );
-    expect_same(
+    expect_refusal(
         &rt,
         refusal(&rt, alloc, fine, 0, 0, "aaab", "ba"),
         Some(BadProblem::BadTargets),
     );
-    expect_same(
+    expect_refusal(
         &rt,
         refusal(&rt, alloc, fine, 0, 2, "aa", "ba"),
         Some(BadProblem::Ended),
     );
-    expect_same(
+    expect_refusal(
         &rt,
         refusal(&rt, alloc, fine, 0, 0, "aa", ""),
         Some(BadProblem::EmptyRegion),
     );
     let dead = ["OX.X.....", "O..X....."];
-    expect_same(
+    expect_refusal(
         &rt,
         refusal(&rt, alloc, &dead, 1, 0, "aa", "ba"),
         Some(BadProblem::NoLiberty),
     );
     let twice = ["O..X.....", ".........", "O..X....."];
-    expect_same(
+    expect_refusal(
         &rt,
         refusal(&rt, alloc, &twice, 2, 0, "aa", "ba"),
         Some(BadProblem::Repeated),
@@ -376,28 +387,28 @@ fn the_earlier_refusal_is_named(rt: HostRuntime) {
     let alloc = rt.alloc();
     let fine = ["O..X....."];
     let fine = fine.as_slice();
-    expect_same(
+    expect_refusal(
         &rt,
         refusal(&rt, alloc, fine, 1, 2, "", ""),
         Some(BadProblem::BadPlace),
     );
-    expect_same(
+    expect_refusal(
         &rt,
         refusal(&rt, alloc, fine, 0, 2, "cc", ""),
         Some(BadProblem::BadTargets),
     );
-    expect_same(
+    expect_refusal(
         &rt,
         refusal(&rt, alloc, fine, 0, 2, "aa", ""),
         Some(BadProblem::Ended),
     );
     let dead = ["OX.X.....", "O..X.....", "O..X....."];
-    expect_same(
+    expect_refusal(
         &rt,
         refusal(&rt, alloc, &dead, 1, 0, "aa", ""),
         Some(BadProblem::EmptyRegion),
     );
-    expect_same(
+    expect_refusal(
         &rt,
         refusal(&rt, alloc, &dead, 1, 0, "aa", "ba"),
         Some(BadProblem::NoLiberty),
@@ -488,7 +499,7 @@ fn turns_on_the_widest_board(rt: HostRuntime) {
     }
     let state = start_on_the_widest(&rt, rt.alloc(), colouring, first);
     let turns = state.turns();
-    expect_same(&rt, turns.len(), 625);
+    expect_count(&rt, turns.len(), 625);
     expect_same(&rt, turns.as_slice().last(), Some(&Turn::Pass));
     for number in 1..size.area() {
         expect_same(
@@ -512,16 +523,16 @@ fn a_capture_of_all_the_widest_board_holds(rt: HostRuntime) {
     }
     let last = size.point_at(size.area() - 1);
     let mut state = start_on_the_widest(&rt, rt.alloc(), colouring, size.point_at(0));
-    expect_same(
+    expect_turns(
         &rt,
         state.turns().as_slice(),
         [Turn::At(last), Turn::Pass].as_slice(),
     );
     expect_that(&rt, play(&mut state, Turn::At(last)));
-    expect_same(&rt, state.over(), Some(Colour::Black));
+    expect_optional_colour(&rt, state.over(), Some(Colour::Black));
     let mut left = Colouring::empty(size);
     left.set(last, Cell::Stone(Colour::Black));
-    expect_same(&rt, state.colouring(), left);
+    expect_colouring(&rt, state.colouring(), left);
 }
 
 #[test]
@@ -538,12 +549,12 @@ fn a_problem_tells_its_parts(rt: HostRuntime) {
     let made = made.expect(&rt, "a problem");
     let problem = made.copy(rt.alloc()).expect(&rt, "memory");
     expect_same(&rt, problem.size().rows(), 3);
-    expect_same(&rt, problem.history().len(), 2);
-    expect_same(&rt, problem.place(), 1);
-    expect_same(&rt, *problem.colouring(), three(&rt, "O.OXO...."));
-    expect_same(&rt, problem.mover(), Colour::Black);
-    expect_same(&rt, problem.passes(), 1);
-    expect_same(&rt, problem.defender(), Colour::White);
+    expect_count(&rt, problem.history().len(), 2);
+    expect_count(&rt, problem.place(), 1);
+    expect_colouring(&rt, *problem.colouring(), three(&rt, "O.OXO...."));
+    expect_colour(&rt, problem.mover(), Colour::Black);
+    expect_number(&rt, problem.passes(), 1);
+    expect_colour(&rt, problem.defender(), Colour::White);
     expect_same(&rt, *problem.targets(), points(&rt, "aa"));
     expect_same(&rt, *problem.region(), points(&rt, "bacc"));
 }

@@ -1,6 +1,6 @@
 //! Keys. The words were drawn by another program, from its own PCG64 made by the number 1.
 
-use crate::expect::expect_same;
+use crate::expect::expect_number;
 use go_points::{Colour, Colouring, MAX_SIZE, Size, Turn, sgf_point};
 use go_turns::*;
 use std::test::Fail;
@@ -45,39 +45,39 @@ fn key_after(rt: HostRuntime, rows: u8, moves: &[(Colour, &str)]) -> Result<u64,
 fn the_empty_board_has_the_key_zero(rt: HostRuntime) -> Result<(), Fail> {
     for rows in 1..MAX_SIZE + 1 {
         let size = Size::new(rows).ok_or("size")?;
-        expect_same(&rt, PlainBoard::new(size).key(), 0);
+        expect_number(&rt, PlainBoard::new(size).key(), 0);
     }
     Ok(())
 }
 
 #[test]
 fn one_stone_gives_its_word(rt: HostRuntime) -> Result<(), Fail> {
-    expect_same(
+    expect_number(
         &rt,
         key_after(rt, 9, &[(Colour::Black, "aa")])?,
         FIRST_BLACK,
     );
-    expect_same(
+    expect_number(
         &rt,
         key_after(rt, 9, &[(Colour::White, "aa")])?,
         FIRST_WHITE,
     );
-    expect_same(
+    expect_number(
         &rt,
         key_after(rt, 19, &[(Colour::Black, "ss")])?,
         BLACK_AT_360,
     );
-    expect_same(
+    expect_number(
         &rt,
         key_after(rt, 19, &[(Colour::White, "ss")])?,
         WHITE_AT_360,
     );
-    expect_same(
+    expect_number(
         &rt,
         key_after(rt, 25, &[(Colour::Black, "yy")])?,
         LAST_BLACK,
     );
-    expect_same(
+    expect_number(
         &rt,
         key_after(rt, 25, &[(Colour::White, "yy")])?,
         LAST_WHITE,
@@ -87,17 +87,17 @@ fn one_stone_gives_its_word(rt: HostRuntime) -> Result<(), Fail> {
 
 #[test]
 fn the_words_are_the_same_on_all_boards(rt: HostRuntime) -> Result<(), Fail> {
-    expect_same(
+    expect_number(
         &rt,
         key_after(rt, 2, &[(Colour::Black, "ba")])?,
         SECOND_BLACK,
     );
-    expect_same(
+    expect_number(
         &rt,
         key_after(rt, 19, &[(Colour::Black, "ba")])?,
         SECOND_BLACK,
     );
-    expect_same(
+    expect_number(
         &rt,
         key_after(rt, 25, &[(Colour::Black, "ko")])?,
         BLACK_AT_360,
@@ -111,12 +111,12 @@ fn a_captured_stone_leaves_the_key(rt: HostRuntime) -> Result<(), Fail> {
     let mut record = Record::<PlayBoard, PlaySeen>::new(rt.alloc(), &Colouring::empty(size))?;
     record.play(Colour::Black, at(size, "aa"))?;
     record.play(Colour::White, at(size, "ba"))?;
-    expect_same(&rt, record.key(), FIRST_BLACK ^ SECOND_WHITE);
+    expect_number(&rt, record.key(), FIRST_BLACK ^ SECOND_WHITE);
     record.play(Colour::White, at(size, "ab"))?;
-    expect_same(&rt, record.key(), SECOND_WHITE ^ THIRD_WHITE);
+    expect_number(&rt, record.key(), SECOND_WHITE ^ THIRD_WHITE);
     record.undo()?;
     record.undo()?;
-    expect_same(&rt, record.key(), FIRST_BLACK);
+    expect_number(&rt, record.key(), FIRST_BLACK);
     Ok(())
 }
 
@@ -125,7 +125,7 @@ fn the_order_of_the_moves_does_not_matter(rt: HostRuntime) -> Result<(), Fail> {
     let black = (Colour::Black, "aa");
     let white = (Colour::White, "cc");
     let other_black = (Colour::Black, "bb");
-    expect_same(
+    expect_number(
         &rt,
         key_after(rt, 5, &[black, white, other_black])?,
         key_after(rt, 5, &[other_black, black, white])?,

@@ -1,6 +1,6 @@
 //! Lists of colourings of several sizes, read back.
 
-use crate::expect::expect_same;
+use crate::expect::{expect_count, expect_same};
 use go_points::{Cell, Colour, Colouring, ColouringList, Size};
 use std::alloc::{AllocError, Global};
 use std::process::Abort;
@@ -23,7 +23,7 @@ fn expect_back(rt: &impl Abort, alloc: Global, rows: &[u8]) -> Result<(), AllocE
         list.push(&colouring)?;
         expect_same(rt, list.last(), Some(colouring));
     }
-    expect_same(rt, list.len(), rows.len());
+    expect_count(rt, list.len(), rows.len());
     for index in 0..rows.len() {
         let found = list.get(index);
         expect_same(rt, found, Some(board(rt, rows[index], Colour::White)));

@@ -2,7 +2,9 @@
 
 ghost use Rattle.go_points.specs.Place.{IsOn};
 
-use crate::expect::{expect_same, expect_that};
+use crate::expect::{
+    expect_colour, expect_colouring, expect_count, expect_point, expect_same, expect_that,
+};
 use go_points::{
     Cell, Colour, Colouring, MAX_SIZE, Point, PointSet, Size, Turn, Vertex, gtp_vertex, sgf_point,
     to_gtp, to_sgf,
@@ -21,11 +23,23 @@ fn at(rt: &impl Abort, size: Size, column: u8, row: u8) -> Point
     size.point(column, row).expect(rt, "a point of the board")
 }
 
+fn expect_text(rt: &impl Abort, found: &[u8], wanted: &[u8]) {
+    assert_eq!(rt; found, wanted);
+}
+
+fn expect_reading(rt: &impl Abort, found: Option<Colouring>, wanted: Option<Colouring>) {
+    assert_eq!(rt; found, wanted);
+}
+
+fn expect_vertex(rt: &impl Abort, found: Option<Vertex>, wanted: Option<Vertex>) {
+    assert_eq!(rt; found, wanted);
+}
+
 // The neighbours have these columns and rows.
 fn expect_beside(rt: &impl Abort, size: Size, column: u8, row: u8, wanted: &[(u8, u8)]) {
     let found = at(rt, size, column, row).neighbours(size);
     let found = found.as_slice();
-    expect_same(rt, found.len(), wanted.len());
+    expect_count(rt, found.len(), wanted.len());
     for (point, place) in found.iter().zip(wanted) {
         expect_same(rt, (point.col(), point.row()), *place);
     }
@@ -37,9 +51,9 @@ fn sizes(rt: HostRuntime) {
     expect_same(&rt, Size::new(MAX_SIZE + 1), None);
     expect_same(&rt, board(&rt, MAX_SIZE).rows(), MAX_SIZE);
     let size = board(&rt, 3);
-    expect_same(&rt, size.area(), 9);
-    expect_same(&rt, size.point(3, 0), None);
-    expect_same(&rt, size.point(0, 3), None);
+    expect_count(&rt, size.area(), 9);
+    expect_point(&rt, size.point(3, 0), None);
+    expect_point(&rt, size.point(0, 3), None);
     expect_that(&rt, !board(&rt, 2).holds(at(&rt, size, 2, 1)));
     expect_that(&rt, size.holds(at(&rt, size, 2, 1)));
 }
@@ -52,9 +66,9 @@ fn points_by_row(rt: HostRuntime) {
     expect_same(&rt, size.point_at(7), point);
     let mut points = board(&rt, 2).points();
     for (column, row) in [(0, 0), (1, 0), (0, 1), (1, 1)] {
-        expect_same(&rt, points.next(), Some(at(&rt, size, column, row)));
+        expect_point(&rt, points.next(), Some(at(&rt, size, column, row)));
     }
-    expect_same(&rt, points.next(), None);
+    expect_point(&rt, points.next(), None);
 }
 
 #[test]
@@ -78,8 +92,8 @@ fn neighbours_on_the_widest_board(rt: HostRuntime) {
 
 #[test]
 fn cells(rt: HostRuntime) {
-    expect_same(&rt, Colour::Black.opponent(), Colour::White);
-    expect_same(&rt, Colour::White.opponent(), Colour::Black);
+    expect_colour(&rt, Colour::Black.opponent(), Colour::White);
+    expect_colour(&rt, Colour::White.opponent(), Colour::Black);
     expect_that(&rt, Cell::Empty.is_empty());
     expect_that(&rt, !Cell::Stone(Colour::White).is_empty());
     expect_that(&rt, Cell::Stone(Colour::White).is_stone_of(Colour::White));
@@ -94,8 +108,8 @@ fn texts(rt: HostRuntime) -> Result<(), Fail> {
     colouring.set(at(&rt, size, 2, 0), Cell::Stone(Colour::White));
     colouring.set(at(&rt, size, 0, 1), Cell::Stone(Colour::Black));
     let text = colouring.to_text(rt.alloc())?;
-    expect_same(&rt, text.as_slice(), b"..OX.....".as_slice());
-    expect_same(
+    expect_text(&rt, text.as_slice(), b"..OX.....".as_slice());
+    expect_reading(
         &rt,
         Colouring::from_text(size, text.as_slice()),
         Some(colouring),
@@ -107,11 +121,11 @@ fn texts(rt: HostRuntime) -> Result<(), Fail> {
 #[test]
 fn texts_that_are_no_colourings(rt: HostRuntime) {
     let size = board(&rt, 2);
-    expect_same(&rt, Colouring::from_text(size, b"..."), None);
-    expect_same(&rt, Colouring::from_text(size, b"....."), None);
-    expect_same(&rt, Colouring::from_text(size, b"...x"), None);
-    expect_same(&rt, Colouring::from_text(size, b"..0."), None);
-    expect_same(&rt, Colouring::from_text(size, b""), None);
+    expect_reading(&rt, Colouring::from_text(size, b"..."), None);
+    expect_reading(&rt, Colouring::from_text(size, b"....."), None);
+    expect_reading(&rt, Colouring::from_text(size, b"...x"), None);
+    expect_reading(&rt, Colouring::from_text(size, b"..0."), None);
+    expect_reading(&rt, Colouring::from_text(size, b""), None);
 }
 
 #[test]
@@ -141,15 +155,15 @@ fn order_of_colourings(rt: HostRuntime) -> Result<(), Fail> {
 #[test]
 fn letters(rt: HostRuntime) {
     let size = board(&rt, 3);
-    expect_same(&rt, sgf_point(size, b"aa"), size.point(0, 0));
-    expect_same(&rt, sgf_point(size, b"bc"), size.point(1, 2));
+    expect_point(&rt, sgf_point(size, b"aa"), size.point(0, 0));
+    expect_point(&rt, sgf_point(size, b"bc"), size.point(1, 2));
     expect_same(&rt, to_sgf(at(&rt, size, 1, 2)), *b"bc");
     for text in [b"ad", b"da", b"tt", b"Aa", b"aA", b"a`", b"a1", b"  "] {
-        expect_same(&rt, sgf_point(size, text), None);
+        expect_point(&rt, sgf_point(size, text), None);
     }
-    expect_same(&rt, sgf_point(size, b""), None);
-    expect_same(&rt, sgf_point(size, b"a"), None);
-    expect_same(&rt, sgf_point(size, b"aaa"), None);
+    expect_point(&rt, sgf_point(size, b""), None);
+    expect_point(&rt, sgf_point(size, b"a"), None);
+    expect_point(&rt, sgf_point(size, b"aaa"), None);
 }
 
 #[test]
@@ -159,7 +173,7 @@ fn letters_of_every_point_of_every_board(rt: HostRuntime) {
         for row in 0..rows {
             for column in 0..rows {
                 let point = at(&rt, size, column, row);
-                expect_same(&rt, sgf_point(size, &to_sgf(point)), Some(point));
+                expect_point(&rt, sgf_point(size, &to_sgf(point)), Some(point));
             }
         }
     }
@@ -169,7 +183,7 @@ fn letters_of_every_point_of_every_board(rt: HostRuntime) {
 fn letters_of_a_pass_name_a_point_on_boards_over_nineteen_rows(rt: HostRuntime) {
     for rows in 1..MAX_SIZE + 1 {
         let size = board(&rt, rows);
-        expect_same(&rt, sgf_point(size, b"tt"), size.point(19, 19));
+        expect_point(&rt, sgf_point(size, b"tt"), size.point(19, 19));
         expect_same(&rt, sgf_point(size, b"tt").is_some(), rows >= 20);
     }
 }
@@ -180,16 +194,16 @@ fn sets(rt: HostRuntime) {
     let last = MAX_SIZE - 1;
     let mut set = PointSet::new();
     expect_that(&rt, set.is_empty());
-    expect_same(&rt, set.first(), None);
+    expect_point(&rt, set.first(), None);
     for (column, row) in [(last, last), (7, 3), (0, 0), (6, 3), (7, 3), (2, 0)] {
         set.insert(at(&rt, size, column, row));
     }
-    expect_same(&rt, set.len(), 5);
+    expect_count(&rt, set.len(), 5);
     let mut left = set.iter();
     for (column, row) in [(0, 0), (2, 0), (6, 3), (7, 3), (last, last)] {
-        expect_same(&rt, left.next(), Some(at(&rt, size, column, row)));
+        expect_point(&rt, left.next(), Some(at(&rt, size, column, row)));
     }
-    expect_same(&rt, left.next(), None);
+    expect_point(&rt, left.next(), None);
     expect_that(&rt, set.has(at(&rt, size, 6, 3)));
     expect_that(&rt, !set.has(at(&rt, size, 3, 6)));
 }
@@ -205,7 +219,7 @@ fn sets_that_lose_points(rt: HostRuntime) {
     set.remove(at(&rt, size, 0, 0));
     set.remove(at(&rt, size, 2, 0));
     expect_same(&rt, set, one);
-    expect_same(&rt, set.first(), size.point(1, 1));
+    expect_point(&rt, set.first(), size.point(1, 1));
     set.remove(at(&rt, size, 1, 1));
     expect_same(&rt, set, PointSet::new());
 }
@@ -215,7 +229,7 @@ fn sets_from_a_point_on(rt: HostRuntime) {
     let size = board(&rt, MAX_SIZE);
     let last = MAX_SIZE - 1;
     let mut set = PointSet::new();
-    expect_same(&rt, set.first_from(at(&rt, size, 0, 0)), None);
+    expect_point(&rt, set.first_from(at(&rt, size, 0, 0)), None);
     for (column, row) in [(2, 0), (6, 3), (7, 3), (last, last)] {
         set.insert(at(&rt, size, column, row));
     }
@@ -229,10 +243,10 @@ fn sets_from_a_point_on(rt: HostRuntime) {
         ((last, last), (last, last)),
     ] {
         let point = set.first_from(at(&rt, size, from.0, from.1));
-        expect_same(&rt, point, Some(at(&rt, size, found.0, found.1)));
+        expect_point(&rt, point, Some(at(&rt, size, found.0, found.1)));
     }
     set.remove(at(&rt, size, last, last));
-    expect_same(&rt, set.first_from(at(&rt, size, 8, 3)), None);
+    expect_point(&rt, set.first_from(at(&rt, size, 8, 3)), None);
 }
 
 #[test]
@@ -247,10 +261,10 @@ fn vertices(rt: HostRuntime) {
         (b"T19".as_slice(), 18, 18),
         (b"Z25".as_slice(), 24, 24),
     ] {
-        expect_same(&rt, gtp_vertex(text), Some(Vertex::At { column, row }));
+        expect_vertex(&rt, gtp_vertex(text), Some(Vertex::At { column, row }));
     }
     for text in [b"pass".as_slice(), b"PASS".as_slice(), b"Pass".as_slice()] {
-        expect_same(&rt, gtp_vertex(text), Some(Vertex::Pass));
+        expect_vertex(&rt, gtp_vertex(text), Some(Vertex::Pass));
     }
     for text in [
         b"".as_slice(),
@@ -272,36 +286,36 @@ fn vertices(rt: HostRuntime) {
         b"pas".as_slice(),
         b"passe".as_slice(),
     ] {
-        expect_same(&rt, gtp_vertex(text), None);
+        expect_vertex(&rt, gtp_vertex(text), None);
     }
 }
 
 #[test]
 fn texts_of_vertices(rt: HostRuntime) {
     let three = board(&rt, 3);
-    expect_same(
+    expect_text(
         &rt,
         to_gtp(three, at(&rt, three, 1, 0)).as_slice(),
         b"B3".as_slice(),
     );
     let size = board(&rt, MAX_SIZE);
-    expect_same(
+    expect_text(
         &rt,
         to_gtp(size, at(&rt, size, 24, 0)).as_slice(),
         b"Z25".as_slice(),
     );
-    expect_same(
+    expect_text(
         &rt,
         to_gtp(size, at(&rt, size, 7, 15)).as_slice(),
         b"H10".as_slice(),
     );
-    expect_same(
+    expect_text(
         &rt,
         to_gtp(size, at(&rt, size, 0, 24)).as_slice(),
         b"A1".as_slice(),
     );
     let nineteen = board(&rt, 19);
-    expect_same(
+    expect_text(
         &rt,
         to_gtp(nineteen, at(&rt, nineteen, 8, 0)).as_slice(),
         b"J19".as_slice(),
@@ -319,7 +333,7 @@ fn vertices_of_every_point_of_every_board(rt: HostRuntime) {
                     column,
                     row: rows - 1 - row,
                 };
-                expect_same(&rt, gtp_vertex(text.as_slice()), Some(vertex));
+                expect_vertex(&rt, gtp_vertex(text.as_slice()), Some(vertex));
             }
         }
     }
@@ -334,8 +348,8 @@ fn colourings_differ_from_a_point_on(rt: HostRuntime) {
     one.set(at(&rt, size, 2, 0), Cell::Stone(Colour::Black));
     other.set(at(&rt, size, 2, 0), Cell::Stone(Colour::White));
     other.set(at(&rt, size, last, last), Cell::Stone(Colour::White));
-    expect_same(&rt, one.next_difference(&other, 0), 2);
-    expect_same(&rt, one.next_difference(&other, 3), 624);
+    expect_count(&rt, one.next_difference(&other, 0), 2);
+    expect_count(&rt, one.next_difference(&other, 3), 624);
     expect_that(&rt, one.next_difference(&other, 625) >= size.area());
     expect_that(&rt, one.next_difference(&one, 0) >= size.area());
 }
@@ -355,7 +369,7 @@ fn the_widest_board_full_but_for_a_point(rt: HostRuntime) -> Result<(), Fail> {
     }
     let colouring = Colouring::from_text(size, text.as_slice()).ok_or("text")?;
     let back = colouring.to_text(rt.alloc())?;
-    expect_same(&rt, back.as_slice(), text.as_slice());
+    expect_text(&rt, back.as_slice(), text.as_slice());
     let mut full = colouring;
     let middle = at(&rt, full.size(), 12, 12);
     full.set(middle, Cell::Stone(Colour::White));
@@ -363,6 +377,6 @@ fn the_widest_board_full_but_for_a_point(rt: HostRuntime) -> Result<(), Fail> {
     expect_that(&rt, colouring < full);
     let middle = at(&rt, full.size(), 12, 12);
     full.set(middle, Cell::Empty);
-    expect_same(&rt, full, colouring);
+    expect_colouring(&rt, full, colouring);
     Ok(())
 }

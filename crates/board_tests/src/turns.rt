@@ -1,9 +1,13 @@
 //! Games on small boards and on the widest, with results worked out by the rules.
 
-use crate::expect::{expect_same, expect_that};
+use crate::expect::{
+    expect_colouring, expect_count, expect_number, expect_optional_colour, expect_optional_count,
+    expect_same, expect_that,
+};
 use go_points::{Cell, Colour, Colouring, MAX_SIZE, Point, Size, Turn, sgf_point};
 use go_turns::*;
 use std::alloc::{AllocError, Global};
+use std::process::Abort;
 use std::test::Fail;
 use stone_key::key_of;
 
@@ -31,30 +35,38 @@ fn at(size: Size, column: u8, row: u8) -> Turn {
     }
 }
 
+fn expect_done(rt: &impl Abort, found: Result<(), TurnFault>, wanted: Result<(), TurnFault>) {
+    assert_eq!(rt; found, wanted);
+}
+
+fn expect_taken(rt: &impl Abort, found: Option<u16>, wanted: Option<u16>) {
+    assert_eq!(rt; found, wanted);
+}
+
 #[test]
 fn a_ko_may_not_be_retaken(rt: HostRuntime) -> Result<(), Fail> {
     let size = Size::new(3).ok_or("size")?;
     let mut record = Record::<PlayBoard, PlaySeen>::new(rt.alloc(), &Colouring::empty(size)).expect(
         &rt, "memory",
     );
-    expect_same(&rt, record.play(Colour::Black, at(size, 1, 0)), Ok(()));
-    expect_same(&rt, record.play(Colour::White, at(size, 2, 0)), Ok(()));
-    expect_same(&rt, record.play(Colour::Black, at(size, 0, 1)), Ok(()));
-    expect_same(&rt, record.play(Colour::White, at(size, 1, 1)), Ok(()));
-    expect_same(&rt, record.play(Colour::White, at(size, 0, 0)), Ok(()));
-    expect_same(&rt, record.colouring(), painted(size, "O.OXO...."));
-    expect_same(
+    expect_done(&rt, record.play(Colour::Black, at(size, 1, 0)), Ok(()));
+    expect_done(&rt, record.play(Colour::White, at(size, 2, 0)), Ok(()));
+    expect_done(&rt, record.play(Colour::Black, at(size, 0, 1)), Ok(()));
+    expect_done(&rt, record.play(Colour::White, at(size, 1, 1)), Ok(()));
+    expect_done(&rt, record.play(Colour::White, at(size, 0, 0)), Ok(()));
+    expect_colouring(&rt, record.colouring(), painted(size, "O.OXO...."));
+    expect_done(
         &rt,
         record.play(Colour::Black, at(size, 1, 0)),
         Err(TurnFault::Repeats { earlier: 4 }),
     );
-    expect_same(&rt, record.colouring(), painted(size, "O.OXO...."));
-    expect_same(&rt, record.seen().len(), 6);
-    expect_same(&rt, record.undo(), Ok(()));
-    expect_same(&rt, record.colouring(), painted(size, ".XOXO...."));
-    expect_same(&rt, record.seen().len(), 5);
-    expect_same(&rt, record.play(Colour::White, at(size, 0, 0)), Ok(()));
-    expect_same(&rt, record.colouring(), painted(size, "O.OXO...."));
+    expect_colouring(&rt, record.colouring(), painted(size, "O.OXO...."));
+    expect_count(&rt, record.seen().len(), 6);
+    expect_done(&rt, record.undo(), Ok(()));
+    expect_colouring(&rt, record.colouring(), painted(size, ".XOXO...."));
+    expect_count(&rt, record.seen().len(), 5);
+    expect_done(&rt, record.play(Colour::White, at(size, 0, 0)), Ok(()));
+    expect_colouring(&rt, record.colouring(), painted(size, "O.OXO...."));
     Ok(())
 }
 
@@ -64,25 +76,25 @@ fn two_stones_may_die_by_their_own_move(rt: HostRuntime) -> Result<(), Fail> {
     let mut record = Record::<PlayBoard, PlaySeen>::new(rt.alloc(), &Colouring::empty(size)).expect(
         &rt, "memory",
     );
-    expect_same(&rt, record.play(Colour::Black, at(size, 0, 0)), Ok(()));
-    expect_same(&rt, record.play(Colour::White, at(size, 0, 1)), Ok(()));
-    expect_same(&rt, record.play(Colour::White, at(size, 1, 1)), Ok(()));
-    expect_same(&rt, record.play(Colour::White, at(size, 2, 0)), Ok(()));
-    expect_same(&rt, record.colouring(), painted(size, "X.OOO...."));
-    expect_same(&rt, record.play(Colour::Black, at(size, 1, 0)), Ok(()));
-    expect_same(&rt, record.colouring(), painted(size, "..OOO...."));
-    expect_same(&rt, record.play(Colour::White, at(size, 1, 0)), Ok(()));
-    expect_same(
+    expect_done(&rt, record.play(Colour::Black, at(size, 0, 0)), Ok(()));
+    expect_done(&rt, record.play(Colour::White, at(size, 0, 1)), Ok(()));
+    expect_done(&rt, record.play(Colour::White, at(size, 1, 1)), Ok(()));
+    expect_done(&rt, record.play(Colour::White, at(size, 2, 0)), Ok(()));
+    expect_colouring(&rt, record.colouring(), painted(size, "X.OOO...."));
+    expect_done(&rt, record.play(Colour::Black, at(size, 1, 0)), Ok(()));
+    expect_colouring(&rt, record.colouring(), painted(size, "..OOO...."));
+    expect_done(&rt, record.play(Colour::White, at(size, 1, 0)), Ok(()));
+    expect_done(
         &rt,
         record.play(Colour::Black, at(size, 0, 0)),
         Err(TurnFault::Repeats { earlier: 6 }),
     );
-    expect_same(
+    expect_done(
         &rt,
         record.play(Colour::Black, at(size, 1, 1)),
         Err(TurnFault::Occupied),
     );
-    expect_same(&rt, record.last_colour(), Some(Colour::White));
+    expect_optional_colour(&rt, record.last_colour(), Some(Colour::White));
     Ok(())
 }
 
@@ -92,22 +104,22 @@ fn one_point_has_no_legal_move(rt: HostRuntime) -> Result<(), Fail> {
     let mut record = Record::<PlayBoard, PlaySeen>::new(rt.alloc(), &Colouring::empty(size)).expect(
         &rt, "memory",
     );
-    expect_same(
+    expect_done(
         &rt,
         record.play(Colour::Black, at(size, 0, 0)),
         Err(TurnFault::Repeats { earlier: 0 }),
     );
-    expect_same(&rt, record.last_colour(), None);
-    expect_same(&rt, record.undo(), Err(TurnFault::CannotUndo));
-    expect_same(&rt, record.play(Colour::White, Turn::Pass), Ok(()));
-    expect_same(&rt, record.play(Colour::Black, Turn::Pass), Ok(()));
-    expect_same(&rt, record.passes(), 2);
-    expect_same(&rt, record.last_colour(), Some(Colour::Black));
-    expect_same(&rt, record.undo(), Ok(()));
-    expect_same(&rt, record.passes(), 1);
-    expect_same(&rt, record.last_colour(), Some(Colour::White));
+    expect_optional_colour(&rt, record.last_colour(), None);
+    expect_done(&rt, record.undo(), Err(TurnFault::CannotUndo));
+    expect_done(&rt, record.play(Colour::White, Turn::Pass), Ok(()));
+    expect_done(&rt, record.play(Colour::Black, Turn::Pass), Ok(()));
+    expect_number(&rt, record.passes(), 2);
+    expect_optional_colour(&rt, record.last_colour(), Some(Colour::Black));
+    expect_done(&rt, record.undo(), Ok(()));
+    expect_number(&rt, record.passes(), 1);
+    expect_optional_colour(&rt, record.last_colour(), Some(Colour::White));
     let wide = Size::new(2).ok_or("size")?;
-    expect_same(
+    expect_done(
         &rt,
         record.play(Colour::Black, at(wide, 1, 0)),
         Err(TurnFault::OffBoard),
@@ -122,16 +134,16 @@ fn a_stone_without_liberty_is_taken(rt: HostRuntime) -> Result<(), Fail> {
     let mut record = Record::<PlayBoard, PlaySeen>::new(rt.alloc(), &Colouring::empty(size)).expect(
         &rt, "memory",
     );
-    expect_same(&rt, record.play(Colour::Black, at(size, 0, 0)), Ok(()));
-    expect_same(&rt, record.play(Colour::White, at(size, 1, 0)), Ok(()));
-    expect_same(&rt, record.play(Colour::Black, at(size, 1, 1)), Ok(()));
-    expect_same(&rt, record.colouring(), painted(size, "X..X"));
-    expect_same(
+    expect_done(&rt, record.play(Colour::Black, at(size, 0, 0)), Ok(()));
+    expect_done(&rt, record.play(Colour::White, at(size, 1, 0)), Ok(()));
+    expect_done(&rt, record.play(Colour::Black, at(size, 1, 1)), Ok(()));
+    expect_colouring(&rt, record.colouring(), painted(size, "X..X"));
+    expect_done(
         &rt,
         record.play(Colour::White, at(size, 0, 1)),
         Err(TurnFault::Repeats { earlier: 3 }),
     );
-    expect_same(
+    expect_done(
         &rt,
         record.play(Colour::White, at(size, 1, 0)),
         Err(TurnFault::Repeats { earlier: 3 }),
@@ -151,15 +163,15 @@ fn a_past_forbids_and_a_smothered_opening_is_refused(rt: HostRuntime) -> Result<
             0,
             1,
         ).expect(&rt, "memory");
-        expect_same(&rt, record.colouring(), empty);
-        expect_same(&rt, record.passes(), 1);
-        expect_same(
+        expect_colouring(&rt, record.colouring(), empty);
+        expect_number(&rt, record.passes(), 1);
+        expect_done(
             &rt,
             record.play(Colour::Black, at(size, 0, 0)),
             Err(TurnFault::Repeats { earlier: 1 }),
         );
-        expect_same(&rt, record.play(Colour::White, at(size, 0, 0)), Ok(()));
-        expect_same(&rt, record.passes(), 0);
+        expect_done(&rt, record.play(Colour::White, at(size, 0, 0)), Ok(()));
+        expect_number(&rt, record.passes(), 0);
     }
     let smothered = painted(size, ".X.XOX.X.");
     match Record::<PlayBoard, PlaySeen>::new(rt.alloc(), &smothered) {
@@ -177,26 +189,26 @@ fn a_record_begins_anew(rt: HostRuntime) -> Result<(), Fail> {
     let size = Size::new(3).ok_or("size")?;
     let corner = painted(size, "X........");
     let mut record = Record::<PlayBoard, PlaySeen>::new(rt.alloc(), &corner).expect(&rt, "memory");
-    expect_same(&rt, record.play(Colour::White, at(size, 1, 1)), Ok(()));
+    expect_done(&rt, record.play(Colour::White, at(size, 1, 1)), Ok(()));
     let smothered = painted(size, ".X.XOX.X.");
     expect_that(&rt, smothered.size() == record.size());
     let point = size.point(1, 1).ok_or("point")?;
-    expect_same(
+    expect_done(
         &rt,
         record.reopen(rt.alloc(), &smothered, 0),
         Err(TurnFault::NoLiberty { point }),
     );
-    expect_same(&rt, record.colouring(), painted(size, "X...O...."));
-    expect_same(&rt, record.seen().len(), 2);
+    expect_colouring(&rt, record.colouring(), painted(size, "X...O...."));
+    expect_count(&rt, record.seen().len(), 2);
     let other = painted(size, "X.O......");
     expect_that(&rt, other.size() == record.size());
-    expect_same(&rt, record.reopen(rt.alloc(), &other, 1), Ok(()));
-    expect_same(&rt, record.colouring(), other);
-    expect_same(&rt, record.passes(), 1);
-    expect_same(&rt, record.last_colour(), None);
-    expect_same(&rt, record.seen().holds(&corner), None);
-    expect_same(&rt, record.seen().holds(&other), Some(0));
-    expect_same(&rt, record.undo(), Err(TurnFault::CannotUndo));
+    expect_done(&rt, record.reopen(rt.alloc(), &other, 1), Ok(()));
+    expect_colouring(&rt, record.colouring(), other);
+    expect_number(&rt, record.passes(), 1);
+    expect_optional_colour(&rt, record.last_colour(), None);
+    expect_optional_count(&rt, record.seen().holds(&corner), None);
+    expect_optional_count(&rt, record.seen().holds(&other), Some(0));
+    expect_done(&rt, record.undo(), Err(TurnFault::CannotUndo));
     Ok(())
 }
 
@@ -212,8 +224,8 @@ fn a_setup_is_a_step(rt: HostRuntime) -> Result<(), Fail> {
     let mut record = Record::<PlayBoard, PlaySeen>::new(rt.alloc(), &Colouring::empty(size)).expect(
         &rt, "memory",
     );
-    expect_same(&rt, record.play(Colour::White, Turn::Pass), Ok(()));
-    expect_same(
+    expect_done(&rt, record.play(Colour::White, Turn::Pass), Ok(()));
+    expect_done(
         &rt,
         record.setup(&[
             (upper_left, white),
@@ -222,30 +234,30 @@ fn a_setup_is_a_step(rt: HostRuntime) -> Result<(), Fail> {
         ]),
         Ok(()),
     );
-    expect_same(&rt, record.colouring(), painted(size, "XO.."));
-    expect_same(&rt, record.passes(), 0);
-    expect_same(&rt, record.last_colour(), Some(Colour::White));
-    expect_same(
+    expect_colouring(&rt, record.colouring(), painted(size, "XO.."));
+    expect_number(&rt, record.passes(), 0);
+    expect_optional_colour(&rt, record.last_colour(), Some(Colour::White));
+    expect_done(
         &rt,
         record.setup(&[(lower_left, white)]),
         Err(TurnFault::NoLiberty { point: upper_left }),
     );
-    expect_same(
+    expect_done(
         &rt,
         record.setup(&[(lower_left, white), (beyond, black)]),
         Err(TurnFault::OffBoard),
     );
-    expect_same(&rt, record.colouring(), painted(size, "XO.."));
-    expect_same(
+    expect_colouring(&rt, record.colouring(), painted(size, "XO.."));
+    expect_done(
         &rt,
         record.setup(&[(upper_left, Cell::Empty), (upper_right, Cell::Empty)]),
         Ok(()),
     );
-    expect_same(&rt, record.seen().len(), 2);
-    expect_same(&rt, record.undo(), Ok(()));
-    expect_same(&rt, record.undo(), Ok(()));
-    expect_same(&rt, record.seen().len(), 1);
-    expect_same(&rt, record.passes(), 1);
+    expect_count(&rt, record.seen().len(), 2);
+    expect_done(&rt, record.undo(), Ok(()));
+    expect_done(&rt, record.undo(), Ok(()));
+    expect_count(&rt, record.seen().len(), 1);
+    expect_number(&rt, record.passes(), 1);
     Ok(())
 }
 
@@ -268,16 +280,16 @@ fn moves_on_the_widest_board_count_what_they_take(rt: HostRuntime) -> Result<(),
     let beyond = size.point(last, last - 2).ok_or("point")?;
     let beside = size.point(last - 1, last - 1).ok_or("point")?;
     let mut board = PlayBoard::new(size);
-    expect_same(&rt, taken(&mut board, Colour::White, corner), Some(0));
-    expect_same(&rt, taken(&mut board, Colour::White, corner), None);
-    expect_same(&rt, taken(&mut board, Colour::Black, left), Some(0));
-    expect_same(&rt, taken(&mut board, Colour::Black, above), Some(1));
-    expect_same(&rt, taken(&mut board, Colour::White, corner), Some(1));
-    expect_same(&rt, taken(&mut board, Colour::White, beyond), Some(0));
-    expect_same(&rt, taken(&mut board, Colour::White, beside), Some(0));
-    expect_same(&rt, taken(&mut board, Colour::White, corner), Some(1));
-    expect_same(&rt, taken(&mut board, Colour::Black, corner), None);
-    expect_same(&rt, taken(&mut board, Colour::Black, above), Some(1));
+    expect_taken(&rt, taken(&mut board, Colour::White, corner), Some(0));
+    expect_taken(&rt, taken(&mut board, Colour::White, corner), None);
+    expect_taken(&rt, taken(&mut board, Colour::Black, left), Some(0));
+    expect_taken(&rt, taken(&mut board, Colour::Black, above), Some(1));
+    expect_taken(&rt, taken(&mut board, Colour::White, corner), Some(1));
+    expect_taken(&rt, taken(&mut board, Colour::White, beyond), Some(0));
+    expect_taken(&rt, taken(&mut board, Colour::White, beside), Some(0));
+    expect_taken(&rt, taken(&mut board, Colour::White, corner), Some(1));
+    expect_taken(&rt, taken(&mut board, Colour::Black, corner), None);
+    expect_taken(&rt, taken(&mut board, Colour::Black, above), Some(1));
     Ok(())
 }
 
@@ -309,30 +321,30 @@ fn taken_in_the_middle<B: Board>(board: &mut B, colour: Colour) -> Option<u16> {
 fn a_move_empties_the_widest_board(rt: HostRuntime) -> Result<(), Fail> {
     let size = Size::new(MAX_SIZE).ok_or("size")?;
     let mut board = PlayBoard::new(size);
-    expect_same(
+    expect_taken(
         &rt,
         taken_in_the_middle(&mut board, Colour::White),
         Some(624),
     );
     let mut plain = PlainBoard::new(size);
-    expect_same(
+    expect_taken(
         &rt,
         taken_in_the_middle(&mut plain, Colour::White),
         Some(624),
     );
-    expect_same(&rt, board.colouring(), plain.colouring());
-    expect_same(
+    expect_colouring(&rt, board.colouring(), plain.colouring());
+    expect_taken(
         &rt,
         taken_in_the_middle(&mut board, Colour::Black),
         Some(625),
     );
-    expect_same(
+    expect_taken(
         &rt,
         taken_in_the_middle(&mut plain, Colour::Black),
         Some(625),
     );
-    expect_same(&rt, board.colouring(), Colouring::empty(size));
-    expect_same(&rt, plain.colouring(), Colouring::empty(size));
+    expect_colouring(&rt, board.colouring(), Colouring::empty(size));
+    expect_colouring(&rt, plain.colouring(), Colouring::empty(size));
     Ok(())
 }
 
@@ -351,7 +363,7 @@ fn a_board_refuses_a_stone_without_liberty(rt: HostRuntime) -> Result<(), Fail> 
             board.assign(&smothered),
             Err(NoLiberty { point: centre }),
         );
-        expect_same(&rt, board.colouring(), crossed);
+        expect_colouring(&rt, board.colouring(), crossed);
     }
     if board.size().holds(centre) {
         expect_same(&rt, board.cell(centre), Cell::Empty);
@@ -437,14 +449,14 @@ fn a_turn_is_made_just_where_it_is_legal(rt: HostRuntime) -> Result<(), Fail> {
         record.play_if_legal(Colour::Black, at(size, 1, 0)).ok(),
         Some(false),
     );
-    expect_same(&rt, record.colouring(), painted(size, "O.OXO...."));
-    expect_same(&rt, record.seen().len(), 2);
+    expect_colouring(&rt, record.colouring(), painted(size, "O.OXO...."));
+    expect_count(&rt, record.seen().len(), 2);
     expect_same(
         &rt,
         record.play_if_legal(Colour::Black, Turn::Pass).ok(),
         Some(true),
     );
-    expect_same(&rt, record.passes(), 1);
+    expect_number(&rt, record.passes(), 1);
     Ok(())
 }
 

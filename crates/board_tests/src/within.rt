@@ -1,6 +1,5 @@
 //! Decisions within a number of turns, on positions whose trees are written out.
 
-use crate::expect::expect_same;
 use crate::game::{history, points};
 use go_points::{Cell, Colour, Colouring, PointSet, Size};
 use std::alloc::Global;
@@ -38,6 +37,10 @@ fn decides(rt: &impl Abort, alloc: Global, problem: &Problem, turns: u32, nodes:
     }
 }
 
+fn expect_within(rt: &impl Abort, found: Within, wanted: Within) {
+    assert_eq!(rt; found, wanted);
+}
+
 // Within so many turns the problem decides this, and the tree has just so many states.
 fn check(
     rt: &impl Abort,
@@ -47,9 +50,9 @@ fn check(
     states: u64,
     decision: Within,
 ) {
-    expect_same(rt, decides(rt, alloc, problem, turns, states), decision);
-    expect_same(rt, decides(rt, alloc, problem, turns, u64::MAX), decision);
-    expect_same(
+    expect_within(rt, decides(rt, alloc, problem, turns, states), decision);
+    expect_within(rt, decides(rt, alloc, problem, turns, u64::MAX), decision);
+    expect_within(
         rt,
         decides(rt, alloc, problem, turns, states.saturating_sub(1)),
         Within::Limit,
@@ -90,8 +93,8 @@ fn a_liberty_filled_wins_within_three_turns(rt: HostRuntime) {
 fn no_states_decide_nothing(rt: HostRuntime) {
     let alloc = rt.alloc();
     let corner = problem(&rt, alloc, &["O..X....."], Colour::Black, 0, "aa", "ba");
-    expect_same(&rt, decides(&rt, alloc, &corner, 0, 0), Within::Limit);
-    expect_same(&rt, decides(&rt, alloc, &corner, 200, 0), Within::Limit);
+    expect_within(&rt, decides(&rt, alloc, &corner, 0, 0), Within::Limit);
+    expect_within(&rt, decides(&rt, alloc, &corner, 200, 0), Within::Limit);
 }
 
 // A pass stands. White's pass is the second and wins for the defender; Black's does too, but Black can take.
@@ -161,7 +164,7 @@ fn a_win_needs_every_reply(rt: HostRuntime) {
     // With White to move nobody wins so soon: two turns are one of White's and one of Black's, after which either two
     // stones of White stand with a liberty, or one of its turns was the only pass.
     let white = problem(&rt, alloc, &["O...X.X.."], Colour::White, 0, "aa", "baab");
-    expect_same(
+    expect_within(
         &rt,
         decides(&rt, alloc, &white, 2, u64::MAX),
         Within::Neither,
@@ -186,7 +189,7 @@ fn a_wide_tree_is_given_up_at_the_greatest_depth(rt: HostRuntime) {
     let mut history = Vec::new(alloc);
     history.push(colouring).expect(&rt, "memory");
     let wide = Problem::new(history, 0, Colour::Black, 0, targets, region).expect(&rt, "a problem");
-    expect_same(&rt, decides(&rt, alloc, &wide, 200, 1000), Within::Limit);
+    expect_within(&rt, decides(&rt, alloc, &wide, 200, 1000), Within::Limit);
     // Within one turn: 80 moves, the pass, and the start.
     check(&rt, alloc, &wide, 1, 82, Within::Neither);
 }

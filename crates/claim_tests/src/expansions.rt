@@ -1,6 +1,6 @@
 //! Claims expanded: how large their trees are, and which replies they keep.
 
-use crate::expect::expect_same;
+use crate::expect::{expect_count, expect_size, expect_stop};
 use cert_check::{Checked, check_held};
 use go_points::{Colour, Colouring, Point, PointSet, Size, Turn};
 use proof_cert::{Certificate, Lemma, Node, Version};
@@ -137,8 +137,8 @@ fn a_lemma_for_each_set(alloc: Global, rt: &impl Abort, columns: u8) -> Result<C
 fn four_places_of_the_last_row(rt: HostRuntime) -> Result<(), Fail> {
     let checked = a_lemma_for_each_set(rt.alloc(), &rt, 4)?;
     let answer = expand(rt.alloc(), &checked, 194).expect(&rt, "a tree");
-    expect_same(&rt, answer.size(), Some(194));
-    expect_same(
+    expect_size(&rt, answer.size(), Some(194));
+    expect_stop(
         &rt,
         expand(rt.alloc(), &checked, 193).err(),
         Some(Expand::TooLarge),
@@ -150,23 +150,23 @@ fn four_places_of_the_last_row(rt: HostRuntime) -> Result<(), Fail> {
 #[test]
 fn the_whole_last_row(rt: HostRuntime) -> Result<(), Fail> {
     let seven = a_lemma_for_each_set(rt.alloc(), &rt, 7)?;
-    expect_same(&rt, seven.certificate().lemmas.len(), 127);
+    expect_count(&rt, seven.certificate().lemmas.len(), 127);
     let answer = expand(rt.alloc(), &seven, 90_000).expect(&rt, "a tree");
-    expect_same(&rt, answer.size(), Some(41_099));
+    expect_size(&rt, answer.size(), Some(41_099));
     let eight = a_lemma_for_each_set(rt.alloc(), &rt, 8)?;
-    expect_same(&rt, eight.certificate().lemmas.len(), 255);
-    expect_same(
+    expect_count(&rt, eight.certificate().lemmas.len(), 255);
+    expect_stop(
         &rt,
         expand(rt.alloc(), &eight, 90_000).err(),
         Some(Expand::TooLarge),
     );
-    expect_same(
+    expect_stop(
         &rt,
         expand(rt.alloc(), &eight, 328_801).err(),
         Some(Expand::TooLarge),
     );
     let answer = expand(rt.alloc(), &eight, 328_802).expect(&rt, "a tree");
-    expect_same(&rt, answer.size(), Some(328_802));
+    expect_size(&rt, answer.size(), Some(328_802));
     Ok(())
 }
 
@@ -184,6 +184,6 @@ fn line(alloc: Global, turns: u32) -> Result<Answer, AllocError> {
 #[test]
 fn a_long_line_is_counted_and_dropped(rt: HostRuntime) -> Result<(), Fail> {
     let answer = line(rt.alloc(), 100_000)?;
-    expect_same(&rt, answer.size(), Some(100_000));
+    expect_size(&rt, answer.size(), Some(100_000));
     Ok(())
 }

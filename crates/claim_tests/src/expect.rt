@@ -1,8 +1,10 @@
 //! What a test expects, said by calls: a macro's branch is proved wherever it stands, and proofs of tests took two to four
-//! times as long.
+//! times as long. A call of a function with a type parameter costs ten times one of a function without.
 
 ghost use Rattle.std.specs.Prelude.{IsTrue};
 
+use go_points::Colour;
+use solution_tree::Expand;
 use std::fmt::Debug;
 use std::process::Abort;
 
@@ -16,4 +18,29 @@ pub(crate) fn expect_that(rt: &impl Abort, fact: bool)
     ensures { IsTrue fact }
 {
     assert!(rt; fact);
+}
+
+/// Both are the same colour.
+pub(crate) fn expect_colour(rt: &impl Abort, found: Colour, wanted: Colour) {
+    assert_eq!(rt; found, wanted);
+}
+
+/// Both are the same count.
+pub(crate) fn expect_count(rt: &impl Abort, found: usize, wanted: usize) {
+    assert_eq!(rt; found, wanted);
+}
+
+/// Both are the same count, or both none.
+pub(crate) fn expect_size(rt: &impl Abort, found: Option<usize>, wanted: Option<usize>) {
+    assert_eq!(rt; found, wanted);
+}
+
+/// Both are the same reason for which there is no tree, or both none.
+pub(crate) fn expect_stop(rt: &impl Abort, found: Option<Expand>, wanted: Option<Expand>) {
+    assert_eq!(rt; found, wanted);
+}
+
+/// Both are the same bytes.
+pub(crate) fn expect_bytes(rt: &impl Abort, found: &[u8], wanted: &[u8]) {
+    assert_eq!(rt; found, wanted);
 }

@@ -1,6 +1,6 @@
 //! Certificates that are held, checked for problems on boards of three rows.
 
-use crate::expect::{expect_same, expect_that};
+use crate::expect::{expect_colour, expect_count, expect_same};
 use crate::small_claims::{point, problem};
 use cert_check::{Checked, Reject, Why, check_held};
 use go_points::{Colour, Colouring, Size, Turn};
@@ -44,9 +44,9 @@ fn refused(rt: &impl Abort, answer: Result<Checked, (Reject, Problem, Certificat
         Ok(_) => panic!(rt; "a refusal was due"),
         Err((reject, problem, certificate)) => {
             expect_same(rt, problem.size().rows(), 3);
-            expect_same(rt, problem.mover(), Colour::Black);
-            expect_same(rt, certificate.winner, Colour::Black);
-            expect_same(rt, certificate.lemmas.len(), 1);
+            expect_colour(rt, problem.mover(), Colour::Black);
+            expect_colour(rt, certificate.winner, Colour::Black);
+            expect_count(rt, certificate.lemmas.len(), 1);
             reject
         }
     }
@@ -58,9 +58,9 @@ fn a_certificate_that_is_valid(rt: HostRuntime) -> Result<(), Fail> {
     let certificate = takes_ko(rt.alloc(), &rt, 3, 1)?;
     match check_held(rt.alloc(), open, certificate) {
         Ok(checked) => {
-            expect_same(&rt, checked.winner(), Colour::Black);
-            expect_same(&rt, checked.problem().history().len(), 1);
-            expect_same(&rt, checked.certificate().lemmas.len(), 1);
+            expect_colour(&rt, checked.winner(), Colour::Black);
+            expect_count(&rt, checked.problem().history().len(), 1);
+            expect_count(&rt, checked.certificate().lemmas.len(), 1);
         }
         Err(_) => panic!(&rt; "a valid certificate"),
     }

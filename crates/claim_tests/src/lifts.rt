@@ -1,6 +1,6 @@
 //! Claims that are made into one lemma, as the format's rules give them.
 
-use crate::expect::{expect_same, expect_that};
+use crate::expect::expect_same;
 use crate::small_claims::problem;
 use cert_check::{Lift, MAX_LISTED, MAX_NODES, check_held, lift};
 use go_points::Colour;

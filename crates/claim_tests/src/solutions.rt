@@ -1,6 +1,6 @@
 //! Solutions as they are written.
 
-use crate::expect::expect_same;
+use crate::expect::{expect_bytes, expect_count, expect_size, expect_stop};
 use cert_check::{Checked, check_held};
 use go_points::{Point, Size, Turn, sgf_point};
 use proof_cert::read_cert;
@@ -77,7 +77,7 @@ fn writes_an_answer_tree(rt: HostRuntime) -> Result<(), Fail> {
     let mut all = replies(alloc, Turn::At(point(&rt, b"cc")), filled)?;
     all.push((Turn::Pass, turn(alloc, Turn::Pass, Answer::Won)?))?;
     let written = below(alloc, &rt, &Answer::Replies(all))?;
-    expect_same(
+    expect_bytes(
         &rt,
         written.as_slice(),
         b"(;B[cc];W[ba];B[];W[])(;B[];W[]))".as_slice(),
@@ -90,12 +90,12 @@ fn writes_an_answer_tree(rt: HostRuntime) -> Result<(), Fail> {
 fn writes_any_answers(rt: HostRuntime) -> Result<(), Fail> {
     let alloc = rt.alloc();
     let none = below(alloc, &rt, &Answer::Replies(Vec::new(alloc)))?;
-    expect_same(&rt, none.as_slice(), b")".as_slice());
+    expect_bytes(&rt, none.as_slice(), b")".as_slice());
     let won = below(alloc, &rt, &Answer::Won)?;
-    expect_same(&rt, won.as_slice(), b")".as_slice());
+    expect_bytes(&rt, won.as_slice(), b")".as_slice());
     let past = turn(alloc, Turn::At(point(&rt, b"ss")), Answer::Won)?;
     let written = below(alloc, &rt, &past)?;
-    expect_same(&rt, written.as_slice(), b";B[ad])".as_slice());
+    expect_bytes(&rt, written.as_slice(), b";B[ad])".as_slice());
     Ok(())
 }
 
@@ -110,7 +110,7 @@ fn writes_branches_within_branches(rt: HostRuntime) -> Result<(), Fail> {
         all.push((Turn::Pass, turn(alloc, Turn::Pass, tree)?))?;
         tree = Answer::Replies(all);
     }
-    expect_same(&rt, below(alloc, &rt, &tree)?.len(), 44_001);
+    expect_count(&rt, below(alloc, &rt, &tree)?.len(), 44_001);
     Ok(())
 }
 
@@ -126,8 +126,8 @@ fn writes_a_long_line(rt: HostRuntime) -> Result<(), Fail> {
             Answer::Replies(replies(alloc, Turn::Pass, line)?),
         )?;
     }
-    expect_same(&rt, line.size(), Some(100_000));
-    expect_same(&rt, below(alloc, &rt, &line)?.len(), 400_001);
+    expect_size(&rt, line.size(), Some(100_000));
+    expect_count(&rt, below(alloc, &rt, &line)?.len(), 400_001);
     Ok(())
 }
 
@@ -145,8 +145,8 @@ fn expands_to_two_turns(
     };
     let mut text = Vec::new(alloc);
     write_tree(&to_sgf(alloc, &checked, &answer)?, &mut text)?;
-    expect_same(rt, text.as_slice(), solution);
-    expect_same(rt, expand(alloc, &checked, 1).err(), Some(Expand::TooLarge));
+    expect_bytes(rt, text.as_slice(), solution);
+    expect_stop(rt, expand(alloc, &checked, 1).err(), Some(Expand::TooLarge));
     Ok(())
 }
 

@@ -2,9 +2,9 @@
 
 use crate::kept::KeptState;
 use crate::numbers::{Count, MoverNumbers, Thresholds};
-use crate::proofs::{Below, Proofs};
 use go_points::Turn;
 use pn_table::Key;
+use state_proofs::{Below, Proofs};
 
 /// What is known of a child, as the mover of the state above sees it.
 #[derive(Clone, Copy)]

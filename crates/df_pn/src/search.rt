@@ -8,17 +8,15 @@
 //! Nothing is promised of the numbers: what is found is put to the checker.
 
 ghost use Rattle.std.specs.Prelude.{◌≡◌, ◌≤◌, ◌<◌, ◌+◌, IfErr};
-ghost use Rattle.df_pn.specs.declared.refusal.Stop.TheVariants.{Steps};
+ghost use Rattle.df_pn.specs.declared.stop.Stop.TheVariants.{Steps};
 
 use crate::frame::{Child, Frame, Outcome, Standing, standing_of};
 use crate::kept::{KeptChildren, KeptState};
-use crate::line::{Line, key_after};
 use crate::numbers::{Count, MoverNumbers, Thresholds};
-use crate::play::Move;
-use crate::proofs::{Below, Branch, Form, MAX_LINE, Proofs};
-use crate::refusal::{Refusal, Stop};
+use crate::stop::Stop;
 use go_points::{Colour, Turn};
 use pn_table::{Key, Table};
+use state_proofs::{Below, Branch, Form, Line, MAX_LINE, Move, Proofs, Refusal, key_after};
 use std::alloc::{AllocError, Global};
 use std::num::NonZeroUsize;
 use target_game::Problem;

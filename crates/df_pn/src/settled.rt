@@ -1,9 +1,9 @@
 //! The proof of a state that is settled, from its children.
 
 use crate::frame::{Child, Frame, Outcome, winning_child};
-use crate::proofs::{Branch, Form, Settled};
 use crate::search::Search;
 use go_points::{Colour, Turn};
+use state_proofs::{Branch, Form, Settled};
 use std::alloc::AllocError;
 
 impl Search {

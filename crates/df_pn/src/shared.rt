@@ -1,19 +1,12 @@
-//! The shared proofs of a problem, by the search or from a tree that is there.
+//! The shared proofs of a problem, by the search.
 
 ghost use Rattle.std.specs.Prelude.{◌≡◌, ◌≤◌, IfErr};
-ghost use Rattle.df_pn.specs.declared.refusal.Stop.TheVariants.{Steps};
+ghost use Rattle.df_pn.specs.declared.stop.Stop.TheVariants.{Steps};
 
-use crate::claim::Shared;
-use crate::full_tree::note_tree;
-use crate::line::Line;
-use crate::play::Play;
-use crate::proofs::{Below, Proofs};
-use crate::refusal::{Refusal, Stop};
 use crate::search::Search;
-use crate::share::Sharing;
 use crate::smaller::Smaller;
-use go_points::Colour;
-use proof_cert::Node;
+use crate::stop::Stop;
+use state_proofs::{Refusal, Shared, Sharing};
 use std::alloc::Global;
 use std::num::NonZeroUsize;
 use target_game::Problem;
@@ -49,28 +42,6 @@ fn shared(alloc: Global, found: Smaller, root: u32) -> Result<Shared, Refusal> {
         return Err(Refusal::Fault);
     };
     let winner = proof.winner;
-    let mut sharing = Sharing::of(alloc, line, proofs);
-    let root = sharing.share(root)?;
-    Ok(Shared {
-        winner,
-        proofs: sharing.shared,
-        root,
-    })
-}
-
-/// The proofs of this tree of the problem, by which the side wins. The tree is at most 201 deep, and uses no lemma.
-pub fn share_tree(
-    alloc: Global,
-    problem: &Problem,
-    winner: Colour,
-    main: &Node,
-) -> Result<Shared, Refusal> {
-    let mut play = Play::of(alloc, problem)?;
-    let mut proofs = Proofs::new(alloc);
-    let Below::Proof(root) = note_tree(alloc, &mut proofs, &mut play, winner, main)? else {
-        return Err(Refusal::Fault);
-    };
-    let line = Line::of(alloc, problem)?;
     let mut sharing = Sharing::of(alloc, line, proofs);
     let root = sharing.share(root)?;
     Ok(Shared {

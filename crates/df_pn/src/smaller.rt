@@ -5,14 +5,12 @@
 
 ghost use Rattle.std.specs.Prelude.{◌≤◌};
 
-use crate::line::key_after;
-use crate::play::{Move, move_of};
-use crate::proofs::{Below, Branch, Form, Proof, Settled};
-use crate::refusal::{Refusal, Stop};
 use crate::search::Search;
+use crate::stop::Stop;
 use go_points::{Colour, Turn};
 use indexmap::IndexMap;
 use pn_table::Key;
+use state_proofs::{Below, Branch, Form, Move, Proof, Refusal, Settled, key_after, move_of};
 use std::alloc::{AllocError, Global};
 
 /// A proof of so many turns is left as it is.

@@ -3,18 +3,17 @@
 ghost use Rattle.std.specs.Prelude.{◌≡◌, ◌≢◌, ◌≤◌, ◌⊎◌, IfOk, IfErr};
 ghost use Rattle.pn_search.specs.Search.{IfWins, IfUnknown, IsHard, cause_told, full_steps};
 ghost use Rattle.pn_search.specs.Private.Shown.{IsConfirmable};
-ghost use Rattle.df_pn.specs.declared.refusal.Stop.TheVariants as stops;
+ghost use Rattle.df_pn.specs.declared.stop.Stop.TheVariants as stops;
 ghost use Rattle.pn_search.specs.declared.verdict.Cause.TheVariants.{Steps, Memory};
 
 use crate::full_search::full_search;
 use crate::verdict::{Budget, Cause, Verdict};
 use cert_check::{Checked, Why, check_held};
-use df_pn::{
-    Choice, Pasts, Refusal, Shared, Stop, claim_with_lemmas, claim_without_lemmas, prove,
-    share_tree,
-};
+use claim_maker::{Choice, Pasts, claim_with_lemmas, claim_without_lemmas, share_tree};
+use df_pn::{Stop, prove};
 use go_points::{Colour, MAX_SIZE};
 use proof_cert::{Certificate, Node, Version};
+use state_proofs::{Refusal, Shared};
 use std::alloc::Global;
 use target_game::Problem;
 

@@ -1,6 +1,6 @@
 //! Canonical records as they are written.
 
-use crate::expect::{expect_same, expect_that};
+use crate::expect::{expect_bytes, expect_that};
 use sgf_text::{read_tree, write_tree};
 use std::alloc::Global;
 use std::test::Fail;
@@ -68,7 +68,7 @@ fn writes_canonical_records(rt: HostRuntime) -> Result<(), Fail> {
     for (text, expected) in rows {
         let mut same = false;
         let written = canonical(alloc, text, &mut same)?;
-        expect_same(&rt, written.as_slice(), expected);
+        expect_bytes(&rt, written.as_slice(), expected);
         expect_that(&rt, same);
     }
     Ok(())

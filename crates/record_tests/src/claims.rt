@@ -1,6 +1,6 @@
 //! Claims written and walked, against texts that were spelled by hand from the format.
 
-use crate::expect::{expect_same, expect_that};
+use crate::expect::{expect_bytes, expect_number, expect_same, expect_text, expect_that};
 use go_points::{Colour, Colouring, Point, Size, Turn};
 use proof_cert::*;
 use std::alloc::Global;
@@ -19,6 +19,10 @@ const MEETING: &str =
 
 fn size_of(rt: &impl Abort, rows: u8) -> Size {
     Size::new(rows).expect(rt, "a size")
+}
+
+fn expect_refusal(rt: &impl Abort, found: Result<(), CertWrite>, wanted: Result<(), CertWrite>) {
+    assert_eq!(rt; found, wanted);
 }
 
 fn at(rt: &impl Abort, column: u8, row: u8) -> Turn {
@@ -131,17 +135,17 @@ fn taken<S: NodeSource>(alloc: Global, source: &mut S) -> Result<(Vec<Line>, boo
 #[test]
 fn writes_the_worked_claims(rt: HostRuntime) -> Result<(), Fail> {
     let alloc = rt.alloc();
-    expect_same(
+    expect_bytes(
         &rt,
         written(alloc, &shared(alloc, &rt)?)?.as_slice(),
         SHARED.as_bytes(),
     );
-    expect_same(
+    expect_bytes(
         &rt,
         written(alloc, &answered(alloc, &rt)?)?.as_slice(),
         ANSWERED.as_bytes(),
     );
-    expect_same(
+    expect_bytes(
         &rt,
         written(alloc, &meeting(alloc, &rt)?)?.as_slice(),
         MEETING.as_bytes(),
@@ -152,7 +156,7 @@ fn writes_the_worked_claims(rt: HostRuntime) -> Result<(), Fail> {
         Vec::new(alloc),
         play(alloc, at(&rt, 1, 0), Node::Won)?,
     );
-    expect_same(
+    expect_bytes(
         &rt,
         written(alloc, &plain)?.as_slice(),
         b"tsucert 1 3 B\nmain\nplay ba\nwon\nend\n".as_slice(),
@@ -172,12 +176,12 @@ fn walks_the_lines_of_the_text(rt: HostRuntime) -> Result<(), Fail> {
         let mut held = HeldSource::new(alloc, certificate);
         let mut spelled = ReaderSource::new(certificate.size, text.as_bytes(), b"".as_slice());
         expect_same(&rt, NodeSource::size(&held).rows(), 3);
-        expect_same(&rt, NodeSource::line_number(&held), 0);
+        expect_number(&rt, NodeSource::line_number(&held), 0);
         let (walked, walk_failed) = taken(alloc, &mut held)?;
         let (read, read_failed) = taken(alloc, &mut spelled)?;
         expect_that(&rt, walked.as_slice() == read.as_slice());
         expect_that(&rt, !walk_failed && !read_failed);
-        expect_same(&rt, NodeSource::line_number(&held), read.len() as u64);
+        expect_number(&rt, NodeSource::line_number(&held), read.len() as u64);
     }
     Ok(())
 }
@@ -203,7 +207,7 @@ fn refuses_what_has_no_spelling(rt: HostRuntime) -> Result<(), Fail> {
     ];
     for certificate in &unspelled {
         let mut out = Vec::new(alloc);
-        expect_same(
+        expect_refusal(
             &rt,
             write_cert(certificate, &mut out),
             Err(CertWrite::NoSpelling),
@@ -215,7 +219,7 @@ fn refuses_what_has_no_spelling(rt: HostRuntime) -> Result<(), Fail> {
         expect_that(&rt, matches!(held.next(), Ok(Some(Line::Main))));
         expect_that(&rt, matches!(held.next(), Err(SourceFault::Malformed)));
         expect_that(&rt, matches!(held.next(), Err(SourceFault::Malformed)));
-        expect_same(&rt, held.line_number(), 3);
+        expect_number(&rt, held.line_number(), 3);
     }
     Ok(())
 }
@@ -225,7 +229,7 @@ fn lemmas_may_have_no_spelling(rt: HostRuntime) -> Result<(), Fail> {
     let alloc = rt.alloc();
     let listed = [colouring(&rt, 3, ".XOXO...."), colouring(&rt, 2, "....")];
     let wide = one_lemma(alloc, &rt, 0, &listed)?;
-    expect_same(
+    expect_refusal(
         &rt,
         write_cert(&wide, &mut Vec::new(alloc)),
         Err(CertWrite::NoSpelling),
@@ -233,7 +237,7 @@ fn lemmas_may_have_no_spelling(rt: HostRuntime) -> Result<(), Fail> {
     let (lines, failed) = taken(alloc, &mut HeldSource::new(alloc, &wide))?;
     expect_that(&rt, failed && lines.len() == 3);
     let passes = one_lemma(alloc, &rt, 2, &[])?;
-    expect_same(
+    expect_refusal(
         &rt,
         write_cert(&passes, &mut Vec::new(alloc)),
         Err(CertWrite::NoSpelling),
@@ -281,7 +285,7 @@ fn a_failed_write_leaves_a_front(rt: HostRuntime) -> Result<(), Fail> {
         };
         let result = write_cert(&certificate, &mut writer);
         expect_same(&rt, result.is_ok(), room == MEETING.len());
-        expect_same(&rt, writer.taken.as_slice(), &MEETING.as_bytes()[..room]);
+        expect_bytes(&rt, writer.taken.as_slice(), &MEETING.as_bytes()[..room]);
     }
     Ok(())
 }
@@ -314,12 +318,12 @@ fn trees_may_be_deep(rt: HostRuntime) -> Result<(), Fail> {
 #[test]
 fn faults_say_what_they_are(rt: HostRuntime) -> Result<(), Fail> {
     let alloc = rt.alloc();
-    expect_same(
+    expect_text(
         &rt,
         format!(in alloc; "{}", CertWrite::Write)?.as_str(),
         "write",
     );
-    expect_same(
+    expect_text(
         &rt,
         format!(in alloc; "{}", CertWrite::NoSpelling)?.as_str(),
         "no spelling",
@@ -342,7 +346,7 @@ fn reads_back_what_is_written(rt: HostRuntime) -> Result<(), Fail> {
     ];
     for text in &texts {
         let certificate = read_cert(alloc, size_of(&rt, 3), text.as_bytes())?;
-        expect_same(
+        expect_bytes(
             &rt,
             written(alloc, &certificate)?.as_slice(),
             text.as_bytes(),

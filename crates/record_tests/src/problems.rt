@@ -1,6 +1,6 @@
 //! Values with what they stand for, and records with their problem nodes.
 
-use crate::expect::{expect_same, expect_that};
+use crate::expect::{expect_count, expect_number, expect_same, expect_text, expect_that};
 use go_points::{Colour, MAX_SIZE, Size, Turn, sgf_point, to_sgf};
 use sgf_text::read_tree;
 use std::alloc::Global;
@@ -15,17 +15,21 @@ fn three(rt: &impl Abort) -> Size {
     Size::new(3).expect(rt, "a size")
 }
 
+fn expect_turn(rt: &impl Abort, found: Option<Turn>, wanted: Option<Turn>) {
+    assert_eq!(rt; found, wanted);
+}
+
 #[test]
 fn reads_turns(rt: HostRuntime) {
     let size = three(&rt);
     let point = sgf_point(size, b"ba").expect(&rt, "a point");
     let moves: [&[u8]; 2] = [b"ba", b" \t\x0bba\r\n"];
     for value in moves {
-        expect_same(&rt, read_turn(size, value), Some(Turn::At(point)));
+        expect_turn(&rt, read_turn(size, value), Some(Turn::At(point)));
     }
     let passes: [&[u8]; 3] = [b"", b" \n", b"tt"];
     for value in passes {
-        expect_same(&rt, read_turn(size, value), Some(Turn::Pass));
+        expect_turn(&rt, read_turn(size, value), Some(Turn::Pass));
     }
     let bad: [&[u8]; 5] = [b"da", b"BA", b"b a", b"b", b"baa"];
     for value in bad {
@@ -39,7 +43,7 @@ fn reads_moves_at_every_point_of_every_board(rt: HostRuntime) {
         let size = Size::new(rows).expect(&rt, "a size");
         for number in 0..size.area() {
             let point = size.point_at(number);
-            expect_same(&rt, read_turn(size, &to_sgf(point)), Some(Turn::At(point)));
+            expect_turn(&rt, read_turn(size, &to_sgf(point)), Some(Turn::At(point)));
         }
     }
 }
@@ -52,8 +56,8 @@ fn reads_tt_as_a_point_where_it_is_one(rt: HostRuntime) {
             Some(point) => Turn::At(point),
             None => Turn::Pass,
         };
-        expect_same(&rt, read_turn(size, b"tt"), Some(turn));
-        expect_same(&rt, read_turn(size, b" tt "), Some(turn));
+        expect_turn(&rt, read_turn(size, b"tt"), Some(turn));
+        expect_turn(&rt, read_turn(size, b" tt "), Some(turn));
         expect_same(&rt, turn == Turn::Pass, rows <= 19);
     }
 }
@@ -242,10 +246,10 @@ fn walks_along_the_main_line(rt: HostRuntime) -> Result<(), Fail> {
     for (text, colourings, place, mover, passes) in rows {
         let (tree, _end) = read_tree(alloc, text)?;
         let problem = read_problem(alloc, &tree)?;
-        expect_same(&rt, problem.history().len(), colourings);
-        expect_same(&rt, problem.place(), place);
+        expect_count(&rt, problem.history().len(), colourings);
+        expect_count(&rt, problem.place(), place);
         expect_same(&rt, problem.mover(), mover);
-        expect_same(&rt, problem.passes(), passes);
+        expect_number(&rt, problem.passes(), passes);
     }
     Ok(())
 }
@@ -270,7 +274,7 @@ fn faults_have_texts(rt: HostRuntime) -> Result<(), Fail> {
         (ProblemFault::Memory, "out of memory"),
     ];
     for (fault, text) in rows {
-        expect_same(&rt, format!(in rt.alloc(); "{fault}")?.as_str(), text);
+        expect_text(&rt, format!(in rt.alloc(); "{fault}")?.as_str(), text);
     }
     Ok(())
 }

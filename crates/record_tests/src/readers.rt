@@ -1,6 +1,6 @@
 //! Lines that a reader gives, however it cuts its bytes, and where it fails.
 
-use crate::expect::{expect_same, expect_that};
+use crate::expect::{expect_count, expect_number, expect_that};
 use go_points::{Colour, MAX_POINTS, MAX_SIZE, Size, Turn};
 use proof_cert::{Line, MAX_LINE, NodeSource, ReaderSource, SourceFault, Version};
 use std::io;
@@ -53,6 +53,22 @@ fn count<R: Read + Drop>(size: Size, reader: R) -> (u64, Option<SourceFault>) {
     (100_000, None)
 }
 
+fn expect_line(
+    rt: &impl Abort,
+    found: Result<Option<Line>, SourceFault>,
+    wanted: Result<Option<Line>, SourceFault>,
+) {
+    assert_eq!(rt; found, wanted);
+}
+
+fn expect_feeds(
+    rt: &impl Abort,
+    found: (u64, Option<SourceFault>),
+    wanted: (u64, Option<SourceFault>),
+) {
+    assert_eq!(rt; found, wanted);
+}
+
 #[test]
 fn the_same_lines_however_the_bytes_are_cut(rt: HostRuntime) {
     for piece in [1, 2, 7, 4_096] {
@@ -62,7 +78,7 @@ fn the_same_lines_however_the_bytes_are_cut(rt: HostRuntime) {
             fails: false,
         };
         let mut source = ReaderSource::new(three(&rt), b"".as_slice(), pieces);
-        expect_same(
+        expect_line(
             &rt,
             source.next(),
             Ok(Some(Line::Header {
@@ -74,13 +90,13 @@ fn the_same_lines_however_the_bytes_are_cut(rt: HostRuntime) {
         for _ in 0..3 {
             expect_that(&rt, source.next().is_ok());
         }
-        expect_same(&rt, source.next(), Ok(Some(Line::Won)));
-        expect_same(&rt, source.line_number(), 5);
+        expect_line(&rt, source.next(), Ok(Some(Line::Won)));
+        expect_number(&rt, source.line_number(), 5);
         for line in [Line::End, Line::Main, Line::Use(1), Line::End] {
-            expect_same(&rt, source.next(), Ok(Some(line)));
+            expect_line(&rt, source.next(), Ok(Some(line)));
         }
-        expect_same(&rt, source.next(), Ok(None));
-        expect_same(&rt, source.line_number(), 9);
+        expect_line(&rt, source.next(), Ok(None));
+        expect_number(&rt, source.line_number(), 9);
     }
 }
 
@@ -96,7 +112,7 @@ fn a_reader_that_fails(rt: HostRuntime) {
             piece: 5,
             fails: true,
         };
-        expect_same(&rt, count(size, pieces), (feeds, Some(SourceFault::Read)));
+        expect_feeds(&rt, count(size, pieces), (feeds, Some(SourceFault::Read)));
         let cut = Pieces {
             left,
             piece: 5,
@@ -108,7 +124,7 @@ fn a_reader_that_fails(rt: HostRuntime) {
         } else {
             Some(SourceFault::Malformed)
         };
-        expect_same(&rt, count(size, cut), (feeds, fault));
+        expect_feeds(&rt, count(size, cut), (feeds, fault));
         if bytes[end] == b'\n' {
             feeds = feeds.saturating_add(1);
         }
@@ -123,17 +139,17 @@ fn the_longest_line(rt: HostRuntime) -> Result<(), Fail> {
     for _ in 0..MAX_POINTS {
         text.push(b'.')?;
     }
-    expect_same(&rt, text.len(), 635);
-    expect_same(&rt, MAX_LINE, 635);
+    expect_count(&rt, text.len(), 635);
+    expect_count(&rt, MAX_LINE, 635);
     let mut longer = text.clone()?;
     text.push(b'\n')?;
     let malformed = (0, Some(SourceFault::Malformed));
-    expect_same(&rt, count(size, longer.as_slice()), malformed);
+    expect_feeds(&rt, count(size, longer.as_slice()), malformed);
     longer.push(b'.')?;
-    expect_same(&rt, count(size, longer.as_slice()), malformed);
+    expect_feeds(&rt, count(size, longer.as_slice()), malformed);
     longer.push(b'\n')?;
-    expect_same(&rt, count(size, text.as_slice()), (1, None));
-    expect_same(&rt, count(size, longer.as_slice()), malformed);
+    expect_feeds(&rt, count(size, text.as_slice()), (1, None));
+    expect_feeds(&rt, count(size, longer.as_slice()), malformed);
     Ok(())
 }
 
@@ -144,13 +160,13 @@ fn a_fault_stays(rt: HostRuntime) {
         b"".as_slice(),
         b"won\n\nplay pass\n".as_slice(),
     );
-    expect_same(&rt, source.next(), Ok(Some(Line::Won)));
+    expect_line(&rt, source.next(), Ok(Some(Line::Won)));
     for _ in 0..3 {
-        expect_same(&rt, source.next(), Err(SourceFault::Malformed));
+        expect_line(&rt, source.next(), Err(SourceFault::Malformed));
     }
-    expect_same(&rt, source.line_number(), 2);
+    expect_number(&rt, source.line_number(), 2);
     let mut good = ReaderSource::new(three(&rt), b"".as_slice(), b"play pass\n".as_slice());
-    expect_same(&rt, good.next(), Ok(Some(Line::Play(Turn::Pass))));
+    expect_line(&rt, good.next(), Ok(Some(Line::Play(Turn::Pass))));
 }
 
 // A line may begin in the bytes that are held and end in the reader's.
@@ -167,7 +183,7 @@ fn the_same_lines_wherever_the_front_ends(rt: HostRuntime) {
         for _ in 0..8 {
             expect_that(&rt, source.next().is_ok());
         }
-        expect_same(&rt, source.next(), Ok(Some(Line::End)));
-        expect_same(&rt, source.next(), Ok(None));
+        expect_line(&rt, source.next(), Ok(Some(Line::End)));
+        expect_line(&rt, source.next(), Ok(None));
     }
 }

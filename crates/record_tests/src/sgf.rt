@@ -1,14 +1,19 @@
 //! Texts of the format with what they read as, and trees with what they are written as.
 
-use crate::expect::{expect_same, expect_that};
+use crate::expect::{expect_bytes, expect_count, expect_same, expect_text, expect_that};
 use sgf_text::*;
 use std::alloc::Global;
 use std::io;
+use std::process::Abort;
 use std::test::Fail;
 
 /// The fault of a text, where it has one.
 fn fault_of(alloc: Global, text: &[u8]) -> Option<SgfFault> {
     read_tree(alloc, text).err()
+}
+
+fn expect_fault(rt: &impl Abort, found: Option<SgfFault>, wanted: Option<SgfFault>) {
+    assert_eq!(rt; found, wanted);
 }
 
 /// The text and n copies of a piece after it.
@@ -47,8 +52,8 @@ fn reads_and_writes(rt: HostRuntime) -> Result<(), Fail> {
         (b"((;B[aa])", b"(;B[aa])"),
     ];
     for (text, out) in rows {
-        expect_same(&rt, written(alloc, text)?.as_slice(), out);
-        expect_same(&rt, written(alloc, out)?.as_slice(), out);
+        expect_bytes(&rt, written(alloc, text)?.as_slice(), out);
+        expect_bytes(&rt, written(alloc, out)?.as_slice(), out);
     }
     Ok(())
 }
@@ -56,8 +61,8 @@ fn reads_and_writes(rt: HostRuntime) -> Result<(), Fail> {
 #[test]
 fn gives_the_place_behind_the_tree(rt: HostRuntime) -> Result<(), Fail> {
     let alloc = rt.alloc();
-    expect_same(&rt, read_tree(alloc, b"(;AB[aa]AB[bb]C[a\\]b])")?.1, 22);
-    expect_same(&rt, read_tree(alloc, b"x(;)(;)")?.1, 4);
+    expect_count(&rt, read_tree(alloc, b"(;AB[aa]AB[bb]C[a\\]b])")?.1, 22);
+    expect_count(&rt, read_tree(alloc, b"x(;)(;)")?.1, 4);
     Ok(())
 }
 
@@ -81,7 +86,7 @@ fn gives_the_first_fault(rt: HostRuntime) {
         (b"(;[x])", SgfFault::Syntax { at: 2 }),
     ];
     for (text, fault) in rows {
-        expect_same(&rt, fault_of(alloc, text), Some(fault));
+        expect_fault(&rt, fault_of(alloc, text), Some(fault));
     }
 }
 
@@ -91,7 +96,7 @@ fn cuts_off_each_front(rt: HostRuntime) {
     let text = b"(;FF[4]GM[1]SZ[3]AB[aa];B[bb](;W[cc])(;W[ba]C[a\\]b]))";
     expect_that(&rt, fault_of(alloc, text).is_none());
     for end in 2..text.len() {
-        expect_same(
+        expect_fault(
             &rt,
             fault_of(alloc, &text[..end]),
             Some(SgfFault::Syntax { at: end }),
@@ -103,19 +108,19 @@ fn cuts_off_each_front(rt: HostRuntime) {
 fn keeps_the_limits(rt: HostRuntime) -> Result<(), Fail> {
     let alloc = rt.alloc();
     let deep = repeated(alloc, b"", b"(;", 1000)?;
-    expect_same(
+    expect_fault(
         &rt,
         fault_of(alloc, deep.as_slice()),
         Some(SgfFault::Syntax { at: 2000 }),
     );
     let deeper = repeated(alloc, deep.as_slice(), b"(;", 1)?;
-    expect_same(
+    expect_fault(
         &rt,
         fault_of(alloc, deeper.as_slice()),
         Some(SgfFault::TooDeep),
     );
     let many = repeated(alloc, b"(", b";", 100_001)?;
-    expect_same(
+    expect_fault(
         &rt,
         fault_of(alloc, many.as_slice()),
         Some(SgfFault::TooMany),
@@ -128,13 +133,13 @@ fn keeps_the_limit_of_bytes(rt: HostRuntime) -> Result<(), Fail> {
     let alloc = rt.alloc();
     // Five bytes begin the value, so that the text has 1,048,576 bytes and is cut off there.
     let cut = repeated(alloc, b"(;CC[", b"a", 1_048_571)?;
-    expect_same(
+    expect_fault(
         &rt,
         fault_of(alloc, cut.as_slice()),
         Some(SgfFault::Syntax { at: 1_048_576 }),
     );
     let long = repeated(alloc, cut.as_slice(), b"a", 1)?;
-    expect_same(
+    expect_fault(
         &rt,
         fault_of(alloc, long.as_slice()),
         Some(SgfFault::TooLong),
@@ -142,11 +147,11 @@ fn keeps_the_limit_of_bytes(rt: HostRuntime) -> Result<(), Fail> {
     // A whole tree that ends with the last byte that is read.
     let most = repeated(alloc, b"(;CC[", b"a", 1_048_569)?;
     let whole = repeated(alloc, most.as_slice(), b"])(;", 1)?;
-    expect_same(&rt, read_tree(alloc, whole.as_slice())?.1, 1_048_576);
+    expect_count(&rt, read_tree(alloc, whole.as_slice())?.1, 1_048_576);
     // A byte more, and the tree ends too late.
     let more = repeated(alloc, b"(;CC[", b"a", 1_048_570)?;
     let late = repeated(alloc, more.as_slice(), b"])", 1)?;
-    expect_same(
+    expect_fault(
         &rt,
         fault_of(alloc, late.as_slice()),
         Some(SgfFault::TooLong),
@@ -154,7 +159,7 @@ fn keeps_the_limit_of_bytes(rt: HostRuntime) -> Result<(), Fail> {
     // A ";" past the bytes that are read begins no tree.
     let far = repeated(alloc, b"(", b" ", 1_048_575)?;
     let none = repeated(alloc, far.as_slice(), b";)", 1)?;
-    expect_same(
+    expect_fault(
         &rt,
         fault_of(alloc, none.as_slice()),
         Some(SgfFault::NoTree),
@@ -219,10 +224,10 @@ fn cuts_into_tokens(rt: HostRuntime) -> Result<(), Fail> {
     ];
     for (token, (kind, at, part)) in tokens(text).zip(wanted) {
         expect_same(&rt, token.kind, kind);
-        expect_same(&rt, token.at, at);
-        expect_same(&rt, token.text, part);
+        expect_count(&rt, token.at, at);
+        expect_bytes(&rt, token.text, part);
     }
-    expect_same(&rt, tokens(text).count(), 8);
+    expect_count(&rt, tokens(text).count(), 8);
     Ok(())
 }
 
@@ -259,7 +264,7 @@ fn leaves_a_front_where_writing_fails(rt: HostRuntime) -> Result<(), Fail> {
             room,
         };
         expect_same(&rt, write_tree(&tree, &mut narrow), Err(WriteFault::Write));
-        expect_same(&rt, narrow.taken.as_slice(), &text[..room]);
+        expect_bytes(&rt, narrow.taken.as_slice(), &text[..room]);
     }
     let mut narrow = Narrow {
         taken: Vec::new(alloc),
@@ -267,7 +272,7 @@ fn leaves_a_front_where_writing_fails(rt: HostRuntime) -> Result<(), Fail> {
         room: 1000,
     };
     expect_same(&rt, write_tree(&tree, &mut narrow), Ok(()));
-    expect_same(&rt, narrow.taken.as_slice(), text.as_slice());
+    expect_bytes(&rt, narrow.taken.as_slice(), text.as_slice());
     Ok(())
 }
 
@@ -311,8 +316,8 @@ fn makes_trees_with_a_node_alone(rt: HostRuntime) -> Result<(), Fail> {
     let mut nodes = Vec::new(alloc);
     nodes.push(SgfNode::new(Vec::new(alloc)).ok_or("a node")?)?;
     let tree = Tree::new(nodes, Vec::new(alloc)).ok_or("a tree")?;
-    expect_same(&rt, tree.nodes().len(), 1);
-    expect_same(&rt, tree.children().len(), 0);
+    expect_count(&rt, tree.nodes().len(), 1);
+    expect_count(&rt, tree.children().len(), 0);
     Ok(())
 }
 
@@ -328,9 +333,9 @@ fn prints_faults(rt: HostRuntime) -> Result<(), Fail> {
         (SgfFault::Memory, "memory"),
     ];
     for (fault, text) in rows {
-        expect_same(&rt, format!(in alloc; "{fault}")?.as_str(), text);
+        expect_text(&rt, format!(in alloc; "{fault}")?.as_str(), text);
     }
-    expect_same(
+    expect_text(
         &rt,
         format!(in alloc; "{}", WriteFault::Write)?.as_str(),
         "write",

@@ -2,11 +2,11 @@
 
 use crate::expect::{expect_same, expect_that};
 use cert_check::check_held;
-use df_pn::{
-    Choice, Pasts, Search, Shared, Stop, claim_with_lemmas, claim_without_lemmas, prove, share_tree,
-};
+use claim_maker::{Choice, Pasts, claim_with_lemmas, claim_without_lemmas, share_tree};
+use df_pn::{Search, Stop, prove};
 use go_points::{Colour, Colouring, PointSet, Size, sgf_point};
 use proof_cert::{Certificate, Version, read_cert, write_cert};
+use state_proofs::Shared;
 use std::alloc::Global;
 use std::num::NonZeroUsize;
 use std::process::Abort;

@@ -1,9 +1,10 @@
 //! What a table remembers, and what it forgets first.
 
-use crate::expect::{expect_same, expect_that};
+use crate::expect::expect_that;
 use go_points::Colour;
 use pn_table::*;
 use std::num::NonZeroUsize;
+use std::process::Abort;
 use std::test::Fail;
 
 fn table(rt: HostRuntime, capacity: usize) -> Result<Table, Fail> {
@@ -23,15 +24,19 @@ fn numbers(proof: u32, disproof: u32) -> Numbers {
     Numbers { proof, disproof }
 }
 
+fn expect_numbers(rt: &impl Abort, found: Option<Numbers>, wanted: Option<Numbers>) {
+    assert_eq!(rt; found, wanted);
+}
+
 #[test]
 fn what_was_not_used_for_longest_goes(rt: HostRuntime) -> Result<(), Fail> {
     let mut table = table(rt, 2)?;
     expect_that(&rt, table.store(black_to_move(1), numbers(1, 10)));
     expect_that(&rt, table.store(black_to_move(2), numbers(2, 20)));
     expect_that(&rt, table.store(black_to_move(3), numbers(3, 30)));
-    expect_same(&rt, table.look(black_to_move(1)), None);
-    expect_same(&rt, table.look(black_to_move(2)), Some(numbers(2, 20)));
-    expect_same(&rt, table.look(black_to_move(3)), Some(numbers(3, 30)));
+    expect_numbers(&rt, table.look(black_to_move(1)), None);
+    expect_numbers(&rt, table.look(black_to_move(2)), Some(numbers(2, 20)));
+    expect_numbers(&rt, table.look(black_to_move(3)), Some(numbers(3, 30)));
     Ok(())
 }
 
@@ -40,10 +45,10 @@ fn a_look_counts_as_use(rt: HostRuntime) -> Result<(), Fail> {
     let mut table = table(rt, 2)?;
     expect_that(&rt, table.store(black_to_move(1), numbers(1, 10)));
     expect_that(&rt, table.store(black_to_move(2), numbers(2, 20)));
-    expect_same(&rt, table.look(black_to_move(1)), Some(numbers(1, 10)));
+    expect_numbers(&rt, table.look(black_to_move(1)), Some(numbers(1, 10)));
     expect_that(&rt, table.store(black_to_move(3), numbers(3, 30)));
-    expect_same(&rt, table.look(black_to_move(1)), Some(numbers(1, 10)));
-    expect_same(&rt, table.look(black_to_move(2)), None);
+    expect_numbers(&rt, table.look(black_to_move(1)), Some(numbers(1, 10)));
+    expect_numbers(&rt, table.look(black_to_move(2)), None);
     Ok(())
 }
 
@@ -53,24 +58,24 @@ fn newer_numbers_replace_older_ones(rt: HostRuntime) -> Result<(), Fail> {
     expect_that(&rt, table.store(black_to_move(1), numbers(1, 10)));
     expect_that(&rt, table.store(black_to_move(2), numbers(2, 20)));
     expect_that(&rt, table.store(black_to_move(1), numbers(0, INFINITY)));
-    expect_same(
+    expect_numbers(
         &rt,
         table.look(black_to_move(1)),
         Some(numbers(0, INFINITY)),
     );
-    expect_same(&rt, table.look(black_to_move(2)), Some(numbers(2, 20)));
+    expect_numbers(&rt, table.look(black_to_move(2)), Some(numbers(2, 20)));
     Ok(())
 }
 
 #[test]
 fn a_table_of_one_key_keeps_the_latest(rt: HostRuntime) -> Result<(), Fail> {
     let mut table = table(rt, 1)?;
-    expect_same(&rt, table.look(black_to_move(1)), None);
+    expect_numbers(&rt, table.look(black_to_move(1)), None);
     expect_that(&rt, table.store(black_to_move(1), numbers(1, 10)));
-    expect_same(&rt, table.look(black_to_move(1)), Some(numbers(1, 10)));
+    expect_numbers(&rt, table.look(black_to_move(1)), Some(numbers(1, 10)));
     expect_that(&rt, table.store(black_to_move(2), numbers(2, 20)));
-    expect_same(&rt, table.look(black_to_move(1)), None);
-    expect_same(&rt, table.look(black_to_move(2)), Some(numbers(2, 20)));
+    expect_numbers(&rt, table.look(black_to_move(1)), None);
+    expect_numbers(&rt, table.look(black_to_move(2)), Some(numbers(2, 20)));
     Ok(())
 }
 
@@ -89,12 +94,12 @@ fn mover_and_passes_belong_to_the_key(rt: HostRuntime) -> Result<(), Fail> {
     };
     let mut table = table(rt, 3)?;
     expect_that(&rt, table.store(black, numbers(1, 10)));
-    expect_same(&rt, table.look(white), None);
-    expect_same(&rt, table.look(passed), None);
+    expect_numbers(&rt, table.look(white), None);
+    expect_numbers(&rt, table.look(passed), None);
     expect_that(&rt, table.store(white, numbers(2, 20)));
     expect_that(&rt, table.store(passed, numbers(3, 30)));
-    expect_same(&rt, table.look(black), Some(numbers(1, 10)));
-    expect_same(&rt, table.look(white), Some(numbers(2, 20)));
-    expect_same(&rt, table.look(passed), Some(numbers(3, 30)));
+    expect_numbers(&rt, table.look(black), Some(numbers(1, 10)));
+    expect_numbers(&rt, table.look(white), Some(numbers(2, 20)));
+    expect_numbers(&rt, table.look(passed), Some(numbers(3, 30)));
     Ok(())
 }

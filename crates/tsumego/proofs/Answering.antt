@@ -15,13 +15,14 @@ use Rattle.cert_check.specs.Expand.{expand}
 use Rattle.cert_check.specs.Laws.{AcceptsValidTexts, ValidClaimsAnswer}
 use Rattle.solution_tree.specs.Laws.{ExpansionsAscend}
 use Rattle.tsumego_words.specs.declared.command_line.Command.{Command}
+use Rattle.tsumego_words.specs.CommandLine.{is_session}
 use Rattle.tsumego_replies.specs.declared.status.Status.{Status}
 use Rattle.tsumego_replies.specs.declared.status.Status.TheVariants.{Unanswered, Failed}
 use Rattle.tsumego_replies.specs.Texts.{line, no_memory_text, no_read_text, too_large_text}
 use Rattle.tsumego_replies.specs.Solutions.{IsProofBy, IsWritten, SolvedBy, MayAnswer}
 use Rattle.tsumego_replies.specs.Answers.{Says, SaysFailure, Tells}
 use Rattle.tsumego.specs.Outcome.{Saying, Leaves, HasLeftOn, Outcome, RanOn}
-use Rattle.tsumego.proofs.Running.{explained}
+use Rattle.tsumego.proofs.Running.{explained, may_say}
 use Rattle.tsumego.specs.Private.Written.{IsSolutionOf, Writes}
 
 -- WHAT IS LEFT
@@ -74,14 +75,14 @@ module _ (k : CheckedClaim) (checked : IsChecked k.problem (claim_of k.certifica
       }
 
 -- What is left of it is left by the run.
-pub ran_left : (command : Command) (told : Option (List ℕ)) (read : List ℕ → Type 0) (fails : Type 0) (bytes : List ℕ) (k : CheckedClaim) (proof lift : Bool) (result : Status) (old new : Option (List ℕ)) → Tells told bytes
+pub ran_left : (command : Command) (told : Option (List ℕ)) (read : List ℕ → Type 0) (fails : Type 0) (bytes : List ℕ) (k : CheckedClaim) (proof lift : Bool) (result : Status) (old new : Option (List ℕ)) → is_session command ≡ false → Tells told bytes
     → ((status : Status) (text : List ℕ) → MayAnswer proof lift k status text → Says command bytes status text) → HasLeftOn (MayAnswer proof lift k) fails result old new → RanOn (Some command) told read fails result old new
-ran_left command told read fails bytes k proof lift result old new tells says (written, taken, left, why) = (bytes, written, tells, taken, go left, explained (Some command) (λ failed. because (why failed)))
+ran_left command told read fails bytes k proof lift result old new whole tells says (written, taken, left, why) = (bytes, written, tells, taken, go left, explained (Some command) (λ failed. because (why failed)))
   where
     go : Leaves (MayAnswer proof lift k) result written → Outcome (Some command) bytes result written
-    go (inl may) = inl (says result written may)
+    go (inl may) = inl (may_say command bytes result written whole (says result written may))
     go (inr (failed, inl failure)) = inr (failed, inl failure)
-    go (inr (failed, inr (rest, inl (status, may)))) = inr (failed, inr (rest, inl (status, says status (written ++ rest) may)))
+    go (inr (failed, inr (rest, inl (status, may)))) = inr (failed, inr (rest, inl (status, may_say command bytes status (written ++ rest) whole (says status (written ++ rest) may))))
     go (inr (failed, inr (rest, inr failure))) = inr (failed, inr (rest, inr failure))
 
     because : (written ≡ no_memory_text) ⊎ ((⊥ × (written ≡ no_read_text)) ⊎ fails) → (written ≡ no_memory_text) ⊎ ((read bytes × (written ≡ no_read_text)) ⊎ fails)

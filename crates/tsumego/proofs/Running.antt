@@ -15,8 +15,9 @@ use Rattle.tsumego_replies.specs.declared.status.Status.TheVariants.{BadWords, F
 use Rattle.tsumego_words.specs.CommandLine.{is_session}
 use Rattle.tsumego_replies.specs.Texts.{no_memory_text, no_read_text}
 use Rattle.tsumego_replies.specs.Solutions.{claim_verdict}
-use Rattle.tsumego_replies.specs.Answers.{Says, SaysFailure, check_answer, audit_answer, within_answer, Tells}
-use Rattle.tsumego.specs.Outcome.{Outcome, Explains, ExplainsRun, RanOn}
+use Rattle.tsumego_replies.specs.Answers.{PassesBound, Says, SaysFailure, check_answer, audit_answer, within_answer, Tells}
+use Rattle.tsumego.specs.Devices.{PassesLimit}
+use Rattle.tsumego.specs.Outcome.{Outcome, Explains, ExplainsRun, MaySay, RanOn}
 use Rattle.tsumego.specs.Private.Written.{Writes}
 use Rattle.tsumego_replies.proofs.Saying.{some_bytes}
 
@@ -63,6 +64,21 @@ says_no_failure (Solve steps table proof lift) bytes text whole (inl (refusal, r
 says_no_failure (Solve steps table proof lift) bytes text whole (inr (q, tree, n, is, inl (e, solved))) = absurd (cc e)
 says_no_failure (Solve steps table proof lift) bytes text whole (inr (q, tree, n, is, inr (e, unsolved))) = absurd (cc e)
 
+-- what a command says that reads a record may be said
+pub may_say : (command : Command) (bytes : List ℕ) (status : Status) (text : List ℕ) → is_session command ≡ false → Says command bytes status text → MaySay command bytes status text
+may_say Check bytes status text whole says = says
+may_say (Within turns nodes) bytes status text whole says = says
+may_say Audit bytes status text whole says = says
+may_say (Solve steps table proof lift) bytes status text whole says = says
+may_say Gtp bytes status text whole says = absurd (cc whole)
+
+pub passes_limit : (command : Command) (bytes : List ℕ) → PassesBound command bytes → PassesLimit command bytes
+passes_limit Check bytes passes = passes
+passes_limit (Within turns nodes) bytes passes = absurd passes
+passes_limit Audit bytes passes = absurd passes
+passes_limit (Solve steps table proof lift) bytes passes = absurd passes
+passes_limit Gtp bytes passes = absurd passes
+
 -- ---- what is written
 
 module _ (old new : Option (List ℕ)) (text : List ℕ) (fails : Type 0) where
@@ -73,7 +89,7 @@ module _ (old new : Option (List ℕ)) (text : List ℕ) (fails : Type 0) where
     text,
     tells,
     taken,
-    inl (subst (λ s. Says command bytes s text) (sym same) says),
+    inl (subst (λ s. MaySay command bytes s text) (sym same) (may_say command bytes status text whole says)),
     explained (Some command) (λ failed. absurd (says_no_failure command bytes text whole (subst (λ s. Says command bytes s text) (sym same ∙ failed) says))),
   )
   ran_said command told read bytes status result whole tells says (inr (failed, fault, (part, rest, all, taken))) = (
@@ -81,7 +97,7 @@ module _ (old new : Option (List ℕ)) (text : List ℕ) (fails : Type 0) where
     part,
     tells,
     taken,
-    inr (failed, inr (rest, inl (status, subst (Says command bytes status) all says))),
+    inr (failed, inr (rest, inl (status, subst (MaySay command bytes status) all (may_say command bytes status text whole says)))),
     explained (Some command) (λ e. inr (inr fault)),
   )
 

@@ -15,8 +15,8 @@ use Rattle.tsumego_words.specs.declared.command_line.Command.TheVariants.{Check,
 use Rattle.tsumego_replies.specs.declared.status.Status.{Status}
 use Rattle.tsumego_replies.specs.declared.status.Status.TheVariants.{Answered, Failed}
 use Rattle.tsumego_replies.specs.Texts.{no_read_text}
-use Rattle.tsumego_replies.specs.Answers.{Says, Tells}
-use Rattle.tsumego.specs.Outcome.{RanOn}
+use Rattle.tsumego_replies.specs.Answers.{Tells}
+use Rattle.tsumego.specs.Outcome.{MaySay, RanOn}
 use Rattle.tsumego.specs.Private.Written.{Writes}
 
 -- every session can serve every line
@@ -79,7 +79,7 @@ module _ (told old : Option (List ℕ)) (reads fails : Type 0) where
     written ++ no_read_text,
     told_too told bytes tells,
     Appends-trans old mid new written no_read_text taken whole,
-    inl (subst (λ s. Says Gtp bytes s (written ++ no_read_text)) (sym same) (inr (refl, (written, read, refl)))),
+    inl (subst (λ s. MaySay Gtp bytes s (written ++ no_read_text)) (sym same) (inr (refl, (written, read, refl)))),
     λ failed. inr (inl (why, (written, refl))),
   )
   session_read_fails writes mid new result (bytes, written, tells, taken, read, why) (inr (failed, fault, (part, rest, whole, more))) = (

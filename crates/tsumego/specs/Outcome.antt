@@ -1,21 +1,34 @@
 -- What a run may leave: its whole text; or a failure, and then nothing is claimed.
+--     MaySay command bytes status text      the whole text that the command may have for these bytes
 --     Leaves Said status written      where this may be said
---     HasLeft Said status old new      the same between the writer before and after
 --     Outcome command bytes status written      `command` is what the words ask for, where they ask for something
 --     Explains read write status written      a run that ended as failed did so for what memory, a read or a write did
 --     RanOn      the same between the devices before a run and after it, with why it failed, where it did
 use Rattle.std.specs.Prelude.{◌≡◌, ℕ, List, ◌++◌, Option, Some, None, ◌⊎◌}
 use Rattle.std.specs.Io.KnownBytes.{Appends}
+use Rattle.gtp_core.specs.Lines.{raw_lines}
+use Rattle.gtp_core.specs.Runs.{IsRun, IsReadTo, first_session}
 use Rattle.tsumego_words.specs.declared.command_line.Command.{Command}
 use Rattle.tsumego_words.specs.declared.command_line.Command.TheVariants.{Gtp}
 use Rattle.tsumego_replies.specs.declared.status.Status.{Status}
-use Rattle.tsumego_replies.specs.declared.status.Status.TheVariants.{BadWords, Failed}
+use Rattle.tsumego_replies.specs.declared.status.Status.TheVariants.{Answered, BadWords, Failed}
 use Rattle.tsumego_replies.specs.Texts.{no_memory_text, no_read_text}
 use Rattle.tsumego_replies.specs.Answers.{Says, SaysFailure, Tells}
 
 -- What a run may have said in full: a status and a text.
 abbrev pub Saying : Type 1
 Saying = Status → List ℕ → Type 0
+
+-- the replies of a session over all lines; or, where a read failed, those to the lines that had ended, and that it failed
+abbrev pub SessionSays : List ℕ → Saying
+SessionSays bytes status text =
+    ((status ≡ Answered) × IsRun first_session (raw_lines bytes) text)
+    ⊎ ((status ≡ Failed) × ((replies : List ℕ) × IsReadTo bytes replies × (text ≡ replies ++ no_read_text)))
+
+-- The whole text that the command may have for these bytes, and the status with it.
+abbrev pub MaySay : Command → List ℕ → Saying
+MaySay Gtp bytes = SessionSays bytes
+MaySay command bytes = Says command bytes
 
 -- A write failed: what was taken is a part from the front of something that the run may say.
 abbrev pub IsCut : Saying → List ℕ → Type 0
@@ -25,14 +38,10 @@ IsCut Said written = (rest : List ℕ) × (((status : Status) × Said status (wr
 abbrev pub Leaves : Saying → Status → List ℕ → Type 0
 Leaves Said status written = Said status written ⊎ ((status ≡ Failed) × (SaysFailure written ⊎ IsCut Said written))
 
--- The writer has taken what is left so.
-abbrev pub HasLeft : Saying → Status → Option (List ℕ) → Option (List ℕ) → Type 0
-HasLeft Said status old new = (written : List ℕ) × Appends old new written × Leaves Said status written
-
 -- Of the text of words that ask for nothing, nothing is said.
 abbrev pub Outcome : Option Command → List ℕ → Status → List ℕ → Type 0
 Outcome None bytes status written = (status ≡ BadWords) ⊎ (status ≡ Failed)
-Outcome (Some command) bytes status written = Leaves (Says command bytes) status written
+Outcome (Some command) bytes status written = Leaves (MaySay command bytes) status written
 
 -- Why a run ended as failed: memory was refused, and the text says that alone; or a read failed, and it says that alone; or a write failed.
 abbrev pub Explains : Type 0 → Type 0 → Status → List ℕ → Type 0

@@ -1,7 +1,7 @@
--- What each command answers: the whole text, and the status with it.
+-- What each command that reads a record answers: the whole text, and the status with it. A session reads none, and says nothing here.
 --     check_answer, within_answer, audit_answer      of what the definitions of claims, of winning and of answer trees say
 --     Says command bytes status text      the whole text that the command may have for these bytes
-use Rattle.std.specs.Prelude.{◌≡◌, ℕ, ◌-◌, ◌<◌, ◌≤◌, List, ◌++◌, length, drop, Option, Some, None, Result, Ok, Err, ◌⊎◌}
+use Rattle.std.specs.Prelude.{◌≡◌, ℕ, ◌-◌, ◌<◌, ◌≤◌, List, length, drop, Option, Some, None, Result, Ok, Err, ◌⊎◌}
 use Rattle.go_points.specs.declared.Colour.{Colour}
 use Rattle.target_game.specs.State.{GameProblem, start}
 use Rattle.target_game.specs.Within.{decision}
@@ -14,13 +14,11 @@ use Rattle.tsumego_problem.specs.Values.{skip_white}
 use Rattle.tsumego_problem.specs.Walk.{problem_within, history_limit}
 use Rattle.tsumego_problem.specs.Refusals.{Refuses}
 use Rattle.cert_check.specs.Verdict.{Verdict, accepted, rejected}
-use Rattle.gtp_core.specs.Lines.{raw_lines}
-use Rattle.gtp_core.specs.Runs.{IsRun, IsReadTo, first_session, input_limit}
 use Rattle.solution_tree.specs.Audit.{Fault, audit}
 use Rattle.tsumego_words.specs.declared.command_line.Command.{Command}
 use Rattle.tsumego_words.specs.declared.command_line.Command.TheVariants as command
 use Rattle.tsumego_replies.specs.declared.status.Status.{Status}
-use Rattle.tsumego_replies.specs.declared.status.Status.TheVariants.{Answered, Unanswered, Refused, Failed}
+use Rattle.tsumego_replies.specs.declared.status.Status.TheVariants.{Answered, Unanswered, Refused}
 use Rattle.tsumego_replies.specs.Bounds.{white_limit}
 use Rattle.tsumego_replies.specs.Solutions.{claim_verdict, Solved, Unsolved}
 use Rattle.tsumego_replies.specs.Texts.{line, wins_text, rejected_line_text, rejected_node_text, neither_text, limit_text, no_memory_text, no_read_text}
@@ -62,7 +60,6 @@ PassesWhite bytes = (q : GameProblem) × (tree : GameTree) × (n : ℕ) × IsRec
 -- a bound on what is read is passed
 abbrev pub PassesBound : Command → List ℕ → Type 0
 PassesBound command.Check bytes = PassesWhite bytes
-PassesBound command.Gtp bytes = input_limit < length bytes
 PassesBound _ bytes = ⊥
 
 -- ---- within
@@ -78,14 +75,6 @@ abbrev pub audit_answer : ℕ → Result Colour Fault → Answer
 audit_answer n (Ok x) = (Answered, wins_text x)
 audit_answer n (Err fault) = (Unanswered, rejected_node_text n fault)
 
--- ---- gtp
-
--- the replies of a session over all lines; or, where a read failed, those to the lines that had ended, and that it failed
-abbrev pub SessionSays : List ℕ → Status → List ℕ → Type 0
-SessionSays bytes status text =
-    ((status ≡ Answered) × IsRun first_session (raw_lines bytes) text)
-    ⊎ ((status ≡ Failed) × ((replies : List ℕ) × IsReadTo bytes replies × (text ≡ replies ++ no_read_text)))
-
 -- ---- all commands
 
 abbrev pub Says : Command → List ℕ → Status → List ℕ → Type 0
@@ -94,7 +83,7 @@ Says (command.Within turns nodes) bytes = RefusedOr (λ q tree n status text. (s
 Says command.Audit bytes = RefusedOr (λ q tree n status text. (status, text) ≡ audit_answer q.game.size (audit q tree)) bytes
 Says (command.Solve steps table proof lift) bytes =
     RefusedOr (λ q tree n status text. ((status ≡ Answered) × Solved proof lift q text) ⊎ ((status ≡ Unanswered) × Unsolved steps proof q text)) bytes
-Says command.Gtp bytes = SessionSays bytes
+Says command.Gtp bytes = λ status text. ⊥
 
 -- Memory was refused, or a read failed, or the input has no end in sight.
 abbrev pub SaysFailure : List ℕ → Type 0

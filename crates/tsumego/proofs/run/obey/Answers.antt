@@ -10,7 +10,7 @@ use Rattle.tsumego_replies.specs.Replies.{IsReply}
 use Rattle.tsumego.specs.Private.Written.{Writes}
 use Rattle.tsumego_replies.specs.Texts.{no_memory_text, no_read_text}
 use Rattle.tsumego_replies.proofs.Saying.{some_bytes}
-use Rattle.tsumego.proofs.Running.{ran_said, ran_no_memory, ran_no_read}
+use Rattle.tsumego.proofs.Running.{passes_limit, ran_said, ran_no_memory, ran_no_read}
 use Rattle.tsumego.proofs.Answering.{ran_left}
 use Rattle.tsumego.proofs.run.obey.Goals as goal
 
@@ -43,7 +43,8 @@ returns-in-Ok-Solution g c =
     let told = g.R.Read.remaining c.args.reader.now.inner in let old = g.W.Write.contents c.args.writer.now.inner in let new = g.W.Write.contents c.answer.new.writer.inner in
     let reader = c.answer_of.new.reader in let writer = c.answer.new.writer in
     let said = c.in-Ok-Solution.ensures.reply in
-    let ran = ran_left c.args.command told (ReadFails (Some c.args.command) reader.faults reader.interrupts) (HasFailed writer.faults writer.interrupts) said.0 c.in-Ok-Solution.checked c.in-Ok-Solution.proof c.in-Ok-Solution.lift c.answer.result old new said.1
+    let whole = sym c.is_session.ensures ∙ c.if-is_session.false in
+    let ran = ran_left c.args.command told (ReadFails (Some c.args.command) reader.faults reader.interrupts) (HasFailed writer.faults writer.interrupts) said.0 c.in-Ok-Solution.checked c.in-Ok-Solution.proof c.in-Ok-Solution.lift c.answer.result old new whole said.1
     (subst (IsReply c.args.command said.0) c.in-Ok-Solution.field-0-is said.2) c.answer.ensures in
     record { ran = ran; asked = c.answer_of.ensures.asked }
 
@@ -53,7 +54,7 @@ returns-in-Ok-TooLong g c =
     let reader = c.answer_of.new.reader in let writer = c.write_text-in-Ok-TooLong.new.writer in
     let said = c.in-Ok-TooLong.ensures.reply in
     let ran = ran_no_read old new no_read_text (HasFailed writer.faults writer.interrupts) c.args.command told (ReadFails (Some c.args.command) reader.faults reader.interrupts) said.0 c.write_text-in-Ok-TooLong.result said.1
-    (inr (subst (IsReply c.args.command said.0) c.in-Ok-TooLong.field-0-is said.2)) refl c.write_text-in-Ok-TooLong.ensures in
+    (inr (passes_limit c.args.command said.0 (subst (IsReply c.args.command said.0) c.in-Ok-TooLong.field-0-is said.2))) refl c.write_text-in-Ok-TooLong.ensures in
     record { ran = ran; asked = c.answer_of.ensures.asked }
 
 pub returns-in-Err-Memory : goal.returns-in-Err-Memory

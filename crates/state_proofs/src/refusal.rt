@@ -1,4 +1,4 @@
-//! Why a search or the writing of a claim stops early.
+//! Why a proof or a claim is not made.
 
 use std::alloc::{AllocError, AllocFailed};
 
@@ -23,13 +23,4 @@ impl<T: Drop> From<AllocFailed<T>> for Refusal {
     fn from(_error: AllocFailed<T>) -> Refusal {
         Refusal::Memory
     }
-}
-
-/// Why a search ends without a proof.
-#[derive(Clone, Copy, Debug, PartialEq, Eq)]
-pub enum Stop {
-    /// No step is left.
-    Steps,
-    /// This was met before.
-    Refused(Refusal),
 }

@@ -26,10 +26,10 @@ struct Visit {
 
 /// The walk along the line.
 #[derive(Drop)]
-pub(crate) struct Sharing {
-    pub(crate) line: Line,
+pub struct Sharing {
+    pub line: Line,
     found: Proofs,
-    pub(crate) shared: Proofs,
+    pub shared: Proofs,
     visits: Vec<Visit>,
     due: Vec<Branch>,
     made: Vec<Branch>,
@@ -39,7 +39,7 @@ pub(crate) struct Sharing {
 
 impl Sharing {
     /// A walk over what was found, at the start of the problem.
-    pub(crate) fn of(alloc: Global, line: Line, found: Proofs) -> Sharing {
+    pub fn of(alloc: Global, line: Line, found: Proofs) -> Sharing {
         Sharing {
             line,
             found,
@@ -53,7 +53,7 @@ impl Sharing {
     }
 
     /// Shares the found proof of the state at the end of the line: the number of its new proof.
-    pub(crate) fn share(&mut self, root: u32) -> Result<u32, Refusal> {
+    pub fn share(&mut self, root: u32) -> Result<u32, Refusal> {
         self.enter(root)?;
         for _ in 0..u64::MAX {
             if let Some(number) = self.go_on()? {

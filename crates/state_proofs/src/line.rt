@@ -19,7 +19,7 @@ struct Before {
 
 /// A line of play: the game at its end, and what has occurred before.
 #[derive(Drop)]
-pub(crate) struct Line {
+pub struct Line {
     play: Play,
     past: Past,
     turns: Vec<Before>,
@@ -28,7 +28,7 @@ pub(crate) struct Line {
 
 impl Line {
     /// The line without turns.
-    pub(crate) fn of(alloc: Global, problem: &Problem) -> Result<Line, AllocError> {
+    pub fn of(alloc: Global, problem: &Problem) -> Result<Line, AllocError> {
         let mut past = Past::new(alloc);
         for colouring in problem.history() {
             past.add(key_of(colouring))?;
@@ -44,21 +44,21 @@ impl Line {
     }
 
     /// How many turns it has.
-    pub(crate) fn len(&self) -> usize {
+    pub fn len(&self) -> usize {
         self.turns.len()
     }
 
     /// What the state at its end is known by.
-    pub(crate) fn end(&self) -> Key {
+    pub fn end(&self) -> Key {
         self.end
     }
 
-    pub(crate) fn past(&self) -> &Past {
+    pub fn past(&self) -> &Past {
         &self.past
     }
 
     /// Adds a turn that leads to this state. Where it is not legal, or memory is refused, nothing changes.
-    pub(crate) fn go(&mut self, turn: Turn, next: Key) -> Result<(), Refusal> {
+    pub fn go(&mut self, turn: Turn, next: Key) -> Result<(), Refusal> {
         let is_new = match turn {
             Turn::Pass => false,
             Turn::At(_) => self.past.add(next.position)?,
@@ -88,7 +88,7 @@ impl Line {
     }
 
     /// Takes the last turn back, where there is one.
-    pub(crate) fn back(&mut self) {
+    pub fn back(&mut self) {
         if let Some(before) = self.turns.pop() {
             self.play.back();
             self.forget(before.is_new);
@@ -97,24 +97,24 @@ impl Line {
     }
 
     /// Takes turns back until the line has so many.
-    pub(crate) fn back_to(&mut self, turns: usize) {
+    pub fn back_to(&mut self, turns: usize) {
         for _ in turns..self.turns.len() {
             self.back();
         }
     }
 
     /// The moves at its end, points ascending, barred ones among them.
-    pub(crate) fn list_moves(&self, moves: &mut Vec<Move>) -> Result<(), AllocError> {
+    pub fn list_moves(&self, moves: &mut Vec<Move>) -> Result<(), AllocError> {
         self.play.list_moves(moves)
     }
 
-    pub(crate) fn play(&self) -> &Play {
+    pub fn play(&self) -> &Play {
         &self.play
     }
 }
 
 /// What a state is known by after a turn at this one.
-pub(crate) fn key_after(key: Key, turn: Turn, position: u64) -> Key {
+pub fn key_after(key: Key, turn: Turn, position: u64) -> Key {
     Key {
         position,
         mover: key.mover.opponent(),

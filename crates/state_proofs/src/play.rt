@@ -13,19 +13,19 @@ use target_game::{PlayState, Problem, State};
 
 /// A move of the mover's at an open point that changes the colouring.
 #[derive(Clone, Copy)]
-pub(crate) struct Move {
-    pub(crate) point: Point,
+pub struct Move {
+    pub point: Point,
     /// The key of the colouring after it.
-    pub(crate) position: u64,
+    pub position: u64,
     /// Whether that colouring has occurred before, so that the move is not legal.
-    pub(crate) is_barred: bool,
+    pub is_barred: bool,
     /// Whether the attacker has won by it.
-    pub(crate) wins: bool,
+    pub wins: bool,
 }
 
 /// The game at the end of a line of play.
 #[derive(Drop)]
-pub(crate) struct Play {
+pub struct Play {
     state: PlayState,
     /// How many turns may be taken back.
     made: usize,
@@ -34,13 +34,13 @@ pub(crate) struct Play {
 
 impl Play {
     /// The start of the problem.
-    pub(crate) fn of(alloc: Global, problem: &Problem) -> Result<Play, AllocError> {
+    pub fn of(alloc: Global, problem: &Problem) -> Result<Play, AllocError> {
         let state = State::of(alloc, problem)?;
         Ok(Play { state, made: 0 })
     }
 
     /// The state with this colouring alone in its history; none, where there is no such state.
-    pub(crate) fn at(
+    pub fn at(
         alloc: Global,
         problem: &Problem,
         colouring: &Colouring,
@@ -57,7 +57,7 @@ impl Play {
     }
 
     /// Makes the turn, and answers whether it was made: where nobody has won and it is legal.
-    pub(crate) fn go(&mut self, turn: Turn) -> Result<bool, AllocError> {
+    pub fn go(&mut self, turn: Turn) -> Result<bool, AllocError> {
         if self.state.over().is_some() || self.made == usize::MAX {
             return Ok(false);
         }
@@ -69,7 +69,7 @@ impl Play {
     }
 
     /// Takes the last turn back, where there is one.
-    pub(crate) fn back(&mut self) {
+    pub fn back(&mut self) {
         if self.made > 0 {
             self.state.back();
             self.made -= 1;
@@ -77,7 +77,7 @@ impl Play {
     }
 
     /// What the state is known by. At most one pass stands where nobody has won.
-    pub(crate) fn key(&self) -> Key {
+    pub fn key(&self) -> Key {
         Key {
             position: self.state.key(),
             mover: self.state.mover(),
@@ -85,12 +85,12 @@ impl Play {
         }
     }
 
-    pub(crate) fn colouring(&self) -> Colouring {
+    pub fn colouring(&self) -> Colouring {
         self.state.colouring()
     }
 
     /// The mover's moves, points ascending, barred ones among them; none, where somebody has won.
-    pub(crate) fn list_moves(&self, moves: &mut Vec<Move>) -> Result<(), AllocError> {
+    pub fn list_moves(&self, moves: &mut Vec<Move>) -> Result<(), AllocError> {
         moves.clear();
         if self.state.over().is_some() {
             return Ok(());
@@ -141,7 +141,7 @@ fn move_at(state: &PlayState, point: Point) -> Move
 }
 
 /// The move of this turn; none, where it is a pass.
-pub(crate) fn move_of(moves: &[Move], turn: Turn) -> Option<Move> {
+pub fn move_of(moves: &[Move], turn: Turn) -> Option<Move> {
     let Turn::At(point) = turn else {
         return None;
     };

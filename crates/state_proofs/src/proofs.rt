@@ -10,11 +10,11 @@ use pn_table::Key;
 use std::alloc::{AllocError, Global};
 
 /// The most turns of a line of play together with those of a proof at its end.
-pub(crate) const MAX_LINE: usize = 1_900;
+pub const MAX_LINE: usize = 1_900;
 
 /// How a state is won.
 #[derive(Clone, Copy, Debug, PartialEq, Eq)]
-pub(crate) enum Form {
+pub enum Form {
     /// The mover wins by one turn.
     Turn,
     /// The mover loses by all turns.
@@ -23,7 +23,7 @@ pub(crate) enum Form {
 
 /// What stands after a turn.
 #[derive(Clone, Copy, Debug, PartialEq, Eq)]
-pub(crate) enum Below {
+pub enum Below {
     /// The winner has won.
     Won,
     /// The state that the proof of this number is of.
@@ -32,9 +32,9 @@ pub(crate) enum Below {
 
 /// A turn of a proof, and what stands after it.
 #[derive(Clone, Copy)]
-pub(crate) struct Branch {
-    pub(crate) turn: Turn,
-    pub(crate) below: Below,
+pub struct Branch {
+    pub turn: Turn,
+    pub below: Below,
 }
 
 /// A part of a list that other parts stand in too.
@@ -48,27 +48,27 @@ struct Span {
 #[derive(Clone, Copy)]
 pub struct Proof {
     pub key: Key,
-    pub(crate) winner: Colour,
-    pub(crate) form: Form,
+    pub winner: Colour,
+    pub form: Form,
     branches: Span,
     /// The results of the winner's moves, ascending: none of them may have occurred.
     not: Span,
     /// The results of moves that the proof leaves out, ascending: all of them must have occurred.
     had: Span,
     /// The turns of the answer tree; the greatest number stands for more.
-    pub(crate) turns: u64,
+    pub turns: u64,
     /// The most turns of a line of play below.
-    pub(crate) depth: u32,
+    pub depth: u32,
     /// Another proof of the same state, made before.
     next: Option<u32>,
 }
 
 /// What a proof is made of, beside its branches.
 #[derive(Clone, Copy)]
-pub(crate) struct Settled {
-    pub(crate) key: Key,
-    pub(crate) winner: Colour,
-    pub(crate) form: Form,
+pub struct Settled {
+    pub key: Key,
+    pub winner: Colour,
+    pub form: Form,
 }
 
 /// All proofs, lower ones first.
@@ -84,7 +84,7 @@ pub struct Proofs {
 }
 
 impl Proofs {
-    pub(crate) fn new(alloc: Global) -> Proofs {
+    pub fn new(alloc: Global) -> Proofs {
         Proofs {
             proofs: Vec::new(alloc),
             latest: IndexMap::new(alloc),
@@ -98,7 +98,7 @@ impl Proofs {
         self.proofs.len()
     }
 
-    pub(crate) fn get(&self, number: u32) -> Option<Proof> {
+    pub fn get(&self, number: u32) -> Option<Proof> {
         self.proofs.get(number as usize).copied()
     }
 
@@ -108,7 +108,7 @@ impl Proofs {
     }
 
     /// The turns of what stands below a turn.
-    pub(crate) fn turns_below(&self, below: Below) -> u64 {
+    pub fn turns_below(&self, below: Below) -> u64 {
         match below {
             Below::Won => 0,
             Below::Proof(number) => match self.get(number) {
@@ -118,22 +118,22 @@ impl Proofs {
         }
     }
 
-    pub(crate) fn branches(&self, proof: Proof) -> &[Branch] {
+    pub fn branches(&self, proof: Proof) -> &[Branch] {
         part(self.branches.as_slice(), proof.branches)
     }
 
     /// The branch of this place.
-    pub(crate) fn branch(&self, proof: Proof, place: usize) -> Option<Branch> {
+    pub fn branch(&self, proof: Proof, place: usize) -> Option<Branch> {
         self.branches(proof).get(place).copied()
     }
 
     /// Whether the proof leaves out a move that the past bars.
-    pub(crate) fn needs_a_past(&self, proof: Proof) -> bool {
+    pub fn needs_a_past(&self, proof: Proof) -> bool {
         proof.had.from < proof.had.to
     }
 
     /// The positions that must have occurred, ascending.
-    pub(crate) fn had(&self, proof: Proof) -> &[u64] {
+    pub fn had(&self, proof: Proof) -> &[u64] {
         part(self.positions.as_slice(), proof.had)
     }
 
@@ -143,7 +143,7 @@ impl Proofs {
     }
 
     /// Whether the proof of this number holds where this has occurred.
-    pub(crate) fn holds_at(&self, number: u32, past: &Past) -> bool {
+    pub fn holds_at(&self, number: u32, past: &Past) -> bool {
         match self.get(number) {
             Some(proof) => self.holds(proof, past),
             None => false,
@@ -152,7 +152,7 @@ impl Proofs {
 
     /// The proof with the fewest turns among those of the state that hold at the end of a line of so many turns, where
     /// this has occurred.
-    pub(crate) fn find(&self, key: Key, past: &Past, line: usize) -> Option<u32> {
+    pub fn find(&self, key: Key, past: &Past, line: usize) -> Option<u32> {
         let mut next = self.latest.get(&key).copied();
         let mut found = None;
         let mut least = u64::MAX;
@@ -175,7 +175,7 @@ impl Proofs {
 
     /// Adds the proof of the state by these branches: its number. `reached` is the position after the winner's move, and
     /// `barred` are the results of moves that the past bars.
-    pub(crate) fn add(
+    pub fn add(
         &mut self,
         settled: Settled,
         branches: &[Branch],

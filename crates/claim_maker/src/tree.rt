@@ -1,11 +1,9 @@
 //! The tree of a claim, written from proofs along a line of play.
 
 use crate::claim::Lemmas;
-use crate::play::Play;
-use crate::proofs::{Below, Branch, Form, Proof, Proofs};
-use crate::refusal::Refusal;
 use go_points::{Colour, Colouring, Turn};
 use proof_cert::{MAX_NODES, Node};
+use state_proofs::{Below, Branch, Form, Play, Proof, Proofs, Refusal};
 use std::alloc::{AllocError, Global};
 
 /// A proof of the line of play whose node is written.

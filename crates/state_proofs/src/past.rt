@@ -5,43 +5,43 @@ use std::alloc::{AllocError, Global};
 
 /// The keys of the colourings that have occurred, in order of first occurrence.
 #[derive(Drop)]
-pub(crate) struct Past {
+pub struct Past {
     positions: IndexSet<u64>,
 }
 
 impl Past {
-    pub(crate) fn new(alloc: Global) -> Past {
+    pub fn new(alloc: Global) -> Past {
         Past {
             positions: IndexSet::new(alloc),
         }
     }
 
     /// How many positions have occurred.
-    pub(crate) fn len(&self) -> usize {
+    pub fn len(&self) -> usize {
         self.positions.len()
     }
 
     /// The place of the position in the order of first occurrence; none, where it has not occurred.
-    pub(crate) fn place_of(&self, position: u64) -> Option<usize> {
+    pub fn place_of(&self, position: u64) -> Option<usize> {
         self.positions.get_index_of(&position)
     }
 
-    pub(crate) fn has(&self, position: u64) -> bool {
+    pub fn has(&self, position: u64) -> bool {
         self.positions.contains(&position)
     }
 
     /// Adds the position, and answers whether it is new.
-    pub(crate) fn add(&mut self, position: u64) -> Result<bool, AllocError> {
+    pub fn add(&mut self, position: u64) -> Result<bool, AllocError> {
         Ok(self.positions.insert(position)?)
     }
 
     /// Takes the latest position off.
-    pub(crate) fn take_last(&mut self) {
+    pub fn take_last(&mut self) {
         self.positions.pop();
     }
 
     /// Whether one of the positions, which ascend, has occurred.
-    pub(crate) fn has_any(&self, positions: &[u64]) -> bool {
+    pub fn has_any(&self, positions: &[u64]) -> bool {
         // The shorter side is walked.
         if positions.len() / 4 < self.positions.len() {
             for position in positions {
@@ -60,7 +60,7 @@ impl Past {
     }
 
     /// Whether all of the positions have occurred.
-    pub(crate) fn has_all(&self, positions: &[u64]) -> bool {
+    pub fn has_all(&self, positions: &[u64]) -> bool {
         for position in positions {
             if !self.has(*position) {
                 return false;

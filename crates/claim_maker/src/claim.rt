@@ -1,24 +1,13 @@
 //! The claim of shared proofs: lemmas for the states that stand at several places, and the main tree.
 
-use crate::line::Line;
-use crate::play::Play;
-use crate::proofs::{Below, Branch, Proof, Proofs};
-use crate::refusal::Refusal;
 use crate::tree::Writer;
 use go_points::{Colour, Colouring};
 use indexmap::IndexMap;
 use pn_table::Key;
 use proof_cert::{Certificate, Lemma, MAX_LEMMAS, MAX_LISTED, Version};
+use state_proofs::{Below, Branch, Line, Play, Proof, Proofs, Refusal, Shared};
 use std::alloc::{AllocError, Global};
 use target_game::Problem;
-
-/// Who wins, with shared proofs and the number of the first state's.
-#[derive(Drop)]
-pub struct Shared {
-    pub winner: Colour,
-    pub(crate) proofs: Proofs,
-    pub(crate) root: u32,
-}
 
 /// At how many places a state stands.
 #[derive(Clone, Copy, Debug, PartialEq, Eq)]

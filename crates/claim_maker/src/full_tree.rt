@@ -1,16 +1,15 @@
 //! The tree that full search found, as proofs without conditions.
 
-use crate::play::Play;
-use crate::proofs::{Below, Branch, Form, Proofs, Settled};
-use crate::refusal::Refusal;
 use go_points::{Colour, Turn};
 use proof_cert::Node;
+use state_proofs::{Below, Branch, Form, Line, Play, Proofs, Refusal, Settled, Shared, Sharing};
 use std::alloc::Global;
+use target_game::Problem;
 
 /// Adds a proof for each node of the tree at the state where nobody has won: what stands there. The tree is at most 201
 /// deep, as full search makes it.
 #[cycle(full_tree)]
-pub(crate) fn note_tree(
+fn note_tree(
     alloc: Global,
     proofs: &mut Proofs,
     play: &mut Play,
@@ -71,4 +70,26 @@ fn add(
         form,
     };
     Ok(Below::Proof(proofs.add(settled, branches, None, &[])?))
+}
+
+/// The proofs of this tree of the problem, by which the side wins. The tree is at most 201 deep, and uses no lemma.
+pub fn share_tree(
+    alloc: Global,
+    problem: &Problem,
+    winner: Colour,
+    main: &Node,
+) -> Result<Shared, Refusal> {
+    let mut play = Play::of(alloc, problem)?;
+    let mut proofs = Proofs::new(alloc);
+    let Below::Proof(root) = note_tree(alloc, &mut proofs, &mut play, winner, main)? else {
+        return Err(Refusal::Fault);
+    };
+    let line = Line::of(alloc, problem)?;
+    let mut sharing = Sharing::of(alloc, line, proofs);
+    let root = sharing.share(root)?;
+    Ok(Shared {
+        winner,
+        proofs: sharing.shared,
+        root,
+    })
 }

@@ -1,0 +1,20 @@
+//! Proofs of states: who wins there by which turns, and under which conditions on the past.
+//!
+//! Nothing is promised of a proof: what is made of it is put to the checker.
+#![tactic(auto)]
+
+mod line;
+mod past;
+mod play;
+mod proofs;
+mod refusal;
+mod share;
+mod shared;
+
+pub use line::{Line, key_after};
+pub use past::Past;
+pub use play::{Move, Play, move_of};
+pub use proofs::{Below, Branch, Form, MAX_LINE, Proof, Proofs, Settled};
+pub use refusal::Refusal;
+pub use share::Sharing;
+pub use shared::Shared;

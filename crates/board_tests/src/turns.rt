@@ -1,5 +1,7 @@
 //! Games on small boards and on the widest, with results worked out by the rules.
 
+ghost use Rattle.go_points.specs.Place.{IsOn};
+
 use crate::expect::{
     expect_colouring, expect_count, expect_number, expect_optional_colour, expect_optional_count,
     expect_same, expect_that,
@@ -35,6 +37,16 @@ fn at(size: Size, column: u8, row: u8) -> Turn {
     }
 }
 
+fn board(rt: &impl Abort, rows: u8) -> Size {
+    Size::new(rows).expect(rt, "a size")
+}
+
+fn point(rt: &impl Abort, size: Size, column: u8, row: u8) -> Point
+    ensures { IsOn size result }
+{
+    size.point(column, row).expect(rt, "a point")
+}
+
 fn expect_done(rt: &impl Abort, found: Result<(), TurnFault>, wanted: Result<(), TurnFault>) {
     assert_eq!(rt; found, wanted);
 }
@@ -44,8 +56,8 @@ fn expect_taken(rt: &impl Abort, found: Option<u16>, wanted: Option<u16>) {
 }
 
 #[test]
-fn a_ko_may_not_be_retaken(rt: HostRuntime) -> Result<(), Fail> {
-    let size = Size::new(3).ok_or("size")?;
+fn a_ko_may_not_be_retaken(rt: HostRuntime) {
+    let size = board(&rt, 3);
     let mut record = Record::<PlayBoard, PlaySeen>::new(rt.alloc(), &Colouring::empty(size)).expect(
         &rt, "memory",
     );
@@ -67,12 +79,11 @@ fn a_ko_may_not_be_retaken(rt: HostRuntime) -> Result<(), Fail> {
     expect_count(&rt, record.seen().len(), 5);
     expect_done(&rt, record.play(Colour::White, at(size, 0, 0)), Ok(()));
     expect_colouring(&rt, record.colouring(), painted(size, "O.OXO...."));
-    Ok(())
 }
 
 #[test]
-fn two_stones_may_die_by_their_own_move(rt: HostRuntime) -> Result<(), Fail> {
-    let size = Size::new(3).ok_or("size")?;
+fn two_stones_may_die_by_their_own_move(rt: HostRuntime) {
+    let size = board(&rt, 3);
     let mut record = Record::<PlayBoard, PlaySeen>::new(rt.alloc(), &Colouring::empty(size)).expect(
         &rt, "memory",
     );
@@ -95,12 +106,11 @@ fn two_stones_may_die_by_their_own_move(rt: HostRuntime) -> Result<(), Fail> {
         Err(TurnFault::Occupied),
     );
     expect_optional_colour(&rt, record.last_colour(), Some(Colour::White));
-    Ok(())
 }
 
 #[test]
-fn one_point_has_no_legal_move(rt: HostRuntime) -> Result<(), Fail> {
-    let size = Size::new(1).ok_or("size")?;
+fn one_point_has_no_legal_move(rt: HostRuntime) {
+    let size = board(&rt, 1);
     let mut record = Record::<PlayBoard, PlaySeen>::new(rt.alloc(), &Colouring::empty(size)).expect(
         &rt, "memory",
     );
@@ -118,19 +128,18 @@ fn one_point_has_no_legal_move(rt: HostRuntime) -> Result<(), Fail> {
     expect_done(&rt, record.undo(), Ok(()));
     expect_number(&rt, record.passes(), 1);
     expect_optional_colour(&rt, record.last_colour(), Some(Colour::White));
-    let wide = Size::new(2).ok_or("size")?;
+    let wide = board(&rt, 2);
     expect_done(
         &rt,
         record.play(Colour::Black, at(wide, 1, 0)),
         Err(TurnFault::OffBoard),
     );
     expect_same(&rt, record.size(), size);
-    Ok(())
 }
 
 #[test]
-fn a_stone_without_liberty_is_taken(rt: HostRuntime) -> Result<(), Fail> {
-    let size = Size::new(2).ok_or("size")?;
+fn a_stone_without_liberty_is_taken(rt: HostRuntime) {
+    let size = board(&rt, 2);
     let mut record = Record::<PlayBoard, PlaySeen>::new(rt.alloc(), &Colouring::empty(size)).expect(
         &rt, "memory",
     );
@@ -148,12 +157,11 @@ fn a_stone_without_liberty_is_taken(rt: HostRuntime) -> Result<(), Fail> {
         record.play(Colour::White, at(size, 1, 0)),
         Err(TurnFault::Repeats { earlier: 3 }),
     );
-    Ok(())
 }
 
 #[test]
-fn a_past_forbids_and_a_smothered_opening_is_refused(rt: HostRuntime) -> Result<(), Fail> {
-    let size = Size::new(3).ok_or("size")?;
+fn a_past_forbids(rt: HostRuntime) {
+    let size = board(&rt, 3);
     let empty = Colouring::empty(size);
     let corner = painted(size, "X........");
     if corner.size() == empty.size() && empty != corner {
@@ -173,26 +181,25 @@ fn a_past_forbids_and_a_smothered_opening_is_refused(rt: HostRuntime) -> Result<
         expect_done(&rt, record.play(Colour::White, at(size, 0, 0)), Ok(()));
         expect_number(&rt, record.passes(), 0);
     }
-    let smothered = painted(size, ".X.XOX.X.");
-    match Record::<PlayBoard, PlaySeen>::new(rt.alloc(), &smothered) {
-        Ok(_) => return Err("a stone without liberty stands")?,
-        Err(fault) => {
-            let point = size.point(1, 1).ok_or("point")?;
-            expect_same(&rt, fault, TurnFault::NoLiberty { point });
-        }
-    }
-    Ok(())
 }
 
 #[test]
-fn a_record_begins_anew(rt: HostRuntime) -> Result<(), Fail> {
-    let size = Size::new(3).ok_or("size")?;
+fn a_smothered_opening_is_refused(rt: HostRuntime) {
+    let size = board(&rt, 3);
+    let point = point(&rt, size, 1, 1);
+    let refused = Record::<PlayBoard, PlaySeen>::new(rt.alloc(), &painted(size, ".X.XOX.X.")).err();
+    expect_same(&rt, refused, Some(TurnFault::NoLiberty { point }));
+}
+
+#[test]
+fn a_record_begins_anew(rt: HostRuntime) {
+    let size = board(&rt, 3);
     let corner = painted(size, "X........");
     let mut record = Record::<PlayBoard, PlaySeen>::new(rt.alloc(), &corner).expect(&rt, "memory");
     expect_done(&rt, record.play(Colour::White, at(size, 1, 1)), Ok(()));
     let smothered = painted(size, ".X.XOX.X.");
     expect_that(&rt, smothered.size() == record.size());
-    let point = size.point(1, 1).ok_or("point")?;
+    let point = point(&rt, size, 1, 1);
     expect_done(
         &rt,
         record.reopen(rt.alloc(), &smothered, 0),
@@ -209,16 +216,15 @@ fn a_record_begins_anew(rt: HostRuntime) -> Result<(), Fail> {
     expect_optional_count(&rt, record.seen().holds(&corner), None);
     expect_optional_count(&rt, record.seen().holds(&other), Some(0));
     expect_done(&rt, record.undo(), Err(TurnFault::CannotUndo));
-    Ok(())
 }
 
 #[test]
-fn a_setup_is_a_step(rt: HostRuntime) -> Result<(), Fail> {
-    let size = Size::new(2).ok_or("size")?;
-    let upper_left = size.point(0, 0).ok_or("point")?;
-    let upper_right = size.point(1, 0).ok_or("point")?;
-    let lower_left = size.point(0, 1).ok_or("point")?;
-    let beyond = Size::new(3).ok_or("size")?.point(2, 0).ok_or("point")?;
+fn a_setup_is_a_step(rt: HostRuntime) {
+    let size = board(&rt, 2);
+    let upper_left = point(&rt, size, 0, 0);
+    let upper_right = point(&rt, size, 1, 0);
+    let lower_left = point(&rt, size, 0, 1);
+    let beyond = point(&rt, board(&rt, 3), 2, 0);
     let black = Cell::Stone(Colour::Black);
     let white = Cell::Stone(Colour::White);
     let mut record = Record::<PlayBoard, PlaySeen>::new(rt.alloc(), &Colouring::empty(size)).expect(
@@ -258,7 +264,6 @@ fn a_setup_is_a_step(rt: HostRuntime) -> Result<(), Fail> {
     expect_done(&rt, record.undo(), Ok(()));
     expect_count(&rt, record.seen().len(), 1);
     expect_number(&rt, record.passes(), 1);
-    Ok(())
 }
 
 // A move on the board, as the number of stones that it takes off, if it is one.
@@ -271,14 +276,14 @@ fn taken<B: Board>(board: &mut B, colour: Colour, point: Point) -> Option<u16> {
 }
 
 #[test]
-fn moves_on_the_widest_board_count_what_they_take(rt: HostRuntime) -> Result<(), Fail> {
-    let size = Size::new(MAX_SIZE).ok_or("size")?;
+fn moves_on_the_widest_board_count_what_they_take(rt: HostRuntime) {
+    let size = board(&rt, MAX_SIZE);
     let last = MAX_SIZE - 1;
-    let corner = size.point(last, last).ok_or("point")?;
-    let left = size.point(last - 1, last).ok_or("point")?;
-    let above = size.point(last, last - 1).ok_or("point")?;
-    let beyond = size.point(last, last - 2).ok_or("point")?;
-    let beside = size.point(last - 1, last - 1).ok_or("point")?;
+    let corner = point(&rt, size, last, last);
+    let left = point(&rt, size, last - 1, last);
+    let above = point(&rt, size, last, last - 1);
+    let beyond = point(&rt, size, last, last - 2);
+    let beside = point(&rt, size, last - 1, last - 1);
     let mut board = PlayBoard::new(size);
     expect_taken(&rt, taken(&mut board, Colour::White, corner), Some(0));
     expect_taken(&rt, taken(&mut board, Colour::White, corner), None);
@@ -290,7 +295,6 @@ fn moves_on_the_widest_board_count_what_they_take(rt: HostRuntime) -> Result<(),
     expect_taken(&rt, taken(&mut board, Colour::White, corner), Some(1));
     expect_taken(&rt, taken(&mut board, Colour::Black, corner), None);
     expect_taken(&rt, taken(&mut board, Colour::Black, above), Some(1));
-    Ok(())
 }
 
 // The widest board, full of black stones but for the point in its middle.
@@ -318,8 +322,8 @@ fn taken_in_the_middle<B: Board>(board: &mut B, colour: Colour) -> Option<u16> {
 }
 
 #[test]
-fn a_move_empties_the_widest_board(rt: HostRuntime) -> Result<(), Fail> {
-    let size = Size::new(MAX_SIZE).ok_or("size")?;
+fn a_move_empties_the_widest_board(rt: HostRuntime) {
+    let size = board(&rt, MAX_SIZE);
     let mut board = PlayBoard::new(size);
     expect_taken(
         &rt,
@@ -345,13 +349,12 @@ fn a_move_empties_the_widest_board(rt: HostRuntime) -> Result<(), Fail> {
     );
     expect_colouring(&rt, board.colouring(), Colouring::empty(size));
     expect_colouring(&rt, plain.colouring(), Colouring::empty(size));
-    Ok(())
 }
 
 #[test]
-fn a_board_refuses_a_stone_without_liberty(rt: HostRuntime) -> Result<(), Fail> {
-    let size = Size::new(3).ok_or("size")?;
-    let centre = size.point(1, 1).ok_or("point")?;
+fn a_board_refuses_a_stone_without_liberty(rt: HostRuntime) {
+    let size = board(&rt, 3);
+    let centre = point(&rt, size, 1, 1);
     let mut board = PlayBoard::new(size);
     let crossed = painted(size, ".X.X.X.X.");
     let smothered = painted(size, ".X.XOX.X.");
@@ -368,7 +371,6 @@ fn a_board_refuses_a_stone_without_liberty(rt: HostRuntime) -> Result<(), Fail> 
     if board.size().holds(centre) {
         expect_same(&rt, board.cell(centre), Cell::Empty);
     }
-    Ok(())
 }
 
 // Whether a list of two colourings names the place of each, until the second is taken off.
@@ -389,11 +391,10 @@ fn are_found<S: Seen>(
 }
 
 #[test]
-fn each_colouring_has_its_place(rt: HostRuntime) -> Result<(), Fail> {
-    let size = Size::new(2).ok_or("size")?;
+fn each_colouring_has_its_place(rt: HostRuntime) {
+    let size = board(&rt, 2);
     let are_found = are_found::<PlaySeen>(rt.alloc(), painted(size, "X..."), painted(size, "O..."));
     expect_same(&rt, are_found.ok(), Some(true));
-    Ok(())
 }
 
 // Whether a colouring joins the list just where it is new.
@@ -410,8 +411,8 @@ fn are_joined<S: Seen>(
 }
 
 #[test]
-fn each_colouring_joins_once(rt: HostRuntime) -> Result<(), Fail> {
-    let size = Size::new(2).ok_or("size")?;
+fn each_colouring_joins_once(rt: HostRuntime) {
+    let size = board(&rt, 2);
     let first = painted(size, "X...");
     let second = painted(size, "O...");
     expect_same(
@@ -424,12 +425,11 @@ fn each_colouring_joins_once(rt: HostRuntime) -> Result<(), Fail> {
         are_joined::<ListSeen>(rt.alloc(), first, second).ok(),
         Some(true),
     );
-    Ok(())
 }
 
 #[test]
-fn a_turn_is_made_just_where_it_is_legal(rt: HostRuntime) -> Result<(), Fail> {
-    let size = Size::new(3).ok_or("size")?;
+fn a_turn_is_made_just_where_it_is_legal(rt: HostRuntime) {
+    let size = board(&rt, 3);
     let mut record = Record::<PlayBoard, PlaySeen>::new(
         rt.alloc(),
         &painted(size, ".XOXO...."),
@@ -457,7 +457,6 @@ fn a_turn_is_made_just_where_it_is_legal(rt: HostRuntime) -> Result<(), Fail> {
         Some(true),
     );
     expect_number(&rt, record.passes(), 1);
-    Ok(())
 }
 
 #[test]

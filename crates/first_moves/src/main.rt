@@ -1,18 +1,10 @@
 //! first_moves: says of each first turn of a problem who wins after it.
 #![tactic(auto)]
 
-mod claim;
-mod found;
-mod judged;
-mod list;
-mod names;
-mod record;
-mod run;
 #[cfg(test)]
 mod tests;
-mod words;
 
-use run::run;
+use first_turns::run;
 use std::convert::AsStr;
 use std::env;
 use std::process::ExitCode;

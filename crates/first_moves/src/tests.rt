@@ -3,7 +3,7 @@
 //! is the one turn that wins; of each of the 34 turns another solver, which shares no code with this one, says the same.
 //! Then what is written for problems so small that it was worked out by hand.
 
-use crate::run::run;
+use first_turns::run;
 use std::alloc::Global;
 use std::process::Abort;
 use tool_parts::Status;

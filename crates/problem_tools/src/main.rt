@@ -1,27 +1,14 @@
 //! problem_tools: takes the games of a file apart, marks the problem of a record, draws it, and makes a page of its answer.
 #![tactic(auto)]
 
-mod ascii;
-mod drawing;
-mod games;
-mod lines;
-mod mark;
-mod marked_record;
-mod page;
 #[cfg(test)]
 mod page_tests;
 #[cfg(test)]
 mod picture_tests;
-mod region;
-mod run;
-mod same;
-mod svg;
 #[cfg(test)]
 mod tests;
-mod titles;
-mod words;
 
-use run::run;
+use record_tools::run;
 use std::convert::AsStr;
 use std::env;
 use std::process::ExitCode;

@@ -1,7 +1,7 @@
 //! Pages of answers that are written by hand from the rules of the formats.
 
-use crate::lines::descending;
 use crate::tests::gives;
+use record_tools::descending;
 use tool_parts::Status;
 
 // White has just taken the ko: Black may threaten at cc, or pass.

@@ -1,7 +1,7 @@
 //! Pictures of small records, drawn by hand.
 
-use crate::run::run;
 use crate::tests::gives;
+use record_tools::run;
 use std::alloc::Global;
 use std::process::Abort;
 use tool_parts::Status;

@@ -1,7 +1,7 @@
 //! Files in the forms that editors and servers write, and what is made of them. The records that are wanted are written
 //! by hand from the rules of the formats.
 
-use crate::run::run;
+use record_tools::run;
 use std::alloc::Global;
 use std::process::Abort;
 use tool_parts::Status;

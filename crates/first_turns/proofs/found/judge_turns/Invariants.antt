@@ -1,0 +1,12 @@
+use Rattle.std.proofs.Common.{length}
+use Rattle.target_game.specs.Legal.{legal_turns}
+use Rattle.target_game.specs.Left.{turns_due}
+use Rattle.target_game.specs.State.{start}
+use Rattle.first_turns.proofs.Judging.{JudgedBefore}
+use Rattle.first_turns.proofs.found.judge_turns.Given as goal
+
+abbrev pub invariant-loop-turn : goal.invariant-loop-turn
+invariant-loop-turn g l = JudgedBefore l.problem (legal_turns (start l.problem)) (turns_due (start l.problem) l.turns_left.next) l.found.items
+
+abbrev pub decreases-loop-turn : goal.decreases-loop-turn
+decreases-loop-turn g l = length (turns_due (start l.problem) l.turns_left.next)

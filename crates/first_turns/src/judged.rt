@@ -1,0 +1,192 @@
+//! What is found of a first turn.
+
+ghost use Rattle.std.specs.Prelude.{◌≡◌, ◌+◌, IfOk, IfSome, None, ◌∷◌, []};
+ghost use Rattle.go_points.specs.Move.{after_move};
+ghost use Rattle.go_points.specs.Place.{IsOn, number_of};
+ghost use Rattle.go_points.specs.Ply.{ply_of};
+ghost use Rattle.target_game.specs.State.{start};
+ghost use Rattle.first_turns.specs.declared.judged.Judged.TheVariants.{Unknown};
+ghost use Rattle.first_turns.specs.Judged.{IsProblemWith, IsProblemAfter, IsJudged};
+
+use crate::claim::{turn_before, winning_turn};
+use cert_check::{Checked, Why, check_held};
+use go_points::{Colouring, Point, Turn};
+use pn_search::{Budget, Cause, Verdict, solve};
+use proof_cert::Certificate;
+use std::alloc::{AllocError, Global};
+use target_game::{PlayState, Problem, State};
+
+/// What is found of a legal first turn.
+#[derive(Drop)]
+pub(crate) enum Judged {
+    /// The mover wins by it: a claim for the problem itself, which begins with the turn.
+    Right(Checked),
+    /// The other side wins: a claim for the problem after the turn.
+    Refuted(Checked),
+    /// The turn ends the game, and the other side has won.
+    Ends,
+    /// The search found no claim.
+    Unknown,
+}
+
+/// The problem of this history with the other side to move.
+fn problem_with(
+    problem: &Problem,
+    history: Vec<Colouring>,
+    place: usize,
+    passes: u64,
+) -> Option<Problem>
+    ensures { IfSome result (λ later. IsProblemWith problem.now history.items place passes later) }
+{
+    let mover = problem.mover().opponent();
+    let targets = *problem.targets();
+    let region = *problem.region();
+    match Problem::new(history, place, mover, passes, targets, region) {
+        Ok(later) => Some(later),
+        Err(_) => None,
+    }
+}
+
+/// The problem after the turn; none where there is none.
+fn problem_after(
+    alloc: Global,
+    problem: &Problem,
+    state: &PlayState,
+    turn: Turn,
+) -> Result<Option<Problem>, AllocError>
+    requires { state.now.state ≡ start problem.now }
+    ensures { IfOk result
+        (λ made. IfSome made (λ later. IsProblemAfter problem.now
+        (ply_of problem.now.game.size turn) later)) }
+{
+    let mut history = problem.history().to_vec(alloc)?;
+    match turn {
+        Turn::Pass => Ok(problem_with(problem, history, problem.place(), problem.passes() + 1)),
+        Turn::At(point) => {
+            if !state.size().holds(point) {
+                return Ok(None);
+            }
+            let Some(after) = colouring_after(state, point) else {
+                return Ok(None);
+            };
+            let place = history.len();
+            history.push(after)?;
+            Ok(problem_with(problem, history, place, 0))
+        }
+    }
+}
+
+/// The colouring after the mover's move at the point; none where it is no empty point of the region.
+fn colouring_after(state: &PlayState, point: Point) -> Option<Colouring>
+    requires { IsOn state.now.state.game.size point }
+    ensures { IfSome result
+        (λ after. after ≡ after_move state.now.state.game.size state.now.state.colouring
+        state.now.state.mover (number_of state.now.state.game.size point)) }
+{
+    if state.is_open(point) {
+        Some(state.result(point))
+    } else {
+        None
+    }
+}
+
+/// What is found of a first turn, with a budget of its own.
+pub(crate) fn judge(
+    alloc: Global,
+    problem: &Problem,
+    state: &PlayState,
+    turn: Turn,
+    budget: Budget,
+) -> Result<Judged, AllocError>
+    requires { state.now.state ≡ start problem.now }
+    ensures { IfOk result
+        (λ found. IsJudged problem.now (ply_of problem.now.game.size turn) found) }
+{
+    // The prover takes a turn that was passed on as moved.
+    let same = turn;
+    let again = turn;
+    let Some(child) = state.child(turn) else {
+        return Ok(Judged::Unknown);
+    };
+    let mover = problem.mover();
+    if let Some(winner) = child.winner {
+        if winner == mover.opponent() {
+            return Ok(Judged::Ends);
+        }
+        let claim = winning_turn(alloc, problem.size(), mover, same)?;
+        return confirmed(alloc, problem, again, claim);
+    }
+    match problem_after(alloc, problem, state, same)? {
+        Some(later) => searched(alloc, problem, again, later, budget),
+        None => Ok(Judged::Unknown),
+    }
+}
+
+/// What a search finds of the problem after a turn.
+fn searched(
+    alloc: Global,
+    problem: &Problem,
+    turn: Turn,
+    later: Problem,
+    budget: Budget,
+) -> Result<Judged, AllocError>
+    requires { IsProblemAfter problem.now (ply_of problem.now.game.size turn) later }
+    ensures { IfOk result
+        (λ found. IsJudged problem.now (ply_of problem.now.game.size turn) found) }
+{
+    match solve(alloc, later, budget) {
+        Verdict::Wins(checked) => {
+            if checked.winner() == problem.mover().opponent() {
+                return Ok(Judged::Refuted(checked));
+            }
+            let same = turn;
+            let claim = turn_before(alloc, same, checked.certificate())?;
+            confirmed(alloc, problem, turn, claim)
+        }
+        Verdict::Unknown { cause, .. } => match cause {
+            Cause::Memory => Err(AllocError),
+            _ => Ok(Judged::Unknown),
+        },
+    }
+}
+
+/// The claim as one for the problem itself, where the checker accepts it, the mover wins by it, and it begins with the turn.
+fn confirmed(
+    alloc: Global,
+    problem: &Problem,
+    turn: Turn,
+    claim: Certificate,
+) -> Result<Judged, AllocError>
+    ensures { IfOk result
+        (λ found. IsJudged problem.now (ply_of problem.now.game.size turn) found) }
+{
+    let same = problem.copy(alloc)?;
+    match check_held(alloc, same, claim) {
+        Ok(checked) => Ok(begun(problem, turn, checked)),
+        Err((reject, _same, _claim)) => without_claim(reject.why),
+    }
+}
+
+/// What is found where the checker refuses a claim: nothing, unless memory was refused.
+fn without_claim(why: Why) -> Result<Judged, AllocError>
+    ensures { IfOk result (λ found. found ≡ Unknown) }
+{
+    match why {
+        Why::Memory => Err(AllocError),
+        _ => Ok(Judged::Unknown),
+    }
+}
+
+/// The same, where it is accepted.
+fn begun(problem: &Problem, turn: Turn, checked: Checked) -> Judged
+    requires { checked.problem ≡ problem.now }
+    ensures { IsJudged problem.now (ply_of problem.now.game.size turn) result }
+{
+    let Some(first) = checked.first_turn() else {
+        return Judged::Unknown;
+    };
+    if first == turn && checked.winner() == problem.mover() {
+        return Judged::Right(checked);
+    }
+    Judged::Unknown
+}

@@ -1,6 +1,0 @@
-use Rattle.std.proofs.Common.{◌-◌}
-use Rattle.problem_tools.proofs.Collection.{Decides}
-use Rattle.problem_tools.proofs.games.game.Given as goal
-
-abbrev pub invariant-loop-passed : goal.invariant-loop-passed
-invariant-loop-passed l = Decides (l.number - l.passed) l.rest l.number l.text

@@ -1,0 +1,20 @@
+//! What `problem_tools` does: takes the games of a file apart, marks the problem of a record, draws it, and makes a page of
+//! its answer. The program is a crate of its own, so that its tests do not prove all this a second time.
+#![tactic(auto)]
+
+mod ascii;
+mod drawing;
+mod games;
+mod lines;
+mod mark;
+mod marked_record;
+mod page;
+mod program;
+mod region;
+mod same;
+mod svg;
+mod titles;
+mod words;
+
+pub use lines::descending;
+pub use program::run;

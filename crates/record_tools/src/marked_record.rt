@@ -1,0 +1,224 @@
+//! The record whose problem stands where it is asked for.
+
+ghost use Rattle.std.specs.Prelude.{◌≡◌, IfOk, Ok, Some};
+ghost use Rattle.tsumego_problem.specs.Walk.{problem_within, history_limit};
+ghost use Rattle.record_tools.specs.Marked.{IsMarkedRecord, marked};
+
+use crate::mark::{NoMark, mark_tree};
+use crate::region::{proposed_region, whole_chains};
+use go_chains::ChainBoard;
+use go_points::Colour;
+use sgf_text::{Bytes, Property, SgfNode, Tree, Values};
+use std::alloc::{AllocError, Global};
+use target_game::Problem;
+use tsumego_problem::{ProblemFault, all_points, has_setup, marks_node, read_problem};
+
+/// Where both sides may play.
+#[derive(Clone, Copy, Debug, PartialEq, Eq)]
+pub(crate) enum Region<'a> {
+    /// The region that is proposed for the targets.
+    Proposed,
+    /// The whole board.
+    Board,
+    /// Points and rectangles, parted by commas.
+    Points(&'a [u8]),
+}
+
+/// What is asked for.
+#[derive(Clone, Copy, Debug, PartialEq, Eq)]
+pub(crate) struct Marks<'a> {
+    /// The number of a node of the main line; by default the root where it sets stones up, else the main line's last node.
+    pub(crate) node: Option<usize>,
+    /// Points of the targets' chains, parted by commas.
+    pub(crate) targets: &'a [u8],
+    pub(crate) region: Region<'a>,
+    /// Who is to move; by default as the record says.
+    pub(crate) mover: Option<Colour>,
+}
+
+/// Why no record was made.
+#[derive(Clone, Copy, Debug, PartialEq, Eq)]
+pub(crate) enum Refusal {
+    /// The main line has no such node.
+    OffTheLine,
+    /// The marks are none that a record can hold.
+    BadMarks,
+    /// With the marks the record has no problem.
+    NoProblem(ProblemFault),
+    /// The region that is proposed has no point.
+    EmptyRegion,
+    Memory,
+}
+
+impl From<AllocError> for Refusal {
+    fn from(_: AllocError) -> Refusal {
+        Refusal::Memory
+    }
+}
+
+/// The record with its marks, the problem that was marked, and the number of the node of the main line that was named.
+#[derive(Drop)]
+pub(crate) struct MarkedRecord {
+    pub(crate) tree: Tree,
+    pub(crate) problem: Problem,
+    pub(crate) place: usize,
+}
+
+/// The pieces of a text that commas part.
+fn pieces(alloc: Global, text: &[u8]) -> Result<Vec<Bytes>, AllocError> {
+    let mut found = Vec::new(alloc);
+    let mut piece = Vec::new(alloc);
+    for i in 0..text.len() {
+        if text[i] == b',' {
+            found.push(Bytes::from_vec(piece))?;
+            piece = Vec::new(alloc);
+        } else {
+            piece.push(text[i])?;
+        }
+    }
+    found.push(Bytes::from_vec(piece))?;
+    Ok(found)
+}
+
+/// The property of this name.
+fn property(alloc: Global, name: &[u8], values: Vec<Bytes>) -> Result<Property, AllocError> {
+    Ok(Property {
+        ident: Bytes::from_vec(name.to_vec(alloc)?),
+        values: Values::from_vec(values),
+    })
+}
+
+/// Puts PL at the end, where it is asked who moves.
+fn push_mover(
+    alloc: Global,
+    mover: Option<Colour>,
+    into: &mut Vec<Property>,
+) -> Result<(), AllocError> {
+    let name = match mover {
+        None => return Ok(()),
+        Some(Colour::Black) => b"B",
+        Some(Colour::White) => b"W",
+    };
+    let values = pieces(alloc, name)?;
+    into.push(property(alloc, b"PL", values)?)?;
+    Ok(())
+}
+
+/// The node of the marks as they are asked for.
+fn asked_node(alloc: Global, wanted: Marks<'_>) -> Result<SgfNode, Refusal> {
+    match SgfNode::new(asked_properties(alloc, wanted)?) {
+        Some(node) => Ok(node),
+        None => Err(Refusal::BadMarks),
+    }
+}
+
+/// The properties of the marks as they are asked for.
+fn asked_properties(alloc: Global, wanted: Marks<'_>) -> Result<Vec<Property>, AllocError> {
+    let mut properties = Vec::new(alloc);
+    push_mover(alloc, wanted.mover, &mut properties)?;
+    let targets = pieces(alloc, wanted.targets)?;
+    properties.push(property(alloc, b"TR", targets)?)?;
+    if let Region::Points(points) = wanted.region {
+        let region = pieces(alloc, points)?;
+        properties.push(property(alloc, b"SQ", region)?)?;
+    }
+    Ok(properties)
+}
+
+/// The number of the main line's last node.
+fn last_of_line(tree: &Tree) -> usize {
+    let mut part = tree;
+    let mut count: usize = 0;
+    loop {
+        count = count.saturating_add(part.nodes().len());
+        let Some(child) = part.children().first() else {
+            return count.saturating_sub(1);
+        };
+        part = child;
+    }
+}
+
+/// The node that is marked where none is named: the root where it sets stones up, else the main line's last node.
+fn default_place(tree: &Tree) -> usize {
+    if has_setup(&tree.nodes()[0]) {
+        0
+    } else {
+        last_of_line(tree)
+    }
+}
+
+/// The tree with these marks.
+fn with_marks(alloc: Global, tree: &Tree, place: usize, marks: &SgfNode) -> Result<Tree, Refusal>
+    ensures { IfOk result (λ made. made ≡ marked place marks.now tree.now) }
+{
+    match mark_tree(alloc, tree, place, marks) {
+        Ok(made) => Ok(made),
+        Err(NoMark::OffTheLine) => Err(Refusal::OffTheLine),
+        Err(NoMark::NoNode) => Err(Refusal::BadMarks),
+        Err(NoMark::Memory) => Err(Refusal::Memory),
+    }
+}
+
+/// The problem of the tree.
+fn problem_of(alloc: Global, tree: &Tree) -> Result<Problem, Refusal>
+    ensures { IfOk result (λ q. problem_within (Some history_limit) tree.now ≡ Ok q) }
+{
+    match read_problem(alloc, tree) {
+        Ok(problem) => Ok(problem),
+        Err(ProblemFault::Memory) => Err(Refusal::Memory),
+        Err(fault) => Err(Refusal::NoProblem(fault)),
+    }
+}
+
+/// The problem with the targets' whole chains, and with the region that is asked for.
+fn completed(alloc: Global, problem: &Problem, region: Region<'_>) -> Result<Problem, Refusal> {
+    let Ok(board) = ChainBoard::from_colouring(problem.colouring()) else {
+        return Err(Refusal::BadMarks);
+    };
+    let targets = whole_chains(&board, problem.targets());
+    let points = match region {
+        Region::Proposed => proposed_region(&board, problem.defender(), &targets),
+        Region::Board => all_points(problem.size()),
+        Region::Points(_) => *problem.region(),
+    };
+    let history = problem.history().to_vec(alloc)?;
+    let place = problem.place();
+    match Problem::new(
+        history,
+        place,
+        problem.mover(),
+        problem.passes(),
+        targets,
+        points,
+    ) {
+        Ok(made) => Ok(made),
+        Err(_) => Err(Refusal::EmptyRegion),
+    }
+}
+
+/// The record with the marks that are asked for, at a node of its main line, and none before it; all else stays as it is.
+///
+/// The targets are whole chains. What is made is read again: it has a problem.
+pub(crate) fn marked_record(
+    alloc: Global,
+    tree: &Tree,
+    wanted: Marks<'_>,
+) -> Result<MarkedRecord, Refusal>
+    ensures marked { IfOk result (λ r. IsMarkedRecord r.place tree.now r.tree) }
+    ensures problem { IfOk result (λ r. problem_within (Some history_limit) r.tree ≡ Ok r.problem) }
+{
+    let place = match wanted.node {
+        Some(place) => place,
+        None => default_place(tree),
+    };
+    let asked = with_marks(alloc, tree, place, &asked_node(alloc, wanted)?)?;
+    let complete = completed(alloc, &problem_of(alloc, &asked)?, wanted.region)?;
+    let marks = marks_node(alloc, &complete)?;
+    let made = with_marks(alloc, tree, place, &marks)?;
+    let problem = problem_of(alloc, &made)?;
+    Ok(MarkedRecord {
+        tree: made,
+        problem,
+        place,
+    })
+}

@@ -2,7 +2,7 @@
 
 use go_points::{Colour, Turn};
 use proof_cert::Node;
-use state_proofs::{Below, Branch, Form, Line, Play, Proofs, Refusal, Settled, Shared, Sharing};
+use state_proofs::{Below, Branch, Form, Line, Play, Proofs, Refusal, Settled, Shared, share};
 use std::alloc::Global;
 use target_game::Problem;
 
@@ -72,6 +72,21 @@ fn add(
     Ok(Below::Proof(proofs.add(settled, branches, None, &[])?))
 }
 
+/// Adds the proofs of the tree of the problem: the number of its root's.
+fn note_whole(
+    alloc: Global,
+    proofs: &mut Proofs,
+    problem: &Problem,
+    winner: Colour,
+    main: &Node,
+) -> Result<u32, Refusal> {
+    let mut play = Play::of(alloc, problem)?;
+    match note_tree(alloc, proofs, &mut play, winner, main)? {
+        Below::Proof(root) => Ok(root),
+        Below::Won => Err(Refusal::Fault),
+    }
+}
+
 /// The proofs of this tree of the problem, by which the side wins. The tree is at most 201 deep, and uses no lemma.
 pub fn share_tree(
     alloc: Global,
@@ -79,17 +94,8 @@ pub fn share_tree(
     winner: Colour,
     main: &Node,
 ) -> Result<Shared, Refusal> {
-    let mut play = Play::of(alloc, problem)?;
     let mut proofs = Proofs::new(alloc);
-    let Below::Proof(root) = note_tree(alloc, &mut proofs, &mut play, winner, main)? else {
-        return Err(Refusal::Fault);
-    };
+    let root = note_whole(alloc, &mut proofs, problem, winner, main)?;
     let line = Line::of(alloc, problem)?;
-    let mut sharing = Sharing::of(alloc, line, proofs);
-    let root = sharing.share(root)?;
-    Ok(Shared {
-        winner,
-        proofs: sharing.shared,
-        root,
-    })
+    share(alloc, line, proofs, root)
 }

@@ -6,7 +6,7 @@ ghost use Rattle.df_pn.specs.declared.stop.Stop.TheVariants.{Steps};
 use crate::search::Search;
 use crate::smaller::Smaller;
 use crate::stop::Stop;
-use state_proofs::{Refusal, Shared, Sharing};
+use state_proofs::{Refusal, Shared, share};
 use std::alloc::Global;
 use std::num::NonZeroUsize;
 use target_game::Problem;
@@ -38,15 +38,5 @@ pub fn prove(
 fn shared(alloc: Global, found: Smaller, root: u32) -> Result<Shared, Refusal> {
     let Smaller { search, .. } = found;
     let Search { line, proofs, .. } = search;
-    let Some(proof) = proofs.get(root) else {
-        return Err(Refusal::Fault);
-    };
-    let winner = proof.winner;
-    let mut sharing = Sharing::of(alloc, line, proofs);
-    let root = sharing.share(root)?;
-    Ok(Shared {
-        winner,
-        proofs: sharing.shared,
-        root,
-    })
+    share(alloc, line, proofs, root)
 }

@@ -8,13 +8,13 @@ mod past;
 mod play;
 mod proofs;
 mod refusal;
-mod share;
 mod shared;
+mod sharing;
 
 pub use line::{Line, key_after};
 pub use past::Past;
 pub use play::{Move, Play, move_of};
 pub use proofs::{Below, Branch, Form, MAX_LINE, Proof, Proofs, Settled};
 pub use refusal::Refusal;
-pub use share::Sharing;
 pub use shared::Shared;
+pub use sharing::share;

@@ -7,6 +7,7 @@ use crate::line::Line;
 use crate::play::{Move, move_of};
 use crate::proofs::{Below, Branch, Form, Proof, Proofs, Settled};
 use crate::refusal::Refusal;
+use crate::shared::Shared;
 use go_points::Turn;
 use std::alloc::{AllocError, Global};
 
@@ -24,12 +25,27 @@ struct Visit {
     barred: usize,
 }
 
+/// The shared proofs of the state at the end of the line, of which this proof was found.
+pub fn share(alloc: Global, line: Line, found: Proofs, root: u32) -> Result<Shared, Refusal> {
+    let Some(proof) = found.get(root) else {
+        return Err(Refusal::Fault);
+    };
+    let winner = proof.winner;
+    let mut sharing = Sharing::of(alloc, line, found);
+    let root = sharing.share(root)?;
+    Ok(Shared {
+        winner,
+        proofs: sharing.into_shared(),
+        root,
+    })
+}
+
 /// The walk along the line.
 #[derive(Drop)]
-pub struct Sharing {
-    pub line: Line,
+struct Sharing {
+    line: Line,
     found: Proofs,
-    pub shared: Proofs,
+    shared: Proofs,
     visits: Vec<Visit>,
     due: Vec<Branch>,
     made: Vec<Branch>,
@@ -39,7 +55,7 @@ pub struct Sharing {
 
 impl Sharing {
     /// A walk over what was found, at the start of the problem.
-    pub fn of(alloc: Global, line: Line, found: Proofs) -> Sharing {
+    fn of(alloc: Global, line: Line, found: Proofs) -> Sharing {
         Sharing {
             line,
             found,
@@ -53,7 +69,7 @@ impl Sharing {
     }
 
     /// Shares the found proof of the state at the end of the line: the number of its new proof.
-    pub fn share(&mut self, root: u32) -> Result<u32, Refusal> {
+    fn share(&mut self, root: u32) -> Result<u32, Refusal> {
         self.enter(root)?;
         for _ in 0..u64::MAX {
             if let Some(number) = self.go_on()? {
@@ -61,6 +77,12 @@ impl Sharing {
             }
         }
         Err(Refusal::Fault)
+    }
+
+    /// The proofs that were made.
+    fn into_shared(self) -> Proofs {
+        let Sharing { shared, .. } = self;
+        shared
     }
 
     /// Follows the next branch of the last state, or makes its proof; the first state's ends the walk.

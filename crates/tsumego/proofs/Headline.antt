@@ -1,5 +1,5 @@
 -- What is answered is so.
-use Rattle.std.proofs.Common.{◌≡◌, ℕ, Bool, true, false, cond, nat_lt, nat_eq, List, [], ◌∷◌, ◌++◌, length, drop, append_assoc, inl, inr, refl, sym, ◌∙◌, ap, subst}
+use Rattle.std.proofs.Common.{None, ◌≡◌, ℕ, Bool, true, false, cond, nat_lt, nat_eq, List, [], ◌∷◌, ◌++◌, length, drop, append_assoc, inl, inr, refl, sym, ◌∙◌, ap, subst}
 use Rattle.std.specs.Prelude.{slice_index_or, Result, Ok, Err}
 use Rattle.go_points.specs.declared.Colour.{Colour}
 use Rattle.go_points.specs.declared.Colour.TheVariants.{Black, White}
@@ -27,11 +27,14 @@ use Rattle.tsumego_replies.specs.declared.status.Status.TheVariants.{Answered}
 use Rattle.tsumego_replies.specs.Texts.{wins_text, neither_text}
 use Rattle.tsumego_replies.specs.Answers.{Answer, IsRecord, check_answer, within_answer, audit_answer}
 use Rattle.tsumego_replies.specs.Solutions.{claim_verdict}
-use Rattle.tsumego.specs.Laws.{SideWins, CheckIsTrue, WithinIsTrue, AuditIsTrue, SolveIsTrue, ProofIsTrue}
-use Rattle.tsumego_replies.proofs.Records.{placed, has_problem_node}
+use Rattle.tsumego.specs.Laws.{SideWins, WinnerIsTrue, CheckIsTrue, WithinIsTrue, AuditIsTrue, SolveIsTrue, ProofIsTrue}
+use Rattle.tsumego_problem.proofs.Records.{placed, has_problem_node, stands_for}
 
 side_wins : (bytes : List ℕ) (tree : GameTree) (n : ℕ) (q : GameProblem) (x : Colour) → IsRecord bytes tree n q → Wins x (start q) → SideWins bytes q x
 side_wins bytes tree n q x r w = record { tree = tree; end = n; reads = r.reads; problem = (placed history_limit tree q r.problem).free; wins = w }
+
+pub winner_is_true : WinnerIsTrue
+winner_is_true bytes q x s = record { tree = s.tree; end = s.end; reads = s.reads; stands = stands_for None s.tree q s.problem; wins = s.wins }
 
 -- an answer names a side only where the verdict does
 accepts : (n : ℕ) (v : Verdict) (text : List ℕ) → (Answered, text) ≡ check_answer n v → (x : Colour) × (v ≡ accepted x) × (text ≡ wins_text x)

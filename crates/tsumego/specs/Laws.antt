@@ -12,6 +12,7 @@ use Rattle.sgf_text.specs.Trees.{GameTree}
 use Rattle.sgf_text.specs.Grammar.{Reads}
 use Rattle.sgf_text.specs.Text.{tree_text}
 use Rattle.tsumego_problem.specs.Walk.{problem_of}
+use Rattle.tsumego_problem.specs.StandsFor.{StandsFor}
 use Rattle.tsumego_problem.specs.Below.{Below}
 use Rattle.tsumego_problem.specs.Canonical.{solution}
 use Rattle.tsumego_words.specs.declared.command_line.Command.TheVariants as command
@@ -33,6 +34,18 @@ pub record SideWins (bytes : List ℕ) (q : GameProblem) (x : Colour) : Type 0 w
   pub reads : Reads bytes tree end
   pub problem : problem_of tree ≡ Ok q
   pub wins : Wins x (start q)
+
+-- The bytes begin with a record, it stands for this problem, and this side wins it, with all its earlier positions: what a reader has to believe, who need not know which records are refused.
+pub record HasWinner (bytes : List ℕ) (q : GameProblem) (x : Colour) : Type 0 where
+  pub tree : GameTree
+  pub end : ℕ
+  pub reads : Reads bytes tree end
+  pub stands : StandsFor tree q
+  pub wins : Wins x (start q)
+
+-- Where a side wins the problem of a record, it wins what the record stands for.
+abbrev pub WinnerIsTrue : Type 0
+WinnerIsTrue = (bytes : List ℕ) (q : GameProblem) (x : Colour) → SideWins bytes q x → HasWinner bytes q x
 
 -- Where `check` answers, it names a side, and that side wins the problem of the record that was read.
 abbrev pub CheckIsTrue : Type 0

@@ -1,6 +1,12 @@
 //! What the outcome of a run says of the game, over the definitions alone.
 
-ghost use Rattle.tsumego.specs.Laws.{AuditIsTrue, CheckIsTrue, GtpIsTrue, ProofIsTrue, SolveIsTrue, WithinIsTrue};
+ghost use Rattle.tsumego.specs.Laws.{AuditIsTrue, CheckIsTrue, GtpIsTrue, ProofIsTrue, SolveIsTrue, WinnerIsTrue, WithinIsTrue};
+
+/// Where a side wins the problem of a record, it wins what the record stands for, said without what is refused: of each law
+/// below a reader who knows what records mean has to believe no more than that.
+pub fn winner_is_true()
+    ensures { WinnerIsTrue }
+{}
 
 /// Where `check` answers, it names a side, and that side wins the problem of the record that was read.
 pub fn check_is_true()

@@ -149,27 +149,41 @@ abbrev pub opening : ℕ → Node → Walk
 opening n root = let c = assigned n root (map (λ p. Empty) (points n)) in
     record { history = c ∷ []; present = c; mover = Black; passes = 0 }
 
--- The colouring after a move joins the history; the move must be at an empty point and give no colouring that has occurred (refusal 9).
+-- The walk after a pass, after a move that gives this colouring, and after a setup that does.
+abbrev pub walk_after_pass : Colour → Walk → Walk
+walk_after_pass colour w = record w { mover = opponent_of colour; passes = w.passes + 1 }
+
+abbrev pub walk_after_move : Colour → List Cell → Walk → Walk
+walk_after_move colour c w = record { history = w.history ++ c ∷ []; present = c; mover = opponent_of colour; passes = 0 }
+
+abbrev pub walk_after_setup : Node → List Cell → Walk → Walk
+walk_after_setup node c w = record { history = joined_by w.history c; present = c; mover = unwrap_or (player_at node) w.mover; passes = 0 }
+
+-- The walk after PL alone, which changes only whose turn it is.
+abbrev pub walk_after_player : Node → Walk → Walk
+walk_after_player node w = record w { mover = unwrap_or (player_at node) w.mover }
+
+-- The move must be at an empty point and give no colouring that has occurred (refusal 9).
 abbrev pub moved_to : ℕ → Colour → List Cell → Walk → Bool → Option ℕ → Result Walk ProblemFault
 moved_to k colour c w false earlier = Err (faults.IllegalTurn k Occupied)
 moved_to k colour c w true (Some earlier) = Err (faults.IllegalTurn k (Repeats earlier))
-moved_to k colour c w true None = Ok (record { history = w.history ++ c ∷ []; present = c; mover = opponent_of colour; passes = 0 })
+moved_to k colour c w true None = Ok (walk_after_move colour c w)
 
 -- The turn of a node.
 abbrev pub turned : ℕ → ℕ → Colour → Ply → Walk → Result Walk ProblemFault
-turned n k colour pass w = Ok (record w { mover = opponent_of colour; passes = w.passes + 1 })
+turned n k colour pass w = Ok (walk_after_pass colour w)
 turned n k colour (move p) w = let c = after_move n w.present colour p in moved_to k colour c w (same_cell (cell_at w.present p) Empty) (place_in w.history c)
 
 -- The setup of a node. Each chain must have a liberty after it (refusal 10). At the root it is assigned once more, which changes nothing.
 abbrev pub set_to : ℕ → Node → List Cell → Walk → Bool → Result Walk ProblemFault
 set_to k node c w true = Err (faults.NoLiberty k)
-set_to k node c w false = Ok (record { history = joined_by w.history c; present = c; mover = unwrap_or (player_at node) w.mover; passes = 0 })
+set_to k node c w false = Ok (walk_after_setup node c w)
 
--- What the node's turn or setup does. PL alone changes only whose turn it is.
+-- What the node's turn or setup does.
 abbrev pub changed_by : ℕ → ℕ → Node → Walk → Option (Colour × Ply) → Bool → Result Walk ProblemFault
 changed_by n k node w (Some turn) setup = turned n k turn.0 turn.1 w
 changed_by n k node w None true = let c = assigned n node w.present in set_to k node c w (has_no_liberty n c)
-changed_by n k node w None false = Ok (record w { mover = unwrap_or (player_at node) w.mover })
+changed_by n k node w None false = Ok (walk_after_player node w)
 
 abbrev pub changed : ℕ → ℕ → Node → Walk → Result Walk ProblemFault
 changed n k node w = changed_by n k node w (turn_at n node) (has_setup node)

@@ -1,4 +1,3 @@
-pub mod Records
 pub mod Recording
 pub mod Phrases
 pub mod Saying

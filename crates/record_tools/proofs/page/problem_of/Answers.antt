@@ -1,6 +1,6 @@
 use Rattle.std.proofs.Common.{rules}
 use Rattle.tsumego_problem.specs.Walk.{history_limit}
-use Rattle.record_tools.proofs.Pages.{has_problem_node}
+use Rattle.tsumego_problem.proofs.Records.{has_problem_node}
 use Rattle.record_tools.proofs.page.problem_of.Goals as goal
 
 pub returns-in-Ok-clause-node : goal.returns-in-Ok-clause-node

@@ -5,7 +5,7 @@ use Rattle.target_game.specs.Within.{decision}
 use Rattle.solution_tree.specs.Audit.{audit}
 use Rattle.tsumego_problem.specs.Walk.{history_limit}
 use Rattle.tsumego_replies.specs.Answers.{Says, audit_answer, within_answer}
-use Rattle.tsumego_replies.proofs.Records.{has_problem_node}
+use Rattle.tsumego_problem.proofs.Records.{has_problem_node}
 use Rattle.tsumego_replies.proofs.Recording.{all_behind}
 use Rattle.tsumego_replies.specs.Replies.{IsJudged, IsReply, IsSaidAfter}
 use Rattle.tsumego_replies.proofs.Saying.{said_of_record, some_bytes}

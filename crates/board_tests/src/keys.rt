@@ -3,7 +3,8 @@
 use crate::expect::expect_number;
 use go_points::{Colour, Colouring, MAX_SIZE, Size, Turn, sgf_point};
 use go_turns::*;
-use std::test::Fail;
+use std::alloc::Global;
+use std::process::Abort;
 
 const FIRST_BLACK: u64 = 15_492_934_433_077_865_799;
 
@@ -32,107 +33,114 @@ fn at(size: Size, letters: &str) -> Turn {
 }
 
 // The key after these moves on the empty board.
-fn key_after(rt: HostRuntime, rows: u8, moves: &[(Colour, &str)]) -> Result<u64, Fail> {
-    let size = Size::new(rows).ok_or("size")?;
-    let mut record = Record::<PlayBoard, PlaySeen>::new(rt.alloc(), &Colouring::empty(size))?;
+fn key_after(rt: &impl Abort, alloc: Global, rows: u8, moves: &[(Colour, &str)]) -> u64 {
+    let size = Size::new(rows).expect(rt, "a size");
+    let mut record = Record::<PlayBoard, PlaySeen>::new(alloc, &Colouring::empty(size)).expect(
+        rt, "a record",
+    );
     for (colour, letters) in moves {
-        record.play(*colour, at(size, letters))?;
+        record
+            .play(*colour, at(size, letters))
+            .expect(rt, "a legal turn");
     }
-    Ok(record.key())
+    record.key()
 }
 
 #[test]
-fn the_empty_board_has_the_key_zero(rt: HostRuntime) -> Result<(), Fail> {
+fn the_empty_board_has_the_key_zero(rt: HostRuntime) {
     for rows in 1..MAX_SIZE + 1 {
-        let size = Size::new(rows).ok_or("size")?;
+        let size = Size::new(rows).expect(&rt, "a size");
         expect_number(&rt, PlainBoard::new(size).key(), 0);
     }
-    Ok(())
 }
 
 #[test]
-fn one_stone_gives_its_word(rt: HostRuntime) -> Result<(), Fail> {
+fn one_stone_gives_its_word(rt: HostRuntime) {
     expect_number(
         &rt,
-        key_after(rt, 9, &[(Colour::Black, "aa")])?,
+        key_after(&rt, rt.alloc(), 9, &[(Colour::Black, "aa")]),
         FIRST_BLACK,
     );
     expect_number(
         &rt,
-        key_after(rt, 9, &[(Colour::White, "aa")])?,
+        key_after(&rt, rt.alloc(), 9, &[(Colour::White, "aa")]),
         FIRST_WHITE,
     );
     expect_number(
         &rt,
-        key_after(rt, 19, &[(Colour::Black, "ss")])?,
+        key_after(&rt, rt.alloc(), 19, &[(Colour::Black, "ss")]),
         BLACK_AT_360,
     );
     expect_number(
         &rt,
-        key_after(rt, 19, &[(Colour::White, "ss")])?,
+        key_after(&rt, rt.alloc(), 19, &[(Colour::White, "ss")]),
         WHITE_AT_360,
     );
     expect_number(
         &rt,
-        key_after(rt, 25, &[(Colour::Black, "yy")])?,
+        key_after(&rt, rt.alloc(), 25, &[(Colour::Black, "yy")]),
         LAST_BLACK,
     );
     expect_number(
         &rt,
-        key_after(rt, 25, &[(Colour::White, "yy")])?,
+        key_after(&rt, rt.alloc(), 25, &[(Colour::White, "yy")]),
         LAST_WHITE,
     );
-    Ok(())
 }
 
 #[test]
-fn the_words_are_the_same_on_all_boards(rt: HostRuntime) -> Result<(), Fail> {
+fn the_words_are_the_same_on_all_boards(rt: HostRuntime) {
     expect_number(
         &rt,
-        key_after(rt, 2, &[(Colour::Black, "ba")])?,
+        key_after(&rt, rt.alloc(), 2, &[(Colour::Black, "ba")]),
         SECOND_BLACK,
     );
     expect_number(
         &rt,
-        key_after(rt, 19, &[(Colour::Black, "ba")])?,
+        key_after(&rt, rt.alloc(), 19, &[(Colour::Black, "ba")]),
         SECOND_BLACK,
     );
     expect_number(
         &rt,
-        key_after(rt, 25, &[(Colour::Black, "ko")])?,
+        key_after(&rt, rt.alloc(), 25, &[(Colour::Black, "ko")]),
         BLACK_AT_360,
     );
-    Ok(())
 }
 
 #[test]
-fn a_captured_stone_leaves_the_key(rt: HostRuntime) -> Result<(), Fail> {
-    let size = Size::new(2).ok_or("size")?;
-    let mut record = Record::<PlayBoard, PlaySeen>::new(rt.alloc(), &Colouring::empty(size))?;
-    record.play(Colour::Black, at(size, "aa"))?;
-    record.play(Colour::White, at(size, "ba"))?;
+fn a_captured_stone_leaves_the_key(rt: HostRuntime) {
+    let size = Size::new(2).expect(&rt, "a size");
+    let mut record = Record::<PlayBoard, PlaySeen>::new(rt.alloc(), &Colouring::empty(size)).expect(
+        &rt, "memory",
+    );
+    record
+        .play(Colour::Black, at(size, "aa"))
+        .expect(&rt, "a legal turn");
+    record
+        .play(Colour::White, at(size, "ba"))
+        .expect(&rt, "a legal turn");
     expect_number(&rt, record.key(), FIRST_BLACK ^ SECOND_WHITE);
-    record.play(Colour::White, at(size, "ab"))?;
+    record
+        .play(Colour::White, at(size, "ab"))
+        .expect(&rt, "a legal turn");
     expect_number(&rt, record.key(), SECOND_WHITE ^ THIRD_WHITE);
-    record.undo()?;
-    record.undo()?;
+    record.undo().expect(&rt, "a turn to take back");
+    record.undo().expect(&rt, "a turn to take back");
     expect_number(&rt, record.key(), FIRST_BLACK);
-    Ok(())
 }
 
 #[test]
-fn the_order_of_the_moves_does_not_matter(rt: HostRuntime) -> Result<(), Fail> {
+fn the_order_of_the_moves_does_not_matter(rt: HostRuntime) {
     let black = (Colour::Black, "aa");
     let white = (Colour::White, "cc");
     let other_black = (Colour::Black, "bb");
     expect_number(
         &rt,
-        key_after(rt, 5, &[black, white, other_black])?,
-        key_after(rt, 5, &[other_black, black, white])?,
+        key_after(&rt, rt.alloc(), 5, &[black, white, other_black]),
+        key_after(&rt, rt.alloc(), 5, &[other_black, black, white]),
     );
     assert_ne!(rt;
-        key_after(rt, 5, &[black, white])?,
-        key_after(rt, 5, &[other_black, white])?
+        key_after(&rt, rt.alloc(), 5, &[black, white]),
+        key_after(&rt, rt.alloc(), 5, &[other_black, white])
     );
-    Ok(())
 }

@@ -11,7 +11,6 @@ use go_points::{
 };
 use std::cmp::Ordering;
 use std::process::Abort;
-use std::test::Fail;
 
 fn board(rt: &impl Abort, rows: u8) -> Size {
     Size::new(rows).expect(rt, "a size")
@@ -102,12 +101,12 @@ fn cells(rt: HostRuntime) {
 }
 
 #[test]
-fn texts(rt: HostRuntime) -> Result<(), Fail> {
+fn texts(rt: HostRuntime) {
     let size = board(&rt, 3);
     let mut colouring = Colouring::empty(size);
     colouring.set(at(&rt, size, 2, 0), Cell::Stone(Colour::White));
     colouring.set(at(&rt, size, 0, 1), Cell::Stone(Colour::Black));
-    let text = colouring.to_text(rt.alloc())?;
+    let text = colouring.to_text(rt.alloc()).expect(&rt, "memory");
     expect_text(&rt, text.as_slice(), b"..OX.....".as_slice());
     expect_reading(
         &rt,
@@ -115,7 +114,6 @@ fn texts(rt: HostRuntime) -> Result<(), Fail> {
         Some(colouring),
     );
     expect_same(&rt, colouring.size(), size);
-    Ok(())
 }
 
 #[test]
@@ -129,18 +127,18 @@ fn texts_that_are_no_colourings(rt: HostRuntime) {
 }
 
 #[test]
-fn order_of_colourings(rt: HostRuntime) -> Result<(), Fail> {
+fn order_of_colourings(rt: HostRuntime) {
     let one = board(&rt, 1);
     let two = board(&rt, 2);
     let rising = [
-        Colouring::from_text(one, b".").ok_or("text")?,
-        Colouring::from_text(two, b"....").ok_or("text")?,
-        Colouring::from_text(two, b"...X").ok_or("text")?,
-        Colouring::from_text(two, b"..O.").ok_or("text")?,
-        Colouring::from_text(two, b"..X.").ok_or("text")?,
-        Colouring::from_text(one, b"O").ok_or("text")?,
-        Colouring::from_text(two, b"O...").ok_or("text")?,
-        Colouring::from_text(one, b"X").ok_or("text")?,
+        Colouring::from_text(one, b".").expect(&rt, "a text"),
+        Colouring::from_text(two, b"....").expect(&rt, "a text"),
+        Colouring::from_text(two, b"...X").expect(&rt, "a text"),
+        Colouring::from_text(two, b"..O.").expect(&rt, "a text"),
+        Colouring::from_text(two, b"..X.").expect(&rt, "a text"),
+        Colouring::from_text(one, b"O").expect(&rt, "a text"),
+        Colouring::from_text(two, b"O...").expect(&rt, "a text"),
+        Colouring::from_text(one, b"X").expect(&rt, "a text"),
     ];
     for (i, low) in rising.iter().enumerate() {
         for (j, high) in rising.iter().enumerate() {
@@ -149,7 +147,6 @@ fn order_of_colourings(rt: HostRuntime) -> Result<(), Fail> {
             expect_same(&rt, low == high, i == j);
         }
     }
-    Ok(())
 }
 
 #[test]
@@ -355,7 +352,7 @@ fn colourings_differ_from_a_point_on(rt: HostRuntime) {
 }
 
 #[test]
-fn the_widest_board_full_but_for_a_point(rt: HostRuntime) -> Result<(), Fail> {
+fn the_widest_board_full_but_for_a_point(rt: HostRuntime) {
     let size = board(&rt, MAX_SIZE);
     let mut text = Vec::new(rt.alloc());
     for number in 0..size.area() {
@@ -365,10 +362,11 @@ fn the_widest_board_full_but_for_a_point(rt: HostRuntime) -> Result<(), Fail> {
             b'X'
         } else {
             b'O'
-        })?;
+        })
+        .expect(&rt, "memory");
     }
-    let colouring = Colouring::from_text(size, text.as_slice()).ok_or("text")?;
-    let back = colouring.to_text(rt.alloc())?;
+    let colouring = Colouring::from_text(size, text.as_slice()).expect(&rt, "a text");
+    let back = colouring.to_text(rt.alloc()).expect(&rt, "memory");
     expect_text(&rt, back.as_slice(), text.as_slice());
     let mut full = colouring;
     let middle = at(&rt, full.size(), 12, 12);
@@ -378,5 +376,4 @@ fn the_widest_board_full_but_for_a_point(rt: HostRuntime) -> Result<(), Fail> {
     let middle = at(&rt, full.size(), 12, 12);
     full.set(middle, Cell::Empty);
     expect_colouring(&rt, full, colouring);
-    Ok(())
 }

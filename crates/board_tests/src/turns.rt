@@ -10,7 +10,6 @@ use go_points::{Cell, Colour, Colouring, MAX_SIZE, Point, Size, Turn, sgf_point}
 use go_turns::*;
 use std::alloc::{AllocError, Global};
 use std::process::Abort;
-use std::test::Fail;
 use stone_key::key_of;
 
 // The colouring with this text: `.` for empty, `X` for black, `O` for white, row by row.
@@ -460,7 +459,7 @@ fn a_turn_is_made_just_where_it_is_legal(rt: HostRuntime) {
 }
 
 #[test]
-fn faults_have_texts(rt: HostRuntime) -> Result<(), Fail> {
+fn faults_have_texts(rt: HostRuntime) {
     let point = sgf_point(Size::new(3).expect(&rt, "a size"), b"aa").expect(&rt, "a point");
     let rows: [(TurnFault, &str); 6] = [
         (TurnFault::OffBoard, "off the board"),
@@ -471,7 +470,12 @@ fn faults_have_texts(rt: HostRuntime) -> Result<(), Fail> {
         (TurnFault::Memory, "out of memory"),
     ];
     for (fault, text) in rows {
-        expect_same(&rt, format!(in rt.alloc(); "{fault}")?.as_str(), text);
+        expect_same(
+            &rt,
+            format!(in rt.alloc(); "{fault}")
+                .expect(&rt, "memory")
+                .as_str(),
+            text,
+        );
     }
-    Ok(())
 }

@@ -6,33 +6,29 @@ use sgf_text::read_tree;
 use solution_tree::{AuditFault, AuditWhy, audit};
 use std::alloc::Global;
 use std::process::Abort;
-use std::test::Fail;
 use tsumego_problem::{problem_node, read_problem};
 
 // The audit of the first record of the text.
-pub(crate) fn audited(
-    alloc: Global,
-    rt: &impl Abort,
-    text: &[u8],
-) -> Result<Result<Colour, AuditFault>, Fail> {
-    let (tree, _end) = read_tree(alloc, text)?;
-    let problem = read_problem(alloc, &tree)?;
+pub(crate) fn audited(alloc: Global, rt: &impl Abort, text: &[u8]) -> Result<Colour, AuditFault> {
+    let (tree, _end) = read_tree(alloc, text).expect(rt, "a tree");
+    let problem = read_problem(alloc, &tree).expect(rt, "a problem");
     expect_that(rt, problem_node(&tree).is_some());
-    Ok(audit(alloc, &problem, &tree))
+    audit(alloc, &problem, &tree)
 }
 
 // The text with a front and n copies of a piece after it.
 pub(crate) fn repeated(
+    rt: &impl Abort,
     alloc: Global,
     front: &[u8],
     piece: &[u8],
     n: usize,
-) -> Result<Vec<u8>, Fail> {
-    let mut text = front.to_vec(alloc)?;
+) -> Vec<u8> {
+    let mut text = front.to_vec(alloc).expect(rt, "memory");
     for _ in 0..n {
-        text.extend_from_slice(piece)?;
+        text.extend_from_slice(piece).expect(rt, "memory");
     }
-    Ok(text)
+    text
 }
 
 pub(crate) fn at(node: usize, why: AuditWhy) -> Result<Colour, AuditFault> {
@@ -58,13 +54,13 @@ fn behind(
     rt: &impl Abort,
     front: &[u8],
     nodes: &[u8],
-) -> Result<Result<Colour, AuditFault>, Fail> {
-    let text = repeated(alloc, front, nodes, 1)?;
+) -> Result<Colour, AuditFault> {
+    let text = repeated(rt, alloc, front, nodes, 1);
     audited(alloc, rt, text.as_slice())
 }
 
 #[test]
-fn follows_the_first_line(rt: HostRuntime) -> Result<(), Fail> {
+fn follows_the_first_line(rt: HostRuntime) {
     let alloc = rt.alloc();
     let rows: [(&[u8], Result<Colour, AuditFault>); 16] = [
         (b";B[ba])", Ok(Colour::Black)),
@@ -86,13 +82,12 @@ fn follows_the_first_line(rt: HostRuntime) -> Result<(), Fail> {
         (b";B[ba];B[ba])", at(3, AuditWhy::WrongColour)),
     ];
     for (nodes, answer) in rows {
-        expect_same(&rt, behind(alloc, &rt, CAPTURE, nodes)?, answer);
+        expect_same(&rt, behind(alloc, &rt, CAPTURE, nodes), answer);
     }
-    Ok(())
 }
 
 #[test]
-fn asks_every_branch(rt: HostRuntime) -> Result<(), Fail> {
+fn asks_every_branch(rt: HostRuntime) {
     let alloc = rt.alloc();
     // In all rows but the first White wins in the first line, so that the turns of Black at the problem node are the replies.
     let rows: [(&[u8], Result<Colour, AuditFault>); 9] = [
@@ -111,13 +106,12 @@ fn asks_every_branch(rt: HostRuntime) -> Result<(), Fail> {
         (b"(;B[];W[];B[])(;B[ba]))", at(4, AuditWhy::AfterTheEnd)),
     ];
     for (nodes, answer) in rows {
-        expect_same(&rt, behind(alloc, &rt, CAPTURE, nodes)?, answer);
+        expect_same(&rt, behind(alloc, &rt, CAPTURE, nodes), answer);
     }
-    Ok(())
 }
 
 #[test]
-fn numbers_nodes_across_branches(rt: HostRuntime) -> Result<(), Fail> {
+fn numbers_nodes_across_branches(rt: HostRuntime) {
     let alloc = rt.alloc();
     let rows: [(&[u8], Result<Colour, AuditFault>); 9] = [
         // Replies may stand in any order.
@@ -144,13 +138,12 @@ fn numbers_nodes_across_branches(rt: HostRuntime) -> Result<(), Fail> {
         ),
     ];
     for (nodes, answer) in rows {
-        expect_same(&rt, behind(alloc, &rt, KO, nodes)?, answer);
+        expect_same(&rt, behind(alloc, &rt, KO, nodes), answer);
     }
-    Ok(())
 }
 
 #[test]
-fn finds_the_problem_node(rt: HostRuntime) -> Result<(), Fail> {
+fn finds_the_problem_node(rt: HostRuntime) {
     let alloc = rt.alloc();
     let rows: [(&[u8], Result<Colour, AuditFault>); 4] = [
         (
@@ -172,89 +165,86 @@ fn finds_the_problem_node(rt: HostRuntime) -> Result<(), Fail> {
         ),
     ];
     for (text, answer) in rows {
-        expect_same(&rt, audited(alloc, &rt, text)?, answer);
+        expect_same(&rt, audited(alloc, &rt, text), answer);
     }
-    Ok(())
 }
 
 // Whether the fault of the record is a turn after the end, at the node with the number 4.
-fn ends_before_four(alloc: Global, rt: &impl Abort, text: &[u8]) -> Result<bool, Fail> {
-    Ok(audited(alloc, rt, text)? == at(4, AuditWhy::AfterTheEnd))
+fn ends_before_four(alloc: Global, rt: &impl Abort, text: &[u8]) -> bool {
+    audited(alloc, rt, text) == at(4, AuditWhy::AfterTheEnd)
 }
 
 #[test]
-fn stops_early_in_long_trees(rt: HostRuntime) -> Result<(), Fail> {
+fn stops_early_in_long_trees(rt: HostRuntime) {
     let alloc = rt.alloc();
-    let front = repeated(alloc, CAPTURE, b";B[];W[]", 49_999)?;
-    let text = repeated(alloc, front.as_slice(), b")", 1)?;
-    expect_that(&rt, ends_before_four(alloc, &rt, text.as_slice())?);
-    Ok(())
+    let front = repeated(&rt, alloc, CAPTURE, b";B[];W[]", 49_999);
+    let text = repeated(&rt, alloc, front.as_slice(), b")", 1);
+    expect_that(&rt, ends_before_four(alloc, &rt, text.as_slice()));
 }
 
 #[test]
-fn stops_early_in_deep_trees(rt: HostRuntime) -> Result<(), Fail> {
+fn stops_early_in_deep_trees(rt: HostRuntime) {
     let alloc = rt.alloc();
-    let front = repeated(alloc, CAPTURE, b"(;B[](;W[]", 499)?;
-    let text = repeated(alloc, front.as_slice(), b")", 999)?;
-    expect_that(&rt, ends_before_four(alloc, &rt, text.as_slice())?);
-    Ok(())
+    let front = repeated(&rt, alloc, CAPTURE, b"(;B[](;W[]", 499);
+    let text = repeated(&rt, alloc, front.as_slice(), b")", 999);
+    expect_that(&rt, ends_before_four(alloc, &rt, text.as_slice()));
 }
 
 // The values of a property: the points of the board whose numbers leave this rest by 2.
-fn add_points(text: &mut Vec<u8>, size: Size, rest: usize) -> Result<(), Fail> {
+fn add_points(rt: &impl Abort, text: &mut Vec<u8>, size: Size, rest: usize) {
     for number in 0..size.area() {
         if number % 2 == rest {
-            text.push(b'[')?;
-            text.extend_from_slice(&to_sgf(size.point_at(number)))?;
-            text.push(b']')?;
+            text.push(b'[').expect(rt, "memory");
+            text.extend_from_slice(&to_sgf(size.point_at(number)))
+                .expect(rt, "memory");
+            text.push(b']').expect(rt, "memory");
         }
     }
-    Ok(())
 }
 
 // Black stones stand like the black squares of a chess board, and Black fills all points between them but two. White may only
 // pass, since each of its moves would be taken off at once. Then Black passes as well and has won. 39 points are filled.
-fn filled(alloc: Global, rt: &impl Abort, open: &[u8]) -> Result<Vec<u8>, Fail> {
+fn filled(alloc: Global, rt: &impl Abort, open: &[u8]) -> Vec<u8> {
     let size = Size::new(9).expect(rt, "a size");
     let mut text = Vec::new(alloc);
-    text.extend_from_slice(b"(;FF[4]GM[1]SZ[9]PL[B]TR[ba]AB")?;
-    add_points(&mut text, size, 1)?;
-    text.extend_from_slice(b"SQ")?;
-    add_points(&mut text, size, 0)?;
+    text.extend_from_slice(b"(;FF[4]GM[1]SZ[9]PL[B]TR[ba]AB")
+        .expect(rt, "memory");
+    add_points(rt, &mut text, size, 1);
+    text.extend_from_slice(b"SQ").expect(rt, "memory");
+    add_points(rt, &mut text, size, 0);
     for number in 0..size.area().saturating_sub(4) {
         if number % 2 == 0 {
-            text.extend_from_slice(open)?;
-            text.extend_from_slice(b"B[")?;
-            text.extend_from_slice(&to_sgf(size.point_at(number)))?;
-            text.push(b']')?;
-            text.extend_from_slice(open)?;
-            text.extend_from_slice(b"W[]")?;
+            text.extend_from_slice(open).expect(rt, "memory");
+            text.extend_from_slice(b"B[").expect(rt, "memory");
+            text.extend_from_slice(&to_sgf(size.point_at(number)))
+                .expect(rt, "memory");
+            text.push(b']').expect(rt, "memory");
+            text.extend_from_slice(open).expect(rt, "memory");
+            text.extend_from_slice(b"W[]").expect(rt, "memory");
         }
     }
-    text.extend_from_slice(open)?;
-    text.extend_from_slice(b"B[]")?;
-    Ok(text)
+    text.extend_from_slice(open).expect(rt, "memory");
+    text.extend_from_slice(b"B[]").expect(rt, "memory");
+    text
 }
 
-fn black_wins(alloc: Global, rt: &impl Abort, text: &[u8]) -> Result<bool, Fail> {
-    Ok(audited(alloc, rt, text)? == Ok(Colour::Black))
+fn black_wins(alloc: Global, rt: &impl Abort, text: &[u8]) -> bool {
+    audited(alloc, rt, text) == Ok(Colour::Black)
 }
 
 #[test]
-fn goes_down_a_sequence(rt: HostRuntime) -> Result<(), Fail> {
+fn goes_down_a_sequence(rt: HostRuntime) {
     let alloc = rt.alloc();
-    let front = filled(alloc, &rt, b";")?;
-    let text = repeated(alloc, front.as_slice(), b")", 1)?;
-    expect_that(&rt, black_wins(alloc, &rt, text.as_slice())?);
-    Ok(())
+    let front = filled(alloc, &rt, b";");
+    let text = repeated(&rt, alloc, front.as_slice(), b")", 1);
+    expect_that(&rt, black_wins(alloc, &rt, text.as_slice()));
 }
 
 // 79 turns, each in a tree of its own, and the root.
 #[test]
-fn goes_down_nested_trees(rt: HostRuntime) -> Result<(), Fail> {
+fn goes_down_nested_trees(rt: HostRuntime) {
     let alloc = rt.alloc();
-    let front = filled(alloc, &rt, b"(;")?;
-    let text = repeated(alloc, front.as_slice(), b")", 80)?;
-    expect_that(&rt, black_wins(alloc, &rt, text.as_slice())?);
-    Ok(())
+    let front = filled(alloc, &rt, b"(;");
+    let text = repeated(&rt, alloc, front.as_slice(), b")", 80);
+    expect_that(&rt, black_wins(alloc, &rt, text.as_slice()));
 }

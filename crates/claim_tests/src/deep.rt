@@ -12,7 +12,6 @@ use go_points::{Colour, Colouring, Point, PointSet, Size, Turn, to_sgf};
 use go_turns::{PlayBoard, PlaySeen};
 use std::alloc::Global;
 use std::process::Abort;
-use std::test::Fail;
 use target_game::{Problem, State};
 
 pub(crate) type PlayState = State<PlayBoard, PlaySeen>;
@@ -128,12 +127,14 @@ fn go_down(text: &mut Vec<u8>, rt: &impl Abort, state: &mut PlayState, turn: Tur
 }
 
 #[test]
-fn depths_up_to_the_limit(rt: HostRuntime) -> Result<(), Fail> {
+fn depths_up_to_the_limit(rt: HostRuntime) {
     let problem = wide(rt.alloc(), &rt);
-    let mut state: PlayState = State::of(rt.alloc(), &problem)?;
+    let mut state: PlayState = State::of(rt.alloc(), &problem).expect(&rt, "memory");
     let size = state.size();
     let mut claim = Vec::new(rt.alloc());
-    claim.extend_from_slice(b"tsucert 1 6 B\nmain\n")?;
+    claim
+        .extend_from_slice(b"tsucert 1 6 B\nmain\n")
+        .expect(&rt, "memory");
     for turns in TURNS {
         for code in turns.as_bytes() {
             go_down(&mut claim, &rt, &mut state, turn_of(size, *code));
@@ -141,7 +142,7 @@ fn depths_up_to_the_limit(rt: HostRuntime) -> Result<(), Fail> {
     }
     // Three lines make two depths: depth 1 stands at line 3, depth 2,000 at line 3,001, depth 2,001 at line 3,003.
     expect_same(&rt, MAX_DEPTH, 2000);
-    claim.extend_from_slice(b"won\n")?;
+    claim.extend_from_slice(b"won\n").expect(&rt, "memory");
     let deeper = judged(rt.alloc(), &problem, claim.as_slice());
     expect_same(
         &rt,
@@ -151,5 +152,4 @@ fn depths_up_to_the_limit(rt: HostRuntime) -> Result<(), Fail> {
             why: Why::Limit,
         }),
     );
-    Ok(())
 }

@@ -8,7 +8,6 @@ use sgf_text::read_tree;
 use solution_tree::AuditWhy;
 use std::alloc::Global;
 use std::process::Abort;
-use std::test::Fail;
 use target_game::{Problem, State};
 use tsumego_problem::read_problem;
 
@@ -27,23 +26,18 @@ fn add_turn(text: &mut Vec<u8>, rt: &impl Abort, word: &[u8], turn: Turn) {
 }
 
 // The other legal turns of white, each in a tree in which nothing follows; and the end of the tree that they stand in.
-fn other_replies(
-    alloc: Global,
-    rt: &impl Abort,
-    state: &PlayState,
-    given: Turn,
-) -> Result<Vec<u8>, Fail> {
+fn other_replies(alloc: Global, rt: &impl Abort, state: &PlayState, given: Turn) -> Vec<u8> {
     let mut text = Vec::new(alloc);
-    text.push(b')')?;
+    text.push(b')').expect(rt, "memory");
     let all = state.turns();
     for turn in all.as_slice() {
         if *turn != given {
             add_turn(&mut text, rt, b"(;W[", *turn);
-            text.push(b')')?;
+            text.push(b')').expect(rt, "memory");
         }
     }
-    text.push(b')')?;
-    Ok(text)
+    text.push(b')').expect(rt, "memory");
+    text
 }
 
 // Adds a turn of black and a reply, each in a tree within the one before. What closes the two trees comes later.
@@ -53,67 +47,62 @@ fn go_down(
     text: &mut Vec<u8>,
     state: &mut PlayState,
     turn: Turn,
-) -> Result<Vec<u8>, Fail> {
+) -> Vec<u8> {
     let made = turn;
     add_turn(text, rt, b"(;B[", turn);
     make(rt, state, made);
     let reply = first_turn(state);
     let given = reply;
     let named = reply;
-    let end = other_replies(alloc, rt, state, reply)?;
+    let end = other_replies(alloc, rt, state, reply);
     add_turn(text, rt, b"(;W[", named);
     make(rt, state, given);
-    Ok(end)
+    end
 }
 
 // Adds a pass of black and one of white, which end the game, with the trees of the other replies.
-fn end_play(
-    alloc: Global,
-    rt: &impl Abort,
-    text: &mut Vec<u8>,
-    state: &mut PlayState,
-) -> Result<(), Fail> {
-    text.extend_from_slice(b"(;B[](;W[]")?;
+fn end_play(alloc: Global, rt: &impl Abort, text: &mut Vec<u8>, state: &mut PlayState) {
+    text.extend_from_slice(b"(;B[](;W[]").expect(rt, "memory");
     make(rt, state, Turn::Pass);
-    let end = other_replies(alloc, rt, state, Turn::Pass)?;
-    text.extend_from_slice(end.as_slice())?;
-    Ok(())
+    let end = other_replies(alloc, rt, state, Turn::Pass);
+    text.extend_from_slice(end.as_slice()).expect(rt, "memory");
 }
 
 // The record: its first line goes down to the end of play, and beside each reply of it stand the other ones, unanswered.
-fn record_of(alloc: Global, rt: &impl Abort, problem: &Problem) -> Result<Vec<u8>, Fail> {
-    let mut state: PlayState = State::of(alloc, problem)?;
+fn record_of(alloc: Global, rt: &impl Abort, problem: &Problem) -> Vec<u8> {
+    let mut state: PlayState = State::of(alloc, problem).expect(rt, "memory");
     let size = state.size();
-    let mut text = WIDE.to_vec(alloc)?;
+    let mut text = WIDE.to_vec(alloc).expect(rt, "memory");
     let mut ends: Vec<Vec<u8>> = Vec::new(alloc);
     for turns in TURNS {
         for code in turns.as_bytes() {
             if ends.len() < MADE {
-                ends.push(go_down(alloc, rt, &mut text, &mut state, turn_of(size, *code))?)?;
+                ends.push(go_down(alloc, rt, &mut text, &mut state, turn_of(size, *code)))
+                    .expect(rt, "memory");
             }
         }
     }
-    end_play(alloc, rt, &mut text, &mut state)?;
+    end_play(alloc, rt, &mut text, &mut state);
     let ends = ends.as_slice();
     for place in 0..ends.len() {
-        text.extend_from_slice(ends[ends.len() - 1 - place].as_slice())?;
+        text.extend_from_slice(ends[ends.len() - 1 - place].as_slice())
+            .expect(rt, "memory");
     }
-    text.push(b')')?;
-    Ok(text)
+    text.push(b')').expect(rt, "memory");
+    text
 }
 
 // The first line has 998 turns below the root, and the node after the last of them is a reply that black has no answer to.
-fn is_left_off(alloc: Global, rt: &impl Abort, text: &[u8]) -> Result<bool, Fail> {
-    Ok(audited(alloc, rt, text)? == at(999, AuditWhy::NotWon))
+fn is_left_off(alloc: Global, rt: &impl Abort, text: &[u8]) -> bool {
+    audited(alloc, rt, text) == at(999, AuditWhy::NotWon)
 }
 
 #[test]
-fn goes_down_to_the_depth_of_a_record(rt: HostRuntime) -> Result<(), Fail> {
+fn goes_down_to_the_depth_of_a_record(rt: HostRuntime) {
     let alloc = rt.alloc();
-    let front = repeated(alloc, WIDE, b")", 1)?;
-    let (tree, _end) = read_tree(alloc, front.as_slice())?;
-    let problem = read_problem(alloc, &tree)?;
-    let text = record_of(alloc, &rt, &problem)?;
-    expect_that(&rt, is_left_off(alloc, &rt, text.as_slice())?);
-    Ok(())
+    let front = repeated(&rt, alloc, WIDE, b")", 1);
+    let (tree, _end) = read_tree(alloc, front.as_slice()).expect(&rt, "a tree");
+    let problem = read_problem(alloc, &tree).expect(&rt, "a problem");
+    let text = record_of(alloc, &rt, &problem);
+    expect_that(&rt, is_left_off(alloc, &rt, text.as_slice()));
 }

@@ -7,7 +7,6 @@ use proof_cert::{Certificate, Lemma, Node, Version};
 use solution_tree::{Answer, Expand, expand};
 use std::alloc::{AllocError, Global};
 use std::process::Abort;
-use std::test::Fail;
 use target_game::Problem;
 
 fn nine(rt: &impl Abort) -> Size {
@@ -41,16 +40,16 @@ fn root(rt: &impl Abort, stones: u32) -> Colouring {
 }
 
 // Black moves first, on the last row's first columns alone, and would have to capture the corner.
-fn last_row(alloc: Global, rt: &impl Abort, columns: u8) -> Result<Problem, Fail> {
+fn last_row(alloc: Global, rt: &impl Abort, columns: u8) -> Problem {
     let mut history = Vec::new(alloc);
-    history.push(root(rt, 0))?;
+    history.push(root(rt, 0)).expect(rt, "memory");
     let mut target = PointSet::new();
     target.insert(nine(rt).point(0, 0).expect(rt, "a point"));
     let mut region = PointSet::new();
     for column in 0..columns {
         region.insert(low(rt, column));
     }
-    Ok(Problem::new(history, 0, Colour::Black, 0, target, region).expect(rt, "a problem"))
+    Problem::new(history, 0, Colour::Black, 0, target, region).expect(rt, "a problem")
 }
 
 // All sets of black stones but the empty one, larger ones first.
@@ -107,20 +106,22 @@ fn replies(
 }
 
 // White wins: it passes whatever Black does, and there is a lemma for each set of black stones.
-fn a_lemma_for_each_set(alloc: Global, rt: &impl Abort, columns: u8) -> Result<Checked, Fail> {
-    let order = sets(alloc, columns)?;
+fn a_lemma_for_each_set(alloc: Global, rt: &impl Abort, columns: u8) -> Checked {
+    let order = sets(alloc, columns).expect(rt, "memory");
     let mut lemmas = Vec::new(alloc);
     for stones in order.iter() {
-        lemmas.push(Lemma {
-            mover: Colour::Black,
-            passes: 1,
-            root: root(rt, *stones),
-            had: Vec::new(alloc),
-            absent: Vec::new(alloc),
-            body: replies(alloc, rt, order.as_slice(), columns, *stones)?,
-        })?;
+        lemmas
+            .push(Lemma {
+                mover: Colour::Black,
+                passes: 1,
+                root: root(rt, *stones),
+                had: Vec::new(alloc),
+                absent: Vec::new(alloc),
+                body: replies(alloc, rt, order.as_slice(), columns, *stones).expect(rt, "memory"),
+            })
+            .expect(rt, "memory");
     }
-    let main = replies(alloc, rt, order.as_slice(), columns, 0)?;
+    let main = replies(alloc, rt, order.as_slice(), columns, 0).expect(rt, "memory");
     let certificate = Certificate {
         version: Version::One,
         size: nine(rt),
@@ -128,14 +129,14 @@ fn a_lemma_for_each_set(alloc: Global, rt: &impl Abort, columns: u8) -> Result<C
         lemmas,
         main,
     };
-    let checked = check_held(alloc, last_row(alloc, rt, columns)?, certificate);
-    Ok(checked.ok().expect(rt, "a valid claim"))
+    let checked = check_held(alloc, last_row(alloc, rt, columns), certificate);
+    checked.ok().expect(rt, "a valid claim")
 }
 
 // Black has e places left: it plays on one of them, which White answers, or passes. That makes 1 + e (2 + f) turns, f being the number for e - 1 places.
 #[test]
-fn four_places_of_the_last_row(rt: HostRuntime) -> Result<(), Fail> {
-    let checked = a_lemma_for_each_set(rt.alloc(), &rt, 4)?;
+fn four_places_of_the_last_row(rt: HostRuntime) {
+    let checked = a_lemma_for_each_set(rt.alloc(), &rt, 4);
     let answer = expand(rt.alloc(), &checked, 194).expect(&rt, "a tree");
     expect_size(&rt, answer.size(), Some(194));
     expect_stop(
@@ -143,17 +144,16 @@ fn four_places_of_the_last_row(rt: HostRuntime) -> Result<(), Fail> {
         expand(rt.alloc(), &checked, 193).err(),
         Some(Expand::TooLarge),
     );
-    Ok(())
 }
 
 // Seven and eight places: 7 (2 + 5869) + 2 and 8 (2 + 41098) + 2 turns, with the same rule.
 #[test]
-fn the_whole_last_row(rt: HostRuntime) -> Result<(), Fail> {
-    let seven = a_lemma_for_each_set(rt.alloc(), &rt, 7)?;
+fn the_whole_last_row(rt: HostRuntime) {
+    let seven = a_lemma_for_each_set(rt.alloc(), &rt, 7);
     expect_count(&rt, seven.certificate().lemmas.len(), 127);
     let answer = expand(rt.alloc(), &seven, 90_000).expect(&rt, "a tree");
     expect_size(&rt, answer.size(), Some(41_099));
-    let eight = a_lemma_for_each_set(rt.alloc(), &rt, 8)?;
+    let eight = a_lemma_for_each_set(rt.alloc(), &rt, 8);
     expect_count(&rt, eight.certificate().lemmas.len(), 255);
     expect_stop(
         &rt,
@@ -167,7 +167,6 @@ fn the_whole_last_row(rt: HostRuntime) -> Result<(), Fail> {
     );
     let answer = expand(rt.alloc(), &eight, 328_802).expect(&rt, "a tree");
     expect_size(&rt, answer.size(), Some(328_802));
-    Ok(())
 }
 
 // A line of so many turns, by turns the winner's and the other side's: a pass each.
@@ -182,8 +181,7 @@ fn line(alloc: Global, turns: u32) -> Result<Answer, AllocError> {
 }
 
 #[test]
-fn a_long_line_is_counted_and_dropped(rt: HostRuntime) -> Result<(), Fail> {
-    let answer = line(rt.alloc(), 100_000)?;
+fn a_long_line_is_counted_and_dropped(rt: HostRuntime) {
+    let answer = line(rt.alloc(), 100_000).expect(&rt, "memory");
     expect_size(&rt, answer.size(), Some(100_000));
-    Ok(())
 }

@@ -7,7 +7,6 @@ use go_points::{Colour, Colouring, Size, Turn};
 use proof_cert::{Certificate, Lemma, Node, Version};
 use std::alloc::Global;
 use std::process::Abort;
-use std::test::Fail;
 use target_game::Problem;
 
 // Black takes a ko, where these colourings have occurred.
@@ -16,26 +15,33 @@ fn ko(alloc: Global, rt: &impl Abort, texts: &[&str]) -> Problem {
 }
 
 // One lemma, in which black takes the ko, and main, which uses the lemma of this number; for a board of so many rows.
-fn takes_ko(alloc: Global, rt: &impl Abort, rows: u8, number: u32) -> Result<Certificate, Fail> {
+fn takes_ko(alloc: Global, rt: &impl Abort, rows: u8, number: u32) -> Certificate {
     let three = Size::new(3).expect(rt, "a size");
     let mut absent = Vec::new(alloc);
-    absent.push(Colouring::from_text(three, b".XOXO....").expect(rt, "a colouring"))?;
+    absent
+        .push(Colouring::from_text(three, b".XOXO....").expect(rt, "a colouring"))
+        .expect(rt, "memory");
     let mut lemmas = Vec::new(alloc);
-    lemmas.push(Lemma {
-        mover: Colour::Black,
-        passes: 0,
-        root: Colouring::from_text(three, b"O.OXO....").expect(rt, "a colouring"),
-        had: Vec::new(alloc),
-        absent,
-        body: Node::Play(Turn::At(point(rt, 3, 1, 0)), Box::new(alloc, Node::Won)?),
-    })?;
-    Ok(Certificate {
+    lemmas
+        .push(Lemma {
+            mover: Colour::Black,
+            passes: 0,
+            root: Colouring::from_text(three, b"O.OXO....").expect(rt, "a colouring"),
+            had: Vec::new(alloc),
+            absent,
+            body: Node::Play(
+                Turn::At(point(rt, 3, 1, 0)),
+                Box::new(alloc, Node::Won).expect(rt, "memory"),
+            ),
+        })
+        .expect(rt, "memory");
+    Certificate {
         version: Version::One,
         size: Size::new(rows).expect(rt, "a size"),
         winner: Colour::Black,
         lemmas,
         main: Node::Use(number),
-    })
+    }
 }
 
 // The first fault, with the problem and the certificate as they were handed in.
@@ -53,9 +59,9 @@ fn refused(rt: &impl Abort, answer: Result<Checked, (Reject, Problem, Certificat
 }
 
 #[test]
-fn a_certificate_that_is_valid(rt: HostRuntime) -> Result<(), Fail> {
+fn a_certificate_that_is_valid(rt: HostRuntime) {
     let open = ko(rt.alloc(), &rt, &["O.OXO...."]);
-    let certificate = takes_ko(rt.alloc(), &rt, 3, 1)?;
+    let certificate = takes_ko(rt.alloc(), &rt, 3, 1);
     match check_held(rt.alloc(), open, certificate) {
         Ok(checked) => {
             expect_colour(&rt, checked.winner(), Colour::Black);
@@ -64,13 +70,12 @@ fn a_certificate_that_is_valid(rt: HostRuntime) -> Result<(), Fail> {
         }
         Err(_) => panic!(&rt; "a valid certificate"),
     }
-    Ok(())
 }
 
 #[test]
-fn certificates_that_are_not_valid(rt: HostRuntime) -> Result<(), Fail> {
+fn certificates_that_are_not_valid(rt: HostRuntime) {
     let closed = ko(rt.alloc(), &rt, &["O.OXO....", ".XOXO...."]);
-    let occurred = check_held(rt.alloc(), closed, takes_ko(rt.alloc(), &rt, 3, 1)?);
+    let occurred = check_held(rt.alloc(), closed, takes_ko(rt.alloc(), &rt, 3, 1));
     expect_same(
         &rt,
         refused(&rt, occurred),
@@ -80,7 +85,7 @@ fn certificates_that_are_not_valid(rt: HostRuntime) -> Result<(), Fail> {
         },
     );
     let open = ko(rt.alloc(), &rt, &["O.OXO...."]);
-    let number = check_held(rt.alloc(), open, takes_ko(rt.alloc(), &rt, 3, 2)?);
+    let number = check_held(rt.alloc(), open, takes_ko(rt.alloc(), &rt, 3, 2));
     expect_same(
         &rt,
         refused(&rt, number),
@@ -90,7 +95,7 @@ fn certificates_that_are_not_valid(rt: HostRuntime) -> Result<(), Fail> {
         },
     );
     let wide = ko(rt.alloc(), &rt, &["O.OXO...."]);
-    let size = check_held(rt.alloc(), wide, takes_ko(rt.alloc(), &rt, 4, 1)?);
+    let size = check_held(rt.alloc(), wide, takes_ko(rt.alloc(), &rt, 4, 1));
     expect_same(
         &rt,
         refused(&rt, size),
@@ -99,5 +104,4 @@ fn certificates_that_are_not_valid(rt: HostRuntime) -> Result<(), Fail> {
             why: Why::SizeDiffers,
         },
     );
-    Ok(())
 }

@@ -5,7 +5,6 @@ use cert_check::{Reject, Why};
 use go_points::{Colour, Turn};
 use std::alloc::Global;
 use std::process::Abort;
-use std::test::Fail;
 use target_game::Problem;
 
 // White has one stone in the corner, with black below it: black captures it at its right.
@@ -231,10 +230,10 @@ const BOTH_ORDERS: &str =
     "tsucert 1 3 W\nlemma W 0 O......XX\nnot X........\nplay pass\nall 1\nreply pass\nwon\nend\nlemma W 0 O......XX\nnot .X.......\nplay pass\nall 1\nreply pass\nwon\nend\nlemma B 0 O........\nnot X........\nall 3\nreply bc\nplay pass\nall 2\nreply cc\nuse 1\nreply pass\nwon\nreply cc\nplay pass\nall 2\nreply bc\nuse 1\nreply pass\nwon\nreply pass\nplay pass\nwon\nend\n";
 
 #[test]
-fn a_list_is_passed_on_in_each_body(rt: HostRuntime) -> Result<(), Fail> {
+fn a_list_is_passed_on_in_each_body(rt: HostRuntime) {
     let corner = corner(rt.alloc(), &rt);
     let in_main = "main\nuse 3\nend\n";
-    let right = format!(in rt.alloc(); "{BOTH_ORDERS}{in_main}")?;
+    let right = format!(in rt.alloc(); "{BOTH_ORDERS}{in_main}").expect(&rt, "memory");
     expect_judged(
         &rt,
         judged(rt.alloc(), &corner, right.as_bytes()),
@@ -242,20 +241,21 @@ fn a_list_is_passed_on_in_each_body(rt: HostRuntime) -> Result<(), Fail> {
     );
     let other_list =
         "lemma B 0 O........\nnot .X.......\nall 3\nreply bc\nplay pass\nall 2\nreply cc\n";
-    let at_once = format!(in rt.alloc(); "{BOTH_ORDERS}{other_list}use 1\n")?;
+    let at_once = format!(in rt.alloc(); "{BOTH_ORDERS}{other_list}use 1\n").expect(&rt, "memory");
     expect_judged(
         &rt,
         judged(rt.alloc(), &corner, at_once.as_bytes()),
         refused(44, Why::ListedNotPassedOn),
     );
     let second = "use 2\nreply pass\nwon\nreply cc\nplay pass\nall 2\nreply bc\nuse 1\n";
-    let after_another = format!(in rt.alloc(); "{BOTH_ORDERS}{other_list}{second}")?;
+    let after_another = format!(in rt.alloc(); "{BOTH_ORDERS}{other_list}{second}").expect(
+        &rt, "memory",
+    );
     expect_judged(
         &rt,
         judged(rt.alloc(), &corner, after_another.as_bytes()),
         refused(51, Why::ListedNotPassedOn),
     );
-    Ok(())
 }
 
 #[test]

@@ -7,17 +7,11 @@ use go_points::Colour;
 use proof_cert::{read_cert, write_cert};
 use std::alloc::Global;
 use std::process::Abort;
-use std::test::Fail;
 use target_game::Problem;
 
 // The text of what the claim becomes for the problem, or why it is not lifted. What is lifted is valid for the same problem.
-fn lifted(
-    alloc: Global,
-    rt: &impl Abort,
-    problem: Problem,
-    claim: &str,
-) -> Result<Result<Vec<u8>, Lift>, Fail> {
-    let again = problem.copy(alloc)?;
+fn lifted(alloc: Global, rt: &impl Abort, problem: Problem, claim: &str) -> Result<Vec<u8>, Lift> {
+    let again = problem.copy(alloc).expect(rt, "memory");
     let certificate = read_cert(alloc, problem.size(), claim.as_bytes()).expect(rt, "a claim");
     let Ok(checked) = check_held(alloc, problem, certificate) else {
         panic!(rt; "a valid claim");
@@ -25,33 +19,26 @@ fn lifted(
     let winner = checked.winner();
     let certificate = match lift(alloc, &checked) {
         Ok(certificate) => certificate,
-        Err(fault) => return Ok(Err(fault)),
+        Err(fault) => return Err(fault),
     };
     let mut text = Vec::new(alloc);
-    write_cert(&certificate, &mut text)?;
+    write_cert(&certificate, &mut text).expect(rt, "memory");
     match check_held(alloc, again, certificate) {
         Ok(anew) => expect_same(rt, anew.winner(), winner),
         Err(_) => panic!(rt; "valid for the same problem"),
     }
-    Ok(Ok(text))
+    Ok(text)
 }
 
-fn becomes(
-    alloc: Global,
-    rt: &impl Abort,
-    problem: Problem,
-    claim: &str,
-    wanted: &str,
-) -> Result<(), Fail> {
-    match lifted(alloc, rt, problem, claim)? {
+fn becomes(alloc: Global, rt: &impl Abort, problem: Problem, claim: &str, wanted: &str) {
+    match lifted(alloc, rt, problem, claim) {
         Ok(text) => expect_same(rt, text.as_slice(), wanted.as_bytes()),
         Err(_) => panic!(rt; "a lifted claim"),
     }
-    Ok(())
 }
 
 #[test]
-fn a_reply_that_the_past_bars(rt: HostRuntime) -> Result<(), Fail> {
+fn a_reply_that_the_past_bars(rt: HostRuntime) {
     let alloc = rt.alloc();
     let closed = problem(
         alloc,
@@ -71,7 +58,7 @@ fn a_reply_that_the_past_bars(rt: HostRuntime) -> Result<(), Fail> {
 }
 
 #[test]
-fn a_move_of_the_winner(rt: HostRuntime) -> Result<(), Fail> {
+fn a_move_of_the_winner(rt: HostRuntime) {
     let alloc = rt.alloc();
     let open = problem(alloc, &rt, 3, &["O..X....."], Colour::Black, &[(1, 0)]);
     becomes(
@@ -84,7 +71,7 @@ fn a_move_of_the_winner(rt: HostRuntime) -> Result<(), Fail> {
 }
 
 #[test]
-fn colourings_of_the_past_that_no_reply_gives_stay_out(rt: HostRuntime) -> Result<(), Fail> {
+fn colourings_of_the_past_that_no_reply_gives_stay_out(rt: HostRuntime) {
     let alloc = rt.alloc();
     let other = problem(
         alloc,
@@ -104,7 +91,7 @@ fn colourings_of_the_past_that_no_reply_gives_stay_out(rt: HostRuntime) -> Resul
 }
 
 #[test]
-fn a_suicide_of_one_stone_is_no_past(rt: HostRuntime) -> Result<(), Fail> {
+fn a_suicide_of_one_stone_is_no_past(rt: HostRuntime) {
     let alloc = rt.alloc();
     let shut = problem(alloc, &rt, 3, &["X.XXXX.XX"], Colour::White, &[(1, 0)]);
     becomes(
@@ -117,7 +104,7 @@ fn a_suicide_of_one_stone_is_no_past(rt: HostRuntime) -> Result<(), Fail> {
 }
 
 #[test]
-fn results_ascend_and_stand_once(rt: HostRuntime) -> Result<(), Fail> {
+fn results_ascend_and_stand_once(rt: HostRuntime) {
     let alloc = rt.alloc();
     let two = problem(alloc, &rt, 2, &["X..."], Colour::White, &[(1, 0), (0, 1)]);
     becomes(
@@ -130,16 +117,15 @@ fn results_ascend_and_stand_once(rt: HostRuntime) -> Result<(), Fail> {
 }
 
 #[test]
-fn claims_with_lemmas_are_not_lifted(rt: HostRuntime) -> Result<(), Fail> {
+fn claims_with_lemmas_are_not_lifted(rt: HostRuntime) {
     let alloc = rt.alloc();
     let open = problem(alloc, &rt, 3, &["O..X....."], Colour::Black, &[(1, 0)]);
     let claim =
         "tsucert 1 3 B\nlemma B 0 O..X.....\nnot .X.X.....\nplay ba\nwon\nend\nmain\nuse 1\nend\n";
-    match lifted(alloc, &rt, open, claim)? {
+    match lifted(alloc, &rt, open, claim) {
         Ok(_) => panic!(&rt; "a claim with a lemma"),
         Err(fault) => expect_same(&rt, fault, Lift::HasLemmas),
     }
-    Ok(())
 }
 
 // A claim of one lemma is refused as `Limit` exactly where it would pass one of these: so the clauses of `lift` say.

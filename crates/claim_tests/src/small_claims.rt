@@ -5,7 +5,6 @@ use go_points::{Colour, Colouring, Point, PointSet, Size, Turn};
 use proof_cert::ReaderSource;
 use std::alloc::Global;
 use std::process::Abort;
-use std::test::Fail;
 use target_game::Problem;
 
 pub(crate) fn point(rt: &impl Abort, rows: u8, column: u8, row: u8) -> Point {
@@ -258,12 +257,11 @@ fn positions_that_repeat(rt: HostRuntime) {
 }
 
 #[test]
-fn text_behind_the_end(rt: HostRuntime) -> Result<(), Fail> {
+fn text_behind_the_end(rt: HostRuntime) {
     let quiet = quiet(rt.alloc(), &rt);
     for more in ["\n", "x", "end\n"] {
-        let claim = format!(in rt.alloc(); "{QUIET}{more}")?;
+        let claim = format!(in rt.alloc(); "{QUIET}{more}").expect(&rt, "memory");
         let found = judged(rt.alloc(), &quiet, claim.as_bytes());
         expect_judged(&rt, found, refused(13, Why::TextAfterEnd));
     }
-    Ok(())
 }

@@ -1,9 +1,6 @@
 //! first_moves: says of each first turn of a problem who wins after it.
 #![tactic(auto)]
 
-#[cfg(test)]
-mod tests;
-
 use first_turns::run;
 use std::convert::AsStr;
 use std::env;

@@ -8,7 +8,6 @@ use proof_cert::{Certificate, Version, write_cert};
 use std::alloc::Global;
 use std::num::NonZeroUsize;
 use std::process::Abort;
-use std::test::Fail;
 use target_game::Problem;
 
 fn points(rt: &impl Abort, letters: &str) -> PointSet {
@@ -55,22 +54,22 @@ fn budget(rt: &impl Abort, steps: u64) -> Budget {
 }
 
 // Whether the claim is the one of this text.
-fn is_claim(alloc: Global, certificate: &Certificate, text: &str) -> Result<bool, Fail> {
+fn is_claim(rt: &impl Abort, alloc: Global, certificate: &Certificate, text: &str) -> bool {
     let mut out = Vec::new(alloc);
-    write_cert(certificate, &mut out)?;
-    Ok(out.as_slice() == text.as_bytes())
+    write_cert(certificate, &mut out).expect(rt, "memory");
+    out.as_slice() == text.as_bytes()
 }
 
 // Whether full search answers the claim of this text after just so many steps, and nothing where one of them is missing.
-fn finds(alloc: Global, problem: &Problem, steps: u64, text: &str) -> Result<bool, Fail> {
+fn finds(rt: &impl Abort, alloc: Global, problem: &Problem, steps: u64, text: &str) -> bool {
     let mut fewer = steps.saturating_sub(1);
-    let nothing = full_search(alloc, problem, 0, &mut fewer)?;
+    let nothing = full_search(alloc, problem, 0, &mut fewer).expect(rt, "memory");
     if nothing.is_some() || fewer != 0 {
-        return Ok(false);
+        return false;
     }
     let mut left = steps;
-    let Some((winner, main)) = full_search(alloc, problem, 0, &mut left)? else {
-        return Ok(false);
+    let Some((winner, main)) = full_search(alloc, problem, 0, &mut left).expect(rt, "memory") else {
+        return false;
     };
     let certificate = Certificate {
         version: Version::One,
@@ -79,96 +78,84 @@ fn finds(alloc: Global, problem: &Problem, steps: u64, text: &str) -> Result<boo
         lemmas: Vec::new(alloc),
         main,
     };
-    Ok(left == 0 && is_claim(alloc, &certificate, text)?)
+    left == 0 && is_claim(rt, alloc, &certificate, text)
 }
 
 // Whether the problem is solved by the claim of this text.
-fn solves(
-    rt: &impl Abort,
-    alloc: Global,
-    problem: Problem,
-    winner: Colour,
-    text: &str,
-) -> Result<bool, Fail> {
+fn solves(rt: &impl Abort, alloc: Global, problem: Problem, winner: Colour, text: &str) -> bool {
     match solve(alloc, problem, budget(rt, 1000)) {
-        Verdict::Wins(checked) => Ok(
-            checked.winner() == winner && is_claim(alloc, checked.certificate(), text)?,
-        ),
-        Verdict::Unknown { .. } => Ok(false),
+        Verdict::Wins(checked) => {
+            checked.winner() == winner && is_claim(rt, alloc, checked.certificate(), text)
+        }
+        Verdict::Unknown { .. } => false,
     }
 }
 
 // White's aa is in atari, and Black takes it. The start alone is expanded, once.
 #[test]
-fn a_capture_of_one_turn(rt: HostRuntime) -> Result<(), Fail> {
+fn a_capture_of_one_turn(rt: HostRuntime) {
     let alloc = rt.alloc();
     let text = "tsucert 1 3 B\nmain\nplay ba\nwon\nend\n";
     let corner = problem(&rt, alloc, &["O..X....."], Colour::Black, "aa", "ba");
-    expect_that(&rt, finds(alloc, &corner, 1, text)?);
-    expect_that(&rt, solves(&rt, alloc, corner, Colour::Black, text)?);
-    Ok(())
+    expect_that(&rt, finds(&rt, alloc, &corner, 1, text));
+    expect_that(&rt, solves(&rt, alloc, corner, Colour::Black, text));
 }
 
 // White to move fills ba, and two passes follow. Within one turn the start is expanded; within two the states after ba
 // and after the pass as well; within three the start, the state after ba and the one after Black's pass.
 #[test]
-fn a_liberty_filled(rt: HostRuntime) -> Result<(), Fail> {
+fn a_liberty_filled(rt: HostRuntime) {
     let alloc = rt.alloc();
     let text = "tsucert 1 3 W\nmain\nplay ba\nall 1\nreply pass\nplay pass\nwon\nend\n";
     let corner = problem(&rt, alloc, &["O..X....."], Colour::White, "aa", "ba");
-    expect_that(&rt, finds(alloc, &corner, 7, text)?);
-    expect_that(&rt, solves(&rt, alloc, corner, Colour::White, text)?);
-    Ok(())
+    expect_that(&rt, finds(&rt, alloc, &corner, 7, text));
+    expect_that(&rt, solves(&rt, alloc, corner, Colour::White, text));
 }
 
 // Black may not take the ko again, so it passes, and White passes: the start, and then the start and the state after it.
 #[test]
-fn a_ko_that_is_barred(rt: HostRuntime) -> Result<(), Fail> {
+fn a_ko_that_is_barred(rt: HostRuntime) {
     let alloc = rt.alloc();
     let text = "tsucert 1 3 W\nmain\nall 1\nreply pass\nplay pass\nwon\nend\n";
     let texts = [".XOXO....", "O.OXO...."];
     let barred = problem(&rt, alloc, &texts, Colour::Black, "aa", "ba");
-    expect_that(&rt, finds(alloc, &barred, 3, text)?);
-    expect_that(&rt, solves(&rt, alloc, barred, Colour::White, text)?);
+    expect_that(&rt, finds(&rt, alloc, &barred, 3, text));
+    expect_that(&rt, solves(&rt, alloc, barred, Colour::White, text));
     let open = problem(&rt, alloc, &["O.OXO...."], Colour::Black, "aa", "ba");
     let taken = "tsucert 1 3 B\nmain\nplay ba\nwon\nend\n";
-    expect_that(&rt, solves(&rt, alloc, open, Colour::Black, taken)?);
-    Ok(())
+    expect_that(&rt, solves(&rt, alloc, open, Colour::Black, taken));
 }
 
 // With a threat at cc Black may take again, so White fills ba after it. After Black's pass White passes at once, though
 // ba, which comes before it, wins as well.
 #[test]
-fn a_second_pass_comes_first(rt: HostRuntime) -> Result<(), Fail> {
+fn a_second_pass_comes_first(rt: HostRuntime) {
     let alloc = rt.alloc();
     let text =
         "tsucert 1 3 W\nmain\nall 2\nreply cc\nplay ba\nall 1\nreply pass\nplay pass\nwon\nreply pass\nplay pass\nwon\nend\n";
     let texts = [".XOXO....", "O.OXO...."];
     let threat = problem(&rt, alloc, &texts, Colour::Black, "aa", "bacc");
-    expect_that(&rt, solves(&rt, alloc, threat, Colour::White, text)?);
-    Ok(())
+    expect_that(&rt, solves(&rt, alloc, threat, Colour::White, text));
 }
 
 // White answers each of Black's moves by the other, which leaves only passes.
 #[test]
-fn an_answer_to_each_reply(rt: HostRuntime) -> Result<(), Fail> {
+fn an_answer_to_each_reply(rt: HostRuntime) {
     let alloc = rt.alloc();
     let text =
         "tsucert 1 3 W\nmain\nall 3\nreply bc\nplay cc\nall 1\nreply pass\nplay pass\nwon\nreply cc\nplay bc\nall 1\nreply pass\nplay pass\nwon\nreply pass\nplay pass\nwon\nend\n";
     let two = problem(&rt, alloc, &["O........"], Colour::Black, "aa", "bccc");
-    expect_that(&rt, solves(&rt, alloc, two, Colour::White, text)?);
-    Ok(())
+    expect_that(&rt, solves(&rt, alloc, two, Colour::White, text));
 }
 
 // Both of White's moves are suicides of one stone, so White may only pass.
 #[test]
-fn no_move_is_legal(rt: HostRuntime) -> Result<(), Fail> {
+fn no_move_is_legal(rt: HostRuntime) {
     let alloc = rt.alloc();
     let text = "tsucert 1 3 B\nmain\nall 1\nreply pass\nplay pass\nwon\nend\n";
     let eyes = problem(&rt, alloc, &[".XXXXXXX."], Colour::White, "bb", "aacc");
-    expect_that(&rt, finds(alloc, &eyes, 3, text)?);
-    expect_that(&rt, solves(&rt, alloc, eyes, Colour::Black, text)?);
-    Ok(())
+    expect_that(&rt, finds(&rt, alloc, &eyes, 3, text));
+    expect_that(&rt, solves(&rt, alloc, eyes, Colour::Black, text));
 }
 
 // Without a step nothing is found, and the problem is handed back.
@@ -197,14 +184,23 @@ fn a_problem_is_handed_back(rt: HostRuntime) {
 
 // What is above the floor alone is taken: the start and the states after ba and the pass need three steps within two turns.
 #[test]
-fn full_search_stops_at_its_floor(rt: HostRuntime) -> Result<(), Fail> {
+fn full_search_stops_at_its_floor(rt: HostRuntime) {
     let alloc = rt.alloc();
     let corner = problem(&rt, alloc, &["O..X....."], Colour::White, "aa", "ba");
     let mut left = 100;
-    expect_that(&rt, full_search(alloc, &corner, 94, &mut left)?.is_none());
+    expect_that(
+        &rt,
+        full_search(alloc, &corner, 94, &mut left)
+            .expect(&rt, "memory")
+            .is_none(),
+    );
     expect_same(&rt, left, 94);
     let mut enough = 100;
-    expect_that(&rt, full_search(alloc, &corner, 93, &mut enough)?.is_some());
+    expect_that(
+        &rt,
+        full_search(alloc, &corner, 93, &mut enough)
+            .expect(&rt, "memory")
+            .is_some(),
+    );
     expect_same(&rt, enough, 93);
-    Ok(())
 }

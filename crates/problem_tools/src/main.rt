@@ -1,13 +1,6 @@
 //! problem_tools: takes the games of a file apart, marks the problem of a record, draws it, and makes a page of its answer.
 #![tactic(auto)]
 
-#[cfg(test)]
-mod page_tests;
-#[cfg(test)]
-mod picture_tests;
-#[cfg(test)]
-mod tests;
-
 use record_tools::run;
 use std::convert::AsStr;
 use std::env;

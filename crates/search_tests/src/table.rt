@@ -3,13 +3,13 @@
 use crate::expect::expect_that;
 use go_points::Colour;
 use pn_table::*;
+use std::alloc::Global;
 use std::num::NonZeroUsize;
 use std::process::Abort;
-use std::test::Fail;
 
-fn table(rt: HostRuntime, capacity: usize) -> Result<Table, Fail> {
-    let capacity = NonZeroUsize::new(capacity).ok_or("capacity")?;
-    Ok(Table::with_capacity(rt.alloc(), capacity)?)
+fn table(rt: &impl Abort, alloc: Global, capacity: usize) -> Table {
+    let capacity = NonZeroUsize::new(capacity).expect(rt, "a capacity");
+    Table::with_capacity(alloc, capacity).expect(rt, "memory")
 }
 
 fn black_to_move(position: u64) -> Key {
@@ -29,32 +29,30 @@ fn expect_numbers(rt: &impl Abort, found: Option<Numbers>, wanted: Option<Number
 }
 
 #[test]
-fn what_was_not_used_for_longest_goes(rt: HostRuntime) -> Result<(), Fail> {
-    let mut table = table(rt, 2)?;
+fn what_was_not_used_for_longest_goes(rt: HostRuntime) {
+    let mut table = table(&rt, rt.alloc(), 2);
     expect_that(&rt, table.store(black_to_move(1), numbers(1, 10)));
     expect_that(&rt, table.store(black_to_move(2), numbers(2, 20)));
     expect_that(&rt, table.store(black_to_move(3), numbers(3, 30)));
     expect_numbers(&rt, table.look(black_to_move(1)), None);
     expect_numbers(&rt, table.look(black_to_move(2)), Some(numbers(2, 20)));
     expect_numbers(&rt, table.look(black_to_move(3)), Some(numbers(3, 30)));
-    Ok(())
 }
 
 #[test]
-fn a_look_counts_as_use(rt: HostRuntime) -> Result<(), Fail> {
-    let mut table = table(rt, 2)?;
+fn a_look_counts_as_use(rt: HostRuntime) {
+    let mut table = table(&rt, rt.alloc(), 2);
     expect_that(&rt, table.store(black_to_move(1), numbers(1, 10)));
     expect_that(&rt, table.store(black_to_move(2), numbers(2, 20)));
     expect_numbers(&rt, table.look(black_to_move(1)), Some(numbers(1, 10)));
     expect_that(&rt, table.store(black_to_move(3), numbers(3, 30)));
     expect_numbers(&rt, table.look(black_to_move(1)), Some(numbers(1, 10)));
     expect_numbers(&rt, table.look(black_to_move(2)), None);
-    Ok(())
 }
 
 #[test]
-fn newer_numbers_replace_older_ones(rt: HostRuntime) -> Result<(), Fail> {
-    let mut table = table(rt, 2)?;
+fn newer_numbers_replace_older_ones(rt: HostRuntime) {
+    let mut table = table(&rt, rt.alloc(), 2);
     expect_that(&rt, table.store(black_to_move(1), numbers(1, 10)));
     expect_that(&rt, table.store(black_to_move(2), numbers(2, 20)));
     expect_that(&rt, table.store(black_to_move(1), numbers(0, INFINITY)));
@@ -64,23 +62,21 @@ fn newer_numbers_replace_older_ones(rt: HostRuntime) -> Result<(), Fail> {
         Some(numbers(0, INFINITY)),
     );
     expect_numbers(&rt, table.look(black_to_move(2)), Some(numbers(2, 20)));
-    Ok(())
 }
 
 #[test]
-fn a_table_of_one_key_keeps_the_latest(rt: HostRuntime) -> Result<(), Fail> {
-    let mut table = table(rt, 1)?;
+fn a_table_of_one_key_keeps_the_latest(rt: HostRuntime) {
+    let mut table = table(&rt, rt.alloc(), 1);
     expect_numbers(&rt, table.look(black_to_move(1)), None);
     expect_that(&rt, table.store(black_to_move(1), numbers(1, 10)));
     expect_numbers(&rt, table.look(black_to_move(1)), Some(numbers(1, 10)));
     expect_that(&rt, table.store(black_to_move(2), numbers(2, 20)));
     expect_numbers(&rt, table.look(black_to_move(1)), None);
     expect_numbers(&rt, table.look(black_to_move(2)), Some(numbers(2, 20)));
-    Ok(())
 }
 
 #[test]
-fn mover_and_passes_belong_to_the_key(rt: HostRuntime) -> Result<(), Fail> {
+fn mover_and_passes_belong_to_the_key(rt: HostRuntime) {
     let black = black_to_move(5);
     let white = Key {
         position: 5,
@@ -92,7 +88,7 @@ fn mover_and_passes_belong_to_the_key(rt: HostRuntime) -> Result<(), Fail> {
         mover: Colour::Black,
         passes: 1,
     };
-    let mut table = table(rt, 3)?;
+    let mut table = table(&rt, rt.alloc(), 3);
     expect_that(&rt, table.store(black, numbers(1, 10)));
     expect_numbers(&rt, table.look(white), None);
     expect_numbers(&rt, table.look(passed), None);
@@ -101,5 +97,4 @@ fn mover_and_passes_belong_to_the_key(rt: HostRuntime) -> Result<(), Fail> {
     expect_numbers(&rt, table.look(black), Some(numbers(1, 10)));
     expect_numbers(&rt, table.look(white), Some(numbers(2, 20)));
     expect_numbers(&rt, table.look(passed), Some(numbers(3, 30)));
-    Ok(())
 }

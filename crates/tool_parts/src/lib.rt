@@ -15,6 +15,3 @@ pub use input::read_whole;
 pub use output::{Output, without_input, without_request, write_output};
 pub use status::{Status, write_record, write_text};
 pub use words::{NoRequest, no_request};
-
-#[cfg(test)]
-mod tests;

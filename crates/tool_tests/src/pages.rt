@@ -1,6 +1,6 @@
 //! Pages of answers that are written by hand from the rules of the formats.
 
-use crate::tests::gives;
+use crate::records::gives;
 use record_tools::descending;
 use tool_parts::Status;
 

@@ -1,8 +1,8 @@
 //! What is copied, read and written, over memory.
 
-use crate::{Output, Status, copy_tree, read_whole, write_output};
 use sgf_text::read_tree;
 use std::alloc::AllocError;
+use tool_parts::{Output, Status, copy_tree, read_whole, write_output};
 
 const RECORD: &str = "(;SZ[9]C[a\\]b];B[aa](;W[bb](;B[])(;B[cc]LB[dd:A][ee:B]))(;W[]))";
 

@@ -1,6 +1,6 @@
 //! Pictures of small records, drawn by hand.
 
-use crate::tests::gives;
+use crate::records::gives;
 use record_tools::run;
 use std::alloc::Global;
 use std::process::Abort;

@@ -1,0 +1,13 @@
+//! Tests of the helper programs, whose libraries these are. They call what the libraries make public.
+#![tactic(auto)]
+
+#[cfg(test)]
+mod first_moves;
+#[cfg(test)]
+mod pages;
+#[cfg(test)]
+mod parts;
+#[cfg(test)]
+mod pictures;
+#[cfg(test)]
+mod records;

@@ -12,14 +12,19 @@ pub fn deep_path(alloc: Global, problem: &Problem, rounds: u32) -> Result<Vec<u8
     let mut text = Vec::new(alloc);
     add(&mut text, b"tsucert 1 19 B\nmain\n")?;
     for _ in 0..rounds {
-        let turn = last_move(&state);
-        go_down(&mut state, b"play ", turn, &mut text)?;
-        add_number(&mut text, b"all ", state.turns().len())?;
-        let reply = state.next_turn(0);
-        go_down(&mut state, b"reply ", reply, &mut text)?;
+        add_round(&mut state, &mut text)?;
     }
     add(&mut text, b"won\n")?;
     Ok(text)
+}
+
+/// Adds a move, how many replies are due, and the first of them.
+fn add_round(state: &mut State<PlayBoard, PlaySeen>, text: &mut Vec<u8>) -> Result<(), AllocError> {
+    let turn = last_move(state);
+    go_down(state, b"play ", turn, text)?;
+    add_number(text, b"all ", state.turns().len())?;
+    let reply = state.next_turn(0);
+    go_down(state, b"reply ", reply, text)
 }
 
 /// The legal move at the greatest point; the pass, where there is none.

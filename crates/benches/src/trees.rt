@@ -8,6 +8,7 @@ use crate::tree_timing::{
 use cert_check::Checked;
 use go_points::Colour;
 use solution_tree::{Expand, expand};
+use std::alloc::Global;
 use std::io;
 use std::rt::Clock;
 use std::time::Duration;
@@ -48,19 +49,30 @@ fn expand_once<R: Print + AllocGlobal>(rt: &R, places: u8, checked: &Checked) ->
     let answer = expanded(alloc, checked, LIMIT)?;
     let lemmas = checked.certificate().lemmas.len();
     let turns = answer.size().unwrap_or(0);
-    let short = match expand(alloc, checked, turns.saturating_sub(1)) {
-        Ok(_) => "expanded",
-        Err(Expand::TooLarge) => "refused",
-        Err(Expand::Memory) => return Err(io::Error::from(io::ErrorKind::OutOfMemory)),
-    };
+    let short = outcome_within(alloc, checked, turns.saturating_sub(1))?;
     print!(rt; "{places} places: {lemmas} lemmas, {turns} turns, with one fewer {short}, ")?;
     if turns > MOST_READ {
         return rt.println("too large to be read");
     }
     let tree = read(alloc, written(alloc, checked, &answer)?.as_slice())?;
-    match audited(alloc, &problem_of(alloc, &tree)?, &tree)? {
-        Colour::Black => rt.println("Black wins"),
-        Colour::White => rt.println("White wins"),
+    let winner = audited(alloc, &problem_of(alloc, &tree)?, &tree)?;
+    rt.println(verdict_of(winner))
+}
+
+/// What comes of expanding the claim to at most so many turns.
+fn outcome_within(alloc: Global, checked: &Checked, turns: usize) -> io::Result<&'static str> {
+    match expand(alloc, checked, turns) {
+        Ok(_) => Ok("expanded"),
+        Err(Expand::TooLarge) => Ok("refused"),
+        Err(Expand::Memory) => Err(io::Error::from(io::ErrorKind::OutOfMemory)),
+    }
+}
+
+/// What is printed of the side that wins.
+fn verdict_of(winner: Colour) -> &'static str {
+    match winner {
+        Colour::Black => "Black wins",
+        Colour::White => "White wins",
     }
 }
 

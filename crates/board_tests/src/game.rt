@@ -91,25 +91,53 @@ fn turns_one_by_one(state: &mut Play) -> ArrayVec<Turn, MAX_TURNS> {
     all
 }
 
+// Makes the move with these letters, if it is legal.
+fn play_at(rt: &impl Abort, state: &mut Play, letters: &str) -> bool {
+    play(state, turn(rt, letters))
+}
+
 fn expect_turns(rt: &impl Abort, found: &[Turn], wanted: &[Turn]) {
     assert_eq!(rt; found, wanted);
+}
+
+// The moves with these letters, two for each, and the pass are all that is legal.
+fn expect_legal(rt: &impl Abort, state: &Play, letters: &str) {
+    let mut wanted = ArrayVec::<Turn, MAX_TURNS>::new();
+    for pair in letters.as_bytes().chunks(2) {
+        let size = Size::new(3).expect(rt, "a size");
+        let point = sgf_point(size, pair).expect(rt, "a point");
+        expect_that(rt, wanted.try_push(Turn::At(point)).is_ok());
+    }
+    expect_that(rt, wanted.try_push(Turn::Pass).is_ok());
+    expect_turns(rt, state.turns().as_slice(), wanted.as_slice());
+}
+
+// The state has these cells.
+fn expect_cells(rt: &impl Abort, state: &Play, text: &str) {
+    expect_colouring(rt, state.colouring(), three(rt, text));
+}
+
+// These cells have occurred first at this place, or not at all.
+fn expect_place(rt: &impl Abort, state: &Play, text: &str, place: Option<usize>) {
+    expect_optional_count(rt, state.holds(&three(rt, text)), place);
+}
+
+// The move with these letters leads to this.
+fn expect_child(rt: &impl Abort, state: &Play, letters: &str, wanted: Option<Child>) {
+    assert_eq!(rt; state.child(turn(rt, letters)), wanted);
 }
 
 #[test]
 fn a_capture_wins_for_the_attacker(rt: HostRuntime) {
     let mut state = start(&rt, rt.alloc(), &["O..X....."], Colour::Black, "aa", "ba");
     expect_optional_colour(&rt, state.over(), None);
-    expect_turns(
-        &rt,
-        state.turns().as_slice(),
-        [turn(&rt, "ba"), Turn::Pass].as_slice(),
-    );
+    expect_legal(&rt, &state, "ba");
     expect_same(&rt, state.next_turn(0), turn(&rt, "ba"));
     expect_same(&rt, state.next_turn(2), Turn::Pass);
-    expect_that(&rt, play(&mut state, turn(&rt, "ba")));
+    expect_that(&rt, play_at(&rt, &mut state, "ba"));
     expect_optional_colour(&rt, state.over(), Some(Colour::Black));
     expect_colour(&rt, state.mover(), Colour::White);
-    expect_colouring(&rt, state.colouring(), three(&rt, ".X.X....."));
+    expect_cells(&rt, &state, ".X.X.....");
     expect_that(&rt, state.turns().is_empty());
 }
 
@@ -122,9 +150,9 @@ fn a_state_has_the_key_of_its_colouring(rt: HostRuntime) {
         key: 3_257_418_155_030_562_517,
         winner: Some(Colour::Black),
     };
-    expect_same(&rt, state.child(turn(&rt, "ba")), Some(capture));
-    expect_same(&rt, state.child(turn(&rt, "ca")), None);
-    expect_that(&rt, play(&mut state, turn(&rt, "ba")));
+    expect_child(&rt, &state, "ba", Some(capture));
+    expect_child(&rt, &state, "ca", None);
+    expect_that(&rt, play_at(&rt, &mut state, "ba"));
     expect_number(&rt, state.key(), 3_257_418_155_030_562_517);
     let other_mover = start(&rt, rt.alloc(), &["O..X....."], Colour::White, "aa", "ba");
     expect_number(&rt, other_mover.key(), 3_778_989_091_018_136_610);
@@ -133,7 +161,7 @@ fn a_state_has_the_key_of_its_colouring(rt: HostRuntime) {
 #[test]
 fn two_passes_win_for_the_defender(rt: HostRuntime) {
     let mut state = start(&rt, rt.alloc(), &["O..X....."], Colour::White, "aa", "ba");
-    expect_that(&rt, play(&mut state, turn(&rt, "ba")));
+    expect_that(&rt, play_at(&rt, &mut state, "ba"));
     expect_that(&rt, play(&mut state, Turn::Pass));
     expect_number(&rt, state.passes(), 1);
     expect_optional_colour(&rt, state.over(), None);
@@ -147,11 +175,7 @@ fn two_passes_win_for_the_defender(rt: HostRuntime) {
 #[test]
 fn the_past_decides_at_a_ko(rt: HostRuntime) {
     let free = start(&rt, rt.alloc(), &["O.OXO...."], Colour::Black, "aa", "ba");
-    expect_turns(
-        &rt,
-        free.turns().as_slice(),
-        [turn(&rt, "ba"), Turn::Pass].as_slice(),
-    );
+    expect_legal(&rt, &free, "ba");
     let mut barred = start(
         &rt,
         rt.alloc(),
@@ -160,18 +184,18 @@ fn the_past_decides_at_a_ko(rt: HostRuntime) {
         "aa",
         "ba",
     );
-    expect_turns(&rt, barred.turns().as_slice(), [Turn::Pass].as_slice());
+    expect_legal(&rt, &barred, "");
     expect_turns(
         &rt,
         turns_one_by_one(&mut barred).as_slice(),
         [Turn::Pass].as_slice(),
     );
-    expect_same(&rt, play(&mut barred, turn(&rt, "ba")), false);
-    expect_colouring(&rt, barred.colouring(), three(&rt, "O.OXO...."));
+    expect_that(&rt, !play_at(&rt, &mut barred, "ba"));
+    expect_cells(&rt, &barred, "O.OXO....");
     expect_colour(&rt, barred.mover(), Colour::Black);
-    expect_same(&rt, barred.child(turn(&rt, "ba")), None);
-    expect_optional_count(&rt, barred.holds(&three(&rt, ".XOXO....")), Some(0));
-    expect_optional_count(&rt, barred.holds(&three(&rt, ".X.XO....")), None);
+    expect_child(&rt, &barred, "ba", None);
+    expect_place(&rt, &barred, ".XOXO....", Some(0));
+    expect_place(&rt, &barred, ".X.XO....", None);
 }
 
 // The state with this colouring alone, one pass just made, in a problem whose history bars the capture at the upper left.
@@ -203,11 +227,11 @@ fn a_colouring_alone_forgets_the_past(rt: HostRuntime) {
     let mut state = alone(&rt, rt.alloc(), "O.OXO....").expect(&rt, "a state");
     expect_colour(&rt, state.mover(), Colour::Black);
     expect_number(&rt, state.passes(), 1);
-    expect_colouring(&rt, state.colouring(), three(&rt, "O.OXO...."));
-    expect_optional_count(&rt, state.holds(&three(&rt, "O.OXO....")), Some(0));
-    expect_optional_count(&rt, state.holds(&three(&rt, ".XOXO....")), None);
-    expect_that(&rt, play(&mut state, turn(&rt, "ba")));
-    expect_colouring(&rt, state.colouring(), three(&rt, ".XOXO...."));
+    expect_cells(&rt, &state, "O.OXO....");
+    expect_place(&rt, &state, "O.OXO....", Some(0));
+    expect_place(&rt, &state, ".XOXO....", None);
+    expect_that(&rt, play_at(&rt, &mut state, "ba"));
+    expect_cells(&rt, &state, ".XOXO....");
     expect_optional_colour(&rt, state.over(), Some(Colour::Black));
 }
 
@@ -229,7 +253,7 @@ fn a_state_begins_anew_in_the_same_game(rt: HostRuntime) {
     expect_that(&rt, smothered.size() == state.size());
     let refused = state.restart(rt.alloc(), &smothered, Colour::White, 0);
     expect_that(&rt, refused.is_err_and(|fault| names(fault, second)));
-    expect_colouring(&rt, state.colouring(), three(&rt, ".XOXO...."));
+    expect_cells(&rt, &state, ".XOXO....");
     expect_colour(&rt, state.mover(), Colour::Black);
     let taken = three(&rt, "O.OXO....");
     expect_that(&rt, taken.size() == state.size());
@@ -238,41 +262,33 @@ fn a_state_begins_anew_in_the_same_game(rt: HostRuntime) {
         state.restart(rt.alloc(), &taken, Colour::Black, 1).is_ok(),
     );
     expect_number(&rt, state.passes(), 1);
-    expect_optional_count(&rt, state.holds(&three(&rt, ".XOXO....")), None);
-    expect_that(&rt, play(&mut state, turn(&rt, "ba")));
+    expect_place(&rt, &state, ".XOXO....", None);
+    expect_that(&rt, play_at(&rt, &mut state, "ba"));
     expect_optional_colour(&rt, state.over(), Some(Colour::Black));
 }
 
 #[test]
 fn suicide_of_one_stone_is_no_turn(rt: HostRuntime) {
     let state = start(&rt, rt.alloc(), &[".XXXXXXX."], Colour::White, "bb", "aacc");
-    expect_turns(&rt, state.turns().as_slice(), [Turn::Pass].as_slice());
+    expect_legal(&rt, &state, "");
 }
 
 #[test]
 fn suicide_of_two_stones_is_a_turn_and_loses_the_targets(rt: HostRuntime) {
     let mut state = start(&rt, rt.alloc(), &["X.OOO...."], Colour::Black, "aa", "ba");
-    expect_turns(
-        &rt,
-        state.turns().as_slice(),
-        [turn(&rt, "ba"), Turn::Pass].as_slice(),
-    );
-    expect_that(&rt, play(&mut state, turn(&rt, "ba")));
-    expect_colouring(&rt, state.colouring(), three(&rt, "..OOO...."));
+    expect_legal(&rt, &state, "ba");
+    expect_that(&rt, play_at(&rt, &mut state, "ba"));
+    expect_cells(&rt, &state, "..OOO....");
     expect_optional_colour(&rt, state.over(), Some(Colour::White));
 }
 
 #[test]
 fn the_region_binds_both_sides(rt: HostRuntime) {
     let mut state = start(&rt, rt.alloc(), &["O........"], Colour::Black, "aa", "ba");
-    expect_turns(
-        &rt,
-        state.turns().as_slice(),
-        [turn(&rt, "ba"), Turn::Pass].as_slice(),
-    );
-    expect_that(&rt, !play(&mut state, turn(&rt, "ab")));
-    expect_that(&rt, play(&mut state, turn(&rt, "ba")));
-    expect_turns(&rt, state.turns().as_slice(), [Turn::Pass].as_slice());
+    expect_legal(&rt, &state, "ba");
+    expect_that(&rt, !play_at(&rt, &mut state, "ab"));
+    expect_that(&rt, play_at(&rt, &mut state, "ba"));
+    expect_legal(&rt, &state, "");
 }
 
 #[test]
@@ -289,14 +305,14 @@ fn a_turn_is_taken_back_whole(rt: HostRuntime) {
     );
     if state.over().is_none() && state.size().holds(corner) && state.may_move(corner) {
         expect_that(&rt, state.after(Turn::At(corner)).is_ok());
-        expect_colouring(&rt, state.colouring(), three(&rt, "O..X....O"));
+        expect_cells(&rt, &state, "O..X....O");
         expect_number(&rt, state.passes(), 0);
         state.back();
     }
     expect_number(&rt, state.passes(), 1);
     expect_colour(&rt, state.mover(), Colour::White);
-    expect_colouring(&rt, state.colouring(), three(&rt, "O..X....."));
-    expect_optional_count(&rt, state.holds(&three(&rt, "O..X....O")), None);
+    expect_cells(&rt, &state, "O..X.....");
+    expect_place(&rt, &state, "O..X....O", None);
 }
 
 // The refusal of a problem on 3 by 3, if it is refused.

@@ -24,7 +24,7 @@ use Rattle.cert_check.proofs.Members.{Member, and_first, and_both}
 use Rattle.cert_check.proofs.Game.{legal_at}
 use Rattle.cert_check.proofs.Soundness.{game-next}
 use Rattle.cert_check.proofs.Spelling.{AllGood, AllGood-append, node_good, small_number, spelled_text}
-use Rattle.pn_search.specs.Private.Shown.{IsConfirmable}
+use Rattle.pn_search.specs.Private.Confirmable.{IsConfirmable}
 
 -- THE LINES FIT THE BOARD
 

@@ -1,3 +1,2 @@
-pub mod Showing
-pub mod Deepening
+pub mod Refused
 pub mod Confirming

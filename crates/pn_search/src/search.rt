@@ -2,15 +2,15 @@
 
 ghost use Rattle.std.specs.Prelude.{◌≡◌, ◌≢◌, ◌≤◌, ◌⊎◌, IfOk, IfErr};
 ghost use Rattle.pn_search.specs.Search.{IfWins, IfUnknown, IsHard, cause_told, full_steps};
-ghost use Rattle.pn_search.specs.Private.Shown.{IsConfirmable};
+ghost use Rattle.pn_search.specs.Private.Confirmable.{IsConfirmable};
 ghost use Rattle.df_pn.specs.declared.stop.Stop.TheVariants as stops;
 ghost use Rattle.pn_search.specs.declared.verdict.Cause.TheVariants.{Steps, Memory};
 
-use crate::full_search::full_search;
 use crate::verdict::{Budget, Cause, Verdict};
 use cert_check::{Checked, Why, check_held};
 use claim_maker::{Choice, Pasts, claim_with_lemmas, claim_without_lemmas, share_tree};
 use df_pn::{Stop, prove};
+use full_search::first_win;
 use go_points::{Colour, MAX_SIZE};
 use proof_cert::{Certificate, Node, Version};
 use state_proofs::{Refusal, Shared};
@@ -67,7 +67,7 @@ fn searched(alloc: Global, problem: Problem, budget: Budget, left: &mut u64) -> 
     ensures hard { IfErr result (λ r. r.1 ≢ Memory → IsHard problem budget.steps) }
 {
     let floor = *left - steps_of_full_search(budget.steps);
-    match full_search(alloc, &problem, floor, left) {
+    match first_win(alloc, &problem, floor, left) {
         Ok(Some((winner, main))) => confirmed(alloc, problem, winner, main),
         Ok(None) => searched_by_numbers(alloc, problem, budget, left),
         Err(_) => Err((problem, Cause::Memory)),

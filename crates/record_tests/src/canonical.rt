@@ -3,28 +3,43 @@
 use crate::expect::{expect_bytes, expect_that};
 use sgf_text::{read_tree, write_tree};
 use std::alloc::Global;
-use std::test::Fail;
+use std::process::Abort;
+use target_game::Problem;
 use tsumego_problem::{problem_tree, read_problem};
 
-/// What the canonical record of the text's problem is written as. The record read again holds the same problem.
-fn canonical(alloc: Global, text: &[u8], same: &mut bool) -> Result<Vec<u8>, Fail> {
-    let (tree, _end) = read_tree(alloc, text)?;
-    let problem = read_problem(alloc, &tree)?;
+fn problem_in(rt: &impl Abort, alloc: Global, text: &[u8]) -> Problem {
+    let (tree, _end) = read_tree(alloc, text).ok().expect(rt, "a tree");
+    read_problem(alloc, &tree).ok().expect(rt, "a problem")
+}
+
+// What the canonical record of the problem is written as.
+fn canonical(rt: &impl Abort, alloc: Global, problem: &Problem) -> Vec<u8> {
+    let tree = problem_tree(alloc, problem).ok().expect(rt, "memory");
     let mut written = Vec::new(alloc);
-    write_tree(&problem_tree(alloc, &problem)?, &mut written)?;
-    let (tree, _end) = read_tree(alloc, written.as_slice())?;
-    let again = read_problem(alloc, &tree)?;
-    *same = problem.history() == again.history()
-        && problem.place() == again.place()
-        && problem.mover() == again.mover()
-        && problem.passes() == again.passes()
-        && problem.targets() == again.targets()
-        && problem.region() == again.region();
-    Ok(written)
+    expect_that(rt, write_tree(&tree, &mut written).is_ok());
+    written
+}
+
+fn are_same(problem: &Problem, other: &Problem) -> bool {
+    problem.history() == other.history()
+        && problem.place() == other.place()
+        && problem.mover() == other.mover()
+        && problem.passes() == other.passes()
+        && problem.targets() == other.targets()
+        && problem.region() == other.region()
+}
+
+// The problem of the text has this canonical record, which holds the same problem.
+fn expect_canonical(rt: &impl Abort, alloc: Global, text: &[u8], wanted: &[u8]) {
+    let problem = problem_in(rt, alloc, text);
+    let written = canonical(rt, alloc, &problem);
+    expect_bytes(rt, written.as_slice(), wanted);
+    let again = problem_in(rt, alloc, written.as_slice());
+    expect_that(rt, are_same(&problem, &again));
 }
 
 #[test]
-fn writes_canonical_records(rt: HostRuntime) -> Result<(), Fail> {
+fn writes_canonical_records(rt: HostRuntime) {
     let alloc = rt.alloc();
     let rows: [(&[u8], &[u8]); 9] = [
         (
@@ -65,11 +80,8 @@ fn writes_canonical_records(rt: HostRuntime) -> Result<(), Fail> {
             b"(;FF[4]GM[1]SZ[20]AW[aa];AB[tt];PL[W]TR[aa])",
         ),
     ];
-    for (text, expected) in rows {
-        let mut same = false;
-        let written = canonical(alloc, text, &mut same)?;
-        expect_bytes(&rt, written.as_slice(), expected);
-        expect_that(&rt, same);
+    for place in 0..rows.len() {
+        let (text, wanted) = rows[place];
+        expect_canonical(&rt, alloc, text, wanted);
     }
-    Ok(())
 }

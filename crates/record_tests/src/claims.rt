@@ -6,7 +6,6 @@ use proof_cert::*;
 use std::alloc::Global;
 use std::io;
 use std::process::Abort;
-use std::test::Fail;
 
 const SHARED: &str =
     "tsucert 1 3 B\nlemma B 0 O.OXO....\nnot .XOXO....\nplay ba\nwon\nend\nmain\nuse 1\nend\n";
@@ -33,8 +32,8 @@ fn colouring(rt: &impl Abort, rows: u8, text: &str) -> Colouring {
     Colouring::from_text(size_of(rt, rows), text.as_bytes()).expect(rt, "a colouring")
 }
 
-fn play(alloc: Global, turn: Turn, below: Node) -> Result<Node, Fail> {
-    Ok(Node::Play(turn, Box::new(alloc, below)?))
+fn play(rt: &impl Abort, alloc: Global, turn: Turn, below: Node) -> Node {
+    Node::Play(turn, Box::new(alloc, below).expect(rt, "memory"))
 }
 
 fn claim(rt: &impl Abort, winner: Colour, lemmas: Vec<Lemma>, main: Node) -> Certificate {
@@ -48,153 +47,161 @@ fn claim(rt: &impl Abort, winner: Colour, lemmas: Vec<Lemma>, main: Node) -> Cer
 }
 
 /// A lemma with so many passes and these listed colourings, which main uses.
-fn one_lemma(
-    alloc: Global,
-    rt: &impl Abort,
-    passes: u8,
-    listed: &[Colouring],
-) -> Result<Certificate, Fail> {
+fn one_lemma(alloc: Global, rt: &impl Abort, passes: u8, listed: &[Colouring]) -> Certificate {
     let mut lemmas = Vec::new(alloc);
-    lemmas.push(Lemma {
-        mover: Colour::Black,
-        passes,
-        root: colouring(rt, 3, "O.OXO...."),
-        had: Vec::new(alloc),
-        absent: listed.to_vec(alloc)?,
-        body: play(alloc, at(rt, 1, 0), Node::Won)?,
-    })?;
-    Ok(claim(rt, Colour::Black, lemmas, Node::Use(1)))
+    lemmas
+        .push(Lemma {
+            mover: Colour::Black,
+            passes,
+            root: colouring(rt, 3, "O.OXO...."),
+            had: Vec::new(alloc),
+            absent: listed.to_vec(alloc).expect(rt, "memory"),
+            body: play(rt, alloc, at(rt, 1, 0), Node::Won),
+        })
+        .expect(rt, "memory");
+    claim(rt, Colour::Black, lemmas, Node::Use(1))
 }
 
-fn shared(alloc: Global, rt: &impl Abort) -> Result<Certificate, Fail> {
+fn shared(alloc: Global, rt: &impl Abort) -> Certificate {
     one_lemma(alloc, rt, 0, &[colouring(rt, 3, ".XOXO....")])
 }
 
-fn answered(alloc: Global, rt: &impl Abort) -> Result<Certificate, Fail> {
+fn answered(alloc: Global, rt: &impl Abort) -> Certificate {
     let mut replies = Vec::new(alloc);
-    replies.push((Turn::Pass, play(alloc, Turn::Pass, Node::Won)?))?;
+    replies
+        .push((Turn::Pass, play(rt, alloc, Turn::Pass, Node::Won)))
+        .expect(rt, "memory");
     let mut lemmas = Vec::new(alloc);
-    lemmas.push(Lemma {
-        mover: Colour::Black,
-        passes: 0,
-        root: colouring(rt, 3, "O.OXO...."),
-        had: Vec::new(alloc),
-        absent: Vec::new(alloc),
-        body: Node::All(replies),
-    })?;
-    Ok(claim(rt, Colour::White, lemmas, Node::Use(1)))
+    lemmas
+        .push(Lemma {
+            mover: Colour::Black,
+            passes: 0,
+            root: colouring(rt, 3, "O.OXO...."),
+            had: Vec::new(alloc),
+            absent: Vec::new(alloc),
+            body: Node::All(replies),
+        })
+        .expect(rt, "memory");
+    claim(rt, Colour::White, lemmas, Node::Use(1))
 }
 
 /// White passes, Black takes the other point and the lemma follows, or Black passes too.
-fn one_point(alloc: Global, other: Turn) -> Result<Node, Fail> {
+fn one_point(rt: &impl Abort, alloc: Global, column: u8, row: u8) -> Node {
     let mut replies = Vec::new(alloc);
-    replies.push((other, Node::Use(1)))?;
-    replies.push((Turn::Pass, Node::Won))?;
-    play(alloc, Turn::Pass, Node::All(replies))
+    replies
+        .push((at(rt, column, row), Node::Use(1)))
+        .expect(rt, "memory");
+    replies.push((Turn::Pass, Node::Won)).expect(rt, "memory");
+    play(rt, alloc, Turn::Pass, Node::All(replies))
 }
 
-fn meeting(alloc: Global, rt: &impl Abort) -> Result<Certificate, Fail> {
+fn meeting(alloc: Global, rt: &impl Abort) -> Certificate {
     let mut passed = Vec::new(alloc);
-    passed.push((Turn::Pass, Node::Won))?;
+    passed.push((Turn::Pass, Node::Won)).expect(rt, "memory");
     let mut lemmas = Vec::new(alloc);
-    lemmas.push(Lemma {
-        mover: Colour::White,
-        passes: 0,
-        root: colouring(rt, 3, "O......XX"),
-        had: Vec::new(alloc),
-        absent: Vec::new(alloc),
-        body: play(alloc, Turn::Pass, Node::All(passed))?,
-    })?;
-    let (left, right) = (at(rt, 1, 2), at(rt, 2, 2));
+    lemmas
+        .push(Lemma {
+            mover: Colour::White,
+            passes: 0,
+            root: colouring(rt, 3, "O......XX"),
+            had: Vec::new(alloc),
+            absent: Vec::new(alloc),
+            body: play(rt, alloc, Turn::Pass, Node::All(passed)),
+        })
+        .expect(rt, "memory");
     let mut replies = Vec::new(alloc);
-    replies.push((left, one_point(alloc, right)?))?;
-    replies.push((right, one_point(alloc, left)?))?;
-    replies.push((Turn::Pass, play(alloc, Turn::Pass, Node::Won)?))?;
-    Ok(claim(rt, Colour::White, lemmas, Node::All(replies)))
+    replies
+        .push((at(rt, 1, 2), one_point(rt, alloc, 2, 2)))
+        .expect(rt, "memory");
+    replies
+        .push((at(rt, 2, 2), one_point(rt, alloc, 1, 2)))
+        .expect(rt, "memory");
+    replies
+        .push((Turn::Pass, play(rt, alloc, Turn::Pass, Node::Won)))
+        .expect(rt, "memory");
+    claim(rt, Colour::White, lemmas, Node::All(replies))
 }
 
-fn written(alloc: Global, certificate: &Certificate) -> Result<Vec<u8>, Fail> {
+fn written(rt: &impl Abort, alloc: Global, certificate: &Certificate) -> Vec<u8> {
     let mut out = Vec::new(alloc);
-    write_cert(certificate, &mut out)?;
-    Ok(out)
+    write_cert(certificate, &mut out).expect(rt, "memory");
+    out
 }
 
 /// The lines that the source gives before it ends or fails, and whether it failed.
-fn taken<S: NodeSource>(alloc: Global, source: &mut S) -> Result<(Vec<Line>, bool), Fail> {
+fn taken<S: NodeSource>(rt: &impl Abort, alloc: Global, source: &mut S) -> (Vec<Line>, bool) {
     let mut lines = Vec::new(alloc);
     for _ in 0..10_000 {
         match source.next() {
-            Ok(Some(line)) => lines.push(line)?,
-            Ok(None) => return Ok((lines, false)),
-            Err(_) => return Ok((lines, true)),
+            Ok(Some(line)) => lines.push(line).expect(rt, "memory"),
+            Ok(None) => return (lines, false),
+            Err(_) => return (lines, true),
         }
     }
-    Ok((lines, true))
+    (lines, true)
 }
 
 #[test]
-fn writes_the_worked_claims(rt: HostRuntime) -> Result<(), Fail> {
+fn writes_the_worked_claims(rt: HostRuntime) {
     let alloc = rt.alloc();
     expect_bytes(
         &rt,
-        written(alloc, &shared(alloc, &rt)?)?.as_slice(),
+        written(&rt, alloc, &shared(alloc, &rt)).as_slice(),
         SHARED.as_bytes(),
     );
     expect_bytes(
         &rt,
-        written(alloc, &answered(alloc, &rt)?)?.as_slice(),
+        written(&rt, alloc, &answered(alloc, &rt)).as_slice(),
         ANSWERED.as_bytes(),
     );
     expect_bytes(
         &rt,
-        written(alloc, &meeting(alloc, &rt)?)?.as_slice(),
+        written(&rt, alloc, &meeting(alloc, &rt)).as_slice(),
         MEETING.as_bytes(),
     );
     let plain = claim(
         &rt,
         Colour::Black,
         Vec::new(alloc),
-        play(alloc, at(&rt, 1, 0), Node::Won)?,
+        play(&rt, alloc, at(&rt, 1, 0), Node::Won),
     );
     expect_bytes(
         &rt,
-        written(alloc, &plain)?.as_slice(),
+        written(&rt, alloc, &plain).as_slice(),
         b"tsucert 1 3 B\nmain\nplay ba\nwon\nend\n".as_slice(),
     );
-    Ok(())
 }
 
 #[test]
-fn walks_the_lines_of_the_text(rt: HostRuntime) -> Result<(), Fail> {
+fn walks_the_lines_of_the_text(rt: HostRuntime) {
     let alloc = rt.alloc();
     let claims = [
-        (shared(alloc, &rt)?, SHARED),
-        (answered(alloc, &rt)?, ANSWERED),
-        (meeting(alloc, &rt)?, MEETING),
+        (shared(alloc, &rt), SHARED),
+        (answered(alloc, &rt), ANSWERED),
+        (meeting(alloc, &rt), MEETING),
     ];
     for (certificate, text) in &claims {
         let mut held = HeldSource::new(alloc, certificate);
         let mut spelled = ReaderSource::new(certificate.size, text.as_bytes(), b"".as_slice());
         expect_same(&rt, NodeSource::size(&held).rows(), 3);
         expect_number(&rt, NodeSource::line_number(&held), 0);
-        let (walked, walk_failed) = taken(alloc, &mut held)?;
-        let (read, read_failed) = taken(alloc, &mut spelled)?;
+        let (walked, walk_failed) = taken(&rt, alloc, &mut held);
+        let (read, read_failed) = taken(&rt, alloc, &mut spelled);
         expect_that(&rt, walked.as_slice() == read.as_slice());
         expect_that(&rt, !walk_failed && !read_failed);
         expect_number(&rt, NodeSource::line_number(&held), read.len() as u64);
     }
-    Ok(())
 }
 
 #[test]
-fn refuses_what_has_no_spelling(rt: HostRuntime) -> Result<(), Fail> {
+fn refuses_what_has_no_spelling(rt: HostRuntime) {
     let alloc = rt.alloc();
     let unspelled = [
         claim(
             &rt,
             Colour::Black,
             Vec::new(alloc),
-            play(alloc, at(&rt, 3, 0), Node::Won)?,
+            play(&rt, alloc, at(&rt, 3, 0), Node::Won),
         ),
         claim(&rt, Colour::Black, Vec::new(alloc), Node::Use(0)),
         claim(&rt, Colour::Black, Vec::new(alloc), Node::Use(100_000_000)),
@@ -221,30 +228,28 @@ fn refuses_what_has_no_spelling(rt: HostRuntime) -> Result<(), Fail> {
         expect_that(&rt, matches!(held.next(), Err(SourceFault::Malformed)));
         expect_number(&rt, held.line_number(), 3);
     }
-    Ok(())
 }
 
 #[test]
-fn lemmas_may_have_no_spelling(rt: HostRuntime) -> Result<(), Fail> {
+fn lemmas_may_have_no_spelling(rt: HostRuntime) {
     let alloc = rt.alloc();
     let listed = [colouring(&rt, 3, ".XOXO...."), colouring(&rt, 2, "....")];
-    let wide = one_lemma(alloc, &rt, 0, &listed)?;
+    let wide = one_lemma(alloc, &rt, 0, &listed);
     expect_refusal(
         &rt,
         write_cert(&wide, &mut Vec::new(alloc)),
         Err(CertWrite::NoSpelling),
     );
-    let (lines, failed) = taken(alloc, &mut HeldSource::new(alloc, &wide))?;
+    let (lines, failed) = taken(&rt, alloc, &mut HeldSource::new(alloc, &wide));
     expect_that(&rt, failed && lines.len() == 3);
-    let passes = one_lemma(alloc, &rt, 2, &[])?;
+    let passes = one_lemma(alloc, &rt, 2, &[]);
     expect_refusal(
         &rt,
         write_cert(&passes, &mut Vec::new(alloc)),
         Err(CertWrite::NoSpelling),
     );
-    let (lines, failed) = taken(alloc, &mut HeldSource::new(alloc, &passes))?;
+    let (lines, failed) = taken(&rt, alloc, &mut HeldSource::new(alloc, &passes));
     expect_that(&rt, failed && lines.len() == 1);
-    Ok(())
 }
 
 /// A writer that takes some bytes at a time, and then fails.
@@ -274,9 +279,9 @@ impl io::Write for Narrow {
 }
 
 #[test]
-fn a_failed_write_leaves_a_front(rt: HostRuntime) -> Result<(), Fail> {
+fn a_failed_write_leaves_a_front(rt: HostRuntime) {
     let alloc = rt.alloc();
-    let certificate = meeting(alloc, &rt)?;
+    let certificate = meeting(alloc, &rt);
     for room in 0..MEETING.len() + 1 {
         let mut writer = Narrow {
             taken: Vec::new(alloc),
@@ -287,52 +292,58 @@ fn a_failed_write_leaves_a_front(rt: HostRuntime) -> Result<(), Fail> {
         expect_same(&rt, result.is_ok(), room == MEETING.len());
         expect_bytes(&rt, writer.taken.as_slice(), &MEETING.as_bytes()[..room]);
     }
-    Ok(())
 }
 
 #[test]
-fn trees_may_be_deep(rt: HostRuntime) -> Result<(), Fail> {
+fn trees_may_be_deep(rt: HostRuntime) {
     let alloc = rt.alloc();
     let mut tree = Node::Won;
     let mut body = Vec::new(alloc);
     for _ in 0..999 {
         let mut replies = Vec::new(alloc);
-        replies.push((Turn::Pass, play(alloc, Turn::Pass, tree)?))?;
+        replies
+            .push((Turn::Pass, play(&rt, alloc, Turn::Pass, tree)))
+            .expect(&rt, "memory");
         tree = Node::All(replies);
-        body.extend_from_slice(b"all 1\nreply pass\nplay pass\n")?;
+        body.extend_from_slice(b"all 1\nreply pass\nplay pass\n")
+            .expect(&rt, "memory");
     }
     let mut text = Vec::new(alloc);
-    text.extend_from_slice(b"tsucert 1 3 B\nmain\n")?;
-    text.extend_from_slice(body.as_slice())?;
-    text.extend_from_slice(b"won\nend\n")?;
+    text.extend_from_slice(b"tsucert 1 3 B\nmain\n")
+        .expect(&rt, "memory");
+    text.extend_from_slice(body.as_slice())
+        .expect(&rt, "memory");
+    text.extend_from_slice(b"won\nend\n").expect(&rt, "memory");
     let certificate = claim(&rt, Colour::Black, Vec::new(alloc), tree);
     expect_that(
         &rt,
-        written(alloc, &certificate)?.as_slice() == text.as_slice(),
+        written(&rt, alloc, &certificate).as_slice() == text.as_slice(),
     );
-    let (lines, failed) = taken(alloc, &mut HeldSource::new(alloc, &certificate))?;
+    let (lines, failed) = taken(&rt, alloc, &mut HeldSource::new(alloc, &certificate));
     expect_that(&rt, !failed && lines.len() == 3 * 999 + 4);
-    Ok(())
 }
 
 #[test]
-fn faults_say_what_they_are(rt: HostRuntime) -> Result<(), Fail> {
+fn faults_say_what_they_are(rt: HostRuntime) {
     let alloc = rt.alloc();
     expect_text(
         &rt,
-        format!(in alloc; "{}", CertWrite::Write)?.as_str(),
+        format!(in alloc; "{}", CertWrite::Write)
+            .expect(&rt, "memory")
+            .as_str(),
         "write",
     );
     expect_text(
         &rt,
-        format!(in alloc; "{}", CertWrite::NoSpelling)?.as_str(),
+        format!(in alloc; "{}", CertWrite::NoSpelling)
+            .expect(&rt, "memory")
+            .as_str(),
         "no spelling",
     );
-    Ok(())
 }
 
 #[test]
-fn reads_back_what_is_written(rt: HostRuntime) -> Result<(), Fail> {
+fn reads_back_what_is_written(rt: HostRuntime) {
     let alloc = rt.alloc();
     let texts = [
         SHARED,
@@ -345,18 +356,17 @@ fn reads_back_what_is_written(rt: HostRuntime) -> Result<(), Fail> {
         "tsucert 1 3 W\nmain\nuse 99999999\nend\n",
     ];
     for text in &texts {
-        let certificate = read_cert(alloc, size_of(&rt, 3), text.as_bytes())?;
+        let certificate = read_cert(alloc, size_of(&rt, 3), text.as_bytes()).expect(&rt, "a claim");
         expect_bytes(
             &rt,
-            written(alloc, &certificate)?.as_slice(),
+            written(&rt, alloc, &certificate).as_slice(),
             text.as_bytes(),
         );
     }
-    Ok(())
 }
 
 #[test]
-fn reads_no_other_bytes(rt: HostRuntime) -> Result<(), Fail> {
+fn reads_no_other_bytes(rt: HostRuntime) {
     let alloc = rt.alloc();
     let texts = [
         "",
@@ -389,55 +399,54 @@ fn reads_no_other_bytes(rt: HostRuntime) -> Result<(), Fail> {
         let read = read_cert(alloc, size_of(&rt, 3), text.as_bytes());
         expect_that(&rt, matches!(read, Err(SourceFault::Malformed)));
     }
-    Ok(())
 }
 
 /// A claim of so many turns one after another.
-fn line_of_play(alloc: Global, turns: usize) -> Result<Vec<u8>, Fail> {
-    let mut text = b"tsucert 1 3 B\nmain\n".to_vec(alloc)?;
+fn line_of_play(rt: &impl Abort, alloc: Global, turns: usize) -> Vec<u8> {
+    let mut text = b"tsucert 1 3 B\nmain\n".to_vec(alloc).expect(rt, "memory");
     for _ in 0..turns {
-        text.extend_from_slice(b"play pass\n")?;
+        text.extend_from_slice(b"play pass\n").expect(rt, "memory");
     }
-    text.extend_from_slice(b"won\nend\n")?;
-    Ok(text)
+    text.extend_from_slice(b"won\nend\n").expect(rt, "memory");
+    text
 }
 
 #[test]
-fn reads_as_deep_as_a_claim_may_be(rt: HostRuntime) -> Result<(), Fail> {
+fn reads_as_deep_as_a_claim_may_be(rt: HostRuntime) {
     let alloc = rt.alloc();
-    let deepest = line_of_play(alloc, 1_999)?;
-    let certificate = read_cert(alloc, size_of(&rt, 3), deepest.as_slice())?;
+    let deepest = line_of_play(&rt, alloc, 1_999);
+    let certificate = read_cert(alloc, size_of(&rt, 3), deepest.as_slice()).expect(&rt, "a claim");
     expect_that(
         &rt,
-        written(alloc, &certificate)?.as_slice() == deepest.as_slice(),
+        written(&rt, alloc, &certificate).as_slice() == deepest.as_slice(),
     );
-    let deeper = line_of_play(alloc, 2_000)?;
+    let deeper = line_of_play(&rt, alloc, 2_000);
     let read = read_cert(alloc, size_of(&rt, 3), deeper.as_slice());
     expect_that(&rt, matches!(read, Err(SourceFault::Malformed)));
-    Ok(())
 }
 
 /// A claim of so many lemmas.
-fn many_lemmas(alloc: Global, lemmas: usize) -> Result<Vec<u8>, Fail> {
-    let mut text = b"tsucert 1 1 B\n".to_vec(alloc)?;
+fn many_lemmas(rt: &impl Abort, alloc: Global, lemmas: usize) -> Vec<u8> {
+    let mut text = b"tsucert 1 1 B\n".to_vec(alloc).expect(rt, "memory");
     for _ in 0..lemmas {
-        text.extend_from_slice(b"lemma B 0 .\nwon\nend\n")?;
+        text.extend_from_slice(b"lemma B 0 .\nwon\nend\n")
+            .expect(rt, "memory");
     }
-    text.extend_from_slice(b"main\nwon\nend\n")?;
-    Ok(text)
+    text.extend_from_slice(b"main\nwon\nend\n")
+        .expect(rt, "memory");
+    text
 }
 
 #[test]
-fn reads_as_many_lemmas_as_a_claim_may_have(rt: HostRuntime) -> Result<(), Fail> {
+fn reads_as_many_lemmas_as_a_claim_may_have(rt: HostRuntime) {
     let alloc = rt.alloc();
-    let most = many_lemmas(alloc, 65_535)?;
-    let certificate = read_cert(alloc, size_of(&rt, 1), most.as_slice())?;
+    let most = many_lemmas(&rt, alloc, 65_535);
+    let certificate = read_cert(alloc, size_of(&rt, 1), most.as_slice()).expect(&rt, "a claim");
     expect_that(
         &rt,
-        written(alloc, &certificate)?.as_slice() == most.as_slice(),
+        written(&rt, alloc, &certificate).as_slice() == most.as_slice(),
     );
-    let more = many_lemmas(alloc, 65_536)?;
+    let more = many_lemmas(&rt, alloc, 65_536);
     let read = read_cert(alloc, size_of(&rt, 1), more.as_slice());
     expect_that(&rt, matches!(read, Err(SourceFault::Malformed)));
-    Ok(())
 }

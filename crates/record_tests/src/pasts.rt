@@ -5,7 +5,6 @@ use go_points::{Colour, Colouring, Size, Turn};
 use proof_cert::*;
 use std::alloc::Global;
 use std::process::Abort;
-use std::test::Fail;
 
 const NEEDED: &str =
     "tsucert 2 3 W\nlemma B 0 O.OXO....\nhad .XOXO....\nall 1\nreply pass\nplay pass\nwon\nend\nmain\nuse 1\nend\n";
@@ -29,60 +28,72 @@ fn of_lists(
     version: Version,
     had: &[Colouring],
     absent: &[Colouring],
-) -> Result<Certificate, Fail> {
+) -> Certificate {
     let mut replies = Vec::new(alloc);
-    replies.push((
-        Turn::Pass,
-        Node::Play(Turn::Pass, Box::new(alloc, Node::Won)?),
-    ))?;
+    replies
+        .push((
+            Turn::Pass,
+            Node::Play(Turn::Pass, Box::new(alloc, Node::Won).expect(rt, "memory")),
+        ))
+        .expect(rt, "memory");
     let mut lemmas = Vec::new(alloc);
-    lemmas.push(Lemma {
-        mover: Colour::Black,
-        passes: 0,
-        root: colouring(rt, "O.OXO...."),
-        had: had.to_vec(alloc)?,
-        absent: absent.to_vec(alloc)?,
-        body: Node::All(replies),
-    })?;
-    Ok(Certificate {
+    lemmas
+        .push(Lemma {
+            mover: Colour::Black,
+            passes: 0,
+            root: colouring(rt, "O.OXO...."),
+            had: had.to_vec(alloc).expect(rt, "memory"),
+            absent: absent.to_vec(alloc).expect(rt, "memory"),
+            body: Node::All(replies),
+        })
+        .expect(rt, "memory");
+    Certificate {
         version,
         size: three(rt),
         winner: Colour::White,
         lemmas,
         main: Node::Use(1),
-    })
+    }
 }
 
-fn written(alloc: Global, certificate: &Certificate) -> Result<Vec<u8>, Fail> {
+fn written(rt: &impl Abort, alloc: Global, certificate: &Certificate) -> Vec<u8> {
     let mut out = Vec::new(alloc);
-    write_cert(certificate, &mut out)?;
-    Ok(out)
+    write_cert(certificate, &mut out).expect(rt, "memory");
+    out
 }
 
 #[test]
-fn writes_what_must_have_occurred_before_what_must_not(rt: HostRuntime) -> Result<(), Fail> {
+fn writes_what_must_have_occurred_before_what_must_not(rt: HostRuntime) {
     let alloc = rt.alloc();
     let needed = [colouring(&rt, ".XOXO....")];
-    let one = of_lists(alloc, &rt, Version::Two, &needed, &[])?;
-    expect_that(&rt, written(alloc, &one)?.as_slice() == NEEDED.as_bytes());
+    let one = of_lists(alloc, &rt, Version::Two, &needed, &[]);
+    expect_that(
+        &rt,
+        written(&rt, alloc, &one).as_slice() == NEEDED.as_bytes(),
+    );
     let had = [colouring(&rt, "........."), colouring(&rt, "O........")];
     let absent = [colouring(&rt, "X........")];
-    let both = of_lists(alloc, &rt, Version::Two, &had, &absent)?;
+    let both = of_lists(alloc, &rt, Version::Two, &had, &absent);
     let text =
         b"tsucert 2 3 W\nlemma B 0 O.OXO....\nhad .........\nhad O........\nnot X........\nall 1\nreply pass\nplay pass\nwon\nend\nmain\nuse 1\nend\n";
-    expect_that(&rt, written(alloc, &both)?.as_slice() == text.as_slice());
-    let none = of_lists(alloc, &rt, Version::Two, &[], &[])?;
+    expect_that(
+        &rt,
+        written(&rt, alloc, &both).as_slice() == text.as_slice(),
+    );
+    let none = of_lists(alloc, &rt, Version::Two, &[], &[]);
     let text =
         b"tsucert 2 3 W\nlemma B 0 O.OXO....\nall 1\nreply pass\nplay pass\nwon\nend\nmain\nuse 1\nend\n";
-    expect_that(&rt, written(alloc, &none)?.as_slice() == text.as_slice());
-    Ok(())
+    expect_that(
+        &rt,
+        written(&rt, alloc, &none).as_slice() == text.as_slice(),
+    );
 }
 
 #[test]
-fn version_one_has_no_line_for_what_must_have_occurred(rt: HostRuntime) -> Result<(), Fail> {
+fn version_one_has_no_line_for_what_must_have_occurred(rt: HostRuntime) {
     let alloc = rt.alloc();
     let needed = [colouring(&rt, ".XOXO....")];
-    let old = of_lists(alloc, &rt, Version::One, &needed, &[])?;
+    let old = of_lists(alloc, &rt, Version::One, &needed, &[]);
     let mut out = Vec::new(alloc);
     expect_refusal(&rt, write_cert(&old, &mut out), Err(CertWrite::NoSpelling));
     expect_that(&rt, out.is_empty());
@@ -102,25 +113,23 @@ fn version_one_has_no_line_for_what_must_have_occurred(rt: HostRuntime) -> Resul
     expect_that(&rt, matches!(held.next(), Err(SourceFault::Malformed)));
     expect_that(&rt, matches!(held.next(), Err(SourceFault::Malformed)));
     expect_number(&rt, held.line_number(), 3);
-    Ok(())
 }
 
 #[test]
-fn what_must_have_occurred_is_of_the_size(rt: HostRuntime) -> Result<(), Fail> {
+fn what_must_have_occurred_is_of_the_size(rt: HostRuntime) {
     let alloc = rt.alloc();
     let two = Size::new(2).expect(&rt, "a size");
     let small = [Colouring::from_text(two, b"....").expect(&rt, "a colouring")];
-    let other = of_lists(alloc, &rt, Version::Two, &small, &[])?;
+    let other = of_lists(alloc, &rt, Version::Two, &small, &[]);
     expect_refusal(
         &rt,
         write_cert(&other, &mut Vec::new(alloc)),
         Err(CertWrite::NoSpelling),
     );
-    Ok(())
 }
 
 #[test]
-fn reads_what_it_writes(rt: HostRuntime) -> Result<(), Fail> {
+fn reads_what_it_writes(rt: HostRuntime) {
     let alloc = rt.alloc();
     let texts = [
         NEEDED,
@@ -130,17 +139,16 @@ fn reads_what_it_writes(rt: HostRuntime) -> Result<(), Fail> {
         "tsucert 1 3 W\nlemma B 0 O.OXO....\nnot X........\nwon\nend\nmain\nuse 1\nend\n",
     ];
     for text in &texts {
-        let certificate = read_cert(alloc, three(&rt), text.as_bytes())?;
+        let certificate = read_cert(alloc, three(&rt), text.as_bytes()).expect(&rt, "a claim");
         expect_that(
             &rt,
-            written(alloc, &certificate)?.as_slice() == text.as_bytes(),
+            written(&rt, alloc, &certificate).as_slice() == text.as_bytes(),
         );
     }
-    Ok(())
 }
 
 #[test]
-fn reads_no_such_line_elsewhere(rt: HostRuntime) -> Result<(), Fail> {
+fn reads_no_such_line_elsewhere(rt: HostRuntime) {
     let alloc = rt.alloc();
     let texts = [
         "tsucert 1 3 W\nlemma B 0 O.OXO....\nhad .XOXO....\nwon\nend\nmain\nuse 1\nend\n",
@@ -154,15 +162,14 @@ fn reads_no_such_line_elsewhere(rt: HostRuntime) -> Result<(), Fail> {
         let read = read_cert(alloc, three(&rt), text.as_bytes());
         expect_that(&rt, matches!(read, Err(SourceFault::Malformed)));
     }
-    Ok(())
 }
 
 #[test]
-fn gives_the_lines_of_its_text(rt: HostRuntime) -> Result<(), Fail> {
+fn gives_the_lines_of_its_text(rt: HostRuntime) {
     let alloc = rt.alloc();
     let needed = [colouring(&rt, ".XOXO....")];
-    let certificate = of_lists(alloc, &rt, Version::Two, &needed, &needed)?;
-    let text = written(alloc, &certificate)?;
+    let certificate = of_lists(alloc, &rt, Version::Two, &needed, &needed);
+    let text = written(&rt, alloc, &certificate);
     let mut held = HeldSource::new(alloc, &certificate);
     let mut read = ReaderSource::new(three(&rt), text.as_slice(), b"".as_slice());
     for _ in 0..12 {
@@ -172,5 +179,4 @@ fn gives_the_lines_of_its_text(rt: HostRuntime) -> Result<(), Fail> {
     }
     expect_same(&rt, held.next(), Ok(None));
     expect_same(&rt, read.next(), Ok(None));
-    Ok(())
 }

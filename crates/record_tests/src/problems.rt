@@ -5,7 +5,6 @@ use go_points::{Colour, MAX_SIZE, Size, Turn, sgf_point, to_sgf};
 use sgf_text::read_tree;
 use std::alloc::Global;
 use std::process::Abort;
-use std::test::Fail;
 use tsumego_problem::{
     ProblemFault, SingleProperty, TurnFaultCause, board_size, points_at, problem_node,
     read_problem, read_turn,
@@ -63,15 +62,15 @@ fn reads_tt_as_a_point_where_it_is_one(rt: HostRuntime) {
 }
 
 // A text with others before and after it.
-fn around(alloc: Global, before: &[u8], text: &[u8], after: &[u8]) -> Result<Vec<u8>, Fail> {
-    let mut all = before.to_vec(alloc)?;
-    all.extend_from_slice(text)?;
-    all.extend_from_slice(after)?;
-    Ok(all)
+fn around(rt: &impl Abort, alloc: Global, before: &[u8], text: &[u8], after: &[u8]) -> Vec<u8> {
+    let mut all = before.to_vec(alloc).expect(rt, "memory");
+    all.extend_from_slice(text).expect(rt, "memory");
+    all.extend_from_slice(after).expect(rt, "memory");
+    all
 }
 
 #[test]
-fn reads_sizes(rt: HostRuntime) -> Result<(), Fail> {
+fn reads_sizes(rt: HostRuntime) {
     let alloc = rt.alloc();
     let rows: [(&[u8], Option<u8>); 17] = [
         (b"9", Some(9)),
@@ -93,27 +92,30 @@ fn reads_sizes(rt: HostRuntime) -> Result<(), Fail> {
         (b"", None),
     ];
     for (value, rows_of_it) in rows {
-        let (tree, _end) = read_tree(alloc, around(alloc, b"(;SZ[", value, b"])")?.as_slice())?;
+        let (tree, _end) = read_tree(
+            alloc,
+            around(&rt, alloc, b"(;SZ[", value, b"])").as_slice(),
+        ).expect(&rt, "memory");
         let size = board_size(&tree.nodes()[0]);
         expect_same(&rt, size.map(|size| size.rows()), rows_of_it);
     }
-    Ok(())
 }
 
 // Who is to move in the problem whose node has PL with this value, after this front.
 fn mover_of(
+    rt: &impl Abort,
     alloc: Global,
     front: &[u8],
     value: &[u8],
-) -> Result<Result<Colour, ProblemFault>, Fail> {
-    let text = around(alloc, front, value, b"]TR[aa])")?;
-    let (tree, _end) = read_tree(alloc, text.as_slice())?;
-    Ok(read_problem(alloc, &tree).map(|problem| problem.mover()))
+) -> Result<Colour, ProblemFault> {
+    let text = around(rt, alloc, front, value, b"]TR[aa])");
+    let (tree, _end) = read_tree(alloc, text.as_slice()).expect(rt, "a tree");
+    read_problem(alloc, &tree).map(|problem| problem.mover())
 }
 
 // Each colour is read where it would be to move without PL, and where it would not.
 #[test]
-fn reads_colours(rt: HostRuntime) -> Result<(), Fail> {
+fn reads_colours(rt: HostRuntime) {
     let alloc = rt.alloc();
     let fronts: [&[u8]; 2] = [b"(;SZ[3]AW[aa];B[bb];PL[", b"(;SZ[3]AW[aa];W[bb];PL["];
     let rows: [(&[u8], Option<Colour>); 9] = [
@@ -133,29 +135,28 @@ fn reads_colours(rt: HostRuntime) -> Result<(), Fail> {
                 Some(colour) => Ok(colour),
                 None => Err(ProblemFault::BadColour { node: 2 }),
             };
-            expect_same(&rt, mover_of(alloc, front, value)?, wanted);
+            expect_same(&rt, mover_of(&rt, alloc, front, value), wanted);
         }
     }
-    Ok(())
 }
 
 // The places in the board of 3 by 3 of the points of AB of the first node.
-fn black_points(alloc: Global, rt: &impl Abort, text: &[u8]) -> Result<Vec<usize>, Fail> {
+fn black_points(alloc: Global, rt: &impl Abort, text: &[u8]) -> Vec<usize> {
     let size = three(rt);
-    let (tree, _end) = read_tree(alloc, text)?;
+    let (tree, _end) = read_tree(alloc, text).expect(rt, "a tree");
     let nodes = tree.nodes();
     let set = points_at(size, b"AB", &nodes[0]);
     let mut places = Vec::new(alloc);
     for number in 0..size.area() {
         if set.has(size.point_at(number)) {
-            places.push(number)?;
+            places.push(number).expect(rt, "memory");
         }
     }
-    Ok(places)
+    places
 }
 
 #[test]
-fn reads_points(rt: HostRuntime) -> Result<(), Fail> {
+fn reads_points(rt: HostRuntime) {
     let alloc = rt.alloc();
     let good: [(&[u8], &[usize]); 5] = [
         (b"(;)", &[]),
@@ -165,7 +166,7 @@ fn reads_points(rt: HostRuntime) -> Result<(), Fail> {
         (b"(;AB[aa:cc])", &[0, 1, 2, 3, 4, 5, 6, 7, 8]),
     ];
     for (text, places) in good {
-        let found = black_points(alloc, &rt, text)?;
+        let found = black_points(alloc, &rt, text);
         expect_same(&rt, found.as_slice(), places);
     }
     let bad: [&[u8]; 6] = [
@@ -177,19 +178,18 @@ fn reads_points(rt: HostRuntime) -> Result<(), Fail> {
         b"(;SZ[3]AB[tt]TR[aa])",
     ];
     for text in bad {
-        expect_that(&rt, black_points(alloc, &rt, text)?.is_empty());
-        let (tree, _end) = read_tree(alloc, text)?;
+        expect_that(&rt, black_points(alloc, &rt, text).is_empty());
+        let (tree, _end) = read_tree(alloc, text).expect(&rt, "a tree");
         expect_same(
             &rt,
             read_problem(alloc, &tree).err(),
             Some(ProblemFault::BadPoint { node: 0 }),
         );
     }
-    Ok(())
 }
 
 #[test]
-fn finds_the_problem_node(rt: HostRuntime) -> Result<(), Fail> {
+fn finds_the_problem_node(rt: HostRuntime) {
     let alloc = rt.alloc();
     let rows: [(&[u8], Option<usize>); 6] = [
         (b"(;TR[aa])", Some(0)),
@@ -200,15 +200,14 @@ fn finds_the_problem_node(rt: HostRuntime) -> Result<(), Fail> {
         (b"(;MA[aa])", None),
     ];
     for (text, number) in rows {
-        let (tree, _end) = read_tree(alloc, text)?;
+        let (tree, _end) = read_tree(alloc, text).expect(&rt, "a tree");
         expect_same(&rt, problem_node(&tree), number);
     }
-    Ok(())
 }
 
 // What is left of a record: how many colourings have occurred, which of them is present, who is to move, and the passes.
 #[test]
-fn walks_along_the_main_line(rt: HostRuntime) -> Result<(), Fail> {
+fn walks_along_the_main_line(rt: HostRuntime) {
     let alloc = rt.alloc();
     let rows: [(&[u8], usize, usize, Colour, u64); 7] = [
         (b"(;SZ[3]AW[aa]TR[aa])", 1, 0, Colour::Black, 0),
@@ -244,18 +243,17 @@ fn walks_along_the_main_line(rt: HostRuntime) -> Result<(), Fail> {
         (b"(;SZ[20]AW[aa];W[tt]TR[tt])", 2, 1, Colour::Black, 0),
     ];
     for (text, colourings, place, mover, passes) in rows {
-        let (tree, _end) = read_tree(alloc, text)?;
-        let problem = read_problem(alloc, &tree)?;
+        let (tree, _end) = read_tree(alloc, text).expect(&rt, "a tree");
+        let problem = read_problem(alloc, &tree).expect(&rt, "a problem");
         expect_count(&rt, problem.history().len(), colourings);
         expect_count(&rt, problem.place(), place);
         expect_same(&rt, problem.mover(), mover);
         expect_number(&rt, problem.passes(), passes);
     }
-    Ok(())
 }
 
 #[test]
-fn faults_have_texts(rt: HostRuntime) -> Result<(), Fail> {
+fn faults_have_texts(rt: HostRuntime) {
     let property = SingleProperty::PL;
     let cause = TurnFaultCause::Repeats { earlier: 3 };
     let rows: [(ProblemFault, &str); 7] = [
@@ -274,7 +272,12 @@ fn faults_have_texts(rt: HostRuntime) -> Result<(), Fail> {
         (ProblemFault::Memory, "out of memory"),
     ];
     for (fault, text) in rows {
-        expect_text(&rt, format!(in rt.alloc(); "{fault}")?.as_str(), text);
+        expect_text(
+            &rt,
+            format!(in rt.alloc(); "{fault}")
+                .expect(&rt, "memory")
+                .as_str(),
+            text,
+        );
     }
-    Ok(())
 }

@@ -6,7 +6,6 @@ use proof_cert::{Line, MAX_LINE, NodeSource, ReaderSource, SourceFault, Version}
 use std::io;
 use std::io::{ErrorKind, Read};
 use std::process::Abort;
-use std::test::Fail;
 
 const CLAIM: &str =
     "tsucert 1 3 B\nlemma B 0 O.OXO....\nnot .XOXO....\nplay ba\nwon\nend\nmain\nuse 1\nend\n";
@@ -132,25 +131,24 @@ fn a_reader_that_fails(rt: HostRuntime) {
 }
 
 #[test]
-fn the_longest_line(rt: HostRuntime) -> Result<(), Fail> {
+fn the_longest_line(rt: HostRuntime) {
     let size = Size::new(MAX_SIZE).expect(&rt, "a size");
     let mut text = Vec::new(rt.alloc());
-    text.extend_from_slice(b"lemma B 0 ")?;
+    text.extend_from_slice(b"lemma B 0 ").expect(&rt, "memory");
     for _ in 0..MAX_POINTS {
-        text.push(b'.')?;
+        text.push(b'.').expect(&rt, "memory");
     }
     expect_count(&rt, text.len(), 635);
     expect_count(&rt, MAX_LINE, 635);
-    let mut longer = text.clone()?;
-    text.push(b'\n')?;
+    let mut longer = text.clone().expect(&rt, "memory");
+    text.push(b'\n').expect(&rt, "memory");
     let malformed = (0, Some(SourceFault::Malformed));
     expect_feeds(&rt, count(size, longer.as_slice()), malformed);
-    longer.push(b'.')?;
+    longer.push(b'.').expect(&rt, "memory");
     expect_feeds(&rt, count(size, longer.as_slice()), malformed);
-    longer.push(b'\n')?;
+    longer.push(b'\n').expect(&rt, "memory");
     expect_feeds(&rt, count(size, text.as_slice()), (1, None));
     expect_feeds(&rt, count(size, longer.as_slice()), malformed);
-    Ok(())
 }
 
 #[test]

@@ -5,7 +5,6 @@ use sgf_text::*;
 use std::alloc::Global;
 use std::io;
 use std::process::Abort;
-use std::test::Fail;
 
 /// The fault of a text, where it has one.
 fn fault_of(alloc: Global, text: &[u8]) -> Option<SgfFault> {
@@ -17,24 +16,24 @@ fn expect_fault(rt: &impl Abort, found: Option<SgfFault>, wanted: Option<SgfFaul
 }
 
 /// The text and n copies of a piece after it.
-fn repeated(alloc: Global, front: &[u8], piece: &[u8], n: usize) -> Result<Vec<u8>, Fail> {
-    let mut text = front.to_vec(alloc)?;
+fn repeated(rt: &impl Abort, alloc: Global, front: &[u8], piece: &[u8], n: usize) -> Vec<u8> {
+    let mut text = front.to_vec(alloc).expect(rt, "memory");
     for _ in 0..n {
-        text.extend_from_slice(piece)?;
+        text.extend_from_slice(piece).expect(rt, "memory");
     }
-    Ok(text)
+    text
 }
 
 /// What the text's first tree is written as.
-fn written(alloc: Global, text: &[u8]) -> Result<Vec<u8>, Fail> {
-    let (tree, _place) = read_tree(alloc, text)?;
+fn written(rt: &impl Abort, alloc: Global, text: &[u8]) -> Vec<u8> {
+    let (tree, _place) = read_tree(alloc, text).expect(rt, "a tree");
     let mut out = Vec::new(alloc);
-    write_tree(&tree, &mut out)?;
-    Ok(out)
+    write_tree(&tree, &mut out).expect(rt, "memory");
+    out
 }
 
 #[test]
-fn reads_and_writes(rt: HostRuntime) -> Result<(), Fail> {
+fn reads_and_writes(rt: HostRuntime) {
     let alloc = rt.alloc();
     let rows: [(&[u8], &[u8]); 7] = [
         (b"(;AB[aa]AB[bb]C[a\\]b])", b"(;AB[aa][bb]C[a\\]b])"),
@@ -52,18 +51,22 @@ fn reads_and_writes(rt: HostRuntime) -> Result<(), Fail> {
         (b"((;B[aa])", b"(;B[aa])"),
     ];
     for (text, out) in rows {
-        expect_bytes(&rt, written(alloc, text)?.as_slice(), out);
-        expect_bytes(&rt, written(alloc, out)?.as_slice(), out);
+        expect_bytes(&rt, written(&rt, alloc, text).as_slice(), out);
+        expect_bytes(&rt, written(&rt, alloc, out).as_slice(), out);
     }
-    Ok(())
 }
 
 #[test]
-fn gives_the_place_behind_the_tree(rt: HostRuntime) -> Result<(), Fail> {
+fn gives_the_place_behind_the_tree(rt: HostRuntime) {
     let alloc = rt.alloc();
-    expect_count(&rt, read_tree(alloc, b"(;AB[aa]AB[bb]C[a\\]b])")?.1, 22);
-    expect_count(&rt, read_tree(alloc, b"x(;)(;)")?.1, 4);
-    Ok(())
+    expect_count(
+        &rt,
+        read_tree(alloc, b"(;AB[aa]AB[bb]C[a\\]b])")
+            .expect(&rt, "memory")
+            .1,
+        22,
+    );
+    expect_count(&rt, read_tree(alloc, b"x(;)(;)").expect(&rt, "memory").1, 4);
 }
 
 #[test]
@@ -105,112 +108,113 @@ fn cuts_off_each_front(rt: HostRuntime) {
 }
 
 #[test]
-fn keeps_the_limits(rt: HostRuntime) -> Result<(), Fail> {
+fn keeps_the_limits(rt: HostRuntime) {
     let alloc = rt.alloc();
-    let deep = repeated(alloc, b"", b"(;", 1000)?;
+    let deep = repeated(&rt, alloc, b"", b"(;", 1000);
     expect_fault(
         &rt,
         fault_of(alloc, deep.as_slice()),
         Some(SgfFault::Syntax { at: 2000 }),
     );
-    let deeper = repeated(alloc, deep.as_slice(), b"(;", 1)?;
+    let deeper = repeated(&rt, alloc, deep.as_slice(), b"(;", 1);
     expect_fault(
         &rt,
         fault_of(alloc, deeper.as_slice()),
         Some(SgfFault::TooDeep),
     );
-    let many = repeated(alloc, b"(", b";", 100_001)?;
+    let many = repeated(&rt, alloc, b"(", b";", 100_001);
     expect_fault(
         &rt,
         fault_of(alloc, many.as_slice()),
         Some(SgfFault::TooMany),
     );
-    Ok(())
 }
 
 #[test]
-fn keeps_the_limit_of_bytes(rt: HostRuntime) -> Result<(), Fail> {
+fn keeps_the_limit_of_bytes(rt: HostRuntime) {
     let alloc = rt.alloc();
     // Five bytes begin the value, so that the text has 1,048,576 bytes and is cut off there.
-    let cut = repeated(alloc, b"(;CC[", b"a", 1_048_571)?;
+    let cut = repeated(&rt, alloc, b"(;CC[", b"a", 1_048_571);
     expect_fault(
         &rt,
         fault_of(alloc, cut.as_slice()),
         Some(SgfFault::Syntax { at: 1_048_576 }),
     );
-    let long = repeated(alloc, cut.as_slice(), b"a", 1)?;
+    let long = repeated(&rt, alloc, cut.as_slice(), b"a", 1);
     expect_fault(
         &rt,
         fault_of(alloc, long.as_slice()),
         Some(SgfFault::TooLong),
     );
     // A whole tree that ends with the last byte that is read.
-    let most = repeated(alloc, b"(;CC[", b"a", 1_048_569)?;
-    let whole = repeated(alloc, most.as_slice(), b"])(;", 1)?;
-    expect_count(&rt, read_tree(alloc, whole.as_slice())?.1, 1_048_576);
+    let most = repeated(&rt, alloc, b"(;CC[", b"a", 1_048_569);
+    let whole = repeated(&rt, alloc, most.as_slice(), b"])(;", 1);
+    expect_count(
+        &rt,
+        read_tree(alloc, whole.as_slice()).expect(&rt, "a tree").1,
+        1_048_576,
+    );
     // A byte more, and the tree ends too late.
-    let more = repeated(alloc, b"(;CC[", b"a", 1_048_570)?;
-    let late = repeated(alloc, more.as_slice(), b"])", 1)?;
+    let more = repeated(&rt, alloc, b"(;CC[", b"a", 1_048_570);
+    let late = repeated(&rt, alloc, more.as_slice(), b"])", 1);
     expect_fault(
         &rt,
         fault_of(alloc, late.as_slice()),
         Some(SgfFault::TooLong),
     );
     // A ";" past the bytes that are read begins no tree.
-    let far = repeated(alloc, b"(", b" ", 1_048_575)?;
-    let none = repeated(alloc, far.as_slice(), b";)", 1)?;
+    let far = repeated(&rt, alloc, b"(", b" ", 1_048_575);
+    let none = repeated(&rt, alloc, far.as_slice(), b";)", 1);
     expect_fault(
         &rt,
         fault_of(alloc, none.as_slice()),
         Some(SgfFault::NoTree),
     );
-    Ok(())
 }
 
 #[test]
-fn holds_deep_and_long_trees(rt: HostRuntime) -> Result<(), Fail> {
+fn holds_deep_and_long_trees(rt: HostRuntime) {
     let alloc = rt.alloc();
-    let open = repeated(alloc, b"", b"(;", 1000)?;
-    let deep = repeated(alloc, open.as_slice(), b")", 1000)?;
+    let open = repeated(&rt, alloc, b"", b"(;", 1000);
+    let deep = repeated(&rt, alloc, open.as_slice(), b")", 1000);
     expect_that(
         &rt,
-        written(alloc, deep.as_slice())?.as_slice() == deep.as_slice(),
+        written(&rt, alloc, deep.as_slice()).as_slice() == deep.as_slice(),
     );
-    let nodes = repeated(alloc, b"(", b";B[aa]", 100_000)?;
-    let long = repeated(alloc, nodes.as_slice(), b")", 1)?;
+    let nodes = repeated(&rt, alloc, b"(", b";B[aa]", 100_000);
+    let long = repeated(&rt, alloc, nodes.as_slice(), b")", 1);
     expect_that(
         &rt,
-        written(alloc, long.as_slice())?.as_slice() == long.as_slice(),
+        written(&rt, alloc, long.as_slice()).as_slice() == long.as_slice(),
     );
-    Ok(())
 }
 
 /// A node with so many properties of different names, each with one empty value.
-fn many_names(alloc: Global, n: usize) -> Result<Vec<u8>, Fail> {
-    let mut text = b"(;".to_vec(alloc)?;
+fn many_names(rt: &impl Abort, alloc: Global, n: usize) -> Vec<u8> {
+    let mut text = b"(;".to_vec(alloc).expect(rt, "memory");
     for i in 0..n {
         for unit in [1, 26, 676, 17_576] {
-            text.push(b"ABCDEFGHIJKLMNOPQRSTUVWXYZ"[i / unit % 26])?;
+            text.push(b"ABCDEFGHIJKLMNOPQRSTUVWXYZ"[i / unit % 26])
+                .expect(rt, "memory");
         }
-        text.extend_from_slice(b"[]")?;
+        text.extend_from_slice(b"[]").expect(rt, "memory");
     }
-    text.push(b')')?;
-    Ok(text)
+    text.push(b')').expect(rt, "memory");
+    text
 }
 
 #[test]
-fn reads_many_names(rt: HostRuntime) -> Result<(), Fail> {
+fn reads_many_names(rt: HostRuntime) {
     let alloc = rt.alloc();
-    let text = many_names(alloc, 170_000)?;
+    let text = many_names(&rt, alloc, 170_000);
     expect_that(
         &rt,
-        written(alloc, text.as_slice())?.as_slice() == text.as_slice(),
+        written(&rt, alloc, text.as_slice()).as_slice() == text.as_slice(),
     );
-    Ok(())
 }
 
 #[test]
-fn cuts_into_tokens(rt: HostRuntime) -> Result<(), Fail> {
+fn cuts_into_tokens(rt: HostRuntime) {
     let text = b"( ;GaMe[1\\]\\\\]x!B [ab\\]";
     let wanted: [(TokenKind, usize, &[u8]); 8] = [
         (TokenKind::Open, 0, b"("),
@@ -228,7 +232,6 @@ fn cuts_into_tokens(rt: HostRuntime) -> Result<(), Fail> {
         expect_bytes(&rt, token.text, part);
     }
     expect_count(&rt, tokens(text).count(), 8);
-    Ok(())
 }
 
 /// A writer that takes some bytes at a time, and no more than so many in all.
@@ -253,10 +256,10 @@ impl io::Write for Narrow {
 }
 
 #[test]
-fn leaves_a_front_where_writing_fails(rt: HostRuntime) -> Result<(), Fail> {
+fn leaves_a_front_where_writing_fails(rt: HostRuntime) {
     let alloc = rt.alloc();
     let text = b"(;AB[aa][bb]C[a\\]b](;W[cc])(;W[ba]))";
-    let (tree, _place) = read_tree(alloc, text)?;
+    let (tree, _place) = read_tree(alloc, text).expect(&rt, "a tree");
     for room in 0..text.len() {
         let mut narrow = Narrow {
             taken: Vec::new(alloc),
@@ -273,56 +276,64 @@ fn leaves_a_front_where_writing_fails(rt: HostRuntime) -> Result<(), Fail> {
     };
     expect_same(&rt, write_tree(&tree, &mut narrow), Ok(()));
     expect_bytes(&rt, narrow.taken.as_slice(), text.as_slice());
-    Ok(())
 }
 
-fn property(alloc: Global, ident: &[u8], values: &[&[u8]]) -> Result<Property, Fail> {
+fn property(rt: &impl Abort, alloc: Global, ident: &[u8], values: &[&[u8]]) -> Property {
     let mut all = Vec::new(alloc);
     for value in values {
-        all.push(Bytes::from_vec(value.to_vec(alloc)?))?;
+        all.push(Bytes::from_vec(value.to_vec(alloc).expect(rt, "memory")))
+            .expect(rt, "memory");
     }
-    Ok(Property {
-        ident: Bytes::from_vec(ident.to_vec(alloc)?),
+    Property {
+        ident: Bytes::from_vec(ident.to_vec(alloc).expect(rt, "memory")),
         values: Values::from_vec(all),
-    })
+    }
 }
 
-fn is_node_of(alloc: Global, ident: &[u8], values: &[&[u8]]) -> Result<bool, Fail> {
+fn is_node_of(rt: &impl Abort, alloc: Global, ident: &[u8], values: &[&[u8]]) -> bool {
     let mut list = Vec::new(alloc);
-    list.push(property(alloc, b"AB", &[b"aa", b"a\\]"])?)?;
-    list.push(property(alloc, ident, values)?)?;
-    Ok(SgfNode::new(list).is_some())
+    list.push(property(rt, alloc, b"AB", &[b"aa", b"a\\]"]))
+        .expect(rt, "memory");
+    list.push(property(rt, alloc, ident, values))
+        .expect(rt, "memory");
+    SgfNode::new(list).is_some()
 }
 
 #[test]
-fn makes_nodes_of_good_properties_alone(rt: HostRuntime) -> Result<(), Fail> {
+fn makes_nodes_of_good_properties_alone(rt: HostRuntime) {
     let alloc = rt.alloc();
-    expect_that(&rt, is_node_of(alloc, b"A", &[b""])?);
-    expect_that(&rt, is_node_of(alloc, b"C", &[b"x\\\\", b"[("])?);
-    expect_that(&rt, !is_node_of(alloc, b"AB", &[b"cc"])?);
-    expect_that(&rt, !is_node_of(alloc, b"", &[b"cc"])?);
-    expect_that(&rt, !is_node_of(alloc, b"Ab", &[b"cc"])?);
-    expect_that(&rt, !is_node_of(alloc, b"C", &[])?);
-    expect_that(&rt, !is_node_of(alloc, b"C", &[b"a]"])?);
-    expect_that(&rt, !is_node_of(alloc, b"C", &[b"a\\"])?);
+    expect_that(&rt, is_node_of(&rt, alloc, b"A", &[b""]));
+    expect_that(&rt, is_node_of(&rt, alloc, b"C", &[b"x\\\\", b"[("]));
+    expect_that(&rt, !is_node_of(&rt, alloc, b"AB", &[b"cc"]));
+    expect_that(&rt, !is_node_of(&rt, alloc, b"", &[b"cc"]));
+    expect_that(&rt, !is_node_of(&rt, alloc, b"Ab", &[b"cc"]));
+    expect_that(&rt, !is_node_of(&rt, alloc, b"C", &[]));
+    expect_that(&rt, !is_node_of(&rt, alloc, b"C", &[b"a]"]));
+    expect_that(&rt, !is_node_of(&rt, alloc, b"C", &[b"a\\"]));
     expect_that(&rt, SgfNode::new(Vec::new(alloc)).is_some());
-    Ok(())
 }
 
 #[test]
-fn makes_trees_with_a_node_alone(rt: HostRuntime) -> Result<(), Fail> {
+fn makes_trees_with_a_node_alone(rt: HostRuntime) {
     let alloc = rt.alloc();
     expect_that(&rt, Tree::new(Vec::new(alloc), Vec::new(alloc)).is_none());
     let mut nodes = Vec::new(alloc);
-    nodes.push(SgfNode::new(Vec::new(alloc)).ok_or("a node")?)?;
-    let tree = Tree::new(nodes, Vec::new(alloc)).ok_or("a tree")?;
+    nodes
+        .push(
+            SgfNode::new(Vec::new(alloc))
+                .ok_or("a node")
+                .expect(&rt, "memory"),
+        )
+        .expect(&rt, "memory");
+    let tree = Tree::new(nodes, Vec::new(alloc))
+        .ok_or("a tree")
+        .expect(&rt, "memory");
     expect_count(&rt, tree.nodes().len(), 1);
     expect_count(&rt, tree.children().len(), 0);
-    Ok(())
 }
 
 #[test]
-fn prints_faults(rt: HostRuntime) -> Result<(), Fail> {
+fn prints_faults(rt: HostRuntime) {
     let alloc = rt.alloc();
     let rows = [
         (SgfFault::NoTree, "no tree"),
@@ -333,12 +344,17 @@ fn prints_faults(rt: HostRuntime) -> Result<(), Fail> {
         (SgfFault::Memory, "memory"),
     ];
     for (fault, text) in rows {
-        expect_text(&rt, format!(in alloc; "{fault}")?.as_str(), text);
+        expect_text(
+            &rt,
+            format!(in alloc; "{fault}").expect(&rt, "memory").as_str(),
+            text,
+        );
     }
     expect_text(
         &rt,
-        format!(in alloc; "{}", WriteFault::Write)?.as_str(),
+        format!(in alloc; "{}", WriteFault::Write)
+            .expect(&rt, "memory")
+            .as_str(),
         "write",
     );
-    Ok(())
 }

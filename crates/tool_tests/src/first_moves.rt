@@ -3,6 +3,7 @@
 //! is the one turn that wins; of each of the 34 turns another solver, which shares no code with this one, says the same.
 //! Then what is written for problems so small that it was worked out by hand.
 
+use crate::expect::expect_written;
 use first_turns::run;
 use std::alloc::Global;
 use std::process::Abort;
@@ -24,12 +25,11 @@ fn gives_with_notes(
     notes: &str,
 ) {
     let mut reader = input.as_bytes();
-    let mut writer = Vec::new(alloc);
+    let mut written = Vec::new(alloc);
     let mut noted = Vec::new(alloc);
-    let ended = run(alloc, words, &mut reader, &mut writer, &mut noted);
-    let said = String::from_utf8(writer).ok().expect(rt, "a text");
-    assert_eq!(rt; said.as_str(), text);
-    assert_eq!(rt; noted.as_slice(), notes.as_bytes());
+    let ended = run(alloc, words, &mut reader, &mut written, &mut noted);
+    expect_written(rt, written, text);
+    expect_written(rt, noted, notes);
     assert_eq!(rt; ended, status);
 }
 

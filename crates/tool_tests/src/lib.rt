@@ -2,6 +2,8 @@
 #![tactic(auto)]
 
 #[cfg(test)]
+mod expect;
+#[cfg(test)]
 mod first_moves;
 #[cfg(test)]
 mod pages;

@@ -1,5 +1,6 @@
 //! What is copied, read and written, over memory.
 
+use crate::expect::expect_written;
 use sgf_text::read_tree;
 use std::alloc::AllocError;
 use tool_parts::{Output, Status, copy_tree, read_whole, write_output};
@@ -16,9 +17,8 @@ fn a_copy_has_the_same_text(rt: HostRuntime) {
     let mut writer = Vec::new(alloc);
     let ended = write_output(&mut writer, Ok(Output::Record(copy)));
     assert_eq!(rt; ended, Status::Answered);
-    let said = String::from_utf8(writer).ok().expect(&rt, "a text");
     let wanted = format!(in alloc; "{RECORD}\n").ok().expect(&rt, "memory");
-    assert_eq!(rt; said.as_str(), wanted.as_str());
+    expect_written(&rt, writer, wanted.as_str());
 }
 
 #[test]

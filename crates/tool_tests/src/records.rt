@@ -1,12 +1,13 @@
 //! Files in the forms that editors and servers write, and what is made of them. The records that are wanted are written
 //! by hand from the rules of the formats.
 
+use crate::expect::expect_written;
 use record_tools::run;
 use std::alloc::Global;
 use std::process::Abort;
 use tool_parts::Status;
 
-// What these words and this input give.
+// What these words and this input give, with nothing on standard error.
 pub(crate) fn gives(
     rt: &impl Abort,
     alloc: Global,
@@ -16,11 +17,11 @@ pub(crate) fn gives(
     text: &str,
 ) {
     let mut reader = input.as_bytes();
-    let mut writer = Vec::new(alloc);
-    let mut notes = Vec::new(alloc);
-    let ended = run(alloc, words, &mut reader, &mut writer, &mut notes);
-    let said = String::from_utf8(writer).ok().expect(rt, "a text");
-    assert_eq!(rt; said.as_str(), text);
+    let mut written = Vec::new(alloc);
+    let mut noted = Vec::new(alloc);
+    let ended = run(alloc, words, &mut reader, &mut written, &mut noted);
+    expect_written(rt, written, text);
+    expect_written(rt, noted, "");
     assert_eq!(rt; ended, status);
 }
 

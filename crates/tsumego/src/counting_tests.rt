@@ -2,7 +2,7 @@
 
 use crate::counting::Counting;
 use crate::devices::Faulty;
-use crate::expect::expect_same;
+use crate::expect::{expect_number, expect_status, expect_text};
 use crate::run::run;
 use std::alloc::{AllocError, Global};
 use std::io::{ErrorKind, Read};
@@ -31,14 +31,14 @@ fn reads(rt: &impl Abort, alloc: Global, interrupts: u64, status: Status, text: 
         kind: ErrorKind::Interrupted,
     });
     let mut writer = Counting::new(Vec::new(alloc));
-    expect_same(
+    expect_status(
         rt,
         run(alloc, &["tsumego", "check"], &mut reader, &mut writer),
         status,
     );
-    expect_same(rt, writer.inner.as_slice(), text.as_bytes());
-    expect_same(rt, reader.faults(), 0);
-    expect_same(rt, u64::from(reader.interrupts()), interrupts);
+    expect_text(rt, writer.inner.as_slice(), text);
+    expect_number(rt, reader.faults(), 0);
+    expect_number(rt, u64::from(reader.interrupts()), interrupts);
 }
 
 #[test]
@@ -57,14 +57,14 @@ fn writes(rt: &impl Abort, alloc: Global, interrupts: u64, status: Status, text:
         failing: calls.as_slice(),
         kind: ErrorKind::Interrupted,
     });
-    expect_same(
+    expect_status(
         rt,
         run(alloc, &["tsumego", "check"], &mut reader, &mut writer),
         status,
     );
-    expect_same(rt, writer.inner.inner.as_slice(), text.as_bytes());
-    expect_same(rt, writer.faults(), 0);
-    expect_same(rt, u64::from(writer.interrupts()), interrupts);
+    expect_text(rt, writer.inner.inner.as_slice(), text);
+    expect_number(rt, writer.faults(), 0);
+    expect_number(rt, u64::from(writer.interrupts()), interrupts);
 }
 
 #[test]
@@ -84,7 +84,7 @@ fn each_failed_call_is_counted_once(rt: HostRuntime) {
     let mut byte = [0u8; 1];
     for wanted in [0u64, 1, 2, 2, 2] {
         let _result = reader.read(&mut byte);
-        expect_same(&rt, reader.faults(), wanted);
-        expect_same(&rt, reader.interrupts(), 0);
+        expect_number(&rt, reader.faults(), wanted);
+        expect_number(&rt, u64::from(reader.interrupts()), 0);
     }
 }

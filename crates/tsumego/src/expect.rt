@@ -1,13 +1,23 @@
 //! What a test expects, said by calls: a macro's branch is proved wherever it stands, and proofs of tests took two to four
-//! times as long.
+//! times as long. A call of a function with a type parameter costs ten times one of a function without.
 
 ghost use Rattle.std.specs.Prelude.{IsTrue};
 
-use std::fmt::Debug;
 use std::process::Abort;
+use tsumego_replies::Status;
 
-/// Both are the same.
-pub(crate) fn expect_same<T: PartialEq + Debug + Drop>(rt: &impl Abort, found: T, wanted: T) {
+/// The program has ended so.
+pub(crate) fn expect_status(rt: &impl Abort, found: Status, wanted: Status) {
+    assert_eq!(rt; found, wanted);
+}
+
+/// This text was written.
+pub(crate) fn expect_text(rt: &impl Abort, found: &[u8], wanted: &str) {
+    assert_eq!(rt; found, wanted.as_bytes());
+}
+
+/// Both are the same number.
+pub(crate) fn expect_number(rt: &impl Abort, found: u64, wanted: u64) {
     assert_eq!(rt; found, wanted);
 }
 

@@ -2,7 +2,7 @@
 
 use crate::counting::Counting;
 use crate::devices::Faulty;
-use crate::expect::expect_same;
+use crate::expect::{expect_number, expect_status, expect_text};
 use crate::run::run;
 use crate::tests::answers;
 use std::alloc::Global;
@@ -82,14 +82,14 @@ fn fails(
         failing: writes,
         kind: ErrorKind::Other,
     });
-    expect_same(
+    expect_status(
         rt,
         run(alloc, &["tsumego", "gtp"], &mut reader, &mut writer),
         Status::Failed,
     );
-    expect_same(rt, writer.inner.inner.as_slice(), text.as_bytes());
-    expect_same(rt, reader.faults(), faults.0);
-    expect_same(rt, writer.faults(), faults.1);
+    expect_text(rt, writer.inner.inner.as_slice(), text);
+    expect_number(rt, reader.faults(), faults.0);
+    expect_number(rt, writer.faults(), faults.1);
 }
 
 #[test]

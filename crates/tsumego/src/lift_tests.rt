@@ -1,9 +1,7 @@
 //! Claims that are written as one lemma, from the format of claims.
 
-use crate::counting::Counting;
-use crate::expect::{expect_same, expect_that};
-use crate::run::run;
-use crate::tests::{answers, checks};
+use crate::expect::{expect_status, expect_that};
+use crate::tests::{answers, checks, outcome};
 use std::alloc::Global;
 use std::process::Abort;
 use tsumego_replies::Status;
@@ -78,15 +76,10 @@ fn the_flag_does_nothing_without_a_proof(rt: HostRuntime) {
 #[test]
 fn a_claim_that_has_lemmas_is_written_as_it_is(rt: HostRuntime) {
     let alloc = rt.alloc();
-    let mut reader = Counting::new(TWO_ORDERS.as_bytes());
-    let mut writer = Counting::new(Vec::new(alloc));
     let words = &["tsumego", "solve", "--proof"];
-    expect_same(
-        &rt,
-        run(alloc, words, &mut reader, &mut writer),
-        Status::Answered,
-    );
-    let text = String::from_utf8(writer.inner).ok().expect(&rt, "a text");
+    let (status, written) = outcome(alloc, words, TWO_ORDERS.as_bytes());
+    expect_status(&rt, status, Status::Answered);
+    let text = String::from_utf8(written).ok().expect(&rt, "a text");
     expect_that(&rt, text.as_str().contains("\nuse 1\n"));
     expect_that(&rt, !text.as_str().ends_with("main\nuse 1\nend\n"));
     answers(

@@ -1,9 +1,7 @@
 //! Records and what `solve` writes for them, from the rules of the game and of solution records.
 
-use crate::counting::Counting;
 use crate::expect::expect_that;
-use crate::run::run;
-use crate::tests::{answers, checks};
+use crate::tests::{answers, checks, outcome};
 use std::alloc::Global;
 use std::process::Abort;
 use tsumego_replies::Status;
@@ -22,14 +20,9 @@ fn solves(rt: &impl Abort, alloc: Global, record: &str, text: &str) {
 
 // What `solve` writes with these words after it.
 fn written(rt: &impl Abort, alloc: Global, words: &[&str], record: &str) -> String {
-    let mut reader = Counting::new(record.as_bytes());
-    let mut writer = Counting::new(Vec::new(alloc));
-    assert_eq!(rt;
-        run(alloc, words, &mut reader, &mut writer),
-        Status::Answered,
-        "{record}"
-    );
-    String::from_utf8(writer.inner).ok().expect(rt, "a text")
+    let (status, written) = outcome(alloc, words, record.as_bytes());
+    assert_eq!(rt; status, Status::Answered, "{record}");
+    String::from_utf8(written).ok().expect(rt, "a text")
 }
 
 #[test]

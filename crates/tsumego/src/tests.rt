@@ -2,12 +2,20 @@
 
 use crate::counting::Counting;
 use crate::devices::{Endless, Faulty, Pieces};
-use crate::expect::{expect_same, expect_that};
+use crate::expect::{expect_status, expect_text, expect_that};
 use crate::run::run;
 use std::alloc::Global;
 use std::io::ErrorKind;
 use std::process::Abort;
 use tsumego_replies::Status;
+
+// What comes of these words and this input.
+pub fn outcome(alloc: Global, words: &[&str], input: &[u8]) -> (Status, Vec<u8>) {
+    let mut reader = Counting::new(input);
+    let mut writer = Counting::new(Vec::new(alloc));
+    let status = run(alloc, words, &mut reader, &mut writer);
+    (status, writer.inner)
+}
 
 // For these words and this input the program has this status and this text.
 pub fn answers(
@@ -18,14 +26,9 @@ pub fn answers(
     status: Status,
     text: &str,
 ) {
-    let mut reader = Counting::new(input.as_bytes());
-    let mut writer = Counting::new(Vec::new(alloc));
-    assert_eq!(rt;
-        run(alloc, words, &mut reader, &mut writer),
-        status,
-        "{input}"
-    );
-    assert_eq!(rt; writer.inner.as_slice(), text.as_bytes(), "{input}");
+    let (ended, written) = outcome(alloc, words, input.as_bytes());
+    assert_eq!(rt; ended, status, "{input}");
+    assert_eq!(rt; written.as_slice(), text.as_bytes(), "{input}");
 }
 
 // The same for `check`, whole and in pieces.
@@ -62,14 +65,12 @@ fn each_cut_of_a_claim_is_malformed(rt: HostRuntime) {
             .extend_from_slice(CAPTURE.as_bytes())
             .expect(&rt, "memory");
         input.extend_from_slice(&claim[..cut]).expect(&rt, "memory");
-        let mut writer = Counting::new(Vec::new(alloc));
-        let mut reader = Counting::new(input.as_slice());
-        let status = run(alloc, &["tsumego", "check"], &mut reader, &mut writer);
-        expect_same(&rt, status, Status::Unanswered);
+        let (status, written) = outcome(alloc, &["tsumego", "check"], input.as_slice());
         let wanted = format!(in alloc; "rejected line {line}: C01 malformed\n").expect(
             &rt, "memory",
         );
-        expect_same(&rt, writer.inner.as_slice(), wanted.as_bytes());
+        expect_status(&rt, status, Status::Unanswered);
+        expect_text(&rt, written.as_slice(), wanted.as_str());
         if claim[cut] == b'\n' {
             line = line.saturating_add(1);
         }
@@ -90,14 +91,9 @@ fn other_words_have_clap_s_text(rt: HostRuntime) {
         &["tsumego", "--help"],
     ];
     for words in asked {
-        let mut reader = Counting::new("".as_bytes());
-        let mut writer = Counting::new(Vec::new(alloc));
-        expect_same(
-            &rt,
-            run(alloc, words, &mut reader, &mut writer),
-            Status::BadWords,
-        );
-        expect_that(&rt, !writer.inner.is_empty());
+        let (status, written) = outcome(alloc, words, b"".as_slice());
+        expect_status(&rt, status, Status::BadWords);
+        expect_that(&rt, !written.is_empty());
     }
 }
 
@@ -120,14 +116,9 @@ fn white_space_past_the_bound_is_a_failed_read(rt: HostRuntime) {
         input
             .extend_from_slice(CAPTURE_CLAIM.as_bytes())
             .expect(&rt, "memory");
-        let mut reader = Counting::new(input.as_slice());
-        let mut writer = Counting::new(Vec::new(alloc));
-        expect_same(
-            &rt,
-            run(alloc, &["tsumego", "check"], &mut reader, &mut writer),
-            status,
-        );
-        expect_same(&rt, writer.inner.as_slice(), text.as_bytes());
+        let (ended, written) = outcome(alloc, &["tsumego", "check"], input.as_slice());
+        expect_status(&rt, ended, status);
+        expect_text(&rt, written.as_slice(), text);
     }
 }
 
@@ -146,8 +137,8 @@ fn endless(
         byte,
     });
     let mut writer = Counting::new(Vec::new(alloc));
-    expect_same(rt, run(alloc, words, &mut reader, &mut writer), status);
-    expect_same(rt, writer.inner.as_slice(), text.as_bytes());
+    expect_status(rt, run(alloc, words, &mut reader, &mut writer), status);
+    expect_text(rt, writer.inner.as_slice(), text);
 }
 
 #[test]
@@ -209,12 +200,12 @@ fn a_failed_read_is_told(rt: HostRuntime) {
             kind: ErrorKind::Other,
         });
         let mut writer = Counting::new(Vec::new(alloc));
-        expect_same(
+        expect_status(
             &rt,
             run(alloc, &["tsumego", "check"], &mut reader, &mut writer),
             Status::Failed,
         );
-        expect_same(&rt, writer.inner.as_slice(), "failed: read\n".as_bytes());
+        expect_text(&rt, writer.inner.as_slice(), "failed: read\n");
     }
 }
 
@@ -248,12 +239,12 @@ fn a_failed_read_in_a_claim_is_told(rt: HostRuntime) {
             kind: ErrorKind::Other,
         });
         let mut writer = Counting::new(Vec::new(alloc));
-        expect_same(
+        expect_status(
             &rt,
             run(alloc, &["tsumego", "check"], &mut reader, &mut writer),
             status,
         );
-        expect_same(&rt, writer.inner.as_slice(), text.as_bytes());
+        expect_text(&rt, writer.inner.as_slice(), text);
     }
 }
 
@@ -266,7 +257,7 @@ fn a_failed_write_has_its_status_alone(rt: HostRuntime) {
         failing: &[0],
         kind: ErrorKind::Other,
     });
-    expect_same(
+    expect_status(
         &rt,
         run(rt.alloc(), &["tsumego", "check"], &mut reader, &mut writer),
         Status::Failed,

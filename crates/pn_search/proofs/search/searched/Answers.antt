@@ -1,8 +1,8 @@
 use Rattle.std.proofs.Common.{◌≡◌, ℕ, ◌-◌, subst, ap, ◌∙◌}
 use Rattle.target_game.specs.State.{start}
-use Rattle.pn_search.specs.Private.Shown.{IsDecided}
+use Rattle.full_search.specs.Decided.{IsDecided}
 use Rattle.pn_search.specs.Search.{full_steps}
-use Rattle.pn_search.proofs.Deepening.{if_refused_map, none_within_refused, steps_above_floor}
+use Rattle.pn_search.proofs.Refused.{if_refused_map, none_within_refused, steps_above_floor}
 use Rattle.pn_search.proofs.search.searched.Goals as goal
 
 pub returns-in-Ok-Some-clause-hard : goal.returns-in-Ok-Some-clause-hard

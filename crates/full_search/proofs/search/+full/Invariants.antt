@@ -1,7 +1,7 @@
 use Rattle.std.proofs.Common.{◌≡◌, ◌+◌, ◌*◌, length}
 use Rattle.target_game.specs.Left.{turns_due}
-use Rattle.pn_search.proofs.Showing.{TurnsSeen}
-use Rattle.pn_search.proofs.full_search.+full.Given as goal
+use Rattle.full_search.proofs.Showing.{TurnsSeen}
+use Rattle.full_search.proofs.search.+full.Given as goal
 
 abbrev pub decreases-search_state : goal.decreases-search_state
 decreases-search_state a = 3 * a.turns

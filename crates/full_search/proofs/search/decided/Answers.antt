@@ -5,9 +5,9 @@ use Rattle.proof_cert.specs.Claim.{Node}
 use Rattle.proof_cert.specs.Certificate.{node_of}
 use Rattle.proof_cert.specs.declared.certificate.Node.TheVariants.{All}
 use Rattle.proof_cert.proofs.Certificates.{node_of_all}
-use Rattle.pn_search.specs.Private.Shown.{Shows}
-use Rattle.pn_search.proofs.Showing.{decided_open, decided_lost}
-use Rattle.pn_search.proofs.full_search.decided.Goals as goal
+use Rattle.full_search.specs.Decided.{Shows}
+use Rattle.full_search.proofs.Showing.{decided_open, decided_lost}
+use Rattle.full_search.proofs.search.decided.Goals as goal
 
 pub returns-then-seen : goal.returns-then-seen
 returns-then-seen c = λ left. decided_open c.args.state.now.state c.args.turns c.args.seen c.requires.nobody c.if-seen.true c.requires.seen

@@ -1,4 +1,4 @@
--- Full search depth by depth, and what it means that a claim of its is refused.
+-- Full search depth by depth.
 use Rattle.std.proofs.Common.{◌≡◌, ℕ, ◌+◌, ◌-◌, ◌*◌, ◌/◌, ◌<◌, ◌≤◌, ◌⊎◌, inl, inr, false, Result, Ok, Err, IfErr, IsTrue, arith}
 use Rattle.std.proofs.Math.Nat.{min-le_left, min-le_right, mul-le-mul, mul-le-mul_left}
 use Rattle.go_points.specs.declared.Colour.{Colour}
@@ -7,9 +7,9 @@ use Rattle.target_game.specs.Wins.{wins, nodes}
 use Rattle.proof_cert.specs.Claim.{Node, node_count, max_nodes}
 use Rattle.proof_cert.specs.Certificate.{node_of}
 use Rattle.proof_cert.specs.declared.certificate.Node as code
-use Rattle.pn_search.specs.Search.{full_steps, IsHard}
-use Rattle.pn_search.specs.Private.Shown.{NeitherWins, NoneWithin, IsFirst, IsConfirmable}
-use Rattle.pn_search.proofs.Showing.{nodes_within}
+use Rattle.full_search.specs.Decided.{NoneWithin, IsFirst}
+use Rattle.full_search.specs.Private.Shown.{NeitherWins}
+use Rattle.full_search.proofs.Showing.{nodes_within}
 
 -- neither side wins within less than k turns, and each depth had no more steps than its tree has states
 pub record Undecided (s : GameState) (k steps left : ℕ) : Type 0 where
@@ -52,27 +52,3 @@ none_within_large x s n steps h few large y j low w =
     let b = nodes_within s h.turns j le in
     let c : 1 * nodes s j ≤ (j + 1) * nodes s j = mul-le-mul (omega arith) (omega arith) in
     omega arith
-
--- the tree was not confirmed, though for no want of memory
-pub none_within_refused : (q : GameProblem) (x : Colour) (tree : code.Node) (budget : ℕ) → IsFirst x (start q) (node_of q.game.size tree) → (IsConfirmable q x tree → ⊥) → IsHard q budget
-none_within_refused q x tree budget h refused =
-    let n = node_of q.game.size tree in
-    let few : full_steps budget ≤ max_nodes = min-le_right (budget / 10) 10000000 in
-    let split : (node_count n ≤ max_nodes) ⊎ (max_nodes < node_count n) = grind arith in
-    elim split [
-      | inl small ↦
-          let a = h.few in
-          let b = h.shows.depth in
-          absurd (refused (record { fits = h.shows.fits; count = small; depth = omega arith }))
-      | inr large ↦ none_within_large x (start q) n (full_steps budget) h few large
-    ]
-
-pub if_refused_map : {A E : Type 0} (r : Result A E) (P Q : E → Type 0) → ((e : E) → P e → Q e) → IfErr r P → IfErr r Q
-if_refused_map (Ok a) P Q f h = tt
-if_refused_map (Err e) P Q f h = f e h
-
--- what is above the floor that leaves full search its steps
-pub steps_above_floor : (budget : ℕ) → budget - (budget - full_steps budget) ≡ full_steps budget
-steps_above_floor budget =
-    let a : full_steps budget ≤ budget / 10 = min-le_left (budget / 10) 10000000 in
-    omega (arith, a)

@@ -28,10 +28,11 @@ use Rattle.cert_check.specs.Validity.{MayPlay, FitsNode, FitsBranches}
 use Rattle.cert_check.proofs.Game.{same_colour-eq, same_colour-refl}
 use Rattle.cert_check.proofs.Members.{and_both, and_first, and_second}
 use Rattle.cert_check.proofs.Soundness.{game-next}
-use Rattle.pn_search.specs.declared.full_search.Found.{Found}
-use Rattle.pn_search.specs.declared.full_search.Found.TheVariants.{Wins, Open, OutOfSteps}
-use Rattle.pn_search.specs.declared.full_search.Tried.{Tried}
-use Rattle.pn_search.specs.Private.Shown.{nodes_behind, Shows, AllShow, NeitherWins, AreSeen, IsFound, IsWonBy, IsTurnSeen}
+use Rattle.full_search.specs.declared.search.Found.{Found}
+use Rattle.full_search.specs.declared.search.Found.TheVariants.{Wins, Open, OutOfSteps}
+use Rattle.full_search.specs.declared.search.Tried.{Tried}
+use Rattle.full_search.specs.Decided.{Shows}
+use Rattle.full_search.specs.Private.Shown.{nodes_behind, AllShow, NeitherWins, AreSeen, IsFound, IsWonBy, IsTurnSeen}
 
 -- THE NUMBER OF STATES
 

@@ -1,7 +1,7 @@
 use Rattle.std.proofs.Common.{◌≡◌, []}
 use Rattle.target_game.specs.State.{start}
-use Rattle.pn_search.proofs.Deepening.{Undecided}
-use Rattle.pn_search.proofs.full_search.search_depths.Given as goal
+use Rattle.full_search.proofs.Deepening.{Undecided}
+use Rattle.full_search.proofs.search.search_depths.Given as goal
 
 abbrev pub invariant-loop-turns : goal.invariant-loop-turns
 invariant-loop-turns l = (l.state ≡ record { state = start l.problem; before = [] }) × Undecided (start l.problem) l.turns l.initial.left l.left

@@ -10,9 +10,10 @@ use Rattle.target_game.proofs.Due.{turns_begun as due_begun}
 use Rattle.target_game.proofs.Tallies.{if_ok_map}
 use Rattle.proof_cert.proofs.Certificates.{node_of_won}
 use Rattle.proof_cert.specs.Claim.{Node}
-use Rattle.pn_search.specs.Private.Shown.{Shows, IsFound, IsTurnSeen, nodes_behind}
-use Rattle.pn_search.proofs.Showing.{nodes_some, nodes_then, open_last, shows_won, pass_won, on_ok_any, on_ok_map, turns_begun, turns_more, turns_steps, turns_found}
-use Rattle.pn_search.proofs.full_search.+full.Goals as goal
+use Rattle.full_search.specs.Decided.{Shows}
+use Rattle.full_search.specs.Private.Shown.{IsFound, IsTurnSeen, nodes_behind}
+use Rattle.full_search.proofs.Showing.{nodes_some, nodes_then, open_last, shows_won, pass_won, on_ok_any, on_ok_map, turns_begun, turns_more, turns_steps, turns_found}
+use Rattle.full_search.proofs.search.+full.Goals as goal
 
 pub search_state-returns-in-Some-clause-found : goal.search_state-returns-in-Some-clause-found
 search_state-returns-in-Some-clause-found t c =

@@ -1,9 +1,9 @@
 use Rattle.std.proofs.Common.{◌+◌, ◌≤◌, ◌∙◌, subst}
 use Rattle.target_game.specs.State.{Line, start}
 use Rattle.target_game.specs.Wins.{nodes}
-use Rattle.pn_search.specs.Private.Shown.{IsFound}
-use Rattle.pn_search.proofs.Deepening.{undecided_more, undecided_out}
-use Rattle.pn_search.proofs.full_search.search_depths.Goals as goal
+use Rattle.full_search.specs.Private.Shown.{IsFound}
+use Rattle.full_search.proofs.Deepening.{undecided_more, undecided_out}
+use Rattle.full_search.proofs.search.search_depths.Goals as goal
 
 pub returns-in-OutOfSteps-clause-decided : goal.returns-in-OutOfSteps-clause-decided
 returns-in-OutOfSteps-clause-decided c =

@@ -1,9 +1,9 @@
 //! Full search on boards of three rows, where every claim and every step is worked out by hand.
 
 use crate::expect::{expect_same, expect_that};
-use crate::full_search::full_search;
-use crate::{Budget, Verdict, solve};
+use full_search::first_win;
 use go_points::{Colour, Colouring, PointSet, Size, sgf_point};
+use pn_search::{Budget, Verdict, solve};
 use proof_cert::{Certificate, Version, write_cert};
 use std::alloc::Global;
 use std::num::NonZeroUsize;
@@ -63,12 +63,12 @@ fn is_claim(rt: &impl Abort, alloc: Global, certificate: &Certificate, text: &st
 // Whether full search answers the claim of this text after just so many steps, and nothing where one of them is missing.
 fn finds(rt: &impl Abort, alloc: Global, problem: &Problem, steps: u64, text: &str) -> bool {
     let mut fewer = steps.saturating_sub(1);
-    let nothing = full_search(alloc, problem, 0, &mut fewer).expect(rt, "memory");
+    let nothing = first_win(alloc, problem, 0, &mut fewer).expect(rt, "memory");
     if nothing.is_some() || fewer != 0 {
         return false;
     }
     let mut left = steps;
-    let Some((winner, main)) = full_search(alloc, problem, 0, &mut left).expect(rt, "memory") else {
+    let Some((winner, main)) = first_win(alloc, problem, 0, &mut left).expect(rt, "memory") else {
         return false;
     };
     let certificate = Certificate {
@@ -190,7 +190,7 @@ fn full_search_stops_at_its_floor(rt: HostRuntime) {
     let mut left = 100;
     expect_that(
         &rt,
-        full_search(alloc, &corner, 94, &mut left)
+        first_win(alloc, &corner, 94, &mut left)
             .expect(&rt, "memory")
             .is_none(),
     );
@@ -198,7 +198,7 @@ fn full_search_stops_at_its_floor(rt: HostRuntime) {
     let mut enough = 100;
     expect_that(
         &rt,
-        full_search(alloc, &corner, 93, &mut enough)
+        first_win(alloc, &corner, 93, &mut enough)
             .expect(&rt, "memory")
             .is_some(),
     );

@@ -12,7 +12,8 @@ ghost use Rattle.target_game.specs.Legal.{legal, legal_turns};
 ghost use Rattle.target_game.specs.Next.{next};
 ghost use Rattle.target_game.specs.Over.{over};
 ghost use Rattle.target_game.specs.Wins.{is_winner, nodes};
-ghost use Rattle.pn_search.specs.Private.Shown.{nodes_behind, IsFound, AreSeen, IsTurnSeen, IsWonBy, IsDecided};
+ghost use Rattle.full_search.specs.Decided.{IsDecided};
+ghost use Rattle.full_search.specs.Private.Shown.{nodes_behind, IsFound, AreSeen, IsTurnSeen, IsWonBy};
 
 use go_points::{Colour, Turn};
 use proof_cert::Node;
@@ -42,9 +43,10 @@ pub(crate) struct Tried {
 /// The side that wins the problem within the fewest turns, up to 200, with a tree that shows it; none, where neither
 /// side does or the steps ran out.
 ///
-/// All legal play is searched within 0, 1, 2 and so on turns, each number anew. A step is one expansion; so many as
-/// `floor` are left alone.
-pub(crate) fn full_search(
+/// All legal play is searched within 0, 1, 2 and so on turns, each number anew. A step is one expansion, which tries all
+/// turns of a state; so many as `floor` are left alone, and `left` falls by those that were made. Where memory is refused
+/// some steps are gone, and no more is said. One path of play and the tree that is found are held.
+pub fn first_win(
     alloc: Global,
     problem: &Problem,
     floor: u64,

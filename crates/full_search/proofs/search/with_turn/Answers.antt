@@ -5,9 +5,9 @@ use Rattle.go_points.specs.Ply.{ply_of}
 use Rattle.target_game.specs.Next.{next}
 use Rattle.proof_cert.specs.Certificate.{node_of}
 use Rattle.cert_check.proofs.Game.{same_colour-eq}
-use Rattle.pn_search.specs.Private.Shown.{Shows}
-use Rattle.pn_search.proofs.Showing.{other_side, seen_late, seen_reply, found_won, turn_won}
-use Rattle.pn_search.proofs.full_search.with_turn.Goals as goal
+use Rattle.full_search.specs.Decided.{Shows}
+use Rattle.full_search.proofs.Showing.{other_side, seen_late, seen_reply, found_won, turn_won}
+use Rattle.full_search.proofs.search.with_turn.Goals as goal
 
 pub returns-then-is_side : goal.returns-then-is_side
 returns-then-is_side c =

@@ -1,9 +1,10 @@
 use Rattle.std.proofs.Common.{sym, ◌∙◌, subst}
 use Rattle.proof_cert.specs.Claim.{Node}
 use Rattle.proof_cert.proofs.Certificates.{node_of_won}
-use Rattle.pn_search.specs.Private.Shown.{Shows, NeitherWins}
-use Rattle.pn_search.proofs.Showing.{open_last, shows_won}
-use Rattle.pn_search.proofs.full_search.found_at_once.Goals as goal
+use Rattle.full_search.specs.Decided.{Shows}
+use Rattle.full_search.specs.Private.Shown.{NeitherWins}
+use Rattle.full_search.proofs.Showing.{open_last, shows_won}
+use Rattle.full_search.proofs.search.found_at_once.Goals as goal
 
 pub returns-in-Some : goal.returns-in-Some
 returns-in-Some c = λ s k left e none.

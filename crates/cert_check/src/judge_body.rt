@@ -1,0 +1,277 @@
+//! The judge's calls for the lines of a tree: nodes, replies and `end`.
+
+ghost use Rattle.std.specs.Prelude.{◌≡◌, ◌<◌, [], suc, nat_lt, nat_le, ◌&&◌, ◌+◌, ◌++◌, ◌∷◌, length, reverse, None, Some, IsTrue, IfOk, IfErr, OnOk};
+ghost use Rattle.proof_cert.specs.Claim.{max_nodes, max_depth};
+ghost use Rattle.proof_cert.specs.Stage.{line_value};
+ghost use Rattle.cert_check.specs.Private.Ascending.{Ascends};
+ghost use Rattle.cert_check.specs.Body.{Why as SpecWhy};
+ghost use Rattle.cert_check.specs.Private.Inside.{node_fault, node_next, owed_by};
+ghost use Rattle.cert_check.specs.Private.Judging.{AwaitsNode, GoesOn, IsBehind, StopsFor, body_here, heading_of, inside_now, lemma_of, machine_of, node_here, reply_here, within_of};
+ghost use Rattle.cert_check.specs.Machine.{body_of, end_taken, goes_on, moved, opening};
+ghost use Rattle.cert_check.specs.Parts.{IsJudged, node_value};
+ghost use Rattle.cert_check.specs.Stage.{why_value};
+ghost use Rattle.cert_check.specs.declared.judge.Within.TheVariants.{Lemma, Main};
+ghost use Rattle.cert_check.specs.declared.open_nodes.Due.TheVariants.{Node, Reply};
+ghost use Rattle.cert_check.specs.declared.reject.Why.TheVariants.{Memory};
+
+use crate::body::{Body, Head};
+use crate::judge::{Judge, Phase, Within};
+use crate::lemma_set::LemmaSet;
+use crate::lines::{NodeLine, is_end, node_of, reply_of};
+use crate::open_nodes::{Due, MOST_OPEN, take_node, take_reply};
+use crate::reject::Why;
+use go_points::{ColouringList, Turn};
+use proof_cert::{Line, MAX_NODES};
+use std::mem;
+use target_game::TurnsLeft;
+
+impl<'p> Judge<'p> {
+    /// A line of a body.
+    pub(crate) fn within(&mut self, within: Within, due: Due, line: &Line) -> Result<(), Why>
+        requires ready { AwaitsNode self.old due }
+        ensures place { self.new.place ≡ self.old.place }
+        ensures problem { self.new.problem ≡ self.old.problem }
+        ensures ready { OnOk result (IsBehind self.new) }
+        ensures ok { OnOk result
+            (GoesOn self.old self.new
+            (body_here self.old within due
+            (line_value self.old.problem.now.game.size line.now))) }
+        ensures err { IfErr result
+            (λ why. StopsFor self.old
+            (body_here self.old within due (line_value self.old.problem.now.game.size line.now))
+            why) }
+    {
+        match due {
+            Due::Node => self.node(within, line),
+            Due::Reply { due, left } => self.reply(within, due, left, line),
+            Due::End => self.close(within, line),
+        }
+    }
+
+    /// The line of a node.
+    pub(crate) fn node(&mut self, within: Within, line: &Line) -> Result<(), Why>
+        requires ready { AwaitsNode self.old Node }
+        ensures place { self.new.place ≡ self.old.place }
+        ensures problem { self.new.problem ≡ self.old.problem }
+        ensures ready { OnOk result (IsBehind self.new) }
+        ensures ok { OnOk result
+            (GoesOn self.old self.new
+            (node_here self.old within (line_value self.old.problem.now.game.size line.now))) }
+        ensures err { IfErr result
+            (λ why. StopsFor self.old
+            (node_here self.old within (line_value self.old.problem.now.game.size line.now))
+            why) }
+    {
+        let Some(node) = node_of(line) else {
+            return Err(Why::Malformed);
+        };
+        if !self.has_room() {
+            return Err(Why::Limit);
+        }
+        match self.node_within(within, node) {
+            Ok(due) => {
+                self.node_count += 1;
+                self.phase = Phase::Body { within, due };
+                Ok(())
+            }
+            Err(why) => Err(why),
+        }
+    }
+
+    /// A node, and what is due after it.
+    fn node_within(&mut self, within: Within, node: NodeLine) -> Result<Due, Why>
+        requires ready { AwaitsNode self.old Node }
+        requires room { length self.old.open_nodes.items < 2000 }
+        ensures rest { self.new
+            ≡ record self.old {
+              state = self.new.state;
+              open_nodes = self.new.open_nodes;
+              passed = self.new.passed;
+            } }
+        ensures ready { IfOk result (λ due. AwaitsNode self.new due) }
+        ensures none { OnOk result
+            (node_fault (body_of (heading_of self.old) (within_of self.old within))
+            self.old.state.state (node_value self.old.state.state.game.size node) ≡ None) }
+        ensures due { IfOk result
+            (λ due. inside_now self.new due
+            ≡ node_next (suc (length self.old.state.before)) self.old.state.state
+            (owed_by self.old.state.before (reverse self.old.open_nodes.items))
+            (node_value self.old.state.state.game.size node)) }
+        ensures err { IfErr result (λ why. (p : SpecWhy)
+            → why_value self.old.state.state.game.size why ≡ Some p
+            → node_fault (body_of (heading_of self.old) (within_of self.old within))
+            self.old.state.state (node_value self.old.state.state.game.size node) ≡ Some p) }
+        ensures judged { IfErr result (λ why. IsJudged why) }
+    {
+        match within {
+            Within::Lemma => self.node_of_lemma(node),
+            Within::Main => self.node_of_main(node),
+        }
+    }
+
+    /// A node of a lemma, and what is due after it.
+    fn node_of_lemma(&mut self, node: NodeLine) -> Result<Due, Why>
+        requires ready { AwaitsNode self.old Node }
+        requires room { length self.old.open_nodes.items < 2000 }
+        ensures rest { self.new
+            ≡ record self.old {
+              state = self.new.state;
+              open_nodes = self.new.open_nodes;
+              passed = self.new.passed;
+            } }
+        ensures ready { IfOk result (λ due. AwaitsNode self.new due) }
+        ensures none { OnOk result
+            (node_fault (body_of (heading_of self.old) (within_of self.old Lemma))
+            self.old.state.state (node_value self.old.state.state.game.size node) ≡ None) }
+        ensures due { IfOk result
+            (λ due. inside_now self.new due
+            ≡ node_next (suc (length self.old.state.before)) self.old.state.state
+            (owed_by self.old.state.before (reverse self.old.open_nodes.items))
+            (node_value self.old.state.state.game.size node)) }
+        ensures err { IfErr result (λ why. (p : SpecWhy)
+            → why_value self.old.state.state.game.size why ≡ Some p
+            → node_fault (body_of (heading_of self.old) (within_of self.old Lemma))
+            self.old.state.state (node_value self.old.state.state.game.size node) ≡ Some p) }
+        ensures judged { IfErr result (λ why. IsJudged why) }
+    {
+        let body = Body::of_lemma(self.winner, self.heads.as_slice(), &self.list);
+        take_node(
+            &body,
+            &mut self.state,
+            &mut self.open_nodes,
+            &mut self.passed,
+            node,
+        )
+    }
+
+    /// A node of main, and what is due after it.
+    fn node_of_main(&mut self, node: NodeLine) -> Result<Due, Why>
+        requires ready { AwaitsNode self.old Node }
+        requires room { length self.old.open_nodes.items < 2000 }
+        ensures rest { self.new
+            ≡ record self.old {
+              state = self.new.state;
+              open_nodes = self.new.open_nodes;
+              passed = self.new.passed;
+            } }
+        ensures ready { IfOk result (λ due. AwaitsNode self.new due) }
+        ensures none { OnOk result
+            (node_fault (body_of (heading_of self.old) (within_of self.old Main))
+            self.old.state.state (node_value self.old.state.state.game.size node) ≡ None) }
+        ensures due { IfOk result
+            (λ due. inside_now self.new due
+            ≡ node_next (suc (length self.old.state.before)) self.old.state.state
+            (owed_by self.old.state.before (reverse self.old.open_nodes.items))
+            (node_value self.old.state.state.game.size node)) }
+        ensures err { IfErr result (λ why. (p : SpecWhy)
+            → why_value self.old.state.state.game.size why ≡ Some p
+            → node_fault (body_of (heading_of self.old) (within_of self.old Main))
+            self.old.state.state (node_value self.old.state.state.game.size node) ≡ Some p) }
+        ensures judged { IfErr result (λ why. IsJudged why) }
+    {
+        let body = Body::of_main(self.winner, self.heads.as_slice());
+        // Main has no list that another would have to stand on, so nothing is remembered here.
+        let mut none = LemmaSet::new(self.alloc);
+        take_node(
+            &body,
+            &mut self.state,
+            &mut self.open_nodes,
+            &mut none,
+            node,
+        )
+    }
+
+    /// Whether one node more may be counted, at the depth of the next one.
+    fn has_room(&self) -> bool
+        ensures value { result
+            ≡ (nat_lt self.now.node_count max_nodes && nat_le (length self.now.open_nodes.items + 1)
+            max_depth) }
+        ensures few { IsTrue result → self.now.node_count < 10000000 }
+        ensures shallow { IsTrue result → length self.now.open_nodes.items < 2000 }
+    {
+        self.node_count < MAX_NODES && self.open_nodes.len() < MOST_OPEN
+    }
+
+    /// The line of a reply, where this one is due.
+    fn reply(&mut self, within: Within, due: Turn, left: TurnsLeft, line: &Line) -> Result<(), Why>
+        requires ready { AwaitsNode self.old (Reply due left) }
+        ensures place { self.new.place ≡ self.old.place }
+        ensures problem { self.new.problem ≡ self.old.problem }
+        ensures ready { OnOk result (IsBehind self.new) }
+        ensures ok { OnOk result
+            (GoesOn self.old self.new
+            (reply_here self.old within due left
+            (line_value self.old.problem.now.game.size line.now))) }
+        ensures err { IfErr result
+            (λ why. StopsFor self.old
+            (reply_here self.old within due left
+            (line_value self.old.problem.now.game.size line.now)) why) }
+    {
+        let Some(turn) = reply_of(line) else {
+            return Err(Why::Malformed);
+        };
+        match take_reply(&mut self.state, &mut self.open_nodes, due, left, turn) {
+            Ok(()) => {
+                self.phase = Phase::Body {
+                    within,
+                    due: Due::Node,
+                };
+                Ok(())
+            }
+            Err(why) => Err(why),
+        }
+    }
+
+    /// The line `end` of a body whose nodes are all judged.
+    fn close(&mut self, within: Within, line: &Line) -> Result<(), Why>
+        requires ascends { Ascends self.old.list }
+        requires game { self.old.state.state.game ≡ self.old.problem.now.game }
+        ensures place { self.new.place ≡ self.old.place }
+        ensures problem { self.new.problem ≡ self.old.problem }
+        ensures ready { OnOk result (IsBehind self.new) }
+        ensures ok { OnOk result
+            (GoesOn self.old self.new
+            (end_taken (machine_of self.old) (heading_of self.old) (within_of self.old within)
+            (line_value self.old.problem.now.game.size line.now))) }
+        ensures err { IfErr result
+            (λ why. StopsFor self.old
+            (end_taken (machine_of self.old) (heading_of self.old) (within_of self.old within)
+            (line_value self.old.problem.now.game.size line.now)) why) }
+    {
+        if !is_end(line) {
+            return Err(Why::Malformed);
+        }
+        match within {
+            Within::Lemma => self.close_lemma(),
+            Within::Main => {
+                self.phase = Phase::Done;
+                Ok(())
+            }
+        }
+    }
+
+    /// The present lemma is judged.
+    fn close_lemma(&mut self) -> Result<(), Why>
+        requires ascends { Ascends self.old.list }
+        requires game { self.old.state.state.game ≡ self.old.problem.now.game }
+        ensures place { self.new.place ≡ self.old.place }
+        ensures problem { self.new.problem ≡ self.old.problem }
+        ensures ready { OnOk result (IsBehind self.new) }
+        ensures ok { OnOk result
+            (GoesOn self.old self.new
+            (goes_on (moved (machine_of self.old)
+            (opening (record (heading_of self.old)
+            { heads = self.old.heads.items ++ lemma_of self.old ∷ [] }))))) }
+        ensures err { IfErr result (λ why. why ≡ Memory) }
+    {
+        let had = mem::replace(&mut self.had, Vec::new(self.alloc));
+        let list = mem::replace(&mut self.list, ColouringList::new(self.alloc));
+        self.passed.clear();
+        let head = Head::new(self.mover, self.passes, self.root, had, list);
+        if self.heads.push(head).is_err() {
+            return Err(Why::Memory);
+        }
+        self.phase = Phase::Opening;
+        Ok(())
+    }
+}

@@ -2,13 +2,12 @@
 
 use crate::lines::{add, add_number, add_turn};
 use go_points::Turn;
-use go_turns::{PlayBoard, PlaySeen};
 use std::alloc::{AllocError, Global};
-use target_game::{Problem, State};
+use target_game::{PlayState, Problem};
 
 /// So many turns of Black, each at the last legal point, and after each the first of the replies that are due.
 pub fn deep_path(alloc: Global, problem: &Problem, rounds: u32) -> Result<Vec<u8>, AllocError> {
-    let mut state = State::of(alloc, problem)?;
+    let mut state = PlayState::of(alloc, problem)?;
     let mut text = Vec::new(alloc);
     add(&mut text, b"tsucert 1 19 B\nmain\n")?;
     for _ in 0..rounds {
@@ -19,7 +18,7 @@ pub fn deep_path(alloc: Global, problem: &Problem, rounds: u32) -> Result<Vec<u8
 }
 
 /// Adds a move, how many replies are due, and the first of them.
-fn add_round(state: &mut State<PlayBoard, PlaySeen>, text: &mut Vec<u8>) -> Result<(), AllocError> {
+fn add_round(state: &mut PlayState, text: &mut Vec<u8>) -> Result<(), AllocError> {
     let turn = last_move(state);
     go_down(state, b"play ", turn, text)?;
     add_number(text, b"all ", state.turns().len())?;
@@ -28,7 +27,7 @@ fn add_round(state: &mut State<PlayBoard, PlaySeen>, text: &mut Vec<u8>) -> Resu
 }
 
 /// The legal move at the greatest point; the pass, where there is none.
-fn last_move(state: &State<PlayBoard, PlaySeen>) -> Turn {
+fn last_move(state: &PlayState) -> Turn {
     let turns = state.turns();
     let all = turns.as_slice();
     if all.len() < 2 {
@@ -39,7 +38,7 @@ fn last_move(state: &State<PlayBoard, PlaySeen>) -> Turn {
 
 /// Adds the line of the turn, and makes it.
 fn go_down(
-    state: &mut State<PlayBoard, PlaySeen>,
+    state: &mut PlayState,
     word: &[u8],
     turn: Turn,
     text: &mut Vec<u8>,
@@ -50,7 +49,7 @@ fn go_down(
 }
 
 /// Makes the turn, where the game is not over and it is legal.
-fn make(state: &mut State<PlayBoard, PlaySeen>, turn: Turn) -> Result<(), AllocError> {
+fn make(state: &mut PlayState, turn: Turn) -> Result<(), AllocError> {
     if state.over().is_some() {
         return Ok(());
     }

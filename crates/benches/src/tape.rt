@@ -6,9 +6,8 @@ ghost use Rattle.target_game.specs.Legal.{legal};
 ghost use Rattle.target_game.specs.Over.{over};
 
 use go_points::{Colour, Turn};
-use go_turns::{PlayBoard, PlaySeen};
 use std::alloc::{AllocError, Global};
-use target_game::{Problem, State};
+use target_game::{PlayState, Problem};
 
 /// One step of a pass: a turn that is made, or one that is taken back.
 #[derive(Clone, Copy)]
@@ -20,7 +19,7 @@ pub struct Step {
 
 /// The steps of a pass over the tree of so many turns.
 pub fn record(alloc: Global, problem: &Problem, turns: u32) -> Result<Vec<Step>, AllocError> {
-    let mut state = State::of(alloc, problem)?;
+    let mut state = PlayState::of(alloc, problem)?;
     let mut tape = Vec::new(alloc);
     record_state(&mut state, turns, &mut tape)?;
     Ok(tape)
@@ -38,11 +37,7 @@ pub fn states_of(tape: &[Step]) -> u64 {
 }
 
 #[cycle(tape)]
-fn record_state(
-    state: &mut State<PlayBoard, PlaySeen>,
-    turns: u32,
-    tape: &mut Vec<Step>,
-) -> Result<(), AllocError>
+fn record_state(state: &mut PlayState, turns: u32, tape: &mut Vec<Step>) -> Result<(), AllocError>
     ensures { OnOk result (state.new ≡ state.old) }
 {
     if turns == 0 || state.over().is_some() {
@@ -60,7 +55,7 @@ fn record_state(
 
 #[cycle(tape)]
 fn record_turn(
-    state: &mut State<PlayBoard, PlaySeen>,
+    state: &mut PlayState,
     turns: u32,
     turn: Turn,
     tape: &mut Vec<Step>,

@@ -7,16 +7,15 @@ ghost use Rattle.target_game.specs.Over.{over};
 
 use crate::lines::{add, add_number, add_turn};
 use go_points::{Colour, Turn};
-use go_turns::{PlayBoard, PlaySeen};
 use std::alloc::{AllocError, Global};
-use target_game::{Problem, State};
+use target_game::{PlayState, Problem};
 
 /// More turns than any game of the problem has.
 const ENOUGH_TURNS: u32 = 40;
 
 /// The claim that White wins.
 pub fn wide_tree(alloc: Global, problem: &Problem) -> Result<Vec<u8>, AllocError> {
-    let mut state = State::of(alloc, problem)?;
+    let mut state = PlayState::of(alloc, problem)?;
     let mut text = Vec::new(alloc);
     add(&mut text, b"tsucert 1 9 W\nmain\n")?;
     add_state(&mut state, ENOUGH_TURNS, &mut text)?;
@@ -25,11 +24,7 @@ pub fn wide_tree(alloc: Global, problem: &Problem) -> Result<Vec<u8>, AllocError
 }
 
 #[cycle(tree)]
-fn add_state(
-    state: &mut State<PlayBoard, PlaySeen>,
-    turns: u32,
-    text: &mut Vec<u8>,
-) -> Result<(), AllocError>
+fn add_state(state: &mut PlayState, turns: u32, text: &mut Vec<u8>) -> Result<(), AllocError>
     ensures { OnOk result (state.new ≡ state.old) }
 {
     if turns == 0 || state.over().is_some() {
@@ -52,7 +47,7 @@ fn add_state(
 /// The line of a turn, and what comes below it.
 #[cycle(tree)]
 fn add_below(
-    state: &mut State<PlayBoard, PlaySeen>,
+    state: &mut PlayState,
     turns: u32,
     word: &[u8],
     turn: Turn,

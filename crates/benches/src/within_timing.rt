@@ -5,7 +5,7 @@ ghost use Rattle.std.specs.Prelude.{◌≤◌};
 use crate::tape::Step;
 use crate::within_samples::Sample;
 use go_points::MAX_SIZE;
-use go_turns::{PlayBoard, PlaySeen, Record};
+use go_turns::PlayRecord;
 use std::io;
 use std::io::ErrorKind;
 use std::rt::Clock;
@@ -48,7 +48,7 @@ pub fn time_replaying<R: Clock + AllocGlobal>(
     problem: &Problem,
     tape: &[Step],
 ) -> io::Result<Duration> {
-    let Ok(mut record) = Record::new(rt.alloc(), problem.colouring()) else {
+    let Ok(mut record) = PlayRecord::new(rt.alloc(), problem.colouring()) else {
         return Err(io::Error::from(ErrorKind::OutOfMemory));
     };
     let start = Instant::now(rt)?;
@@ -59,7 +59,7 @@ pub fn time_replaying<R: Clock + AllocGlobal>(
 }
 
 /// Makes the turns of the tape and takes them back; whether each was made.
-fn replay(record: &mut Record<PlayBoard, PlaySeen>, tape: &[Step]) -> bool {
+fn replay(record: &mut PlayRecord, tape: &[Step]) -> bool {
     for step in tape {
         let done = if step.is_made {
             record.play(step.colour, step.turn).is_ok()

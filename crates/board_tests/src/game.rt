@@ -6,12 +6,11 @@ use crate::expect::{
 };
 use arrayvec::ArrayVec;
 use go_points::{Cell, Colour, Colouring, MAX_SIZE, Point, PointSet, Size, Turn, sgf_point};
-use go_turns::{PlayBoard, PlaySeen};
 use std::alloc::Global;
 use std::process::Abort;
-use target_game::{AtFault, BadProblem, Child, MAX_HISTORY, MAX_TURNS, Problem, State, TurnsLeft};
-
-type Play = State<PlayBoard, PlaySeen>;
+use target_game::{
+    AtFault, BadProblem, Child, MAX_HISTORY, MAX_TURNS, PlayState, Problem, TurnsLeft,
+};
 
 // The colouring of 3 by 3 with this text.
 pub(crate) fn three(rt: &impl Abort, text: &str) -> Colouring {
@@ -50,7 +49,7 @@ fn start(
     mover: Colour,
     targets: &str,
     region: &str,
-) -> Play {
+) -> PlayState {
     let place = texts.len().saturating_sub(1);
     let problem = Problem::new(
         history(rt, alloc, texts),
@@ -60,11 +59,11 @@ fn start(
         points(rt, targets),
         points(rt, region),
     );
-    State::of(alloc, &problem.expect(rt, "a problem")).expect(rt, "memory")
+    PlayState::of(alloc, &problem.expect(rt, "a problem")).expect(rt, "memory")
 }
 
 // Makes a turn, if it is legal.
-fn play(state: &mut Play, turn: Turn) -> bool {
+fn play(state: &mut PlayState, turn: Turn) -> bool {
     if state.over().is_some() {
         return false;
     }
@@ -75,7 +74,7 @@ fn play(state: &mut Play, turn: Turn) -> bool {
 }
 
 // The turns that are left, taken one by one; each is made and taken back.
-fn turns_one_by_one(state: &mut Play) -> ArrayVec<Turn, MAX_TURNS> {
+fn turns_one_by_one(state: &mut PlayState) -> ArrayVec<Turn, MAX_TURNS> {
     let mut all = ArrayVec::new();
     let mut left = TurnsLeft::all();
     for _ in 0..MAX_TURNS {
@@ -92,7 +91,7 @@ fn turns_one_by_one(state: &mut Play) -> ArrayVec<Turn, MAX_TURNS> {
 }
 
 // Makes the move with these letters, if it is legal.
-fn play_at(rt: &impl Abort, state: &mut Play, letters: &str) -> bool {
+fn play_at(rt: &impl Abort, state: &mut PlayState, letters: &str) -> bool {
     play(state, turn(rt, letters))
 }
 
@@ -101,7 +100,7 @@ fn expect_turns(rt: &impl Abort, found: &[Turn], wanted: &[Turn]) {
 }
 
 // The moves with these letters, two for each, and the pass are all that is legal.
-fn expect_legal(rt: &impl Abort, state: &Play, letters: &str) {
+fn expect_legal(rt: &impl Abort, state: &PlayState, letters: &str) {
     let mut wanted = ArrayVec::<Turn, MAX_TURNS>::new();
     for pair in letters.as_bytes().chunks(2) {
         let size = Size::new(3).expect(rt, "a size");
@@ -113,17 +112,17 @@ fn expect_legal(rt: &impl Abort, state: &Play, letters: &str) {
 }
 
 // The state has these cells.
-fn expect_cells(rt: &impl Abort, state: &Play, text: &str) {
+fn expect_cells(rt: &impl Abort, state: &PlayState, text: &str) {
     expect_colouring(rt, state.colouring(), three(rt, text));
 }
 
 // These cells have occurred first at this place, or not at all.
-fn expect_place(rt: &impl Abort, state: &Play, text: &str, place: Option<usize>) {
+fn expect_place(rt: &impl Abort, state: &PlayState, text: &str, place: Option<usize>) {
     expect_optional_count(rt, state.holds(&three(rt, text)), place);
 }
 
 // The move with these letters leads to this.
-fn expect_child(rt: &impl Abort, state: &Play, letters: &str, wanted: Option<Child>) {
+fn expect_child(rt: &impl Abort, state: &PlayState, letters: &str, wanted: Option<Child>) {
     assert_eq!(rt; state.child(turn(rt, letters)), wanted);
 }
 
@@ -199,7 +198,7 @@ fn the_past_decides_at_a_ko(rt: HostRuntime) {
 }
 
 // The state with this colouring alone, one pass just made, in a problem whose history bars the capture at the upper left.
-fn alone(rt: &impl Abort, alloc: Global, text: &str) -> Result<Play, AtFault> {
+fn alone(rt: &impl Abort, alloc: Global, text: &str) -> Result<PlayState, AtFault> {
     let problem = Problem::new(
         history(rt, alloc, &[".XOXO....", "O.OXO...."]),
         1,
@@ -211,7 +210,7 @@ fn alone(rt: &impl Abort, alloc: Global, text: &str) -> Result<Play, AtFault> {
     .expect(rt, "a problem");
     let colouring = three(rt, text);
     expect_that(rt, colouring.size() == problem.size());
-    State::at(alloc, &problem, &colouring, Colour::Black, 1)
+    PlayState::at(alloc, &problem, &colouring, Colour::Black, 1)
 }
 
 // Whether the fault names the point.
@@ -492,7 +491,7 @@ fn start_on_the_widest(
     alloc: Global,
     colouring: Colouring,
     target: Point,
-) -> Play {
+) -> PlayState {
     let mut targets = PointSet::new();
     targets.insert(target);
     let mut region = PointSet::new();
@@ -502,7 +501,7 @@ fn start_on_the_widest(
     let mut history = Vec::new(alloc);
     history.push(colouring).expect(rt, "memory");
     let problem = Problem::new(history, 0, Colour::Black, 0, targets, region);
-    State::of(alloc, &problem.expect(rt, "a problem")).expect(rt, "memory")
+    PlayState::of(alloc, &problem.expect(rt, "a problem")).expect(rt, "memory")
 }
 
 #[test]

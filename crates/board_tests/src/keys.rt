@@ -35,9 +35,7 @@ fn at(size: Size, letters: &str) -> Turn {
 // The key after these moves on the empty board.
 fn key_after(rt: &impl Abort, alloc: Global, rows: u8, moves: &[(Colour, &str)]) -> u64 {
     let size = Size::new(rows).expect(rt, "a size");
-    let mut record = Record::<PlayBoard, PlaySeen>::new(alloc, &Colouring::empty(size)).expect(
-        rt, "a record",
-    );
+    let mut record = PlayRecord::new(alloc, &Colouring::empty(size)).expect(rt, "a record");
     for (colour, letters) in moves {
         record
             .play(*colour, at(size, letters))
@@ -110,9 +108,7 @@ fn the_words_are_the_same_on_all_boards(rt: HostRuntime) {
 #[test]
 fn a_captured_stone_leaves_the_key(rt: HostRuntime) {
     let size = Size::new(2).expect(&rt, "a size");
-    let mut record = Record::<PlayBoard, PlaySeen>::new(rt.alloc(), &Colouring::empty(size)).expect(
-        &rt, "memory",
-    );
+    let mut record = PlayRecord::new(rt.alloc(), &Colouring::empty(size)).expect(&rt, "memory");
     record
         .play(Colour::Black, at(size, "aa"))
         .expect(&rt, "a legal turn");

@@ -50,6 +50,27 @@ fn expect_done(rt: &impl Abort, found: Result<(), TurnFault>, wanted: Result<(),
     assert_eq!(rt; found, wanted);
 }
 
+fn empty_record(rt: &impl Abort, alloc: Global, size: Size) -> PlayRecord {
+    PlayRecord::new(alloc, &Colouring::empty(size)).expect(rt, "memory")
+}
+
+// The move of this colour in this column and row has this outcome.
+fn expect_played(
+    rt: &impl Abort,
+    record: &mut PlayRecord,
+    colour: Colour,
+    place: (u8, u8),
+    wanted: Result<(), TurnFault>,
+) {
+    let turn = at(record.size(), place.0, place.1);
+    expect_done(rt, record.play(colour, turn), wanted);
+}
+
+// The record stands at these cells.
+fn expect_cells(rt: &impl Abort, record: &PlayRecord, text: &str) {
+    expect_colouring(rt, record.colouring(), painted(record.size(), text));
+}
+
 fn expect_taken(rt: &impl Abort, found: Option<u16>, wanted: Option<u16>) {
     assert_eq!(rt; found, wanted);
 }
@@ -57,51 +78,53 @@ fn expect_taken(rt: &impl Abort, found: Option<u16>, wanted: Option<u16>) {
 #[test]
 fn a_ko_may_not_be_retaken(rt: HostRuntime) {
     let size = board(&rt, 3);
-    let mut record = Record::<PlayBoard, PlaySeen>::new(rt.alloc(), &Colouring::empty(size)).expect(
-        &rt, "memory",
-    );
-    expect_done(&rt, record.play(Colour::Black, at(size, 1, 0)), Ok(()));
-    expect_done(&rt, record.play(Colour::White, at(size, 2, 0)), Ok(()));
-    expect_done(&rt, record.play(Colour::Black, at(size, 0, 1)), Ok(()));
-    expect_done(&rt, record.play(Colour::White, at(size, 1, 1)), Ok(()));
-    expect_done(&rt, record.play(Colour::White, at(size, 0, 0)), Ok(()));
-    expect_colouring(&rt, record.colouring(), painted(size, "O.OXO...."));
-    expect_done(
+    let mut record = empty_record(&rt, rt.alloc(), size);
+    expect_played(&rt, &mut record, Colour::Black, (1, 0), Ok(()));
+    expect_played(&rt, &mut record, Colour::White, (2, 0), Ok(()));
+    expect_played(&rt, &mut record, Colour::Black, (0, 1), Ok(()));
+    expect_played(&rt, &mut record, Colour::White, (1, 1), Ok(()));
+    expect_played(&rt, &mut record, Colour::White, (0, 0), Ok(()));
+    expect_cells(&rt, &record, "O.OXO....");
+    expect_played(
         &rt,
-        record.play(Colour::Black, at(size, 1, 0)),
+        &mut record,
+        Colour::Black,
+        (1, 0),
         Err(TurnFault::Repeats { earlier: 4 }),
     );
-    expect_colouring(&rt, record.colouring(), painted(size, "O.OXO...."));
+    expect_cells(&rt, &record, "O.OXO....");
     expect_count(&rt, record.seen().len(), 6);
     expect_done(&rt, record.undo(), Ok(()));
-    expect_colouring(&rt, record.colouring(), painted(size, ".XOXO...."));
+    expect_cells(&rt, &record, ".XOXO....");
     expect_count(&rt, record.seen().len(), 5);
-    expect_done(&rt, record.play(Colour::White, at(size, 0, 0)), Ok(()));
-    expect_colouring(&rt, record.colouring(), painted(size, "O.OXO...."));
+    expect_played(&rt, &mut record, Colour::White, (0, 0), Ok(()));
+    expect_cells(&rt, &record, "O.OXO....");
 }
 
 #[test]
 fn two_stones_may_die_by_their_own_move(rt: HostRuntime) {
     let size = board(&rt, 3);
-    let mut record = Record::<PlayBoard, PlaySeen>::new(rt.alloc(), &Colouring::empty(size)).expect(
-        &rt, "memory",
-    );
-    expect_done(&rt, record.play(Colour::Black, at(size, 0, 0)), Ok(()));
-    expect_done(&rt, record.play(Colour::White, at(size, 0, 1)), Ok(()));
-    expect_done(&rt, record.play(Colour::White, at(size, 1, 1)), Ok(()));
-    expect_done(&rt, record.play(Colour::White, at(size, 2, 0)), Ok(()));
-    expect_colouring(&rt, record.colouring(), painted(size, "X.OOO...."));
-    expect_done(&rt, record.play(Colour::Black, at(size, 1, 0)), Ok(()));
-    expect_colouring(&rt, record.colouring(), painted(size, "..OOO...."));
-    expect_done(&rt, record.play(Colour::White, at(size, 1, 0)), Ok(()));
-    expect_done(
+    let mut record = empty_record(&rt, rt.alloc(), size);
+    expect_played(&rt, &mut record, Colour::Black, (0, 0), Ok(()));
+    expect_played(&rt, &mut record, Colour::White, (0, 1), Ok(()));
+    expect_played(&rt, &mut record, Colour::White, (1, 1), Ok(()));
+    expect_played(&rt, &mut record, Colour::White, (2, 0), Ok(()));
+    expect_cells(&rt, &record, "X.OOO....");
+    expect_played(&rt, &mut record, Colour::Black, (1, 0), Ok(()));
+    expect_cells(&rt, &record, "..OOO....");
+    expect_played(&rt, &mut record, Colour::White, (1, 0), Ok(()));
+    expect_played(
         &rt,
-        record.play(Colour::Black, at(size, 0, 0)),
+        &mut record,
+        Colour::Black,
+        (0, 0),
         Err(TurnFault::Repeats { earlier: 6 }),
     );
-    expect_done(
+    expect_played(
         &rt,
-        record.play(Colour::Black, at(size, 1, 1)),
+        &mut record,
+        Colour::Black,
+        (1, 1),
         Err(TurnFault::Occupied),
     );
     expect_optional_colour(&rt, record.last_colour(), Some(Colour::White));
@@ -110,12 +133,12 @@ fn two_stones_may_die_by_their_own_move(rt: HostRuntime) {
 #[test]
 fn one_point_has_no_legal_move(rt: HostRuntime) {
     let size = board(&rt, 1);
-    let mut record = Record::<PlayBoard, PlaySeen>::new(rt.alloc(), &Colouring::empty(size)).expect(
-        &rt, "memory",
-    );
-    expect_done(
+    let mut record = empty_record(&rt, rt.alloc(), size);
+    expect_played(
         &rt,
-        record.play(Colour::Black, at(size, 0, 0)),
+        &mut record,
+        Colour::Black,
+        (0, 0),
         Err(TurnFault::Repeats { earlier: 0 }),
     );
     expect_optional_colour(&rt, record.last_colour(), None);
@@ -139,21 +162,23 @@ fn one_point_has_no_legal_move(rt: HostRuntime) {
 #[test]
 fn a_stone_without_liberty_is_taken(rt: HostRuntime) {
     let size = board(&rt, 2);
-    let mut record = Record::<PlayBoard, PlaySeen>::new(rt.alloc(), &Colouring::empty(size)).expect(
-        &rt, "memory",
-    );
-    expect_done(&rt, record.play(Colour::Black, at(size, 0, 0)), Ok(()));
-    expect_done(&rt, record.play(Colour::White, at(size, 1, 0)), Ok(()));
-    expect_done(&rt, record.play(Colour::Black, at(size, 1, 1)), Ok(()));
-    expect_colouring(&rt, record.colouring(), painted(size, "X..X"));
-    expect_done(
+    let mut record = empty_record(&rt, rt.alloc(), size);
+    expect_played(&rt, &mut record, Colour::Black, (0, 0), Ok(()));
+    expect_played(&rt, &mut record, Colour::White, (1, 0), Ok(()));
+    expect_played(&rt, &mut record, Colour::Black, (1, 1), Ok(()));
+    expect_cells(&rt, &record, "X..X");
+    expect_played(
         &rt,
-        record.play(Colour::White, at(size, 0, 1)),
+        &mut record,
+        Colour::White,
+        (0, 1),
         Err(TurnFault::Repeats { earlier: 3 }),
     );
-    expect_done(
+    expect_played(
         &rt,
-        record.play(Colour::White, at(size, 1, 0)),
+        &mut record,
+        Colour::White,
+        (1, 0),
         Err(TurnFault::Repeats { earlier: 3 }),
     );
 }
@@ -164,20 +189,19 @@ fn a_past_forbids(rt: HostRuntime) {
     let empty = Colouring::empty(size);
     let corner = painted(size, "X........");
     if corner.size() == empty.size() && empty != corner {
-        let mut record = Record::<PlayBoard, PlaySeen>::with_history(
-            rt.alloc(),
-            &[empty, corner],
-            0,
-            1,
-        ).expect(&rt, "memory");
+        let mut record = PlayRecord::with_history(rt.alloc(), &[empty, corner], 0, 1).expect(
+            &rt, "memory",
+        );
         expect_colouring(&rt, record.colouring(), empty);
         expect_number(&rt, record.passes(), 1);
-        expect_done(
+        expect_played(
             &rt,
-            record.play(Colour::Black, at(size, 0, 0)),
+            &mut record,
+            Colour::Black,
+            (0, 0),
             Err(TurnFault::Repeats { earlier: 1 }),
         );
-        expect_done(&rt, record.play(Colour::White, at(size, 0, 0)), Ok(()));
+        expect_played(&rt, &mut record, Colour::White, (0, 0), Ok(()));
         expect_number(&rt, record.passes(), 0);
     }
 }
@@ -186,7 +210,7 @@ fn a_past_forbids(rt: HostRuntime) {
 fn a_smothered_opening_is_refused(rt: HostRuntime) {
     let size = board(&rt, 3);
     let point = point(&rt, size, 1, 1);
-    let refused = Record::<PlayBoard, PlaySeen>::new(rt.alloc(), &painted(size, ".X.XOX.X.")).err();
+    let refused = PlayRecord::new(rt.alloc(), &painted(size, ".X.XOX.X.")).err();
     expect_same(&rt, refused, Some(TurnFault::NoLiberty { point }));
 }
 
@@ -194,8 +218,8 @@ fn a_smothered_opening_is_refused(rt: HostRuntime) {
 fn a_record_begins_anew(rt: HostRuntime) {
     let size = board(&rt, 3);
     let corner = painted(size, "X........");
-    let mut record = Record::<PlayBoard, PlaySeen>::new(rt.alloc(), &corner).expect(&rt, "memory");
-    expect_done(&rt, record.play(Colour::White, at(size, 1, 1)), Ok(()));
+    let mut record = PlayRecord::new(rt.alloc(), &corner).expect(&rt, "memory");
+    expect_played(&rt, &mut record, Colour::White, (1, 1), Ok(()));
     let smothered = painted(size, ".X.XOX.X.");
     expect_that(&rt, smothered.size() == record.size());
     let point = point(&rt, size, 1, 1);
@@ -204,7 +228,7 @@ fn a_record_begins_anew(rt: HostRuntime) {
         record.reopen(rt.alloc(), &smothered, 0),
         Err(TurnFault::NoLiberty { point }),
     );
-    expect_colouring(&rt, record.colouring(), painted(size, "X...O...."));
+    expect_cells(&rt, &record, "X...O....");
     expect_count(&rt, record.seen().len(), 2);
     let other = painted(size, "X.O......");
     expect_that(&rt, other.size() == record.size());
@@ -226,9 +250,7 @@ fn a_setup_is_a_step(rt: HostRuntime) {
     let beyond = point(&rt, board(&rt, 3), 2, 0);
     let black = Cell::Stone(Colour::Black);
     let white = Cell::Stone(Colour::White);
-    let mut record = Record::<PlayBoard, PlaySeen>::new(rt.alloc(), &Colouring::empty(size)).expect(
-        &rt, "memory",
-    );
+    let mut record = empty_record(&rt, rt.alloc(), size);
     expect_done(&rt, record.play(Colour::White, Turn::Pass), Ok(()));
     expect_done(
         &rt,
@@ -239,7 +261,7 @@ fn a_setup_is_a_step(rt: HostRuntime) {
         ]),
         Ok(()),
     );
-    expect_colouring(&rt, record.colouring(), painted(size, "XO.."));
+    expect_cells(&rt, &record, "XO..");
     expect_number(&rt, record.passes(), 0);
     expect_optional_colour(&rt, record.last_colour(), Some(Colour::White));
     expect_done(
@@ -252,7 +274,7 @@ fn a_setup_is_a_step(rt: HostRuntime) {
         record.setup(&[(lower_left, white), (beyond, black)]),
         Err(TurnFault::OffBoard),
     );
-    expect_colouring(&rt, record.colouring(), painted(size, "XO.."));
+    expect_cells(&rt, &record, "XO..");
     expect_done(
         &rt,
         record.setup(&[(upper_left, Cell::Empty), (upper_right, Cell::Empty)]),
@@ -429,10 +451,10 @@ fn each_colouring_joins_once(rt: HostRuntime) {
 #[test]
 fn a_turn_is_made_just_where_it_is_legal(rt: HostRuntime) {
     let size = board(&rt, 3);
-    let mut record = Record::<PlayBoard, PlaySeen>::new(
-        rt.alloc(),
-        &painted(size, ".XOXO...."),
-    ).expect(&rt, "liberties");
+    let mut record = PlayRecord::new(rt.alloc(), &painted(size, ".XOXO....")).expect(
+        &rt,
+        "liberties",
+    );
     expect_same(
         &rt,
         record.play_if_legal(Colour::White, at(size, 1, 0)).ok(),
@@ -448,7 +470,7 @@ fn a_turn_is_made_just_where_it_is_legal(rt: HostRuntime) {
         record.play_if_legal(Colour::Black, at(size, 1, 0)).ok(),
         Some(false),
     );
-    expect_colouring(&rt, record.colouring(), painted(size, "O.OXO...."));
+    expect_cells(&rt, &record, "O.OXO....");
     expect_count(&rt, record.seen().len(), 2);
     expect_same(
         &rt,

@@ -9,12 +9,9 @@ use crate::expect::{expect_same, expect_that};
 use crate::small_claims::judged;
 use cert_check::{MAX_DEPTH, Reject, Why};
 use go_points::{Colour, Colouring, Point, PointSet, Size, Turn, to_sgf};
-use go_turns::{PlayBoard, PlaySeen};
 use std::alloc::Global;
 use std::process::Abort;
-use target_game::{Problem, State};
-
-pub(crate) type PlayState = State<PlayBoard, PlaySeen>;
+use target_game::{PlayState, Problem};
 
 // A line of play in which the game does not end: the turns of black, `-` for a pass and else the point whose number is that
 // of the character after `0`. White makes the first turn that is legal. It was found by a search outside this program.
@@ -129,7 +126,7 @@ fn go_down(text: &mut Vec<u8>, rt: &impl Abort, state: &mut PlayState, turn: Tur
 #[test]
 fn depths_up_to_the_limit(rt: HostRuntime) {
     let problem = wide(rt.alloc(), &rt);
-    let mut state: PlayState = State::of(rt.alloc(), &problem).expect(&rt, "memory");
+    let mut state = PlayState::of(rt.alloc(), &problem).expect(&rt, "memory");
     let size = state.size();
     let mut claim = Vec::new(rt.alloc());
     claim

@@ -1,14 +1,14 @@
 //! An audit that goes down as many nested trees as a record may have.
 
 use crate::audits::{at, audited, repeated};
-use crate::deep::{PlayState, TURNS, first_turn, make, turn_of};
+use crate::deep::{TURNS, first_turn, make, turn_of};
 use crate::expect::expect_that;
 use go_points::{Turn, to_sgf};
 use sgf_text::read_tree;
 use solution_tree::AuditWhy;
 use std::alloc::Global;
 use std::process::Abort;
-use target_game::{Problem, State};
+use target_game::{PlayState, Problem};
 use tsumego_problem::read_problem;
 
 // How many turns of black are made: each takes two nested trees with the reply, of the 1,000 that a record may have.
@@ -70,7 +70,7 @@ fn end_play(alloc: Global, rt: &impl Abort, text: &mut Vec<u8>, state: &mut Play
 
 // The record: its first line goes down to the end of play, and beside each reply of it stand the other ones, unanswered.
 fn record_of(alloc: Global, rt: &impl Abort, problem: &Problem) -> Vec<u8> {
-    let mut state: PlayState = State::of(alloc, problem).expect(rt, "memory");
+    let mut state = PlayState::of(alloc, problem).expect(rt, "memory");
     let size = state.size();
     let mut text = WIDE.to_vec(alloc).expect(rt, "memory");
     let mut ends: Vec<Vec<u8>> = Vec::new(alloc);

@@ -1,13 +1,13 @@
 //! Claims as deep as a claim may be, right and wrong: black could take a stone at any time, and plays elsewhere first.
 
-use crate::deep::{PlayState, add_count, add_line, make};
+use crate::deep::{add_count, add_line, make};
 use crate::expect::expect_same;
 use crate::small_claims::judged;
 use cert_check::{Reject, Why};
 use go_points::{Cell, Colour, Colouring, PointSet, Size, Turn, sgf_point};
 use std::alloc::Global;
 use std::process::Abort;
-use target_game::{Problem, State};
+use target_game::{PlayState, Problem};
 
 // A board: a white stone in the corner that black can take at once, and elsewhere points that white shuts in. Where black plays
 // there is told by one letter for each of the points; a group of them that is full is taken off by its own last stone.
@@ -179,7 +179,7 @@ fn check_rounds(
     fault: Option<(u64, Why)>,
 ) {
     let problem = problem(alloc, rt, ground);
-    let mut state: PlayState = State::of(alloc, &problem).expect(rt, "memory");
+    let mut state = PlayState::of(alloc, &problem).expect(rt, "memory");
     let mut text = Vec::new(alloc);
     text.extend_from_slice(header(ground)).expect(rt, "memory");
     add_rounds(&mut text, rt, &mut state, ground, 0, 999);

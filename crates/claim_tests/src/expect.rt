@@ -44,3 +44,13 @@ pub(crate) fn expect_stop(rt: &impl Abort, found: Option<Expand>, wanted: Option
 pub(crate) fn expect_bytes(rt: &impl Abort, found: &[u8], wanted: &[u8]) {
     assert_eq!(rt; found, wanted);
 }
+
+/// Both are the same text.
+pub(crate) fn expect_text(rt: &impl Abort, found: &str, wanted: &str) {
+    assert_eq!(rt; found, wanted);
+}
+
+/// Both are the same number of 64 bits.
+pub(crate) fn expect_number(rt: &impl Abort, found: u64, wanted: u64) {
+    assert_eq!(rt; found, wanted);
+}

@@ -1,8 +1,11 @@
-//! Tests of claims that are judged, held, lifted, expanded and written, and of audits. They call what those crates make public.
+//! Tests of problems and their records; of claims that are judged, held, lifted, expanded and written; and of audits. They
+//! call what those crates make public.
 #![tactic(auto)]
 
 #[cfg(test)]
 mod audits;
+#[cfg(test)]
+mod canonical;
 #[cfg(test)]
 mod deep;
 #[cfg(test)]
@@ -21,6 +24,8 @@ mod lemmas;
 mod lifts;
 #[cfg(test)]
 mod pasts;
+#[cfg(test)]
+mod problems;
 #[cfg(test)]
 mod small_claims;
 #[cfg(test)]

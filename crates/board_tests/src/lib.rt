@@ -1,4 +1,4 @@
-//! Tests of the game: points, keys, chains, boards and their turns, and problems. They call what those crates make public.
+//! Tests of points, keys, chains, boards and their turns. They call what those crates make public.
 #![tactic(auto)]
 
 #[cfg(test)]
@@ -8,8 +8,6 @@ mod chains;
 #[cfg(test)]
 mod expect;
 #[cfg(test)]
-mod game;
-#[cfg(test)]
 mod keys;
 #[cfg(test)]
 mod lists;
@@ -17,5 +15,3 @@ mod lists;
 mod points;
 #[cfg(test)]
 mod turns;
-#[cfg(test)]
-mod within;

@@ -1,4 +1,5 @@
-//! Tests of texts: SGF records, and claims with their lines. They call what those crates make public.
+//! Tests of texts: SGF records, claims with their lines, and the words of the command line. They call what those crates
+//! make public.
 #![tactic(auto)]
 
 #[cfg(test)]
@@ -11,3 +12,5 @@ mod pasts;
 mod readers;
 #[cfg(test)]
 mod sgf;
+#[cfg(test)]
+mod words;

@@ -1,10 +1,11 @@
 //! What the search by proof numbers finds, put to the checker.
 
 use crate::expect::{expect_same, expect_that};
+use crate::positions::{Position, problem_of};
 use cert_check::check_held;
 use claim_maker::{Choice, Pasts, claim_with_lemmas, claim_without_lemmas, share_tree};
 use df_pn::{Search, Stop, prove};
-use go_points::{Colour, Colouring, PointSet, Size, sgf_point};
+use go_points::Colour;
 use proof_cert::{Certificate, Version, read_cert, write_cert};
 use state_proofs::Shared;
 use std::alloc::Global;
@@ -13,14 +14,6 @@ use std::process::Abort;
 use target_game::Problem;
 
 // The points with these letters, two for each.
-fn points(rt: &impl Abort, size: Size, letters: &str) -> PointSet {
-    let mut found = PointSet::new();
-    for pair in letters.as_bytes().chunks(2) {
-        found.insert(sgf_point(size, pair).expect(rt, "a point"));
-    }
-    found
-}
-
 // The problem on a board of so many rows whose present colouring is the last of its history.
 fn problem(
     rt: &impl Abort,
@@ -31,16 +24,15 @@ fn problem(
     targets: &str,
     region: &str,
 ) -> Problem {
-    let size = Size::new(rows).expect(rt, "a size");
-    let mut history = Vec::new(alloc);
-    for text in texts {
-        let colouring = Colouring::from_text(size, text.as_bytes()).expect(rt, "a colouring");
-        history.push(colouring).expect(rt, "memory");
-    }
-    let place = texts.len().saturating_sub(1);
-    let targets = points(rt, size, targets);
-    let region = points(rt, size, region);
-    Problem::new(history, place, mover, 0, targets, region).expect(rt, "a problem")
+    let position = Position {
+        rows,
+        texts,
+        mover,
+        passes: 0,
+        targets,
+        region,
+    };
+    problem_of(rt, alloc, &position)
 }
 
 fn states(rt: &impl Abort, table: usize) -> NonZeroUsize {

@@ -1,6 +1,6 @@
 //! Decisions within a number of turns, on positions whose trees are written out.
 
-use crate::game::{history, points};
+use crate::positions::{Position, problem_of};
 use go_points::{Cell, Colour, Colouring, PointSet, Size};
 use std::alloc::Global;
 use std::process::Abort;
@@ -16,16 +16,15 @@ fn problem(
     targets: &str,
     region: &str,
 ) -> Problem {
-    let place = texts.len().saturating_sub(1);
-    let made = Problem::new(
-        history(rt, alloc, texts),
-        place,
+    let position = Position {
+        rows: 3,
+        texts,
         mover,
         passes,
-        points(rt, targets),
-        points(rt, region),
-    );
-    made.expect(rt, "a problem")
+        targets,
+        region,
+    };
+    problem_of(rt, alloc, &position)
 }
 
 // What is decided within so many turns, by at most so many states.

@@ -4,6 +4,7 @@ use crate::expect::{
     expect_colour, expect_colouring, expect_count, expect_number, expect_optional_colour,
     expect_optional_count, expect_same, expect_that,
 };
+use crate::positions::{Position, board_of, history, points, problem_of};
 use arrayvec::ArrayVec;
 use go_points::{Cell, Colour, Colouring, MAX_SIZE, Point, PointSet, Size, Turn, sgf_point};
 use std::alloc::Global;
@@ -12,33 +13,9 @@ use target_game::{
     AtFault, BadProblem, Child, MAX_HISTORY, MAX_TURNS, PlayState, Problem, TurnsLeft,
 };
 
-// The colouring of 3 by 3 with this text.
-pub(crate) fn three(rt: &impl Abort, text: &str) -> Colouring {
-    let size = Size::new(3).expect(rt, "a size");
-    Colouring::from_text(size, text.as_bytes()).expect(rt, "a text")
-}
-
-// The points of 3 by 3 with these letters, two for each.
-pub(crate) fn points(rt: &impl Abort, letters: &str) -> PointSet {
-    let size = Size::new(3).expect(rt, "a size");
-    let mut found = PointSet::new();
-    for pair in letters.as_bytes().chunks(2) {
-        found.insert(sgf_point(size, pair).expect(rt, "a point"));
-    }
-    found
-}
-
 fn turn(rt: &impl Abort, letters: &str) -> Turn {
     let size = Size::new(3).expect(rt, "a size");
     Turn::At(sgf_point(size, letters.as_bytes()).expect(rt, "a point"))
-}
-
-pub(crate) fn history(rt: &impl Abort, alloc: Global, texts: &[&str]) -> Vec<Colouring> {
-    let mut all = Vec::new(alloc);
-    for text in texts {
-        all.push(three(rt, text)).expect(rt, "memory");
-    }
-    all
 }
 
 // The start of a problem on 3 by 3 whose present colouring is the last of its history.
@@ -50,16 +27,15 @@ fn start(
     targets: &str,
     region: &str,
 ) -> PlayState {
-    let place = texts.len().saturating_sub(1);
-    let problem = Problem::new(
-        history(rt, alloc, texts),
-        place,
+    let position = Position {
+        rows: 3,
+        texts,
         mover,
-        0,
-        points(rt, targets),
-        points(rt, region),
-    );
-    PlayState::of(alloc, &problem.expect(rt, "a problem")).expect(rt, "memory")
+        passes: 0,
+        targets,
+        region,
+    };
+    PlayState::of(alloc, &problem_of(rt, alloc, &position)).expect(rt, "memory")
 }
 
 // Makes a turn, if it is legal.
@@ -113,12 +89,12 @@ fn expect_legal(rt: &impl Abort, state: &PlayState, letters: &str) {
 
 // The state has these cells.
 fn expect_cells(rt: &impl Abort, state: &PlayState, text: &str) {
-    expect_colouring(rt, state.colouring(), three(rt, text));
+    expect_colouring(rt, state.colouring(), board_of(rt, 3, text));
 }
 
 // These cells have occurred first at this place, or not at all.
 fn expect_place(rt: &impl Abort, state: &PlayState, text: &str, place: Option<usize>) {
-    expect_optional_count(rt, state.holds(&three(rt, text)), place);
+    expect_optional_count(rt, state.holds(&board_of(rt, 3, text)), place);
 }
 
 // The move with these letters leads to this.
@@ -200,15 +176,15 @@ fn the_past_decides_at_a_ko(rt: HostRuntime) {
 // The state with this colouring alone, one pass just made, in a problem whose history bars the capture at the upper left.
 fn alone(rt: &impl Abort, alloc: Global, text: &str) -> Result<PlayState, AtFault> {
     let problem = Problem::new(
-        history(rt, alloc, &[".XOXO....", "O.OXO...."]),
+        history(rt, alloc, 3, &[".XOXO....", "O.OXO...."]),
         1,
         Colour::White,
         0,
-        points(rt, "aa"),
-        points(rt, "ba"),
+        points(rt, 3, "aa"),
+        points(rt, 3, "ba"),
     )
     .expect(rt, "a problem");
-    let colouring = three(rt, text);
+    let colouring = board_of(rt, 3, text);
     expect_that(rt, colouring.size() == problem.size());
     PlayState::at(alloc, &problem, &colouring, Colour::Black, 1)
 }
@@ -248,13 +224,13 @@ fn a_state_begins_anew_in_the_same_game(rt: HostRuntime) {
     let size = Size::new(3).expect(&rt, "a size");
     let second = sgf_point(size, b"ba").expect(&rt, "a point");
     let mut state = alone(&rt, rt.alloc(), ".XOXO....").expect(&rt, "a state");
-    let smothered = three(&rt, "XOX.X....");
+    let smothered = board_of(&rt, 3, "XOX.X....");
     expect_that(&rt, smothered.size() == state.size());
     let refused = state.restart(rt.alloc(), &smothered, Colour::White, 0);
     expect_that(&rt, refused.is_err_and(|fault| names(fault, second)));
     expect_cells(&rt, &state, ".XOXO....");
     expect_colour(&rt, state.mover(), Colour::Black);
-    let taken = three(&rt, "O.OXO....");
+    let taken = board_of(&rt, 3, "O.OXO....");
     expect_that(&rt, taken.size() == state.size());
     expect_that(
         &rt,
@@ -324,14 +300,14 @@ fn refusal(
     targets: &str,
     region: &str,
 ) -> Option<BadProblem> {
-    let all = history(rt, alloc, texts);
+    let all = history(rt, alloc, 3, texts);
     match Problem::new(
         all,
         place,
         Colour::Black,
         passes,
-        points(rt, targets),
-        points(rt, region),
+        points(rt, 3, targets),
+        points(rt, 3, region),
     ) {
         Ok(_) => None,
         Err(fault) => Some(fault),
@@ -432,7 +408,7 @@ fn the_earlier_refusal_is_named(rt: HostRuntime) {
 
 #[test]
 fn a_colouring_of_another_size_is_refused(rt: HostRuntime) {
-    let mut all = history(&rt, rt.alloc(), &["O..X....."]);
+    let mut all = history(&rt, rt.alloc(), 3, &["O..X....."]);
     all.push(Colouring::empty(Size::new(2).expect(&rt, "a size")))
         .expect(&rt, "memory");
     match Problem::new(
@@ -440,8 +416,8 @@ fn a_colouring_of_another_size_is_refused(rt: HostRuntime) {
         5,
         Colour::Black,
         0,
-        points(&rt, "aa"),
-        points(&rt, "ba"),
+        points(&rt, 3, "aa"),
+        points(&rt, 3, "ba"),
     ) {
         Ok(_) => expect_that(&rt, false),
         Err(fault) => expect_same(&rt, fault, BadProblem::OtherSize),
@@ -552,26 +528,26 @@ fn a_capture_of_all_the_widest_board_holds(rt: HostRuntime) {
 
 #[test]
 fn a_problem_tells_its_parts(rt: HostRuntime) {
-    let all = history(&rt, rt.alloc(), &[".XOXO....", "O.OXO...."]);
+    let all = history(&rt, rt.alloc(), 3, &[".XOXO....", "O.OXO...."]);
     let made = Problem::new(
         all,
         1,
         Colour::Black,
         1,
-        points(&rt, "aa"),
-        points(&rt, "bacc"),
+        points(&rt, 3, "aa"),
+        points(&rt, 3, "bacc"),
     );
     let made = made.expect(&rt, "a problem");
     let problem = made.copy(rt.alloc()).expect(&rt, "memory");
     expect_same(&rt, problem.size().rows(), 3);
     expect_count(&rt, problem.history().len(), 2);
     expect_count(&rt, problem.place(), 1);
-    expect_colouring(&rt, *problem.colouring(), three(&rt, "O.OXO...."));
+    expect_colouring(&rt, *problem.colouring(), board_of(&rt, 3, "O.OXO...."));
     expect_colour(&rt, problem.mover(), Colour::Black);
     expect_number(&rt, problem.passes(), 1);
     expect_colour(&rt, problem.defender(), Colour::White);
-    expect_same(&rt, *problem.targets(), points(&rt, "aa"));
-    expect_same(&rt, *problem.region(), points(&rt, "bacc"));
+    expect_same(&rt, *problem.targets(), points(&rt, 3, "aa"));
+    expect_same(&rt, *problem.region(), points(&rt, 3, "bacc"));
 }
 
 #[test]

@@ -1,23 +1,15 @@
 //! Full search on boards of three rows, where every claim and every step is worked out by hand.
 
 use crate::expect::{expect_same, expect_that};
+use crate::positions::{Position, points, problem_of};
 use full_search::first_win;
-use go_points::{Colour, Colouring, PointSet, Size, sgf_point};
+use go_points::Colour;
 use pn_search::{Budget, Verdict, solve};
 use proof_cert::{Certificate, Version, write_cert};
 use std::alloc::Global;
 use std::num::NonZeroUsize;
 use std::process::Abort;
 use target_game::Problem;
-
-fn points(rt: &impl Abort, letters: &str) -> PointSet {
-    let size = Size::new(3).expect(rt, "a size");
-    let mut found = PointSet::new();
-    for pair in letters.as_bytes().chunks(2) {
-        found.insert(sgf_point(size, pair).expect(rt, "a point"));
-    }
-    found
-}
 
 // The problem on 3 by 3 whose present colouring is the last of its history.
 fn problem(
@@ -28,22 +20,15 @@ fn problem(
     target: &str,
     region: &str,
 ) -> Problem {
-    let size = Size::new(3).expect(rt, "a size");
-    let mut history = Vec::new(alloc);
-    for text in texts {
-        let colouring = Colouring::from_text(size, text.as_bytes()).expect(rt, "a text");
-        history.push(colouring).expect(rt, "memory");
-    }
-    let place = texts.len().saturating_sub(1);
-    let made = Problem::new(
-        history,
-        place,
+    let position = Position {
+        rows: 3,
+        texts,
         mover,
-        0,
-        points(rt, target),
-        points(rt, region),
-    );
-    made.expect(rt, "a problem")
+        passes: 0,
+        targets: target,
+        region,
+    };
+    problem_of(rt, alloc, &position)
 }
 
 fn budget(rt: &impl Abort, steps: u64) -> Budget {
@@ -176,8 +161,8 @@ fn a_problem_is_handed_back(rt: HostRuntime) {
             expect_same(&rt, rest.place(), 1);
             expect_same(&rt, rest.mover(), Colour::Black);
             expect_same(&rt, rest.passes(), 0);
-            expect_that(&rt, *rest.targets() == points(&rt, "aa"));
-            expect_that(&rt, *rest.region() == points(&rt, "ba"));
+            expect_that(&rt, *rest.targets() == points(&rt, 3, "aa"));
+            expect_that(&rt, *rest.region() == points(&rt, 3, "ba"));
         }
     }
 }

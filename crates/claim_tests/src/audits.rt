@@ -62,7 +62,7 @@ fn behind(
 #[test]
 fn follows_the_first_line(rt: HostRuntime) {
     let alloc = rt.alloc();
-    let rows: [(&[u8], Result<Colour, AuditFault>); 16] = [
+    let rows: [(&[u8], Result<Colour, AuditFault>); 10] = [
         (b";B[ba])", Ok(Colour::Black)),
         (b";W[ba])", at(2, AuditWhy::WrongColour)),
         (b";B[ab])", at(2, AuditWhy::TurnBarred)),
@@ -71,15 +71,25 @@ fn follows_the_first_line(rt: HostRuntime) {
         (b";B[tt])", at(2, AuditWhy::NotWon)),
         (b";B[ba];W[])", at(3, AuditWhy::AfterTheEnd)),
         (b")", at(1, AuditWhy::NotWon)),
+        // A turn of the wrong colour is named before one that is barred or comes too late.
+        (b";W[ab])", at(2, AuditWhy::WrongColour)),
+        (b";B[ba];B[ba])", at(3, AuditWhy::WrongColour)),
+    ];
+    for (nodes, answer) in rows {
+        expect_same(&rt, behind(alloc, &rt, CAPTURE, nodes), answer);
+    }
+}
+
+#[test]
+fn asks_each_node_for_one_turn(rt: HostRuntime) {
+    let alloc = rt.alloc();
+    let rows: [(&[u8], Result<Colour, AuditFault>); 6] = [
         (b";B[ba]W[ba])", at(2, AuditWhy::NoTurn)),
         (b";B[ba][])", at(2, AuditWhy::NoTurn)),
         (b";B[dd])", at(2, AuditWhy::NoTurn)),
         (b";B[ba]AE[cc])", at(2, AuditWhy::NoTurn)),
         (b";C[Black takes];B[ba])", at(2, AuditWhy::NoTurn)),
         (b";TR[aa]C[takes]B[ba]PL[B]N[a])", Ok(Colour::Black)),
-        // A turn of the wrong colour is named before one that is barred or comes too late.
-        (b";W[ab])", at(2, AuditWhy::WrongColour)),
-        (b";B[ba];B[ba])", at(3, AuditWhy::WrongColour)),
     ];
     for (nodes, answer) in rows {
         expect_same(&rt, behind(alloc, &rt, CAPTURE, nodes), answer);

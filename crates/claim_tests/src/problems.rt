@@ -69,35 +69,45 @@ fn around(rt: &impl Abort, alloc: Global, before: &[u8], text: &[u8], after: &[u
     all
 }
 
+// The number of rows of the board that SZ with this value names.
+fn rows_named(rt: &impl Abort, alloc: Global, value: &[u8]) -> Option<u8> {
+    let text = around(rt, alloc, b"(;SZ[", value, b"])");
+    let (tree, _end) = read_tree(alloc, text.as_slice()).expect(rt, "a tree");
+    board_size(&tree.nodes()[0]).map(|size| size.rows())
+}
+
 #[test]
 fn reads_sizes(rt: HostRuntime) {
-    let alloc = rt.alloc();
-    let rows: [(&[u8], Option<u8>); 17] = [
-        (b"9", Some(9)),
-        (b"+009", Some(9)),
-        (b"19:19", Some(19)),
-        (b" 3:+03 ", Some(3)),
-        (b"1", Some(1)),
-        (b"0", None),
-        (b"20", Some(20)),
-        (b"+025:25", Some(25)),
-        (b"26", None),
-        (b"256", None),
-        (b"18446744073709551625", None),
-        (b"9:19", None),
-        (b"9:", None),
-        (b"9:9:9", None),
-        (b"+", None),
-        (b"-9", None),
-        (b"", None),
+    let rows: [(&[u8], u8); 7] = [
+        (b"9", 9),
+        (b"+009", 9),
+        (b"19:19", 19),
+        (b" 3:+03 ", 3),
+        (b"1", 1),
+        (b"20", 20),
+        (b"+025:25", 25),
     ];
-    for (value, rows_of_it) in rows {
-        let (tree, _end) = read_tree(
-            alloc,
-            around(&rt, alloc, b"(;SZ[", value, b"])").as_slice(),
-        ).expect(&rt, "memory");
-        let size = board_size(&tree.nodes()[0]);
-        expect_same(&rt, size.map(|size| size.rows()), rows_of_it);
+    for (value, named) in rows {
+        expect_same(&rt, rows_named(&rt, rt.alloc(), value), Some(named));
+    }
+}
+
+#[test]
+fn refuses_other_sizes(rt: HostRuntime) {
+    let values: [&[u8]; 10] = [
+        b"0",
+        b"26",
+        b"256",
+        b"18446744073709551625",
+        b"9:19",
+        b"9:",
+        b"9:9:9",
+        b"+",
+        b"-9",
+        b"",
+    ];
+    for value in values {
+        expect_same(&rt, rows_named(&rt, rt.alloc(), value), None);
     }
 }
 

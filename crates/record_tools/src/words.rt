@@ -133,10 +133,19 @@ fn program<'a>(alloc: Global) -> Result<clap::Command<'a>, AllocError> {
     let program = clap::Command::new(alloc, "problem_tools")
         .about("Makes problems of records, read from standard input, and shows them.")
         .subcommand_required(true);
-    let program = program.subcommand(split_command(alloc)?)?;
-    let program = program.subcommand(mark_command(alloc)?)?;
-    let program = program.subcommand(page_command(alloc)?)?;
-    program.subcommand(picture_command(alloc)?)
+    let program = with_command(program, split_command(alloc))?;
+    let program = with_command(program, mark_command(alloc))?;
+    let program = with_command(program, page_command(alloc))?;
+    with_command(program, picture_command(alloc))
+}
+
+/// The program with one command more. That a program ends as it should where a command was not made is proved here, once:
+/// each place at which that may happen costs the proof ten seconds.
+fn with_command<'a>(
+    program: clap::Command<'a>,
+    command: Result<clap::Command<'a>, AllocError>,
+) -> Result<clap::Command<'a>, AllocError> {
+    program.subcommand(command?)
 }
 
 fn split_command<'a>(alloc: Global) -> Result<clap::Command<'a>, AllocError> {

@@ -1,10 +1,10 @@
 //! Claims written and walked, against texts that were spelled by hand from the format.
 
 use crate::expect::{expect_bytes, expect_number, expect_same, expect_text, expect_that};
+use crate::narrow::Narrow;
 use go_points::{Colour, Colouring, Point, Size, Turn};
 use proof_cert::*;
 use std::alloc::Global;
-use std::io;
 use std::process::Abort;
 
 const SHARED: &str =
@@ -252,32 +252,6 @@ fn lemmas_may_have_no_spelling(rt: HostRuntime) {
     expect_that(&rt, failed && lines.len() == 1);
 }
 
-/// A writer that takes some bytes at a time, and then fails.
-#[derive(Drop)]
-struct Narrow {
-    taken: Vec<u8>,
-    piece: usize,
-    room: usize,
-}
-
-impl io::Write for Narrow {
-    fn write(&mut self, bytes: &[u8]) -> io::Result<usize> {
-        let n = bytes.len().min(self.piece).min(self.room);
-        if n == 0 {
-            return Err(io::Error::from(io::ErrorKind::Other));
-        }
-        self.room -= n;
-        if self.taken.extend_from_slice(&bytes[..n]).is_err() {
-            return Err(io::Error::from(io::ErrorKind::OutOfMemory));
-        }
-        Ok(n)
-    }
-
-    fn flush(&mut self) -> io::Result<()> {
-        Ok(())
-    }
-}
-
 #[test]
 fn a_failed_write_leaves_a_front(rt: HostRuntime) {
     let alloc = rt.alloc();
@@ -287,6 +261,7 @@ fn a_failed_write_leaves_a_front(rt: HostRuntime) {
             taken: Vec::new(alloc),
             piece: 7,
             room,
+            fails: true,
         };
         let result = write_cert(&certificate, &mut writer);
         expect_same(&rt, result.is_ok(), room == MEETING.len());

@@ -1,9 +1,9 @@
 //! Texts of the format with what they read as, and trees with what they are written as.
 
 use crate::expect::{expect_bytes, expect_count, expect_same, expect_text, expect_that};
+use crate::narrow::Narrow;
 use sgf_text::*;
 use std::alloc::Global;
-use std::io;
 use std::process::Abort;
 
 /// The fault of a text, where it has one.
@@ -70,26 +70,31 @@ fn gives_the_place_behind_the_tree(rt: HostRuntime) {
 }
 
 #[test]
+fn finds_no_tree(rt: HostRuntime) {
+    let alloc = rt.alloc();
+    let texts: [&[u8]; 4] = [b"", b"()", b"aaaa", b"( ("];
+    for text in texts {
+        expect_fault(&rt, fault_of(alloc, text), Some(SgfFault::NoTree));
+    }
+}
+
+#[test]
 fn gives_the_first_fault(rt: HostRuntime) {
     let alloc = rt.alloc();
-    let rows: [(&[u8], SgfFault); 14] = [
-        (b"", SgfFault::NoTree),
-        (b"()", SgfFault::NoTree),
-        (b"aaaa", SgfFault::NoTree),
-        (b"( (", SgfFault::NoTree),
-        (b"(;", SgfFault::Syntax { at: 2 }),
-        (b"(;FF[4]SZ[3]AB[aa)", SgfFault::Syntax { at: 18 }),
-        (b"(;a[x])", SgfFault::Syntax { at: 3 }),
-        (b"(;B)", SgfFault::Syntax { at: 3 }),
-        (b"(;a [x])", SgfFault::Syntax { at: 3 }),
-        (b"(;B b[x])", SgfFault::Syntax { at: 4 }),
-        (b"(;B[x]5)", SgfFault::Syntax { at: 6 }),
-        (b"(;(;B[x]);)", SgfFault::Syntax { at: 9 }),
-        (b"(;(B[x]))", SgfFault::Syntax { at: 3 }),
-        (b"(;[x])", SgfFault::Syntax { at: 2 }),
+    let rows: [(&[u8], usize); 10] = [
+        (b"(;", 2),
+        (b"(;FF[4]SZ[3]AB[aa)", 18),
+        (b"(;a[x])", 3),
+        (b"(;B)", 3),
+        (b"(;a [x])", 3),
+        (b"(;B b[x])", 4),
+        (b"(;B[x]5)", 6),
+        (b"(;(;B[x]);)", 9),
+        (b"(;(B[x]))", 3),
+        (b"(;[x])", 2),
     ];
-    for (text, fault) in rows {
-        expect_fault(&rt, fault_of(alloc, text), Some(fault));
+    for (text, at) in rows {
+        expect_fault(&rt, fault_of(alloc, text), Some(SgfFault::Syntax { at }));
     }
 }
 
@@ -234,27 +239,6 @@ fn cuts_into_tokens(rt: HostRuntime) {
     expect_count(&rt, tokens(text).count(), 8);
 }
 
-/// A writer that takes some bytes at a time, and no more than so many in all.
-#[derive(Drop)]
-struct Narrow {
-    taken: Vec<u8>,
-    piece: usize,
-    room: usize,
-}
-
-impl io::Write for Narrow {
-    fn write(&mut self, buf: &[u8]) -> io::Result<usize> {
-        let n = buf.len().min(self.piece).min(self.room);
-        self.taken.extend_from_slice(&buf[..n])?;
-        self.room -= n;
-        Ok(n)
-    }
-
-    fn flush(&mut self) -> io::Result<()> {
-        Ok(())
-    }
-}
-
 #[test]
 fn leaves_a_front_where_writing_fails(rt: HostRuntime) {
     let alloc = rt.alloc();
@@ -265,6 +249,7 @@ fn leaves_a_front_where_writing_fails(rt: HostRuntime) {
             taken: Vec::new(alloc),
             piece: 3,
             room,
+            fails: false,
         };
         expect_same(&rt, write_tree(&tree, &mut narrow), Err(WriteFault::Write));
         expect_bytes(&rt, narrow.taken.as_slice(), &text[..room]);
@@ -273,6 +258,7 @@ fn leaves_a_front_where_writing_fails(rt: HostRuntime) {
         taken: Vec::new(alloc),
         piece: 3,
         room: 1000,
+        fails: false,
     };
     expect_same(&rt, write_tree(&tree, &mut narrow), Ok(()));
     expect_bytes(&rt, narrow.taken.as_slice(), text.as_slice());

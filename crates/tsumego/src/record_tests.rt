@@ -5,196 +5,176 @@ use std::alloc::Global;
 use std::process::Abort;
 use tsumego_replies::Status;
 
+// Tables have at most a dozen rows: the proof of one with twice as many takes ten times as long.
+
+// Texts that are no record.
+const NO_RECORD: [(&str, &str); 7] = [
+    ("(;a[x])", "refused: sgf 2 syntax at 3\n"),
+    ("(;B)", "refused: sgf 2 syntax at 3\n"),
+    ("()", "refused: sgf 1 no tree\n"),
+    ("", "refused: sgf 1 no tree\n"),
+    ("(;", "refused: sgf 2 syntax at 2\n"),
+    ("(;FF[4]SZ[3]AB[aa)", "refused: sgf 2 syntax at 18\n"),
+    ("(;SZ[3]AW[aa]TR[aa]", "refused: sgf 2 syntax at 19\n"),
+];
+
 #[test]
-fn records_are_refused(rt: HostRuntime) {
-    let rows: [(&str, Status, &str); 37] = [
-        ("(;a[x])", Status::Refused, "refused: sgf 2 syntax at 3\n"),
-        ("(;B)", Status::Refused, "refused: sgf 2 syntax at 3\n"),
-        ("()", Status::Refused, "refused: sgf 1 no tree\n"),
-        ("(;GM[2])", Status::Refused, "refused: problem 1 game\n"),
-        (
-            "(;SZ[3]PL[B][W]TR[aa])",
-            Status::Refused,
-            "refused: problem 4 many values of PL at node 0\n",
-        ),
-        (
-            "(;SZ[3]AW[dd]TR[aa])",
-            Status::Refused,
-            "refused: problem 5 bad point at node 0\n",
-        ),
-        (
-            "(;SZ[3];B[aa]AW[bb]TR[bb])",
-            Status::Refused,
-            "refused: problem 7 mixed at node 1\n",
-        ),
-        (
-            "(;SZ[3];B[aa]W[bb]TR[bb])",
-            Status::Refused,
-            "refused: problem 8 both colours at node 1\n",
-        ),
-        (
-            "(;SZ[3]AW[aa]AB[ba][ab]TR[ba])",
-            Status::Refused,
-            "refused: problem 10 no liberty at node 0\n",
-        ),
-        (
-            "(;SZ[3]AW[aa]TR[bb])",
-            Status::Refused,
-            "refused: problem 11 bad targets at node 0\n",
-        ),
-        (
-            "(;SZ[3]AW[aa];B[];W[]TR[aa])",
-            Status::Refused,
-            "refused: problem 12 ended at node 2\n",
-        ),
-        (
-            "(;SZ[3]AW[aa]PL[x]TR[aa])",
-            Status::Refused,
-            "refused: problem 13 bad colour at node 0\n",
-        ),
-        ("", Status::Refused, "refused: sgf 1 no tree\n"),
-        ("(;", Status::Refused, "refused: sgf 2 syntax at 2\n"),
-        (
-            "(;FF[4]SZ[3]AB[aa)",
-            Status::Refused,
-            "refused: sgf 2 syntax at 18\n",
-        ),
-        (
-            "(;SZ[26]AW[aa]TR[aa])",
-            Status::Refused,
-            "refused: problem 2 size\n",
-        ),
-        (
-            "(;SZ[3]AW[aa])",
-            Status::Refused,
-            "refused: problem 3 no problem node\n",
-        ),
-        (
-            "(;SZ[3]AB[aa]AW[aa]TR[aa])",
-            Status::Refused,
-            "refused: problem 6 shared point at node 0\n",
-        ),
-        (
-            "(;SZ[3];B[aa];W[aa]TR[aa])",
-            Status::Refused,
-            "refused: problem 9 illegal turn at node 2: occupied\n",
-        ),
-        (
-            "(;SZ[3]AB[ba][ab]AW[ca][bb]PL[W];W[aa];B[ba]TR[ab])",
-            Status::Refused,
-            "refused: problem 9 illegal turn at node 2: repeats 0\n",
-        ),
-        (
-            "(;SZ[3]AW[aa]TR[aa]",
-            Status::Refused,
-            "refused: sgf 2 syntax at 19\n",
-        ),
-        (
-            "(;SZ[3]AW[aa]TR[])",
-            Status::Refused,
-            "refused: problem 5 bad point at node 0\n",
-        ),
-        (
-            "(;SZ[3]AW[cb:ba]TR[ba])",
-            Status::Refused,
-            "refused: problem 5 bad point at node 0\n",
-        ),
-        (
-            "(;SZ[3]AW[aa];B[dd];TR[aa])",
-            Status::Refused,
-            "refused: problem 5 bad point at node 1\n",
-        ),
-        (
-            "(;SZ[3]AW[aa][bb]AB[bb];B[dd]TR[aa])",
-            Status::Refused,
-            "refused: problem 6 shared point at node 0\n",
-        ),
-        (
-            "(;SZ[3]B[aa][bb]TR[aa])",
-            Status::Refused,
-            "refused: problem 4 many values of B at node 0\n",
-        ),
-        (
-            "(;SZ[3]AW[aa];W[bb][cc]TR[aa])",
-            Status::Refused,
-            "refused: problem 4 many values of W at node 1\n",
-        ),
-        (
-            "(;SZ[3];PL[B][W]B[aa][bb]TR[aa])",
-            Status::Refused,
-            "refused: problem 4 many values of B at node 1\n",
-        ),
-        (
-            "(;SZ[3]AW[aa]PL[]TR[aa])",
-            Status::Refused,
-            "refused: problem 13 bad colour at node 0\n",
-        ),
-        (
-            "(;SZ[3]AW[aa]AB[bb]TR[aa][bb])",
-            Status::Refused,
-            "refused: problem 11 bad targets at node 0\n",
-        ),
-        (
-            "(;SZ[3][3]AW[aa]TR[aa])",
-            Status::Refused,
-            "refused: problem 2 size\n",
-        ),
-        (
-            "(;SZ[0]AW[aa]TR[aa])",
-            Status::Refused,
-            "refused: problem 2 size\n",
-        ),
-        (
-            "(;SZ[9:8]AW[aa]TR[aa])",
-            Status::Refused,
-            "refused: problem 2 size\n",
-        ),
-        (
-            "(;GM[1][1]SZ[3]AW[aa]TR[aa])",
-            Status::Refused,
-            "refused: problem 1 game\n",
-        ),
-        (
-            "(;GM[01]SZ[3]AW[aa]TR[aa])",
-            Status::Refused,
-            "refused: problem 1 game\n",
-        ),
-        (
-            "(;SZ[3]AB[ba][ab]AW[ca][bb]PL[W];W[aa];W[tt];B[ba]TR[ab])",
-            Status::Refused,
-            "refused: problem 9 illegal turn at node 3: repeats 0\n",
-        ),
-        (
-            "(;SZ[3];;AW[aa];AB[ba][ab]TR[aa])",
-            Status::Refused,
-            "refused: problem 10 no liberty at node 3\n",
-        ),
-    ];
-    for (input, status, text) in rows {
-        checks(&rt, rt.alloc(), input, status, text);
+fn texts_that_are_no_record_are_refused(rt: HostRuntime) {
+    for (input, text) in NO_RECORD {
+        checks(&rt, rt.alloc(), input, Status::Refused, text);
     }
 }
 
+// Records of another game, of no size that is played on, or without a problem node.
+const WRONG_ROOT: [(&str, &str); 8] = [
+    ("(;GM[2])", "refused: problem 1 game\n"),
+    ("(;SZ[26]AW[aa]TR[aa])", "refused: problem 2 size\n"),
+    ("(;SZ[3]AW[aa])", "refused: problem 3 no problem node\n"),
+    ("(;SZ[3][3]AW[aa]TR[aa])", "refused: problem 2 size\n"),
+    ("(;SZ[0]AW[aa]TR[aa])", "refused: problem 2 size\n"),
+    ("(;SZ[9:8]AW[aa]TR[aa])", "refused: problem 2 size\n"),
+    ("(;GM[1][1]SZ[3]AW[aa]TR[aa])", "refused: problem 1 game\n"),
+    ("(;GM[01]SZ[3]AW[aa]TR[aa])", "refused: problem 1 game\n"),
+];
+
+#[test]
+fn records_without_a_board_or_a_problem_are_refused(rt: HostRuntime) {
+    for (input, text) in WRONG_ROOT {
+        checks(&rt, rt.alloc(), input, Status::Refused, text);
+    }
+}
+
+// Records with a node that is at fault by itself.
+const WRONG_NODE: [(&str, &str); 12] = [
+    (
+        "(;SZ[3]PL[B][W]TR[aa])",
+        "refused: problem 4 many values of PL at node 0\n",
+    ),
+    (
+        "(;SZ[3]B[aa][bb]TR[aa])",
+        "refused: problem 4 many values of B at node 0\n",
+    ),
+    (
+        "(;SZ[3]AW[aa];W[bb][cc]TR[aa])",
+        "refused: problem 4 many values of W at node 1\n",
+    ),
+    (
+        "(;SZ[3];PL[B][W]B[aa][bb]TR[aa])",
+        "refused: problem 4 many values of B at node 1\n",
+    ),
+    (
+        "(;SZ[3]AW[dd]TR[aa])",
+        "refused: problem 5 bad point at node 0\n",
+    ),
+    (
+        "(;SZ[3];B[aa]AW[bb]TR[bb])",
+        "refused: problem 7 mixed at node 1\n",
+    ),
+    (
+        "(;SZ[3];B[aa]W[bb]TR[bb])",
+        "refused: problem 8 both colours at node 1\n",
+    ),
+    (
+        "(;SZ[3]AB[aa]AW[aa]TR[aa])",
+        "refused: problem 6 shared point at node 0\n",
+    ),
+    (
+        "(;SZ[3]AW[aa]TR[])",
+        "refused: problem 5 bad point at node 0\n",
+    ),
+    (
+        "(;SZ[3]AW[cb:ba]TR[ba])",
+        "refused: problem 5 bad point at node 0\n",
+    ),
+    (
+        "(;SZ[3]AW[aa];B[dd];TR[aa])",
+        "refused: problem 5 bad point at node 1\n",
+    ),
+    (
+        "(;SZ[3]AW[aa][bb]AB[bb];B[dd]TR[aa])",
+        "refused: problem 6 shared point at node 0\n",
+    ),
+];
+
+#[test]
+fn records_with_a_faulty_node_are_refused(rt: HostRuntime) {
+    for (input, text) in WRONG_NODE {
+        checks(&rt, rt.alloc(), input, Status::Refused, text);
+    }
+}
+
+// Records with a node that is at fault where it stands on the main line.
+const WRONG_LINE: [(&str, &str); 10] = [
+    (
+        "(;SZ[3]AW[aa]AB[ba][ab]TR[ba])",
+        "refused: problem 10 no liberty at node 0\n",
+    ),
+    (
+        "(;SZ[3]AW[aa]TR[bb])",
+        "refused: problem 11 bad targets at node 0\n",
+    ),
+    (
+        "(;SZ[3]AW[aa];B[];W[]TR[aa])",
+        "refused: problem 12 ended at node 2\n",
+    ),
+    (
+        "(;SZ[3]AW[aa]PL[x]TR[aa])",
+        "refused: problem 13 bad colour at node 0\n",
+    ),
+    (
+        "(;SZ[3];B[aa];W[aa]TR[aa])",
+        "refused: problem 9 illegal turn at node 2: occupied\n",
+    ),
+    (
+        "(;SZ[3]AB[ba][ab]AW[ca][bb]PL[W];W[aa];B[ba]TR[ab])",
+        "refused: problem 9 illegal turn at node 2: repeats 0\n",
+    ),
+    (
+        "(;SZ[3]AW[aa]PL[]TR[aa])",
+        "refused: problem 13 bad colour at node 0\n",
+    ),
+    (
+        "(;SZ[3]AW[aa]AB[bb]TR[aa][bb])",
+        "refused: problem 11 bad targets at node 0\n",
+    ),
+    (
+        "(;SZ[3]AB[ba][ab]AW[ca][bb]PL[W];W[aa];W[tt];B[ba]TR[ab])",
+        "refused: problem 9 illegal turn at node 3: repeats 0\n",
+    ),
+    (
+        "(;SZ[3];;AW[aa];AB[ba][ab]TR[aa])",
+        "refused: problem 10 no liberty at node 3\n",
+    ),
+];
+
+#[test]
+fn records_with_a_faulty_main_line_are_refused(rt: HostRuntime) {
+    for (input, text) in WRONG_LINE {
+        checks(&rt, rt.alloc(), input, Status::Refused, text);
+    }
+}
+
+const WITH_A_PROBLEM: [&str; 15] = [
+    "(;GM[1]SZ[3]AW[aa]HA[2]KO[]KM[6.5]C[a\\]: x]PL[W]TR[aa](;B[ba])(;B[ca]))",
+    "(;SZ[3]AW[aa](;PL[W]TR[aa])(;TR[dd]))",
+    "(;SZ[19:19]AW[ss]PL[W]TR[ss])",
+    "(;SZ[20]AW[aa]PL[W]TR[aa])",
+    "(;SZ[25:+25]AW[yy]PL[W]TR[yy])",
+    "(;SZ[20]AW[tt]PL[W]TR[tt]SQ[ss:tt])",
+    "(;SZ[+009]AW[ii]PL[W]TR[ii])",
+    "(;AW[ss]PL[W]TR[ss])",
+    "(;SZ[ 3 ]AW[ aa ]PL[ White\n]TR[\taa])",
+    "(;SZ[3]AW[aa:aa]PL[w]TR[aa]SQ[aa:cc])",
+    "(;SZ[3]AW[aa:ba][aa]PL[wHiTe]TR[ba][ba])",
+    "(;SZ[3]AW[aa]PL[b];B[]PL[x]TR[aa])",
+    "(;SZ[3]AW[aa]PL[black];AB[cc];AE[cc]PL[B]TR[aa])",
+    "(;SZ[3]B[aa];B[bb];W[tt];B[];W[cc];TR[aa])",
+    "(\r\n;SZ[3]\r\nAW[aa]\r\nTR[aa]\r\n)",
+];
+
 #[test]
 fn records_have_problems(rt: HostRuntime) {
-    let records: [&str; 15] = [
-        "(;GM[1]SZ[3]AW[aa]HA[2]KO[]KM[6.5]C[a\\]: x]PL[W]TR[aa](;B[ba])(;B[ca]))",
-        "(;SZ[3]AW[aa](;PL[W]TR[aa])(;TR[dd]))",
-        "(;SZ[19:19]AW[ss]PL[W]TR[ss])",
-        "(;SZ[20]AW[aa]PL[W]TR[aa])",
-        "(;SZ[25:+25]AW[yy]PL[W]TR[yy])",
-        "(;SZ[20]AW[tt]PL[W]TR[tt]SQ[ss:tt])",
-        "(;SZ[+009]AW[ii]PL[W]TR[ii])",
-        "(;AW[ss]PL[W]TR[ss])",
-        "(;SZ[ 3 ]AW[ aa ]PL[ White\n]TR[\taa])",
-        "(;SZ[3]AW[aa:aa]PL[w]TR[aa]SQ[aa:cc])",
-        "(;SZ[3]AW[aa:ba][aa]PL[wHiTe]TR[ba][ba])",
-        "(;SZ[3]AW[aa]PL[b];B[]PL[x]TR[aa])",
-        "(;SZ[3]AW[aa]PL[black];AB[cc];AE[cc]PL[B]TR[aa])",
-        "(;SZ[3]B[aa];B[bb];W[tt];B[];W[cc];TR[aa])",
-        "(\r\n;SZ[3]\r\nAW[aa]\r\nTR[aa]\r\n)",
-    ];
-    for record in records {
+    for record in WITH_A_PROBLEM {
         answers(
             &rt,
             rt.alloc(),

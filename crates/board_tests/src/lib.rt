@@ -14,4 +14,8 @@ mod lists;
 #[cfg(test)]
 mod points;
 #[cfg(test)]
+mod seen;
+#[cfg(test)]
 mod turns;
+#[cfg(test)]
+mod widest;

@@ -6,14 +6,13 @@ use crate::expect::{
     expect_colouring, expect_count, expect_number, expect_optional_colour, expect_optional_count,
     expect_same, expect_that,
 };
-use go_points::{Cell, Colour, Colouring, MAX_SIZE, Point, Size, Turn, sgf_point};
+use go_points::{Cell, Colour, Colouring, Point, Size, Turn, sgf_point};
 use go_turns::*;
-use std::alloc::{AllocError, Global};
+use std::alloc::Global;
 use std::process::Abort;
-use stone_key::key_of;
 
 // The colouring with this text: `.` for empty, `X` for black, `O` for white, row by row.
-fn painted(size: Size, text: &str) -> Colouring {
+pub fn painted(size: Size, text: &str) -> Colouring {
     let mut colouring = Colouring::empty(size);
     for (number, byte) in text.as_bytes().iter().enumerate() {
         let size = colouring.size();
@@ -36,11 +35,11 @@ fn at(size: Size, column: u8, row: u8) -> Turn {
     }
 }
 
-fn board(rt: &impl Abort, rows: u8) -> Size {
+pub fn board(rt: &impl Abort, rows: u8) -> Size {
     Size::new(rows).expect(rt, "a size")
 }
 
-fn point(rt: &impl Abort, size: Size, column: u8, row: u8) -> Point
+pub fn point(rt: &impl Abort, size: Size, column: u8, row: u8) -> Point
     ensures { IsOn size result }
 {
     size.point(column, row).expect(rt, "a point")
@@ -69,10 +68,6 @@ fn expect_played(
 // The record stands at these cells.
 fn expect_cells(rt: &impl Abort, record: &PlayRecord, text: &str) {
     expect_colouring(rt, record.colouring(), painted(record.size(), text));
-}
-
-fn expect_taken(rt: &impl Abort, found: Option<u16>, wanted: Option<u16>) {
-    assert_eq!(rt; found, wanted);
 }
 
 #[test]
@@ -285,167 +280,6 @@ fn a_setup_is_a_step(rt: HostRuntime) {
     expect_done(&rt, record.undo(), Ok(()));
     expect_count(&rt, record.seen().len(), 1);
     expect_number(&rt, record.passes(), 1);
-}
-
-// A move on the board, as the number of stones that it takes off, if it is one.
-fn taken<B: Board>(board: &mut B, colour: Colour, point: Point) -> Option<u16> {
-    if board.size().holds(point) {
-        board.play(colour, point).ok()
-    } else {
-        None
-    }
-}
-
-#[test]
-fn moves_on_the_widest_board_count_what_they_take(rt: HostRuntime) {
-    let size = board(&rt, MAX_SIZE);
-    let last = MAX_SIZE - 1;
-    let corner = point(&rt, size, last, last);
-    let left = point(&rt, size, last - 1, last);
-    let above = point(&rt, size, last, last - 1);
-    let beyond = point(&rt, size, last, last - 2);
-    let beside = point(&rt, size, last - 1, last - 1);
-    let mut board = PlayBoard::new(size);
-    expect_taken(&rt, taken(&mut board, Colour::White, corner), Some(0));
-    expect_taken(&rt, taken(&mut board, Colour::White, corner), None);
-    expect_taken(&rt, taken(&mut board, Colour::Black, left), Some(0));
-    expect_taken(&rt, taken(&mut board, Colour::Black, above), Some(1));
-    expect_taken(&rt, taken(&mut board, Colour::White, corner), Some(1));
-    expect_taken(&rt, taken(&mut board, Colour::White, beyond), Some(0));
-    expect_taken(&rt, taken(&mut board, Colour::White, beside), Some(0));
-    expect_taken(&rt, taken(&mut board, Colour::White, corner), Some(1));
-    expect_taken(&rt, taken(&mut board, Colour::Black, corner), None);
-    expect_taken(&rt, taken(&mut board, Colour::Black, above), Some(1));
-}
-
-// The widest board, full of black stones but for the point in its middle.
-fn nearly_full() -> Option<Colouring> {
-    let size = Size::new(MAX_SIZE)?;
-    let mut colouring = Colouring::empty(size);
-    for number in 0..size.area() {
-        let size = colouring.size();
-        if number != size.area() / 2 && number < size.area() {
-            colouring.set(size.point_at(number), Cell::Stone(Colour::Black));
-        }
-    }
-    Some(colouring)
-}
-
-// What a move in the middle of that board takes off.
-fn taken_in_the_middle<B: Board>(board: &mut B, colour: Colour) -> Option<u16> {
-    let wanted = nearly_full()?;
-    let size = board.size();
-    if wanted.size() == size && board.assign(&wanted).is_ok() {
-        taken(board, colour, size.point(MAX_SIZE / 2, MAX_SIZE / 2)?)
-    } else {
-        None
-    }
-}
-
-#[test]
-fn a_move_empties_the_widest_board(rt: HostRuntime) {
-    let size = board(&rt, MAX_SIZE);
-    let mut board = PlayBoard::new(size);
-    expect_taken(
-        &rt,
-        taken_in_the_middle(&mut board, Colour::White),
-        Some(624),
-    );
-    let mut plain = PlainBoard::new(size);
-    expect_taken(
-        &rt,
-        taken_in_the_middle(&mut plain, Colour::White),
-        Some(624),
-    );
-    expect_colouring(&rt, board.colouring(), plain.colouring());
-    expect_taken(
-        &rt,
-        taken_in_the_middle(&mut board, Colour::Black),
-        Some(625),
-    );
-    expect_taken(
-        &rt,
-        taken_in_the_middle(&mut plain, Colour::Black),
-        Some(625),
-    );
-    expect_colouring(&rt, board.colouring(), Colouring::empty(size));
-    expect_colouring(&rt, plain.colouring(), Colouring::empty(size));
-}
-
-#[test]
-fn a_board_refuses_a_stone_without_liberty(rt: HostRuntime) {
-    let size = board(&rt, 3);
-    let centre = point(&rt, size, 1, 1);
-    let mut board = PlayBoard::new(size);
-    let crossed = painted(size, ".X.X.X.X.");
-    let smothered = painted(size, ".X.XOX.X.");
-    let size = board.size();
-    if crossed.size() == size && smothered.size() == size {
-        expect_same(&rt, board.assign(&crossed), Ok(()));
-        expect_same(
-            &rt,
-            board.assign(&smothered),
-            Err(NoLiberty { point: centre }),
-        );
-        expect_colouring(&rt, board.colouring(), crossed);
-    }
-    if board.size().holds(centre) {
-        expect_same(&rt, board.cell(centre), Cell::Empty);
-    }
-}
-
-// Whether a list of two colourings names the place of each, until the second is taken off.
-fn are_found<S: Seen>(
-    alloc: Global,
-    first: Colouring,
-    second: Colouring,
-) -> Result<bool, AllocError> {
-    let mut seen = S::new(alloc);
-    seen.add(first)?;
-    if seen.holds(&second).is_some() {
-        return Ok(false);
-    }
-    seen.add(second)?;
-    let were_two = seen.len() == 2 && seen.holds(&second) == Some(1) && *seen.at(1) == second;
-    seen.take_last();
-    Ok(were_two && seen.len() == 1 && seen.holds(&second) == None && seen.holds(&first) == Some(0))
-}
-
-#[test]
-fn each_colouring_has_its_place(rt: HostRuntime) {
-    let size = board(&rt, 2);
-    let are_found = are_found::<PlaySeen>(rt.alloc(), painted(size, "X..."), painted(size, "O..."));
-    expect_same(&rt, are_found.ok(), Some(true));
-}
-
-// Whether a colouring joins the list just where it is new.
-fn are_joined<S: Seen>(
-    alloc: Global,
-    first: Colouring,
-    second: Colouring,
-) -> Result<bool, AllocError> {
-    let mut seen = S::new(alloc);
-    let was_new = seen.add_new(first, key_of(&first))? == None;
-    let is_second_new = seen.add_new(second, key_of(&second))? == None;
-    let again = seen.add_new(first, key_of(&first))?;
-    Ok(was_new && is_second_new && again == Some(0) && seen.len() == 2)
-}
-
-#[test]
-fn each_colouring_joins_once(rt: HostRuntime) {
-    let size = board(&rt, 2);
-    let first = painted(size, "X...");
-    let second = painted(size, "O...");
-    expect_same(
-        &rt,
-        are_joined::<PlaySeen>(rt.alloc(), first, second).ok(),
-        Some(true),
-    );
-    expect_same(
-        &rt,
-        are_joined::<ListSeen>(rt.alloc(), first, second).ok(),
-        Some(true),
-    );
 }
 
 #[test]

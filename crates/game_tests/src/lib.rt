@@ -11,6 +11,8 @@ mod play;
 #[cfg(test)]
 mod positions;
 #[cfg(test)]
+mod problems;
+#[cfg(test)]
 mod proof_numbers;
 #[cfg(test)]
 mod table;

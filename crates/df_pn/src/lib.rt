@@ -3,6 +3,7 @@
 //! Nothing is promised of a proof but that the steps are counted: the claim of it is to be put to the checker.
 #![tactic(auto)]
 
+mod asked;
 mod frame;
 mod kept;
 mod numbers;

@@ -5,12 +5,12 @@
 
 ghost use Rattle.std.specs.Prelude.{◌≤◌};
 
+use crate::asked::{Asked, Question};
 use crate::search::Search;
 use crate::stop::Stop;
 use go_points::{Colour, Turn};
 use indexmap::IndexMap;
-use pn_table::Key;
-use state_proofs::{Below, Branch, Form, Move, Proof, Refusal, Settled, key_after, move_of};
+use state_proofs::{Below, Branch, Form, Proof, Refusal, Settled};
 use std::alloc::{AllocError, Global};
 
 /// A proof of so many turns is left as it is.
@@ -18,25 +18,6 @@ const FEW_TURNS: u64 = 2;
 
 /// In a proof of more turns than this the winner's other turns are searched, each by at most so many steps.
 const MAX_TRIED: u64 = 20;
-
-/// What is asked of a turn.
-#[derive(Clone, Copy)]
-enum Question {
-    /// Nothing: this stands after it.
-    Known(Below),
-    /// Whether this proof of the state after it can be made smaller.
-    Smaller(u32),
-    /// Whether the winner wins by it, and by how small a proof.
-    Wins,
-}
-
-/// A turn at a state of the line, and the state after it.
-#[derive(Clone, Copy)]
-struct Asked {
-    turn: Turn,
-    key: Key,
-    question: Question,
-}
 
 /// A state of the line whose proof is made smaller.
 #[derive(Clone, Copy)]
@@ -61,9 +42,9 @@ struct Visit {
 pub(crate) struct Smaller {
     pub(crate) search: Search,
     visits: Vec<Visit>,
-    asked: Vec<Asked>,
+    pub(crate) asked: Vec<Asked>,
     made: Vec<Branch>,
-    barred: Vec<u64>,
+    pub(crate) barred: Vec<u64>,
     /// What each proof of the round has become.
     better: IndexMap<u32, u32>,
 }
@@ -203,122 +184,6 @@ impl Smaller {
         }
         self.visits.push(visit)?;
         Ok(None)
-    }
-
-    /// Lists the turns of the winner, who is to move, that may be better: an end of the game alone, where there is one.
-    fn list_turns(&mut self, proof: Proof) -> Result<(), AllocError> {
-        let first = self.asked.len();
-        let end = self.search.line.end();
-        let attacks = self.search.is_attacker(proof.winner);
-        for place in 0..self.search.moves.len() {
-            let Some(played) = self.search.moves.get(place).copied() else {
-                return Ok(());
-            };
-            let Move {
-                point,
-                position,
-                is_barred,
-                wins,
-            } = played;
-            let key = key_after(end, Turn::At(point), position);
-            if wins && attacks && !is_barred {
-                return self.ask_alone(first, Turn::At(point), key);
-            }
-            if !wins && !is_barred {
-                let own = self.search.proofs.branch(proof, 0);
-                self.ask_turn(own, Turn::At(point), key)?;
-            }
-        }
-        let key = key_after(end, Turn::Pass, end.position);
-        if key.passes < 2 {
-            let own = self.search.proofs.branch(proof, 0);
-            return self.ask_turn(own, Turn::Pass, key);
-        }
-        if !attacks {
-            return self.ask_alone(first, Turn::Pass, key);
-        }
-        Ok(())
-    }
-
-    /// Lists the turn, by which the winner has won, and no other.
-    fn ask_alone(&mut self, first: usize, turn: Turn, key: Key) -> Result<(), AllocError> {
-        self.asked.truncate(first);
-        self.asked.push(Asked {
-            turn,
-            key,
-            question: Question::Known(Below::Won),
-        })?;
-        Ok(())
-    }
-
-    /// Lists a turn of the winner's, which may be the proof's own.
-    fn ask_turn(&mut self, own: Option<Branch>, turn: Turn, key: Key) -> Result<(), AllocError> {
-        let question = match own {
-            Some(own) if own.turn == turn => match own.below {
-                Below::Won => Question::Known(Below::Won),
-                Below::Proof(number) => Question::Smaller(number),
-            },
-            _ => Question::Wins,
-        };
-        self.asked.push(Asked {
-            turn,
-            key,
-            question,
-        })?;
-        Ok(())
-    }
-
-    /// Lists the replies of the proof.
-    fn list_replies(&mut self, proof: Proof) -> Result<(), AllocError> {
-        for place in 0..self.search.proofs.branches(proof).len() {
-            if let Some(branch) = self.search.proofs.branch(proof, place) {
-                let asked = self.asked_of(branch);
-                self.asked.push(asked)?;
-            }
-        }
-        Ok(())
-    }
-
-    /// Lists the positions of the moves that the proof leaves out, which are barred here.
-    fn list_barred(&mut self, proof: Proof) -> Result<(), AllocError> {
-        for place in 0..self.search.moves.len() {
-            let Some(played) = self.search.moves.get(place).copied() else {
-                return Ok(());
-            };
-            let position = played.position;
-            let left_out = self.leaves_out(proof, played);
-            if left_out {
-                self.barred.push(position)?;
-            }
-        }
-        Ok(())
-    }
-
-    /// Whether the proof leaves the move out.
-    fn leaves_out(&self, proof: Proof, played: Move) -> bool {
-        !has_turn(self.search.proofs.branches(proof), played)
-    }
-
-    /// What is asked of a reply: nothing, where it is not legal here.
-    fn asked_of(&self, branch: Branch) -> Asked {
-        let end = self.search.line.end();
-        let played = move_of(self.search.moves.as_slice(), branch.turn);
-        let is_legal = match played {
-            Some(played) => !played.is_barred,
-            None => true,
-        };
-        let (key, question) = match branch.below {
-            Below::Proof(number) => match self.search.proofs.get(number) {
-                Some(proof) if is_legal => (proof.key, Question::Smaller(number)),
-                _ => (end, Question::Known(branch.below)),
-            },
-            Below::Won => (end, Question::Known(Below::Won)),
-        };
-        Asked {
-            turn: branch.turn,
-            key,
-            question,
-        }
     }
 
     /// Asks whether the winner wins by another turn than the proof's own.
@@ -483,18 +348,6 @@ fn settled_as(proof: Proof) -> Settled {
         winner: proof.winner,
         form: proof.form,
     }
-}
-
-/// Whether one of the branches is this move.
-fn has_turn(branches: &[Branch], played: Move) -> bool {
-    for branch in branches {
-        if let Turn::At(point) = branch.turn {
-            if point == played.point {
-                return true;
-            }
-        }
-    }
-    false
 }
 
 /// Whether the same proofs stand after the branches.

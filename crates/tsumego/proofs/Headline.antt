@@ -18,6 +18,7 @@ use Rattle.sgf_text.specs.Text.{tree_text}
 use Rattle.sgf_text.specs.Grammar.{Reads}
 use Rattle.sgf_text.proofs.Written.{trees_are_read, written_reads}
 use Rattle.tsumego_problem.specs.Canonical.{canonical, solution}
+use Rattle.target_game.proofs.States.{history_is_a_set}
 use Rattle.target_game.proofs.Winning.{answers_win_law}
 use Rattle.tsumego_problem.specs.Below.{Below}
 use Rattle.solution_tree.specs.Audit.{Fault, audit}
@@ -34,7 +35,11 @@ side_wins : (bytes : List ℕ) (tree : GameTree) (n : ℕ) (q : GameProblem) (x 
 side_wins bytes tree n q x r w = record { tree = tree; end = n; reads = r.reads; problem = (placed history_limit tree q r.problem).free; wins = w }
 
 pub winner_is_true : WinnerIsTrue
-winner_is_true bytes q x s = record { tree = s.tree; end = s.end; reads = s.reads; stands = stands_for None s.tree q s.problem; wins = s.wins }
+winner_is_true bytes q x s =
+    let (u, stands, set) = stands_for None s.tree q s.problem in
+    let (k, won) = s.wins in
+    let same : wins x (start q) k ≡ wins x u k = history_is_a_set x (start q) set.history k set.same ∙ ap (λ v. wins x v k) set.state in
+    record { tree = s.tree; end = s.end; state = u; reads = s.reads; stands = stands; wins = (k, sym same ∙ won) }
 
 -- an answer names a side only where the verdict does
 accepts : (n : ℕ) (v : Verdict) (text : List ℕ) → (Answered, text) ≡ check_answer n v → (x : Colour) × (v ≡ accepted x) × (text ≡ wins_text x)

@@ -3,7 +3,7 @@ use Rattle.std.specs.Prelude.{◌≡◌, ℕ, Bool, true, false, List, [], ◌�
 use Rattle.go_points.specs.declared.Colour.{Colour}
 use Rattle.go_points.specs.Grid.{opponent_of}
 use Rattle.go_points.specs.Ply.{Ply}
-use Rattle.target_game.specs.State.{GameProblem, start}
+use Rattle.target_game.specs.State.{GameState, GameProblem, start}
 use Rattle.target_game.specs.Legal.{legal}
 use Rattle.target_game.specs.Next.{next}
 use Rattle.target_game.specs.Wins.{Wins, wins}
@@ -35,17 +35,18 @@ pub record SideWins (bytes : List ℕ) (q : GameProblem) (x : Colour) : Type 0 w
   pub problem : problem_of tree ≡ Ok q
   pub wins : Wins x (start q)
 
--- The bytes begin with a record, it stands for this problem, and this side wins it, with all its earlier positions: what a reader has to believe, who need not know which records are refused.
-pub record HasWinner (bytes : List ℕ) (q : GameProblem) (x : Colour) : Type 0 where
+-- The bytes begin with a record, and this side wins the state for which it stands, with all its earlier positions: what a reader has to believe, who need not know which records are refused.
+pub record HasWinner (bytes : List ℕ) (x : Colour) : Type 0 where
   pub tree : GameTree
   pub end : ℕ
+  pub state : GameState
   pub reads : Reads bytes tree end
-  pub stands : StandsFor tree q
-  pub wins : Wins x (start q)
+  pub stands : StandsFor tree state
+  pub wins : Wins x state
 
 -- Where a side wins the problem of a record, it wins what the record stands for.
 abbrev pub WinnerIsTrue : Type 0
-WinnerIsTrue = (bytes : List ℕ) (q : GameProblem) (x : Colour) → SideWins bytes q x → HasWinner bytes q x
+WinnerIsTrue = (bytes : List ℕ) (q : GameProblem) (x : Colour) → SideWins bytes q x → HasWinner bytes x
 
 -- Where `check` answers, it names a side, and that side wins the problem of the record that was read.
 abbrev pub CheckIsTrue : Type 0

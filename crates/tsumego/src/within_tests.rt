@@ -4,7 +4,7 @@ use crate::tests::answers;
 use tsumego_replies::Status;
 
 #[test]
-fn decisions_within_turns(rt: HostRuntime) {
+fn decisions_where_white_moves(rt: HostRuntime) {
     let alloc = rt.alloc();
     answers(
         &rt,
@@ -38,6 +38,11 @@ fn decisions_within_turns(rt: HostRuntime) {
         Status::Unanswered,
         "limit\n",
     );
+}
+
+#[test]
+fn decisions_where_black_moves(rt: HostRuntime) {
+    let alloc = rt.alloc();
     answers(
         &rt,
         alloc,

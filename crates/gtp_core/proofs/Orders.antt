@@ -1,5 +1,5 @@
 -- What words, rows and records come to, over plain values.
-use Rattle.std.proofs.Common.{◌≡◌, ℕ, zero, suc, ◌+◌, ◌-◌, ◌*◌, ◌/◌, ◌%◌, ◌<◌, ◌≤◌, Bool, true, false, cond, nat_eq, nat_lt, ltb-true, List, [], ◌∷◌, ◌++◌, map, length, take, drop, get_or, replicate, Option, None, Some, Result, Ok, Err, refl, sym, ap, ap₂, ◌∙◌, subst, arith, append_assoc, take-append-drop}
+use Rattle.std.proofs.Common.{◌≡◌, ℕ, zero, suc, ◌+◌, ◌-◌, ◌*◌, ◌<◌, Bool, true, false, cond, nat_eq, nat_lt, ltb-true, List, [], ◌∷◌, ◌++◌, map, length, take, drop, get_or, replicate, Option, None, Some, Result, Ok, Err, refl, sym, ap, ap₂, ◌∙◌, subst, arith, append_assoc, take-append-drop}
 use Rattle.std.proofs.lemmas.Nat.{div-mul-add, mod-mul-add}
 use Rattle.std.proofs.lemmas.List.{take_more, drop-drop}
 use Rattle.std.specs.List.{All}
@@ -7,14 +7,13 @@ use Rattle.go_points.proofs.Lists.{and_left, and_right}
 use Rattle.go_points.specs.declared.Cell.{Cell}
 use Rattle.go_points.specs.declared.Cell.TheVariants.{Empty}
 use Rattle.go_points.specs.declared.Turn.{Turn}
-use Rattle.go_points.specs.declared.Turn.TheVariants.{Pass, At}
+use Rattle.go_points.specs.declared.Turn.TheVariants.{At}
 use Rattle.go_points.specs.Grid.{points}
 use Rattle.go_points.specs.Gtp.{gtp_text}
 use Rattle.go_points.specs.Liberty.{first_without_liberty}
 use Rattle.go_points.specs.Place.{Place, IsOn, on_board, number_of, place_of}
-use Rattle.go_points.specs.Ply.{pass, move, ply_of}
-use Rattle.go_turns.specs.Record.{Moment, GameRecord, Opens, opened, with_liberties}
-use Rattle.go_turns.specs.declared.fault.TurnFault.{TurnFault}
+use Rattle.go_points.specs.Ply.{move, ply_of}
+use Rattle.go_turns.specs.Record.{GameRecord, Opens, opened, with_liberties}
 use Rattle.std.specs.Prelude.{IfSome}
 use Rattle.std.specs.Result.{result_ok}
 use Rattle.go_points.specs.declared.Colour.{Colour}

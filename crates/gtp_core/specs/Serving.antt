@@ -6,7 +6,6 @@ use Rattle.std.specs.Prelude.{◌≡◌, ℕ, zero, suc, Bool, true, false, List
 use Rattle.go_points.specs.declared.Colour.{Colour}
 use Rattle.go_points.specs.declared.Colour.TheVariants.{Black, White}
 use Rattle.go_points.specs.declared.Turn.{Turn}
-use Rattle.go_points.specs.declared.vertex.Vertex.{Vertex}
 use Rattle.go_points.specs.Grid.{opponent_of}
 use Rattle.go_points.specs.Place.{Place}
 use Rattle.go_points.specs.Ply.{Ply, pass, ply_of}

@@ -10,7 +10,7 @@ use Rattle.go_points.specs.declared.Cell.TheVariants.{Empty}
 use Rattle.go_points.specs.Grid.{cell_at, opponent_of}
 use Rattle.go_points.specs.Place.{Place, number_of}
 use Rattle.go_turns.specs.History.{place_in}
-use Rattle.go_turns.specs.Record.{Moment, GameRecord, colouring_of}
+use Rattle.go_turns.specs.Record.{GameRecord, colouring_of}
 use Rattle.target_game.specs.Problem.{one_colour, problem_of}
 use Rattle.target_game.specs.State.{GameProblem}
 use Rattle.gtp_core.specs.Commands.{whole_board}

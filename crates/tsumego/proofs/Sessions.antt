@@ -8,7 +8,7 @@ use Rattle.gtp_core.specs.Words.{failure}
 use Rattle.gtp_core.specs.Session.{GtpSession}
 use Rattle.gtp_core.specs.Serving.{Answers, HadNoMemory, Serves, reply}
 use Rattle.gtp_core.specs.Runs as gtp
-use Rattle.gtp_core.specs.Runs.{GoesThrough, IsRun, IsEnded, HasRun, HasStoppedOn, first_session, input_limit}
+use Rattle.gtp_core.specs.Runs.{GoesThrough, IsRun, HasRun, HasStoppedOn, first_session, input_limit}
 use Rattle.tsumego_words.specs.CommandLine.{is_session}
 use Rattle.tsumego_words.specs.declared.command_line.Command.{Command}
 use Rattle.tsumego_words.specs.declared.command_line.Command.TheVariants.{Check, Within, Audit, Solve, Gtp}

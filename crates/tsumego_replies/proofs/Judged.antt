@@ -29,7 +29,7 @@ use Rattle.tsumego_replies.specs.Texts.{wins_text}
 use Rattle.tsumego_replies.specs.Bounds.{front_limit, white_limit, MayAsk}
 use Rattle.tsumego_replies.specs.Answers.{IsRecord, Says, JudgesClaim, check_answer, white_before, Tells}
 use Rattle.tsumego_replies.specs.Solutions.{claim_verdict}
-use Rattle.tsumego_replies.specs.Replies.{AllWhite, AsksOn, Decides, HasNoRecord, IsReply, IsReplyAfter, IsRejectionOf, IsJudged, IsJudgedAfter, IsCheckedAfter, IsPastLimit, IsSaidAfter, SaysAfter}
+use Rattle.tsumego_replies.specs.Replies.{AllWhite, Decides, HasNoRecord, IsReply, IsReplyAfter, IsRejectionOf, IsJudged, IsJudgedAfter, IsCheckedAfter, IsPastLimit, IsSaidAfter, SaysAfter}
 use Rattle.tsumego_replies.proofs.Saying.{some_bytes}
 
 -- ---- white space

@@ -1,13 +1,10 @@
 -- What a record that is read, or is not, says of the bytes.
-use Rattle.std.proofs.Common.{◌≡◌, ◌≢◌, ℕ, ◌+◌, ◌-◌, ◌≤◌, List, ◌++◌, length, take, drop, Err, Some, inl, inr, refl, ◌∙◌, ap, arith}
-use Rattle.std.proofs.lemmas.List.{length-append, length-drop, append_assoc, take_all}
+use Rattle.std.proofs.Common.{◌≡◌, ◌≢◌, ℕ, ◌-◌, List, length, take, drop, Err, Some, inr, refl, arith}
+use Rattle.std.proofs.lemmas.List.{length-drop, take_all}
 use Rattle.sgf_text.specs.Trees.{GameTree}
 use Rattle.sgf_text.specs.Grammar.{Reads}
 use Rattle.sgf_text.specs.Laws.{IsWithin}
-use Rattle.sgf_text.specs.Followers.{outcome_of}
-use Rattle.sgf_text.specs.declared.fault.SgfFault.{SgfFault}
-use Rattle.sgf_text.specs.declared.fault.SgfFault.TheVariants as sgf
-use Rattle.tsumego_problem.specs.Refusals.{sgf_refusal, problem_refusal}
+use Rattle.tsumego_problem.specs.Refusals.{problem_refusal}
 use Rattle.tsumego_problem.specs.Walk.{problem_within, history_limit}
 use Rattle.tsumego_problem.specs.declared.fault.ProblemFault.{ProblemFault}
 use Rattle.tsumego_problem.specs.declared.fault.ProblemFault.TheVariants as faults

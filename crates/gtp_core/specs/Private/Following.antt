@@ -5,7 +5,7 @@ use Rattle.go_points.specs.declared.Colour.{Colour}
 use Rattle.go_points.specs.declared.Turn.{Turn}
 use Rattle.go_points.specs.declared.TheConstants.{MAX_SIZE}
 use Rattle.go_points.specs.Grid.{opponent_of}
-use Rattle.go_points.specs.Place.{Place, IsOn}
+use Rattle.go_points.specs.Place.{IsOn}
 use Rattle.go_points.specs.Ply.{ply_of}
 use Rattle.go_turns.specs.declared.fault.TurnFault.{TurnFault}
 use Rattle.go_turns.specs.declared.fault.TurnFault.TheVariants.{Memory}

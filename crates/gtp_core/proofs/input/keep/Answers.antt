@@ -1,4 +1,4 @@
-use Rattle.std.proofs.Common.{rules, arith, ◌≡◌, ◌<◌, ◌∙◌, length, sym}
+use Rattle.std.proofs.Common.{arith, ◌<◌, ◌∙◌, length, sym}
 use Rattle.gtp_core.proofs.Pieces.{keep_full, keep_room}
 use Rattle.gtp_core.proofs.input.keep.Goals as goal
 

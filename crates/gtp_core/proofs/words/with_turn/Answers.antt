@@ -1,7 +1,5 @@
-use Rattle.std.proofs.Common.{rules, ◌≡◌, ◌++◌, ◌∙◌, ap, sym, true, codes}
-use Rattle.go_points.specs.Place.{IsOn, on_board}
+use Rattle.std.proofs.Common.{rules, ◌≡◌, ◌++◌, ◌∙◌, ap, sym, codes}
 use Rattle.go_points.specs.Ply.{ply_of}
-use Rattle.go_points.specs.Gtp.{gtp_text}
 use Rattle.gtp_core.specs.Words.{turn_text}
 use Rattle.gtp_core.proofs.Orders.{turn_written}
 use Rattle.gtp_core.proofs.words.with_turn.Goals.{in-Pass+in_ok-extend_from_slice-in-Pass, in-At+in_ok-extend_from_slice-in-At}

@@ -1,4 +1,4 @@
-use Rattle.std.proofs.Common.{◌≡◌, ◌<◌, ◌++◌, ◌∙◌, false, length, refl, inl, rules, sym, ap, Some, subst, IsTrue}
+use Rattle.std.proofs.Common.{◌≡◌, ◌<◌, ◌++◌, ◌∙◌, length, refl, inl, rules, sym, ap, Some, subst, IsTrue}
 use Rattle.sgf_text.specs.Text.{is_tree, tree_text}
 use Rattle.tsumego_problem.specs.Laws.{IsProblem}
 use Rattle.tsumego_replies.specs.Texts.{line}

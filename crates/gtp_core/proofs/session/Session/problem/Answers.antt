@@ -1,12 +1,11 @@
-use Rattle.std.proofs.Common.{◌≡◌, ◌<◌, ◌∙◌, [], ℕ, List, Option, length, get_or, sym, ap, ap₂, subst}
+use Rattle.std.proofs.Common.{◌≡◌, ◌∙◌, [], ℕ, List, Option, get_or, sym, ap, ap₂, subst}
 use Rattle.std.specs.Prelude.{unwrap_or, IfSome}
 use Rattle.std.specs.Result.{result_ok}
 use Rattle.go_points.specs.declared.Cell.{Cell}
 use Rattle.go_points.specs.Grid.{side_of}
 use Rattle.go_turns.specs.History.{place_in}
 use Rattle.target_game.specs.Problem.{problem_of}
-use Rattle.target_game.specs.State.{GameProblem}
-use Rattle.gtp_core.specs.Session.{GtpSession, problem_at, board_of}
+use Rattle.gtp_core.specs.Session.{GtpSession, problem_at}
 use Rattle.gtp_core.proofs.Orders.{problem_size}
 use Rattle.gtp_core.proofs.session.Session.problem.Goals as goal
 

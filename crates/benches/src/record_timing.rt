@@ -35,7 +35,7 @@ pub fn copy_again(text: &[u8], into: &mut Vec<u8>) -> io::Result<()> {
 pub fn time_reading<R: Clock + AllocGlobal>(
     rt: &R,
     text: &[u8],
-    rounds: u32,
+    rounds: usize,
 ) -> io::Result<Duration> {
     let start = Instant::now(rt)?;
     for _ in 0..rounds {
@@ -48,7 +48,7 @@ pub fn time_reading<R: Clock + AllocGlobal>(
 pub fn time_writing<R: Clock + AllocGlobal>(
     rt: &R,
     text: &[u8],
-    rounds: u32,
+    rounds: usize,
 ) -> io::Result<Duration> {
     let tree = read(rt.alloc(), text)?;
     let mut into = Vec::new(rt.alloc());
@@ -64,7 +64,7 @@ pub fn time_writing<R: Clock + AllocGlobal>(
 pub fn time_copying<R: Clock + AllocGlobal>(
     rt: &R,
     text: &[u8],
-    rounds: u32,
+    rounds: usize,
 ) -> io::Result<Duration> {
     let mut into = Vec::new(rt.alloc());
     copy_again(text, &mut into)?;

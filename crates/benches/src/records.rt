@@ -11,7 +11,7 @@ use std::rt::Clock;
 use std::time::Duration;
 
 /// How often each is done where it is measured.
-const ROUNDS: u32 = 40;
+const ROUNDS: usize = 40;
 
 /// Reads, writes and copies a small text, and says whether all gave the same bytes.
 pub fn once<R: Print + AllocGlobal>(rt: &R) -> io::Result<()> {
@@ -50,6 +50,6 @@ pub fn measure<R: Print + Clock + AllocGlobal>(rt: &R) -> io::Result<()> {
 
 /// Prints how many bytes went through in a second.
 fn print_speed(rt: &impl Print, name: &str, len: usize, time: Duration) -> io::Result<()> {
-    let speed = per_second((len as u64).saturating_mul(u64::from(ROUNDS)), time);
+    let speed = per_second((len as u64).saturating_mul(ROUNDS as u64), time);
     println!(rt; "{name}: {speed} bytes per second")
 }

@@ -1,8 +1,9 @@
-//! How long expanding a claim takes, reading the record of its tree, and auditing it.
+//! How long expanding a claim takes, and auditing the record of its tree.
 
+use crate::record_timing::{read, write_again};
 use cert_check::Checked;
 use go_points::Colour;
-use sgf_text::{Tree, read_tree, write_tree};
+use sgf_text::Tree;
 use solution_tree::{Answer, audit, expand, to_sgf};
 use std::alloc::Global;
 use std::io;
@@ -24,18 +25,8 @@ pub fn expanded(alloc: Global, checked: &Checked, limit: usize) -> io::Result<An
 pub fn written(alloc: Global, checked: &Checked, answer: &Answer) -> io::Result<Vec<u8>> {
     let tree = to_sgf(alloc, checked, answer)?;
     let mut text = Vec::new(alloc);
-    match write_tree(&tree, &mut text) {
-        Ok(()) => Ok(text),
-        Err(_) => Err(io::Error::from(ErrorKind::OutOfMemory)),
-    }
-}
-
-/// The record of the text.
-pub fn read(alloc: Global, text: &[u8]) -> io::Result<Tree> {
-    match read_tree(alloc, text) {
-        Ok((tree, _place)) => Ok(tree),
-        Err(_) => Err(io::Error::from(ErrorKind::InvalidData)),
-    }
+    write_again(&tree, &mut text)?;
+    Ok(text)
 }
 
 /// The problem of the record.
@@ -67,19 +58,6 @@ pub fn time_expanding<R: Clock + AllocGlobal>(
     let start = Instant::now(rt)?;
     for _ in 0..rounds {
         let _answer = expanded(rt.alloc(), checked, limit)?;
-    }
-    start.elapsed(rt)
-}
-
-/// How long it takes to read the text so often, and to give the trees' memory back.
-pub fn time_reading<R: Clock + AllocGlobal>(
-    rt: &R,
-    text: &[u8],
-    rounds: usize,
-) -> io::Result<Duration> {
-    let start = Instant::now(rt)?;
-    for _ in 0..rounds {
-        let _tree = read(rt.alloc(), text)?;
     }
     start.elapsed(rt)
 }

@@ -1,10 +1,9 @@
 //! Expanding a claim and auditing its answer tree against reading the record of the same tree.
 
 use crate::lemma_claim::checked_claim;
+use crate::record_timing::{read, time_reading};
 use crate::speed::{per_second, print_ratio};
-use crate::tree_timing::{
-    audited, expanded, problem_of, read, time_auditing, time_expanding, time_reading, written,
-};
+use crate::tree_timing::{audited, expanded, problem_of, time_auditing, time_expanding, written};
 use cert_check::Checked;
 use go_points::Colour;
 use solution_tree::{Expand, expand};

@@ -7,6 +7,8 @@ mod expect;
 #[cfg(test)]
 mod few_turns;
 #[cfg(test)]
+mod known_lemmas;
+#[cfg(test)]
 mod play;
 #[cfg(test)]
 mod positions;

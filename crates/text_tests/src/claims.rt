@@ -16,7 +16,7 @@ const ANSWERED: &str =
 const MEETING: &str =
     "tsucert 1 3 W\nlemma W 0 O......XX\nplay pass\nall 1\nreply pass\nwon\nend\nmain\nall 3\nreply bc\nplay pass\nall 2\nreply cc\nuse 1\nreply pass\nwon\nreply cc\nplay pass\nall 2\nreply bc\nuse 1\nreply pass\nwon\nreply pass\nplay pass\nwon\nend\n";
 
-fn size_of(rt: &impl Abort, rows: u8) -> Size {
+pub fn size_of(rt: &impl Abort, rows: u8) -> Size {
     Size::new(rows).expect(rt, "a size")
 }
 
@@ -122,7 +122,7 @@ fn meeting(alloc: Global, rt: &impl Abort) -> Certificate {
     claim(rt, Colour::White, lemmas, Node::All(replies))
 }
 
-fn written(rt: &impl Abort, alloc: Global, certificate: &Certificate) -> Vec<u8> {
+pub fn written(rt: &impl Abort, alloc: Global, certificate: &Certificate) -> Vec<u8> {
     let mut out = Vec::new(alloc);
     write_cert(certificate, &mut out).expect(rt, "memory");
     out
@@ -374,54 +374,4 @@ fn reads_no_other_bytes(rt: HostRuntime) {
         let read = read_cert(alloc, size_of(&rt, 3), text.as_bytes());
         expect_that(&rt, matches!(read, Err(SourceFault::Malformed)));
     }
-}
-
-/// A claim of so many turns one after another.
-fn line_of_play(rt: &impl Abort, alloc: Global, turns: usize) -> Vec<u8> {
-    let mut text = b"tsucert 1 3 B\nmain\n".to_vec(alloc).expect(rt, "memory");
-    for _ in 0..turns {
-        text.extend_from_slice(b"play pass\n").expect(rt, "memory");
-    }
-    text.extend_from_slice(b"won\nend\n").expect(rt, "memory");
-    text
-}
-
-#[test]
-fn reads_as_deep_as_a_claim_may_be(rt: HostRuntime) {
-    let alloc = rt.alloc();
-    let deepest = line_of_play(&rt, alloc, 1_999);
-    let certificate = read_cert(alloc, size_of(&rt, 3), deepest.as_slice()).expect(&rt, "a claim");
-    expect_that(
-        &rt,
-        written(&rt, alloc, &certificate).as_slice() == deepest.as_slice(),
-    );
-    let deeper = line_of_play(&rt, alloc, 2_000);
-    let read = read_cert(alloc, size_of(&rt, 3), deeper.as_slice());
-    expect_that(&rt, matches!(read, Err(SourceFault::Malformed)));
-}
-
-/// A claim of so many lemmas.
-fn many_lemmas(rt: &impl Abort, alloc: Global, lemmas: usize) -> Vec<u8> {
-    let mut text = b"tsucert 1 1 B\n".to_vec(alloc).expect(rt, "memory");
-    for _ in 0..lemmas {
-        text.extend_from_slice(b"lemma B 0 .\nwon\nend\n")
-            .expect(rt, "memory");
-    }
-    text.extend_from_slice(b"main\nwon\nend\n")
-        .expect(rt, "memory");
-    text
-}
-
-#[test]
-fn reads_as_many_lemmas_as_a_claim_may_have(rt: HostRuntime) {
-    let alloc = rt.alloc();
-    let most = many_lemmas(&rt, alloc, 65_535);
-    let certificate = read_cert(alloc, size_of(&rt, 1), most.as_slice()).expect(&rt, "a claim");
-    expect_that(
-        &rt,
-        written(&rt, alloc, &certificate).as_slice() == most.as_slice(),
-    );
-    let more = many_lemmas(&rt, alloc, 65_536);
-    let read = read_cert(alloc, size_of(&rt, 1), more.as_slice());
-    expect_that(&rt, matches!(read, Err(SourceFault::Malformed)));
 }

@@ -7,6 +7,8 @@ mod claims;
 #[cfg(test)]
 mod expect;
 #[cfg(test)]
+mod largest_claims;
+#[cfg(test)]
 mod narrow;
 #[cfg(test)]
 mod pasts;

@@ -1,0 +1,142 @@
+//! Claims of given trees, whose lemmas are known beforehand, and one whose lemma needs what was played above it.
+
+use crate::expect::{expect_same, expect_that};
+use crate::proof_numbers::{ALL, WITHOUT_PASTS, accepted, found, problem};
+use claim_maker::{Choice, claim_with_lemmas, share_tree};
+use go_points::Colour;
+use proof_cert::{Certificate, Version, read_cert, write_cert};
+use std::alloc::Global;
+use std::process::Abort;
+use target_game::Problem;
+
+// The tree of this text for the problem gives the claim of that text, with these lemmas, which the checker accepts.
+fn becomes(
+    rt: &impl Abort,
+    alloc: Global,
+    problem: Problem,
+    choice: Choice,
+    tree: &[u8],
+    expected: &[u8],
+) {
+    let size = problem.size();
+    let given = read_cert(alloc, size, tree).expect(rt, "a claim");
+    let mut text = Vec::new(alloc);
+    match share_tree(alloc, &problem, given.winner, &given.main) {
+        Err(_) => panic!(rt; "a tree of legal turns"),
+        Ok(shared) => match claim_with_lemmas(alloc, &problem, &shared, choice) {
+            Err(_) => panic!(rt; "a claim"),
+            Ok(claim) => {
+                expect_that(rt, write_cert(&claim, &mut text).is_ok());
+                let _lemmas = accepted(rt, alloc, &problem, claim);
+            }
+        },
+    }
+    expect_same(rt, text.as_slice(), expected);
+}
+
+// White always passes. Both orders of Black's moves lead to one colouring with White to move. The state after White's
+// pass stands in that lemma alone, and so in line.
+#[test]
+fn what_is_inside_one_lemma_alone_stays_in_line(rt: HostRuntime) {
+    let alloc = rt.alloc();
+    let far = problem(&rt, alloc, 3, &["O........"], Colour::Black, "aa", "bccc");
+    let tree = "tsucert 1 3 W\nmain\nall 3\n\
+        reply bc\nplay pass\nall 2\nreply cc\nplay pass\nall 1\nreply pass\nwon\nreply pass\nwon\n\
+        reply cc\nplay pass\nall 2\nreply bc\nplay pass\nall 1\nreply pass\nwon\nreply pass\nwon\n\
+        reply pass\nplay pass\nwon\nend\n";
+    let expected = "tsucert 1 3 W\n\
+        lemma W 0 O......XX\nplay pass\nall 1\nreply pass\nwon\nend\n\
+        main\nall 3\n\
+        reply bc\nplay pass\nall 2\nreply cc\nuse 1\nreply pass\nwon\n\
+        reply cc\nplay pass\nall 2\nreply bc\nuse 1\nreply pass\nwon\n\
+        reply pass\nplay pass\nwon\nend\n";
+    becomes(&rt, alloc, far, ALL, tree.as_bytes(), expected.as_bytes());
+}
+
+// White fills its eye aa once Black has played at bc and cc: the lemma lists what comes of it. Black may never play at
+// aa, since that would be a suicide of one stone.
+#[test]
+fn a_lemma_lists_the_results_of_the_winners_moves(rt: HostRuntime) {
+    let alloc = rt.alloc();
+    let eye = problem(&rt, alloc, 3, &[".O.O....."], Colour::Black, "ba", "aabccc");
+    let tree = "tsucert 1 3 W\nmain\nall 3\n\
+        reply bc\nplay pass\nall 2\nreply cc\nplay aa\nall 1\nreply pass\nplay pass\nwon\nreply pass\nwon\n\
+        reply cc\nplay pass\nall 2\nreply bc\nplay aa\nall 1\nreply pass\nplay pass\nwon\nreply pass\nwon\n\
+        reply pass\nplay pass\nwon\nend\n";
+    let expected = "tsucert 1 3 W\n\
+        lemma W 0 .O.O...XX\nnot OO.O...XX\nplay aa\nall 1\nreply pass\nplay pass\nwon\nend\n\
+        main\nall 3\n\
+        reply bc\nplay pass\nall 2\nreply cc\nuse 1\nreply pass\nwon\n\
+        reply cc\nplay pass\nall 2\nreply bc\nuse 1\nreply pass\nwon\n\
+        reply pass\nplay pass\nwon\nend\n";
+    becomes(&rt, alloc, eye, ALL, tree.as_bytes(), expected.as_bytes());
+}
+
+// White always passes. Black may play at two of cb, bc and cc, and never at the third, since that has occurred. Each pair is
+// reached by two orders, and the proof there leaves out the third.
+#[test]
+fn lemmas_that_need_a_past(rt: HostRuntime) {
+    let alloc = rt.alloc();
+    let texts = ["O....X.XX", "O........"];
+    let pair = "play pass\nall 1\nreply pass\nwon\n";
+    let three = |first: &str, second: &str, third: &str, fourth: &str, fifth: &str, sixth: &str| {
+        format!(in alloc;
+            "main\nall 4\n\
+            reply cb\nplay pass\nall 3\nreply bc\n{first}reply cc\n{second}reply pass\nwon\n\
+            reply bc\nplay pass\nall 3\nreply cb\n{third}reply cc\n{fourth}reply pass\nwon\n\
+            reply cc\nplay pass\nall 3\nreply cb\n{fifth}reply bc\n{sixth}reply pass\nwon\n\
+            reply pass\nplay pass\nwon\nend\n"
+        )
+    };
+    let tree = three(pair, pair, pair, pair, pair, pair).expect(&rt, "memory");
+    let plain = format!(in alloc; "tsucert 1 3 W\n{tree}").expect(&rt, "memory");
+    let main = three(
+        "use 1\n", "use 2\n", "use 1\n", "use 3\n", "use 2\n", "use 3\n",
+    )
+    .expect(&rt, "memory");
+    let expected = format!(in alloc;
+        "tsucert 2 3 W\n\
+        lemma W 0 O....X.X.\nhad O....X.XX\n{pair}end\n\
+        lemma W 0 O....X..X\nhad O....X.XX\n{pair}end\n\
+        lemma W 0 O......XX\nhad O....X.XX\n{pair}end\n{main}"
+    )
+    .expect(&rt, "memory");
+    let all = problem(&rt, alloc, 3, &texts, Colour::Black, "aa", "cbbccc");
+    let text = plain.as_bytes();
+    becomes(&rt, alloc, all, ALL, text, expected.as_bytes());
+    // Without such lemmas each pair stands in line.
+    let fewer = problem(&rt, alloc, 3, &texts, Colour::Black, "aa", "cbbccc");
+    becomes(&rt, alloc, fewer, WITHOUT_PASTS, text, text);
+}
+
+// Whether a lemma needs what stands in no history of the problem: what was played above its first place.
+fn needs_what_was_played(problem: &Problem, claim: &Certificate) -> bool {
+    for lemma in claim.lemmas.as_slice() {
+        for colouring in lemma.had.as_slice() {
+            if !problem.history().contains(colouring) {
+                return true;
+            }
+        }
+    }
+    false
+}
+
+// White has to live in ten points on the edge, and does not. Where Black takes a ko on them, the proof rests on the position
+// before, which White may not bring back.
+#[test]
+fn a_lemma_may_need_what_was_played_above_it(rt: HostRuntime) {
+    let alloc = rt.alloc();
+    let texts = [".O...X.....OOOXXOXXXXXX............."];
+    let region = "aabacadaeaabbbcbdbeb";
+    let edge = problem(&rt, alloc, 6, &texts, Colour::White, "acbc", region);
+    let shared = found(&rt, alloc, &edge, 10_000);
+    expect_same(&rt, shared.winner, Colour::Black);
+    match claim_with_lemmas(alloc, &edge, &shared, ALL) {
+        Ok(claim) => {
+            expect_same(&rt, claim.version, Version::Two);
+            expect_that(&rt, needs_what_was_played(&edge, &claim));
+            expect_that(&rt, accepted(&rt, alloc, &edge, claim) > 0);
+        }
+        Err(_) => panic!(&rt; "a claim with lemmas"),
+    }
+}

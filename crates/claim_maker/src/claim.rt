@@ -71,12 +71,22 @@ fn count_places(
     }
     for number in 0..proofs.len() {
         if let Some(proof) = proofs.at(number) {
-            for branch in proofs.branches(proof) {
-                count_place(proofs, branch.below, &mut places)?;
-            }
+            count_places_below(proofs, proof, &mut places)?;
         }
     }
     Ok(places)
+}
+
+/// One place more for each state below a branch of the proof.
+fn count_places_below(
+    proofs: &Proofs,
+    proof: Proof,
+    places: &mut IndexMap<Key, Places>,
+) -> Result<(), AllocError> {
+    for branch in proofs.branches(proof) {
+        count_place(proofs, branch.below, places)?;
+    }
+    Ok(())
 }
 
 /// One place more.

@@ -10,11 +10,7 @@ pub(crate) fn ascii(alloc: Global, drawing: &Drawing) -> Result<String, AllocErr
     let size = drawing.size;
     let rows = size.rows() as usize;
     let mut text = String::new(alloc);
-    text.push_str("  ")?;
-    for column in 0..rows {
-        text.push(' ')?;
-        text.push(column_letter(column))?;
-    }
+    push_column_names(&mut text, rows)?;
     for number in 0..size.area() {
         let point = size.point_at(number);
         if point.col() == 0 {
@@ -25,6 +21,16 @@ pub(crate) fn ascii(alloc: Global, drawing: &Drawing) -> Result<String, AllocErr
     }
     text.push('\n')?;
     Ok(text)
+}
+
+/// The first line, which names the columns.
+fn push_column_names(text: &mut String, columns: usize) -> Result<(), AllocError> {
+    text.push_str("  ")?;
+    for column in 0..columns {
+        text.push(' ')?;
+        text.push(column_letter(column))?;
+    }
+    Ok(())
 }
 
 /// Begins the line of the row with this number.

@@ -81,14 +81,7 @@ fn is_shut_in(board: &ChainBoard, point: Point, set: &PointSet) -> bool
 /// Where the targets are not shut in that is a large part of the board.
 pub(crate) fn proposed_region(board: &ChainBoard, colour: Colour, targets: &PointSet) -> PointSet {
     let size = board.size();
-    let mut reached = *targets;
-    for _ in 0..size.area() {
-        let more = grown(board, colour, &reached);
-        if more.len() == reached.len() {
-            break;
-        }
-        reached = more;
-    }
+    let reached = reached_from(board, colour, targets);
     let mut region = PointSet::new();
     for number in 0..size.area() {
         let point = size.point_at(number);
@@ -97,6 +90,19 @@ pub(crate) fn proposed_region(board: &ChainBoard, colour: Colour, targets: &Poin
         }
     }
     region
+}
+
+/// The targets, and what they reach through empty points and the colour's other stones.
+fn reached_from(board: &ChainBoard, colour: Colour, targets: &PointSet) -> PointSet {
+    let mut reached = *targets;
+    for _ in 0..board.size().area() {
+        let more = grown(board, colour, &reached);
+        if more.len() == reached.len() {
+            break;
+        }
+        reached = more;
+    }
+    reached
 }
 
 /// Whether the point belongs to the region.

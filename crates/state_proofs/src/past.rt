@@ -44,13 +44,23 @@ impl Past {
     pub fn has_any(&self, positions: &[u64]) -> bool {
         // The shorter side is walked.
         if positions.len() / 4 < self.positions.len() {
-            for position in positions {
-                if self.has(*position) {
-                    return true;
-                }
-            }
-            return false;
+            return self.has_one_of(positions);
         }
+        self.is_met_by(positions)
+    }
+
+    /// The same, one of these after the other.
+    fn has_one_of(&self, positions: &[u64]) -> bool {
+        for position in positions {
+            if self.has(*position) {
+                return true;
+            }
+        }
+        false
+    }
+
+    /// The same, one of those that have occurred after the other.
+    fn is_met_by(&self, positions: &[u64]) -> bool {
         for position in self.positions.iter() {
             if positions.binary_search(position).is_ok() {
                 return true;

@@ -228,12 +228,18 @@ impl Proofs {
             if let Below::Proof(number) = branch.below {
                 if let Some(proof) = self.get(number) {
                     let span = if is_had { proof.had } else { proof.not };
-                    for place in span.from..span.to {
-                        if let Some(position) = self.positions.get(place as usize).copied() {
-                            self.gathered.push(position)?;
-                        }
-                    }
+                    self.gather_span(span)?;
                 }
+            }
+        }
+        Ok(())
+    }
+
+    /// Adds the positions of this part to those that are gathered.
+    fn gather_span(&mut self, span: Span) -> Result<(), AllocError> {
+        for place in span.from..span.to {
+            if let Some(position) = self.positions.get(place as usize).copied() {
+                self.gathered.push(position)?;
             }
         }
         Ok(())

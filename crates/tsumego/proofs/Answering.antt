@@ -9,7 +9,7 @@ use Rattle.tsumego_problem.specs.Laws.{IsProblem, CanonicalReads, SolutionReads}
 use Rattle.tsumego_problem.specs.Canonical.{canonical}
 use Rattle.proof_cert.specs.Claim.{Claim}
 use Rattle.proof_cert.specs.Certificate.{claim_of}
-use Rattle.proof_cert.specs.Text.{text}
+use Rattle.proof_cert.specs.Text.{lines, pieces, text}
 use Rattle.cert_check.specs.Checked.{CheckedClaim, IsChecked}
 use Rattle.cert_check.specs.Expand.{expand}
 use Rattle.cert_check.specs.Laws.{AcceptsValidTexts, ValidClaimsAnswer}
@@ -21,6 +21,7 @@ use Rattle.tsumego_replies.specs.declared.status.Status.TheVariants.{Unanswered,
 use Rattle.tsumego_replies.specs.Texts.{line, no_memory_text, no_read_text, too_large_text}
 use Rattle.tsumego_replies.specs.Solutions.{IsProofBy, IsWritten, SolvedBy, MayAnswer}
 use Rattle.tsumego_replies.specs.Answers.{Says, SaysFailure, Tells}
+use Rattle.tsumego_replies.proofs.Claims.{are_lines}
 use Rattle.tsumego.specs.Outcome.{Saying, Leaves, HasLeftOn, Outcome, RanOn}
 use Rattle.tsumego.proofs.Running.{explained, may_say}
 use Rattle.tsumego.specs.Private.Written.{IsSolutionOf, Writes}
@@ -69,7 +70,7 @@ module _ (k : CheckedClaim) (checked : IsChecked k.problem (claim_of k.certifica
         written = how;
         spelling = bytes;
         spelled = spelled;
-        judged = (accepts q bytes (claim_of k.certificate).winner low high).1 (y, spelled, valid.limits, valid.valid, same);
+        judged = (lines q.game.size bytes, are_lines q.game.size (pieces bytes), (accepts q bytes (claim_of k.certificate).winner low high).1 (y, spelled, valid.limits, valid.valid, same));
         kept = record { whole = subst (λ t. IsTrue (is_tree t)) is whole; problem = read q kept };
         whole = ap (λ t. line (tree_text t) ++ bytes) is;
       }

@@ -9,9 +9,7 @@ use Rattle.target_game.specs.Within.{decision}
 use Rattle.target_game.specs.declared.within.Within.{Within}
 use Rattle.target_game.specs.declared.within.Within.TheVariants as within
 use Rattle.sgf_text.specs.Trees.{GameTree}
-use Rattle.tsumego_problem.specs.Values.{skip_white}
 use Rattle.tsumego_problem.specs.Walk.{history_limit}
-use Rattle.proof_cert.specs.Text.{lines}
 use Rattle.cert_check.specs.Verdict.{Verdict, accepted, rejected}
 use Rattle.cert_check.proofs.ReadingClaims.{accepted_sides_win}
 use Rattle.sgf_text.specs.Text.{tree_text}
@@ -27,7 +25,6 @@ use Rattle.solution_tree.proofs.Exact.{audit_is_exact}
 use Rattle.tsumego_replies.specs.declared.status.Status.TheVariants.{Answered}
 use Rattle.tsumego_replies.specs.Texts.{wins_text, neither_text}
 use Rattle.tsumego_replies.specs.Answers.{Answer, IsRecord, check_answer, within_answer, audit_answer}
-use Rattle.tsumego_replies.specs.Solutions.{claim_verdict}
 use Rattle.tsumego.specs.Laws.{SideWins, WinnerIsTrue, CheckIsTrue, WithinIsTrue, AuditIsTrue, SolveIsTrue, ProofIsTrue}
 use Rattle.tsumego_problem.proofs.Records.{placed, has_problem_node, stands_for}
 
@@ -49,9 +46,9 @@ accepts n (rejected place why) text h = absurd (cc (ap (λ (a : Answer). a.0) h)
 pub check_is_true : CheckIsTrue
 check_is_true bytes written (inr (failed, _)) = absurd cc
 check_is_true bytes written (inl (inl (refusal, r, e, t))) = absurd cc
-check_is_true bytes written (inl (inr (q, tree, n, r, h))) =
-    let (x, e, t) = accepts q.game.size (claim_verdict q (skip_white (drop n bytes))) written h.1 in
-    (q, x, t, side_wins bytes tree n q x r (accepted_sides_win q (lines q.game.size (skip_white (drop n bytes))) x (placed history_limit tree q r.problem).place e))
+check_is_true bytes written (inl (inr (q, tree, n, r, (few, (v, (ls, are, is), said))))) =
+    let (x, e, t) = accepts q.game.size v written said in
+    (q, x, t, side_wins bytes tree n q x r (accepted_sides_win q ls x (placed history_limit tree q r.problem).place (is ∙ e)))
 
 apart : true ≡ false → ⊥
 apart h = absurd (cc h)
@@ -134,10 +131,11 @@ proof_is_true steps table lift bytes written (inl (inr (q, tree, n, r, inr (e, u
 proof_is_true steps table lift bytes written (inl (inr (q, tree, n, r, inl (e, (z, by_claim))))) =
     let front = tree_text (canonical q) in
     let claim = by_claim.spelling in
+    let (ls, are, is) = by_claim.judged in
     let whole : written ≡ front ++ 10 ∷ claim = by_claim.whole ∙ append_assoc front (10 ∷ []) claim in (
       q,
       z.winner,
-      side_wins bytes tree n q z.winner r (accepted_sides_win q (lines q.game.size claim) z.winner (placed history_limit tree q r.problem).place by_claim.judged),
+      side_wins bytes tree n q z.winner r (accepted_sides_win q ls z.winner (placed history_limit tree q r.problem).place is),
       record {
         tree = canonical q;
         end = length front;

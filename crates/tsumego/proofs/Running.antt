@@ -5,7 +5,6 @@ use Rattle.target_game.specs.State.{start}
 use Rattle.target_game.specs.Within.{decision}
 use Rattle.target_game.specs.declared.within.Within.{Within as Decision}
 use Rattle.target_game.specs.declared.within.Within.TheVariants as decided
-use Rattle.tsumego_problem.specs.Values.{skip_white}
 use Rattle.cert_check.specs.Verdict.{Verdict, accepted, rejected}
 use Rattle.solution_tree.specs.Audit.{Fault, audit}
 use Rattle.tsumego_words.specs.declared.command_line.Command.{Command}
@@ -14,7 +13,6 @@ use Rattle.tsumego_replies.specs.declared.status.Status.{Status}
 use Rattle.tsumego_replies.specs.declared.status.Status.TheVariants.{BadWords, Failed}
 use Rattle.tsumego_words.specs.CommandLine.{is_session}
 use Rattle.tsumego_replies.specs.Texts.{no_memory_text, no_read_text}
-use Rattle.tsumego_replies.specs.Solutions.{claim_verdict}
 use Rattle.tsumego_replies.specs.Answers.{PassesBound, Says, SaysFailure, check_answer, audit_answer, within_answer, Tells}
 use Rattle.tsumego.specs.Devices.{PassesLimit}
 use Rattle.tsumego.specs.Outcome.{Outcome, Explains, ExplainsRun, MaySay, RanOn}
@@ -55,7 +53,7 @@ audit_answers n (Err fault) text e = absurd (cc (ap (λ p. p.0) e))
 pub says_no_failure : (command : Command) (bytes text : List ℕ) → is_session command ≡ false → Says command bytes Failed text → ⊥
 says_no_failure Gtp bytes text whole says = absurd (cc whole)
 says_no_failure Check bytes text whole (inl (refusal, refuses, e, is)) = absurd (cc e)
-says_no_failure Check bytes text whole (inr (q, tree, n, is, (few, said))) = check_answers q.game.size (claim_verdict q (skip_white (drop n bytes))) text said
+says_no_failure Check bytes text whole (inr (q, tree, n, is, (few, (v, has, said)))) = check_answers q.game.size v text said
 says_no_failure (Within turns nodes) bytes text whole (inl (refusal, refuses, e, is)) = absurd (cc e)
 says_no_failure (Within turns nodes) bytes text whole (inr (q, tree, n, is, said)) = within_answers (decision (start q) turns nodes) text said
 says_no_failure Audit bytes text whole (inl (refusal, refuses, e, is)) = absurd (cc e)

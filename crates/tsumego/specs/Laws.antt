@@ -17,14 +17,14 @@ use Rattle.tsumego_problem.specs.Below.{Below}
 use Rattle.tsumego_problem.specs.Canonical.{solution}
 use Rattle.tsumego_words.specs.declared.command_line.Command.TheVariants as command
 use Rattle.tsumego_replies.specs.declared.status.Status.TheVariants.{Answered}
-use Rattle.cert_check.specs.Verdict.{accepted}
+use Rattle.cert_check.specs.Verdict.{Verdict, accepted}
 use Rattle.gtp_core.specs.Lines.{asks, raw_lines, request_of}
 use Rattle.gtp_core.specs.Words.{colour_named, success, turn_text}
 use Rattle.gtp_core.specs.Session.{GtpSession, problem_at, size_of}
 use Rattle.gtp_core.specs.Serving.{Serves, reply, last_reply}
 use Rattle.gtp_core.specs.Runs.{first_session}
 use Rattle.tsumego_replies.specs.Texts.{line, wins_text}
-use Rattle.tsumego_replies.specs.Solutions.{claim_verdict}
+use Rattle.tsumego_replies.specs.Claims.{HasVerdict}
 use Rattle.tsumego.specs.Outcome.{Outcome}
 
 -- The bytes begin with a record, and this side wins its problem, with all its earlier positions.
@@ -52,6 +52,10 @@ WinnerIsTrue = (bytes : List ℕ) (q : GameProblem) (x : Colour) → SideWins by
 abbrev pub CheckIsTrue : Type 0
 CheckIsTrue = (bytes written : List ℕ) → Outcome (Some command.Check) bytes Answered written →
     (q : GameProblem) × (x : Colour) × (written ≡ wins_text x) × SideWins bytes q x
+
+-- A claim has one verdict, since no two lines have one spelling.
+abbrev pub OneVerdict : Type 0
+OneVerdict = (q : GameProblem) (bytes : List ℕ) (v w : Verdict) → HasVerdict q bytes v → HasVerdict q bytes w → v ≡ w
 
 -- Where `within` names a side, that side can force a win of the record's problem within so many turns.
 abbrev pub WithinIsTrue : Type 0
@@ -88,7 +92,7 @@ pub record HasClaim (bytes : List ℕ) (q : GameProblem) (x : Colour) : Type 0 w
   pub reads : Reads bytes tree end
   pub problem : problem_of tree ≡ Ok q
   pub behind : drop end bytes ≡ 10 ∷ claim
-  pub judged : claim_verdict q claim ≡ accepted x
+  pub judged : HasVerdict q claim (accepted x)
 
 -- Where `solve --proof` writes a claim, some side wins the problem of the record that was read, and what is written holds the same problem with an accepted claim that names that side.
 abbrev pub ProofIsTrue : Type 0

@@ -1,6 +1,6 @@
 //! What the outcome of a run says of the game, over the definitions alone.
 
-ghost use Rattle.tsumego.specs.Laws.{AuditIsTrue, CheckIsTrue, GtpIsTrue, ProofIsTrue, SolveIsTrue, WinnerIsTrue, WithinIsTrue};
+ghost use Rattle.tsumego.specs.Laws.{AuditIsTrue, CheckIsTrue, GtpIsTrue, OneVerdict, ProofIsTrue, SolveIsTrue, WinnerIsTrue, WithinIsTrue};
 
 /// Where a side wins the problem of a record, it wins what the record stands for, said without what is refused: of each law
 /// below a reader who knows what records mean has to believe no more than that.
@@ -11,6 +11,11 @@ pub fn winner_is_true()
 /// Where `check` answers, it names a side, and that side wins the problem of the record that was read.
 pub fn check_is_true()
     ensures { CheckIsTrue }
+{}
+
+/// The bytes of a claim have one verdict, since no two lines have one spelling.
+pub fn one_verdict()
+    ensures { OneVerdict }
 {}
 
 /// Where `within` names a side, that side can force a win of the record's problem within so many turns.

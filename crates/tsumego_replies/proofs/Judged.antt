@@ -28,8 +28,8 @@ use Rattle.tsumego_replies.specs.declared.status.Status.TheVariants.{Answered}
 use Rattle.tsumego_replies.specs.Texts.{wins_text}
 use Rattle.tsumego_replies.specs.Bounds.{front_limit, white_limit, MayAsk}
 use Rattle.tsumego_replies.specs.Answers.{IsRecord, Says, JudgesClaim, check_answer, white_before, Tells}
-use Rattle.tsumego_replies.specs.Solutions.{claim_verdict}
-use Rattle.tsumego_replies.specs.Replies.{AllWhite, Decides, HasNoRecord, IsReply, IsReplyAfter, IsRejectionOf, IsJudged, IsJudgedAfter, IsCheckedAfter, IsPastLimit, IsSaidAfter, SaysAfter}
+use Rattle.tsumego_replies.specs.Replies.{AllWhite, Decides, HasNoRecord, IsReply, IsReplyAfter, IsRejectionOf, IsJudged, IsJudgedAfter, IsCheckedAfter, IsPastLimit, IsSaidAfter, SaysAfter, claim_verdict}
+use Rattle.tsumego_replies.proofs.Claims.{has_verdict}
 use Rattle.tsumego_replies.proofs.Saying.{some_bytes}
 
 -- ---- white space
@@ -87,7 +87,7 @@ judges : (q : GameProblem) (bytes claim : List ℕ) (white : ℕ) (status : Stat
     → (status, text) ≡ check_answer q.game.size (claim_verdict q claim) → JudgesClaim q bytes status text
 judges q bytes claim white status text skipped long few said =
     let same = ap length skipped in
-    (omega (arith, same, long, few), said ∙ ap (λ c. check_answer q.game.size (claim_verdict q c)) (sym skipped))
+    (omega (arith, same, long, few), (claim_verdict q (skip_white bytes), has_verdict q (skip_white bytes), said ∙ ap (λ c. check_answer q.game.size (claim_verdict q c)) (sym skipped)))
 
 module _ {E : Type 0} (q : GameProblem) (behind claim : List ℕ) (told : Option (List ℕ)) (skipped : claim ≡ skip_white behind) (few : length behind - length claim ≤ white_limit) (low : length claim ≤ length behind) (r : Result Reply E) where
   pub claim_held : 0 < length claim → IfOk r (λ s. IsJudgedAfter q claim told s.status (string_bytes s.text)) → IfOk r (λ s. IsCheckedAfter q behind told s.status (string_bytes s.text))

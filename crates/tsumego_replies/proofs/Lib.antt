@@ -1,6 +1,7 @@
 pub mod Recording
 pub mod Phrases
 pub mod Saying
+pub mod Claims
 pub mod Searching
 pub mod Judged
 pub mod Front

@@ -20,7 +20,8 @@ use Rattle.tsumego_words.specs.declared.command_line.Command.TheVariants as comm
 use Rattle.tsumego_replies.specs.declared.status.Status.{Status}
 use Rattle.tsumego_replies.specs.declared.status.Status.TheVariants.{Answered, Unanswered, Refused}
 use Rattle.tsumego_replies.specs.Bounds.{white_limit}
-use Rattle.tsumego_replies.specs.Solutions.{claim_verdict, Solved, Unsolved}
+use Rattle.tsumego_replies.specs.Claims.{HasVerdict}
+use Rattle.tsumego_replies.specs.Solutions.{Solved, Unsolved}
 use Rattle.tsumego_replies.specs.Texts.{line, wins_text, rejected_line_text, rejected_node_text, neither_text, limit_text, no_memory_text, no_read_text}
 
 -- a status and the whole text with it
@@ -51,7 +52,7 @@ white_before bytes = length bytes - length (skip_white bytes)
 
 -- After a record stands white space, no more than may be, and then the claim: what is said is the verdict on it.
 abbrev pub JudgesClaim : GameProblem → List ℕ → Status → List ℕ → Type 0
-JudgesClaim q bytes status text = (white_before bytes ≤ white_limit) × ((status, text) ≡ check_answer q.game.size (claim_verdict q (skip_white bytes)))
+JudgesClaim q bytes status text = (white_before bytes ≤ white_limit) × ((v : Verdict) × HasVerdict q (skip_white bytes) v × ((status, text) ≡ check_answer q.game.size v))
 
 -- After a record stands more white space than may be.
 abbrev pub PassesWhite : List ℕ → Type 0

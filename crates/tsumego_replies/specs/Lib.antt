@@ -1,5 +1,6 @@
 pub mod Bounds
 pub mod Texts
+pub mod Claims
 pub mod Solutions
 pub mod Answers
 pub mod Replies

@@ -9,8 +9,10 @@ use Rattle.tsumego_replies.specs.declared.record.NoRecord.{NoRecord}
 use Rattle.tsumego_replies.specs.declared.record.NoRecord.TheVariants.{Refused, Memory}
 use Rattle.tsumego_replies.specs.declared.status.Status.{Status}
 use Rattle.tsumego_replies.specs.declared.status.Status.TheVariants.{Unanswered}
+use Rattle.proof_cert.specs.Text.{lines}
 use Rattle.cert_check.specs.Body.{Why}
 use Rattle.cert_check.specs.Stage.{why_value}
+use Rattle.cert_check.specs.Verdict.{Verdict, verdict}
 use Rattle.cert_check.specs.declared.reject.Reject.{Reject}
 use Rattle.solution_tree.specs.Audit as audit
 use Rattle.solution_tree.specs.Faults as fault
@@ -23,7 +25,7 @@ use Rattle.tsumego_replies.specs.declared.reply.Response.TheVariants.{Text, Solu
 use Rattle.tsumego_replies.specs.declared.input.White.{White}
 use Rattle.tsumego_replies.specs.declared.input.White.TheVariants.{Before, End, TooMuch}
 use Rattle.tsumego_replies.specs.Bounds.{white_limit}
-use Rattle.tsumego_replies.specs.Solutions.{MayAnswer, Unsolved, claim_verdict}
+use Rattle.tsumego_replies.specs.Solutions.{MayAnswer, Unsolved}
 use Rattle.tsumego_replies.specs.Answers.{Says, check_answer, JudgesClaim, PassesBound, white_before, Tells}
 use Rattle.tsumego_replies.specs.Texts.{line, rejected_line_text, rejected_node_text}
 
@@ -77,6 +79,10 @@ abbrev pub IsPastWhite : ℕ → Option (List ℕ) → Option (List ℕ) → Whi
 IsPastWhite room old new End = (white : List ℕ) × AllWhite white × (length white < room) × Consumes old new white × IsAtEnd new
 IsPastWhite room old new TooMuch = (white : List ℕ) × AllWhite white × (length white ≡ room) × Consumes old new white
 IsPastWhite room old new (Before b) = (white : List ℕ) × AllWhite white × (length white < room) × Consumes old new (white ++ b ∷ []) × (is_white b ≡ false)
+
+-- the verdict on the lines that are read
+abbrev pub claim_verdict : GameProblem → List ℕ → Verdict
+claim_verdict q claim = verdict q (lines q.game.size claim)
 
 -- the answer to a claim in these bytes and those that the reader tells after them, where it is judged
 abbrev pub IsJudgedAfter : GameProblem → List ℕ → Option (List ℕ) → Status → List ℕ → Type 0

@@ -15,8 +15,8 @@ use Rattle.tsumego_problem.specs.Below.{Below}
 use Rattle.tsumego_problem.specs.Canonical.{canonical, solution, ascends}
 use Rattle.proof_cert.specs.Certificate.{claim_of}
 use Rattle.proof_cert.specs.Claim.{Claim, IsWithinLimits}
-use Rattle.proof_cert.specs.Text.{lines, text as claim_text}
-use Rattle.cert_check.specs.Verdict.{Verdict, accepted, verdict}
+use Rattle.proof_cert.specs.Text.{text as claim_text}
+use Rattle.cert_check.specs.Verdict.{accepted}
 use Rattle.cert_check.specs.Validity.{IsValid}
 use Rattle.cert_check.specs.Checked.{CheckedClaim, IsChecked}
 use Rattle.cert_check.specs.Lift.{IsLifted}
@@ -27,10 +27,7 @@ use Rattle.pn_search.specs.declared.verdict.Cause.TheVariants.{Steps, Memory}
 use Rattle.tsumego_replies.specs.declared.status.Status.{Status}
 use Rattle.tsumego_replies.specs.declared.status.Status.TheVariants.{Answered, Unanswered}
 use Rattle.tsumego_replies.specs.Texts.{line, unknown_text, too_large_text}
-
--- the verdict on a claim's lines
-abbrev pub claim_verdict : GameProblem → List ℕ → Verdict
-claim_verdict q claim = verdict q (lines q.game.size claim)
+use Rattle.tsumego_replies.specs.Claims.{HasVerdict}
 
 -- A tree as records have it, of this same problem, the order of the history included.
 pub record IsRecordOf (q : GameProblem) (tree : GameTree) : Type 0 where
@@ -53,7 +50,7 @@ pub record IsProofBy (lift : Bool) (q : GameProblem) (z : Claim) (text : List �
   pub written : IsWritten lift q z claim
   pub spelling : List ℕ
   pub spelled : claim_text claim ≡ Some spelling
-  pub judged : claim_verdict q spelling ≡ accepted z.winner
+  pub judged : HasVerdict q spelling (accepted z.winner)
   pub kept : IsRecordOf q (canonical q)
   pub whole : text ≡ line (tree_text (canonical q)) ++ spelling
 

@@ -89,6 +89,19 @@ fn numbers(alloc: Global, order: &[usize]) -> Result<Vec<usize>, AllocError> {
     Ok(all)
 }
 
+// The lemma of these stones.
+fn push_lemma(
+    alloc: Global,
+    claim: &mut Vec<u8>,
+    numbers: &[usize],
+    stones: usize,
+) -> Result<(), AllocError> {
+    push(claim, "lemma B 1 ")?;
+    push_cells(claim, stones)?;
+    push_replies(alloc, claim, numbers, stones)?;
+    push(claim, "won\nend\n")
+}
+
 // A claim for White with a lemma for each set of black stones.
 fn claim_text(alloc: Global) -> Result<Vec<u8>, AllocError> {
     let order = sets(alloc)?;
@@ -96,10 +109,7 @@ fn claim_text(alloc: Global) -> Result<Vec<u8>, AllocError> {
     let mut claim = Vec::new(alloc);
     push(&mut claim, "tsucert 1 9 W\n")?;
     for stones in order.iter() {
-        push(&mut claim, "lemma B 1 ")?;
-        push_cells(&mut claim, *stones)?;
-        push_replies(alloc, &mut claim, numbers.as_slice(), *stones)?;
-        push(&mut claim, "won\nend\n")?;
+        push_lemma(alloc, &mut claim, numbers.as_slice(), *stones)?;
     }
     push(&mut claim, "main\n")?;
     push_replies(alloc, &mut claim, numbers.as_slice(), 0)?;
@@ -119,29 +129,27 @@ fn checked(rt: &impl Abort, alloc: Global, claim: &[u8]) -> Checked {
         .expect(rt, "a valid claim")
 }
 
+// What is written of the claim as a proof: a claim that has lemmas is not made into one lemma.
+fn is_written_whole(rt: &impl Abort, alloc: Global, checked: &Checked, claim: &[u8], lift: bool) {
+    let mut proof = Counting::new(Vec::new(alloc));
+    let ended = answer(alloc, checked, true, lift, &mut proof);
+    expect_status(rt, ended, Status::Answered);
+    expect_that(rt, proof.inner.as_slice().starts_with(CANONICAL));
+    expect_that(rt, proof.inner.as_slice().ends_with(claim));
+    let whole = CANONICAL.len().saturating_add(claim.len());
+    expect_that(rt, proof.inner.len() == whole);
+}
+
 // Its answer tree has 328,802 turns.
 #[test]
 fn a_large_tree_is_not_written_but_its_claim_is(rt: HostRuntime) {
-    let claim = claim_text(rt.alloc()).expect(&rt, "memory");
-    let checked = checked(&rt, rt.alloc(), claim.as_slice());
-    let mut tree = Counting::new(Vec::new(rt.alloc()));
-    expect_status(
-        &rt,
-        answer(rt.alloc(), &checked, false, false, &mut tree),
-        Status::Unanswered,
-    );
+    let alloc = rt.alloc();
+    let claim = claim_text(alloc).expect(&rt, "memory");
+    let checked = checked(&rt, alloc, claim.as_slice());
+    let mut tree = Counting::new(Vec::new(alloc));
+    let ended = answer(alloc, &checked, false, false, &mut tree);
+    expect_status(&rt, ended, Status::Unanswered);
     expect_text(&rt, tree.inner.as_slice(), "unknown: tree too large\n");
-    // A claim that has lemmas is not made into one lemma.
-    for lift in [false, true] {
-        let mut proof = Counting::new(Vec::new(rt.alloc()));
-        expect_status(
-            &rt,
-            answer(rt.alloc(), &checked, true, lift, &mut proof),
-            Status::Answered,
-        );
-        expect_that(&rt, proof.inner.as_slice().starts_with(CANONICAL));
-        expect_that(&rt, proof.inner.as_slice().ends_with(claim.as_slice()));
-        let whole = CANONICAL.len().saturating_add(claim.len());
-        expect_that(&rt, proof.inner.len() == whole);
-    }
+    is_written_whole(&rt, alloc, &checked, claim.as_slice(), false);
+    is_written_whole(&rt, alloc, &checked, claim.as_slice(), true);
 }

@@ -35,18 +35,27 @@ pub fn answers(
 pub fn checks(rt: &impl Abort, alloc: Global, input: &str, status: Status, text: &str) {
     answers(rt, alloc, &["tsumego", "check"], input, status, text);
     for piece in [1, 2, 7, 4_096] {
-        let mut reader = Counting::new(Pieces {
-            left: input.as_bytes(),
-            piece,
-        });
-        let mut writer = Counting::new(Vec::new(alloc));
-        assert_eq!(rt;
-            run(alloc, &["tsumego", "check"], &mut reader, &mut writer),
-            status,
-            "{input}"
-        );
-        assert_eq!(rt; writer.inner.as_slice(), text.as_bytes(), "{input}");
+        checks_pieces(rt, alloc, input, piece, status, text);
     }
+}
+
+// The same for `check`, in pieces of so many bytes.
+fn checks_pieces(
+    rt: &impl Abort,
+    alloc: Global,
+    input: &str,
+    piece: usize,
+    status: Status,
+    text: &str,
+) {
+    let mut reader = Counting::new(Pieces {
+        left: input.as_bytes(),
+        piece,
+    });
+    let mut writer = Counting::new(Vec::new(alloc));
+    let ended = run(alloc, &["tsumego", "check"], &mut reader, &mut writer);
+    expect_status(rt, ended, status);
+    expect_text(rt, writer.inner.as_slice(), text);
 }
 
 const CAPTURE: &str = "(;FF[4]GM[1]SZ[3]AB[ab]AW[aa]PL[B]TR[aa]SQ[ba])\n";

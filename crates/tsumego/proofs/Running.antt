@@ -1,5 +1,5 @@
 -- What is written, and what a run has then left.
-use Rattle.std.proofs.Common.{◌≡◌, ℕ, false, drop, List, [], ◌++◌, Option, Some, None, Result, Ok, Err, inl, inr, ◌⊎◌, sym, ◌∙◌, ap, subst}
+use Rattle.std.proofs.Common.{◌≡◌, ℕ, false, List, [], ◌++◌, Option, Some, None, Result, Ok, Err, inl, inr, ◌⊎◌, sym, ◌∙◌, ap, subst}
 use Rattle.go_points.specs.declared.Colour.{Colour}
 use Rattle.target_game.specs.State.{start}
 use Rattle.target_game.specs.Within.{decision}

@@ -1,5 +1,5 @@
 -- The lines that are read are those that the bytes spell, and no others are.
-use Rattle.std.proofs.Common.{◌≡◌, ℕ, Bool, true, false, List, [], ◌∷◌, map, Option, Some, None, IsTrue, refl, sym, ◌∙◌, ap, ap₂, if◌then◌else◌}
+use Rattle.std.proofs.Common.{◌≡◌, ℕ, Bool, true, false, List, [], ◌∷◌, map, Option, Some, None, refl, sym, ◌∙◌, ap, ap₂, if◌then◌else◌}
 use Rattle.target_game.specs.State.{GameProblem}
 use Rattle.proof_cert.specs.Lines.{Line}
 use Rattle.proof_cert.specs.Text.{spelling_of, is_spelled, line_bytes, line_of, line_of_piece, lines, pieces}

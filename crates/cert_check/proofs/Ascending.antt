@@ -13,7 +13,7 @@ use Rattle.go_points.specs.Equal.{same_cells_eq, same_cells_symm}
 use Rattle.go_points.specs.Order.{text_order, same_cells_ties}
 use Rattle.go_points.specs.Text.{text_of}
 use Rattle.go_turns.specs.History.{has_occurred, repeats}
-use Rattle.cert_check.specs.Machine.{last_of}
+use Rattle.cert_check.specs.Private.Machine.{last_of}
 use Rattle.cert_check.specs.Private.Ascending.{Ascends}
 
 pub order : IsTotalOrder text_order

@@ -11,7 +11,7 @@ use Rattle.proof_cert.specs.declared.source.SourceFault.{SourceFault}
 use Rattle.proof_cert.specs.declared.source.SourceFault.TheVariants as fault
 use Rattle.cert_check.specs.Body.{Why}
 use Rattle.cert_check.specs.Verdict.{Verdict, verdict, accepted, rejected}
-use Rattle.cert_check.specs.Machine.{Machine, begun, Phase, header, opening, listing_had, listing_not, node_due, reply_due, done, goes_on, stops, taken, ended, ended_at, after_step, verdict_from}
+use Rattle.cert_check.specs.Private.Machine.{Machine, begun, Phase, header, opening, listing_had, listing_not, node_due, reply_due, done, goes_on, stops, taken, ended, ended_at, after_step, verdict_from}
 use Rattle.cert_check.specs.Parts.{line_values}
 use Rattle.cert_check.specs.Checks.{Answers, Accepts, RejectsAt, FailsAt, IsReached}
 use Rattle.cert_check.specs.Private.Heard.{Heard}

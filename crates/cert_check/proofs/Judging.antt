@@ -22,7 +22,7 @@ use Rattle.cert_check.specs.declared.open_nodes.Due.TheVariants.{Node, Reply, En
 use Rattle.cert_check.specs.declared.lines.NodeLine.{NodeLine}
 use Rattle.cert_check.specs.Body.{Why, limit, list_order, ask, lemma_start}
 use Rattle.cert_check.specs.Verdict.{had_of, not_of, is_after}
-use Rattle.cert_check.specs.Machine.{Machine, Heading, Phase, goes_on, stops, goes_if, last_of, listed_taken, listing_had, listing_not, had_taken, not_taken, phase_taken, taken, body_of, node_taken}
+use Rattle.cert_check.specs.Private.Machine.{Machine, Heading, Phase, goes_on, stops, goes_if, last_of, listed_taken, listing_had, listing_not, had_taken, not_taken, phase_taken, taken, body_of, node_taken}
 use Rattle.cert_check.specs.Private.Inside.{Inside, phase_of, owed_by, node_fault, node_next}
 use Rattle.cert_check.specs.Parts.{head_of, had_line_of, listed_line, node_line, node_value}
 use Rattle.cert_check.specs.Private.Judging.{GoesOn, IsBehind, machine_of, heading_of, lemma_of, within_of, inside_now, phase_held, IsBehindFor, AwaitsHad, AwaitsList, AwaitsNode, had_here, list_here, node_here, body_here, had_more, listed_more}

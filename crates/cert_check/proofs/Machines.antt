@@ -9,8 +9,8 @@ use Rattle.proof_cert.specs.Claim.{Head, max_nodes, max_depth, max_listed}
 use Rattle.proof_cert.specs.Lines.{Line, header_line, lemma_line, had_line, not_line, main_line, won_line, use_line, play_line, all_line, reply_line, end_line, fitting}
 use Rattle.cert_check.specs.Body.{Body, Why, malformed, size_differs, limit, list_order, ask, due_replies, won_fault, play_fault, use_fault, all_fault, reply_fault, lemma_body, lemma_start, main_body}
 use Rattle.cert_check.specs.Verdict.{Cursor, Judged, fine, faulty, then_judge, read_line, asked, judge_reply, judge_end, judge_end_line, judge_had, judge_not, judge_lemma, lemma_fault, judge_opening, is_after, with_first, judge_claim, judge_node, judge_lemmas, judge_list, judge_header, had_of, not_of, verdict_of}
-use Rattle.cert_check.specs.Resume.{OpenNode, awaited, owed, resume, opened}
-use Rattle.cert_check.specs.Machine.{Owed, Heading, Phase, header, opening, listing_had, listing_not, node_due, reply_due, done, Machine, AfterLine, goes_on, stops, begun, body_of, owing, goes_if, there, node_taken, reply_taken, closed, end_taken, last_of, first_of, lists_due, opening_taken, listed_taken, header_taken, first_taken, not_taken, had_taken, phase_taken, taken, ended_at, after_step, verdict_from, LinesJudged}
+use Rattle.cert_check.specs.Private.Resume.{OpenNode, awaited, owed, resume, opened}
+use Rattle.cert_check.specs.Private.Machine.{Owed, Heading, Phase, header, opening, listing_had, listing_not, node_due, reply_due, done, Machine, AfterLine, goes_on, stops, begun, body_of, owing, goes_if, there, node_taken, reply_taken, closed, end_taken, last_of, first_of, lists_due, opening_taken, listed_taken, header_taken, first_taken, not_taken, had_taken, phase_taken, taken, ended_at, after_step, verdict_from, LinesJudged}
 use Rattle.cert_check.proofs.Bounds.{reading, Leaves, Leaves-then, then_same, same_node, Leaves-asked, Leaves-node}
 use Rattle.cert_check.proofs.Resuming.{resume_laws}
 use Rattle.cert_check.proofs.Leaving.{Leaves-not, Leaves-had, Leaves-end, Leaves-lemma, Leaves-lemmas_at}

@@ -13,7 +13,7 @@ use Rattle.cert_check.specs.declared.lines.NodeLine.{NodeLine}
 use Rattle.cert_check.specs.declared.lines.NodeLine.TheVariants.{Won, Use, Play, All}
 use Rattle.cert_check.specs.Body.{Body, Why, limit, replies_differ, ask, reply_fault}
 use Rattle.cert_check.specs.Stage.{why_value}
-use Rattle.cert_check.specs.Machine.{Machine, Heading, Phase, goes_on, stops, goes_if, Owed, body_of, counted, node_taken}
+use Rattle.cert_check.specs.Private.Machine.{Machine, Heading, Phase, goes_on, stops, goes_if, Owed, body_of, counted, node_taken}
 use Rattle.cert_check.specs.Parts.{node_value}
 use Rattle.cert_check.specs.Private.Inside.{Inside, Follows, phase_of, node_fault, node_next}
 use Rattle.cert_check.proofs.Due.{turns_apart, legal_fits}

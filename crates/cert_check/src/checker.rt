@@ -1,6 +1,6 @@
 //! The checker of claims, over any source of lines: it holds none of them.
 
-ghost use Rattle.std.specs.Prelude.{◌≡◌, ◌<◌, ◌^◌, [], Some, None, IfOk, IfErr, OnOk, OnSome};
+ghost use Rattle.std.specs.Prelude.{◌≡◌, ◌<◌, Some, None, IfOk, IfErr};
 ghost use Rattle.target_game.specs.State.{start};
 ghost use Rattle.target_game.specs.Wins.{Wins};
 ghost use Rattle.cert_check.specs.declared.reject.Why.TheVariants.{Memory, Read};

@@ -1,6 +1,6 @@
 //! The first turn of a claim that was checked.
 
-ghost use Rattle.std.specs.Prelude.{◌≡◌, ℕ, [], Some, IfSome, IsTrue, map, option_map, is_some};
+ghost use Rattle.std.specs.Prelude.{◌≡◌, ℕ, [], Some, IfSome, map, option_map, is_some};
 ghost use Rattle.go_points.specs.Ply.{ply_of};
 ghost use Rattle.target_game.specs.State.{GameState, start};
 ghost use Rattle.proof_cert.specs.Certificate.{claim_of, lemma_of, node_of};

@@ -5,7 +5,7 @@ ghost use Rattle.std.specs.Prelude.{◌≡◌, ◌<◌, ◌^◌, suc, None, Some
 ghost use Rattle.proof_cert.specs.Stage.{line_value};
 ghost use Rattle.cert_check.specs.Body.{Why as SpecWhy};
 ghost use Rattle.cert_check.specs.Private.Judging.{GoesOn, IsBehind, IsReady, StopsFor, bad_line, machine_of};
-ghost use Rattle.cert_check.specs.Machine.{begun, ended, goes_on, stops, taken};
+ghost use Rattle.cert_check.specs.Private.Machine.{begun, ended, goes_on, stops, taken};
 ghost use Rattle.cert_check.specs.Parts.{IsJudged};
 ghost use Rattle.cert_check.specs.Stage.{why_value};
 ghost use Rattle.cert_check.specs.Verdict.{accepted, rejected};

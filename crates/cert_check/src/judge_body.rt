@@ -7,7 +7,7 @@ ghost use Rattle.cert_check.specs.Private.Ascending.{Ascends};
 ghost use Rattle.cert_check.specs.Body.{Why as SpecWhy};
 ghost use Rattle.cert_check.specs.Private.Inside.{node_fault, node_next, owed_by};
 ghost use Rattle.cert_check.specs.Private.Judging.{AwaitsNode, GoesOn, IsBehind, StopsFor, body_here, heading_of, inside_now, lemma_of, machine_of, node_here, reply_here, within_of};
-ghost use Rattle.cert_check.specs.Machine.{body_of, end_taken, goes_on, moved, opening};
+ghost use Rattle.cert_check.specs.Private.Machine.{body_of, end_taken, goes_on, moved, opening};
 ghost use Rattle.cert_check.specs.Parts.{IsJudged, node_value};
 ghost use Rattle.cert_check.specs.Stage.{why_value};
 ghost use Rattle.cert_check.specs.declared.judge.Within.TheVariants.{Lemma, Main};

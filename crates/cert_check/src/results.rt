@@ -1,6 +1,6 @@
 //! What the moves of a checked claim's tree give, gathered on a walk over the tree.
 
-ghost use Rattle.std.specs.Prelude.{◌≡◌, ◌++◌, IfOk, IfSome, Some, map, filter};
+ghost use Rattle.std.specs.Prelude.{◌≡◌, ◌++◌, IfOk, Some, map, filter};
 ghost use Rattle.go_points.specs.Grid.{points};
 ghost use Rattle.target_game.specs.State.{GameState, start};
 ghost use Rattle.proof_cert.specs.Claim.{node_count};

@@ -1,5 +1,5 @@
 -- Turns that were judged one by one.
-use Rattle.std.proofs.Common.{◌≡◌, List, [], ◌∷◌, ◌++◌, append_assoc, sym, ◌∙◌, ap}
+use Rattle.std.proofs.Common.{◌≡◌, List, [], ◌∷◌, ◌++◌, append_assoc, sym, ◌∙◌}
 use Rattle.go_points.specs.Ply.{Ply, ply_of}
 use Rattle.target_game.specs.State.{GameProblem}
 use Rattle.first_turns.specs.declared.found.Found.{Found}

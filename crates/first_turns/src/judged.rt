@@ -1,6 +1,6 @@
 //! What is found of a first turn.
 
-ghost use Rattle.std.specs.Prelude.{◌≡◌, ◌+◌, IfOk, IfSome, None, ◌∷◌, []};
+ghost use Rattle.std.specs.Prelude.{◌≡◌, ◌+◌, IfOk, IfSome, None};
 ghost use Rattle.go_points.specs.Move.{after_move};
 ghost use Rattle.go_points.specs.Place.{IsOn, number_of};
 ghost use Rattle.go_points.specs.Ply.{ply_of};

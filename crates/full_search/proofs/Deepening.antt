@@ -1,12 +1,10 @@
 -- Full search depth by depth.
-use Rattle.std.proofs.Common.{◌≡◌, ℕ, ◌+◌, ◌-◌, ◌*◌, ◌/◌, ◌<◌, ◌≤◌, ◌⊎◌, inl, inr, false, Result, Ok, Err, IfErr, IsTrue, arith}
-use Rattle.std.proofs.Math.Nat.{min-le_left, min-le_right, mul-le-mul, mul-le-mul_left}
+use Rattle.std.proofs.Common.{◌≡◌, ℕ, ◌+◌, ◌-◌, ◌*◌, ◌<◌, ◌≤◌, ◌⊎◌, inl, inr, false, IsTrue, arith}
+use Rattle.std.proofs.Math.Nat.{mul-le-mul, mul-le-mul_left}
 use Rattle.go_points.specs.declared.Colour.{Colour}
-use Rattle.target_game.specs.State.{GameState, GameProblem, start}
+use Rattle.target_game.specs.State.{GameState}
 use Rattle.target_game.specs.Wins.{wins, nodes}
 use Rattle.proof_cert.specs.Claim.{Node, node_count, max_nodes}
-use Rattle.proof_cert.specs.Certificate.{node_of}
-use Rattle.proof_cert.specs.declared.certificate.Node as code
 use Rattle.full_search.specs.Decided.{NoneWithin, IsFirst}
 use Rattle.full_search.specs.Private.Shown.{NeitherWins}
 use Rattle.full_search.proofs.Showing.{nodes_within}

@@ -1,4 +1,5 @@
 pub mod Pieces
 pub mod Telling
 pub mod Orders
+pub mod Sound
 pub mod Running

@@ -1,5 +1,5 @@
 -- What words, rows and records come to, over plain values.
-use Rattle.std.proofs.Common.{◌≡◌, ℕ, zero, suc, ◌+◌, ◌-◌, ◌*◌, ◌<◌, Bool, true, false, cond, nat_eq, nat_lt, ltb-true, List, [], ◌∷◌, ◌++◌, map, length, take, drop, get_or, replicate, Option, None, Some, Result, Ok, Err, refl, sym, ap, ap₂, ◌∙◌, subst, arith, append_assoc, take-append-drop}
+use Rattle.std.proofs.Common.{◌≡◌, ℕ, zero, suc, ◌+◌, ◌-◌, ◌*◌, ◌<◌, Bool, true, false, cond, nat_eq, nat_lt, ltb-true, List, [], ◌∷◌, ◌++◌, map, length, take, drop, get_or, replicate, Option, None, Some, Ok, refl, sym, ap, ap₂, ◌∙◌, subst, arith, append_assoc, take-append-drop}
 use Rattle.std.proofs.lemmas.Nat.{div-mul-add, mod-mul-add}
 use Rattle.std.proofs.lemmas.List.{take_more, drop-drop}
 use Rattle.std.specs.List.{All}
@@ -14,20 +14,12 @@ use Rattle.go_points.specs.Liberty.{first_without_liberty}
 use Rattle.go_points.specs.Place.{Place, IsOn, on_board, number_of, place_of}
 use Rattle.go_points.specs.Ply.{move, ply_of}
 use Rattle.go_turns.specs.Record.{GameRecord, Opens, opened, with_liberties}
-use Rattle.std.specs.Prelude.{IfSome}
-use Rattle.std.specs.Result.{result_ok}
-use Rattle.go_points.specs.declared.Colour.{Colour}
-use Rattle.go_points.specs.Grid.{side_of}
-use Rattle.target_game.specs.declared.bad_problem.BadProblem.{BadProblem}
-use Rattle.target_game.specs.Problem.{problem_of}
-use Rattle.target_game.specs.State.{GameProblem}
-use Rattle.target_game.proofs.Facts.{facts}
 use Rattle.go_points.specs.declared.vertex.Vertex.{Vertex}
 use Rattle.go_points.specs.declared.vertex.Vertex.TheVariants as vertex
 use Rattle.go_points.specs.Gtp.{vertex_named}
 use Rattle.go_points.specs.Points.{same_place, is_before, with_place}
 use Rattle.gtp_core.specs.declared.command.Command.TheVariants as command
-use Rattle.gtp_core.specs.Commands.{Order, point_at, region_named, region_order, whole_board, with_points}
+use Rattle.gtp_core.specs.Commands.{Order, point_at, region_named, whole_board, with_value, with_points}
 use Rattle.gtp_core.specs.Lines.{words_of}
 use Rattle.gtp_core.specs.Private.Pieces.{HasNone, IsAtSpace, BeginsWord}
 use Rattle.gtp_core.specs.Serving.{fed_rows}
@@ -84,15 +76,6 @@ record_is n m c r size is free opens =
     subst (λ o. Opens n (with_liberties n o (record { history = c ∷ []; place = 0; passes = 0; last_colour = None })) (Ok r)) free there in
     made ∙ ap (λ (x : List Cell). record { size = n; present = record { history = x ∷ []; place = 0; passes = 0; last_colour = None }; earlier = [] }) is
 
--- the problem that a call made is of the size of the present colouring, which stands in the history
-pub problem_size : (h : List (List Cell)) (place : ℕ) (mover : Colour) (passes : ℕ) (targets region : List Place) (k n : ℕ) (o : Option GameProblem)
-    → o ≡ result_ok (problem_of h place mover passes targets region) → k < length h → side_of (get_or h k []) ≡ n → IfSome o (λ q. q.game.size ≡ n)
-problem_size h place mover passes targets region k n o is within side = subst (λ x. IfSome x (λ q. q.game.size ≡ n)) (sym is) (go (problem_of h place mover passes targets region) refl)
-  where
-    go : (r : Result GameProblem BadProblem) → problem_of h place mover passes targets region ≡ r → IfSome (result_ok r) (λ q. q.game.size ≡ n)
-    go (Err e) made = tt
-    go (Ok q) made = sym ((facts h place mover passes targets region q made).sides k [] within) ∙ side
-
 -- a set of points of the board, and one point more
 all_cons : (n : ℕ) (p : Place) (ps : List Place) → IsOn n p → All (IsOn n) ps → All (IsOn n) (p ∷ ps)
 all_cons n p ps on rest zero d within = on
@@ -116,5 +99,5 @@ point_more n set word words all v column row p is named at place =
     sym (ap (with_points n set) is
     ∙ ap (λ (o : Option Place). elim o [ None ↦ None | Some x ↦ with_points n (with_place set x) words ]) (ap (point_at n) (named ∙ ap Some at) ∙ place))
 
-pub whole_region : (n : ℕ) (ps : List Place) (words : List (List ℕ)) → words ≡ [] → ps ≡ whole_board n → ◌≡◌ {A = Order} (Ok (command.SetRegion ps)) (region_order (region_named n words))
-whole_region n ps words none is = ap (λ (set : List Place). Ok (command.SetRegion set)) is ∙ sym (ap (λ ws. region_order (region_named n ws)) none)
+pub whole_region : (n : ℕ) (ps : List Place) (words : List (List ℕ)) → words ≡ [] → ps ≡ whole_board n → ◌≡◌ {A = Order} (Ok (command.SetRegion ps)) (with_value (region_named n words) (λ set. Ok (command.SetRegion set)))
+whole_region n ps words none is = ap (λ (set : List Place). Ok (command.SetRegion set)) is ∙ sym (ap (λ ws. with_value (region_named n ws) (λ set. Ok (command.SetRegion set))) none)

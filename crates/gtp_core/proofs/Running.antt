@@ -5,6 +5,7 @@ use Rattle.std.proofs.lemmas.List.{length-append, length-take-le, take_all}
 use Rattle.std.specs.Io.KnownBytes.{Consumes, IsAtEnd}
 use Rattle.std.proofs.KnownBytes.{Appends-nil, Appends-trans, Consumes-nil, Consumes-trans}
 use Rattle.byte_writer.specs.Taken.{TakesPart}
+use Rattle.proof_cert.specs.Streamed.{Tells}
 use Rattle.gtp_core.specs.declared.end.GtpEnd.TheVariants.{Read, Write}
 use Rattle.gtp_core.specs.declared.input.Ending.{Ending}
 use Rattle.gtp_core.specs.declared.input.Ending.TheVariants.{LineFeed, End}
@@ -13,7 +14,7 @@ use Rattle.gtp_core.specs.Private.Pieces.{HasNone}
 use Rattle.gtp_core.specs.Session.{GtpSession}
 use Rattle.gtp_core.specs.Words.{failure}
 use Rattle.gtp_core.specs.Serving.{Output, needs_memory, reply, last_reply, Answers, HadNoMemory, Serves}
-use Rattle.gtp_core.specs.Runs.{GoesThrough, IsRun, first_session, input_limit, Tells, IsReadTo, HasRun, HasStoppedOn}
+use Rattle.gtp_core.specs.Runs.{GoesThrough, IsRun, first_session, input_limit, IsReadTo, HasRun, HasStoppedOn}
 use Rattle.gtp_core.specs.Private.Taking.{Bounded, CannotGoOn, kept, IsRawLine, IsServed, IsPartServed, IsUnderWay}
 use Rattle.gtp_core.proofs.Pieces.{parted_one, parted_more}
 
@@ -24,6 +25,18 @@ through_more s [] w t line bytes u h served =
     (bytes, [], u, subst (λ x. Serves x line (reply bytes) u) h.1 served, ap (λ x. x ++ bytes) h.0 ∙ sym (append-nil bytes), (refl, refl))
 through_more s (l ∷ ls) w t line bytes u h served =
     (h.0, h.1 ++ bytes, h.2, h.3, ap (λ x. x ++ bytes) h.4 ∙ append_assoc h.0 h.1 bytes, through_more h.2 ls h.1 t line bytes u h.5 served)
+
+-- lines that were all served are a run, and so are those up to one that ends the session
+pub through_is_run : (s : GtpSession) (ls : List (List ℕ)) (w : List ℕ) (t : GtpSession) → GoesThrough s ls w t → IsRun s ls w
+through_is_run s [] w t h = h.0
+through_is_run s (l ∷ ls) w t h = inl (h.0, h.1, h.2, h.3, h.4, through_is_run h.2 ls h.1 t h.5)
+
+pub ended_is_run : (s : GtpSession) (ls : List (List ℕ)) (w : List ℕ) (t : GtpSession) (line : List ℕ) (behind : List (List ℕ)) (bytes : List ℕ) (u : GtpSession)
+    → GoesThrough s ls w t → Serves t line (last_reply bytes) u → IsRun s (ls ++ line ∷ behind) (w ++ bytes)
+ended_is_run s [] w t line behind bytes u h served =
+    inr (u, subst (λ x. Serves s line (last_reply (x ++ bytes)) u) (sym h.0) (subst (λ x. Serves x line (last_reply bytes) u) h.1 served))
+ended_is_run s (l ∷ ls) w t line behind bytes u h served =
+    inl (h.0, h.1 ++ bytes, h.2, h.3, ap (λ x. x ++ bytes) h.4 ∙ append_assoc h.0 h.1 bytes, ended_is_run h.2 ls h.1 t line behind bytes u h.5 served)
 
 -- a line of which a front was kept is served as its front
 bad : (line : List ℕ) → 4096 < length line → request_of line ≡ bad_line
@@ -150,7 +163,8 @@ module _ (told : Option (List ℕ)) (left mid : Bounded) (old now : Option (List
         run.written ++ bytes,
         k.tells,
         Appends-trans old now new run.written bytes run.appended served.2,
-        inl (t, subst (λ ls. GoesThrough first_session ls (run.written ++ bytes) t) (sym (k.parted ∙ ap (λ ls. run.front ++ k.line ∷ ls) (k.last refl))) (through_more first_session run.front run.written s k.line bytes t run.through serves)),
+        subst (λ ls. IsRun first_session ls (run.written ++ bytes)) (sym (k.parted ∙ ap (λ ls. run.front ++ k.line ∷ ls) (k.last refl)))
+            (through_is_run first_session (run.front ++ k.line ∷ []) (run.written ++ bytes) t (through_more first_session run.front run.written s k.line bytes t run.through serves)),
       )
 
   pub ends_with_line : (front : List ℕ) (e : Ending) (new : Option (List ℕ)) (t : GtpSession) → IsRawLine left mid front e → IsServed s front false now new t → HasRun told old new
@@ -162,7 +176,7 @@ module _ (told : Option (List ℕ)) (left mid : Bounded) (old now : Option (List
         run.written ++ bytes,
         k.tells,
         Appends-trans old now new run.written bytes run.appended served.2,
-        inr (record { front = run.front; line = k.line; behind = k.behind; parted = k.parted; before = run.written; mid = s; through = run.through; bytes = bytes; last = t; served = serves; whole = refl }),
+        subst (λ ls. IsRun first_session ls (run.written ++ bytes)) (sym k.parted) (ended_is_run first_session run.front run.written s k.line k.behind bytes t run.through serves),
       )
 
   -- the lines that had ended, where no more may be taken
@@ -216,9 +230,9 @@ module _ (told : Option (List ℕ)) (left mid : Bounded) (old now : Option (List
       )
     where
       go : (line bytes : List ℕ) (ends : Bool) → Serves s line (record { bytes = bytes; ends = ends }) t → IsRun first_session (run.front ++ line ∷ []) (run.written ++ bytes)
-      go line bytes false serves = inl (t, through_more first_session run.front run.written s line bytes t run.through serves)
-      go line bytes true serves =
-          inr (record { front = run.front; line = line; behind = []; parted = refl; before = run.written; mid = s; through = run.through; bytes = bytes; last = t; served = serves; whole = refl })
+      go line bytes false serves =
+          through_is_run first_session (run.front ++ line ∷ []) (run.written ++ bytes) t (through_more first_session run.front run.written s line bytes t run.through serves)
+      go line bytes true serves = ended_is_run first_session run.front run.written s line [] bytes t run.through serves
 
 -- memory was refused, and the write failed that says so
 pub no_memory_part : (s : GtpSession) (line : List ℕ) (old new : Option (List ℕ)) (bytes : List ℕ) → IsTrue (needs_memory (request_of line)) → bytes ≡ failure [] (codes "out of memory")

@@ -1,9 +1,9 @@
 -- The commands (those of GTP 2, and this project's own, whose names begin with `tsu-`): their names, and what the words of a line ask for.
 --     name_of word      the command with this name
 --     order_of n words      what the words ask for on a board of n rows, or why they are refused
-use Rattle.std.specs.Prelude.{ℕ, Bool, true, false, ◌&&◌, nat_le, List, [], ◌∷◌, ◌++◌, map, codes, Option, Some, None, is_some, Result, Ok, Err, if◌then◌else◌}
+use Rattle.std.specs.Prelude.{ℕ, Bool, true, false, ◌&&◌, nat_le, List, [], ◌∷◌, ◌++◌, map, drop, codes, Option, Some, None, is_some, Result, Ok, Err, if◌then◌else◌}
+use Rattle.std.specs.Option.{option_map_or}
 use Rattle.std.specs.Str.{bytes_eq}
-use Rattle.go_points.specs.declared.Colour.{Colour}
 use Rattle.go_points.specs.declared.TheConstants.{MAX_SIZE}
 use Rattle.go_points.specs.declared.vertex.Vertex.{Vertex}
 use Rattle.go_points.specs.declared.vertex.Vertex.TheVariants as vertex
@@ -75,37 +75,23 @@ Order = Result Command Refusal
 abbrev pub syntax_error : Order
 syntax_error = Err refusal.SyntaxError
 
--- Too few words are a syntax error; further words are ignored.
-abbrev pub with_one : List (List ℕ) → (List ℕ → Order) → Order
-with_one [] order = syntax_error
-with_one (word ∷ words) order = order word
+-- The order that a value gives; none is a syntax error.
+abbrev pub with_value : {A : Type 0} → Option A → (A → Order) → Order
+with_value value order = option_map_or order value syntax_error
 
-abbrev pub with_two : List (List ℕ) → (List ℕ → List ℕ → Order) → Order
-with_two (word ∷ other ∷ words) order = order word other
-with_two _ order = syntax_error
+-- The order by the first word, as it is read. Too few words are a syntax error; further words are ignored.
+abbrev pub with_first_word : {A : Type 0} → (List ℕ → Option A) → List (List ℕ) → (A → Order) → Order
+with_first_word read [] order = syntax_error
+with_first_word read (word ∷ words) order = with_value (read word) order
 
-abbrev pub size_order : Option ℕ → Order
-size_order None = syntax_error
-size_order (Some n) = (if nat_le 1 n && nat_le n MAX_SIZE then Ok (command.NewBoard n) else Err refusal.UnacceptableSize)
-
-abbrev pub play_order : Option Colour → Option Vertex → Order
-play_order (Some k) (Some v) = Ok (command.Play k v)
-play_order _ _ = syntax_error
-
-abbrev pub genmove_order : Option Colour → Order
-genmove_order None = syntax_error
-genmove_order (Some k) = Ok (command.Genmove k)
-
-abbrev pub solve_order : Option Colour → Order
-solve_order None = syntax_error
-solve_order (Some k) = Ok (command.Solve k)
+abbrev pub size_order : ℕ → Order
+size_order n = (if nat_le 1 n && nat_le n MAX_SIZE then Ok (command.NewBoard n) else Err refusal.UnacceptableSize)
 
 abbrev pub max_turns : ℕ
 max_turns = 200
 
-abbrev pub within_order : Option ℕ → Order
-within_order None = syntax_error
-within_order (Some k) = (if nat_le k max_turns then Ok (command.Within k) else syntax_error)
+abbrev pub within_order : ℕ → Order
+within_order k = (if nat_le k max_turns then Ok (command.Within k) else syntax_error)
 
 -- The point at a vertex; none at a pass and off the board.
 abbrev pub point_at : ℕ → Option Vertex → Option Place
@@ -117,10 +103,6 @@ abbrev pub with_points : ℕ → List Place → List (List ℕ) → Option (List
 with_points n set [] = Some set
 with_points n set (word ∷ words) = elim (point_at n (vertex_named word)) [ None ↦ None | Some p ↦ with_points n (with_place set p) words ]
 
-abbrev pub target_order : Option (List Place) → Order
-target_order None = syntax_error
-target_order (Some set) = Ok (command.SetTargets set)
-
 -- All points of a board.
 abbrev pub whole_board : ℕ → List Place
 whole_board n = map (place_of n) (points n)
@@ -130,35 +112,27 @@ abbrev pub region_named : ℕ → List (List ℕ) → Option (List Place)
 region_named n [] = Some (whole_board n)
 region_named n (word ∷ words) = with_points n [] (word ∷ words)
 
-abbrev pub region_order : Option (List Place) → Order
-region_order None = syntax_error
-region_order (Some set) = Ok (command.SetRegion set)
-
 -- What the further words ask of a command.
 abbrev pub order_named : ℕ → CommandName → List (List ℕ) → Order
 order_named n name.ProtocolVersion words = Ok (command.Say say.ProtocolVersion)
 order_named n name.Name words = Ok (command.Say say.Name)
 order_named n name.Version words = Ok (command.Say say.Version)
-order_named n name.KnownCommand words = with_one words (λ word. Ok (command.Say (truth (is_some (name_of word)))))
+order_named n name.KnownCommand words = with_first_word Some words (λ word. Ok (command.Say (truth (is_some (name_of word)))))
 order_named n name.ListCommands words = Ok (command.Say say.Names)
 order_named n name.Quit words = Ok command.Quit
-order_named n name.Boardsize words = with_one words (λ word. size_order (number_named word))
+order_named n name.Boardsize words = with_first_word number_named words size_order
 order_named n name.ClearBoard words = Ok command.ClearBoard
-order_named n name.Komi words = with_one words (λ word. Ok (command.Say say.Nothing))
-order_named n name.Play words = with_two words (λ word other. play_order (colour_named word) (vertex_named other))
-order_named n name.Genmove words = with_one words (λ word. genmove_order (colour_named word))
+order_named n name.Komi words = with_first_word Some words (λ word. Ok (command.Say say.Nothing))
+order_named n name.Play words = with_first_word colour_named words (λ k. with_first_word vertex_named (drop 1 words) (λ v. Ok (command.Play k v)))
+order_named n name.Genmove words = with_first_word colour_named words (λ k. Ok (command.Genmove k))
 order_named n name.Undo words = Ok command.Undo
 order_named n name.Showboard words = Ok command.Showboard
-order_named n name.TsuTarget words = target_order (with_points n [] words)
-order_named n name.TsuRegion words = region_order (region_named n words)
-order_named n name.TsuSolve words = with_one words (λ word. solve_order (colour_named word))
-order_named n name.TsuWithin words = with_one words (λ word. within_order (number_named word))
-
-abbrev pub known_order : ℕ → Option CommandName → List (List ℕ) → Order
-known_order n None words = Err refusal.UnknownCommand
-known_order n (Some c) words = order_named n c words
+order_named n name.TsuTarget words = with_value (with_points n [] words) (λ set. Ok (command.SetTargets set))
+order_named n name.TsuRegion words = with_value (region_named n words) (λ set. Ok (command.SetRegion set))
+order_named n name.TsuSolve words = with_first_word colour_named words (λ k. Ok (command.Solve k))
+order_named n name.TsuWithin words = with_first_word number_named words within_order
 
 -- An id alone is too few words.
 abbrev pub order_of : ℕ → List (List ℕ) → Order
 order_of n [] = syntax_error
-order_of n (word ∷ words) = known_order n (name_of word) words
+order_of n (word ∷ words) = option_map_or (λ c. order_named n c words) (name_of word) (Err refusal.UnknownCommand)

@@ -1,10 +1,11 @@
 -- A run of a session over the lines of an input.
 --     GoesThrough s lines written t      all the lines are served in turn, and the session goes on as t
---     IsRun s lines written      the lines are served in turn, up to their end or that of the session
+--     IsRun s lines written      the lines are served in turn, up to their end or to one that ends the session
 --     HasRun, HasStopped      what a run over a reader leaves with the writer
 --     HasStoppedOn      the same, with what is known of a read or a write that failed
-use Rattle.std.specs.Prelude.{◌≡◌, ◌<◌, ℕ, List, length, [], ◌∷◌, ◌++◌, Option, Some, None, ◌⊎◌}
+use Rattle.std.specs.Prelude.{◌≡◌, ◌<◌, ℕ, List, length, [], ◌∷◌, ◌++◌, Option, ◌⊎◌}
 use Rattle.std.specs.Io.KnownBytes.{Appends}
+use Rattle.proof_cert.specs.Streamed.{Tells}
 use Rattle.gtp_core.specs.declared.session.TheConstants.{FIRST_SIZE}
 use Rattle.gtp_core.specs.declared.end.GtpEnd.{GtpEnd}
 use Rattle.gtp_core.specs.declared.end.GtpEnd.TheVariants.{Read, Write, Memory}
@@ -17,30 +18,15 @@ GoesThrough s [] written t = (written ≡ []) × (t ≡ s)
 GoesThrough s (line ∷ lines) written t =
     (bytes rest : List ℕ) × (new : GtpSession) × Serves s line (reply bytes) new × (written ≡ bytes ++ rest) × GoesThrough new lines rest t
 
--- A line ends the session, and those after it count for nothing.
-pub record IsEnded (s : GtpSession) (lines : List (List ℕ)) (written : List ℕ) : Type 0 where
-  pub front : List (List ℕ)
-  pub line : List ℕ
-  pub behind : List (List ℕ)
-  pub parted : lines ≡ front ++ line ∷ behind
-  pub before : List ℕ
-  pub mid : GtpSession
-  pub through : GoesThrough s front before mid
-  pub bytes : List ℕ
-  pub last : GtpSession
-  pub served : Serves mid line (last_reply bytes) last
-  pub whole : written ≡ before ++ bytes
-
+-- After a line that ends the session the others count for nothing.
 abbrev pub IsRun : GtpSession → List (List ℕ) → List ℕ → Type 0
-IsRun s lines written = ((t : GtpSession) × GoesThrough s lines written t) ⊎ IsEnded s lines written
+IsRun s [] written = written ≡ []
+IsRun s (line ∷ lines) written =
+    ((bytes rest : List ℕ) × (new : GtpSession) × Serves s line (reply bytes) new × (written ≡ bytes ++ rest) × IsRun new lines rest)
+    ⊎ ((new : GtpSession) × Serves s line (last_reply written) new)
 
 abbrev pub first_session : GtpSession
 first_session = new_session FIRST_SIZE
-
--- The bytes are those that the reader tells, where it tells them.
-abbrev pub Tells : Option (List ℕ) → List ℕ → Type 0
-Tells None bytes = Unit {0}
-Tells (Some told) bytes = bytes ≡ told
 
 -- The replies to all lines that had ended, but to none after them.
 pub record IsReadTo (bytes written : List ℕ) : Type 0 where

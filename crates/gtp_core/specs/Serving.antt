@@ -3,6 +3,7 @@
 --     Meets old id due out new      that it gets what it is due
 --     Serves old line out new      a raw line is served: this is written, and this is the session after it
 use Rattle.std.specs.Prelude.{◌≡◌, ℕ, zero, suc, Bool, true, false, List, [], ◌∷◌, ◌++◌, codes, take, drop, IsTrue, Option, Some, None, Result, Ok, Err, ◌⊎◌}
+use Rattle.std.specs.Option.{option_map_or}
 use Rattle.go_points.specs.declared.Colour.{Colour}
 use Rattle.go_points.specs.declared.Colour.TheVariants.{Black, White}
 use Rattle.go_points.specs.declared.Turn.{Turn}
@@ -38,23 +39,23 @@ pub data Due : Type 0 where
   tells : Colour → GameProblem → Due
   plays : Colour → Option GameProblem → Due
 
--- The session where its record, its targets or its region is another.
+-- The session where its record or its targets are others.
 abbrev pub with_turns : GtpSession → GameRecord → GtpSession
 with_turns s r = record s { turns = r }
 
 abbrev pub with_targets : GtpSession → List Place → GtpSession
 with_targets s set = record s { targets = set }
 
-abbrev pub with_region : GtpSession → List Place → GtpSession
-with_region s set = record s { region = set }
-
 abbrev pub record_due : GtpSession → Refusal → Result GameRecord TurnFault → Due
 record_due s why (Ok r) = answers [] (with_turns s r)
 record_due s why (Err fault) = refuses why
 
-abbrev pub turn_due : GtpSession → Colour → Option Turn → Due
-turn_due s k None = refuses refusal.IllegalMove
-turn_due s k (Some t) = record_due s refusal.IllegalMove (play_of s.turns k (ply_of (size_of s) t))
+-- What a value is due; where there is none, this refusal.
+abbrev pub due_or_refusal : {A : Type 0} → Refusal → Option A → (A → Due) → Due
+due_or_refusal why value due = option_map_or due value (refuses why)
+
+abbrev pub turn_due : GtpSession → Colour → Turn → Due
+turn_due s k t = record_due s refusal.IllegalMove (play_of s.turns k (ply_of (size_of s) t))
 
 -- So many rows of n bytes, each after a line feed; the text of the board is that of its rows, without the first line feed.
 abbrev pub fed_rows : ℕ → ℕ → List ℕ → List ℕ
@@ -68,10 +69,6 @@ abbrev pub target_due : GtpSession → List Place → Due
 target_due s [] = answers [] (with_targets s [])
 target_due s (p ∷ ps) = elim (stones_at s (p ∷ ps)) [ None ↦ refuses refusal.BadTargets | Some k ↦ answers [] (with_targets s (p ∷ ps)) ]
 
-abbrev pub solve_due : Colour → Option GameProblem → Due
-solve_due k None = refuses refusal.NoProblem
-solve_due k (Some q) = tells k q
-
 abbrev pub within_text : Within → List ℕ
 within_text (within.Wins Black) = codes "wins Black"
 within_text (within.Wins White) = codes "wins White"
@@ -82,23 +79,22 @@ within_text within.Limit = codes "limit"
 abbrev pub max_nodes : ℕ
 max_nodes = 1000000
 
-abbrev pub within_due : GtpSession → ℕ → Option GameProblem → Due
-within_due s k None = refuses refusal.NoProblem
-within_due s k (Some q) = answers (within_text (decision (start q) k max_nodes)) s
+abbrev pub within_due : GtpSession → ℕ → GameProblem → Due
+within_due s k q = answers (within_text (decision (start q) k max_nodes)) s
 
 abbrev pub command_due : GtpSession → Command → Due
 command_due s (command.Say saying) = answers (said saying) s
 command_due s command.Quit = ends
 command_due s (command.NewBoard n) = answers [] (new_session n)
 command_due s command.ClearBoard = answers [] (new_session (size_of s))
-command_due s (command.Play k v) = turn_due s k (turn_at (size_of s) v)
+command_due s (command.Play k v) = due_or_refusal refusal.IllegalMove (turn_at (size_of s) v) (turn_due s k)
 command_due s (command.Genmove k) = plays k (problem_at s k)
 command_due s command.Undo = record_due s refusal.CannotUndo (undo_of s.turns)
 command_due s command.Showboard = answers (board_text s) s
 command_due s (command.SetTargets set) = target_due s set
-command_due s (command.SetRegion set) = answers [] (with_region s set)
-command_due s (command.Solve k) = solve_due k (problem_at s k)
-command_due s (command.Within k) = within_due s k (problem_at s (next_mover s))
+command_due s (command.SetRegion set) = answers [] (record s { region = set })
+command_due s (command.Solve k) = due_or_refusal refusal.NoProblem (problem_at s k) (tells k)
+command_due s (command.Within k) = due_or_refusal refusal.NoProblem (problem_at s (next_mover s)) (within_due s k)
 
 abbrev pub due_of : GtpSession → Order → Due
 due_of s (Ok c) = command_due s c

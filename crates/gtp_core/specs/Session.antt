@@ -1,17 +1,17 @@
 -- A session (this project's own): its record since the new board, the targets and the region; and the problem that it stands at.
 --     new_session n      the session with a new board of n rows
 --     problem_at s k      its problem with the colour k to move, where it has one
-use Rattle.std.specs.Prelude.{ℕ, ◌*◌, List, [], ◌∷◌, map, replicate, unwrap_or, Option, Some, None}
-use Rattle.std.specs.Result.{result_ok}
+use Rattle.std.specs.Prelude.{ℕ, ◌*◌, Bool, not, ◌&&◌, nat_le, nat_lt, List, [], ◌∷◌, length, map, replicate, Option, None, option_map, if◌then◌else◌}
+use Rattle.std.specs.Option.{option_map_or}
 use Rattle.go_points.specs.declared.Colour.{Colour}
 use Rattle.go_points.specs.declared.Colour.TheVariants.{Black}
 use Rattle.go_points.specs.declared.Cell.{Cell}
 use Rattle.go_points.specs.declared.Cell.TheVariants.{Empty}
 use Rattle.go_points.specs.Grid.{cell_at, opponent_of}
 use Rattle.go_points.specs.Place.{Place, number_of}
-use Rattle.go_turns.specs.History.{place_in}
-use Rattle.go_turns.specs.Record.{GameRecord, colouring_of}
-use Rattle.target_game.specs.Problem.{one_colour, problem_of}
+use Rattle.go_turns.specs.Record.{GameRecord, Moment, colouring_of}
+use Rattle.target_game.specs.declared.TheConstants.{MAX_HISTORY}
+use Rattle.target_game.specs.Problem.{one_colour}
 use Rattle.target_game.specs.State.{GameProblem}
 use Rattle.gtp_core.specs.Commands.{whole_board}
 
@@ -39,14 +39,23 @@ abbrev pub stones_at : GtpSession → List Place → Option Colour
 stones_at s ps = one_colour (map (λ p. cell_at (board_of s) (number_of (size_of s) p)) ps)
 
 -- The other colour of the last turn that stands, Black where none does.
-abbrev pub other_or_black : Option Colour → Colour
-other_or_black None = Black
-other_or_black (Some k) = opponent_of k
-
 abbrev pub next_mover : GtpSession → Colour
-next_mover s = other_or_black s.turns.present.last_colour
+next_mover s = option_map_or opponent_of s.turns.present.last_colour Black
 
--- The problem of the present colouring with the whole history and the passes, where problems are not refused with these.
-abbrev pub problem_at : GtpSession → Colour → Option GameProblem
-problem_at s k =
-    result_ok (problem_of s.turns.present.history (unwrap_or (place_in s.turns.present.history (board_of s)) 0) k s.turns.present.passes s.targets s.region)
+-- The problem of the present colouring with the whole history and the passes, where this colour defends the targets.
+abbrev pub problem_with : GtpSession → Colour → Colour → GameProblem
+problem_with s k defender = record {
+  game = record { size = size_of s; targets = map (number_of (size_of s)) s.targets; defender = defender; region = map (number_of (size_of s)) s.region };
+  history = s.turns.present.history;
+  place = s.turns.present.place;
+  mover = k;
+  passes = s.turns.present.passes;
+}
+
+-- After two passes, or where too many colourings have occurred, nobody is asked.
+abbrev pub has_question : Moment → Bool
+has_question m = not (nat_le 2 m.passes) && not (nat_lt MAX_HISTORY (length m.history))
+
+-- The session's problem, where the targets are stones of one colour now.
+unfoldable pub problem_at : GtpSession → Colour → Option GameProblem
+problem_at s k = (if has_question s.turns.present then option_map (problem_with s k) (stones_at s s.targets) else None)

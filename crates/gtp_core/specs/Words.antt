@@ -3,10 +3,9 @@
 --     turn_at n v      the turn at a vertex on a board of n rows; none off the board
 --     turn_text n t      a turn as a vertex
 --     success id text, failure id text      the bytes of a reply
-use Rattle.std.specs.Prelude.{ℕ, ◌-◌, Bool, true, ◌&&◌, nat_lt, List, [], ◌∷◌, ◌++◌, codes, Option, Some, None, if◌then◌else◌}
-use Rattle.std.specs.Str.{bytes_eq, str_to_ascii_lowercase}
+use Rattle.std.specs.Prelude.{ℕ, ◌-◌, Bool, true, ◌&&◌, nat_lt, List, [], ◌∷◌, ◌++◌, codes, Option, Some, None, option_map, if◌then◌else◌}
+use Rattle.std.specs.Str.{str_to_ascii_lowercase}
 use Rattle.go_points.specs.declared.Colour.{Colour}
-use Rattle.go_points.specs.declared.Colour.TheVariants.{Black, White}
 use Rattle.go_points.specs.declared.Turn.{Turn}
 use Rattle.go_points.specs.declared.Turn.TheVariants as turn
 use Rattle.go_points.specs.declared.vertex.Vertex.{Vertex}
@@ -14,14 +13,7 @@ use Rattle.go_points.specs.declared.vertex.Vertex.TheVariants as vertex
 use Rattle.go_points.specs.Gtp.{gtp_text}
 use Rattle.go_points.specs.Place.{Place, on_board, place_of}
 use Rattle.go_points.specs.Ply.{Ply, pass, move}
-
-abbrev pub colour_in_lower : List ℕ → Option Colour
-colour_in_lower word =
-    (if bytes_eq word (codes "b") then Some Black
-    else (if bytes_eq word (codes "black") then Some Black
-    else (if bytes_eq word (codes "w") then Some White
-    else (if bytes_eq word (codes "white") then Some White
-    else None))))
+use Rattle.tsumego_problem.specs.Values.{colour_named as colour_in_lower}
 
 abbrev pub colour_named : List ℕ → Option Colour
 colour_named word = colour_in_lower (str_to_ascii_lowercase word)
@@ -30,13 +22,9 @@ colour_named word = colour_in_lower (str_to_ascii_lowercase word)
 abbrev pub place_at : ℕ → ℕ → ℕ → Option Place
 place_at n column row = (if nat_lt column n && nat_lt row n then Some (record { row = n - 1 - row; column = column }) else None)
 
-abbrev pub turn_at_place : Option Place → Option Turn
-turn_at_place None = None
-turn_at_place (Some p) = Some (turn.At p)
-
 abbrev pub turn_at : ℕ → Vertex → Option Turn
 turn_at n vertex.Pass = Some turn.Pass
-turn_at n (vertex.At column row) = turn_at_place (place_at n column row)
+turn_at n (vertex.At column row) = option_map (λ p. turn.At p) (place_at n column row)
 
 -- Has a board of n rows the turn's point?
 abbrev pub is_on_board : ℕ → Turn → Bool

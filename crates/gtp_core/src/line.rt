@@ -1,8 +1,8 @@
 //! What of a raw line counts, and its words.
 
-ghost use Rattle.std.specs.Prelude.{◌≡◌, ◌≤◌, [], ◌∷◌, List, ℕ, drop, take, length, map, option_map, is_some};
+ghost use Rattle.std.specs.Prelude.{◌≡◌, ◌≤◌, [], drop, take, length, option_map};
 ghost use Rattle.std.specs.Str.{all_ascii_digits};
-ghost use Rattle.gtp_core.specs.Lines.{cleaned, is_control, spaced, words_of, number_named, max_line};
+ghost use Rattle.gtp_core.specs.Lines.{cleaned, is_control, words_of, number_named, max_line};
 ghost use Rattle.gtp_core.specs.Private.Pieces.{HasNone, IsAtSpace, BeginsWord, words_from};
 
 use crate::session::MAX_LINE;

@@ -1,6 +1,6 @@
 //! What the words of a line ask for.
 
-ghost use Rattle.std.specs.Prelude.{◌≡◌, ◌∷◌, ℕ, [], IfOk, IfSome, Ok, is_some};
+ghost use Rattle.std.specs.Prelude.{◌≡◌, ◌∷◌, ℕ, [], drop, IfOk, IfSome, Ok, Some, is_some};
 ghost use Rattle.std.specs.List.{All};
 ghost use Rattle.go_points.specs.Gtp.{vertex_named};
 ghost use Rattle.go_points.specs.Place.{IsOn};
@@ -62,7 +62,7 @@ fn order_named(size: Size, name: CommandName, words: &[u8]) -> Order
 
 fn known_order(words: &[u8]) -> Order
     ensures value { result
-        ≡ spec.with_one (words_of words.now)
+        ≡ spec.with_first_word Some (words_of words.now)
         (λ word. Ok (Command.Say (spec.truth (is_some (spec.name_of word))))) }
     ensures fits { (n : ℕ) → IfOk result (FitsBoard n) }
 {
@@ -73,8 +73,7 @@ fn known_order(words: &[u8]) -> Order
 }
 
 fn size_order(words: &[u8]) -> Order
-    ensures value { result
-        ≡ spec.with_one (words_of words.now) (λ word. spec.size_order (number_named word)) }
+    ensures value { result ≡ spec.with_first_word number_named (words_of words.now) spec.size_order }
     ensures fits { (n : ℕ) → IfOk result (FitsBoard n) }
 {
     let Some((word, _)) = take_word(words) else {
@@ -91,7 +90,7 @@ fn size_order(words: &[u8]) -> Order
 
 fn komi_order(words: &[u8]) -> Order
     ensures value { result
-        ≡ spec.with_one (words_of words.now) (λ word. Ok (Command.Say Saying.Nothing)) }
+        ≡ spec.with_first_word Some (words_of words.now) (λ word. Ok (Command.Say Saying.Nothing)) }
     ensures fits { (n : ℕ) → IfOk result (FitsBoard n) }
 {
     match take_word(words) {
@@ -102,8 +101,9 @@ fn komi_order(words: &[u8]) -> Order
 
 fn play_order(words: &[u8]) -> Order
     ensures value { result
-        ≡ spec.with_two (words_of words.now)
-        (λ word other. spec.play_order (colour_named word) (vertex_named other)) }
+        ≡ spec.with_first_word colour_named (words_of words.now)
+        (λ k. spec.with_first_word vertex_named (drop 1 (words_of words.now))
+        (λ v. Ok (Command.Play k v))) }
     ensures fits { (n : ℕ) → IfOk result (FitsBoard n) }
 {
     let Some((word, rest)) = take_word(words) else {
@@ -123,7 +123,7 @@ fn play_order(words: &[u8]) -> Order
 
 fn genmove_order(words: &[u8]) -> Order
     ensures value { result
-        ≡ spec.with_one (words_of words.now) (λ word. spec.genmove_order (colour_named word)) }
+        ≡ spec.with_first_word colour_named (words_of words.now) (λ k. Ok (Command.Genmove k)) }
     ensures fits { (n : ℕ) → IfOk result (FitsBoard n) }
 {
     match first_colour(words) {
@@ -134,7 +134,7 @@ fn genmove_order(words: &[u8]) -> Order
 
 fn solve_order(words: &[u8]) -> Order
     ensures value { result
-        ≡ spec.with_one (words_of words.now) (λ word. spec.solve_order (colour_named word)) }
+        ≡ spec.with_first_word colour_named (words_of words.now) (λ k. Ok (Command.Solve k)) }
     ensures fits { (n : ℕ) → IfOk result (FitsBoard n) }
 {
     match first_colour(words) {
@@ -144,8 +144,7 @@ fn solve_order(words: &[u8]) -> Order
 }
 
 fn within_order(words: &[u8]) -> Order
-    ensures value { result
-        ≡ spec.with_one (words_of words.now) (λ word. spec.within_order (number_named word)) }
+    ensures value { result ≡ spec.with_first_word number_named (words_of words.now) spec.within_order }
     ensures fits { (n : ℕ) → IfOk result (FitsBoard n) }
 {
     let Some((word, _)) = take_word(words) else {
@@ -195,7 +194,9 @@ fn points_named(size: Size, words: &[u8]) -> Option<PointSet>
 }
 
 fn target_order(size: Size, words: &[u8]) -> Order
-    ensures value { result ≡ spec.target_order (spec.with_points size [] (words_of words.now)) }
+    ensures value { result
+        ≡ spec.with_value (spec.with_points size [] (words_of words.now))
+        (λ set. Ok (Command.SetTargets set)) }
     ensures fits { IfOk result (FitsBoard size) }
 {
     match points_named(size, words) {
@@ -205,7 +206,9 @@ fn target_order(size: Size, words: &[u8]) -> Order
 }
 
 fn region_order(size: Size, words: &[u8]) -> Order
-    ensures value { result ≡ spec.region_order (spec.region_named size (words_of words.now)) }
+    ensures value { result
+        ≡ spec.with_value (spec.region_named size (words_of words.now))
+        (λ set. Ok (Command.SetRegion set)) }
     ensures fits { IfOk result (FitsBoard size) }
 {
     match take_word(words) {

@@ -2,7 +2,7 @@
 
 ghost use Rattle.std.specs.Prelude.{◌≡◌, [], OnOk, IfErr, IfOk, OnErr};
 ghost use Rattle.gtp_core.specs.Runs.{HasRun, HasStopped, HasStoppedOn, first_session};
-ghost use Rattle.gtp_core.specs.Private.Taking.{IsServed, IsPartServed, bounded};
+ghost use Rattle.gtp_core.specs.Private.Taking.{IsServed, IsPartServed};
 
 use crate::channel::{Plain, ReadFrom, WriteTo};
 use crate::end::GtpEnd;

@@ -1,6 +1,6 @@
 //! What a search finds for a side.
 
-ghost use Rattle.std.specs.Prelude.{◌≡◌, IfOk};
+ghost use Rattle.std.specs.Prelude.{◌≡◌};
 ghost use Rattle.gtp_core.specs.Private.Following.{IsFound, FoundOnBoard, win_on_board};
 
 use go_points::{Colour, Size, Turn};

@@ -1,17 +1,16 @@
 //! A session, and what it does with a line.
 
-ghost use Rattle.std.specs.Prelude.{◌≡◌, ◌≢◌, ◌≤◌, ◌*◌, [], None, Some, Ok, Err, Result, IfOk, OnOk, OnErr, IfSome, IsTrue, length, drop};
+ghost use Rattle.std.specs.Prelude.{◌≡◌, ◌≢◌, ◌<◌, ◌≤◌, ◌*◌, [], None, Some, Ok, Err, Result, IfOk, OnErr, IfSome, IsTrue, length};
 ghost use Rattle.std.specs.List.{All};
 ghost use Rattle.go_points.specs.Place.{IsOn};
 ghost use Rattle.go_points.specs.declared.Colour.{Colour};
-ghost use Rattle.target_game.specs.State.{GameProblem};
-ghost use Rattle.gtp_core.specs.Lines.{request_of, request_with, words_of, bad_line, max_line};
+ghost use Rattle.gtp_core.specs.Lines.{request_of, request_with, words_of, bad_line};
 ghost use Rattle.gtp_core.specs.Words.{turn_at};
 ghost use Rattle.gtp_core.specs.Runs.{first_session};
 ghost use Rattle.gtp_core.specs.Session as spec;
-ghost use Rattle.gtp_core.specs.Serving.{Answers, Due, Meets, answers, board_text, command_due, due_of, fed_rows, needs_memory, output_of, plays, record_due, refuses, reply, solve_due, target_due, turn_due, with_region, within_due, within_text};
+ghost use Rattle.gtp_core.specs.Serving.{Answers, Meets, answers, board_text, command_due, due_of, fed_rows, due_or_refusal, needs_memory, output_of, plays, record_due, refuses, reply, target_due, tells, turn_due, within_due, within_text};
 ghost use Rattle.gtp_core.specs.declared.refusal.Refusal.TheVariants as refusal;
-ghost use Rattle.gtp_core.specs.Private.Following.{FitsBoard, FoundOnBoard, IsFoundAt, IsTurnFault};
+ghost use Rattle.gtp_core.specs.Private.Following.{FitsBoard, IsFoundAt, IsTurnFault};
 ghost use Rattle.go_turns.specs.Record.{undo_of};
 
 use crate::command::Command;
@@ -49,10 +48,17 @@ pub struct Session {
 
 impl Model for Session {
     ghost use Rattle.gtp_core.specs.Session.{GtpSession};
+    ghost use Rattle.gtp_core.specs.Private.Sound.{IsSound};
 
     ghost Value = { GtpSession };
 
     ghost view = { λ a. record { turns = a.turns; targets = a.targets; region = a.region } };
+
+    ghost invariant = { λ a. IsSound (record {
+      turns = a.turns;
+      targets = a.targets;
+      region = a.region;
+    }) };
 }
 
 /// The session with a new board.
@@ -189,8 +195,8 @@ impl Session {
     fn play(&mut self, id: &[u8], colour: Colour, vertex: Vertex) -> Result<Vec<u8>, AllocError>
         ensures ok { IfOk result
             (λ bytes. Meets self.old id.now
-            (turn_due self.old colour (turn_at self.old.turns.size vertex)) (reply bytes.items)
-            self.new) }
+            (due_or_refusal refusal.IllegalMove (turn_at self.old.turns.size vertex)
+            (turn_due self.old colour)) (reply bytes.items) self.new) }
         ensures err { OnErr result (self.new ≡ self.old) }
     {
         let Some(turn) = turn_at(self.size(), vertex) else {
@@ -258,8 +264,10 @@ impl Session {
 
     /// Sets the region.
     fn set_region(&mut self, id: &[u8], set: PointSet) -> Result<Vec<u8>, AllocError>
+        requires on_board { All (IsOn self.old.turns.size) set }
+        requires somewhere { 0 < length set }
         ensures ok { IfOk result
-            (λ bytes. Meets self.old id.now (answers [] (with_region self.old set))
+            (λ bytes. Meets self.old id.now (answers [] (record self.old { region = set }))
             (reply bytes.items) self.new) }
         ensures err { OnErr result (self.new ≡ self.old) }
     {
@@ -297,7 +305,8 @@ impl Session {
     /// Tells what a search finds.
     fn solve(&self, id: &[u8], colour: Colour) -> Result<Vec<u8>, AllocError>
         ensures { IfOk result
-            (λ bytes. Meets self.now id.now (solve_due colour (spec.problem_at self.now colour))
+            (λ bytes. Meets self.now id.now
+            (due_or_refusal refusal.NoProblem (spec.problem_at self.now colour) (tells colour))
             (reply bytes.items) self.now) }
     {
         match self.search(colour)? {
@@ -335,8 +344,8 @@ impl Session {
         requires { turns ≤ 200 }
         ensures { IfOk result
             (λ bytes. Meets self.now id.now
-            (within_due self.now turns (spec.problem_at self.now (spec.next_mover self.now)))
-            (reply bytes.items) self.now) }
+            (due_or_refusal refusal.NoProblem (spec.problem_at self.now (spec.next_mover self.now))
+            (within_due self.now turns)) (reply bytes.items) self.now) }
     {
         let Some(problem) = self.problem(self.next_mover())? else {
             return failure(self.alloc, id, Refusal::NoProblem);

@@ -1,15 +1,13 @@
 -- What it means that the claim of a tree that full search found is refused.
-use Rattle.std.proofs.Common.{◌≡◌, ℕ, ◌+◌, ◌-◌, ◌*◌, ◌/◌, ◌<◌, ◌≤◌, ◌⊎◌, inl, inr, false, Result, Ok, Err, IfErr, IsTrue, arith}
-use Rattle.std.proofs.Math.Nat.{min-le_left, min-le_right, mul-le-mul, mul-le-mul_left}
+use Rattle.std.proofs.Common.{◌≡◌, ℕ, ◌-◌, ◌/◌, ◌<◌, ◌≤◌, ◌⊎◌, inl, inr, Result, Ok, Err, IfErr, arith}
+use Rattle.std.proofs.Math.Nat.{min-le_left, min-le_right}
 use Rattle.go_points.specs.declared.Colour.{Colour}
-use Rattle.target_game.specs.State.{GameState, GameProblem, start}
-use Rattle.target_game.specs.Wins.{wins, nodes}
+use Rattle.target_game.specs.State.{GameProblem, start}
 use Rattle.proof_cert.specs.Claim.{Node, node_count, max_nodes}
 use Rattle.proof_cert.specs.Certificate.{node_of}
 use Rattle.proof_cert.specs.declared.certificate.Node as code
 use Rattle.pn_search.specs.Search.{full_steps, IsHard}
-use Rattle.full_search.specs.Decided.{NoneWithin, IsFirst}
-use Rattle.full_search.specs.Private.Shown.{NeitherWins}
+use Rattle.full_search.specs.Decided.{IsFirst}
 use Rattle.pn_search.specs.Private.Confirmable.{IsConfirmable}
 use Rattle.full_search.proofs.Deepening.{none_within_large}
 

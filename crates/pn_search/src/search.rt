@@ -1,6 +1,6 @@
 //! The search for a checked claim.
 
-ghost use Rattle.std.specs.Prelude.{◌≡◌, ◌≢◌, ◌≤◌, ◌⊎◌, IfOk, IfErr};
+ghost use Rattle.std.specs.Prelude.{◌≡◌, ◌≢◌, ◌≤◌, IfOk, IfErr};
 ghost use Rattle.pn_search.specs.Search.{IfWins, IfUnknown, IsHard, cause_told, full_steps};
 ghost use Rattle.pn_search.specs.Private.Confirmable.{IsConfirmable};
 ghost use Rattle.df_pn.specs.declared.stop.Stop.TheVariants as stops;

@@ -1,10 +1,10 @@
 //! A record with the marks of a problem.
 
-ghost use Rattle.std.specs.Prelude.{◌≡◌, ◌++◌, ◌∷◌, [], ◌<◌, IfOk, OnOk, map, codes, length};
+ghost use Rattle.std.specs.Prelude.{◌≡◌, ◌++◌, ◌∷◌, [], ◌<◌, IfOk, OnOk, map, length};
 ghost use Rattle.sgf_text.specs.Nodes.{without};
 ghost use Rattle.sgf_text.specs.Trees.{tree_of};
 ghost use Rattle.tsumego_problem.specs.Walk.{has_turn};
-ghost use Rattle.record_tools.specs.Marked.{unmarked, marked_here, marked_front, marked_nodes, marked, unplayed};
+ghost use Rattle.record_tools.specs.Marked.{unmarked, marked_here, marked_nodes, marked, unplayed};
 
 use sgf_text::{Property, SgfNode, Tree};
 use std::alloc::{AllocError, Global};

@@ -1,6 +1,6 @@
 -- Where the nodes below are an answer tree of a side, the audit names that side.
 use Rattle.std.proofs.Common.{◌≡◌, ℕ, ◌+◌, refl, sym, ◌∙◌, ap, subst, inl, rules, arith}
-use Rattle.std.specs.Prelude.{true, false, not, ◌&&◌, ◌||◌, is_some, List, [], ◌∷◌, ◌++◌, Option, Some, None, is_none, Ok, unwrap_or, position}
+use Rattle.std.specs.Prelude.{true, false, cond, not, ◌&&◌, ◌||◌, is_some, List, [], ◌∷◌, ◌++◌, find, option_map, Option, Some, None, is_none, Ok, unwrap_or, position}
 use Rattle.std.specs.List.{list_all}
 use Rattle.std.proofs.lemmas.List.{append_assoc, append-nil}
 use Rattle.std.proofs.lemmas.List.Folds.{list_any-append}
@@ -23,7 +23,7 @@ use Rattle.tsumego_problem.specs.Walk.{is_marked, line_below, problem_node}
 use Rattle.tsumego_problem.specs.Below.{children_of, below_in, below_line, below_problem, Carries, Shows, ShowsEach, Below}
 use Rattle.tsumego_problem.proofs.FirstPlace.{behind, place_in_both}
 use Rattle.solution_tree.specs.Below.{Nodes, no_node, node_then, sequence, nodes_of, nodes_in, nodes_below, count_nodes, carried}
-use Rattle.solution_tree.specs.Audit.{at_or, with_turn, turns_in, unless_given, missing, reply_fault, has_children, has_several, rest_fault, faults_below, first_line, then_all, unless_fault, audit}
+use Rattle.solution_tree.specs.Audit.{at_or, with_turn, turns_in, reply_missing, missing, reply_fault, has_children, has_several, rest_fault, faults_below, first_line, then_all, unless_fault, audit}
 use Rattle.solution_tree.specs.Laws.{AuditIsExact}
 use Rattle.solution_tree.proofs.Sound.{Stands, StandsEach}
 use Rattle.solution_tree.proofs.Shown.{nodes_of_children, audited_trees_stand}
@@ -85,7 +85,7 @@ turns_are n k (reply t a rs) earlier children (node, below, others, e, ca, sub, 
 nothing_missing : (given ts : List Ply) → list_all (holds_ply given) ts ≡ true → missing given ts ≡ None
 nothing_missing given [] h = refl
 nothing_missing given (t ∷ ts) h =
-    ap (λ b. unless_given b t (missing given ts)) (and_left (holds_ply given t) (list_all (holds_ply given) ts) h)
+    ap (λ b. option_map reply_missing (cond (not b) (Some t) (find (λ u. not (holds_ply given u)) ts))) (and_left (holds_ply given t) (list_all (holds_ply given) ts) h)
     ∙ nothing_missing given ts (and_right (holds_ply given t) (list_all (holds_ply given) ts) h)
 
 -- none of the turns is among the earlier ones

@@ -1,5 +1,6 @@
 -- The faults of nodes, put together.
-use Rattle.std.proofs.Common.{◌≡◌, ℕ, ◌+◌, Bool, true, false, not, ◌||◌, List, [], ◌∷◌, ◌++◌, length, Option, Some, None, Result, ◌⊎◌, ap, subst, arith, rules}
+use Rattle.std.proofs.Common.{◌≡◌, ℕ, ◌+◌, Bool, true, false, not, ◌||◌, List, [], ◌∷◌, ◌++◌, length, Option, Some, None, Result, ◌⊎◌, ap, ◌∙◌, refl, subst, arith, rules}
+use Rattle.std.specs.Option.{option_or}
 use Rattle.std.proofs.lemmas.Bool.Decides.{nat_tests}
 use Rattle.go_points.specs.declared.Colour.{Colour}
 use Rattle.go_points.specs.Grid.{same_colour}
@@ -10,7 +11,7 @@ use Rattle.sgf_text.specs.Trees.{Node, GameTree, Forest, tree_then, forest_of}
 use Rattle.solution_tree.specs.declared.fault.AuditWhy.{AuditWhy}
 use Rattle.solution_tree.specs.Below.{Nodes, no_node, node_then, sequence, nodes_of, count_nodes, carried}
 use Rattle.solution_tree.specs.declared.fault.AuditFault.{AuditFault}
-use Rattle.solution_tree.specs.Audit.{Why, Fault, ask, at_or, or_later, reply_twice, turn_fault, after_turn, with_turn, is_new, rest_fault, faults_below, faults_of}
+use Rattle.solution_tree.specs.Audit.{Why, Fault, ask, at_or, reply_twice, turn_fault, after_turn, with_turn, is_new, rest_fault, faults_below, faults_of}
 use Rattle.solution_tree.specs.Faults.{IsFault}
 use Rattle.solution_tree.specs.Private.Asked.{follows, IsWhy, IsFound}
 
@@ -25,14 +26,14 @@ found_here n o w k later h = search rules
 new_first : (x : Colour) (s : GameState) (m : Option (Colour × Ply)) → is_new x s [] m ≡ true
 new_first x s m = search rules
 
-or_nothing : (o : Option Fault) → or_later o None ≡ o
+or_nothing : (o : Option Fault) → option_or o None ≡ o
 or_nothing o = search rules
 
 -- a node of a sequence that is asked for what follows it, and then as a turn
 module _ (x : Colour) (s : GameState) (k : ℕ) (node : Node) (below : Nodes) where
   abbrev after_it : Option (Colour × Ply) → Option Fault
   after_it m = at_or (k + 1) (ask (is_new x s [] m) reply_twice None) (at_or (k + 1) (rest_fault x (after_turn s m) below)
-      (or_later (faults_below x (after_turn s m) [] (k + 1 + 1) below) (faults_below x s (with_turn [] m) (k + 1 + 1 + count_nodes below) no_node)))
+      (option_or (faults_below x (after_turn s m) [] (k + 1 + 1) below) (faults_below x s (with_turn [] m) (k + 1 + 1 + count_nodes below) no_node)))
 
   pub asked_rest : rest_fault x s (node_then node below no_node) ≡ None → faults_of x s k (node_then node below no_node) ≡ at_or (k + 1) (turn_fault s (carried s.game.size node)) (after_it (carried s.game.size node))
   asked_rest e = ap (λ o. at_or k o (faults_below x s [] (k + 1) (node_then node below no_node))) e
@@ -46,8 +47,13 @@ module _ (x : Colour) (s : GameState) (k : ℕ) (node : Node) (below : Nodes) wh
 pub new_turn : (own had : Bool) → (own ≡ true) ⊎ (had ≡ false) → (own || not had) ≡ true
 new_turn own had h = search rules
 
+-- a fault of the node comes before those of two parts as before those of the first
+at_or_first : (k : ℕ) (o : Option Why) (one other : Option Fault) → at_or k o (option_or one other) ≡ option_or (at_or k o one) other
+at_or_first k (Some why) one other = refl
+at_or_first k None one other = refl
+
 -- a later fault stays hidden after an earlier one
-pub found_first : (n : ℕ) (o later : Option Fault) (e : AuditFault) → IsFound n o e → IsFound n (or_later o later) e
+pub found_first : (n : ℕ) (o later : Option Fault) (e : AuditFault) → IsFound n o e → IsFound n (option_or o later) e
 found_first n o later e h = search rules
 
 -- the child with its node, what is below that, and the later children
@@ -57,7 +63,7 @@ opened_child child nodes node rest trees others h g e = search rules
 
 module _ (x : Colour) (s : GameState) (earlier : List Ply) (k : ℕ) (node : Node) (below others : Nodes) where
   abbrev later_on : Option (Colour × Ply) → Option Fault
-  later_on m = at_or k (rest_fault x (after_turn s m) below) (or_later (faults_below x (after_turn s m) [] (k + 1) below) (faults_below x s (with_turn earlier m) (k + 1 + count_nodes below) others))
+  later_on m = at_or k (rest_fault x (after_turn s m) below) (option_or (faults_below x (after_turn s m) [] (k + 1) below) (faults_below x s (with_turn earlier m) (k + 1 + count_nodes below) others))
 
   abbrev pub as_child : Option Fault
   as_child = faults_below x s earlier k (node_then node below others)
@@ -67,8 +73,11 @@ module _ (x : Colour) (s : GameState) (earlier : List Ply) (k : ℕ) (node : Nod
   went_down t h g = search rules
 
   pub child_new : (t : Ply) → turn_fault s (carried s.game.size node) ≡ None → carried s.game.size node ≡ Some (s.mover, t) → (same_colour s.mover x || not (holds_ply earlier t)) ≡ true
-      → as_child ≡ or_later (faults_of x (next s t) k below) (faults_below x s (earlier ++ t ∷ []) (k + 1 + count_nodes below) others)
-  child_new t h g e = search rules
+      → as_child ≡ option_or (faults_of x (next s t) k below) (faults_below x s (earlier ++ t ∷ []) (k + 1 + count_nodes below) others)
+  child_new t h g e =
+      went_down t h g
+      ∙ ap (λ b. at_or k (ask b reply_twice None) (later_on (Some (s.mover, t)))) e
+      ∙ at_or_first k (rest_fault x (next s t) below) (faults_below x (next s t) [] (k + 1) below) (faults_below x s (earlier ++ t ∷ []) (k + 1 + count_nodes below) others)
 
   pub child_done : (t : Ply) (last : ℕ) → turn_fault s (carried s.game.size node) ≡ None → carried s.game.size node ≡ Some (s.mover, t) → (same_colour s.mover x || not (holds_ply earlier t)) ≡ true
       → faults_of x (next s t) k below ≡ None → last ≡ k + count_nodes below → faults_below x s (earlier ++ t ∷ []) (last + 1) others ≡ as_child

@@ -2,9 +2,9 @@
 
 ghost use Rattle.std.specs.Prelude.{◌≡◌, IfOk, IfErr, OnOk, Ok};
 ghost use Rattle.target_game.specs.Over.{over};
-ghost use Rattle.sgf_text.specs.Trees.{forest_of};
 ghost use Rattle.solution_tree.specs.Below.{Nodes, sequence};
-ghost use Rattle.solution_tree.specs.Audit.{first_line, won_at};
+ghost use Rattle.solution_tree.specs.Audit.{first_line};
+ghost use Rattle.solution_tree.specs.Below.{no_node};
 ghost use Rattle.solution_tree.specs.Private.Asked.{follows};
 ghost use Rattle.solution_tree.specs.Faults.{IsFault};
 
@@ -45,9 +45,9 @@ fn follow(state: &mut PlayState, number: usize, nodes: &[SgfNode]) -> Result<usi
 
 /// Who has won at the node with this number.
 fn won_at(number: usize, state: &PlayState) -> Result<Colour, AuditFault>
-    ensures ok { IfOk result (λ x. won_at number (over state.now.state) ≡ Ok x) }
+    ensures ok { IfOk result (λ x. first_line number state.now.state no_node ≡ Ok x) }
     ensures err { IfErr result
-        (λ e. IsFault state.now.state.game.size (won_at number (over state.now.state)) e) }
+        (λ e. IsFault state.now.state.game.size (first_line number state.now.state no_node) e) }
 {
     match state.over() {
         Some(colour) => Ok(colour),

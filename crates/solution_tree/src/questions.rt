@@ -1,6 +1,6 @@
 //! The questions that a node of an answer tree is asked: as a turn, and for what follows it.
 
-ghost use Rattle.std.specs.Prelude.{◌≡◌, ◌&&◌, ◌||◌, ◌∷◌, [], ℕ, List, IsTrue, IfOk, IfErr, IfSome, OnOk, Some, None, option_map, is_none};
+ghost use Rattle.std.specs.Prelude.{◌≡◌, ◌&&◌, ◌||◌, ◌∷◌, [], List, IsTrue, IfOk, IfErr, IfSome, OnOk, Some, None, option_map, is_none};
 ghost use Rattle.go_points.specs.Grid.{same_colour};
 ghost use Rattle.go_points.specs.Ply.{Ply, ply_of};
 ghost use Rattle.target_game.specs.Legal.{legal, legal_turns};

@@ -1,27 +1,32 @@
 -- What is left of a text that was written, and what a claim that was found lets be said.
-use Rattle.std.proofs.Common.{◌≡◌, ℕ, ◌<◌, ◌≤◌, Bool, true, false, List, ◌++◌, length, Option, Some, None, Result, Ok, Err, IsTrue, inl, inr, refl, sym, ◌∙◌, ap, subst, ◌⊎◌}
+use Rattle.std.proofs.Common.{◌≡◌, ℕ, ◌<◌, ◌≤◌, Bool, true, false, List, ◌++◌, length, Option, Some, None, Result, Ok, Err, IsTrue, IsSome, inl, inr, refl, sym, ◌∙◌, ap, subst, ◌⊎◌}
 use Rattle.std.specs.Prelude.{IsSomeAnd, is_err, OnOk}
 use Rattle.go_points.specs.declared.TheConstants.{MAX_SIZE}
-use Rattle.target_game.specs.State.{start}
+use Rattle.target_game.specs.State.{GameProblem, start}
 use Rattle.sgf_text.specs.Trees.{GameTree}
 use Rattle.sgf_text.specs.Text.{is_tree, tree_text}
+use Rattle.sgf_text.specs.Laws.{WrittenReads}
+use Rattle.tsumego_problem.specs.Walk.{problem_of, problem_on, problem_node, is_go, board_size, root_of}
 use Rattle.tsumego_problem.specs.Laws.{IsProblem, CanonicalReads, SolutionReads}
-use Rattle.tsumego_problem.specs.Canonical.{canonical}
-use Rattle.proof_cert.specs.Claim.{Claim}
+use Rattle.tsumego_problem.specs.Canonical.{canonical, solution}
+use Rattle.proof_cert.specs.Claim.{Claim, IsWithinLimits}
 use Rattle.proof_cert.specs.Certificate.{claim_of}
-use Rattle.proof_cert.specs.Text.{lines, pieces, text}
+use Rattle.proof_cert.specs.Text.{lines, pieces, text, OneClaimOfText}
+use Rattle.cert_check.specs.Verdict.{verdict, accepted}
 use Rattle.cert_check.specs.Checked.{CheckedClaim, IsChecked}
+use Rattle.cert_check.specs.Lift.{IsLifted}
 use Rattle.cert_check.specs.Expand.{expand}
 use Rattle.cert_check.specs.Laws.{AcceptsValidTexts, ValidClaimsAnswer}
-use Rattle.solution_tree.specs.Laws.{ExpansionsAscend}
+use Rattle.solution_tree.specs.Laws.{AuditIsExact, ExpansionsAscend}
 use Rattle.tsumego_words.specs.declared.command_line.Command.{Command}
 use Rattle.tsumego_words.specs.CommandLine.{is_session}
 use Rattle.tsumego_replies.specs.declared.status.Status.{Status}
 use Rattle.tsumego_replies.specs.declared.status.Status.TheVariants.{Unanswered, Failed}
 use Rattle.tsumego_replies.specs.Texts.{line, no_memory_text, no_read_text, too_large_text}
-use Rattle.tsumego_replies.specs.Solutions.{IsProofBy, IsWritten, SolvedBy, MayAnswer}
-use Rattle.tsumego_replies.specs.Answers.{Says, SaysFailure, Tells}
-use Rattle.tsumego_replies.proofs.Claims.{are_lines}
+use Rattle.tsumego_replies.specs.Solutions.{IsAccepted, IsProofBy, IsWritten, SolvedBy, MayAnswer}
+use Rattle.tsumego_replies.specs.Answers.{Says, SaysFailure}
+use Rattle.proof_cert.specs.Streamed.{Tells}
+use Rattle.tsumego_replies.proofs.Claims.{are_lines, has_verdict, one_verdict}
 use Rattle.tsumego.specs.Outcome.{Saying, Leaves, HasLeftOn, Outcome, RanOn}
 use Rattle.tsumego.proofs.Running.{explained, may_say}
 use Rattle.tsumego.specs.Private.Written.{IsSolutionOf, Writes}
@@ -45,33 +50,62 @@ answers_no_failure false lift k status text (inr (unanswered, large, is)) failed
 
 -- WHAT MAY BE SAID
 
+-- a checked claim is accepted by its text
+module _ (accepts : AcceptsValidTexts) (q : GameProblem) (low : 1 ≤ q.game.size) (high : q.game.size ≤ MAX_SIZE) (z : Claim) (checked : IsChecked q z) where
+  pub with_text : (bytes : List ℕ) → text z ≡ Some bytes → IsAccepted q z bytes
+  with_text bytes spelled = (spelled, (lines q.game.size bytes, are_lines q.game.size (pieces bytes), (accepts q bytes z.winner low high).1 (z, spelled, checked.limits, checked.valid, refl)))
+
+  pub has_text : (bytes : List ℕ) × IsAccepted q z bytes
+  has_text = go (text z) refl checked.valid.spelled
+    where
+      go : (o : Option (List ℕ)) → text z ≡ o → IsSome o → (bytes : List ℕ) × IsAccepted q z bytes
+      go (Some bytes) e some = (bytes, with_text bytes e)
+      go None e none = absurd (cc none)
+
+  -- where it would pass a limit as one lemma, that is not accepted
+  pub never_accepted : OneClaimOfText → ((y : Claim) → IsLifted q z y → IsWithinLimits y → ⊥) → (y : Claim) (bytes : List ℕ) → IsLifted q z y → IsAccepted q y bytes → ⊥
+  never_accepted one none y bytes lifted (spelled, judged) =
+      let (w, written, limits, valid, same) = (accepts q bytes y.winner low high).0 (one_verdict q bytes (verdict q (lines q.game.size bytes)) (accepted y.winner) (has_verdict q bytes) judged) in
+      none y lifted (subst IsWithinLimits (one w y bytes (valid.size ∙ sym (lifted.size ∙ checked.valid.size)) written spelled) limits)
+
+-- a tree that has a problem has a problem node
+pub has_node : (tree : GameTree) (q : GameProblem) → problem_of tree ≡ Ok q → IsSome (problem_node tree)
+has_node tree q h = go (is_go (root_of tree)) (board_size (root_of tree)) (problem_node tree) h
+  where
+    go : (b : Bool) (s k : Option ℕ) → problem_on None tree b s k ≡ Ok q → IsSome k
+    go false s k h = absurd (cc h)
+    go true None k h = absurd (cc h)
+    go true (Some n) None h = absurd (cc h)
+    go true (Some n) (Some k) h = refl
+
 module _ (k : CheckedClaim) (checked : IsChecked k.problem (claim_of k.certificate)) where
-  pub tree_solves : ExpansionsAscend → ValidClaimsAnswer → SolutionReads → IsProblem k.problem → k.problem.place < length k.problem.history → (tree : GameTree) → IsTrue (is_tree tree) → IsSolutionOf k (Some tree)
+  pub tree_solves : ExpansionsAscend → ValidClaimsAnswer → SolutionReads → AuditIsExact → WrittenReads → IsProblem k.problem → k.problem.place < length k.problem.history → (tree : GameTree) → IsTrue (is_tree tree) → IsSolutionOf k (Some tree)
       → SolvedBy k.problem (claim_of k.certificate).winner (expand (claim_of k.certificate) (start k.problem)) (line (tree_text tree))
-  tree_solves ascend answer read kept place tree whole (few, is) =
+  tree_solves ascend answer read exact written kept place tree whole (few, is) =
       let q = k.problem in
       let z = claim_of k.certificate in
-      let wins = answer q z place checked.valid in
-      let again = read q z.winner (expand z (start q)) kept wins in
-      (wins, ascend q z checked.valid, record { whole = subst (λ t. IsTrue (is_tree t)) is whole; problem = again.0 }, again.1, ap (λ t. line (tree_text t)) is)
+      let a = expand z (start q) in
+      let s = solution q z.winner a in
+      let (problem, below) = read q z.winner a kept (answer q z place checked.valid) in
+      let stands : IsTrue (is_tree s) = subst (λ t. IsTrue (is_tree t)) is whole in
+      (ascend q z checked.valid, record { reads = λ rest. written s rest stands; problem = problem }, (exact q s z.winner stands (has_node s q problem)).1 below, ap (λ t. line (tree_text t)) is)
 
-  pub too_large : (lift : Bool) → IsSolutionOf k None → MayAnswer false lift k Unanswered too_large_text
-  too_large lift large = inr (refl, (checked.valid, large), refl)
+  pub too_large : AcceptsValidTexts → 1 ≤ k.problem.game.size → k.problem.game.size ≤ MAX_SIZE → (lift : Bool) → IsSolutionOf k None → MayAnswer false lift k Unanswered too_large_text
+  too_large accepts low high lift large = let (bytes, is) = has_text accepts k.problem low high (claim_of k.certificate) checked in inr (refl, (bytes, is, large), refl)
 
   -- what is written of the claim, after the record's text
-  pub claim_solves : AcceptsValidTexts → CanonicalReads → IsProblem k.problem → 1 ≤ k.problem.game.size → k.problem.game.size ≤ MAX_SIZE → (tree : GameTree) → IsTrue (is_tree tree) → tree ≡ canonical k.problem
-      → (y : Claim) → IsChecked k.problem y → y.winner ≡ (claim_of k.certificate).winner → (lift : Bool) → IsWritten lift k.problem (claim_of k.certificate) y
+  pub claim_solves : AcceptsValidTexts → CanonicalReads → WrittenReads → IsProblem k.problem → 1 ≤ k.problem.game.size → k.problem.game.size ≤ MAX_SIZE → (tree : GameTree) → IsTrue (is_tree tree) → tree ≡ canonical k.problem
+      → (y : Claim) → IsChecked k.problem y → (lift : Bool) → IsWritten lift k.problem (claim_of k.certificate) y
       → (bytes : List ℕ) → text y ≡ Some bytes → IsProofBy lift k.problem (claim_of k.certificate) (line (tree_text tree) ++ bytes)
-  claim_solves accepts read kept low high tree whole is y valid same lift how bytes spelled =
+  claim_solves accepts read reads kept low high tree whole is y valid lift how bytes spelled =
       let q = k.problem in
       record {
-        found = checked;
+        found = has_text accepts q low high (claim_of k.certificate) checked;
         claim = y;
         written = how;
         spelling = bytes;
-        spelled = spelled;
-        judged = (lines q.game.size bytes, are_lines q.game.size (pieces bytes), (accepts q bytes (claim_of k.certificate).winner low high).1 (y, spelled, valid.limits, valid.valid, same));
-        kept = record { whole = subst (λ t. IsTrue (is_tree t)) is whole; problem = read q kept };
+        judged = with_text accepts q low high y valid bytes spelled;
+        kept = record { reads = λ rest. reads (canonical q) rest (subst (λ t. IsTrue (is_tree t)) is whole); problem = read q kept };
         whole = ap (λ t. line (tree_text t) ++ bytes) is;
       }
 

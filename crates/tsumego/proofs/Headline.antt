@@ -14,19 +14,19 @@ use Rattle.cert_check.specs.Verdict.{Verdict, accepted, rejected}
 use Rattle.cert_check.proofs.ReadingClaims.{accepted_sides_win}
 use Rattle.sgf_text.specs.Text.{tree_text}
 use Rattle.sgf_text.specs.Grammar.{Reads}
-use Rattle.sgf_text.proofs.Written.{trees_are_read, written_reads}
+use Rattle.sgf_text.proofs.Written.{trees_are_read}
 use Rattle.tsumego_problem.specs.Canonical.{canonical, solution}
 use Rattle.target_game.proofs.States.{history_is_a_set}
-use Rattle.target_game.proofs.Winning.{answers_win_law}
 use Rattle.tsumego_problem.specs.Below.{Below}
 use Rattle.solution_tree.specs.Audit.{Fault, audit}
 use Rattle.solution_tree.proofs.Sound.{below_wins}
 use Rattle.solution_tree.proofs.Exact.{audit_is_exact}
 use Rattle.tsumego_replies.specs.declared.status.Status.TheVariants.{Answered}
-use Rattle.tsumego_replies.specs.Texts.{wins_text, neither_text}
+use Rattle.tsumego_replies.specs.Texts.{line, wins_text, neither_text}
 use Rattle.tsumego_replies.specs.Answers.{Answer, IsRecord, check_answer, within_answer, audit_answer}
 use Rattle.tsumego.specs.Laws.{SideWins, WinnerIsTrue, CheckIsTrue, WithinIsTrue, AuditIsTrue, SolveIsTrue, ProofIsTrue}
 use Rattle.tsumego_problem.proofs.Records.{placed, has_problem_node, stands_for}
+use Rattle.tsumego.proofs.Answering.{has_node}
 
 side_wins : (bytes : List ℕ) (tree : GameTree) (n : ℕ) (q : GameProblem) (x : Colour) → IsRecord bytes tree n q → Wins x (start q) → SideWins bytes q x
 side_wins bytes tree n q x r w = record { tree = tree; end = n; reads = r.reads; problem = (placed history_limit tree q r.problem).free; wins = w }
@@ -109,13 +109,14 @@ pub solve_is_true : SolveIsTrue
 solve_is_true steps table lift bytes written (inr (failed, _)) = absurd cc
 solve_is_true steps table lift bytes written (inl (inl (refusal, r, e, t))) = absurd cc
 solve_is_true steps table lift bytes written (inl (inr (q, tree, n, r, inr (e, unsolved)))) = absurd cc
-solve_is_true steps table lift bytes written (inl (inr (q, tree, n, r, inl (e, (x, a, (answer, ascend, is, below, text)))))) =
+solve_is_true steps table lift bytes written (inl (inr (q, tree, n, r, inl (e, (x, a, (ascend, is, audited, text)))))) =
     let s = solution q x a in
-    let read = written_reads s (10 ∷ []) is.whole in (
+    let read = is.reads (10 ∷ []) in
+    let below : Below s x (start q) = (audit_is_exact q s x (trees_are_read (line (tree_text s)) s (length (tree_text s)) read) (has_node s q is.problem)).0 audited in (
       q,
       x,
       (a, text),
-      side_wins bytes tree n q x r (answers_win_law x (start q) a answer),
+      side_wins bytes tree n q x r (below_wins s x (start q) below),
       record { tree = s; end = length (tree_text s); reads = subst (λ w. Reads w s (length (tree_text s))) (sym text) read; problem = is.problem; below = below },
     )
 
@@ -131,18 +132,19 @@ proof_is_true steps table lift bytes written (inl (inr (q, tree, n, r, inr (e, u
 proof_is_true steps table lift bytes written (inl (inr (q, tree, n, r, inl (e, (z, by_claim))))) =
     let front = tree_text (canonical q) in
     let claim = by_claim.spelling in
-    let (ls, are, is) = by_claim.judged in
+    let x = by_claim.claim.winner in
+    let (ls, are, is) = by_claim.judged.1 in
     let whole : written ≡ front ++ 10 ∷ claim = by_claim.whole ∙ append_assoc front (10 ∷ []) claim in (
       q,
-      z.winner,
-      side_wins bytes tree n q z.winner r (accepted_sides_win q ls z.winner (placed history_limit tree q r.problem).place is),
+      x,
+      side_wins bytes tree n q x r (accepted_sides_win q ls x (placed history_limit tree q r.problem).place is),
       record {
         tree = canonical q;
         end = length front;
         claim = claim;
-        reads = subst (λ w. Reads w (canonical q) (length front)) (sym whole) (written_reads (canonical q) (10 ∷ claim) by_claim.kept.whole);
+        reads = subst (λ w. Reads w (canonical q) (length front)) (sym whole) (by_claim.kept.reads (10 ∷ claim));
         problem = by_claim.kept.problem;
         behind = ap (drop (length front)) whole ∙ behind_front front (10 ∷ claim);
-        judged = by_claim.judged;
+        judged = by_claim.judged.1;
       },
     )

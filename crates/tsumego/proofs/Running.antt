@@ -13,9 +13,10 @@ use Rattle.tsumego_replies.specs.declared.status.Status.{Status}
 use Rattle.tsumego_replies.specs.declared.status.Status.TheVariants.{BadWords, Failed}
 use Rattle.tsumego_words.specs.CommandLine.{is_session}
 use Rattle.tsumego_replies.specs.Texts.{no_memory_text, no_read_text}
-use Rattle.tsumego_replies.specs.Answers.{PassesBound, Says, SaysFailure, check_answer, audit_answer, within_answer, Tells}
+use Rattle.tsumego_replies.specs.Answers.{PassesBound, Says, SaysFailure, check_answer, audit_answer, within_answer}
+use Rattle.proof_cert.specs.Streamed.{Tells}
 use Rattle.tsumego.specs.Devices.{PassesLimit}
-use Rattle.tsumego.specs.Outcome.{Outcome, Explains, ExplainsRun, MaySay, RanOn}
+use Rattle.tsumego.specs.Outcome.{Outcome, Explains, MaySay, RanOn}
 use Rattle.tsumego.specs.Private.Written.{Writes}
 use Rattle.tsumego_replies.proofs.Saying.{some_bytes}
 
@@ -28,7 +29,7 @@ after_nothing (inl is) = inl is
 after_nothing (inr (inl (why, is))) = inr (inl (why, ([], is)))
 after_nothing (inr (inr fault)) = inr (inr fault)
 
-pub explained : (command : Option Command) {read write : Type 0} {status : Status} {written : List ℕ} → Explains read write status written → ExplainsRun command read write status written
+pub explained : (command : Option Command) {read write : Type 0} {status : Status} {written : List ℕ} → Explains None read write status written → Explains command read write status written
 explained None e = e
 explained (Some Check) e = e
 explained (Some (Within turns nodes)) e = e

@@ -1,14 +1,16 @@
 -- What a session tells is true.
-use Rattle.std.proofs.Common.{◌≡◌, ℕ, false, nat_eq, eq-eqb, get_or, drop, append_assoc, List, [], ◌∷◌, ◌++◌, codes, Option, None, Some, ◌⊎◌, inl, inr, refl, sym, ap, ◌∙◌, subst}
+use Rattle.std.proofs.Common.{◌≡◌, ℕ, false, nat_eq, eq-eqb, get_or, drop, append_assoc, List, [], ◌∷◌, ◌++◌, codes, Option, None, Some, Ok, inl, inr, refl, sym, ap, ◌∙◌, subst}
 use Rattle.go_points.specs.declared.Colour.{Colour}
 use Rattle.target_game.specs.State.{GameProblem}
+use Rattle.gtp_core.specs.declared.command.Command.TheVariants.{Solve}
+use Rattle.gtp_core.specs.declared.refusal.Refusal.TheVariants.{NoProblem}
 use Rattle.gtp_core.specs.Lines.{raw_lines}
 use Rattle.gtp_core.specs.Words.{failure, spaced_text, success, turn_text}
-use Rattle.gtp_core.specs.Commands.{order_of, solve_order}
+use Rattle.gtp_core.specs.Commands.{order_of, with_value}
 use Rattle.gtp_core.specs.Session.{GtpSession, problem_at, size_of}
-use Rattle.gtp_core.specs.Serving.{Answers, Meets, MayTell, Serves, due_of, solve_due, reply}
-use Rattle.gtp_core.specs.Runs.{GoesThrough, IsRun, first_session}
-use Rattle.tsumego.specs.Laws.{AllTrue, AnswersTruly, GtpIsTrue, IsTrueEnd, IsTrueOf}
+use Rattle.gtp_core.specs.Serving.{Answers, Meets, MayTell, Serves, due_of, due_or_refusal, tells, reply}
+use Rattle.gtp_core.specs.Runs.{IsRun, first_session}
+use Rattle.tsumego.specs.Laws.{AllTrue, AnswersTruly, GtpIsTrue, IsTrueOf}
 
 -- texts that begin otherwise are told apart
 apart : (x y : ℕ) → nat_eq x y ≡ false → x ≡ y → ⊥
@@ -71,7 +73,7 @@ told_true s k q told is (inr (inr e)) = record {
   losses = λ same. absurd (heads_apart (codes "loss") (codes "unknown") refl (sym same ∙ e));
 }
 
-met_truly : (s new : GtpSession) (id told bytes : List ℕ) (k : Colour) (o : Option GameProblem) → problem_at s k ≡ o → bytes ≡ success id told → Meets s id (solve_due k o) (reply bytes) new → IsTrueOf s k told
+met_truly : (s new : GtpSession) (id told bytes : List ℕ) (k : Colour) (o : Option GameProblem) → problem_at s k ≡ o → bytes ≡ success id told → Meets s id (due_or_refusal NoProblem o (tells k)) (reply bytes) new → IsTrueOf s k told
 met_truly s new id told bytes k None e is met = absurd (heads_apart (success id told) (failure id (codes "no problem")) refl (sym is ∙ ap (λ out. out.bytes) met.0))
 met_truly s new id told bytes k (Some q) e is (text, may, out, kept) =
     let same : told ≡ text = told_is id told text (sym is ∙ ap (λ o. o.bytes) out) in
@@ -81,29 +83,15 @@ answers_truly : (s new : GtpSession) (line bytes : List ℕ) → Serves s line (
 answers_truly s new line bytes (inr none) id word told words k asked colour is = absurd (heads_apart (success id told) (failure [] (codes "out of memory")) refl (sym is ∙ ap (λ out. out.bytes) none.written))
 answers_truly s new line bytes (inl answers) id word told words k asked colour is =
     let met : Meets s id (due_of s (order_of (size_of s) (codes "tsu-solve" ∷ word ∷ words))) (reply bytes) new = subst (λ r. Answers s r (reply bytes) new) asked answers in
-    met_truly s new id told bytes k (problem_at s k) refl is (subst (λ o. Meets s id (due_of s (solve_order o)) (reply bytes) new) colour met)
+    met_truly s new id told bytes k (problem_at s k) refl is (subst (λ o. Meets s id (due_of s (with_value o (λ k. Ok (Solve k)))) (reply bytes) new) colour met)
 
-all_true : (s : GtpSession) (lines : List (List ℕ)) (written : List ℕ) (t : GtpSession) → GoesThrough s lines written t → AllTrue s lines written t
-all_true s [] written t h = h
-all_true s (line ∷ lines) written t h = (h.0, h.1, h.2, h.3, answers_truly s h.2 line h.0 h.3, h.4, all_true h.2 lines h.1 t h.5)
-
-run_is_true : (lines : List (List ℕ)) (written : List ℕ) → IsRun first_session lines written → ((t : GtpSession) × AllTrue first_session lines written t) ⊎ IsTrueEnd lines written
-run_is_true lines written (inl (t, through)) = inl (t, all_true first_session lines written t through)
-run_is_true lines written (inr e) = inr (record {
-  front = e.front;
-  line = e.line;
-  behind = e.behind;
-  parted = e.parted;
-  before = e.before;
-  mid = e.mid;
-  all = all_true first_session e.front e.before e.mid e.through;
-  bytes = e.bytes;
-  last = e.last;
-  served = e.served;
-  whole = e.whole;
-})
+all_true : (s : GtpSession) (lines : List (List ℕ)) (written : List ℕ) → IsRun s lines written → AllTrue s lines written
+all_true s [] written h = h
+all_true s (line ∷ lines) written (inl (bytes, rest, new, served, whole, more)) =
+    inl (bytes, rest, new, served, answers_truly s new line bytes served, whole, all_true new lines rest more)
+all_true s (line ∷ lines) written (inr last) = inr last
 
 pub gtp_is_true : GtpIsTrue
-gtp_is_true bytes written (inl (inl (answered, run))) = run_is_true (raw_lines bytes) written run
+gtp_is_true bytes written (inl (inl (answered, run))) = all_true first_session (raw_lines bytes) written run
 gtp_is_true bytes written (inl (inr (failed, rest))) = absurd (cc failed)
 gtp_is_true bytes written (inr (failed, rest)) = absurd (cc failed)

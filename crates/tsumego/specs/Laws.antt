@@ -53,9 +53,9 @@ abbrev pub CheckIsTrue : Type 0
 CheckIsTrue = (bytes written : List ℕ) → Outcome (Some command.Check) bytes Answered written →
     (q : GameProblem) × (x : Colour) × (written ≡ wins_text x) × SideWins bytes q x
 
--- A claim has one verdict, since no two lines have one spelling.
+-- The bytes of a claim have a verdict, and only one, since no two lines have one spelling.
 abbrev pub OneVerdict : Type 0
-OneVerdict = (q : GameProblem) (bytes : List ℕ) (v w : Verdict) → HasVerdict q bytes v → HasVerdict q bytes w → v ≡ w
+OneVerdict = (q : GameProblem) (bytes : List ℕ) → (v : Verdict) × HasVerdict q bytes v × ((w : Verdict) → HasVerdict q bytes w → v ≡ w)
 
 -- Where `within` names a side, that side can force a win of the record's problem within so many turns.
 abbrev pub WithinIsTrue : Type 0
@@ -109,26 +109,13 @@ abbrev pub AnswersTruly : GtpSession → List ℕ → List ℕ → Type 0
 AnswersTruly s line written = (id word told : List ℕ) (words : List (List ℕ)) (k : Colour) → request_of line ≡ asks id (codes "tsu-solve" ∷ word ∷ words) → colour_named word ≡ Some k
     → written ≡ success id told → IsTrueOf s k told
 
--- Some replies of a session, line by line, each of which is so.
-abbrev pub AllTrue : GtpSession → List (List ℕ) → List ℕ → GtpSession → Type 0
-AllTrue s [] written t = (written ≡ []) × (t ≡ s)
-AllTrue s (line ∷ lines) written t =
-    (bytes rest : List ℕ) × (new : GtpSession) × Serves s line (reply bytes) new × AnswersTruly s line bytes × (written ≡ bytes ++ rest) × AllTrue new lines rest t
+-- The replies of a session, line by line, each of which is so; after a line that ends the session the others count for nothing.
+abbrev pub AllTrue : GtpSession → List (List ℕ) → List ℕ → Type 0
+AllTrue s [] written = written ≡ []
+AllTrue s (line ∷ lines) written =
+    ((bytes rest : List ℕ) × (new : GtpSession) × Serves s line (reply bytes) new × AnswersTruly s line bytes × (written ≡ bytes ++ rest) × AllTrue new lines rest)
+    ⊎ ((new : GtpSession) × Serves s line (last_reply written) new)
 
--- Where `gtp` has ended, its output is the replies of a session, line by line, each of which is so; after a line that ends the session the lines count for nothing.
-pub record IsTrueEnd (lines : List (List ℕ)) (written : List ℕ) : Type 0 where
-  pub front : List (List ℕ)
-  pub line : List ℕ
-  pub behind : List (List ℕ)
-  pub parted : lines ≡ front ++ line ∷ behind
-  pub before : List ℕ
-  pub mid : GtpSession
-  pub all : AllTrue first_session front before mid
-  pub bytes : List ℕ
-  pub last : GtpSession
-  pub served : Serves mid line (last_reply bytes) last
-  pub whole : written ≡ before ++ bytes
-
+-- Where `gtp` has ended, its output is such replies.
 abbrev pub GtpIsTrue : Type 0
-GtpIsTrue = (bytes written : List ℕ) → Outcome (Some command.Gtp) bytes Answered written →
-    ((t : GtpSession) × AllTrue first_session (raw_lines bytes) written t) ⊎ IsTrueEnd (raw_lines bytes) written
+GtpIsTrue = (bytes written : List ℕ) → Outcome (Some command.Gtp) bytes Answered written → AllTrue first_session (raw_lines bytes) written

@@ -2,7 +2,7 @@
 --     MaySay command bytes status text      the whole text that the command may have for these bytes
 --     Leaves Said status written      where this may be said
 --     Outcome command bytes status written      `command` is what the words ask for, where they ask for something
---     Explains read write status written      a run that ended as failed did so for what memory, a read or a write did
+--     Explains command read write status written      a run that ended as failed did so for what memory, a read or a write did
 --     RanOn      the same between the devices before a run and after it, with why it failed, where it did
 use Rattle.std.specs.Prelude.{◌≡◌, ℕ, List, ◌++◌, Option, Some, None, ◌⊎◌}
 use Rattle.std.specs.Io.KnownBytes.{Appends}
@@ -13,7 +13,8 @@ use Rattle.tsumego_words.specs.declared.command_line.Command.TheVariants.{Gtp}
 use Rattle.tsumego_replies.specs.declared.status.Status.{Status}
 use Rattle.tsumego_replies.specs.declared.status.Status.TheVariants.{Answered, BadWords, Failed}
 use Rattle.tsumego_replies.specs.Texts.{no_memory_text, no_read_text}
-use Rattle.tsumego_replies.specs.Answers.{Says, SaysFailure, Tells}
+use Rattle.tsumego_replies.specs.Answers.{Says, SaysFailure}
+use Rattle.proof_cert.specs.Streamed.{Tells}
 
 -- What a run may have said in full: a status and a text.
 abbrev pub Saying : Type 1
@@ -43,24 +44,20 @@ abbrev pub Outcome : Option Command → List ℕ → Status → List ℕ → Typ
 Outcome None bytes status written = (status ≡ BadWords) ⊎ (status ≡ Failed)
 Outcome (Some command) bytes status written = Leaves (MaySay command bytes) status written
 
--- Why a run ended as failed: memory was refused, and the text says that alone; or a read failed, and it says that alone; or a write failed.
-abbrev pub Explains : Type 0 → Type 0 → Status → List ℕ → Type 0
-Explains read write status written = status ≡ Failed → (written ≡ no_memory_text) ⊎ ((read × (written ≡ no_read_text)) ⊎ write)
+-- The text says that a read failed, and nothing else; that of a session says so after replies.
+abbrev pub SaysNoRead : Option Command → List ℕ → Type 0
+SaysNoRead (Some Gtp) written = (replies : List ℕ) × (written ≡ replies ++ no_read_text)
+SaysNoRead _ written = written ≡ no_read_text
 
--- The same of a session: that a read failed is said after replies.
-abbrev pub ExplainsSession : Type 0 → Type 0 → Status → List ℕ → Type 0
-ExplainsSession read write status written =
-    status ≡ Failed → (written ≡ no_memory_text) ⊎ ((read × ((replies : List ℕ) × (written ≡ replies ++ no_read_text))) ⊎ write)
-
-abbrev pub ExplainsRun : Option Command → Type 0 → Type 0 → Status → List ℕ → Type 0
-ExplainsRun (Some Gtp) read write status written = ExplainsSession read write status written
-ExplainsRun _ read write status written = Explains read write status written
+-- Why a run ended as failed: memory was refused, and the text says that alone; or a read failed, and it says so; or a write failed.
+abbrev pub Explains : Option Command → Type 0 → Type 0 → Status → List ℕ → Type 0
+Explains command read write status written = status ≡ Failed → (written ≡ no_memory_text) ⊎ ((read × SaysNoRead command written) ⊎ write)
 
 -- The writer has taken what is left so, and a failure has its cause.
 abbrev pub HasLeftOn : Saying → Type 0 → Status → Option (List ℕ) → Option (List ℕ) → Type 0
-HasLeftOn Said write status old new = (written : List ℕ) × Appends old new written × Leaves Said status written × Explains ⊥ write status written
+HasLeftOn Said write status old new = (written : List ℕ) × Appends old new written × Leaves Said status written × Explains None ⊥ write status written
 
 -- `read` says of the bytes that a read of them failed, or a bound was passed; `write` that a write failed.
 abbrev pub RanOn : Option Command → Option (List ℕ) → (List ℕ → Type 0) → Type 0 → Status → Option (List ℕ) → Option (List ℕ) → Type 0
 RanOn command told read write status old new =
-    (bytes written : List ℕ) × Tells told bytes × Appends old new written × Outcome command bytes status written × ExplainsRun command (read bytes) write status written
+    (bytes written : List ℕ) × Tells told bytes × Appends old new written × Outcome command bytes status written × Explains command (read bytes) write status written

@@ -1,6 +1,6 @@
 //! What is written where a search has found a claim.
 
-ghost use Rattle.std.specs.Prelude.{◌≡◌, Bool, IfOk, OnOk, OnErr, true, false};
+ghost use Rattle.std.specs.Prelude.{Bool, IfOk, OnOk, OnErr, true, false};
 ghost use Rattle.std.specs.Io.KnownBytes.{Appends};
 ghost use Rattle.byte_writer.specs.Taken.{TakesPart};
 ghost use Rattle.sgf_text.specs.Text.{tree_text};
@@ -15,9 +15,11 @@ ghost use Rattle.tsumego.specs.Private.Written.{IsSolutionOf, Writes};
 use crate::counting::Counting;
 use cert_check::laws::{accepts_valid_texts, valid_claims_answer};
 use cert_check::{Checked, Lift, lift};
+use proof_cert::laws::one_claim_of_text;
 use proof_cert::{Certificate, write_cert};
+use sgf_text::laws::written_reads;
 use sgf_text::{Tree, WriteFault, write_bytes, write_tree};
-use solution_tree::laws::expansions_ascend;
+use solution_tree::laws::{audit_is_exact, expansions_ascend};
 use solution_tree::{Expand, expand, to_sgf};
 use std::alloc::{AllocError, Global};
 use std::io::Write;
@@ -87,10 +89,14 @@ fn said_as_tree(alloc: Global, checked: &Checked, lift: bool) -> Result<Said, Al
     ensures { IfOk result (λ r. MayAnswer false lift checked.now r.status r.text.items) }
 {
     valid_claims_answer();
+    accepts_valid_texts();
     expansions_ascend();
+    audit_is_exact();
     solution_reads();
+    written_reads();
     problems_are_kept(checked.problem());
     let _winner = checked.winner();
+    let _rows = checked.problem().size().rows();
     prove!(checked.problem().place() < checked.problem().history().len());
     let mut text = Vec::new(alloc);
     match solution_of(alloc, checked) {
@@ -124,7 +130,10 @@ fn said_as_claim(alloc: Global, checked: &Checked) -> Result<Said, AllocError>
 fn said_as_lemma(alloc: Global, checked: &Checked) -> Result<Said, AllocError>
     ensures { IfOk result (λ r. MayAnswer true true checked.now r.status r.text.items) }
 {
+    accepts_valid_texts();
+    one_claim_of_text();
     let _winner = checked.winner();
+    let _rows = checked.problem().size().rows();
     match lift(alloc, checked) {
         Ok(lifted) => said_with(alloc, checked, &lifted),
         Err(Lift::HasLemmas) => said_with(alloc, checked, checked.certificate()),
@@ -140,7 +149,6 @@ fn said_with(
     certificate: &Certificate,
 ) -> Result<Said, AllocError>
     requires valid { IsChecked checked.now.problem (claim_of certificate.now) }
-    requires winner { certificate.now.winner ≡ checked.now.certificate.winner }
     ensures { (lift : Bool)
         → IsWritten lift checked.now.problem (claim_of checked.now.certificate)
         (claim_of certificate.now)
@@ -148,6 +156,7 @@ fn said_with(
 {
     accepts_valid_texts();
     canonical_reads();
+    written_reads();
     problems_are_kept(checked.problem());
     let _winner = checked.winner();
     let _rows = checked.problem().size().rows();

@@ -13,7 +13,7 @@ pub fn check_is_true()
     ensures { CheckIsTrue }
 {}
 
-/// The bytes of a claim have one verdict, since no two lines have one spelling.
+/// The bytes of a claim have a verdict, and only one, since no two lines have one spelling.
 pub fn one_verdict()
     ensures { OneVerdict }
 {}

@@ -5,7 +5,7 @@ ghost use Rattle.tsumego_words.specs.CommandLine.{command_of, is_session, FitsRa
 ghost use Rattle.tsumego_replies.specs.Bounds.{MayAsk};
 ghost use Rattle.tsumego.specs.Devices.{HasFailed, ReadFails};
 ghost use Rattle.tsumego.specs.Outcome.{RanOn};
-ghost use Rattle.tsumego_replies.specs.Answers.{Tells};
+ghost use Rattle.proof_cert.specs.Streamed.{Tells};
 ghost use Rattle.tsumego_replies.specs.Replies.{IsReply};
 
 use crate::answer::{answer, write_text};

@@ -27,7 +27,8 @@ use Rattle.tsumego_replies.specs.declared.status.Status.{Status}
 use Rattle.tsumego_replies.specs.declared.status.Status.TheVariants.{Answered}
 use Rattle.tsumego_replies.specs.Texts.{wins_text}
 use Rattle.tsumego_replies.specs.Bounds.{front_limit, white_limit, MayAsk}
-use Rattle.tsumego_replies.specs.Answers.{IsRecord, Says, JudgesClaim, check_answer, white_before, Tells}
+use Rattle.tsumego_replies.specs.Answers.{IsRecord, Says, JudgesClaim, check_answer, white_before}
+use Rattle.proof_cert.specs.Streamed.{Tells}
 use Rattle.tsumego_replies.specs.Replies.{AllWhite, Decides, HasNoRecord, IsReply, IsReplyAfter, IsRejectionOf, IsJudged, IsJudgedAfter, IsCheckedAfter, IsPastLimit, IsSaidAfter, SaysAfter, claim_verdict}
 use Rattle.tsumego_replies.proofs.Claims.{has_verdict}
 use Rattle.tsumego_replies.proofs.Saying.{some_bytes}

@@ -12,7 +12,8 @@ use Rattle.tsumego_replies.specs.declared.status.Status.{Status}
 use Rattle.tsumego_replies.specs.declared.status.Status.TheVariants.{Refused}
 use Rattle.tsumego_words.specs.CommandLine.{is_session}
 use Rattle.tsumego_replies.specs.Texts.{line}
-use Rattle.tsumego_replies.specs.Answers.{IsRecord, RefusedOr, Says, Tells}
+use Rattle.tsumego_replies.specs.Answers.{IsRecord, RefusedOr, Says}
+use Rattle.proof_cert.specs.Streamed.{Tells}
 
 -- the bytes that a reader tells, where it tells them
 pub some_bytes : (told : Option (List ℕ)) → (bytes : List ℕ) × Tells told bytes

@@ -1,7 +1,7 @@
 -- What each command that reads a record answers: the whole text, and the status with it. A session reads none, and says nothing here.
 --     check_answer, within_answer, audit_answer      of what the definitions of claims, of winning and of answer trees say
 --     Says command bytes status text      the whole text that the command may have for these bytes
-use Rattle.std.specs.Prelude.{◌≡◌, ℕ, ◌-◌, ◌<◌, ◌≤◌, List, length, drop, Option, Some, None, Result, Ok, Err, ◌⊎◌}
+use Rattle.std.specs.Prelude.{◌≡◌, ℕ, ◌-◌, ◌<◌, ◌≤◌, List, length, drop, Some, Result, Ok, Err, ◌⊎◌}
 use Rattle.go_points.specs.declared.Colour.{Colour}
 use Rattle.target_game.specs.State.{GameProblem, start}
 use Rattle.target_game.specs.Within.{decision}
@@ -89,8 +89,3 @@ Says command.Gtp bytes = λ status text. ⊥
 -- Memory was refused, or a read failed, or the input has no end in sight.
 abbrev pub SaysFailure : List ℕ → Type 0
 SaysFailure text = (text ≡ no_memory_text) ⊎ (text ≡ no_read_text)
-
--- The bytes are those that the reader tells, where it tells them.
-abbrev pub Tells : Option (List ℕ) → List ℕ → Type 0
-Tells None bytes = Unit {0}
-Tells (Some told) bytes = bytes ≡ told

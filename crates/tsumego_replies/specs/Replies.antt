@@ -26,7 +26,8 @@ use Rattle.tsumego_replies.specs.declared.input.White.{White}
 use Rattle.tsumego_replies.specs.declared.input.White.TheVariants.{Before, End, TooMuch}
 use Rattle.tsumego_replies.specs.Bounds.{white_limit}
 use Rattle.tsumego_replies.specs.Solutions.{MayAnswer, Unsolved}
-use Rattle.tsumego_replies.specs.Answers.{Says, check_answer, JudgesClaim, PassesBound, white_before, Tells}
+use Rattle.tsumego_replies.specs.Answers.{Says, check_answer, JudgesClaim, PassesBound, white_before}
+use Rattle.proof_cert.specs.Streamed.{Tells}
 use Rattle.tsumego_replies.specs.Texts.{line, rejected_line_text, rejected_node_text}
 
 -- The bytes have no record with this text; where memory was refused, nothing is said.

@@ -1,4 +1,5 @@
 -- What is said of a problem that a search was made for.
+--     IsAccepted q z text      `check` accepts the claim z, which has this text
 --     IsWritten lift q z y      of the claim z that was found the claim y is written
 --     SolvedBy q x a text      the solution record of this answer tree
 --     Solved proof lift q text      a solution record; or, as a proof, the canonical record and a claim
@@ -7,20 +8,20 @@
 use Rattle.std.specs.Prelude.{◌≡◌, ◌≢◌, ℕ, ◌<◌, ◌≤◌, Bool, true, false, List, [], ◌++◌, length, Some, IsTrue, Ok, ◌⊎◌}
 use Rattle.go_points.specs.declared.Colour.{Colour}
 use Rattle.target_game.specs.State.{GameProblem, start}
-use Rattle.target_game.specs.Answers.{AnswerTree, answers, answer_size}
+use Rattle.target_game.specs.Answers.{AnswerTree, answer_size}
 use Rattle.sgf_text.specs.Trees.{GameTree}
-use Rattle.sgf_text.specs.Text.{is_tree, tree_text}
+use Rattle.sgf_text.specs.Grammar.{Reads}
+use Rattle.sgf_text.specs.Text.{tree_text}
 use Rattle.tsumego_problem.specs.Walk.{problem_of}
-use Rattle.tsumego_problem.specs.Below.{Below}
 use Rattle.tsumego_problem.specs.Canonical.{canonical, solution, ascends}
 use Rattle.proof_cert.specs.Certificate.{claim_of}
-use Rattle.proof_cert.specs.Claim.{Claim, IsWithinLimits}
+use Rattle.proof_cert.specs.Claim.{Claim}
 use Rattle.proof_cert.specs.Text.{text as claim_text}
 use Rattle.cert_check.specs.Verdict.{accepted}
-use Rattle.cert_check.specs.Validity.{IsValid}
-use Rattle.cert_check.specs.Checked.{CheckedClaim, IsChecked}
+use Rattle.cert_check.specs.Checked.{CheckedClaim}
 use Rattle.cert_check.specs.Lift.{IsLifted}
 use Rattle.cert_check.specs.Expand.{expand}
+use Rattle.solution_tree.specs.Audit.{audit}
 use Rattle.pn_search.specs.Search.{IsHard}
 use Rattle.pn_search.specs.declared.verdict.Cause.{Cause}
 use Rattle.pn_search.specs.declared.verdict.Cause.TheVariants.{Steps, Memory}
@@ -29,36 +30,38 @@ use Rattle.tsumego_replies.specs.declared.status.Status.TheVariants.{Answered, U
 use Rattle.tsumego_replies.specs.Texts.{line, unknown_text, too_large_text}
 use Rattle.tsumego_replies.specs.Claims.{HasVerdict}
 
--- A tree as records have it, of this same problem, the order of the history included.
+-- The tree's text, whatever follows it, reads as the tree, and that has this same problem, the order of the history included.
 pub record IsRecordOf (q : GameProblem) (tree : GameTree) : Type 0 where
-  pub whole : IsTrue (is_tree tree)
+  pub reads : (rest : List ℕ) → Reads (tree_text tree ++ rest) tree (length (tree_text tree))
   pub problem : problem_of tree ≡ Ok q
 
--- The claim is not made into one lemma: it has lemmas, or as one lemma it would pass a limit.
+-- The claim has this text, and `check` accepts it for the side that the claim names.
+abbrev pub IsAccepted : GameProblem → Claim → List ℕ → Type 0
+IsAccepted q z text = (claim_text z ≡ Some text) × HasVerdict q text (accepted z.winner)
+
+-- The claim is not made into one lemma: it has lemmas, or as one lemma it would not be accepted, since it would pass a limit.
 abbrev pub StaysAsFound : GameProblem → Claim → Type 0
-StaysAsFound q z = (0 < length z.lemmas) ⊎ ((y : Claim) → IsLifted q z y → IsWithinLimits y → ⊥)
+StaysAsFound q z = (0 < length z.lemmas) ⊎ ((y : Claim) (text : List ℕ) → IsLifted q z y → IsAccepted q y text → ⊥)
 
 -- Of the claim z that was found it is written itself; or, where that is asked for, z as one lemma, wherever it can be made into one.
 abbrev pub IsWritten : Bool → GameProblem → Claim → Claim → Type 0
 IsWritten false q z y = y ≡ z
-IsWritten true q z y = ((z.lemmas ≡ []) × IsLifted q z y × IsWithinLimits y) ⊎ (StaysAsFound q z × (y ≡ z))
+IsWritten true q z y = ((z.lemmas ≡ []) × IsLifted q z y) ⊎ (StaysAsFound q z × (y ≡ z))
 
--- A proof by the claim z, which is valid: the canonical record and the claim that is written of it, which is accepted and names the same side.
+-- A proof by the claim z, which is accepted: the canonical record and the claim that is written of z, which is accepted too.
 pub record IsProofBy (lift : Bool) (q : GameProblem) (z : Claim) (text : List ℕ) : Type 0 where
-  pub found : IsChecked q z
+  pub found : (text : List ℕ) × IsAccepted q z text
   pub claim : Claim
   pub written : IsWritten lift q z claim
   pub spelling : List ℕ
-  pub spelled : claim_text claim ≡ Some spelling
-  pub judged : HasVerdict q spelling (accepted z.winner)
+  pub judged : IsAccepted q claim spelling
   pub kept : IsRecordOf q (canonical q)
   pub whole : text ≡ line (tree_text (canonical q)) ++ spelling
 
--- The record of the same problem with this answer tree of this side below the problem node, where the replies ascend.
+-- The record of the same problem with this answer tree below the problem node, where the replies ascend: `audit` names this side.
 abbrev pub SolvedBy : GameProblem → Colour → AnswerTree → List ℕ → Type 0
 SolvedBy q x a text =
-    IsTrue (answers x (start q) a) × IsTrue (ascends a)
-    × IsRecordOf q (solution q x a) × Below (solution q x a) x (start q) × (text ≡ line (tree_text (solution q x a)))
+    IsTrue (ascends a) × IsRecordOf q (solution q x a) × (audit q (solution q x a) ≡ Ok x) × (text ≡ line (tree_text (solution q x a)))
 
 -- The record of the same problem with an answer tree of a side; or, as a proof, the canonical record and a claim that is accepted.
 abbrev pub Solved : Bool → Bool → GameProblem → List ℕ → Type 0
@@ -69,11 +72,11 @@ Solved true lift q text = (z : Claim) × IsProofBy lift q z text
 abbrev pub tree_limit : ℕ
 tree_limit = 90000
 
--- The claim is valid, and its answer tree has more turns than the limit.
+-- The claim is accepted, and its answer tree has more turns than the limit.
 abbrev pub IsOverLimit : GameProblem → Claim → Type 0
-IsOverLimit q z = IsValid q z × (tree_limit < answer_size (expand z (start q)))
+IsOverLimit q z = (text : List ℕ) × IsAccepted q z text × (tree_limit < answer_size (expand z (start q)))
 
--- Some valid claim has an answer tree over the limit.
+-- Some claim that is accepted has an answer tree over the limit.
 abbrev pub IsTooLarge : GameProblem → Type 0
 IsTooLarge q = (z : Claim) × IsOverLimit q z
 

@@ -1,8 +1,7 @@
 //! What `check` says of the claim after a record.
 
-ghost use Rattle.std.specs.Prelude.{◌≡◌, ◌≤◌, ℕ, List, Option, IfOk, length, string_bytes};
+ghost use Rattle.std.specs.Prelude.{ℕ, List, Option, IfOk, string_bytes};
 ghost use Rattle.target_game.specs.State.{GameProblem};
-ghost use Rattle.tsumego_replies.specs.Bounds.{white_limit};
 ghost use Rattle.tsumego_replies.specs.Replies.{IsCheckedAfter, IsJudged, IsJudgedAfter, IsRejectionOf};
 
 use crate::input::{White, read_past_white};

@@ -10,7 +10,7 @@ ghost use Rattle.cert_check.specs.Stage.{why_value};
 ghost use Rattle.solution_tree.specs.Audit.{Why as NodeWhy};
 ghost use Rattle.solution_tree.specs.Faults.{why_value as node_why};
 ghost use Rattle.tsumego_problem.specs.Refusals.{sgf_refusal, problem_refusal, property_name, cause_text};
-ghost use Rattle.tsumego_replies.specs.Texts.{line, wins_text, rejected_line_text, claim_fault_text, rejected_node_text, audit_fault_text, no_memory_text, no_read_text, search_cause_text, unknown_text};
+ghost use Rattle.tsumego_replies.specs.Texts.{line, wins_text, rejected_line_text, claim_fault_text, rejected_node_text, audit_fault_text, search_cause_text, unknown_text};
 
 use cert_check::{Reject, Why};
 use go_points::{Colour, MAX_SIZE, Point, Size, Turn, to_sgf};

@@ -31,30 +31,20 @@ most_entries = 1000000
 abbrev pub turns_rule : Rule
 turns_rule = record (new_rule (codes "K")) { required = true; parser = Some (Unsigned 0 most_turns) }
 
+-- an option for a number, with the text that stands for it where it is not given
+abbrev pub number_rule : Text → Text → ℕ → ℕ → Rule
+number_rule name default least most =
+    record (new_rule name) { long = Some name; value_names = 1; defaults = default ∷ []; parser = Some (Unsigned least most) }
+
 abbrev pub nodes_rule : Rule
-nodes_rule = record (new_rule (codes "nodes")) {
-  long = Some (codes "nodes");
-  value_names = 1;
-  defaults = codes "1000000" ∷ [];
-  parser = Some (Unsigned 0 most_nodes);
-}
+nodes_rule = number_rule (codes "nodes") (codes "1000000") 0 most_nodes
 
 -- `solve` has an option for the number of steps, one for the entries of the table, a flag that asks for the claim, and one that asks for it as one lemma.
 abbrev pub steps_rule : Rule
-steps_rule = record (new_rule (codes "steps")) {
-  long = Some (codes "steps");
-  value_names = 1;
-  defaults = codes "1000000" ∷ [];
-  parser = Some (Unsigned 1 most_steps);
-}
+steps_rule = number_rule (codes "steps") (codes "1000000") 1 most_steps
 
 abbrev pub table_rule : Rule
-table_rule = record (new_rule (codes "table")) {
-  long = Some (codes "table");
-  value_names = 1;
-  defaults = codes "100000" ∷ [];
-  parser = Some (Unsigned 1 most_entries);
-}
+table_rule = number_rule (codes "table") (codes "100000") 1 most_entries
 
 abbrev pub flag_rule : Text → Rule
 flag_rule name = record (new_rule name) { long = Some name; action = Some SetTrue }
@@ -65,26 +55,17 @@ proof_rule = flag_rule (codes "proof")
 abbrev pub lift_rule : Rule
 lift_rule = flag_rule (codes "lift")
 
-abbrev pub check_shape : Shape
-check_shape = new_shape (codes "check")
-
 abbrev pub within_shape : Shape
 within_shape = record (new_shape (codes "within")) { rules = turns_rule ∷ nodes_rule ∷ [] }
 
-abbrev pub audit_shape : Shape
-audit_shape = new_shape (codes "audit")
-
 abbrev pub solve_shape : Shape
 solve_shape = record (new_shape (codes "solve")) { rules = steps_rule ∷ table_rule ∷ proof_rule ∷ lift_rule ∷ [] }
-
-abbrev pub gtp_shape : Shape
-gtp_shape = new_shape (codes "gtp")
 
 -- The program, one of whose subcommands has to be named.
 abbrev pub grammar : App
 grammar = record {
   top = record (new_shape (codes "tsumego")) { is_leaf = false; subcommand_required = true };
-  subs = check_shape ∷ within_shape ∷ audit_shape ∷ solve_shape ∷ gtp_shape ∷ [];
+  subs = new_shape (codes "check") ∷ within_shape ∷ new_shape (codes "audit") ∷ solve_shape ∷ new_shape (codes "gtp") ∷ [];
 }
 
 -- The number that the first value of an argument writes, where it is at least so much and at most so much.

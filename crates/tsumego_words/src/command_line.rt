@@ -5,8 +5,9 @@
 
 ghost use Rattle.std.specs.Prelude.{◌≡◌, ◌≤◌, false, Some, None, codes, IfOk, IfErr, IfSome, option_and_then, map};
 ghost use Rattle.clap.specs.Words.{app_of, found_of, kind_of, new_app, rows_of, rule_of, subcommand_rows_of, with_rule, with_subcommand};
+ghost use Rattle.clap.specs.Simple.{new_shape};
 ghost use Rattle.clap.specs.declared.builder.command.Command.TheViews.{out-Command as fields_of};
-ghost use Rattle.tsumego_words.specs.CommandLine.{FitsRanges, HasFault, IsWordsFault, command_named, command_of, flag_of, grammar, gtp_shape, is_session, lift_rule, nodes_rule, number_of, proof_rule, solve_shape, steps_rule, table_rule, turns_rule};
+ghost use Rattle.tsumego_words.specs.CommandLine.{FitsRanges, HasFault, IsWordsFault, command_named, command_of, flag_of, grammar, is_session, lift_rule, nodes_rule, number_of, proof_rule, solve_shape, steps_rule, table_rule, turns_rule};
 
 use clap::builder::ValueParser;
 use clap::error::ErrorKind;
@@ -178,8 +179,8 @@ fn program<'a>(alloc: Global) -> Result<clap::Command<'a>, AllocError>
 
 /// The program with the subcommands that judge: all but `solve` and `gtp`.
 fn judging<'a>(alloc: Global) -> Result<clap::Command<'a>, AllocError>
-    ensures { IfOk result (λ c. with_subcommand (with_subcommand (app_of c) solve_shape) gtp_shape
-        ≡ grammar) }
+    ensures { IfOk result (λ c. with_subcommand (with_subcommand (app_of c) solve_shape)
+        (new_shape (codes "gtp")) ≡ grammar) }
 {
     let program = clap::Command::new(alloc, "tsumego")
         .about(

@@ -14,7 +14,7 @@ use Rattle.proof_cert.specs.Lines.{Line, won_line, use_line, play_line, all_line
 use Rattle.cert_check.specs.declared.open_nodes.Due.{Due}
 use Rattle.cert_check.specs.declared.open_nodes.Due.TheVariants.{Node, Reply, End}
 use Rattle.cert_check.specs.Body.{Body, Why, malformed, won_fault, use_fault, play_fault, all_fault, due_replies}
-use Rattle.cert_check.specs.Machine.{Owed, owing, Heading, Phase, node_due, reply_due}
+use Rattle.cert_check.specs.Private.Machine.{Owed, owing, Heading, Phase, node_due, reply_due}
 
 -- both lists latest first
 abbrev pub owed_by : List GameState → List TurnsLeft → List Owed

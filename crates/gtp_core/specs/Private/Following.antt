@@ -1,5 +1,5 @@
 -- Words of the private calls that read orders and follow them. No public clause rests on them.
-use Rattle.std.specs.Prelude.{◌≡◌, ℕ, ◌≤◌, ◌&&◌, nat_le, List, [], ◌∷◌, IsTrue, Option, Some, None, if◌then◌else◌}
+use Rattle.std.specs.Prelude.{◌≡◌, ℕ, ◌<◌, ◌≤◌, ◌&&◌, nat_le, length, List, [], ◌∷◌, IsTrue, Option, Some, None, if◌then◌else◌}
 use Rattle.std.specs.List.{All}
 use Rattle.go_points.specs.declared.Colour.{Colour}
 use Rattle.go_points.specs.declared.Turn.{Turn}
@@ -12,16 +12,17 @@ use Rattle.go_turns.specs.declared.fault.TurnFault.TheVariants.{Memory}
 use Rattle.target_game.specs.State.{GameProblem, start}
 use Rattle.target_game.specs.Wins.{Wins}
 use Rattle.gtp_core.specs.declared.command.Command.{Command}
-use Rattle.gtp_core.specs.declared.command.Command.TheVariants.{SetTargets, Within}
+use Rattle.gtp_core.specs.declared.command.Command.TheVariants.{SetTargets, SetRegion, Within}
 use Rattle.gtp_core.specs.declared.search.Found.{Found}
 use Rattle.gtp_core.specs.declared.search.Found.TheVariants as found
 use Rattle.gtp_core.specs.Commands.{max_turns}
 use Rattle.gtp_core.specs.Words.{colour_named, is_on_board}
 use Rattle.gtp_core.specs.Serving.{IsWinning}
 
--- The targets of an order are points of the board, and its turns are not too many.
+-- The targets and the region of an order are points of the board, the region has one, and its turns are not too many.
 abbrev pub FitsBoard : ℕ → Command → Type 0
 FitsBoard n (SetTargets set) = All (IsOn n) set
+FitsBoard n (SetRegion set) = All (IsOn n) set × (0 < length set)
 FitsBoard n (Within k) = k ≤ max_turns
 FitsBoard n other = Unit {0}
 

@@ -9,7 +9,7 @@ use Rattle.go_points.specs.declared.Colour.{Colour}
 use Rattle.cert_check.specs.Verdict.{accepted}
 use Rattle.cert_check.specs.Parts.{line_values}
 use Rattle.cert_check.specs.Checks.{Accepts}
-use Rattle.cert_check.specs.Machine.{taken, goes_on, stops, ended}
+use Rattle.cert_check.specs.Private.Machine.{taken, goes_on, stops, ended}
 use Rattle.cert_check.specs.Private.Judging.{machine_of}
 use Rattle.cert_check.specs.Stage.{why_value}
 use Rattle.cert_check.proofs.ReadingClaims.{accepted_sides_win}

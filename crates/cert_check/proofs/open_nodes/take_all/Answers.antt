@@ -6,7 +6,7 @@ use Rattle.target_game.specs.Left.{Takes, turns_due}
 use Rattle.target_game.proofs.Due.{turns_begun}
 use Rattle.cert_check.specs.Body.{all_fault, due_replies}
 use Rattle.cert_check.specs.Stage.{why_value}
-use Rattle.cert_check.specs.Machine.{owing}
+use Rattle.cert_check.specs.Private.Machine.{owing}
 use Rattle.cert_check.specs.Private.Inside.{reply_at, owed_by}
 use Rattle.cert_check.proofs.Replies.{fault_said}
 use Rattle.cert_check.proofs.open_nodes.take_all.Goals as goal

@@ -24,5 +24,5 @@ returns-in-Ok-write_cert c =
     let before : c.write_line.new.writer.items ≡ line (tree_text c.in-Ok.tree) =
     front_written c.write_line.result (c.write_line.new.writer.items ≡ c.new-text.result.items ++ line (tree_text c.in-Ok.tree)) c.if-is_err.ensures.value c.write_line.ensures.written ∙ ap (λ xs. xs ++ line (tree_text c.in-Ok.tree)) c.new-text.ensures.items in
     λ (lift : Bool) how. claim_behind (MayAnswer true lift k) Answered front c.write_line.new.writer.items c.write_cert.new.writer.items (text y)
-    (λ bytes spelled. (refl, claim_solves k c.winner-winner.ensures.checked c.accepts_valid_texts.ensures c.canonical_reads.ensures kept low high c.in-Ok.tree whole same y c.requires.valid c.requires.winner lift how bytes spelled)) before
+    (λ bytes spelled. (refl, claim_solves k c.winner-winner.ensures.checked c.accepts_valid_texts.ensures c.canonical_reads.ensures c.written_reads.ensures kept low high c.in-Ok.tree whole same y c.requires.valid lift how bytes spelled)) before
     c.in-Ok-write_cert.ensures.written

@@ -1,5 +1,7 @@
-use Rattle.tsumego_replies.proofs.Claims.{one_verdict}
+use Rattle.proof_cert.specs.Text.{lines}
+use Rattle.cert_check.specs.Verdict.{verdict}
+use Rattle.tsumego_replies.proofs.Claims.{has_verdict, one_verdict}
 use Rattle.tsumego.proofs.laws.one_verdict.Goals as goal
 
 pub returns : goal.returns
-returns c = one_verdict
+returns c q bytes = let v = verdict q (lines q.game.size bytes) in (v, has_verdict q bytes, λ w. one_verdict q bytes v w (has_verdict q bytes))

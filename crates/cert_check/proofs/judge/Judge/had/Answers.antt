@@ -2,7 +2,7 @@ use Rattle.std.proofs.Common.{arith, rules, ◌≡◌, ◌-◌, ◌+◌, ◌++�
 use Rattle.std.specs.Prelude.{slice_get}
 use Rattle.proof_cert.specs.Claim.{max_listed}
 use Rattle.cert_check.specs.Body.{list_order}
-use Rattle.cert_check.specs.Machine.{last_of, listing_had}
+use Rattle.cert_check.specs.Private.Machine.{last_of, listing_had}
 use Rattle.cert_check.specs.Private.Judging.{machine_of, heading_of, lemma_of, had_more}
 use Rattle.cert_check.specs.Verdict.{is_after}
 use Rattle.cert_check.proofs.Judging.{last_get, last_fits, listed_barred, had_ready, had_goes}

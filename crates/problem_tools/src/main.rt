@@ -17,6 +17,7 @@ fn main(rt: HostRuntime) -> ExitCode {
     };
     let status = run(
         alloc,
+        &rt,
         words.as_slice(),
         &mut rt.stdin(),
         &mut rt.stdout(),

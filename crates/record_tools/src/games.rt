@@ -1,8 +1,10 @@
 //! The game trees of a collection.
 
-ghost use Rattle.std.specs.Prelude.{◌≡◌, ◌≤◌, IfOk, drop, length};
+ghost use Rattle.std.specs.Prelude.{IfOk};
 ghost use Rattle.record_tools.specs.Games.{IsGame};
+ghost use Rattle.sgf_text.specs.Grammar.{Reads};
 
+use crate::parts::{first_tree, part_length, text_after};
 use sgf_text::{SgfFault, Tree, read_tree};
 use std::alloc::Global;
 
@@ -13,20 +15,28 @@ pub(crate) fn game(alloc: Global, text: &[u8], number: usize) -> Result<Tree, Sg
 {
     let mut rest = text;
     for passed in 0..number {
-        let (_tree, end) = read_tree(alloc, rest)?;
+        let (_tree, end) = whole_tree(alloc, rest)?;
         if rest.len() < end {
             return Err(SgfFault::NoTree);
         }
         rest = text_after(rest, end);
     }
-    let (tree, _end) = read_tree(alloc, rest)?;
+    let (tree, _end) = whole_tree(alloc, rest)?;
     Ok(tree)
 }
 
-/// The text from this place on.
-fn text_after(text: &[u8], place: usize) -> &[u8]
-    requires { place ≤ length text.now }
-    ensures { result.now ≡ drop place text.now }
+/// The first game tree, and where it ends. Where it was cut off and took the next game for a part of itself, the fault's
+/// place is where that one begins.
+fn whole_tree(alloc: Global, text: &[u8]) -> Result<(Tree, usize), SgfFault>
+    ensures found { IfOk result (λ r. Reads text.now r.0 r.1) }
 {
-    &text[place..]
+    let (tree, end) = read_tree(alloc, text)?;
+    let begin = first_tree(text);
+    if begin < end && end <= text.len() {
+        let place = begin.saturating_add(part_length(&text[begin..end]));
+        if place < end {
+            return Err(SgfFault::Syntax { at: place });
+        }
+    }
+    Ok((tree, end))
 }

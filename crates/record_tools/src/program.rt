@@ -6,31 +6,36 @@ use crate::games::game;
 use crate::lines::Cut;
 use crate::marked_record::{Marks, Refusal, Region, marked_record};
 use crate::page::{NoPage, page_of};
+use crate::split::split_into;
 use crate::svg::svg;
 use crate::words::{Request, read_request};
 use sgf_text::{SgfFault, Tree, read_tree, write_bytes};
 use std::alloc::{AllocError, Global};
 use std::convert::AsStr;
 use std::io::{Read, Write};
+use std::rt::Files;
 use tool_parts::{Output, Status, read_whole, without_input, without_request, write_output};
 
 /// A region with more points than this mostly leaves a problem unknown.
 const WIDE: usize = 15;
 
-/// Runs the program on its words, the first of which is its name. What is said beside the answer goes to `notes`.
-pub fn run<S: AsStr, R: Read, W: Write, N: Write>(
+/// Runs the program on its words, the first of which is its name. What is said beside the answer goes to `notes`, and the
+/// trees of a file that is taken apart go to `files`.
+pub fn run<S: AsStr, F: Files, R: Read, W: Write, N: Write>(
     alloc: Global,
+    files: &F,
     words: &[S],
     reader: &mut R,
     writer: &mut W,
     notes: &mut N,
 ) -> Status {
-    write_output(writer, output(alloc, words, reader, notes))
+    write_output(writer, output(alloc, files, words, reader, notes))
 }
 
 /// What is written for the words and the input.
-fn output<S: AsStr, R: Read, N: Write>(
+fn output<S: AsStr, F: Files, R: Read, N: Write>(
     alloc: Global,
+    files: &F,
     words: &[S],
     reader: &mut R,
     notes: &mut N,
@@ -43,12 +48,13 @@ fn output<S: AsStr, R: Read, N: Write>(
     if !read_whole(reader, &mut bytes)? {
         return without_input(alloc);
     }
-    output_of(alloc, &request, bytes.as_slice(), notes)
+    output_of(alloc, files, &request, bytes.as_slice(), notes)
 }
 
 /// What is written for what is asked for and these bytes.
-fn output_of<N: Write>(
+fn output_of<F: Files, N: Write>(
     alloc: Global,
+    files: &F,
     request: &Request,
     bytes: &[u8],
     notes: &mut N,
@@ -58,6 +64,7 @@ fn output_of<N: Write>(
             Ok(tree) => Ok(Output::Record(tree)),
             Err(fault) => no_tree(alloc, fault),
         },
+        Request::SplitInto { folder } => split_into(alloc, files, folder.as_str(), bytes, notes),
         Request::Mark {
             node,
             targets,

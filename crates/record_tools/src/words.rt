@@ -21,6 +21,10 @@ pub(crate) enum Request {
     Split {
         number: usize,
     },
+    /// All game trees, as files of this folder.
+    SplitInto {
+        folder: String,
+    },
     /// The record with marks.
     Mark {
         node: Option<usize>,
@@ -55,15 +59,25 @@ fn chosen(alloc: Global, matches: &ArgMatches<'_>) -> Result<Request, NoRequest>
         return Err(NoRequest::Words(String::new(alloc)));
     };
     match name {
-        "split" => Ok(Request::Split {
-            number: number(given, "N").unwrap_or(1),
-        }),
+        "split" => chosen_trees(alloc, given),
         "mark" => chosen_marks(alloc, given),
         "page" => Ok(Request::Page(Cut {
             short: number(given, "short").unwrap_or(0),
             depth: number(given, "depth").unwrap_or(usize::MAX),
         })),
         _ => Ok(chosen_picture(given)),
+    }
+}
+
+/// The trees that are asked for: one, or all.
+fn chosen_trees(alloc: Global, given: &ArgMatches<'_>) -> Result<Request, NoRequest> {
+    let folder = text(alloc, given, "into", "")?;
+    match number(given, "N") {
+        Some(number) if folder.as_str() == "" => Ok(Request::Split { number }),
+        None if folder.as_str() != "" => Ok(Request::SplitInto { folder }),
+        _ => Err(NoRequest::Words(format!(in alloc;
+            "error: split takes the number of a tree, or --into and a folder\n"
+        )?)),
     }
 }
 
@@ -150,14 +164,23 @@ fn with_command<'a>(
 
 fn split_command<'a>(alloc: Global) -> Result<clap::Command<'a>, AllocError> {
     let split = clap::Command::new(alloc, "split").about(
-        "Writes one of the game trees of a file that holds several.",
+        "Writes one of the game trees of a file that holds several, or each of them into a file of its own.",
     );
-    split.arg(
-        Arg::new(alloc, "N")
-            .help("The number of the tree, from 1")
-            .required(true)
-            .value_parser(ValueParser::unsigned(1, MOST)),
-    )
+    let split = split.arg(tree_argument(alloc))?;
+    split.arg(folder_argument(alloc))
+}
+
+fn tree_argument<'a>(alloc: Global) -> Arg<'a> {
+    Arg::new(alloc, "N")
+        .help("The number of the tree, from 1")
+        .value_parser(ValueParser::unsigned(1, MOST))
+}
+
+fn folder_argument<'a>(alloc: Global) -> Arg<'a> {
+    Arg::new(alloc, "into")
+        .help("Writes all trees, as 0001.sgf, 0002.sgf and so on, into this folder")
+        .long("into")
+        .value_name("FOLDER")
 }
 
 fn mark_command<'a>(alloc: Global) -> Result<clap::Command<'a>, AllocError> {

@@ -4,6 +4,7 @@ use crate::records::gives;
 use record_tools::run;
 use std::alloc::Global;
 use std::process::Abort;
+use std::rt::Files;
 use tool_parts::Status;
 
 // The targets are marked, and the region.
@@ -58,11 +59,11 @@ fn nodes_of_a_game(rt: HostRuntime) {
 }
 
 // What is drawn has each of these pieces.
-fn draws(rt: &impl Abort, alloc: Global, words: &[&str], input: &str, pieces: &[&str]) {
+fn draws(rt: &(impl Abort + Files), alloc: Global, words: &[&str], input: &str, pieces: &[&str]) {
     let mut reader = input.as_bytes();
     let mut writer = Vec::new(alloc);
     let mut notes = Vec::new(alloc);
-    let ended = run(alloc, words, &mut reader, &mut writer, &mut notes);
+    let ended = run(alloc, rt, words, &mut reader, &mut writer, &mut notes);
     assert_eq!(rt; ended, Status::Answered);
     let said = String::from_utf8(writer).ok().expect(rt, "a text");
     for piece in pieces {

@@ -5,11 +5,12 @@ use crate::expect::expect_written;
 use record_tools::run;
 use std::alloc::Global;
 use std::process::Abort;
+use std::rt::Files;
 use tool_parts::Status;
 
 // What these words and this input give, with nothing on standard error.
 pub(crate) fn gives(
-    rt: &impl Abort,
+    rt: &(impl Abort + Files),
     alloc: Global,
     words: &[&str],
     input: &str,
@@ -19,7 +20,7 @@ pub(crate) fn gives(
     let mut reader = input.as_bytes();
     let mut written = Vec::new(alloc);
     let mut noted = Vec::new(alloc);
-    let ended = run(alloc, words, &mut reader, &mut written, &mut noted);
+    let ended = run(alloc, rt, words, &mut reader, &mut written, &mut noted);
     expect_written(rt, written, text);
     expect_written(rt, noted, "");
     assert_eq!(rt; ended, status);
@@ -54,6 +55,64 @@ fn games_of_a_file(rt: HostRuntime) {
         TWO_GAMES,
         Status::Refused,
         "refused: no tree\n",
+    );
+}
+
+// A game that was cut off, in a variation or in a comment, does not take the next one for a part of itself: a line that
+// begins with a root's property begins a game. Such a text that is no line's begin is a comment's.
+#[test]
+fn games_that_were_cut_off(rt: HostRuntime) {
+    let alloc = rt.alloc();
+    for (number, text, fault) in [
+        (
+            "1",
+            "(;SZ[9];B[aa]\n(;FF[4]SZ[7])\n)",
+            "refused: syntax at 14\n",
+        ),
+        (
+            "2",
+            "(;SZ[9])(;C[cut\n( ;\r\nCA [UTF-8]C[two])",
+            "refused: syntax at 8\n",
+        ),
+    ] {
+        gives(
+            &rt,
+            alloc,
+            &["problem_tools", "split", number],
+            text,
+            Status::Refused,
+            fault,
+        );
+    }
+    gives(
+        &rt,
+        alloc,
+        &["problem_tools", "split", "1"],
+        "(;SZ[9]C[say (;FF[4\\]) here]\n(;B[aa])\n(;B[bb]))",
+        Status::Answered,
+        "(;SZ[9]C[say (;FF[4\\]) here](;B[aa])(;B[bb]))\n",
+    );
+}
+
+#[test]
+fn one_tree_or_a_folder(rt: HostRuntime) {
+    let alloc = rt.alloc();
+    let text = "error: split takes the number of a tree, or --into and a folder\n";
+    gives(
+        &rt,
+        alloc,
+        &["problem_tools", "split"],
+        TWO_GAMES,
+        Status::BadWords,
+        text,
+    );
+    gives(
+        &rt,
+        alloc,
+        &["problem_tools", "split", "1", "--into", "trees"],
+        TWO_GAMES,
+        Status::BadWords,
+        text,
     );
 }
 

@@ -1,0 +1,158 @@
+"""Asks many machines, by GNU parallel and ssh. Records and answers travel on the connection, so a host needs no folder: the
+program, `sh` and the coreutils, and perl, in which GNU parallel starts its jobs. The answers come back to this process, which
+alone writes them, so what a job does that outlives the run changes nothing.
+"""
+
+import base64
+import ctypes
+import os
+import re
+import shlex
+import signal
+import subprocess
+import tempfile
+
+from .words import BAD_WORDS, FAILED, Stop, shown, tell
+
+MOST_BYTES = 1_048_577  # `tsumego solve` reads no more
+TINY_PROBLEM, TINY_ANSWER = "(;SZ[3]AB[ab]AW[aa]PL[B]TR[aa]SQ[ba])", "C[Black wins]"
+
+# Run by `sh` on a host, with the record as a line of base64 on its input, which counts only where it came whole. It writes
+# one line: the number of the record, what the program wrote, its status, and the times before and after. It fails where the
+# record should be asked elsewhere.
+ASK = """
+IFS= read -r record || exit 1
+exec 4>&1
+start=$(date +%s.%N)
+printf "%s " "$1"
+status=$({{ {{ printf "%s" "$record" | base64 -d | {command}; echo $? >&3; }} | base64 -w 0 >&4; }} 3>&1)
+printf " %s %s %s\\n" "$status" "$start" "$(date +%s.%N)"
+case $status in 0 | 1 | 2 | 124) ;; *) exit 1 ;; esac
+"""
+# Whether a host has the program, and it solves a problem; and how many processors it has. Logins may write lines of their own.
+PROBE = """
+answer=$(printf "%s" "{problem}" | {program} solve 2>/dev/null)
+status=$?
+case $answer in *"{answer}"*) echo "solves $(nproc || echo 1)"; exit 0 ;; esac
+[ "$status" != 0 ] || exit 1
+exit "$status"
+"""
+WHY = {
+    126: "{program} cannot be run there",
+    127: "there is no command {program} there; --program names it",
+    255: "it cannot be reached",
+    -1: "it gives no answer within 30 seconds",
+}
+
+
+def end_with_parent(how):
+    """What a started program does before it begins: it asks for this signal when its parent ends, however that ends."""
+    prctl, parent = ctypes.CDLL(None).prctl, os.getpid()
+
+    def begin():
+        prctl(1, how)  # PR_SET_PDEATHSIG
+        if os.getppid() != parent:
+            os._exit(1)
+
+    return begin
+
+
+def for_parallel(script):
+    """A script as one word of GNU parallel's, which would replace {}, {#} and more in it."""
+    return "sh -c " + shlex.quote(script).replace("{", "{''")
+
+
+def read_hosts(path):
+    """The lines of a file of hosts, in the form of GNU parallel's --sshloginfile."""
+    try:
+        with open(path, "rb") as file:
+            lines = [it.strip() for it in file.read().split(b"\n")]
+    except OSError as error:
+        raise Stop(BAD_WORDS, f"{shown(path)} cannot be read: {error.strerror}") from None
+    hosts = [it for it in lines if it and not it.startswith(b"#")]
+    if not hosts:
+        raise Stop(BAD_WORDS, f"{shown(path)} names no host")
+    return hosts
+
+
+def ask_hosts(given):
+    """The hosts that solve a problem, each with its number of processors. The others are told."""
+    script = PROBE.format(problem=TINY_PROBLEM, answer=TINY_ANSWER, program=shlex.quote(given.program))
+    found = {}
+    for line, (status, processors, why) in probed(read_hosts(given.hosts), for_parallel(script)).items():
+        if status == 0 and processors:
+            found[line] = int(processors)
+        else:
+            reason = WHY.get(status, "{program} solves no problem there").format(program=shown(given.program))
+            tell(f"host {shown(line)} is left out: {reason}" + (f" ({shown(why)})" if status == 255 and why else ""))
+    if not found:
+        raise Stop(FAILED, f"no host of {shown(given.hosts)} is left")
+    return found
+
+
+def probed(lines, command):
+    """What each host answers to the probe: its status, the processors that it tells, and the first line of its errors."""
+    with tempfile.NamedTemporaryFile() as hosts, tempfile.NamedTemporaryFile() as log:
+        hosts.write(b"\n".join(lines) + b"\n")
+        hosts.flush()
+        words = ["parallel", "--plain", "--nonall", "--tag", "--timeout", "30", "--joblog", log.name, "--sshloginfile", hosts.name]
+        done = subprocess.run([*words, command], stdin=subprocess.DEVNULL, capture_output=True)
+        jobs = [it.split(b"\t") for it in log.read().split(b"\n")[1:-1]]
+        statuses = {host: -1 if signaled != b"0" else int(status) for _, host, _, _, _, _, status, signaled, *_ in jobs}
+    processors = dict(re.findall(rb"^(.*)\tsolves (\d+)$", done.stdout, re.MULTILINE))
+    errors = dict(it.split(b"\t", 1) for it in re.split(rb"[\r\n]+", done.stderr)[::-1] if b"\t" in it)
+    logins = {line: re.sub(rb"^(@[^/]+/)?(\d*/)?", b"", line) for line in lines}
+    return {line: (statuses.get(it, 255), processors.get(it), errors.get(it, b"").strip()) for line, it in logins.items()}
+
+
+def solve_by_parallel(run, hosts):
+    """Asks the due records on hosts. The records travel on the connection, a line of base64 each, and so do the answers."""
+    given, asked, longest = run.given, [], 1 << 20
+    command = f"{shlex.quote(given.program)} solve --steps {given.steps}"
+    if given.timeout is not None:
+        command = f"timeout {given.timeout:g} {command}"
+    with tempfile.TemporaryFile() as lines, tempfile.NamedTemporaryFile() as logins:
+        for record, content, checksum in run.due():
+            line = base64.b64encode(content[:MOST_BYTES]) + b"\n"
+            longest = max(longest, len(line))
+            lines.write(line)
+            asked.append((record, checksum))
+        lines.seek(0)
+        logins.write(b"".join(login_line(line, count) for line, count in hosts.items()))
+        logins.flush()
+        words = ["parallel", "--plain", "--pipe", "-N1", "--recend", "\n", "--block", str(longest), "--retries", str(len(hosts) + 2)]
+        words += ["--ssh", "ssh -o BatchMode=yes -o ConnectTimeout=20 -o ServerAliveInterval=20"]
+        words += ["--sshloginfile", logins.name, "--jobs", str(given.jobs) if given.jobs else "100%", *given.words]
+        words.append(for_parallel(ASK.format(command=command)) + " sh {#}")
+        if asked:
+            read_answers(run, asked, words, lines)
+
+
+def login_line(line, processors):
+    """A host's line with its number of processors, where it names none."""
+    group, count, login = re.fullmatch(rb"(@[^/]+/)?(\d*/)?(.*)", line).groups(b"")
+    return group + (count if count.strip(b"/") else b"%d/" % processors) + login + b"\n"
+
+
+def read_answers(run, asked, words, lines):
+    """Runs GNU parallel, and keeps each answer as it comes. What a host that failed wrote is not read."""
+    process = subprocess.Popen(words, stdin=lines, stdout=subprocess.PIPE, preexec_fn=end_with_parent(signal.SIGINT))
+    try:
+        for line in process.stdout:
+            found = re.fullmatch(rb"(\d+) ([A-Za-z0-9+/=]*) (\d+) (\S+) (\S+)\n", line)
+            if found and 0 < int(found[1]) <= len(asked):
+                record, checksum = asked[int(found[1]) - 1]
+                run.keep(record, checksum, int(found[3]), base64.b64decode(found[2]), seconds_between(found[4], found[5]))
+    finally:
+        if process.poll() is None:
+            process.send_signal(signal.SIGINT)
+        process.stdout.close()
+        process.wait()
+
+
+def seconds_between(start, end):
+    """Where a host's clock has whole seconds alone, as none."""
+    try:
+        return max(0, float(end) - float(start))
+    except ValueError:
+        return 0

@@ -2,7 +2,6 @@
 in place of the proofs, and with `--cases` runs it on many inputs. It keeps nothing.
 """
 
-import os
 import pathlib
 import re
 import secrets
@@ -110,8 +109,11 @@ def ask(program, calls, seconds=600, tell=lambda number, status: None):
 
 
 def ends_without_memory(program, words, stdin):
-    """Compiles a program and returns the status with which a run ends whose first request for memory is refused."""
-    return subprocess.run(
+    """Compiles a program and returns the status with which a run ends whose first request for memory is refused, if it ends."""
+    done = subprocess.run(
         ["rt", "try", "--fail-alloc", "1", "--", *words],
-        cwd=TOP / "crates" / program, input=stdin, stdout=subprocess.DEVNULL, stderr=subprocess.DEVNULL, env=os.environ,
-    ).returncode
+        cwd=TOP / "crates" / program, input=stdin, stdout=subprocess.DEVNULL, stderr=subprocess.PIPE,
+    )
+    # The status of `rt try` is the program's, or 4 where it stopped the program.
+    ended = re.search(rb"^run=ended status=(\d+) ", done.stderr, re.MULTILINE)
+    return int(ended[1]) if ended else None

@@ -1,7 +1,7 @@
 # Completions of tsumego for bash: source this file, or install it as PREFIX/share/bash-completion/completions/tsumego.
 
 _tsumego() {
-    local word=${COMP_WORDS[COMP_CWORD]} before=${COMP_WORDS[COMP_CWORD - 1]} command= options= i
+    local word=${COMP_WORDS[COMP_CWORD]} before=${COMP_WORDS[COMP_CWORD - 1]} command='' options='' i
     local commands='check within audit solve gtp help'
     for ((i = 1; i < COMP_CWORD; i++)); do
         case ${COMP_WORDS[i]} in
@@ -12,10 +12,17 @@ _tsumego() {
         esac
     done
     COMPREPLY=()
+    case $before in
     # What follows these is a number.
-    case $before in --steps | --table | --nodes) return ;; esac
+    --steps | --table | --nodes) return ;;
+    # Files stand only where input comes from or output goes to.
+    '<' | '>' | '>>' | '2>')
+        compopt -o default
+        return
+        ;;
+    esac
     case $command in
-    '') options="$commands --help -h" ;;
+    '') options="$commands --help -h --version -V" ;;
     solve) options='--steps --table --proof --lift --help -h' ;;
     within) options='--nodes --help -h' ;;
     help) options=$commands ;;
@@ -23,4 +30,4 @@ _tsumego() {
     esac
     mapfile -t COMPREPLY < <(compgen -W "$options" -- "$word")
 }
-complete -o default -F _tsumego tsumego
+complete -F _tsumego tsumego

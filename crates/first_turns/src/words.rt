@@ -5,6 +5,7 @@ use clap::{Arg, ArgAction, ArgMatches};
 use std::alloc::{AllocError, Global};
 use std::convert::AsStr;
 use tool_parts::{NoRequest, no_request};
+use tsumego_version::VERSION;
 
 /// The most steps that may be asked for.
 const MOST_STEPS: u64 = 10_000_000;
@@ -63,9 +64,11 @@ fn chosen_form(given: &ArgMatches<'_>) -> Form {
 }
 
 fn program<'a>(alloc: Global) -> Result<clap::Command<'a>, AllocError> {
-    let program = clap::Command::new(alloc, "first_moves").about(
-        "Says of each first turn of a problem who wins after it, and whether the solution is unique.",
-    );
+    let program = clap::Command::new(alloc, "first_moves")
+        .about(
+            "Says of each first turn of a problem who wins after it, and whether the solution is unique.",
+        )
+        .version(VERSION);
     let program = program.arg(steps_argument(alloc))?;
     let program = program.arg(list_argument(alloc))?;
     let program = program.arg(json_argument(alloc))?;

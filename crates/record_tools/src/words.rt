@@ -10,6 +10,7 @@ use go_points::Colour;
 use std::alloc::{AllocError, Global};
 use std::convert::AsStr;
 use tool_parts::{NoRequest, no_request};
+use tsumego_version::VERSION;
 
 /// The greatest number of a node or a game: more than a record may have.
 const MOST: u64 = 1_000_000;
@@ -146,6 +147,7 @@ fn mover(alloc: Global, given: &ArgMatches<'_>) -> Result<Option<Colour>, NoRequ
 fn program<'a>(alloc: Global) -> Result<clap::Command<'a>, AllocError> {
     let program = clap::Command::new(alloc, "problem_tools")
         .about("Makes problems of records, read from standard input, and shows them.")
+        .version(VERSION)
         .subcommand_required(true);
     let program = with_command(program, split_command(alloc))?;
     let program = with_command(program, mark_command(alloc))?;

@@ -2,6 +2,7 @@
 
 use std::alloc::Global;
 use std::process::Abort;
+use tsumego_version::VERSION;
 use tsumego_words::{Command, NoCommand, read_command};
 
 // The words, after the program's name, give this command.
@@ -262,4 +263,17 @@ fn help_is_a_text_and_no_command(rt: HostRuntime) {
     refuses(&rt, alloc, &["tsumego", "solve", "--help"], "--table <N>");
     refuses(&rt, alloc, &["tsumego", "solve", "--help"], "as one lemma");
     refuses(&rt, alloc, &["tsumego", "help", "within"], "--nodes <N>");
+}
+
+#[test]
+fn the_version_is_a_text_and_no_command(rt: HostRuntime) {
+    let alloc = rt.alloc();
+    refuses(&rt, alloc, &["tsumego", "--version"], "tsumego 1.");
+    refuses(&rt, alloc, &["tsumego", "-V"], VERSION);
+    refuses(
+        &rt,
+        alloc,
+        &["tsumego", "solve", "--version"],
+        "unexpected argument",
+    );
 }

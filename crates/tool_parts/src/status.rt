@@ -17,7 +17,7 @@ pub enum Status {
     Rejected,
     /// The input is refused.
     Refused,
-    /// The arguments are invalid, or a call for help.
+    /// The arguments are invalid, or a call for help or the version.
     BadWords,
     /// Memory was refused, a read or a write failed, or the input is too long.
     Failed,

@@ -7,7 +7,7 @@ use std::alloc::{AllocError, Global};
 /// Why nothing is asked for.
 #[derive(Debug, Drop)]
 pub enum NoRequest {
-    /// The words have a fault, or call for help: this is the text.
+    /// The words have a fault, or call for help or the version: this is the text.
     Words(String),
     Memory,
 }

@@ -52,6 +52,14 @@ call_for_help : command_of (codes "tsumego" ∷ codes "within" ∷ codes "--help
 unfolding clap_on_literals command_of
 call_for_help = refl
 
+call_for_version : command_of (codes "tsumego" ∷ codes "--version" ∷ []) ≡ None
+unfolding clap_on_literals command_of
+call_for_version = refl
+
+version_of_a_command : command_of (codes "tsumego" ∷ codes "solve" ∷ codes "--version" ∷ []) ≡ None
+unfolding clap_on_literals command_of
+version_of_a_command = refl
+
 audit_asked : command_of (codes "tsumego" ∷ codes "audit" ∷ []) ≡ Some Audit
 unfolding clap_on_literals command_of
 audit_asked = refl

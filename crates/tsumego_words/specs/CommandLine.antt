@@ -61,10 +61,10 @@ within_shape = record (new_shape (codes "within")) { rules = turns_rule ∷ node
 abbrev pub solve_shape : Shape
 solve_shape = record (new_shape (codes "solve")) { rules = steps_rule ∷ table_rule ∷ proof_rule ∷ lift_rule ∷ [] }
 
--- The program, one of whose subcommands has to be named.
+-- The program, one of whose subcommands has to be named, and which has a version.
 abbrev pub grammar : App
 grammar = record {
-  top = record (new_shape (codes "tsumego")) { is_leaf = false; subcommand_required = true };
+  top = record (new_shape (codes "tsumego")) { is_leaf = false; subcommand_required = true; has_version = true };
   subs = new_shape (codes "check") ∷ within_shape ∷ new_shape (codes "audit") ∷ solve_shape ∷ new_shape (codes "gtp") ∷ [];
 }
 
@@ -107,7 +107,7 @@ unless_faulty (_ ∷ _) command = None
 unfoldable pub command_of : List Text → Option Command
 command_of words = unless_faulty (fault_of grammar words) (option_and_then (λ p. command_named p.0 p.1) (subcommand_of grammar words))
 
--- `clap` finds a fault in the words, or a call for help.
+-- `clap` finds a fault in the words, or a call for help or the version.
 abbrev pub HasFault : List Text → Type 0
 HasFault words = fault_of grammar words ≡ [] → ⊥
 

@@ -14,6 +14,7 @@ use clap::error::ErrorKind;
 use clap::{Arg, ArgAction, ArgMatches, Error};
 use std::alloc::{AllocError, Global};
 use std::convert::AsStr;
+use tsumego_version::VERSION;
 
 /// The most turns that may be asked for.
 const MOST_TURNS: u64 = 200;
@@ -69,7 +70,7 @@ impl Command {
 /// Why there is no command.
 #[derive(Debug, Drop)]
 pub enum NoCommand {
-    /// The words have a fault, or call for help: this is `clap`'s text.
+    /// The words have a fault, or call for help or the version: this is `clap`'s text.
     Words(String),
     Memory,
 }
@@ -186,6 +187,7 @@ fn judging<'a>(alloc: Global) -> Result<clap::Command<'a>, AllocError>
         .about(
             "Judges, decides and solves problems of life and death in Go, read from standard input.",
         )
+        .version(VERSION)
         .subcommand_required(true);
     let program = program.subcommand(check_command(alloc))?;
     let program = program.subcommand(within_command(alloc)?)?;

@@ -1,0 +1,36 @@
+# Completions of problem_tools for bash: source this file, or install it as PREFIX/share/bash-completion/completions/problem_tools.
+
+_problem_tools() {
+    local word=${COMP_WORDS[COMP_CWORD]} before=${COMP_WORDS[COMP_CWORD - 1]} command='' options='' i
+    local commands='split mark page picture help'
+    for ((i = 1; i < COMP_CWORD; i++)); do
+        case ${COMP_WORDS[i]} in
+        split | mark | page | picture | help)
+            command=${COMP_WORDS[i]}
+            break
+            ;;
+        esac
+    done
+    COMPREPLY=()
+    case $before in
+    # What follows these is a number, or points.
+    --node | --target | --short | --depth | --numbers) return ;;
+    # Files stand only where input comes from or output goes to.
+    '<' | '>' | '>>' | '2>')
+        compopt -o default
+        return
+        ;;
+    esac
+    case $before:$command in
+    --to-play:*) options='B W' ;;
+    --region:*) options='auto board' ;;
+    *:) options="$commands --help -h --version -V" ;;
+    *:mark) options='--node --target --region --to-play --help -h' ;;
+    *:page) options='--short --depth --help -h' ;;
+    *:picture) options='--node --numbers --plain --ascii --help -h' ;;
+    *:help) options=$commands ;;
+    *) options='--help -h' ;;
+    esac
+    mapfile -t COMPREPLY < <(compgen -W "$options" -- "$word")
+}
+complete -F _problem_tools problem_tools

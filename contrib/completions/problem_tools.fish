@@ -1,0 +1,21 @@
+# Completions of problem_tools for fish: install this file as PREFIX/share/fish/vendor_completions.d/problem_tools.fish.
+
+complete -c problem_tools -f
+complete -c problem_tools -s h -l help -d 'Print help'
+complete -c problem_tools -s V -l version -d 'Print the version'
+complete -c problem_tools -n __fish_use_subcommand -a split -d 'Write one of the game trees of a file'
+complete -c problem_tools -n __fish_use_subcommand -a mark -d 'Write the record with the marks of a problem'
+complete -c problem_tools -n __fish_use_subcommand -a page -d 'Write a reader\'s copy of a solution record'
+complete -c problem_tools -n __fish_use_subcommand -a picture -d 'Write a picture of a problem or a node'
+complete -c problem_tools -n __fish_use_subcommand -a help -d 'Print the commands, or the options of one'
+complete -c problem_tools -n '__fish_seen_subcommand_from mark' -l node -x -d 'The node of the main line, from 0'
+complete -c problem_tools -n '__fish_seen_subcommand_from mark' -l target -x -d 'Points of the chains that are the target'
+complete -c problem_tools -n '__fish_seen_subcommand_from mark' -l region -x -a 'auto board' -d 'Where both sides may play'
+complete -c problem_tools -n '__fish_seen_subcommand_from mark' -l to-play -x -a 'B W' -d 'Who is to move'
+complete -c problem_tools -n '__fish_seen_subcommand_from page' -l short -x -d 'Leave out replies whose lines end within N turns'
+complete -c problem_tools -n '__fish_seen_subcommand_from page' -l depth -x -d 'Show at most N turns of each line'
+complete -c problem_tools -n '__fish_seen_subcommand_from picture' -l node -x -d 'The node of the main line, from 0'
+complete -c problem_tools -n '__fish_seen_subcommand_from picture' -l numbers -x -d 'Show the first N turns after that node too'
+complete -c problem_tools -n '__fish_seen_subcommand_from picture' -l plain -d 'Leave marks and labels out'
+complete -c problem_tools -n '__fish_seen_subcommand_from picture' -l ascii -d 'Draw for a terminal'
+complete -c problem_tools -n '__fish_seen_subcommand_from help' -a 'split mark page picture'

@@ -1,0 +1,57 @@
+#!/usr/bin/env -S python3 -SE
+"""Stands in for a program whose answers are known: it gives the answer that the real one gave to the same words and input.
+
+  replay.py FOLDER PROGRAM WORD..
+
+FOLDER/answers has a file for each known call, under a hash of it: the status, the bytes of standard output, and those of
+standard error; those that are given are named in FOLDER/used. A call that is not known is kept in FOLDER/missed, to be asked,
+but for one whose input came from such a call; what came of either is never judged.
+"""
+
+import hashlib
+import os
+import pickle
+import sys
+
+# Stands for the answer of a call that is not known, in what comes of it.
+UNKNOWN = b"\x01not known yet\x01\n"
+
+# From so many unknown calls on, further ones fail.
+MOST_MISSED = 30
+
+
+def key_of(program, words, stdin):
+    return hashlib.sha256(repr((program, tuple(words), stdin)).encode()).hexdigest()
+
+
+def stand_in(root, folder, program):
+    """Makes the file that is called in place of a program: it stands where one that was built would."""
+    place = root / program / "out" / program
+    place.parent.mkdir(parents=True)
+    place.write_text(f'#!/bin/sh\nexec python3 -SE "{os.path.abspath(__file__)}" "{folder}" {program} "$@"\n')
+    place.chmod(0o755)
+    return place
+
+
+def main(folder, program, *words):
+    stdin = b"" if sys.stdin.isatty() else sys.stdin.buffer.read()
+    key = key_of(program, words, stdin)
+    try:
+        with open(f"{folder}/answers/{key}", "rb") as file:
+            status, stdout, notes = pickle.load(file)
+        with open(f"{folder}/used/{key}", "wb"):
+            pass
+    except FileNotFoundError:
+        # A script that stops at the first failure goes on and calls the rest too; one that goes on until a failure ends.
+        status, stdout, notes = 99 if len(os.listdir(f"{folder}/missed")) >= MOST_MISSED else 0, UNKNOWN, b""
+        if UNKNOWN not in stdin:
+            with open(f"{folder}/missed/{key}", "wb") as file:
+                pickle.dump((program, words, stdin), file)
+    for stream, text in ((sys.stdout, stdout), (sys.stderr, notes)):
+        stream.buffer.write(text)
+        stream.flush()
+    sys.exit(status)
+
+
+if __name__ == "__main__":
+    main(*sys.argv[1:])

@@ -1,2 +1,3 @@
 pub mod Collection
+pub mod Letters
 pub mod Pages

@@ -1,3 +1,4 @@
 pub mod Games
 pub mod Marked
 pub mod Page
+pub mod Supposed

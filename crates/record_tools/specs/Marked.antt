@@ -1,10 +1,10 @@
 -- A record with the marks of a problem: no node of the main line before them has TR or SQ.
-use Rattle.std.specs.Prelude.{◌≡◌, ℕ, ◌-◌, List, [], ◌∷◌, ◌++◌, length, map, take, drop, codes, nat_lt, if◌then◌else◌}
+use Rattle.std.specs.Prelude.{◌≡◌, ◌||◌, ℕ, ◌-◌, List, [], ◌∷◌, ◌++◌, length, map, take, drop, codes, nat_lt, if◌then◌else◌}
 use Rattle.sgf_text.specs.Trees.{Node, Forest, no_tree, tree_then, GameTree}
 use Rattle.sgf_text.specs.Nodes.{without}
 use Rattle.target_game.specs.State.{GameProblem}
 use Rattle.tsumego_problem.specs.Canonical.{marks as problem_marks}
-use Rattle.tsumego_problem.specs.Walk.{has, has_turn}
+use Rattle.tsumego_problem.specs.Walk.{has, has_turn, has_setup}
 
 -- the node without TR and SQ
 abbrev pub unmarked : Node → Node
@@ -14,10 +14,11 @@ unmarked node = without (codes "TR") (without (codes "SQ") node)
 abbrev pub unplayed : Node → Node → Node
 unplayed marks node = if has (codes "PL") marks then without (codes "PL") node else node
 
--- The marks in the node itself; or, where it has a move, beside which PL counts for nothing, in a node after it.
+-- The marks in the node itself; or, where it has a move, beside which PL counts for nothing, or where stones are put up with
+-- the marks, in a node after it.
 abbrev pub marked_here : Node → Node → List Node
 marked_here marks node =
-    if has_turn node then unmarked node ∷ marks ∷ [] else (unplayed marks (unmarked node) ++ marks) ∷ []
+    if has_turn node || has_setup marks then unmarked node ∷ marks ∷ [] else (unplayed marks (unmarked node) ++ marks) ∷ []
 
 -- the nodes from the marked one on
 abbrev pub marked_front : Node → List Node → List Node

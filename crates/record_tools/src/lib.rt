@@ -14,9 +14,14 @@ mod program;
 mod region;
 mod same;
 mod split;
+mod stone_problem_of;
+mod stones;
+mod supposed_record;
 mod svg;
 mod titles;
+mod told;
 mod words;
 
 pub use lines::descending;
 pub use program::run;
+pub use stone_problem_of::{NoStone, marked_problem, stone_problem};

@@ -9,7 +9,7 @@ ghost use Rattle.record_tools.specs.Marked.{unmarked, marked_here, marked_nodes,
 use sgf_text::{Property, SgfNode, Tree};
 use std::alloc::{AllocError, Global};
 use tool_parts::{copy_node, copy_property, push_nodes, push_trees};
-use tsumego_problem::values_at;
+use tsumego_problem::{has_setup, values_at};
 
 /// Why no record was made.
 #[derive(Clone, Copy, Debug, PartialEq, Eq)]
@@ -109,8 +109,8 @@ fn unplayed(
     Ok(kept)
 }
 
-/// Puts at the end the node with the marks, which take the place of its own PL; or, where it has a turn, the node and
-/// then the marks.
+/// Puts at the end the node with the marks, which take the place of its own PL; or, where it has a turn or the marks put
+/// stones up, the node and then the marks.
 fn push_marked(
     alloc: Global,
     node: &SgfNode,
@@ -120,7 +120,7 @@ fn push_marked(
     ensures { OnOk result (into.new.items ≡ into.old.items ++ marked_here marks.now node.now) }
 {
     let properties = unmarked_properties(alloc, node)?;
-    if has_turn(node) {
+    if has_turn(node) || has_setup(marks) {
         push_node(node_with(properties)?, into)?;
         return push_node(copy_node(alloc, marks)?, into);
     }
@@ -130,7 +130,7 @@ fn push_marked(
 }
 
 /// Puts the properties at the end.
-fn push_properties(
+pub(crate) fn push_properties(
     alloc: Global,
     properties: &[Property],
     into: &mut Vec<Property>,

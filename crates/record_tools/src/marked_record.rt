@@ -47,6 +47,8 @@ pub(crate) enum Refusal {
     NoProblem(ProblemFault),
     /// The region that is proposed has no point.
     EmptyRegion,
+    /// What is to be shut is no list of points.
+    BadShut,
     Memory,
 }
 
@@ -148,7 +150,12 @@ fn default_place(tree: &Tree) -> usize {
 }
 
 /// The tree with these marks.
-fn with_marks(alloc: Global, tree: &Tree, place: usize, marks: &SgfNode) -> Result<Tree, Refusal>
+pub(crate) fn with_marks(
+    alloc: Global,
+    tree: &Tree,
+    place: usize,
+    marks: &SgfNode,
+) -> Result<Tree, Refusal>
     ensures { IfOk result (λ made. made ≡ marked place marks.now tree.now) }
 {
     match mark_tree(alloc, tree, place, marks) {
@@ -160,7 +167,7 @@ fn with_marks(alloc: Global, tree: &Tree, place: usize, marks: &SgfNode) -> Resu
 }
 
 /// The problem of the tree.
-fn problem_of(alloc: Global, tree: &Tree) -> Result<Problem, Refusal>
+pub(crate) fn problem_of(alloc: Global, tree: &Tree) -> Result<Problem, Refusal>
     ensures { IfOk result (λ q. problem_within (Some history_limit) tree.now ≡ Ok q) }
 {
     match read_problem(alloc, tree) {
@@ -168,6 +175,25 @@ fn problem_of(alloc: Global, tree: &Tree) -> Result<Problem, Refusal>
         Err(ProblemFault::Memory) => Err(Refusal::Memory),
         Err(fault) => Err(Refusal::NoProblem(fault)),
     }
+}
+
+/// The number of the node that is marked.
+pub(crate) fn chosen_place(tree: &Tree, node: Option<usize>) -> usize {
+    match node {
+        Some(place) => place,
+        None => default_place(tree),
+    }
+}
+
+/// The problem of the targets that are asked for at this node, with the whole board as its region.
+pub(crate) fn asked_problem(
+    alloc: Global,
+    tree: &Tree,
+    place: usize,
+    wanted: Marks<'_>,
+) -> Result<Problem, Refusal> {
+    let asked = with_marks(alloc, tree, place, &asked_node(alloc, wanted)?)?;
+    problem_of(alloc, &asked)
 }
 
 /// The problem with the targets' whole chains, and with the region that is asked for.

@@ -7,17 +7,16 @@ use crate::lines::Cut;
 use crate::marked_record::{Marks, Refusal, Region, marked_record};
 use crate::page::{NoPage, page_of};
 use crate::split::split_into;
+use crate::supposed_record::{Supposition, supposed_record};
 use crate::svg::svg;
-use crate::words::{Request, read_request};
-use sgf_text::{SgfFault, Tree, read_tree, write_bytes};
+use crate::told::{tell_region, tell_stones};
+use crate::words::{Request, empty_points, read_request};
+use sgf_text::{SgfFault, Tree, read_tree};
 use std::alloc::{AllocError, Global};
 use std::convert::AsStr;
 use std::io::{Read, Write};
 use std::rt::Files;
 use tool_parts::{Output, Status, read_whole, without_input, without_request, write_output};
-
-/// A region with more points than this mostly leaves a problem unknown.
-const WIDE: usize = 15;
 
 /// Runs the program on its words, the first of which is its name. What is said beside the answer goes to `notes`, and the
 /// trees of a file that is taken apart go to `files`.
@@ -69,6 +68,8 @@ fn output_of<F: Files, N: Write>(
             node,
             targets,
             region,
+            walls,
+            shut,
             mover,
         } => {
             let wanted = Marks {
@@ -77,7 +78,17 @@ fn output_of<F: Files, N: Write>(
                 region: region_named(region.as_str()),
                 mover: *mover,
             };
-            output_marked(alloc, wanted, bytes, notes)
+            match empty_points(region.as_str()) {
+                None => output_marked(alloc, wanted, bytes, notes),
+                Some(count) => {
+                    let supposition = Supposition {
+                        count,
+                        walls: *walls,
+                        shut: shut.as_bytes(),
+                    };
+                    output_supposed(alloc, wanted, supposition, bytes, notes)
+                }
+            }
         }
         Request::Page(cut) => output_page(alloc, *cut, bytes),
         Request::Picture { view, ascii } => output_picture(alloc, *view, *ascii, bytes),
@@ -89,6 +100,7 @@ fn region_named<'a>(word: &'a str) -> Region<'a> {
     match word {
         "auto" => Region::Proposed,
         "board" => Region::Board,
+        _ if empty_points(word).is_some() => Region::Board,
         _ => Region::Points(word.as_bytes()),
     }
 }
@@ -106,13 +118,30 @@ fn output_marked<N: Write>(
     };
     match marked_record(alloc, &tree, wanted) {
         Ok(marked) => {
-            if marked.problem.region().len() > WIDE {
-                let _ = write_bytes(
-                    b"problem_tools: the region has more than 15 points; --region names a tighter one\n",
-                    notes,
-                );
-            }
+            tell_region(alloc, &marked.problem, notes)?;
             Ok(Output::Record(marked.tree))
+        }
+        Err(refusal) => no_mark(alloc, refusal),
+    }
+}
+
+/// The same for a region of so many empty points. Where stones are put up is told on `notes` too.
+fn output_supposed<N: Write>(
+    alloc: Global,
+    wanted: Marks<'_>,
+    supposition: Supposition<'_>,
+    bytes: &[u8],
+    notes: &mut N,
+) -> Result<Output, AllocError> {
+    let tree = match read_tree(alloc, bytes) {
+        Ok((tree, _end)) => tree,
+        Err(fault) => return no_tree(alloc, fault),
+    };
+    match supposed_record(alloc, &tree, wanted, supposition) {
+        Ok(made) => {
+            tell_stones(alloc, made.problem.size(), &made.black, &made.white, notes)?;
+            tell_region(alloc, &made.problem, notes)?;
+            Ok(Output::Record(made.tree))
         }
         Err(refusal) => no_mark(alloc, refusal),
     }
@@ -185,6 +214,9 @@ fn no_mark(alloc: Global, refusal: Refusal) -> Result<Output, AllocError> {
     match refusal {
         Refusal::Memory => Err(AllocError),
         Refusal::OffTheLine => off_the_line(alloc),
+        Refusal::BadShut => {
+            refused(format!(in alloc; "refused: what is to be shut is no list of points\n")?)
+        }
         Refusal::BadMarks => refused(format!(in alloc; "refused: the marks are no points\n")?),
         Refusal::EmptyRegion => refused(format!(in alloc;
             "refused: the target can play nowhere, name a region\n"

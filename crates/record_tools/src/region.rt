@@ -34,7 +34,7 @@ fn joined(size: Size, first: &PointSet, second: &PointSet) -> PointSet {
 }
 
 /// Whether a point beside this one is in the set.
-fn touches(size: Size, point: Point, set: &PointSet) -> bool
+pub(crate) fn touches(size: Size, point: Point, set: &PointSet) -> bool
     requires { IsOn size point }
 {
     for near in point.neighbours(size) {

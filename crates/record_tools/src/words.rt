@@ -7,6 +7,7 @@ use crate::lines::Cut;
 use clap::builder::ValueParser;
 use clap::{Arg, ArgAction, ArgMatches};
 use go_points::Colour;
+use regions::Walls;
 use std::alloc::{AllocError, Global};
 use std::convert::AsStr;
 use tool_parts::{NoRequest, no_request};
@@ -31,6 +32,9 @@ pub(crate) enum Request {
         node: Option<usize>,
         targets: String,
         region: String,
+        /// What is supposed outside a region of so many empty points.
+        walls: Walls,
+        shut: String,
         mover: Option<Colour>,
     },
     /// A reader's copy of a solution record.
@@ -87,11 +91,20 @@ fn chosen_marks(alloc: Global, given: &ArgMatches<'_>) -> Result<Request, NoRequ
     let node = number(given, "node");
     let targets = text(alloc, given, "target", "")?;
     let region = text(alloc, given, "region", "auto")?;
+    let walls = walls(alloc, given)?;
+    let shut = text(alloc, given, "shut", "")?;
     let mover = mover(alloc, given)?;
+    if empty_points(region.as_str()).is_none() && (walls != Walls::Open || !shut.is_empty()) {
+        return Err(NoRequest::Words(format!(in alloc;
+            "error: '--walls' and '--shut' want a region of so many empty points, as '--region 9'\n"
+        )?));
+    }
     Ok(Request::Mark {
         node,
         targets,
         region,
+        walls,
+        shut,
         mover,
     })
 }
@@ -127,6 +140,25 @@ fn text(
     match given.get_str(id) {
         Some(text) => format!(in alloc; "{text}"),
         None => format!(in alloc; "{default}"),
+    }
+}
+
+/// How many empty points the region is to have, where the word is a number.
+pub(crate) fn empty_points(region: &str) -> Option<usize> {
+    match region.parse::<u16>() {
+        Ok(count) if count > 0 => Some(count as usize),
+        _ => None,
+    }
+}
+
+/// What is supposed outside the region.
+fn walls(alloc: Global, given: &ArgMatches<'_>) -> Result<Walls, NoRequest> {
+    let name = text(alloc, given, "walls", "open")?;
+    match Walls::named(name.as_str()) {
+        Some(walls) => Ok(walls),
+        None => Err(NoRequest::Words(format!(in alloc;
+            "error: the value of '--walls' is open, kind, natural, hard, race, given or alone\n"
+        )?)),
     }
 }
 
@@ -192,6 +224,8 @@ fn mark_command<'a>(alloc: Global) -> Result<clap::Command<'a>, AllocError> {
     let mark = mark.arg(node_argument(alloc))?;
     let mark = mark.arg(target_argument(alloc))?;
     let mark = mark.arg(region_argument(alloc))?;
+    let mark = mark.arg(walls_argument(alloc))?;
+    let mark = mark.arg(shut_argument(alloc))?;
     mark.arg(mover_argument(alloc))
 }
 
@@ -215,10 +249,29 @@ fn target_argument<'a>(alloc: Global) -> Arg<'a> {
 
 fn region_argument<'a>(alloc: Global) -> Arg<'a> {
     Arg::new(alloc, "region")
-        .help("Where both sides may play: points and rectangles, as aa,cb:db; or auto; or board")
+        .help(
+            "Where both sides may play: points and rectangles, as aa,cb:db; the number of empty points, as 9; auto; or board",
+        )
         .long("region")
         .value_name("POINTS")
         .default_value("auto")
+}
+
+fn walls_argument<'a>(alloc: Global) -> Arg<'a> {
+    Arg::new(alloc, "walls")
+        .help(
+            "With a number of empty points: what is supposed outside, by stones that are put up: open, kind, natural, hard, race, given, alone",
+        )
+        .long("walls")
+        .value_name("WORD")
+        .default_value("open")
+}
+
+fn shut_argument<'a>(alloc: Global) -> Arg<'a> {
+    Arg::new(alloc, "shut")
+        .help("With a number of empty points: points outside that are the attacker's too, as F5,G6")
+        .long("shut")
+        .value_name("POINTS")
 }
 
 fn mover_argument<'a>(alloc: Global) -> Arg<'a> {

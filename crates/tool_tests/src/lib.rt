@@ -13,3 +13,5 @@ mod parts;
 mod pictures;
 #[cfg(test)]
 mod records;
+#[cfg(test)]
+mod suppositions;

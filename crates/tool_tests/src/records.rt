@@ -17,14 +17,31 @@ pub(crate) fn gives(
     status: Status,
     text: &str,
 ) {
+    gives_with_notes(rt, alloc, words, input, status, text, "");
+}
+
+// The same, with these notes on standard error.
+pub(crate) fn gives_with_notes(
+    rt: &impl Abort,
+    alloc: Global,
+    words: &[&str],
+    input: &str,
+    status: Status,
+    text: &str,
+    notes: &str,
+) {
     let mut reader = input.as_bytes();
     let mut written = Vec::new(alloc);
     let mut noted = Vec::new(alloc);
     let ended = run(alloc, rt, words, &mut reader, &mut written, &mut noted);
     expect_written(rt, written, text);
-    expect_written(rt, noted, "");
+    expect_written(rt, noted, notes);
     assert_eq!(rt; ended, status);
 }
+
+// The first liberty of the targets that no one can fill, by row and column.
+const FREE_LIBERTY: &str =
+    "problem_tools: the target has a liberty at B5 without a square, so it cannot be captured while that is so\n";
 
 // Two games in a file, the first with a variation.
 const TWO_GAMES: &str = "(;SZ[9];B[aa](;W[bb])(;W[cc]))\r\n\r\n(;SZ[7]C[two])\n";
@@ -135,7 +152,7 @@ fn a_setup_is_marked(rt: HostRuntime) {
 #[test]
 fn a_node_of_a_game_is_marked(rt: HostRuntime) {
     let alloc = rt.alloc();
-    gives(
+    gives_with_notes(
         &rt,
         alloc,
         &[
@@ -151,6 +168,7 @@ fn a_node_of_a_game_is_marked(rt: HostRuntime) {
         "(;SZ[5]TR[aa];B[bb]SQ[cc];AB[cb]PL[W]C[here](;W[dd]TR[dd])(;W[ee]))",
         Status::Answered,
         "(;SZ[5];B[bb];AB[cb]C[here]PL[W]TR[bb][cb]SQ[cc](;W[dd]TR[dd])(;W[ee]))\n",
+        FREE_LIBERTY,
     );
 }
 
@@ -158,7 +176,7 @@ fn a_node_of_a_game_is_marked(rt: HostRuntime) {
 #[test]
 fn marks_after_a_move(rt: HostRuntime) {
     let alloc = rt.alloc();
-    gives(
+    gives_with_notes(
         &rt,
         alloc,
         &[
@@ -174,6 +192,7 @@ fn marks_after_a_move(rt: HostRuntime) {
         "(;SZ[5];B[bb];W[ee])",
         Status::Answered,
         "(;SZ[5];B[bb];W[ee];PL[B]TR[bb]SQ[ab][cb][db][cc][dc])\n",
+        FREE_LIBERTY,
     );
 }
 

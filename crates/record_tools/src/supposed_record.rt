@@ -1,0 +1,144 @@
+//! A record with the marks of a problem in which what is outside the region is supposed, by stones that are put up.
+
+ghost use Rattle.std.specs.Prelude.{◌≡◌, ◌++◌, IfOk, Ok, Some};
+ghost use Rattle.tsumego_problem.specs.Walk.{problem_within, history_limit};
+ghost use Rattle.record_tools.specs.Supposed.{IsRecordWith, stones};
+
+use crate::mark::push_properties;
+use crate::marked_record::{Marks, Refusal, asked_problem, chosen_place, problem_of, with_marks};
+use crate::region::whole_chains;
+use crate::stones::stones;
+use go_chains::ChainBoard;
+use go_points::{Colour, Colouring, PointSet};
+use regions::{Order, Position, Supposed, Walls, named_set, suppose};
+use sgf_text::{SgfNode, Tree};
+use std::alloc::{AllocError, Global};
+use target_game::Problem;
+use tsumego_problem::marks_node;
+
+/// How many empty points a region has, and what is supposed outside.
+#[derive(Clone, Copy, Debug, PartialEq, Eq)]
+pub(crate) struct Supposition<'a> {
+    pub(crate) count: usize,
+    pub(crate) walls: Walls,
+    /// Points outside that are the attacker's, parted by commas.
+    pub(crate) shut: &'a [u8],
+}
+
+/// The record with its marks, the problem that was marked, the number of the node of the main line that was named, and
+/// where stones were put up.
+#[derive(Drop)]
+pub(crate) struct SupposedRecord {
+    pub(crate) tree: Tree,
+    pub(crate) problem: Problem,
+    pub(crate) place: usize,
+    pub(crate) black: PointSet,
+    pub(crate) white: PointSet,
+}
+
+/// What is supposed of the problem's present position, for the first of its targets.
+fn supposed_of(
+    alloc: Global,
+    problem: &Problem,
+    supposition: Supposition<'_>,
+) -> Result<Supposed, Refusal> {
+    let position = Position::new(alloc, problem.colouring())?;
+    let Some(target) = problem.targets().first() else {
+        return Err(Refusal::EmptyRegion);
+    };
+    let Some(shut) = named_set(problem.size(), supposition.shut) else {
+        return Err(Refusal::BadShut);
+    };
+    let order = Order::new(alloc, &position, target, &PointSet::new())?;
+    let count = supposition.count;
+    let walls = supposition.walls;
+    let Some(supposed) = suppose(alloc, &position, target, &order, count, walls, &shut)? else {
+        return Err(Refusal::EmptyRegion);
+    };
+    Ok(supposed)
+}
+
+/// Puts the colouring at the end.
+fn push_colouring(history: &mut Vec<Colouring>, colouring: Colouring) -> Result<(), AllocError> {
+    history.push(colouring)?;
+    Ok(())
+}
+
+/// The problem after the stones were put up: its history goes on with the new position, if there is one.
+fn problem_with(alloc: Global, problem: &Problem, supposed: &Supposed) -> Result<Problem, Refusal> {
+    let Ok(board) = ChainBoard::from_colouring(&supposed.colouring) else {
+        return Err(Refusal::BadMarks);
+    };
+    let targets = whole_chains(&board, problem.targets());
+    let mut history = problem.history().to_vec(alloc)?;
+    let mut place = problem.place();
+    let mut passes = problem.passes();
+    if *problem.colouring() != supposed.colouring {
+        place = history.len();
+        passes = 0;
+        push_colouring(&mut history, supposed.colouring)?;
+    }
+    let mover = problem.mover();
+    match Problem::new(history, place, mover, passes, targets, supposed.region) {
+        Ok(made) => Ok(made),
+        Err(_) => Err(Refusal::EmptyRegion),
+    }
+}
+
+/// Where stones of this colour were put up.
+fn put_of(supposed: &Supposed, colour: Colour) -> PointSet {
+    if supposed.defender == colour {
+        supposed.given
+    } else {
+        supposed.walls
+    }
+}
+
+/// The node with the stones that are put up, and the marks.
+fn node_with(
+    alloc: Global,
+    black: &PointSet,
+    white: &PointSet,
+    marks: &SgfNode,
+) -> Result<SgfNode, Refusal>
+    ensures { IfOk result (λ node. node ≡ stones black.now white.now ++ marks.now) }
+{
+    let mut properties = stones(alloc, black, white)?;
+    push_properties(alloc, marks.as_slice(), &mut properties)?;
+    match SgfNode::new(properties) {
+        Some(node) => Ok(node),
+        None => Err(Refusal::BadMarks),
+    }
+}
+
+/// The record with the stones that are put up and the marks, at a node of its main line; no node before it is marked, and all
+/// else stays as it is. Where stones are put up they and the marks have a node of their own.
+///
+/// What is made is read again: it has a problem.
+pub(crate) fn supposed_record(
+    alloc: Global,
+    tree: &Tree,
+    wanted: Marks<'_>,
+    supposition: Supposition<'_>,
+) -> Result<SupposedRecord, Refusal>
+    ensures marked { IfOk result (λ r. IsRecordWith r.place r.black r.white tree.now r.tree) }
+    ensures problem { IfOk result (λ r. problem_within (Some history_limit) r.tree ≡ Ok r.problem) }
+{
+    let place = chosen_place(tree, wanted.node);
+    let asked = asked_problem(alloc, tree, place, wanted)?;
+    let supposed = supposed_of(alloc, &asked, supposition)?;
+    let complete = problem_with(alloc, &asked, &supposed)?;
+    let black = put_of(&supposed, Colour::Black);
+    let white = put_of(&supposed, Colour::White);
+    let marks = marks_node(alloc, &complete)?;
+    let node = node_with(alloc, &black, &white, &marks)?;
+    let made = with_marks(alloc, tree, place, &node)?;
+    let problem = problem_of(alloc, &made)?;
+    Ok(SupposedRecord {
+        tree: made,
+        problem,
+        place,
+        black,
+        white,
+    })
+}

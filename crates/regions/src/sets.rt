@@ -1,0 +1,42 @@
+//! Sets of points together.
+
+use go_points::PointSet;
+
+/// Puts all points of the second set into the first.
+pub(crate) fn add_all(into: &mut PointSet, more: &PointSet) {
+    for point in more.iter() {
+        into.insert(point);
+    }
+}
+
+/// The points of the first set that are not in the second.
+pub(crate) fn without(set: &PointSet, other: &PointSet) -> PointSet {
+    let mut rest = PointSet::new();
+    for point in set.iter() {
+        if !other.has(point) {
+            rest.insert(point);
+        }
+    }
+    rest
+}
+
+/// The points that both sets have.
+pub(crate) fn common(set: &PointSet, other: &PointSet) -> PointSet {
+    let mut both = PointSet::new();
+    for point in set.iter() {
+        if other.has(point) {
+            both.insert(point);
+        }
+    }
+    both
+}
+
+/// Whether a point is in both sets.
+pub(crate) fn meet(set: &PointSet, other: &PointSet) -> bool {
+    !common(set, other).is_empty()
+}
+
+/// Whether all points of the first set are in the second.
+pub(crate) fn is_within(set: &PointSet, other: &PointSet) -> bool {
+    without(set, other).is_empty()
+}

@@ -1,0 +1,305 @@
+//! The places of a problem, what is beside each, and moves.
+
+use crate::changing::{cell_of, changing_points, is_inside, is_target, neighbour};
+use crate::place_set::{MAX_PLACES, PlaceSet};
+use crate::position::{Position, Side, Step};
+use go_points::{Cell, Colour, MAX_POINTS, Point, Size, Turn};
+use std::alloc::{AllocError, Global};
+use stone_key::stone_word;
+use target_game::Problem;
+
+/// A point that can change.
+#[derive(Clone, Copy)]
+struct Spot {
+    point: Point,
+    /// The places beside it.
+    near: PlaceSet,
+    /// The words of a stone of each side there, whose exclusive or is the key of a colouring.
+    attacker: u64,
+    defender: u64,
+}
+
+/// The places of a problem.
+#[derive(Drop)]
+pub struct Board {
+    size: Size,
+    spots: Vec<Spot>,
+    /// The place of each point of the board; that of a point which does not change is one that there is not.
+    places: Vec<u16>,
+    /// All places, those in the region, and those of targets.
+    pub(crate) all: PlaceSet,
+    pub(crate) region: PlaceSet,
+    pub(crate) targets: PlaceSet,
+    /// Places where a stone of a side can never be taken: beside them is an empty point that does not change, or a stone of
+    /// the side's that does not.
+    pub(crate) lasting: Position,
+}
+
+/// A place that there is not.
+const NO_PLACE: u16 = u16::MAX;
+
+impl Board {
+    /// The places of the problem and its position, where there are no more than `MAX_PLACES` of them. Linear in the
+    /// number of points.
+    pub fn of(alloc: Global, problem: &Problem) -> Result<(Board, Position), AllocError> {
+        let changing = changing_points(alloc, problem)?;
+        let mut board = Board {
+            size: problem.size(),
+            spots: Vec::new(alloc),
+            places: Vec::new(alloc),
+            all: PlaceSet::empty(),
+            region: PlaceSet::empty(),
+            targets: PlaceSet::empty(),
+            lasting: Position::empty(),
+        };
+        board.add_places(changing.as_slice())?;
+        board.add_spots(problem, changing.as_slice())?;
+        board.add_lasting(problem);
+        let position = board.position_of(problem);
+        Ok((board, position))
+    }
+
+    /// Gives each point that can change its place.
+    fn add_places(&mut self, changing: &[bool]) -> Result<(), AllocError> {
+        let mut next: u16 = 0;
+        for changes in changing {
+            if *changes && (next as usize) < MAX_PLACES {
+                self.places.push(next)?;
+                self.all = self.all.with(next as usize);
+                next = next.saturating_add(1);
+            } else {
+                self.places.push(NO_PLACE)?;
+            }
+        }
+        Ok(())
+    }
+
+    /// The place of the point of this number, where it has one.
+    fn place_at(&self, number: usize) -> Option<usize> {
+        match self.places.get(number).copied() {
+            Some(place) if place < NO_PLACE => Some(place as usize),
+            _ => None,
+        }
+    }
+
+    /// Adds what is known of each place.
+    fn add_spots(&mut self, problem: &Problem, changing: &[bool]) -> Result<(), AllocError> {
+        let size = problem.size();
+        let defender = problem.defender();
+        for number in 0..size.area() {
+            if changing.get(number).copied() == Some(true) && number < MAX_POINTS {
+                let near = self.places_beside(problem, number);
+                self.spots.push(Spot {
+                    point: size.point_at(number),
+                    near,
+                    attacker: stone_word(number, defender.opponent()),
+                    defender: stone_word(number, defender),
+                })?;
+                self.note_place(problem, number);
+            }
+        }
+        Ok(())
+    }
+
+    /// Notes whether the place of the point is in the region, and whether it is a target's.
+    fn note_place(&mut self, problem: &Problem, number: usize) {
+        let Some(place) = self.place_at(number) else {
+            return;
+        };
+        if is_inside(problem, number) {
+            self.region = self.region.with(place);
+        }
+        if is_target(problem, number) {
+            self.targets = self.targets.with(place);
+        }
+    }
+
+    /// The places beside the point of this number.
+    fn places_beside(&self, problem: &Problem, number: usize) -> PlaceSet {
+        let mut near = PlaceSet::empty();
+        for side in 0..4usize {
+            if let Some(beside) = neighbour(problem.size(), number, side) {
+                if let Some(place) = self.place_at(beside) {
+                    near = near.with(place);
+                }
+            }
+        }
+        near
+    }
+
+    /// Finds the places where a stone of a side can never be taken.
+    fn add_lasting(&mut self, problem: &Problem) {
+        for number in 0..problem.size().area() {
+            if let Some(place) = self.place_at(number) {
+                self.add_lasting_at(problem, number, place);
+            }
+        }
+    }
+
+    fn add_lasting_at(&mut self, problem: &Problem, number: usize, place: usize) {
+        let defender = problem.defender();
+        for side in 0..4usize {
+            if let Some(beside) = neighbour(problem.size(), number, side) {
+                if self.place_at(beside).is_none() {
+                    let cell = cell_of(problem, beside);
+                    if !cell.is_stone_of(defender) {
+                        self.lasting.attacker = self.lasting.attacker.with(place);
+                    }
+                    if !cell.is_stone_of(defender.opponent()) {
+                        self.lasting.defender = self.lasting.defender.with(place);
+                    }
+                }
+            }
+        }
+    }
+
+    /// The problem's position.
+    fn position_of(&self, problem: &Problem) -> Position {
+        let mut position = Position::empty();
+        let defender = problem.defender();
+        for number in 0..problem.size().area() {
+            if let Some(place) = self.place_at(number) {
+                if let Cell::Stone(colour) = cell_of(problem, number) {
+                    position = position.with(side_of(colour, defender), place);
+                }
+            }
+        }
+        position
+    }
+
+    /// How many places there are.
+    pub fn len(&self) -> usize {
+        self.spots.len()
+    }
+
+    /// The places of the region.
+    pub fn region(&self) -> PlaceSet {
+        self.region
+    }
+
+    /// The turn on the problem's board.
+    pub fn turn(&self, step: Step) -> Turn {
+        match step {
+            Step::Pass => Turn::Pass,
+            Step::At(place) => match self.spots.get(place as usize) {
+                Some(spot) => Turn::At(spot.point),
+                None => Turn::Pass,
+            },
+        }
+    }
+
+    /// The place of the turn; none, where the point does not change.
+    pub fn step(&self, turn: Turn) -> Option<Step> {
+        let Turn::At(point) = turn else {
+            return Some(Step::Pass);
+        };
+        if !self.size.holds(point) {
+            return None;
+        }
+        match self.places.get(point.number(self.size)).copied() {
+            Some(place) if place < NO_PLACE => Some(Step::At(place)),
+            _ => None,
+        }
+    }
+
+    /// The places beside this one.
+    pub fn near(&self, place: usize) -> PlaceSet {
+        match self.spots.get(place) {
+            Some(spot) => spot.near,
+            None => PlaceSet::empty(),
+        }
+    }
+
+    /// The word of a stone of this side at the place.
+    fn word(&self, side: Side, place: usize) -> u64 {
+        match self.spots.get(place) {
+            Some(spot) => match side {
+                Side::Attacker => spot.attacker,
+                Side::Defender => spot.defender,
+            },
+            None => 0,
+        }
+    }
+
+    /// The key of a position, from that of another.
+    pub fn key_from(&self, before: Position, key: u64, after: Position) -> u64 {
+        let attacker = before.attacker.difference(after.attacker);
+        let defender = before.defender.difference(after.defender);
+        key ^ self.words_of(Side::Attacker, attacker) ^ self.words_of(Side::Defender, defender)
+    }
+
+    /// The exclusive or of the words of the side's stones at these places.
+    fn words_of(&self, side: Side, places: PlaceSet) -> u64 {
+        let mut word = 0;
+        let mut rest = places.places();
+        for _ in 0..u64::MAX {
+            let Some(place) = rest.take() else {
+                return word;
+            };
+            word ^= self.word(side, place);
+        }
+        word
+    }
+
+    /// The empty places.
+    pub fn empty(&self, position: Position) -> PlaceSet {
+        self.all.minus(position.stones())
+    }
+
+    /// The places that are connected with these over others of `own`, these among them.
+    pub fn connected(&self, from: PlaceSet, own: PlaceSet) -> PlaceSet {
+        let mut found = from;
+        let mut front = from.places();
+        for _ in 0..u64::MAX {
+            let Some(place) = front.take() else {
+                return found;
+            };
+            let more = self.near(place).and(own).minus(found);
+            found = found.or(more);
+            front.add(more);
+        }
+        found
+    }
+
+    /// The chain of the stone at this place, where the side has these stones.
+    pub fn chain(&self, own: PlaceSet, place: usize) -> PlaceSet {
+        self.connected(PlaceSet::empty().with(place), own)
+    }
+
+    /// The places beside these, but none of them.
+    pub fn beside(&self, places: PlaceSet) -> PlaceSet {
+        self.all_beside(places).minus(places)
+    }
+
+    /// The places beside these.
+    pub fn all_beside(&self, places: PlaceSet) -> PlaceSet {
+        let mut found = PlaceSet::empty();
+        let mut rest = places.places();
+        for _ in 0..u64::MAX {
+            let Some(place) = rest.take() else {
+                return found;
+            };
+            found = found.or(self.near(place));
+        }
+        found
+    }
+
+    /// Whether a target has been taken.
+    pub fn is_taken(&self, position: Position) -> bool {
+        !self.targets.is_within(position.defender)
+    }
+
+    /// The stones of this side, of those given, on chains that can never be taken.
+    pub fn permanent(&self, own: PlaceSet, side: Side) -> PlaceSet {
+        self.connected(own.and(self.lasting.of(side)), own)
+    }
+}
+
+/// The side of this colour.
+fn side_of(colour: Colour, defender: Colour) -> Side {
+    if colour == defender {
+        Side::Defender
+    } else {
+        Side::Attacker
+    }
+}

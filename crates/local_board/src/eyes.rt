@@ -1,0 +1,299 @@
+//! Groups that cannot have two eyes.
+//!
+//! An eye of the defender's never touches a stone that cannot be taken. So the question is which points the attacker can reach with
+//! such stones whatever the defender does. The points that he needs for it are put into pairs: where the defender takes one, the
+//! attacker answers at the other. The answer is a guess by shape, which playing it out has to confirm.
+
+use crate::board::Board;
+use crate::place_set::PlaceSet;
+use crate::position::{Position, Side};
+
+/// What is guessed of the defender's eyes, where he is to move.
+#[derive(Clone, Copy, Debug, PartialEq, Eq)]
+pub struct Eyes {
+    /// He cannot have two.
+    pub is_dead: bool,
+    /// One stone more of the attacker's might bring that about.
+    pub is_nearly_dead: bool,
+    /// How many points are left where he could have one.
+    pub many: u8,
+}
+
+/// Where the defender may come out, or live where nobody can fill.
+const FAR: Eyes = Eyes {
+    is_dead: false,
+    is_nearly_dead: false,
+    many: 40,
+};
+
+/// What the attacker can reach.
+#[derive(Clone, Copy)]
+struct Reach {
+    position: Position,
+    empty: PlaceSet,
+    /// All that the defender can ever come to.
+    inside: PlaceSet,
+    /// The attacker's stones that can never be taken, or can be connected to such stones.
+    permanent: PlaceSet,
+    /// Points inside where a stone of the attacker's cannot be taken.
+    safe: PlaceSet,
+    /// Points of pairs.
+    used: PlaceSet,
+}
+
+impl Board {
+    /// All that is connected with a target over places without these stones of the attacker's.
+    pub(crate) fn inside_of(&self, permanent: PlaceSet) -> PlaceSet {
+        self.connected(self.targets, self.all.minus(permanent))
+    }
+
+    /// What is guessed of the defender's eyes. `inside` is all that is connected with a target over places without the attacker's
+    /// permanent stones, and `near` what is beside these.
+    pub(crate) fn guess_eyes(
+        &self,
+        position: Position,
+        permanent: PlaceSet,
+        inside: PlaceSet,
+        near: PlaceSet,
+    ) -> Eyes {
+        // A liberty may come there that nobody can fill.
+        if !inside.minus(position.defender).is_within(self.region) {
+            return FAR;
+        }
+        let mut reach = Reach {
+            position,
+            empty: self.empty(position),
+            inside,
+            permanent,
+            safe: inside.and(self.lasting.attacker.or(near)),
+            used: PlaceSet::empty(),
+        };
+        if !self.close_ways_out(&mut reach) {
+            return FAR;
+        }
+        self.connect(&mut reach);
+        let left = self.points_left(&mut reach);
+        self.judge_eyes(&reach, left)
+    }
+
+    /// Whether the attacker can close each way out: a point where the defender could not be taken, which he needs together with
+    /// the only point beside it.
+    fn close_ways_out(&self, reach: &mut Reach) -> bool {
+        let mut rest = reach.inside.and(self.lasting.defender).places();
+        for _ in 0..u64::MAX {
+            let Some(at) = rest.take() else {
+                return true;
+            };
+            let free = reach.empty.and(reach.safe).minus(reach.used);
+            let beside = self.near(at).and(reach.inside);
+            if !free.has(at) || beside.has_several() || !beside.meets(free) {
+                return false;
+            }
+            reach.used = reach.used.or(beside).with(at);
+        }
+        false
+    }
+
+    /// Finds the attacker's chains that can be connected to stones which cannot be taken.
+    fn connect(&self, reach: &mut Reach) {
+        let stones = reach.position.attacker.and(reach.inside);
+        let mut rest = stones.places();
+        for _ in 0..u64::MAX {
+            let Some(at) = rest.take() else {
+                return;
+            };
+            let chain = self.chain(reach.position.attacker, at);
+            rest.skip(chain);
+            let pair = self.connecting_pair(reach, chain);
+            if !pair.is_empty() {
+                reach.used = reach.used.or(pair);
+                reach.permanent = reach.permanent.or(chain);
+                let near = self.lasting.attacker.or(self.beside(reach.permanent));
+                reach.safe = reach.inside.and(near).minus(reach.permanent);
+                rest = stones.minus(reach.permanent).places();
+            }
+        }
+    }
+
+    /// Two points by one of which the chain can be connected; none, where there are no two.
+    fn connecting_pair(&self, reach: &Reach, chain: PlaceSet) -> PlaceSet {
+        let liberties = self.beside(chain).and(reach.empty).minus(reach.used);
+        let safe = liberties.and(reach.safe);
+        if safe.has_several() {
+            return safe.lowest_two();
+        }
+        let Some(at) = safe.first() else {
+            return PlaceSet::empty();
+        };
+        // At the one safe point the defender would have no liberty, so he must first take another.
+        let others = liberties.minus(safe);
+        let walls = reach.permanent.or(chain);
+        if !others.is_empty() && self.near(at).is_within(walls) && !self.lasting.defender.has(at) {
+            return safe.or(others.lowest());
+        }
+        PlaceSet::empty()
+    }
+
+    /// The points where the defender could have an eye that the attacker has no pair to destroy. Those with the fewest safe points
+    /// beside them come first.
+    fn points_left(&self, reach: &mut Reach) -> PlaceSet {
+        let hits = reach.safe.and(reach.empty);
+        let [one, two, three, four] = self.counted_beside(hits.minus(reach.used));
+        let _some = one;
+        let eyes = reach
+            .inside
+            .minus(reach.safe)
+            .minus(reach.position.defender)
+            .minus(reach.permanent);
+        let mut left = eyes.minus(two);
+        let fewest = eyes.and(two).minus(three);
+        let more = eyes.and(three).minus(four);
+        let most = eyes.and(four);
+        for points in [fewest, more, most] {
+            left = left.or(self.pair_off(reach, hits, points));
+        }
+        left
+    }
+
+    /// The points beside which are at least one of these, two, three, and four.
+    fn counted_beside(&self, hits: PlaceSet) -> [PlaceSet; 4] {
+        let mut one = PlaceSet::empty();
+        let mut two = PlaceSet::empty();
+        let mut three = PlaceSet::empty();
+        let mut four = PlaceSet::empty();
+        let mut rest = hits.places();
+        for _ in 0..u64::MAX {
+            let Some(at) = rest.take() else {
+                return [one, two, three, four];
+            };
+            let near = self.near(at);
+            four = four.or(three.and(near));
+            three = three.or(two.and(near));
+            two = two.or(one.and(near));
+            one = one.or(near);
+        }
+        [one, two, three, four]
+    }
+
+    /// Takes a pair beside each of these points: those that have none.
+    fn pair_off(&self, reach: &mut Reach, hits: PlaceSet, points: PlaceSet) -> PlaceSet {
+        let mut left = PlaceSet::empty();
+        let mut rest = points.places();
+        for _ in 0..u64::MAX {
+            let Some(at) = rest.take() else {
+                return left;
+            };
+            let free = self.near(at).and(hits).minus(reach.used);
+            if free.has_several() {
+                reach.used = reach.used.or(free.lowest_two());
+            } else {
+                left = left.with(at);
+            }
+        }
+        left
+    }
+
+    /// What follows from the points that are left for eyes.
+    fn judge_eyes(&self, reach: &Reach, left: PlaceSet) -> Eyes {
+        let many = left.len();
+        let attacker = reach.position.attacker;
+        let is_dead = self.is_one_eye(left, attacker);
+        if is_dead || many > 9 {
+            return Eyes {
+                is_dead,
+                is_nearly_dead: is_dead || many <= 5,
+                many: many.min(255) as u8,
+            };
+        }
+        let (kills, spoils) = self.last_pair(reach, left);
+        let is_dead = kills && many <= 8;
+        Eyes {
+            is_dead,
+            is_nearly_dead: is_dead || many <= 5 || spoils,
+            many: many.min(255) as u8,
+        }
+    }
+
+    /// Whether there are two safe points more each of which leaves one eye at most; and two each of which leaves few points.
+    fn last_pair(&self, reach: &Reach, left: PlaceSet) -> (bool, bool) {
+        let hits = reach.safe.and(reach.empty).minus(reach.used);
+        let mut rest = self.all_beside(left).and(hits).places();
+        let mut kills = 0u32;
+        let mut spoils = 0u32;
+        for _ in 0..u64::MAX {
+            let Some(at) = rest.take() else {
+                break;
+            };
+            let after = left.minus(self.near(at));
+            if after.len() <= 5 {
+                spoils = 1 + spoils.min(1);
+                if self.is_one_eye(after, reach.position.attacker) {
+                    if kills == 1 {
+                        return (true, true);
+                    }
+                    kills = 1;
+                }
+            }
+        }
+        (false, spoils >= 2)
+    }
+
+    /// Whether the defender, to move, makes at most one eye of these points, some of which hold stones of the attacker's.
+    fn is_one_eye(&self, points: PlaceSet, attacker: PlaceSet) -> bool {
+        let stones = points.and(attacker);
+        match points.len() {
+            0 | 1 => true,
+            2 => match points.first() {
+                Some(at) => self.near(at).meets(points),
+                None => true,
+            },
+            3 => self.has_with_beside(stones, points, 2),
+            4 => {
+                self.is_square(points) && !self.is_across(stones)
+                    || self.has_with_beside(stones, points, 3)
+            }
+            _ => false,
+        }
+    }
+
+    /// Whether one of these has so many of the points beside it.
+    fn has_with_beside(&self, some: PlaceSet, points: PlaceSet, count: u32) -> bool {
+        let mut rest = some.places();
+        for _ in 0..u64::MAX {
+            let Some(at) = rest.take() else {
+                return false;
+            };
+            if self.near(at).and(points).len() == count {
+                return true;
+            }
+        }
+        false
+    }
+
+    /// Whether four points stand in a square.
+    fn is_square(&self, points: PlaceSet) -> bool {
+        let mut rest = points.places();
+        for _ in 0..u64::MAX {
+            let Some(at) = rest.take() else {
+                return true;
+            };
+            if self.near(at).and(points).len() != 2 {
+                return false;
+            }
+        }
+        false
+    }
+
+    /// Whether these are two stones that are not beside one another.
+    fn is_across(&self, stones: PlaceSet) -> bool {
+        match stones.first() {
+            Some(at) => stones.len() == 2 && !self.near(at).meets(stones),
+            None => false,
+        }
+    }
+
+    /// The attacker's stones that can never be taken.
+    pub(crate) fn attacker_permanent(&self, position: Position) -> PlaceSet {
+        self.permanent(position.attacker, Side::Attacker)
+    }
+}

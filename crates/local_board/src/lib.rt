@@ -1,0 +1,24 @@
+//! The board of one problem as the search sees it: sets of the points that can change, and what their shapes say of life and death.
+//!
+//! Points outside the region, and stones that can never be taken, do not change. All others have a number, their place, and
+//! a position is a set of places for each side. Nothing is promised of the answers: they guide a search, and what it finds is
+//! put to the checker.
+#![tactic(auto)]
+
+mod board;
+mod changing;
+mod eyes;
+mod life;
+mod place_set;
+mod position;
+mod room;
+mod shapes;
+mod taking;
+
+pub use board::Board;
+pub use changing::count_changing;
+pub use eyes::Eyes;
+pub use place_set::{MAX_PLACES, PlaceSet, Places};
+pub use position::{Position, Side, Step};
+pub use room::Room;
+pub use shapes::Shapes;

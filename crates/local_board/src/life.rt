@@ -1,0 +1,212 @@
+//! Groups that live by their shape, whatever the attacker plays, were their owner to pass for ever.
+//!
+//! This is Benson's test, with one change: all points of an eye, and not its empty ones alone, have to be beside the chain. Several
+//! stones may take themselves off here, so an attacker could fill an eye, clear it by suicide, and fill it again with another
+//! point left open that is not beside the chain.
+
+use crate::board::Board;
+use crate::place_set::PlaceSet;
+use crate::position::{Position, Side};
+
+/// The most eyes, and the most chains, that are looked at.
+const ROOM: usize = 40;
+
+/// The most points of an eye.
+const MAX_EYE: u32 = 12;
+
+/// An area between the defender's chains that can be an eye, or a chain that has no lasting liberty.
+#[derive(Clone, Copy)]
+struct Part {
+    places: PlaceSet,
+    /// The places beside it.
+    beside: PlaceSet,
+    /// Whether it is still thought to live, or to be an eye of what lives.
+    is_good: bool,
+}
+
+/// Eyes or chains.
+#[derive(Clone, Copy)]
+struct Parts {
+    parts: [Part; ROOM],
+    count: usize,
+}
+
+impl Parts {
+    fn none() -> Parts {
+        let part = Part {
+            places: PlaceSet::empty(),
+            beside: PlaceSet::empty(),
+            is_good: false,
+        };
+        Parts {
+            parts: [part; ROOM],
+            count: 0,
+        }
+    }
+
+    /// Adds one more, and answers whether there was room.
+    fn add(&mut self, places: PlaceSet, beside: PlaceSet) -> bool {
+        if self.count >= ROOM {
+            return false;
+        }
+        self.parts[self.count] = Part {
+            places,
+            beside,
+            is_good: true,
+        };
+        self.count += 1;
+        true
+    }
+
+    /// Whether two good ones have all their places among these.
+    fn has_two_within(&self, places: PlaceSet) -> bool {
+        let mut found = 0u32;
+        for index in 0..ROOM {
+            if index >= self.count {
+                return false;
+            }
+            let part = self.parts[index];
+            if part.is_good && part.places.is_within(places) {
+                if found == 1 {
+                    return true;
+                }
+                found = 1;
+            }
+        }
+        false
+    }
+
+    /// Takes those for bad that are beside these places.
+    fn spoil_beside(&mut self, places: PlaceSet) {
+        for index in 0..ROOM {
+            if index < self.count && self.parts[index].beside.meets(places) {
+                self.parts[index].is_good = false;
+            }
+        }
+    }
+}
+
+impl Board {
+    /// Whether no target can ever be taken, whatever the attacker plays: each stands on a chain with a lasting liberty, or on
+    /// one of a set of chains each of which has two eyes that only chains of the set surround.
+    pub(crate) fn lives(&self, defender: PlaceSet, empty: PlaceSet) -> bool {
+        let rest = self.stones_in_question(defender);
+        rest.is_empty()
+            || !rest
+                .minus(self.good(defender, empty, rest))
+                .meets(self.targets)
+    }
+
+    /// The stones on chains with a target that have no lasting liberty.
+    fn stones_in_question(&self, defender: PlaceSet) -> PlaceSet {
+        let mut found = PlaceSet::empty();
+        let mut rest = defender.and(self.targets).places();
+        for _ in 0..u64::MAX {
+            let Some(at) = rest.take() else {
+                return found;
+            };
+            let chain = self.chain(defender, at);
+            rest.skip(chain);
+            if !chain.meets(self.lasting.defender) {
+                found = found.or(chain);
+            }
+        }
+        found
+    }
+
+    /// The defender's stones that can never be taken. As soon as a chain with a target drops out that is asked for, the answer
+    /// is that of lasting liberties alone.
+    pub(crate) fn good(&self, defender: PlaceSet, empty: PlaceSet, asked: PlaceSet) -> PlaceSet {
+        let lasting = self.permanent(defender, Side::Defender);
+        let Some(mut eyes) = self.eye_spaces(defender, empty) else {
+            return lasting;
+        };
+        let Some(mut chains) = self.chains_of(defender, lasting) else {
+            return lasting;
+        };
+        for _ in 0..=ROOM {
+            match self.spoil_chains(&mut chains, &mut eyes, asked) {
+                Some(true) => {}
+                Some(false) => return lasting.or(good_places(&chains)),
+                None => return lasting,
+            }
+        }
+        lasting
+    }
+
+    /// The areas that can be eyes: all their points are beside stones of the defender's; none, where there are fewer than two
+    /// of them, or more than are looked at.
+    fn eye_spaces(&self, defender: PlaceSet, empty: PlaceSet) -> Option<Parts> {
+        let mut eyes = Parts::none();
+        let candidates = self.beside(defender).minus(self.lasting.attacker);
+        let mut rest = candidates.places();
+        for _ in 0..u64::MAX {
+            let Some(at) = rest.take() else {
+                break;
+            };
+            let area = self.chain(candidates, at);
+            rest.skip(area);
+            let beside = self.beside(area);
+            if beside.is_within(defender) && area.meets(empty) && area.len() <= MAX_EYE {
+                if !eyes.add(area, beside) {
+                    return None;
+                }
+            }
+        }
+        if eyes.count < 2 { None } else { Some(eyes) }
+    }
+
+    /// The defender's chains but these; none, where there are more than are looked at.
+    fn chains_of(&self, defender: PlaceSet, lasting: PlaceSet) -> Option<Parts> {
+        let mut chains = Parts::none();
+        let mut rest = defender.minus(lasting).places();
+        for _ in 0..u64::MAX {
+            let Some(at) = rest.take() else {
+                return Some(chains);
+            };
+            let chain = self.chain(defender, at);
+            rest.skip(chain);
+            if !chains.add(chain, self.beside(chain)) {
+                return None;
+            }
+        }
+        None
+    }
+
+    /// Takes the chains for bad that have not two eyes, and the eyes beside them: whether there were any; none, where one of
+    /// them has a target that is asked for.
+    fn spoil_chains(&self, chains: &mut Parts, eyes: &mut Parts, asked: PlaceSet) -> Option<bool> {
+        let mut has_changed = false;
+        for index in 0..ROOM {
+            if index >= chains.count {
+                return Some(has_changed);
+            }
+            let chain = chains.parts[index];
+            if chain.is_good && !eyes.has_two_within(chain.beside) {
+                if chain.places.and(asked).meets(self.targets) {
+                    return None;
+                }
+                chains.parts[index].is_good = false;
+                has_changed = true;
+                eyes.spoil_beside(chain.places);
+            }
+        }
+        Some(has_changed)
+    }
+
+    /// Whether the targets are there and live by their shape.
+    pub(crate) fn is_alive(&self, position: Position) -> bool {
+        !self.is_taken(position) && self.lives(position.defender, self.empty(position))
+    }
+}
+
+/// The places of those that are good.
+fn good_places(parts: &Parts) -> PlaceSet {
+    let mut found = PlaceSet::empty();
+    for index in 0..ROOM {
+        if index < parts.count && parts.parts[index].is_good {
+            found = found.or(parts.parts[index].places);
+        }
+    }
+    found
+}

@@ -1,0 +1,77 @@
+//! Positions at the places of a problem.
+
+use crate::place_set::PlaceSet;
+
+/// The sides of a problem.
+#[derive(Clone, Copy, Debug, PartialEq, Eq)]
+pub enum Side {
+    /// Who wants to take a target.
+    Attacker,
+    /// Who wants to keep the targets.
+    Defender,
+}
+
+impl Side {
+    pub fn other(self) -> Side {
+        match self {
+            Side::Attacker => Side::Defender,
+            Side::Defender => Side::Attacker,
+        }
+    }
+}
+
+/// A turn at the places of a problem.
+#[derive(Clone, Copy, Debug, PartialEq, Eq)]
+pub enum Step {
+    At(u16),
+    Pass,
+}
+
+/// The places of each side: its stones, or what is true of them.
+#[derive(Clone, Copy, Debug, PartialEq, Eq)]
+pub struct Position {
+    pub attacker: PlaceSet,
+    pub defender: PlaceSet,
+}
+
+impl Position {
+    /// Neither side has a place.
+    pub fn empty() -> Position {
+        Position {
+            attacker: PlaceSet::empty(),
+            defender: PlaceSet::empty(),
+        }
+    }
+
+    /// The places of this side.
+    pub fn of(self, side: Side) -> PlaceSet {
+        match side {
+            Side::Attacker => self.attacker,
+            Side::Defender => self.defender,
+        }
+    }
+
+    /// The places of the side, and those of the other.
+    pub fn made(side: Side, own: PlaceSet, other: PlaceSet) -> Position {
+        match side {
+            Side::Attacker => Position {
+                attacker: own,
+                defender: other,
+            },
+            Side::Defender => Position {
+                attacker: other,
+                defender: own,
+            },
+        }
+    }
+
+    /// The position with one stone more.
+    pub fn with(self, side: Side, place: usize) -> Position {
+        Position::made(side, self.of(side).with(place), self.of(side.other()))
+    }
+
+    /// The places where either side has a stone.
+    pub fn stones(self) -> PlaceSet {
+        self.attacker.or(self.defender)
+    }
+}

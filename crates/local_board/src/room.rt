@@ -1,0 +1,132 @@
+//! How much there is left to play.
+
+use crate::board::Board;
+use crate::place_set::PlaceSet;
+use crate::position::{Position, Side};
+
+/// How much is left to play, the least being best: the first number counts, then the others.
+#[derive(Clone, Copy, Debug, PartialEq, Eq, PartialOrd, Ord)]
+pub struct Room {
+    pub whole: u32,
+    pub second: u32,
+    pub third: u32,
+}
+
+impl Room {
+    /// More than is ever left.
+    pub fn most() -> Room {
+        Room {
+            whole: u32::MAX,
+            second: u32::MAX,
+            third: u32::MAX,
+        }
+    }
+}
+
+impl Board {
+    /// How much a living defender has left to do: the points of the areas between his chains, but one for each (where the attacker
+    /// has lasting stones, the empty points of the region alone), the attacker's moves, the defender's chains, and his stones
+    /// that can be taken; then the attacker's moves alone.
+    pub fn room_of_life(&self, position: Position) -> Room {
+        let defender = position.defender;
+        let moves = self.count_moves(position, Side::Attacker);
+        let good = self.good(defender, self.empty(position), PlaceSet::empty());
+        let whole = self
+            .points_of_areas(position)
+            .saturating_add(moves)
+            .saturating_add(self.count_chains(defender))
+            .saturating_add(defender.minus(good).len());
+        Room {
+            whole,
+            second: moves,
+            third: 0,
+        }
+    }
+
+    fn points_of_areas(&self, position: Position) -> u32 {
+        let others = self.all.minus(position.defender);
+        let playable = self.empty(position).and(self.region);
+        let mut count: u32 = 0;
+        let mut rest = others.places();
+        for _ in 0..u64::MAX {
+            let Some(at) = rest.take() else {
+                return count;
+            };
+            let area = self.chain(others, at);
+            rest.skip(area);
+            let own = if area.meets(self.lasting.attacker) {
+                area.and(playable).len()
+            } else {
+                area.len().saturating_sub(1)
+            };
+            count = count.saturating_add(own);
+        }
+        count
+    }
+
+    fn count_chains(&self, stones: PlaceSet) -> u32 {
+        let mut count: u32 = 0;
+        let mut rest = stones.places();
+        for _ in 0..u64::MAX {
+            let Some(at) = rest.take() else {
+                return count;
+            };
+            rest.skip(self.chain(stones, at));
+            count = count.saturating_add(1);
+        }
+        count
+    }
+
+    /// How many moves of this side change anything, whatever has occurred.
+    pub fn count_moves(&self, position: Position, side: Side) -> u32 {
+        let playable = self.empty(position).and(self.region);
+        let plain = self.plain(position).of(side).and(playable);
+        let mut count = plain.len();
+        let mut rest = playable.minus(plain).places();
+        for _ in 0..u64::MAX {
+            let Some(at) = rest.take() else {
+                return count;
+            };
+            if self.after(position, side, at) != position {
+                count = count.saturating_add(1);
+            }
+        }
+        count
+    }
+
+    /// How much is left after the attacker's stone at this place where the defender cannot have two eyes: twice the fewest
+    /// liberties of a chain with a target, the defender's moves that change anything, and one where the stone can still be taken; then
+    /// the liberties; then the moves.
+    pub fn room_of_death(&self, position: Position, place: usize) -> Room {
+        let moves = self.count_moves(position, Side::Defender);
+        let liberties = self.fewest_liberties(position);
+        let is_permanent = self.permanent(position.attacker, Side::Attacker).has(place);
+        let loose = if is_permanent { 0 } else { 1 };
+        Room {
+            whole: liberties
+                .saturating_mul(2)
+                .saturating_add(moves)
+                .saturating_add(loose),
+            second: liberties,
+            third: moves,
+        }
+    }
+
+    /// The fewest liberties of a chain with a target that can be taken.
+    fn fewest_liberties(&self, position: Position) -> u32 {
+        let empty = self.empty(position);
+        let mut fewest: u32 = 99;
+        let mut rest = self.targets.and(position.defender).places();
+        for _ in 0..u64::MAX {
+            let Some(at) = rest.take() else {
+                return fewest;
+            };
+            let chain = self.chain(position.defender, at);
+            rest.skip(chain);
+            if !chain.meets(self.lasting.defender) {
+                fewest = fewest.min(self.beside(chain).and(empty).len());
+            }
+        }
+        fewest
+    }
+}

@@ -1,0 +1,132 @@
+//! The questions of shape, with tables of what was answered last.
+//!
+//! The key of an entry is the whole set or position, not a hash of it, so an entry is right or is not used: no answer depends on a
+//! table.
+
+use crate::board::Board;
+use crate::eyes::Eyes;
+use crate::place_set::PlaceSet;
+use crate::position::{Position, Side};
+use std::alloc::{AllocError, Global};
+
+/// The entries of the tables.
+const REACHED: usize = 256;
+
+const LIVING: usize = 4_096;
+
+const ASKED: usize = 4_096;
+
+/// What depends on the attacker's permanent stones alone.
+#[derive(Clone, Copy)]
+struct Reached {
+    permanent: PlaceSet,
+    inside: PlaceSet,
+    near: PlaceSet,
+}
+
+/// Whether these stones of the defender's live where the attacker has no stone.
+#[derive(Clone, Copy)]
+struct Living {
+    defender: PlaceSet,
+    lives: bool,
+}
+
+/// What was guessed of a position.
+#[derive(Clone, Copy)]
+struct Asked {
+    position: Position,
+    eyes: Eyes,
+}
+
+/// A board, and what was answered last.
+#[derive(Drop)]
+pub struct Shapes {
+    pub board: Board,
+    reached: Vec<Option<Reached>>,
+    living: Vec<Option<Living>>,
+    asked: Vec<Option<Asked>>,
+}
+
+impl Shapes {
+    /// The questions over this board, none of which has been asked.
+    pub fn of(alloc: Global, board: Board) -> Result<Shapes, AllocError> {
+        let mut shapes = Shapes {
+            board,
+            reached: Vec::new(alloc),
+            living: Vec::new(alloc),
+            asked: Vec::new(alloc),
+        };
+        for _ in 0..REACHED {
+            shapes.reached.push(None)?;
+        }
+        for _ in 0..LIVING {
+            shapes.living.push(None)?;
+        }
+        for _ in 0..ASKED {
+            shapes.asked.push(None)?;
+        }
+        Ok(shapes)
+    }
+
+    /// Whether the defender's stones live by their shape where the attacker has none. If they do not, they live with no stones of
+    /// the attacker's: those count only where they leave an area without an empty point.
+    pub fn may_live(&mut self, defender: PlaceSet) -> bool {
+        let slot = defender.mixed() as usize % LIVING;
+        if let Some(Some(known)) = self.living.get(slot).copied() {
+            if known.defender == defender {
+                return known.lives;
+            }
+        }
+        let lives = self.board.lives(defender, self.board.all.minus(defender));
+        if slot < self.living.len() {
+            self.living[slot] = Some(Living { defender, lives });
+        }
+        lives
+    }
+
+    /// Whether no target can ever be taken, by the shape of the defender's stones. No, where a target is off the board.
+    pub fn is_alive(&mut self, position: Position) -> bool {
+        !self.board.is_taken(position)
+            && self.may_live(position.defender)
+            && self.board.is_alive(position)
+    }
+
+    /// What is guessed of the defender's eyes, where he is to move.
+    pub fn eyes(&mut self, position: Position) -> Eyes {
+        let mixed = position.attacker.mixed() ^ position.defender.mixed() >> 7;
+        let slot = mixed as usize % ASKED;
+        if let Some(Some(known)) = self.asked.get(slot).copied() {
+            if known.position == position {
+                return known.eyes;
+            }
+        }
+        let reached = self.reached_by(position);
+        let eyes = self
+            .board
+            .guess_eyes(position, reached.permanent, reached.inside, reached.near);
+        if slot < self.asked.len() {
+            self.asked[slot] = Some(Asked { position, eyes });
+        }
+        eyes
+    }
+
+    /// What depends on the attacker's permanent stones alone.
+    fn reached_by(&mut self, position: Position) -> Reached {
+        let permanent = self.board.permanent(position.attacker, Side::Attacker);
+        let slot = permanent.mixed() as usize % REACHED;
+        if let Some(Some(known)) = self.reached.get(slot).copied() {
+            if known.permanent == permanent {
+                return known;
+            }
+        }
+        let reached = Reached {
+            permanent,
+            inside: self.board.inside_of(permanent),
+            near: self.board.beside(permanent),
+        };
+        if slot < self.reached.len() {
+            self.reached[slot] = Some(reached);
+        }
+        reached
+    }
+}

@@ -1,0 +1,163 @@
+//! Moves: what they take, and which take nothing.
+
+use crate::board::Board;
+use crate::place_set::PlaceSet;
+use crate::position::{Position, Side};
+
+/// What is known of the chains of a side.
+#[derive(Clone, Copy)]
+struct Liberties {
+    /// The last liberties of chains that have one alone.
+    last: PlaceSet,
+    /// The stones of these chains.
+    weak: PlaceSet,
+}
+
+impl Board {
+    /// The position after a stone of this side at the empty place, by the rules of taking and of suicide; the same position
+    /// where a stone alone takes itself off.
+    pub fn after(&self, position: Position, side: Side, place: usize) -> Position {
+        let own = position.of(side).with(place);
+        let other = position.of(side.other());
+        let empty = self.all.minus(own).minus(other);
+        let taken = self.taken_beside(place, other, empty, side.other());
+        if !taken.is_empty() {
+            return Position::made(side, own, other.minus(taken));
+        }
+        match self.chain_without_liberty(own, empty, place, side) {
+            Some(chain) => Position::made(side, own.minus(chain), other),
+            None => Position::made(side, own, other),
+        }
+    }
+
+    /// The stones of this side's chains beside the place that have no liberty.
+    fn taken_beside(
+        &self,
+        place: usize,
+        stones: PlaceSet,
+        empty: PlaceSet,
+        side: Side,
+    ) -> PlaceSet {
+        let mut taken = PlaceSet::empty();
+        let mut rest = self.near(place).and(stones).places();
+        for _ in 0..u64::MAX {
+            let Some(at) = rest.take() else {
+                return taken;
+            };
+            if let Some(chain) = self.chain_without_liberty(stones, empty, at, side) {
+                taken = taken.or(chain);
+                rest.skip(chain);
+            }
+        }
+        taken
+    }
+
+    /// The chain of the stone at this place, where it has no liberty.
+    fn chain_without_liberty(
+        &self,
+        own: PlaceSet,
+        empty: PlaceSet,
+        place: usize,
+        side: Side,
+    ) -> Option<PlaceSet> {
+        let lasting = self.lasting.of(side);
+        let mut chain = PlaceSet::empty().with(place);
+        let mut front = chain.places();
+        for _ in 0..u64::MAX {
+            let Some(at) = front.take() else {
+                return Some(chain);
+            };
+            let near = self.near(at);
+            if near.meets(empty) || lasting.has(at) {
+                return None;
+            }
+            let more = near.and(own).minus(chain);
+            chain = chain.or(more);
+            front.add(more);
+        }
+        None
+    }
+
+    /// For each side the empty places where a stone of its takes nothing and has a liberty: it is put down, and nothing else
+    /// changes.
+    pub fn plain(&self, position: Position) -> Position {
+        let empty = self.empty(position);
+        let attacker = self.liberties(position.attacker, empty, Side::Attacker);
+        let defender = self.liberties(position.defender, empty, Side::Defender);
+        let open = self.all_beside(empty);
+        Position {
+            attacker: self.plain_for(position, Side::Attacker, open, attacker, defender),
+            defender: self.plain_for(position, Side::Defender, open, defender, attacker),
+        }
+    }
+
+    fn plain_for(
+        &self,
+        position: Position,
+        side: Side,
+        open: PlaceSet,
+        own: Liberties,
+        other: Liberties,
+    ) -> PlaceSet {
+        let strong = self.all_beside(position.of(side).minus(own.weak));
+        let safe = open.or(self.lasting.of(side)).or(strong);
+        self.empty(position).minus(other.last).and(safe)
+    }
+
+    /// What is known of the chains of this side that can be taken.
+    fn liberties(&self, own: PlaceSet, empty: PlaceSet, side: Side) -> Liberties {
+        let mut found = Liberties {
+            last: PlaceSet::empty(),
+            weak: PlaceSet::empty(),
+        };
+        let mut rest = own.minus(self.permanent(own, side)).places();
+        for _ in 0..u64::MAX {
+            let Some(at) = rest.take() else {
+                return found;
+            };
+            let chain = self.chain(own, at);
+            rest.skip(chain);
+            let liberties = self.all_beside(chain).and(empty);
+            if !liberties.has_several() {
+                found.weak = found.weak.or(chain);
+                found.last = found.last.or(liberties);
+            }
+        }
+        found
+    }
+
+    /// The position after a stone of this side at the empty place; none, where nothing changes. `plain` has places where a
+    /// stone is put down and nothing else changes.
+    pub fn played(
+        &self,
+        position: Position,
+        side: Side,
+        place: usize,
+        plain: PlaceSet,
+    ) -> Option<Position> {
+        if plain.has(place) {
+            return Some(position.with(side, place));
+        }
+        let after = self.after(position, side, place);
+        if after == position { None } else { Some(after) }
+    }
+
+    /// The places where the attacker takes a target at once.
+    pub fn takes(&self, position: Position) -> PlaceSet {
+        let empty = self.empty(position);
+        let mut found = PlaceSet::empty();
+        let mut rest = self.targets.and(position.defender).places();
+        for _ in 0..u64::MAX {
+            let Some(at) = rest.take() else {
+                return found;
+            };
+            let chain = self.chain(position.defender, at);
+            rest.skip(chain);
+            let liberties = self.beside(chain).and(empty);
+            if !chain.meets(self.lasting.defender) && !liberties.has_several() {
+                found = found.or(liberties.and(self.region));
+            }
+        }
+        found
+    }
+}

@@ -1,12 +1,12 @@
 -- Full search depth by depth.
-use Rattle.std.proofs.Common.{◌≡◌, ℕ, ◌+◌, ◌-◌, ◌*◌, ◌<◌, ◌≤◌, ◌⊎◌, inl, inr, false, IsTrue, arith}
-use Rattle.std.proofs.Math.Nat.{mul-le-mul, mul-le-mul_left}
+use Rattle.std.proofs.Common.{◌≡◌, ℕ, ◌+◌, ◌-◌, ◌*◌, ◌/◌, ◌<◌, ◌≤◌, ◌⊎◌, inl, inr, false, IsTrue, arith}
+use Rattle.std.proofs.Math.Nat.{mul-le-mul, mul-le-mul_left, lt-mul-div-succ}
 use Rattle.go_points.specs.declared.Colour.{Colour}
 use Rattle.target_game.specs.State.{GameState}
 use Rattle.target_game.specs.Wins.{wins, nodes}
 use Rattle.proof_cert.specs.Claim.{Node, node_count, max_nodes}
 use Rattle.full_search.specs.Decided.{NoneWithin, IsFirst}
-use Rattle.full_search.specs.Private.Shown.{NeitherWins}
+use Rattle.full_search.specs.Private.Shown.{rest, NeitherWins}
 use Rattle.full_search.proofs.Showing.{nodes_within}
 
 -- neither side wins within less than k turns, and each depth had no more steps than its tree has states
@@ -41,6 +41,21 @@ undecided_out s k steps left h out x j low w =
     let b : (k + 1) * nodes s k ≤ (j + 1) * nodes s j = mul-le-mul (omega arith) (nodes_within s k j le) in
     let c : (k + 1) * nodes s k ≡ k * nodes s k + nodes s k = omega arith in
     omega arith
+
+-- so many states were met within k turns that k + 1 times as many are more than the steps
+pub undecided_wide : (s : GameState) (k steps left room : ℕ) → Undecided s k steps left → room ≡ steps / (k + 1) → room < nodes s k → NoneWithin s steps
+undecided_wide s k steps left room h is out x j low w =
+    let le = later s k steps left h x j w in
+    let b : (k + 1) * nodes s k ≤ (j + 1) * nodes s j = mul-le-mul (omega arith) (nodes_within s k j le) in
+    let c : steps < (k + 1) * (steps / (k + 1) + 1) = lt-mul-div-succ steps (omega arith) in
+    let d : (k + 1) * (steps / (k + 1) + 1) ≤ (k + 1) * nodes s k = mul-le-mul_left (k + 1) (omega (arith, is, out)) in
+    omega arith
+
+-- either the steps or the room end the search
+pub undecided_end : (s : GameState) (k steps left room : ℕ) → Undecided s k steps left → room ≡ steps / (k + 1) → rest left room < nodes s k → NoneWithin s steps
+undecided_end s k steps left room h is out =
+    let split : (left < nodes s k) ⊎ (room < nodes s k) = grind (arith, out) in
+    elim split [ inl few ↦ undecided_out s k steps left h few | inr wide ↦ undecided_wide s k steps left room h is wide ]
 
 -- a tree that is larger than a claim may be
 pub none_within_large : (x : Colour) (s : GameState) (n : Node) (steps : ℕ) → IsFirst x s n → steps ≤ max_nodes → max_nodes < node_count n → NoneWithin s steps

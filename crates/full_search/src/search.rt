@@ -13,7 +13,7 @@ ghost use Rattle.target_game.specs.Next.{next};
 ghost use Rattle.target_game.specs.Over.{over};
 ghost use Rattle.target_game.specs.Wins.{is_winner, nodes};
 ghost use Rattle.full_search.specs.Decided.{IsDecided};
-ghost use Rattle.full_search.specs.Private.Shown.{nodes_behind, IsFound, AreSeen, IsTurnSeen, IsWonBy};
+ghost use Rattle.full_search.specs.Private.Shown.{rest, nodes_behind, IsFound, AreSeen, IsTurnSeen, IsWonBy};
 
 use go_points::{Colour, Turn};
 use proof_cert::Node;
@@ -27,7 +27,7 @@ pub(crate) enum Found {
     Wins(Colour, Node),
     /// Neither side wins within the turns that were searched.
     Open,
-    /// There was no step left for a state that was to be expanded.
+    /// There was no step left for a state that was to be expanded, or more states were met than are promised to be searched.
     OutOfSteps,
 }
 
@@ -44,8 +44,9 @@ pub(crate) struct Tried {
 /// side does or the steps ran out.
 ///
 /// All legal play is searched within 0, 1, 2 and so on turns, each number anew. A step is one expansion, which tries all
-/// turns of a state; so many as `floor` are left alone, and `left` falls by those that were made. Where memory is refused
-/// some steps are gone, and no more is said. One path of play and the tree that is found are held.
+/// turns of a state; so many as `floor` are left alone, and `left` falls by those that were made. The search within k turns ends
+/// as soon as it has met so many states that k + 1 times as many are more than the steps: from there on no win is promised to be
+/// found. Where memory is refused some steps are gone, and no more is said. One path of play and the tree that is found are held.
 pub fn first_win(
     alloc: Global,
     problem: &Problem,
@@ -73,8 +74,10 @@ fn search_depths(
     ensures decided { IfOk result (λ r. IsDecided (start problem.now) left.old r) }
 {
     let mut state = PlayState::of(alloc, problem)?;
+    let steps = *left;
     for turns in 0..201u32 {
-        match search_state(alloc, &mut state, turns, left)? {
+        let mut room = steps / (turns as u64 + 1);
+        match search_state(alloc, &mut state, turns, left, &mut room)? {
             Found::Wins(winner, tree) => return Ok(Some((winner, tree))),
             Found::Open => {}
             Found::OutOfSteps => return Ok(None),
@@ -83,18 +86,23 @@ fn search_depths(
     Ok(None)
 }
 
-/// What full search of the state within so many turns finds; the state is then as it was.
+/// What full search of the state within so many turns finds; the state is then as it was. So many states as `room` may be met,
+/// which falls by those that were.
 #[cycle(full)]
 fn search_state(
     alloc: Global,
     state: &mut PlayState,
     turns: u32,
     left: &mut u64,
+    room: &mut u64,
 ) -> Result<Found, AllocError>
     ensures state { OnOk result (state.new ≡ state.old) }
     ensures fewer { left.new ≤ left.old }
+    ensures less { room.new ≤ room.old }
     ensures steps { OnOk result (left.old ≤ left.new + nodes state.old.state turns) }
-    ensures found { IfOk result (λ f. IsFound state.old.state turns left.old f) }
+    ensures met { OnOk result
+        (rest left.old room.old ≤ rest left.new room.new + nodes state.old.state turns) }
+    ensures found { IfOk result (λ f. IsFound state.old.state turns (rest left.old room.old) f) }
 {
     if let Some(winner) = state.over() {
         return Ok(Found::Wins(winner, Node::Won));
@@ -105,12 +113,16 @@ fn search_state(
     if *left == 0 {
         return Ok(Found::OutOfSteps);
     }
+    if *room == 0 {
+        return Ok(Found::OutOfSteps);
+    }
     *left -= 1;
+    *room -= 1;
     // A second pass ends the game at once, so no other turn is tried where it wins.
     if pass_wins(state)? {
         return won_by(alloc, state.mover(), Turn::Pass, Node::Won);
     }
-    search_turns(alloc, state, turns - 1, left)
+    search_turns(alloc, state, turns - 1, left, room)
 }
 
 /// Whether one pass stands and the mover wins by a second one.
@@ -157,13 +169,18 @@ fn search_turns(
     state: &mut PlayState,
     turns: u32,
     left: &mut u64,
+    room: &mut u64,
 ) -> Result<Found, AllocError>
     requires nobody { over state.old.state ≡ None }
     ensures state { OnOk result (state.new ≡ state.old) }
     ensures fewer { left.new ≤ left.old }
+    ensures less { room.new ≤ room.old }
     ensures steps { OnOk result
         (left.old ≤ left.new + nodes_behind state.old.state turns (legal_turns state.old.state)) }
-    ensures found { IfOk result (λ f. IsFound state.old.state (turns + 1) (left.old + 1) f) }
+    ensures met { OnOk result (rest left.old room.old
+        ≤ rest left.new room.new + nodes_behind state.old.state turns (legal_turns state.old.state)) }
+    ensures found { IfOk result
+        (λ f. IsFound state.old.state (turns + 1) (rest left.old room.old + 1) f) }
 {
     let mut seen = Tried {
         is_open: false,
@@ -173,7 +190,9 @@ fn search_turns(
     while let Some(next) = state.next_child(&mut turns_left) {
         let turn = next.0;
         let winner = next.1.winner;
-        if let Some(found) = search_turn(alloc, state, turns, turn, winner, &mut seen, left)? {
+        if let Some(found) = search_turn(
+            alloc, state, turns, turn, winner, &mut seen, left, room,
+        )? {
             return Ok(found);
         }
     }
@@ -225,26 +244,35 @@ fn search_turn(
     winner: Option<Colour>,
     seen: &mut Tried,
     left: &mut u64,
+    room: &mut u64,
 ) -> Result<Option<Found>, AllocError>
     requires nobody { over state.old.state ≡ None }
     requires legal { IsTrue (legal state.old.state (ply_of state.old.state.game.size turn)) }
     requires winner { winner ≡ over (next state.old.state (ply_of state.old.state.game.size turn)) }
     ensures state { OnOk result (state.new ≡ state.old) }
     ensures fewer { left.new ≤ left.old }
+    ensures less { room.new ≤ room.old }
     ensures steps { OnOk result
         (left.old ≤ left.new + nodes (next state.old.state (ply_of state.old.state.game.size turn))
         turns) }
+    ensures met { OnOk result
+        (rest left.old room.old ≤ rest left.new room.new
+        + nodes (next state.old.state (ply_of state.old.state.game.size turn)) turns) }
     ensures seen { IfOk result
-        (λ r. IsTurnSeen state.old.state turns (ply_of state.old.state.game.size turn) left.old
-        seen.old seen.new r) }
+        (λ r. IsTurnSeen state.old.state turns (ply_of state.old.state.game.size turn)
+        (rest left.old room.old) seen.old seen.new r) }
 {
     let mover = state.mover();
     if is_settled(turns, winner) {
+        if *room == 0 {
+            return Ok(Some(Found::OutOfSteps));
+        }
+        *room -= 1;
         return with_turn(alloc, mover, turn, found_at_once(winner), seen);
     }
     let made = turn;
     state.after(made)?;
-    let below = search_state(alloc, state, turns, left)?;
+    let below = search_state(alloc, state, turns, left, room)?;
     state.back();
     with_turn(alloc, mover, turn, below, seen)
 }

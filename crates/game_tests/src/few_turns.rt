@@ -45,11 +45,19 @@ fn is_claim(rt: &impl Abort, alloc: Global, certificate: &Certificate, text: &st
     out.as_slice() == text.as_bytes()
 }
 
-// Whether full search answers the claim of this text after just so many steps, and nothing where one of them is missing.
-fn finds(rt: &impl Abort, alloc: Global, problem: &Problem, steps: u64, text: &str) -> bool {
+// Whether full search answers the claim of this text where it has just so many steps, of which it makes these, and nothing where
+// one of them is missing. Within k turns it meets no more states than a (k + 1)th of the steps.
+fn finds(
+    rt: &impl Abort,
+    alloc: Global,
+    problem: &Problem,
+    steps: u64,
+    made: u64,
+    text: &str,
+) -> bool {
     let mut fewer = steps.saturating_sub(1);
     let nothing = first_win(alloc, problem, 0, &mut fewer).expect(rt, "memory");
-    if nothing.is_some() || fewer != 0 {
+    if nothing.is_some() {
         return false;
     }
     let mut left = steps;
@@ -63,7 +71,7 @@ fn finds(rt: &impl Abort, alloc: Global, problem: &Problem, steps: u64, text: &s
         lemmas: Vec::new(alloc),
         main,
     };
-    left == 0 && is_claim(rt, alloc, &certificate, text)
+    left == steps.saturating_sub(made) && is_claim(rt, alloc, &certificate, text)
 }
 
 // Whether the problem is solved by the claim of this text.
@@ -76,35 +84,37 @@ fn solves(rt: &impl Abort, alloc: Global, problem: Problem, winner: Colour, text
     }
 }
 
-// White's aa is in atari, and Black takes it. The start alone is expanded, once.
+// White's aa is in atari, and Black takes it. The start alone is expanded, once; it and the state after the move are met.
 #[test]
 fn a_capture_of_one_turn(rt: HostRuntime) {
     let alloc = rt.alloc();
     let text = "tsucert 1 3 B\nmain\nplay ba\nwon\nend\n";
     let corner = problem(&rt, alloc, &["O..X....."], Colour::Black, "aa", "ba");
-    expect_that(&rt, finds(&rt, alloc, &corner, 1, text));
+    expect_that(&rt, finds(&rt, alloc, &corner, 4, 1, text));
     expect_that(&rt, solves(&rt, alloc, corner, Colour::Black, text));
 }
 
 // White to move fills ba, and two passes follow. Within one turn the start is expanded; within two the states after ba
-// and after the pass as well; within three the start, the state after ba and the one after Black's pass.
+// and after the pass as well; within three the start, the state after ba and the one after Black's pass. Three, five and three
+// states are met, and a third of 15 steps is five.
 #[test]
 fn a_liberty_filled(rt: HostRuntime) {
     let alloc = rt.alloc();
     let text = "tsucert 1 3 W\nmain\nplay ba\nall 1\nreply pass\nplay pass\nwon\nend\n";
     let corner = problem(&rt, alloc, &["O..X....."], Colour::White, "aa", "ba");
-    expect_that(&rt, finds(&rt, alloc, &corner, 7, text));
+    expect_that(&rt, finds(&rt, alloc, &corner, 15, 7, text));
     expect_that(&rt, solves(&rt, alloc, corner, Colour::White, text));
 }
 
-// Black may not take the ko again, so it passes, and White passes: the start, and then the start and the state after it.
+// Black may not take the ko again, so it passes, and White passes: the start, and then the start and the state after it. Two
+// states are met within one turn, and two within two.
 #[test]
 fn a_ko_that_is_barred(rt: HostRuntime) {
     let alloc = rt.alloc();
     let text = "tsucert 1 3 W\nmain\nall 1\nreply pass\nplay pass\nwon\nend\n";
     let texts = [".XOXO....", "O.OXO...."];
     let barred = problem(&rt, alloc, &texts, Colour::Black, "aa", "ba");
-    expect_that(&rt, finds(&rt, alloc, &barred, 3, text));
+    expect_that(&rt, finds(&rt, alloc, &barred, 6, 3, text));
     expect_that(&rt, solves(&rt, alloc, barred, Colour::White, text));
     let open = problem(&rt, alloc, &["O.OXO...."], Colour::Black, "aa", "ba");
     let taken = "tsucert 1 3 B\nmain\nplay ba\nwon\nend\n";
@@ -139,7 +149,7 @@ fn no_move_is_legal(rt: HostRuntime) {
     let alloc = rt.alloc();
     let text = "tsucert 1 3 B\nmain\nall 1\nreply pass\nplay pass\nwon\nend\n";
     let eyes = problem(&rt, alloc, &[".XXXXXXX."], Colour::White, "bb", "aacc");
-    expect_that(&rt, finds(&rt, alloc, &eyes, 3, text));
+    expect_that(&rt, finds(&rt, alloc, &eyes, 6, 3, text));
     expect_that(&rt, solves(&rt, alloc, eyes, Colour::Black, text));
 }
 
@@ -167,7 +177,7 @@ fn a_problem_is_handed_back(rt: HostRuntime) {
     }
 }
 
-// What is above the floor alone is taken: the start and the states after ba and the pass need three steps within two turns.
+// What is above the floor alone counts: with 14 steps the fifth state within two turns is one too many, after four steps.
 #[test]
 fn full_search_stops_at_its_floor(rt: HostRuntime) {
     let alloc = rt.alloc();
@@ -175,15 +185,15 @@ fn full_search_stops_at_its_floor(rt: HostRuntime) {
     let mut left = 100;
     expect_that(
         &rt,
-        first_win(alloc, &corner, 94, &mut left)
+        first_win(alloc, &corner, 86, &mut left)
             .expect(&rt, "memory")
             .is_none(),
     );
-    expect_same(&rt, left, 94);
+    expect_same(&rt, left, 96);
     let mut enough = 100;
     expect_that(
         &rt,
-        first_win(alloc, &corner, 93, &mut enough)
+        first_win(alloc, &corner, 85, &mut enough)
             .expect(&rt, "memory")
             .is_some(),
     );

@@ -1,8 +1,9 @@
 -- What full search knows of a state and of its turns. No public clause rests on these words.
+--     rest left room      how much may still be met, with so many steps left and room for so many states
 --     IsFound s k left f      what full search of s within k turns answers, with so many steps left
 --     AreSeen s k ts seen      what is known where the turns ts were searched and the mover wins by none of them
 --     IsTurnSeen s k t left old new r      what the search of one turn more, t, makes of what is known
-use Rattle.std.specs.Prelude.{◌≡◌, ℕ, ◌+◌, ◌<◌, ◌≤◌, true, false, List, [], ◌∷◌, ◌++◌, sum_by, Option, Some, None}
+use Rattle.std.specs.Prelude.{◌≡◌, ℕ, ◌+◌, ◌<◌, ◌≤◌, true, false, List, [], ◌∷◌, ◌++◌, sum_by, min, Option, Some, None}
 use Rattle.std.specs.List.{list_any, list_all}
 use Rattle.go_points.specs.declared.Colour.{Colour}
 use Rattle.go_points.specs.Grid.{opponent_of}
@@ -33,6 +34,9 @@ pub record AllShow (x : Colour) (s : GameState) (k : ℕ) (ts : List Ply) (bs : 
   pub count : node_count_below bs ≤ nodes_behind s k ts
   pub depth : depth_below bs ≤ k + 1
   pub wins : list_all (λ t. wins x (next s t) k) ts ≡ true
+
+abbrev pub rest : ℕ → ℕ → ℕ
+rest left room = min left room
 
 -- neither side wins within k turns
 abbrev pub NeitherWins : GameState → ℕ → Type 0

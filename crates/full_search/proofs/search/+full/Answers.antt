@@ -10,8 +10,9 @@ use Rattle.target_game.proofs.Due.{turns_begun as due_begun}
 use Rattle.target_game.proofs.Tallies.{if_ok_map}
 use Rattle.proof_cert.proofs.Certificates.{node_of_won}
 use Rattle.proof_cert.specs.Claim.{Node}
+use Rattle.full_search.specs.declared.search.Tried.{Tried}
 use Rattle.full_search.specs.Decided.{Shows}
-use Rattle.full_search.specs.Private.Shown.{IsFound, IsTurnSeen, nodes_behind}
+use Rattle.full_search.specs.Private.Shown.{rest, IsFound, IsTurnSeen, nodes_behind}
 use Rattle.full_search.proofs.Showing.{nodes_some, nodes_then, open_last, shows_won, pass_won, on_ok_any, on_ok_map, turns_begun, turns_more, turns_steps, turns_found}
 use Rattle.full_search.proofs.search.+full.Goals as goal
 
@@ -34,6 +35,19 @@ search_state-returns-then-left-eq0-clause-found t c =
     let none = c.if-left-eq0.true in
     omega arith
 
+pub search_state-returns-then-room-eq0-clause-found : goal.search_state-returns-then-room-eq0-clause-found
+search_state-returns-then-room-eq0-clause-found t c =
+    let s = c.args.state.now.state in
+    let some = nodes_some s c.args.turns in
+    let none = c.if-room-eq0.true in
+    omega arith
+
+pub search_state-returns-then-branch-clause-met : goal.search_state-returns-then-branch-clause-met
+search_state-returns-then-branch-clause-met t c =
+    let s = c.args.state.now.state in
+    let some = nodes_some s c.args.turns in
+    on_ok_any c.won_by.result (rest c.args.left.now c.args.room.now ≤ rest (c.args.left.now - 1) (c.args.room.now - 1) + nodes s c.args.turns) (omega (arith, c.if-left-eq0.false, c.if-room-eq0.false))
+
 pub search_state-returns-then-branch-clause-steps : goal.search_state-returns-then-branch-clause-steps
 search_state-returns-then-branch-clause-steps t c =
     let s = c.args.state.now.state in
@@ -48,7 +62,7 @@ search_state-returns-then-branch-clause-found t c =
     let passing = sym c.in_ok-pass_wins.ensures.wins ∙ c.if-branch.true in
     let mover : s.mover ≡ c.mover.result = ap (λ (v : Line). v.state.mover) (sym c.in_ok-pass_wins.ensures.state) ∙ sym c.mover.ensures in
     if_ok_map c.won_by.result _ _
-    (λ f h. subst (λ (j : ℕ). IsFound s j c.args.left.now f) k (pass_won s (c.args.turns - 1) c.args.left.now c.mover.result f nobody passing mover h))
+    (λ f h. subst (λ (j : ℕ). IsFound s j (rest c.args.left.now c.args.room.now) f) k (pass_won s (c.args.turns - 1) (rest c.args.left.now c.args.room.now) c.mover.result f nobody passing mover h))
     c.won_by.ensures
 
 pub search_state-returns-clause-steps : goal.search_state-returns-clause-steps
@@ -60,20 +74,32 @@ search_state-returns-clause-steps t c =
     on_ok_map c.search_turns.result _ _ (λ h. omega (arith, h, all, c.if-left-eq0.false))
     (subst (λ (v : Line). OnOk c.search_turns.result (c.args.left.now - 1 ≤ c.search_turns.new.left + nodes_behind v.state (c.args.turns - 1) (legal_turns v.state))) c.in_ok-pass_wins.ensures.state c.search_turns.ensures.steps)
 
+pub search_state-returns-clause-met : goal.search_state-returns-clause-met
+search_state-returns-clause-met t c =
+    let s = c.args.state.now.state in
+    let nobody : over s ≡ None = sym c.over.ensures ∙ c.in_default.is in
+    let k : c.args.turns - 1 + 1 ≡ c.args.turns = omega (arith, c.if-turns-eq0.false) in
+    let all : nodes s c.args.turns ≡ 1 + nodes_behind s (c.args.turns - 1) (legal_turns s) = sym (ap (nodes s) k) ∙ nodes_then s (c.args.turns - 1) nobody in
+    let one : rest c.args.left.now c.args.room.now ≡ rest (c.args.left.now - 1) (c.args.room.now - 1) + 1 = omega (arith, c.if-left-eq0.false, c.if-room-eq0.false) in
+    on_ok_map c.search_turns.result _ _ (λ h. omega (arith, h, all, one))
+    (subst (λ (v : Line). OnOk c.search_turns.result (rest (c.args.left.now - 1) (c.args.room.now - 1) ≤ rest c.search_turns.new.left c.search_turns.new.room + nodes_behind v.state (c.args.turns - 1) (legal_turns v.state))) c.in_ok-pass_wins.ensures.state c.search_turns.ensures.met)
+
 pub search_state-returns-clause-found : goal.search_state-returns-clause-found
 search_state-returns-clause-found t c =
     let s = c.args.state.now.state in
     let nobody : over s ≡ None = sym c.over.ensures ∙ c.in_default.is in
     let k : c.args.turns - 1 + 1 ≡ c.args.turns = omega (arith, c.if-turns-eq0.false) in
-    let left : c.args.left.now - 1 + 1 ≡ c.args.left.now = omega (arith, c.if-left-eq0.false) in
+    let left : rest (c.args.left.now - 1) (c.args.room.now - 1) + 1 ≡ rest c.args.left.now c.args.room.now = omega (arith, c.if-left-eq0.false, c.if-room-eq0.false) in
     if_ok_map c.search_turns.result _ _
-    (λ f h. subst (λ (j : ℕ). IsFound s j c.args.left.now f) k (subst (λ (j : ℕ). IsFound s (c.args.turns - 1 + 1) j f) left h))
-    (subst (λ (v : Line). IfOk c.search_turns.result (λ f. IsFound v.state (c.args.turns - 1 + 1) (c.args.left.now - 1 + 1) f)) c.in_ok-pass_wins.ensures.state c.search_turns.ensures.found)
+    (λ f h. subst (λ (j : ℕ). IsFound s j (rest c.args.left.now c.args.room.now) f) k (subst (λ (j : ℕ). IsFound s (c.args.turns - 1 + 1) j f) left h))
+    (subst (λ (v : Line). IfOk c.search_turns.result (λ f. IsFound v.state (c.args.turns - 1 + 1) (rest (c.args.left.now - 1) (c.args.room.now - 1) + 1) f)) c.in_ok-pass_wins.ensures.state c.search_turns.ensures.found)
 
 pub search_turns-loop-next-init : goal.search_turns-loop-next-init
 search_turns-loop-next-init t c =
     let s = c.args.state.now.state in
-    (refl, turns_begun s c.args.turns c.args.left.now (turns_due s c.all-turns_left.result.next) (record { is_open = false; replies = c.new.result }) (ap (turns_due s) c.all-turns_left.ensures ∙ due_begun s) refl c.new.ensures.items)
+    let due = ap (turns_due s) c.all-turns_left.ensures ∙ due_begun s in
+    let seen : Tried = record { is_open = false; replies = c.new.result } in
+    (refl, (turns_begun s c.args.turns c.args.left.now (turns_due s c.all-turns_left.result.next) seen due refl c.new.ensures.items, (omega arith, turns_begun s c.args.turns (rest c.args.left.now c.args.room.now) (turns_due s c.all-turns_left.result.next) seen due refl c.new.ensures.items)))
 
 pub search_turns-loop-next-preserved : goal.search_turns-loop-next-preserved
 search_turns-loop-next-preserved t c =
@@ -84,10 +110,17 @@ search_turns-loop-next-preserved t c =
     let kept : c.loop-next.state ≡ c.args.state.now = c.loop-next.invariant.0 in
     let due : turns_due s c.loop-next.turns_left.next ≡ ply ∷ turns_due s c.next_child.new.left.next = subst (λ (v : Line). turns_due v.state c.loop-next.turns_left.next ≡ ply_of v.state.game.size turn ∷ turns_due v.state c.next_child.new.left.next) kept c.in-Some.ensures.takes.0 in
     let steps : c.loop-next.left ≤ c.search_turn.new.left + nodes (next s ply) k = subst (λ (v : Line). c.loop-next.left ≤ c.search_turn.new.left + nodes (next v.state (ply_of v.state.game.size turn)) k) kept c.in_ok-found.ensures.steps in
-    let seen = subst (λ (v : Line). IsTurnSeen v.state k (ply_of v.state.game.size turn) c.loop-next.left c.loop-next.seen c.search_turn.new.seen c.in_ok-found.field-0) kept c.in_ok-found.ensures.seen in (
+    let met : rest c.loop-next.left c.loop-next.room ≤ rest c.search_turn.new.left c.search_turn.new.room + nodes (next s ply) k = subst (λ (v : Line). rest c.loop-next.left c.loop-next.room ≤ rest c.search_turn.new.left c.search_turn.new.room + nodes (next v.state (ply_of v.state.game.size turn)) k) kept c.in_ok-found.ensures.met in
+    let seen = subst (λ (v : Line). IsTurnSeen v.state k (ply_of v.state.game.size turn) (rest c.loop-next.left c.loop-next.room) c.loop-next.seen c.search_turn.new.seen c.in_ok-found.field-0) kept c.in_ok-found.ensures.seen in
+    let also = subst (λ r. IsTurnSeen s k ply (rest c.loop-next.left c.loop-next.room) c.loop-next.seen c.search_turn.new.seen r) c.in_default-2.is seen in (
       c.in_ok-found.ensures.state ∙ kept,
-      turns_more s k c.args.left.now c.loop-next.left c.search_turn.new.left ply (turns_due s c.loop-next.turns_left.next) (turns_due s c.next_child.new.left.next) c.loop-next.seen c.search_turn.new.seen due c.loop-next.invariant.1 c.in_ok-found.ensures.fewer steps
-          (subst (λ r. IsTurnSeen s k ply c.loop-next.left c.loop-next.seen c.search_turn.new.seen r) c.in_default-2.is seen),
+      (
+        turns_more s k c.args.left.now c.loop-next.left c.search_turn.new.left ply (turns_due s c.loop-next.turns_left.next) (turns_due s c.next_child.new.left.next) c.loop-next.seen c.search_turn.new.seen due c.loop-next.invariant.1.0 c.in_ok-found.ensures.fewer steps also,
+        (
+          omega (arith, c.in_ok-found.ensures.less, c.loop-next.invariant.1.1.0),
+          turns_more s k (rest c.args.left.now c.args.room.now) (rest c.loop-next.left c.loop-next.room) (rest c.search_turn.new.left c.search_turn.new.room) ply (turns_due s c.loop-next.turns_left.next) (turns_due s c.next_child.new.left.next) c.loop-next.seen c.search_turn.new.seen due c.loop-next.invariant.1.1.1 (omega (arith, c.in_ok-found.ensures.fewer, c.in_ok-found.ensures.less)) met also,
+        ),
+      ),
     )
 
 pub search_turns-returns-in-Some-2-clause-steps : goal.search_turns-returns-in-Some-2-clause-steps
@@ -99,7 +132,18 @@ search_turns-returns-in-Some-2-clause-steps t c =
     let kept : c.loop-next.state ≡ c.args.state.now = c.loop-next.invariant.0 in
     let due : turns_due s c.loop-next.turns_left.next ≡ ply ∷ turns_due s c.next_child.new.left.next = subst (λ (v : Line). turns_due v.state c.loop-next.turns_left.next ≡ ply_of v.state.game.size turn ∷ turns_due v.state c.next_child.new.left.next) kept c.in-Some.ensures.takes.0 in
     let steps : c.loop-next.left ≤ c.search_turn.new.left + nodes (next s ply) k = subst (λ (v : Line). c.loop-next.left ≤ c.search_turn.new.left + nodes (next v.state (ply_of v.state.game.size turn)) k) kept c.in_ok-found.ensures.steps in
-    turns_steps s k c.args.left.now c.loop-next.left c.search_turn.new.left ply (turns_due s c.loop-next.turns_left.next) (turns_due s c.next_child.new.left.next) c.loop-next.seen due c.loop-next.invariant.1 steps
+    turns_steps s k c.args.left.now c.loop-next.left c.search_turn.new.left ply (turns_due s c.loop-next.turns_left.next) (turns_due s c.next_child.new.left.next) c.loop-next.seen due c.loop-next.invariant.1.0 steps
+
+pub search_turns-returns-in-Some-2-clause-met : goal.search_turns-returns-in-Some-2-clause-met
+search_turns-returns-in-Some-2-clause-met t c =
+    let s = c.args.state.now.state in
+    let k = c.args.turns in
+    let turn = c.in-Some.next.0 in
+    let ply = ply_of s.game.size turn in
+    let kept : c.loop-next.state ≡ c.args.state.now = c.loop-next.invariant.0 in
+    let due : turns_due s c.loop-next.turns_left.next ≡ ply ∷ turns_due s c.next_child.new.left.next = subst (λ (v : Line). turns_due v.state c.loop-next.turns_left.next ≡ ply_of v.state.game.size turn ∷ turns_due v.state c.next_child.new.left.next) kept c.in-Some.ensures.takes.0 in
+    let met : rest c.loop-next.left c.loop-next.room ≤ rest c.search_turn.new.left c.search_turn.new.room + nodes (next s ply) k = subst (λ (v : Line). rest c.loop-next.left c.loop-next.room ≤ rest c.search_turn.new.left c.search_turn.new.room + nodes (next v.state (ply_of v.state.game.size turn)) k) kept c.in_ok-found.ensures.met in
+    turns_steps s k (rest c.args.left.now c.args.room.now) (rest c.loop-next.left c.loop-next.room) (rest c.search_turn.new.left c.search_turn.new.room) ply (turns_due s c.loop-next.turns_left.next) (turns_due s c.next_child.new.left.next) c.loop-next.seen due c.loop-next.invariant.1.1.1 met
 
 pub search_turns-returns-in-Some-2-clause-found : goal.search_turns-returns-in-Some-2-clause-found
 search_turns-returns-in-Some-2-clause-found t c =
@@ -109,20 +153,32 @@ search_turns-returns-in-Some-2-clause-found t c =
     let ply = ply_of s.game.size turn in
     let kept : c.loop-next.state ≡ c.args.state.now = c.loop-next.invariant.0 in
     let due : turns_due s c.loop-next.turns_left.next ≡ ply ∷ turns_due s c.next_child.new.left.next = subst (λ (v : Line). turns_due v.state c.loop-next.turns_left.next ≡ ply_of v.state.game.size turn ∷ turns_due v.state c.next_child.new.left.next) kept c.in-Some.ensures.takes.0 in
-    let seen = subst (λ (v : Line). IsTurnSeen v.state k (ply_of v.state.game.size turn) c.loop-next.left c.loop-next.seen c.search_turn.new.seen c.in_ok-found.field-0) kept c.in_ok-found.ensures.seen in
-    turns_found s k c.args.left.now c.loop-next.left ply (turns_due s c.loop-next.turns_left.next) (turns_due s c.next_child.new.left.next) c.loop-next.seen c.search_turn.new.seen c.in-Some-2.found c.requires.nobody due c.loop-next.invariant.1
-    (subst (λ r. IsTurnSeen s k ply c.loop-next.left c.loop-next.seen c.search_turn.new.seen r) c.in-Some-2.is seen)
+    let seen = subst (λ (v : Line). IsTurnSeen v.state k (ply_of v.state.game.size turn) (rest c.loop-next.left c.loop-next.room) c.loop-next.seen c.search_turn.new.seen c.in_ok-found.field-0) kept c.in_ok-found.ensures.seen in
+    turns_found s k (rest c.args.left.now c.args.room.now) (rest c.loop-next.left c.loop-next.room) ply (turns_due s c.loop-next.turns_left.next) (turns_due s c.next_child.new.left.next) c.loop-next.seen c.search_turn.new.seen c.in-Some-2.found c.requires.nobody due c.loop-next.invariant.1.1.1
+    (subst (λ r. IsTurnSeen s k ply (rest c.loop-next.left c.loop-next.room) c.loop-next.seen c.search_turn.new.seen r) c.in-Some-2.is seen)
 
 pub search_turns-returns-clause-found : goal.search_turns-returns-clause-found
 search_turns-returns-clause-found t c =
     let kept : c.loop-next.state ≡ c.args.state.now = c.loop-next.invariant.0 in
-    subst (λ (v : Line). IsFound v.state (c.args.turns + 1) (c.args.left.now + 1) c.decided.result) kept (c.decided.ensures (c.args.left.now + 1))
+    subst (λ (v : Line). IsFound v.state (c.args.turns + 1) (rest c.args.left.now c.args.room.now + 1) c.decided.result) kept (c.decided.ensures (rest c.args.left.now c.args.room.now + 1))
 
 pub search_turn-returns-then-is_settled-clause-seen : goal.search_turn-returns-then-is_settled-clause-seen
 search_turn-returns-then-is_settled-clause-seen t c =
     let s = c.args.state.now.state in
     let n = s.game.size in
     if_ok_map c.with_turn.result _ _
-    (λ r h. h s c.args.turns c.args.left.now (sym c.mover-mover.ensures) c.requires.nobody c.requires.legal
-    (c.found_at_once.ensures (next s (ply_of n c.args.turn)) c.args.turns c.args.left.now (sym c.requires.winner) (c.is_settled.ensures c.if-is_settled.true)))
+    (λ r h. h s c.args.turns (rest c.args.left.now c.args.room.now) (sym c.mover-mover.ensures) c.requires.nobody c.requires.legal
+    (c.found_at_once.ensures (next s (ply_of n c.args.turn)) c.args.turns (rest c.args.left.now c.args.room.now) (sym c.requires.winner) (c.is_settled.ensures c.if-is_settled.true)))
     c.with_turn.ensures
+
+pub search_turn-returns-then-room-eq0-clause-seen : goal.search_turn-returns-then-room-eq0-clause-seen
+search_turn-returns-then-room-eq0-clause-seen t c =
+    let s = c.args.state.now.state in
+    let some = nodes_some (next s (ply_of s.game.size c.args.turn)) c.args.turns in
+    omega (arith, c.if-room-eq0.true, some)
+
+pub search_turn-returns-then-is_settled-clause-met : goal.search_turn-returns-then-is_settled-clause-met
+search_turn-returns-then-is_settled-clause-met t c =
+    let s = c.args.state.now.state in
+    let some = nodes_some (next s (ply_of s.game.size c.args.turn)) c.args.turns in
+    on_ok_any c.with_turn.result (rest c.args.left.now c.args.room.now ≤ rest c.args.left.now (c.args.room.now - 1) + nodes (next s (ply_of s.game.size c.args.turn)) c.args.turns) (omega (arith, c.if-room-eq0.false, some))

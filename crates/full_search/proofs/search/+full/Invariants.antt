@@ -1,5 +1,6 @@
-use Rattle.std.proofs.Common.{◌≡◌, ◌+◌, ◌*◌, length}
+use Rattle.std.proofs.Common.{◌≡◌, ◌≤◌, ◌+◌, ◌*◌, length}
 use Rattle.target_game.specs.Left.{turns_due}
+use Rattle.full_search.specs.Private.Shown.{rest}
 use Rattle.full_search.proofs.Showing.{TurnsSeen}
 use Rattle.full_search.proofs.search.+full.Given as goal
 
@@ -14,7 +15,10 @@ decreases-search_turns a = 3 * a.turns + 2
 
 abbrev pub invariant-search_turns-loop-next : goal.invariant-search_turns-loop-next
 invariant-search_turns-loop-next l =
-    (l.state ≡ l.initial.state) × TurnsSeen l.initial.state.state l.turns (turns_due l.initial.state.state l.turns_left.next) l.initial.left l.left l.seen
+    (l.state ≡ l.initial.state)
+    × (TurnsSeen l.initial.state.state l.turns (turns_due l.initial.state.state l.turns_left.next) l.initial.left l.left l.seen
+    × ((l.room ≤ l.initial.room)
+    × TurnsSeen l.initial.state.state l.turns (turns_due l.initial.state.state l.turns_left.next) (rest l.initial.left l.initial.room) (rest l.left l.room) l.seen))
 
 abbrev pub decreases-search_turns-loop-next : goal.decreases-search_turns-loop-next
 decreases-search_turns-loop-next l = length (turns_due l.initial.state.state l.turns_left.next)

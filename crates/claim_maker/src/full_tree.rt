@@ -68,6 +68,7 @@ fn add(
         key: play.key(),
         winner,
         form,
+        is_expanded: true,
     };
     Ok(Below::Proof(proofs.add(settled, branches, None, &[])?))
 }

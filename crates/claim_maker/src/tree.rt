@@ -4,7 +4,7 @@ use crate::claim::Lemmas;
 use go_points::{Colour, Colouring, Turn};
 use proof_cert::{MAX_NODES, Node};
 use state_proofs::{Below, Branch, Form, Play, Proof, Proofs, Refusal};
-use std::alloc::{AllocError, Global};
+use std::alloc::Global;
 
 /// A proof of the line of play whose node is written.
 #[derive(Clone, Copy)]
@@ -221,9 +221,9 @@ impl Writer {
     }
 
     /// The node of the proof, from the nodes after its branches.
-    fn node(&mut self, alloc: Global, visit: Visit) -> Result<Node, AllocError> {
+    fn node(&mut self, alloc: Global, visit: Visit) -> Result<Node, Refusal> {
         if visit.first > self.written.len() {
-            return Err(AllocError);
+            return Err(Refusal::Fault);
         }
         match visit.proof.form {
             Form::Replies => Ok(Node::All(self.written.split_off(visit.first)?)),
@@ -231,6 +231,7 @@ impl Writer {
                 Some((turn, below)) => Ok(Node::Play(turn, Box::new(alloc, below)?)),
                 None => Ok(Node::Won),
             },
+            Form::Alive | Form::Dead => Err(Refusal::Fault),
         }
     }
 }

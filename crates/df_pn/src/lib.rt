@@ -1,4 +1,4 @@
-//! Depth-first proof-number search.
+//! Depth-first proof-number search on boards of any size.
 //!
 //! Nothing is promised of a proof but that the steps are counted: the claim of it is to be put to the checker.
 #![tactic(auto)]
@@ -11,8 +11,6 @@ mod search;
 mod settled;
 mod shared;
 mod smaller;
-mod stop;
 
 pub use search::Search;
 pub use shared::prove;
-pub use stop::Stop;

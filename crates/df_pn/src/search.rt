@@ -8,15 +8,14 @@
 //! Nothing is promised of the numbers: what is found is put to the checker.
 
 ghost use Rattle.std.specs.Prelude.{◌≡◌, ◌≤◌, ◌<◌, ◌+◌, IfErr};
-ghost use Rattle.df_pn.specs.declared.stop.Stop.TheVariants.{Steps};
+ghost use Rattle.state_proofs.specs.declared.stop.Stop.TheVariants.{Steps};
 
 use crate::frame::{Child, Frame, Outcome, Standing, standing_of};
 use crate::kept::{KeptChildren, KeptState};
 use crate::numbers::{Count, MoverNumbers, Thresholds};
-use crate::stop::Stop;
 use go_points::{Colour, Turn};
 use pn_table::{Key, Table};
-use state_proofs::{Below, Branch, Form, Line, MAX_LINE, Move, Proofs, Refusal, key_after};
+use state_proofs::{Below, Branch, Form, Line, MAX_LINE, Move, Proofs, Refusal, Stop, key_after};
 use std::alloc::{AllocError, Global};
 use std::num::NonZeroUsize;
 use target_game::Problem;
@@ -234,7 +233,7 @@ impl Search {
     fn settle_last(&mut self, frame: Frame, form: Form) -> Result<Round, Refusal> {
         let winner = match form {
             Form::Turn => frame.key.mover,
-            Form::Replies => frame.key.mover.opponent(),
+            _ => frame.key.mover.opponent(),
         };
         let number = self.prove(frame, winner, form)?;
         self.leave(frame);

@@ -26,7 +26,7 @@ impl Search {
                     self.add_branch(child)?;
                 }
             }
-            Form::Replies => {
+            _ => {
                 for place in frame.first..self.children.len() {
                     if let Some(child) = self.children.get(place).copied() {
                         self.add_branch(child)?;
@@ -42,6 +42,7 @@ impl Search {
             key: frame.key,
             winner,
             form,
+            is_expanded: true,
         };
         self.add_proof(settled, result)
     }

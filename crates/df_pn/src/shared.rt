@@ -1,22 +1,22 @@
 //! The shared proofs of a problem, by the search.
 
 ghost use Rattle.std.specs.Prelude.{◌≡◌, ◌≤◌, IfErr};
-ghost use Rattle.df_pn.specs.declared.stop.Stop.TheVariants.{Steps};
+ghost use Rattle.state_proofs.specs.declared.stop.Stop.TheVariants.{Steps};
 
 use crate::search::Search;
 use crate::smaller::Smaller;
-use crate::stop::Stop;
-use state_proofs::{Refusal, Shared, share};
+use state_proofs::{Refusal, Shared, Stop, share};
 use std::alloc::Global;
 use std::num::NonZeroUsize;
 use target_game::Problem;
 
-/// The proofs that the search finds with a table of so many states, made smaller by the steps that are then left.
-/// Each step is one expansion.
+/// The proofs that the search finds with a table of so many states, made smaller by the steps that are then left, where a small
+/// answer is wanted. Each step is one expansion.
 pub fn prove(
     alloc: Global,
     problem: &Problem,
     table: NonZeroUsize,
+    wants_small: bool,
     left: &mut u64,
 ) -> Result<Shared, Stop>
     ensures fewer { left.new ≤ left.old }
@@ -27,7 +27,11 @@ pub fn prove(
     };
     let found = search.settle(0, left)?;
     let mut smaller = Smaller::of(alloc, search);
-    let root = smaller.shrink(found, left);
+    let root = if wants_small {
+        smaller.shrink(found, left)
+    } else {
+        found
+    };
     match shared(alloc, smaller, root) {
         Ok(shared) => Ok(shared),
         Err(refusal) => Err(Stop::Refused(refusal)),

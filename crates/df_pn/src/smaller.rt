@@ -7,10 +7,9 @@ ghost use Rattle.std.specs.Prelude.{◌≤◌};
 
 use crate::asked::{Asked, Question};
 use crate::search::Search;
-use crate::stop::Stop;
 use go_points::{Colour, Turn};
 use indexmap::IndexMap;
-use state_proofs::{Below, Branch, Form, Proof, Refusal, Settled};
+use state_proofs::{Below, Branch, Form, Proof, Refusal, Settled, Stop};
 use std::alloc::{AllocError, Global};
 
 /// A proof of so many turns is left as it is.
@@ -177,7 +176,7 @@ impl Smaller {
         };
         match proof.form {
             Form::Turn => self.list_turns(proof)?,
-            Form::Replies => {
+            _ => {
                 self.list_replies(proof)?;
                 self.list_barred(proof)?;
             }
@@ -263,8 +262,8 @@ impl Smaller {
             below,
         };
         match visit.proof.form {
-            Form::Replies => self.made.push(branch)?,
             Form::Turn => self.prefer(visit, branch, asked.key.position),
+            _ => self.made.push(branch)?,
         }
         self.pass_on();
         Ok(())
@@ -312,7 +311,7 @@ impl Smaller {
     fn proof_of(&mut self, visit: Visit) -> Result<u32, AllocError> {
         match visit.proof.form {
             Form::Turn => self.with_turn(visit),
-            Form::Replies => self.with_replies(visit),
+            _ => self.with_replies(visit),
         }
     }
 
@@ -347,6 +346,7 @@ fn settled_as(proof: Proof) -> Settled {
         key: proof.key,
         winner: proof.winner,
         form: proof.form,
+        is_expanded: true,
     }
 }
 

@@ -17,6 +17,8 @@ mod problems;
 #[cfg(test)]
 mod proof_numbers;
 #[cfg(test)]
+mod shapes;
+#[cfg(test)]
 mod table;
 #[cfg(test)]
 mod within;

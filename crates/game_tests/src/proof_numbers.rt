@@ -4,10 +4,11 @@ use crate::expect::{expect_same, expect_that};
 use crate::positions::{Position, problem_of};
 use cert_check::check_held;
 use claim_maker::{Choice, Pasts, claim_with_lemmas, claim_without_lemmas};
-use df_pn::{Search, Stop, prove};
+use df_pn::Search;
 use go_points::Colour;
+use local_search::{Answers, prove};
 use proof_cert::{Certificate, Version, write_cert};
-use state_proofs::Shared;
+use state_proofs::{Shared, Stop};
 use std::alloc::Global;
 use std::num::NonZeroUsize;
 use std::process::Abort;
@@ -57,7 +58,16 @@ fn settled(
 // The proofs that are found with a table of so many entries, by steps enough.
 pub fn found(rt: &impl Abort, alloc: Global, problem: &Problem, table: usize) -> Shared {
     let mut left = 200_000;
-    match prove(alloc, problem, states(rt, table), &mut left) {
+    match prove(alloc, problem, states(rt, table), Answers::Small, &mut left) {
+        Ok(shared) => shared,
+        Err(_) => panic!(rt; "a proof"),
+    }
+}
+
+// The same by the search that knows no shapes.
+pub fn found_plainly(rt: &impl Abort, alloc: Global, problem: &Problem, table: usize) -> Shared {
+    let mut left = 200_000;
+    match df_pn::prove(alloc, problem, states(rt, table), true, &mut left) {
         Ok(shared) => shared,
         Err(_) => panic!(rt; "a proof"),
     }

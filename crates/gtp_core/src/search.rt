@@ -4,7 +4,7 @@ ghost use Rattle.std.specs.Prelude.{◌≡◌};
 ghost use Rattle.gtp_core.specs.Private.Following.{IsFound, FoundOnBoard, win_on_board};
 
 use go_points::{Colour, Size, Turn};
-use pn_search::{Budget, Verdict, solve};
+use pn_search::{Answers, Budget, Verdict, solve_for};
 use std::alloc::Global;
 use std::num::NonZeroUsize;
 use target_game::Problem;
@@ -38,7 +38,7 @@ pub(crate) fn searched(alloc: Global, problem: Problem, colour: Colour) -> Found
         steps: MAX_STEPS,
         table,
     };
-    let Verdict::Wins(checked) = solve(alloc, problem, budget) else {
+    let Verdict::Wins(checked) = solve_for(alloc, problem, budget, Answers::First) else {
         return Found::Unknown;
     };
     if checked.winner() != colour {

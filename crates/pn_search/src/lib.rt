@@ -4,5 +4,6 @@
 mod search;
 mod verdict;
 
-pub use search::solve;
+pub use local_search::Answers;
+pub use search::{solve, solve_for};
 pub use verdict::{Budget, Cause, Verdict};

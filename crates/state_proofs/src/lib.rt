@@ -10,6 +10,8 @@ mod proofs;
 mod refusal;
 mod shared;
 mod sharing;
+mod stop;
+mod used;
 
 pub use line::{Line, key_after};
 pub use past::Past;
@@ -18,3 +20,5 @@ pub use proofs::{Below, Branch, Form, MAX_LINE, Proof, Proofs, Settled};
 pub use refusal::Refusal;
 pub use shared::Shared;
 pub use sharing::share;
+pub use stop::Stop;
+pub use used::used_by;

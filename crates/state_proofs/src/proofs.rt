@@ -19,6 +19,10 @@ pub enum Form {
     Turn,
     /// The mover loses by all turns.
     Replies,
+    /// The defender lives by the shape of his stones, or cannot have two eyes. Such a proof has no branches yet, and no claim
+    /// can be made of it.
+    Alive,
+    Dead,
 }
 
 /// What stands after a turn.
@@ -59,6 +63,8 @@ pub struct Proof {
     pub turns: u64,
     /// The most turns of a line of play below.
     pub depth: u32,
+    /// Whether its state was expanded, and not settled by a question alone.
+    pub is_expanded: bool,
     /// Another proof of the same state, made before.
     next: Option<u32>,
 }
@@ -69,6 +75,15 @@ pub struct Settled {
     pub key: Key,
     pub winner: Colour,
     pub form: Form,
+    /// Whether the state was expanded.
+    pub is_expanded: bool,
+}
+
+/// How large the tree of a proof is.
+#[derive(Clone, Copy)]
+struct TreeSize {
+    turns: u64,
+    depth: u32,
 }
 
 /// All proofs, lower ones first.
@@ -182,13 +197,36 @@ impl Proofs {
         reached: Option<u64>,
         barred: &[u64],
     ) -> Result<u32, AllocError> {
-        let number = number_of(self.proofs.len())?;
         let not = self.add_not(branches, reached)?;
         let had = self.add_had(settled.key.position, branches, barred)?;
+        let size = self.size_above(branches);
+        self.add_with(settled, branches, not, had, size)
+    }
+
+    /// Adds a proof without branches, whose tree is thought to have so many turns and to be so deep: its number.
+    pub fn add_by_shape(
+        &mut self,
+        settled: Settled,
+        turns: u64,
+        depth: u32,
+    ) -> Result<u32, AllocError> {
+        let none = Span { from: 0, to: 0 };
+        self.add_with(settled, &[], none, none, TreeSize { turns, depth })
+    }
+
+    /// Adds the proof with these lists.
+    fn add_with(
+        &mut self,
+        settled: Settled,
+        branches: &[Branch],
+        not: Span,
+        had: Span,
+        size: TreeSize,
+    ) -> Result<u32, AllocError> {
+        let number = number_of(self.proofs.len())?;
         let from = number_of(self.branches.len())?;
         self.branches.extend_from_slice(branches)?;
         let to = number_of(self.branches.len())?;
-        let (turns, depth) = self.size_above(branches);
         let proof = Proof {
             key: settled.key,
             winner: settled.winner,
@@ -196,8 +234,9 @@ impl Proofs {
             branches: Span { from, to },
             not,
             had,
-            turns,
-            depth,
+            turns: size.turns,
+            depth: size.depth,
+            is_expanded: settled.is_expanded,
             next: self.latest.get(&settled.key).copied(),
         };
         self.proofs.push(proof)?;
@@ -205,8 +244,80 @@ impl Proofs {
         Ok(number)
     }
 
+    /// Adds a copy of a proof of another list, with these branches: its number.
+    pub(crate) fn add_copy(
+        &mut self,
+        others: &Proofs,
+        proof: Proof,
+        branches: &[Branch],
+    ) -> Result<u32, AllocError> {
+        let not = self.add_positions(part(others.positions.as_slice(), proof.not))?;
+        let had = self.add_positions(others.had(proof))?;
+        let settled = Settled {
+            key: proof.key,
+            winner: proof.winner,
+            form: proof.form,
+            is_expanded: proof.is_expanded,
+        };
+        let size = TreeSize {
+            turns: proof.turns,
+            depth: proof.depth,
+        };
+        self.add_with(settled, branches, not, had, size)
+    }
+
+    fn add_positions(&mut self, positions: &[u64]) -> Result<Span, AllocError> {
+        let from = number_of(self.positions.len())?;
+        self.positions.extend_from_slice(positions)?;
+        let to = number_of(self.positions.len())?;
+        Ok(Span { from, to })
+    }
+
+    /// Whether a proof of the state is among those that are found.
+    pub fn knows(&self, key: Key) -> bool {
+        self.latest.contains_key(&key)
+    }
+
+    /// No proof is found any more.
+    pub fn hide_all(&mut self) {
+        self.latest.clear();
+    }
+
+    /// The proofs from this number on, which were all added since and are found, are not found any more.
+    pub fn hide_from(&mut self, first: usize) -> Result<(), AllocError> {
+        for back in first..self.proofs.len() {
+            let place = self
+                .proofs
+                .len()
+                .saturating_sub(1)
+                .saturating_sub(back - first);
+            if let Some(proof) = self.at(place) {
+                match proof.next {
+                    Some(before) => {
+                        self.latest.insert(proof.key, before)?;
+                    }
+                    None => {
+                        self.latest.swap_remove(&proof.key);
+                    }
+                }
+            }
+        }
+        Ok(())
+    }
+
+    /// The proof of this place in the list is found again.
+    pub fn show(&mut self, place: usize) -> Result<(), AllocError> {
+        let number = number_of(place)?;
+        if place < self.proofs.len() {
+            let key = self.proofs[place].key;
+            self.proofs[place].next = self.latest.get(&key).copied();
+            self.latest.insert(key, number)?;
+        }
+        Ok(())
+    }
+
     /// The turns and the depth of the tree of these branches.
-    fn size_above(&self, branches: &[Branch]) -> (u64, u32) {
+    fn size_above(&self, branches: &[Branch]) -> TreeSize {
         let mut turns: u64 = 0;
         let mut depth: u32 = 0;
         for branch in branches {
@@ -218,7 +329,10 @@ impl Proofs {
                 }
             }
         }
-        (turns, depth.saturating_add(1))
+        TreeSize {
+            turns,
+            depth: depth.saturating_add(1),
+        }
     }
 
     /// Gathers the lists of what stands below the branches.

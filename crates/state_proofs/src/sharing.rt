@@ -110,6 +110,7 @@ impl Sharing {
                 key: self.line.end(),
                 winner: proof.winner,
                 form: proof.form,
+                is_expanded: true,
             },
             reached: None,
             next: self.due.len(),
@@ -124,6 +125,7 @@ impl Sharing {
                 self.list_barred()?;
                 None
             }
+            Form::Alive | Form::Dead => return Err(Refusal::Fault),
         };
         self.visits.push(Visit { reached, ..visit })?;
         Ok(())

@@ -22,7 +22,7 @@ pub(crate) fn gives(
 
 // The same, with these notes on standard error.
 pub(crate) fn gives_with_notes(
-    rt: &impl Abort,
+    rt: &(impl Abort + Files),
     alloc: Global,
     words: &[&str],
     input: &str,

@@ -4,6 +4,7 @@
 use crate::records::{gives, gives_with_notes};
 use std::alloc::Global;
 use std::process::Abort;
+use std::rt::Files;
 use tool_parts::Status;
 
 const CORNER: &str = "(;SZ[9]AB[aa][ba][bb][ac]AW[ca][cb][bc][cc][ad]PL[W])";
@@ -11,7 +12,7 @@ const CORNER: &str = "(;SZ[9]AB[aa][ba][bb][ac]AW[ca][cb][bc][cc][ad]PL[W])";
 const REGION: &str = "SQ[aa][ba][ab][bb][ac][ad][bd][ae][be][af][ag])\n";
 
 // What a region of six empty points with these walls gives: what stands before the region, and where stones are put up.
-fn with_walls(rt: &impl Abort, alloc: Global, walls: &str, front: &str, stones: &str) {
+fn with_walls(rt: &(impl Abort + Files), alloc: Global, walls: &str, front: &str, stones: &str) {
     let words = [
         "problem_tools",
         "mark",

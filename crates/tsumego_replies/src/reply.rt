@@ -16,7 +16,7 @@ use crate::status::Status;
 use crate::texts::{node_reject_text, unknown_text, wins_text};
 use cert_check::Checked;
 use go_points::Size;
-use pn_search::{Budget, Verdict, solve};
+use pn_search::{Answers, Budget, Verdict, solve_for};
 use sgf_text::Tree;
 use sgf_text::laws::fronts_decide;
 use solution_tree::{AuditFault, AuditWhy, audit};
@@ -187,7 +187,13 @@ fn searched(
     let Some(table) = NonZeroUsize::new(table) else {
         unreachable!()
     };
-    match solve(alloc, problem, Budget { steps, table }) {
+    // Nobody reads the tree of a claim.
+    let answers = if proof {
+        Answers::First
+    } else {
+        Answers::Small
+    };
+    match solve_for(alloc, problem, Budget { steps, table }, answers) {
         Verdict::Wins(checked) => Ok(Response::Solution {
             checked,
             proof,

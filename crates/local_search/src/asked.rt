@@ -1,0 +1,242 @@
+//! What is asked of the turns at a state of the line whose proof is made smaller.
+
+use crate::expanding::step_at;
+use crate::finish::Finish;
+use crate::frame::State;
+use crate::smaller::{Smaller, Visit};
+use local_board::{PlaceSet, Room, Side, Step};
+use state_proofs::{Below, Branch};
+use std::alloc::AllocError;
+
+/// What is asked of a turn.
+#[derive(Clone, Copy, Debug, PartialEq, Eq)]
+pub(crate) enum Question {
+    /// Nothing: this stands after it.
+    Known(Below),
+    /// Whether this proof of the state after it can be made smaller.
+    Smaller(u32),
+    /// Whether the winner wins by it, and by how small a proof.
+    Wins,
+    /// How small the proof is by which the defender, who lives after it, is played out.
+    Lives,
+}
+
+/// A turn at a state of the line, and the state after it.
+#[derive(Clone, Copy)]
+pub(crate) struct Asked {
+    pub(crate) step: Step,
+    pub(crate) after: State,
+    pub(crate) question: Question,
+}
+
+/// How many turns after which the defender lives are played out.
+const MAX_LIVING: usize = 8;
+
+/// The places of the best living turns, the best first.
+#[derive(Clone, Copy)]
+struct LivingTurns {
+    places: [usize; MAX_LIVING],
+    rooms: [Room; MAX_LIVING],
+    count: usize,
+}
+
+impl LivingTurns {
+    fn none() -> LivingTurns {
+        LivingTurns {
+            places: [0; MAX_LIVING],
+            rooms: [Room::most(); MAX_LIVING],
+            count: 0,
+        }
+    }
+
+    /// Adds a turn, where it is one of the best.
+    fn add(&mut self, place: usize, room: Room) {
+        let mut new_place = place;
+        let mut new_room = room;
+        for index in 0..MAX_LIVING {
+            if new_room < self.rooms[index] {
+                let place = self.places[index];
+                let room = self.rooms[index];
+                self.places[index] = new_place;
+                self.rooms[index] = new_room;
+                new_place = place;
+                new_room = room;
+            }
+        }
+        self.count = self.count.saturating_add(1).min(MAX_LIVING);
+    }
+}
+
+impl Smaller {
+    /// Lists the turns of the winner, who is to move, that may be better: an end of the game alone, where there is one. The proof's
+    /// own turn comes first, then those after which the defender lives, then the others.
+    pub(crate) fn list_turns(
+        &mut self,
+        finish: &mut Finish,
+        visit: &Visit,
+    ) -> Result<(), AllocError> {
+        let state = visit.state;
+        if let Some((step, after)) = ending_turn(finish, visit) {
+            return self.ask(step, after, Question::Known(Below::Won));
+        }
+        let own = finish.search.proofs.branch(visit.proof, 0);
+        let Some(own) = own else {
+            return Ok(());
+        };
+        let own_step = finish.search.shapes.board.step(own.turn);
+        if let Some(step) = own_step {
+            let after = finish.search.after(state, step);
+            self.ask(step, after, question_below(own))?;
+        }
+        let living = self.list_living(finish, visit, own_step)?;
+        self.list_others(finish, visit, own_step, living)
+    }
+
+    fn ask(&mut self, step: Step, after: State, question: Question) -> Result<(), AllocError> {
+        self.asked.push(Asked {
+            step,
+            after,
+            question,
+        })?;
+        Ok(())
+    }
+
+    /// Lists the best turns after which the defender, who is the winner, lives by his shape: the places of all of them.
+    fn list_living(
+        &mut self,
+        finish: &mut Finish,
+        visit: &Visit,
+        own: Option<Step>,
+    ) -> Result<PlaceSet, AllocError> {
+        if finish.search.side(visit.proof.winner) == Side::Attacker {
+            return Ok(PlaceSet::empty());
+        }
+        let mut best = LivingTurns::none();
+        let found = find_living(finish, visit.state, own, &mut best);
+        for index in 0..MAX_LIVING {
+            if index < best.count {
+                let place = best.places[index];
+                let after = finish
+                    .search
+                    .after_move_at(visit.state, Side::Defender, place);
+                self.ask(step_at(place), after, Question::Lives)?;
+            }
+        }
+        Ok(found)
+    }
+
+    /// Lists the winner's other turns.
+    fn list_others(
+        &mut self,
+        finish: &Finish,
+        visit: &Visit,
+        own: Option<Step>,
+        living: PlaceSet,
+    ) -> Result<(), AllocError> {
+        let state = visit.state;
+        let side = finish.search.side(state.key.mover);
+        let mut rest = finish.playable(state).minus(living).places();
+        for _ in 0..u64::MAX {
+            let Some(place) = rest.take() else {
+                break;
+            };
+            let after = finish.search.after_move_at(state, side, place);
+            let is_legal = after.position != state.position
+                && !finish.search.past.has(after.key.position);
+            let is_over = finish.search.shapes.board.is_taken(after.position);
+            if is_legal && !is_over && own != Some(step_at(place)) {
+                self.ask(step_at(place), after, Question::Wins)?;
+            }
+        }
+        if own != Some(Step::Pass) && state.key.passes == 0 {
+            let after = finish.search.after(state, Step::Pass);
+            return self.ask(Step::Pass, after, Question::Wins);
+        }
+        Ok(())
+    }
+
+    /// Lists the replies of the proof that are legal here.
+    pub(crate) fn list_replies(
+        &mut self,
+        finish: &Finish,
+        visit: &Visit,
+    ) -> Result<(), AllocError> {
+        for place in 0..finish.search.proofs.branches(visit.proof).len() {
+            if let Some(branch) = finish.search.proofs.branch(visit.proof, place) {
+                self.list_reply(finish, visit.state, branch)?;
+            }
+        }
+        Ok(())
+    }
+
+    fn list_reply(
+        &mut self,
+        finish: &Finish,
+        state: State,
+        branch: Branch,
+    ) -> Result<(), AllocError> {
+        let turn = branch.turn;
+        let Some(step) = finish.search.shapes.board.step(turn) else {
+            return Ok(());
+        };
+        let after = finish.search.after(state, step);
+        if step != Step::Pass && finish.search.past.has(after.key.position) {
+            return Ok(());
+        }
+        self.ask(step, after, question_below(branch))
+    }
+}
+
+/// What is asked of a turn that the proof has.
+fn question_below(branch: Branch) -> Question {
+    match branch.below {
+        Below::Won => Question::Known(Below::Won),
+        Below::Proof(number) => Question::Smaller(number),
+    }
+}
+
+/// The turn by which the winner, who is to move, ends the game at once.
+fn ending_turn(finish: &Finish, visit: &Visit) -> Option<(Step, State)> {
+    let state = visit.state;
+    if finish.search.side(state.key.mover) == Side::Defender {
+        if state.key.passes == 0 {
+            return None;
+        }
+        return Some((Step::Pass, finish.search.after(state, Step::Pass)));
+    }
+    let after = finish.search.taking_turn(state)?;
+    let added = after.position.attacker.minus(state.position.attacker);
+    let place = added.first()?;
+    Some((step_at(place), after))
+}
+
+/// The places where the defender's move leaves him alive by his shape, but his own turn: the best of them are noted.
+fn find_living(
+    finish: &mut Finish,
+    state: State,
+    own: Option<Step>,
+    best: &mut LivingTurns,
+) -> PlaceSet {
+    let mut found = PlaceSet::empty();
+    let mut rest = finish.playable(state).places();
+    for _ in 0..u64::MAX {
+        let Some(place) = rest.take() else {
+            return found;
+        };
+        if own != Some(step_at(place)) && lives_after(finish, state, place) {
+            let after = finish.search.after_move_at(state, Side::Defender, place);
+            let room = finish.search.shapes.board.room_of_life(after.position);
+            best.add(place, room);
+            found = found.with(place);
+        }
+    }
+    found
+}
+
+/// Whether the defender's move at this place is legal and leaves him alive by his shape.
+fn lives_after(finish: &mut Finish, state: State, place: usize) -> bool {
+    let after = finish.search.after_move_at(state, Side::Defender, place);
+    after.position != state.position
+        && !finish.search.past.has(after.key.position)
+        && finish.search.shapes.is_alive(after.position)
+}

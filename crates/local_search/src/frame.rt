@@ -1,0 +1,134 @@
+//! One state of the line of play that is searched, with its children.
+
+use crate::numbers::{Count, MoverNumbers, Thresholds};
+use go_points::Colour;
+use local_board::{Position, Step};
+use pn_table::Key;
+
+/// A state, by the places of its stones and by what it is known by.
+#[derive(Clone, Copy)]
+pub(crate) struct State {
+    pub(crate) position: Position,
+    pub(crate) key: Key,
+}
+
+/// Why a state is settled.
+#[derive(Clone, Copy, Debug, PartialEq, Eq)]
+pub(crate) enum Reason {
+    /// The game is over there.
+    Over,
+    /// This proof holds there.
+    Proof(u32),
+    /// The defender passes for the second time.
+    Passes,
+    /// The attacker takes a target at once.
+    Takes,
+    /// The defender lives by his shape.
+    Alive,
+    /// The defender cannot have two eyes.
+    Dead,
+    /// The mover has a turn after which the defender lives by his shape, or cannot have two eyes.
+    Next,
+}
+
+/// What is known of a child, as the mover of the state above sees it.
+#[derive(Clone, Copy)]
+pub(crate) enum Outcome {
+    Open(MoverNumbers),
+    Wins(Reason),
+    Loses(Reason),
+}
+
+/// A state one turn further.
+#[derive(Clone, Copy)]
+pub(crate) struct Child {
+    pub(crate) step: Step,
+    pub(crate) key: Key,
+    pub(crate) outcome: Outcome,
+    /// How many points are left there where the defender could have an eye, where that was asked.
+    pub(crate) many: Option<u8>,
+    /// How unlikely the turn is to win, in eighths: its number counts so many times.
+    pub(crate) weight: u32,
+}
+
+/// A state of the line. Its children stand after those of the states above it, in one list for all.
+#[derive(Clone, Copy)]
+pub(crate) struct Frame {
+    pub(crate) state: State,
+    /// The turn before it.
+    pub(crate) last: Step,
+    pub(crate) thresholds: Thresholds,
+    /// The place of the first child.
+    pub(crate) first: usize,
+    /// The place of the child that is worked on.
+    pub(crate) current: usize,
+    /// Whether the past bars a move.
+    pub(crate) is_barred: bool,
+}
+
+/// What the children say of their state.
+#[derive(Clone, Copy)]
+pub(crate) enum Standing {
+    /// The mover wins by a child.
+    Wins,
+    /// The mover loses by all children.
+    Loses,
+    Open(Count),
+}
+
+/// What these children say of their state.
+pub(crate) fn standing_of(children: &[Child]) -> Standing {
+    let mut count: Option<Count> = None;
+    for place in 0..children.len() {
+        match children[place].outcome {
+            Outcome::Wins(_) => return Standing::Wins,
+            Outcome::Loses(_) => {}
+            Outcome::Open(numbers) => {
+                let weight = children[place].weight;
+                count = match count {
+                    None => Some(Count::one(place, numbers, weight)),
+                    Some(count) => Some(count.with(place, numbers, weight)),
+                };
+            }
+        }
+    }
+    match count {
+        None => Standing::Loses,
+        Some(count) => Standing::Open(count),
+    }
+}
+
+/// What is known of a state after a pass.
+pub(crate) fn after_pass(key: Key) -> Key {
+    Key {
+        position: key.position,
+        mover: key.mover.opponent(),
+        passes: key.passes.saturating_add(1),
+    }
+}
+
+/// What is known of a state after a move to this position.
+pub(crate) fn after_move(key: Key, position: u64) -> Key {
+    Key {
+        position,
+        mover: key.mover.opponent(),
+        passes: 0,
+    }
+}
+
+/// What is known of a state after this turn, which leads to this position.
+pub(crate) fn after_step(key: Key, step: Step, position: u64) -> Key {
+    match step {
+        Step::Pass => after_pass(key),
+        Step::At(_) => after_move(key, position),
+    }
+}
+
+/// The outcome of a settled child.
+pub(crate) fn outcome_by(mover: Colour, winner: Colour, reason: Reason) -> Outcome {
+    if winner == mover {
+        Outcome::Wins(reason)
+    } else {
+        Outcome::Loses(reason)
+    }
+}

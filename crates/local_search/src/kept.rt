@@ -1,0 +1,125 @@
+//! The moves of states that were expanded: a state that comes back is not expanded again while its moves are kept.
+
+use indexmap::IndexMap;
+use local_board::Step;
+use pn_table::Key;
+use std::alloc::{AllocError, Global};
+use std::mem;
+
+/// How many moves a list takes before the next is begun.
+const ROOM: usize = 1_000_000;
+
+/// A turn of a state, and the position after it.
+#[derive(Clone, Copy)]
+pub(crate) struct KeptMove {
+    pub(crate) step: Step,
+    pub(crate) position: u64,
+    /// How many points are left there where the defender could have an eye, where that was asked.
+    pub(crate) many: Option<u8>,
+}
+
+/// The turns of a state, in the newer list.
+#[derive(Clone, Copy)]
+pub(crate) struct KeptState {
+    first: usize,
+    pub(crate) count: usize,
+}
+
+/// The latest states that were expanded, in two lists of their turns: where the newer is full it becomes the older, and what that
+/// held is forgotten.
+#[derive(Drop)]
+pub(crate) struct KeptMoves {
+    alloc: Global,
+    states: IndexMap<Key, KeptState>,
+    moves: Vec<KeptMove>,
+    older_states: IndexMap<Key, KeptState>,
+    older_moves: Vec<KeptMove>,
+}
+
+impl KeptMoves {
+    pub(crate) fn new(alloc: Global) -> KeptMoves {
+        KeptMoves {
+            alloc,
+            states: IndexMap::new(alloc),
+            moves: Vec::new(alloc),
+            older_states: IndexMap::new(alloc),
+            older_moves: Vec::new(alloc),
+        }
+    }
+
+    /// Forgets all.
+    pub(crate) fn forget(&mut self) {
+        self.states.clear();
+        self.moves.clear();
+        self.older_states.clear();
+        self.older_moves.clear();
+    }
+
+    /// The turns of the state, where it is kept.
+    pub(crate) fn find(&mut self, key: Key) -> Result<Option<KeptState>, AllocError> {
+        if let Some(state) = self.states.get(&key).copied() {
+            return Ok(Some(state));
+        }
+        let Some(state) = self.older_states.get(&key).copied() else {
+            return Ok(None);
+        };
+        let first = self.moves.len();
+        for place in 0..state.count {
+            if let Some(kept) = self
+                .older_moves
+                .get(state.first.saturating_add(place))
+                .copied()
+            {
+                self.add(kept)?;
+            }
+        }
+        Ok(Some(self.keep(key, first)?))
+    }
+
+    /// Begins the turns of a state: the place of the first of them.
+    pub(crate) fn begin(&mut self) -> usize {
+        if self.moves.len() >= ROOM {
+            self.older_moves = mem::replace(&mut self.moves, Vec::new(self.alloc));
+            self.older_states = mem::replace(&mut self.states, IndexMap::new(self.alloc));
+        }
+        self.moves.len()
+    }
+
+    /// Adds a turn of the state that was begun last.
+    pub(crate) fn add(&mut self, kept: KeptMove) -> Result<(), AllocError> {
+        // Its parts are named, since the prover has to meet the type of its turn here.
+        let step: Step = kept.step;
+        self.moves.push(KeptMove {
+            step,
+            position: kept.position,
+            many: kept.many,
+        })?;
+        Ok(())
+    }
+
+    /// Keeps the state whose turns were added from this place on.
+    pub(crate) fn keep(&mut self, key: Key, first: usize) -> Result<KeptState, AllocError> {
+        let state = KeptState {
+            first,
+            count: self.moves.len().saturating_sub(first),
+        };
+        self.states.insert(key, state)?;
+        Ok(state)
+    }
+
+    /// The turn of this place of the state.
+    pub(crate) fn get(&self, state: KeptState, place: usize) -> Option<KeptMove> {
+        self.moves.get(state.first.saturating_add(place)).copied()
+    }
+
+    /// Notes how many points for eyes are left after the state's turn.
+    pub(crate) fn note(&mut self, state: KeptState, step: Step, many: Option<u8>) {
+        for place in 0..state.count {
+            let at = state.first.saturating_add(place);
+            if at < self.moves.len() && self.moves[at].step == step {
+                self.moves[at].many = many;
+                return;
+            }
+        }
+    }
+}

@@ -1,0 +1,24 @@
+//! Depth-first proof-number search that knows living groups, and hopeless ones, by their shape.
+//!
+//! It is for problems with at most 128 points that can change. Nothing is promised of a proof but that the steps are counted:
+//! the claim of it is to be put to the checker.
+#![tactic(auto)]
+
+mod asked;
+mod dying;
+mod expanding;
+mod finish;
+mod frame;
+mod kept;
+mod living;
+mod numbers;
+mod order;
+mod questions;
+mod results;
+mod search;
+mod settled;
+mod smaller;
+mod steps;
+mod values;
+
+pub use order::{Answers, prove};

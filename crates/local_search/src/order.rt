@@ -1,0 +1,198 @@
+//! The shared proofs of a problem, by the search: the order of all its parts.
+
+ghost use Rattle.std.specs.Prelude.{◌≡◌, ◌≤◌, IfErr};
+ghost use Rattle.state_proofs.specs.declared.stop.Stop.TheVariants.{Steps};
+
+use crate::finish::{Finish, Goal};
+use crate::frame::State;
+use crate::search::Search;
+use crate::smaller::Smaller;
+use local_board::Step;
+use state_proofs::{Below, Refusal, Shared, Stop, used_by};
+use std::alloc::{AllocError, Global};
+use std::num::NonZeroUsize;
+use target_game::Problem;
+
+/// Which answer is wanted.
+#[derive(Clone, Copy, Debug, PartialEq, Eq)]
+pub enum Answers {
+    /// The first that stands.
+    First,
+    /// A small one, by the steps that are left then.
+    Small,
+}
+
+/// An answer of more turns than this is large: the search is repeated, and takes a group to live only where little is left to play.
+const LARGE: u64 = 10_000;
+
+/// How little that is; none, where it is not asked at all who cannot have two eyes.
+const ROOMS: [u32; 5] = [0, 15, 11, 7, 4];
+
+/// The steps that are set aside for the last walk.
+const LAST_STEPS: u64 = 500;
+
+/// The proofs that the search finds with a table of so many states. Each state that is opened is a step.
+pub fn prove(
+    alloc: Global,
+    problem: &Problem,
+    table: NonZeroUsize,
+    answers: Answers,
+    left: &mut u64,
+) -> Result<Shared, Stop>
+    ensures fewer { left.new ≤ left.old }
+    ensures all { IfErr result (λ stop. stop ≡ Steps → left.new ≡ 0) }
+{
+    let Ok((search, start)) = Search::of(alloc, problem, table, *left) else {
+        return Err(Stop::Refused(Refusal::Memory));
+    };
+    let mut proving = Proving {
+        finish: Finish::of(alloc, search),
+        start,
+        whole: Vec::new(alloc),
+    };
+    let found = proving.prove(alloc, answers);
+    let rest = proving.finish.search.steps.left;
+    *left = rest.min(*left);
+    match found {
+        Ok(shared) => Ok(shared),
+        Err(Stop::Steps) => {
+            // The search stops for its steps only where it has made them all, so this is never so.
+            if *left > 0 {
+                return Err(Stop::Refused(Refusal::Fault));
+            }
+            Err(Stop::Steps)
+        }
+        Err(Stop::Refused(refusal)) => Err(Stop::Refused(refusal)),
+    }
+}
+
+/// The whole of the search.
+#[derive(Drop)]
+struct Proving {
+    finish: Finish,
+    start: State,
+    /// The proofs that were made whole, by their places in the list.
+    whole: Vec<(usize, usize)>,
+}
+
+impl Proving {
+    /// The proofs that are found.
+    fn prove(&mut self, alloc: Global, answers: Answers) -> Result<Shared, Stop> {
+        let first = self.first()?;
+        let best = match answers {
+            Answers::First => first,
+            Answers::Small => self.smaller(alloc, first),
+        };
+        let Some(proof) = self.finish.search.proofs.get(best) else {
+            return Err(Stop::Refused(Refusal::Fault));
+        };
+        let (proofs, root) = used_by(alloc, &self.finish.search.proofs, best)?;
+        Ok(Shared {
+            winner: proof.winner,
+            proofs,
+            root,
+        })
+    }
+
+    /// The first whole proof. Where a state that was taken for dead is not, all is searched again without that.
+    fn first(&mut self) -> Result<u32, Stop> {
+        if let Some(number) = self.find()? {
+            return Ok(number);
+        }
+        self.finish.search.asks_death = false;
+        self.finish.search.forget();
+        match self.find()? {
+            Some(number) => Ok(number),
+            None => Err(Stop::Refused(Refusal::Fault)),
+        }
+    }
+
+    /// Searches, and makes what is found whole: none, where that fails.
+    fn find(&mut self) -> Result<Option<u32>, Stop> {
+        let found = self.finish.search.settle(self.start, Step::Pass)?;
+        self.finish.search.proofs.hide_all();
+        let from = self.finish.search.proofs.len();
+        let made = self.finish.make(self.start, Goal::Whole(found))?;
+        self.whole.push((from, self.finish.search.proofs.len()))?;
+        Ok(made)
+    }
+
+    fn turns_of(&self, number: u32) -> u64 {
+        self.finish.search.proofs.turns_below(Below::Proof(number))
+    }
+
+    /// A smaller proof than this one, where the steps that are left find one.
+    fn smaller(&mut self, alloc: Global, first: u32) -> u32 {
+        let mut best = first;
+        for room in ROOMS {
+            if (room == 0) == (self.turns_of(best) <= LARGE) {
+                best = self.with_room(room, best);
+            }
+        }
+        self.finish.search.asks_life = false;
+        self.finish.search.asks_death = false;
+        match self.shrunk(alloc, best) {
+            Ok(number) if self.turns_of(number) < self.turns_of(best) => number,
+            _ => best,
+        }
+    }
+
+    /// The smaller one of this proof and of what a search with so little room finds by a third of the steps that are left.
+    fn with_room(&mut self, room: u32, best: u32) -> u32 {
+        let third = self.finish.search.steps.left / 3;
+        let floor = self.finish.search.steps.begin(third);
+        self.finish.search.asks_death = room != 0;
+        self.finish.search.room = room;
+        self.finish.search.forget();
+        let found = self.find();
+        self.finish.search.room = 0;
+        self.finish.search.steps.end(floor);
+        match found {
+            Ok(Some(number)) if self.turns_of(number) < self.turns_of(best) => number,
+            _ => best,
+        }
+    }
+
+    /// The proof after rounds that put smaller proofs in place of larger ones, made whole again.
+    fn shrunk(&mut self, alloc: Global, root: u32) -> Result<u32, Stop> {
+        self.finish.search.forget();
+        self.show_whole()?;
+        self.finish.search.steps.floor = LAST_STEPS;
+        let root = Smaller::of(alloc).shrink(&mut self.finish, self.start, root);
+        self.finish.search.steps.floor = 0;
+        self.finish.search.proofs.hide_all();
+        match self.finish.make(self.start, Goal::Whole(root))? {
+            Some(number) => Ok(number),
+            None => Err(Stop::Refused(Refusal::Fault)),
+        }
+    }
+
+    /// Lets all whole proofs be found, but those that short searches made on the way.
+    fn show_whole(&mut self) -> Result<(), AllocError> {
+        for index in 0..self.whole.len() {
+            if let Some(range) = self.whole.get(index).copied() {
+                self.show_range(range.0, range.1)?;
+            }
+        }
+        Ok(())
+    }
+
+    fn show_range(&mut self, from: usize, to: usize) -> Result<(), AllocError> {
+        for place in from..to {
+            if !self.was_helped(place) {
+                self.finish.search.proofs.show(place)?;
+            }
+        }
+        Ok(())
+    }
+
+    /// Whether a short search made the proof of this place.
+    fn was_helped(&self, place: usize) -> bool {
+        for range in self.finish.helped.as_slice() {
+            if range.0 <= place && place < range.1 {
+                return true;
+            }
+        }
+        false
+    }
+}

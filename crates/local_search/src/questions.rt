@@ -1,0 +1,287 @@
+//! What is certain of a state without looking at its children, by the shape of its stones and by single turns.
+//!
+//! A question makes no state and is no step. What is answered by shape is played out at the end, and a guess that fails costs
+//! steps, never a wrong answer.
+
+use crate::frame::{Reason, State, after_move};
+use crate::search::Search;
+use local_board::{PlaceSet, Position, Room, Side, Step};
+
+/// A state that is expanded, and what is asked once for all its children.
+#[derive(Clone, Copy)]
+pub(crate) struct Parent {
+    pub(crate) state: State,
+    /// For each side the places where a stone is put down and nothing else changes.
+    pub(crate) plain: Position,
+    /// The places where one stone more could make the defender live, if the attacker had no stones.
+    lives: Option<PlaceSet>,
+    /// The attacker's turns that kill, or nearly, where the defender has passed.
+    kills: Option<PlaceSet>,
+}
+
+/// What was answered.
+#[derive(Clone, Copy)]
+pub(crate) struct Answer {
+    /// Why the state is settled.
+    pub(crate) reason: Option<Reason>,
+    /// Who wins then.
+    pub(crate) winner: Side,
+    /// How many points are left where the defender could have an eye, where that was asked.
+    pub(crate) many: Option<u8>,
+}
+
+/// A turn after which a state is certain.
+#[derive(Clone, Copy)]
+pub(crate) struct NextTurn {
+    pub(crate) step: Step,
+    pub(crate) state: State,
+    room: Room,
+}
+
+impl Parent {
+    pub(crate) fn of(state: State, plain: Position) -> Parent {
+        Parent {
+            state,
+            plain,
+            lives: None,
+            kills: None,
+        }
+    }
+}
+
+/// The state is settled for this reason.
+fn settled(reason: Reason, winner: Side, many: Option<u8>) -> Answer {
+    Answer {
+        reason: Some(reason),
+        winner,
+        many,
+    }
+}
+
+impl Search {
+    /// What is certain of a child of the parent's. `takes`: the turn to it took stones, of either side.
+    pub(crate) fn ask(&mut self, parent: &mut Parent, child: State, takes: bool) -> Answer {
+        let mover = self.side(child.key.mover);
+        if mover == Side::Defender && child.key.passes == 1 {
+            return settled(Reason::Passes, Side::Defender, None);
+        }
+        if mover == Side::Attacker && self.taking_turn(child).is_some() {
+            return settled(Reason::Takes, Side::Attacker, None);
+        }
+        if self.lives_by_shape(child.position) {
+            return settled(Reason::Alive, Side::Defender, None);
+        }
+        if mover == Side::Defender && self.lives_by_turn(parent, child, takes) {
+            return settled(Reason::Next, Side::Defender, None);
+        }
+        self.ask_eyes(parent, child, takes)
+    }
+
+    /// What the points for eyes say of the child.
+    fn ask_eyes(&mut self, parent: &mut Parent, child: State, takes: bool) -> Answer {
+        if !self.asks_death {
+            return Answer {
+                reason: None,
+                winner: Side::Attacker,
+                many: None,
+            };
+        }
+        let eyes = self.shapes.eyes(child.position);
+        let many = Some(eyes.many);
+        if eyes.is_dead {
+            return settled(Reason::Dead, Side::Attacker, many);
+        }
+        if self.side(child.key.mover) == Side::Attacker && self.dies_by_turn(parent, child, takes) {
+            return settled(Reason::Next, Side::Attacker, many);
+        }
+        Answer {
+            reason: None,
+            winner: Side::Attacker,
+            many,
+        }
+    }
+
+    /// Whether the defender has a turn here after which he lives by his shape.
+    fn lives_by_turn(&mut self, parent: &mut Parent, child: State, takes: bool) -> bool {
+        if !self.asks_life {
+            return false;
+        }
+        let at = if takes {
+            self.shapes.board.region()
+        } else {
+            self.living_places(parent)
+        };
+        !at.is_empty() && self.next_turn(child, Side::Defender, at).is_some()
+    }
+
+    /// Whether the attacker has a turn here after which the defender cannot have two eyes.
+    fn dies_by_turn(&mut self, parent: &mut Parent, child: State, takes: bool) -> bool {
+        let at = if takes {
+            self.shapes.board.region()
+        } else {
+            self.killing_places(parent)
+        };
+        !at.is_empty() && self.next_turn(child, Side::Attacker, at).is_some()
+    }
+
+    /// The turn by which the attacker takes a target at once.
+    pub(crate) fn taking_turn(&self, state: State) -> Option<State> {
+        let mut rest = self.shapes.board.takes(state.position).places();
+        for _ in 0..u64::MAX {
+            let place = rest.take()?;
+            let after = self.after_move_at(state, Side::Attacker, place);
+            if !self.past.has(after.key.position) {
+                return Some(after);
+            }
+        }
+        None
+    }
+
+    /// The state after a move at this place.
+    pub(crate) fn after_move_at(&self, state: State, side: Side, place: usize) -> State {
+        let board = &self.shapes.board;
+        let position = board.after(state.position, side, place);
+        self.moved(state, position)
+    }
+
+    /// The state after a move that leads to this position.
+    pub(crate) fn moved(&self, state: State, position: Position) -> State {
+        let number = self
+            .shapes
+            .board
+            .key_from(state.position, state.key.position, position);
+        State {
+            position,
+            key: after_move(state.key, number),
+        }
+    }
+
+    /// Whether the defender is taken to live here, by his shape and with no more left to play than is allowed.
+    pub(crate) fn lives_by_shape(&mut self, position: Position) -> bool {
+        self.asks_life
+            && self.shapes.is_alive(position)
+            && (self.room == 0 || self.shapes.board.room_of_life(position).whole < self.room)
+    }
+
+    /// The places where one stone more could make the defender live, if the attacker had no stones. It loses nothing: where a turn of
+    /// the attacker's takes nothing the defender has these stones after it, and the attacker's never help him.
+    fn living_places(&mut self, parent: &mut Parent) -> PlaceSet {
+        if let Some(places) = parent.lives {
+            return places;
+        }
+        let defender = parent.state.position.defender;
+        let empty = self.shapes.board.empty(parent.state.position);
+        let mut found = PlaceSet::empty();
+        let mut rest = empty.and(self.shapes.board.region()).places();
+        for _ in 0..u64::MAX {
+            let Some(place) = rest.take() else {
+                break;
+            };
+            if self.shapes.may_live(defender.with(place)) {
+                found = found.with(place);
+            }
+        }
+        parent.lives = Some(found);
+        found
+    }
+
+    /// The attacker's turns that kill, or nearly, where the defender has passed. A guess: what it misses is searched.
+    fn killing_places(&mut self, parent: &mut Parent) -> PlaceSet {
+        if let Some(places) = parent.kills {
+            return places;
+        }
+        let position = parent.state.position;
+        let empty = self.shapes.board.empty(position);
+        let mut found = PlaceSet::empty();
+        let mut rest = empty.and(self.shapes.board.region()).places();
+        for _ in 0..u64::MAX {
+            let Some(place) = rest.take() else {
+                break;
+            };
+            let played = self
+                .shapes
+                .board
+                .played(position, Side::Attacker, place, parent.plain.attacker);
+            if let Some(after) = played {
+                if self.shapes.eyes(after).is_nearly_dead {
+                    found = found.with(place);
+                }
+            }
+        }
+        parent.kills = Some(found);
+        found
+    }
+
+    /// Whether the side has what it wants by shape.
+    fn is_certain(&mut self, side: Side, position: Position) -> bool {
+        match side {
+            Side::Defender => self.lives_by_shape(position),
+            Side::Attacker => self.asks_death && self.shapes.eyes(position).is_dead,
+        }
+    }
+
+    /// The side's first turn at one of these places after which the state is certain, and whose result has not occurred.
+    fn next_turn(&mut self, state: State, side: Side, at: PlaceSet) -> Option<NextTurn> {
+        let empty = self.shapes.board.empty(state.position);
+        let mut rest = empty.and(self.shapes.board.region()).and(at).places();
+        for _ in 0..u64::MAX {
+            let place = rest.take()?;
+            if let Some(turn) = self.certain_turn(state, side, place) {
+                return Some(turn);
+            }
+        }
+        None
+    }
+
+    /// The side's turn of that kind that leaves least to play.
+    pub(crate) fn best_next_turn(&mut self, state: State, side: Side) -> Option<NextTurn> {
+        let mut best: Option<NextTurn> = None;
+        let empty = self.shapes.board.empty(state.position);
+        let mut rest = empty.and(self.shapes.board.region()).places();
+        for _ in 0..u64::MAX {
+            let Some(place) = rest.take() else {
+                return best;
+            };
+            if let Some(turn) = self.certain_turn(state, side, place) {
+                let weighed = self.weigh_turn(turn, side, place);
+                best = better_turn(best, weighed);
+            }
+        }
+        best
+    }
+
+    /// The side's turn at this place, where the state is certain after it and its result has not occurred.
+    fn certain_turn(&mut self, state: State, side: Side, place: usize) -> Option<NextTurn> {
+        let after = self.after_move_at(state, side, place);
+        if after.position == state.position || !self.is_certain(side, after.position) {
+            return None;
+        }
+        if self.past.has(after.key.position) || place > u16::MAX as usize {
+            return None;
+        }
+        Some(NextTurn {
+            step: Step::At(place as u16),
+            state: after,
+            room: Room::most(),
+        })
+    }
+
+    /// The turn with what it leaves to play.
+    fn weigh_turn(&self, turn: NextTurn, side: Side, place: usize) -> NextTurn {
+        let position = turn.state.position;
+        let board = &self.shapes.board;
+        let room = match side {
+            Side::Defender => board.room_of_life(position),
+            Side::Attacker => board.room_of_death(position, place),
+        };
+        NextTurn { room, ..turn }
+    }
+}
+
+/// The better of the two turns.
+fn better_turn(best: Option<NextTurn>, turn: NextTurn) -> Option<NextTurn> {
+    match best {
+        Some(found) if found.room <= turn.room => Some(found),
+        _ => Some(turn),
+    }
+}

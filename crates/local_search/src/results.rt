@@ -1,0 +1,126 @@
+//! How often turns have won.
+
+use local_board::{Side, Step};
+use std::alloc::{AllocError, Global};
+
+/// How often a turn was tried, and how often it won.
+#[derive(Clone, Copy)]
+struct Tally {
+    won: u32,
+    tried: u32,
+}
+
+/// How often the turns of each side have won, after each last turn and in all.
+#[derive(Drop)]
+pub(crate) struct TurnResults {
+    tallies: Vec<Tally>,
+    /// How many places there are.
+    places: usize,
+}
+
+/// The most tries that a tally keeps.
+const MAX_TRIED: u32 = 200;
+
+/// The weight of a turn that nothing is known of, and the least and the greatest weight.
+const EVEN: u32 = 8;
+
+const LEAST: u32 = 4;
+
+const GREATEST: u32 = 32;
+
+impl TurnResults {
+    /// None yet, on a board with so many places.
+    pub(crate) fn of(alloc: Global, places: usize) -> Result<TurnResults, AllocError> {
+        let width = places.saturating_add(2);
+        let count = width.saturating_mul(width).saturating_mul(2);
+        let mut tallies = Vec::with_capacity(alloc, count)?;
+        for _ in 0..count {
+            tallies.push(Tally { won: 0, tried: 0 })?;
+        }
+        Ok(TurnResults { tallies, places })
+    }
+
+    /// The place of a turn in a row.
+    fn column(&self, step: Step) -> usize {
+        match step {
+            Step::At(place) => place as usize,
+            Step::Pass => self.places,
+        }
+    }
+
+    /// Where the tally of the side's turn stands in this row.
+    fn index(&self, side: Side, row: usize, step: Step) -> usize {
+        let width = self.places.saturating_add(2);
+        let first = match side {
+            Side::Attacker => 0,
+            Side::Defender => width,
+        };
+        first
+            .saturating_add(row)
+            .saturating_mul(width)
+            .saturating_add(self.column(step))
+    }
+
+    fn get(&self, side: Side, row: usize, step: Step) -> Tally {
+        match self.tallies.get(self.index(side, row, step)) {
+            Some(tally) => *tally,
+            None => Tally { won: 0, tried: 0 },
+        }
+    }
+
+    /// How unlikely the side's turn after the last one is to win, in eighths: eight times the root of a half in the chance.
+    pub(crate) fn weight(&self, side: Side, step: Step, last: Step) -> u32 {
+        let after = self.get(side, self.column(last), step);
+        let all = self.get(side, self.places.saturating_add(1), step);
+        let known = all.tried.saturating_add(4);
+        let chance = after.tried.saturating_add(4).saturating_mul(known);
+        let won = after
+            .won
+            .saturating_mul(known)
+            .saturating_add(all.won.saturating_add(1).saturating_mul(4));
+        root(chance.saturating_mul(32) / won.max(1))
+    }
+
+    /// Notes whether the side's turn after the last one has won.
+    pub(crate) fn learn(&mut self, side: Side, step: Step, last: Step, won: bool) {
+        let own = self.column(last);
+        self.note(side, own, step, won);
+        self.note(side, self.places.saturating_add(1), step, won);
+    }
+
+    fn note(&mut self, side: Side, row: usize, step: Step, won: bool) {
+        let at = self.index(side, row, step);
+        if at < self.tallies.len() {
+            let tally = self.tallies[at];
+            let more = if won { 1 } else { 0 };
+            let next = Tally {
+                won: tally.won.saturating_add(more),
+                tried: tally.tried.saturating_add(1),
+            };
+            self.tallies[at] = if next.tried > MAX_TRIED {
+                Tally {
+                    won: next.won / 2,
+                    tried: next.tried / 2,
+                }
+            } else {
+                next
+            };
+        }
+    }
+}
+
+/// The whole root, within the least and the greatest weight.
+fn root(square: u32) -> u32 {
+    for weight in LEAST..GREATEST {
+        let next = weight + 1;
+        if next * next > square {
+            return weight;
+        }
+    }
+    GREATEST
+}
+
+/// The weight of a turn that nothing is known of.
+pub(crate) fn even_weight() -> u32 {
+    EVEN
+}

@@ -1,0 +1,319 @@
+//! Depth-first proof-number search.
+//!
+//! The line of play that is searched stands on a stack of frames, with the children of all of them in one list. The work
+//! goes down to the child with the least weighed number for its mover, and comes back where the child is settled or its numbers
+//! reach their thresholds. The moves of a state that was expanded are kept, so that it need not be expanded again where the work
+//! comes back to it. A settled state becomes a proof, which is used again wherever its conditions on the past hold.
+//!
+//! Nothing is promised of the numbers: what is found is put to the checker.
+
+use crate::frame::{
+    Child, Frame, Outcome, Reason, Standing, State, after_step, outcome_by, standing_of,
+};
+use crate::kept::KeptMoves;
+use crate::numbers::{Count, MoverNumbers, Thresholds};
+use crate::results::TurnResults;
+use crate::steps::Steps;
+use go_points::Colour;
+use local_board::{Board, Position, Shapes, Side, Step};
+use pn_table::{Key, Table};
+use state_proofs::{Branch, Form, MAX_LINE, Past, Proofs, Refusal, Stop};
+use std::alloc::{AllocError, Global};
+use std::num::NonZeroUsize;
+use stone_key::key_of;
+use target_game::Problem;
+
+/// A search on a board of at most 128 points that can change.
+#[derive(Drop)]
+pub(crate) struct Search {
+    pub(crate) shapes: Shapes,
+    pub(crate) proofs: Proofs,
+    /// What has occurred before the end of the line, and how many turns the line has.
+    pub(crate) past: Past,
+    pub(crate) turns: usize,
+    pub(crate) attacker: Colour,
+    pub(crate) steps: Steps,
+    /// Whether it is asked who lives, and who cannot have two eyes, by shape; and below how much that is left to play a group is
+    /// taken to live (0: however much).
+    pub(crate) asks_life: bool,
+    pub(crate) asks_death: bool,
+    pub(crate) room: u32,
+    pub(crate) table: Table,
+    pub(crate) kept: KeptMoves,
+    pub(crate) results: TurnResults,
+    pub(crate) frames: Vec<Frame>,
+    pub(crate) children: Vec<Child>,
+    /// The branches of one proof.
+    pub(crate) branches: Vec<Branch>,
+    /// The barred positions of one state.
+    pub(crate) barred: Vec<u64>,
+}
+
+impl Search {
+    /// A search that knows nothing, at the start of the problem: the search, and its first state.
+    pub(crate) fn of(
+        alloc: Global,
+        problem: &Problem,
+        capacity: NonZeroUsize,
+        left: u64,
+    ) -> Result<(Search, State), AllocError> {
+        let (board, position) = Board::of(alloc, problem)?;
+        let places = board.len();
+        let search = Search {
+            shapes: Shapes::of(alloc, board)?,
+            proofs: Proofs::new(alloc),
+            past: past_of(alloc, problem)?,
+            turns: 0,
+            attacker: problem.defender().opponent(),
+            steps: Steps { left, floor: 0 },
+            asks_life: true,
+            asks_death: true,
+            room: 0,
+            table: Table::with_capacity(alloc, capacity)?,
+            kept: KeptMoves::new(alloc),
+            results: TurnResults::of(alloc, places)?,
+            frames: Vec::new(alloc),
+            children: Vec::new(alloc),
+            branches: Vec::new(alloc),
+            barred: Vec::new(alloc),
+        };
+        Ok((search, first_state(problem, position)))
+    }
+
+    /// The side that has this colour.
+    pub(crate) fn side(&self, colour: Colour) -> Side {
+        if colour == self.attacker {
+            Side::Attacker
+        } else {
+            Side::Defender
+        }
+    }
+
+    /// The colour of this side.
+    pub(crate) fn colour(&self, side: Side) -> Colour {
+        match side {
+            Side::Attacker => self.attacker,
+            Side::Defender => self.attacker.opponent(),
+        }
+    }
+
+    /// The state after this turn.
+    pub(crate) fn after(&self, state: State, step: Step) -> State {
+        match step {
+            Step::Pass => State {
+                position: state.position,
+                key: after_step(state.key, step, state.key.position),
+            },
+            Step::At(place) => {
+                self.after_move_at(state, self.side(state.key.mover), place as usize)
+            }
+        }
+    }
+
+    /// Adds a turn to the line, which leads to this position.
+    pub(crate) fn go(&mut self, step: Step, position: u64) -> Result<(), Refusal> {
+        if self.turns >= MAX_LINE {
+            return Err(Refusal::Limit);
+        }
+        if step != Step::Pass && !self.past.add(position)? {
+            return Err(Refusal::Fault);
+        }
+        self.turns += 1;
+        Ok(())
+    }
+
+    /// Takes the last turn of the line back, which was this one.
+    pub(crate) fn back(&mut self, step: Step) {
+        if step != Step::Pass {
+            self.past.take_last();
+        }
+        self.turns = self.turns.saturating_sub(1);
+    }
+
+    /// Takes turns back until the line has so many, and so many positions have occurred.
+    pub(crate) fn back_to(&mut self, turns: usize, positions: usize) {
+        for _ in positions..self.past.len() {
+            self.past.take_last();
+        }
+        self.turns = turns;
+    }
+
+    /// Forgets what was found: proofs are not found any more, and states are expanded again.
+    pub(crate) fn forget(&mut self) {
+        self.proofs.hide_all();
+        self.kept.forget();
+    }
+
+    /// The proof of a state at the end of the line that holds there.
+    pub(crate) fn proof_here(&self, key: Key) -> Option<u32> {
+        self.proofs.find(key, &self.past, self.turns)
+    }
+
+    /// The proof of a state one turn further that holds there.
+    pub(crate) fn proof_after(&self, key: Key) -> Option<u32> {
+        self.proofs
+            .find(key, &self.past, self.turns.saturating_add(1))
+    }
+
+    /// The proof of a state one turn further that holds there, and who wins by it.
+    pub(crate) fn proved(&self, key: Key) -> Option<(Colour, u32)> {
+        let number = self.proof_after(key)?;
+        let proof = self.proofs.get(number)?;
+        Some((proof.winner, number))
+    }
+
+    /// Searches the state at the end of the line, to which this turn has led, until it is settled. The line is then as it was.
+    pub(crate) fn settle(&mut self, state: State, last: Step) -> Result<u32, Stop> {
+        let turns = self.turns;
+        let positions = self.past.len();
+        self.frames.clear();
+        self.children.clear();
+        let settled = self.search(state, last);
+        self.back_to(turns, positions);
+        settled
+    }
+
+    /// The search, which leaves the line where it ends.
+    fn search(&mut self, state: State, last: Step) -> Result<u32, Stop> {
+        self.expand(state, last, Thresholds::none())?;
+        for _ in 0..u64::MAX {
+            if let Some(number) = self.round()? {
+                return Ok(number);
+            }
+        }
+        Err(Stop::Refused(Refusal::Fault))
+    }
+
+    /// The children of the frame, which is the last.
+    pub(crate) fn children_of(&self, frame: Frame) -> &[Child] {
+        if frame.first <= self.children.len() {
+            &self.children[frame.first..]
+        } else {
+            &self.children[..0]
+        }
+    }
+
+    /// Settles the last frame, leaves it, or goes down from it: the proof of the first state, where that is settled.
+    fn round(&mut self) -> Result<Option<u32>, Stop> {
+        let Some(frame) = self.frames.last().copied() else {
+            return Err(Stop::Refused(Refusal::Fault));
+        };
+        match standing_of(self.children_of(frame)) {
+            Standing::Wins => self.settle_last(frame, Form::Turn),
+            Standing::Loses => self.settle_last(frame, Form::Replies),
+            Standing::Open(count) => {
+                let numbers = count.numbers();
+                if self.frames.len() > 1 && frame.thresholds.are_reached(numbers) {
+                    self.leave_open(frame, numbers);
+                    return Ok(None);
+                }
+                self.go_down(frame, count)?;
+                Ok(None)
+            }
+        }
+    }
+
+    /// Makes the proof of the last frame, and gives it to the frame above.
+    fn settle_last(&mut self, frame: Frame, form: Form) -> Result<Option<u32>, Stop> {
+        let mover = frame.state.key.mover;
+        let winner = match form {
+            Form::Turn => mover,
+            _ => mover.opponent(),
+        };
+        self.learn(frame, winner == mover);
+        let number = self.prove(frame, winner, form)?;
+        let outcome = outcome_by(mover.opponent(), winner, Reason::Proof(number));
+        if self.leave(frame, outcome) {
+            Ok(None)
+        } else {
+            Ok(Some(number))
+        }
+    }
+
+    /// Notes which turns of the frame have won.
+    fn learn(&mut self, frame: Frame, mover_wins: bool) {
+        let side = self.side(frame.state.key.mover);
+        for place in frame.first..self.children.len() {
+            if let Some(child) = self.children.get(place).copied() {
+                match child.outcome {
+                    Outcome::Open(_) => {}
+                    Outcome::Wins(_) => self.results.learn(side, child.step, frame.last, true),
+                    Outcome::Loses(_) => {
+                        if !mover_wins {
+                            self.results.learn(side, child.step, frame.last, false);
+                        }
+                    }
+                }
+            }
+        }
+    }
+
+    /// Takes the last frame off, and notes this outcome in the frame above; whether there is one.
+    fn leave(&mut self, frame: Frame, outcome: Outcome) -> bool {
+        self.frames.pop();
+        self.children.truncate(frame.first);
+        let Some(above) = self.frames.last().copied() else {
+            return false;
+        };
+        self.back(frame.last);
+        self.set_outcome(above.current, outcome);
+        true
+    }
+
+    /// Leaves the last frame, which is not settled, with these numbers.
+    fn leave_open(&mut self, frame: Frame, numbers: MoverNumbers) {
+        let key = frame.state.key;
+        let is_attacker = key.mover == self.attacker;
+        // Where memory is refused the table does without.
+        let _stored = self.table.store(key, numbers.for_table(is_attacker));
+        let _left = self.leave(frame, Outcome::Open(numbers.turned()));
+    }
+
+    fn set_outcome(&mut self, place: usize, outcome: Outcome) {
+        if place < self.children.len() {
+            self.children[place].outcome = outcome;
+        }
+    }
+
+    /// Goes down to the child with the least weighed number, or settles it where it has been proved meanwhile.
+    fn go_down(&mut self, frame: Frame, count: Count) -> Result<(), Stop> {
+        let place = frame.first.saturating_add(count.best);
+        let Some(child) = self.children.get(place).copied() else {
+            return Err(Stop::Refused(Refusal::Fault));
+        };
+        if let Some((winner, number)) = self.proved(child.key) {
+            let outcome = outcome_by(frame.state.key.mover, winner, Reason::Proof(number));
+            self.set_outcome(place, outcome);
+            return Ok(());
+        }
+        let last = self.frames.len().saturating_sub(1);
+        if last < self.frames.len() {
+            self.frames[last].current = place;
+        }
+        let step = child.step;
+        let below = self.after(frame.state, step);
+        self.go(step, child.key.position)?;
+        self.expand(below, step, frame.thresholds.below(count))
+    }
+}
+
+/// What has occurred before the problem.
+fn past_of(alloc: Global, problem: &Problem) -> Result<Past, AllocError> {
+    let mut past = Past::new(alloc);
+    for colouring in problem.history() {
+        past.add(key_of(colouring))?;
+    }
+    Ok(past)
+}
+
+/// The state of the problem.
+fn first_state(problem: &Problem, position: Position) -> State {
+    State {
+        position,
+        key: Key {
+            position: key_of(problem.colouring()),
+            mover: problem.mover(),
+            passes: if problem.passes() == 0 { 0 } else { 1 },
+        },
+    }
+}

@@ -1,0 +1,242 @@
+//! The proof of a state that is settled, from its children.
+
+ghost use Rattle.std.specs.Prelude.{◌≡◌};
+
+use crate::expanding::step_at;
+use crate::frame::{Child, Frame, Outcome, Reason, State};
+use crate::search::Search;
+use go_points::{Colour, Turn};
+use local_board::{Side, Step};
+use state_proofs::{Below, Branch, Form, Proofs, Settled};
+use std::alloc::AllocError;
+
+/// The turns that a proof by shape counts for, by the empty points of the region: three times a power of two.
+const MOST_DOUBLINGS: u32 = 14;
+
+/// How deep a proof by shape counts.
+const DEPTH_BY_SHAPE: u32 = 30;
+
+impl Search {
+    /// Makes the proof of the last frame.
+    pub(crate) fn prove(
+        &mut self,
+        frame: Frame,
+        winner: Colour,
+        form: Form,
+    ) -> Result<u32, AllocError> {
+        self.branches.clear();
+        self.barred.clear();
+        let mut reached = None;
+        if form == Form::Turn {
+            if let Some(child) = winning_child(self.children_of(frame), &self.proofs) {
+                if child.step != Step::Pass {
+                    reached = Some(child.key.position);
+                }
+                self.add_branch(frame.state, child)?;
+            }
+        } else {
+            for place in frame.first..self.children.len() {
+                if let Some(child) = self.children.get(place).copied() {
+                    self.add_branch(frame.state, child)?;
+                }
+            }
+            if frame.is_barred {
+                self.list_barred(frame.state)?;
+            }
+        }
+        let settled = Settled {
+            key: frame.state.key,
+            winner,
+            form,
+            is_expanded: true,
+        };
+        self.add_proof(settled, reached)
+    }
+
+    /// Adds the branch to a settled child of the state.
+    fn add_branch(&mut self, state: State, child: Child) -> Result<(), AllocError> {
+        let step = child.step;
+        let reason = match child.outcome {
+            Outcome::Open(_) => return Ok(()),
+            Outcome::Wins(reason) | Outcome::Loses(reason) => reason,
+        };
+        let below = match reason {
+            Reason::Over => Below::Won,
+            Reason::Proof(number) => Below::Proof(number),
+            _ => {
+                let after = self.after(state, step);
+                Below::Proof(self.proof_by_question(reason, after)?)
+            }
+        };
+        let turn = self.shapes.board.turn(step);
+        self.branches.push(Branch { turn, below })?;
+        Ok(())
+    }
+
+    /// Lists the positions after the state's moves that the past bars.
+    pub(crate) fn list_barred(&mut self, state: State) -> Result<(), AllocError> {
+        let side = self.side(state.key.mover);
+        let empty = self.shapes.board.empty(state.position);
+        let mut rest = empty.and(self.shapes.board.region()).places();
+        for _ in 0..u64::MAX {
+            let Some(place) = rest.take() else {
+                return Ok(());
+            };
+            let after = self.after_move_at(state, side, place);
+            let position = after.key.position;
+            if position != state.key.position && self.past.has(position) {
+                self.barred.push(position)?;
+            }
+        }
+        Ok(())
+    }
+
+    pub(crate) fn add_proof(
+        &mut self,
+        settled: Settled,
+        reached: Option<u64>,
+    ) -> Result<u32, AllocError> {
+        self.proofs.add(
+            settled,
+            self.branches.as_slice(),
+            reached,
+            self.barred.as_slice(),
+        )
+    }
+
+    /// The proof of a state one turn after the end of the line that a question has settled. Its state has not been expanded.
+    pub(crate) fn proof_by_question(
+        &mut self,
+        reason: Reason,
+        state: State,
+    ) -> Result<u32, AllocError> {
+        if let Some(number) = self.proof_after(state.key) {
+            return Ok(number);
+        }
+        match reason {
+            Reason::Passes => self.proof_by_pass(state, false),
+            Reason::Takes => self.proof_by_taking(state, false),
+            Reason::Next => self.proof_by_next_turn(state),
+            Reason::Dead => self.proof_by_shape(state, Side::Attacker),
+            _ => self.proof_by_shape(state, Side::Defender),
+        }
+    }
+
+    /// The proof of a state where the defender passes for the second time.
+    pub(crate) fn proof_by_pass(
+        &mut self,
+        state: State,
+        is_expanded: bool,
+    ) -> Result<u32, AllocError> {
+        let branch = Branch {
+            turn: Turn::Pass,
+            below: Below::Won,
+        };
+        let settled = Settled {
+            key: state.key,
+            winner: self.colour(Side::Defender),
+            form: Form::Turn,
+            is_expanded,
+        };
+        self.proofs.add(settled, &[branch], None, &[])
+    }
+
+    /// The proof of a state where the attacker takes a target at once.
+    pub(crate) fn proof_by_taking(
+        &mut self,
+        state: State,
+        is_expanded: bool,
+    ) -> Result<u32, AllocError>
+        ensures steps { self.new.steps ≡ self.old.steps }
+    {
+        let settled = Settled {
+            key: state.key,
+            winner: self.attacker,
+            form: Form::Turn,
+            is_expanded,
+        };
+        let Some(after) = self.taking_turn(state) else {
+            return Err(AllocError);
+        };
+        let added = after.position.attacker.minus(state.position.attacker);
+        let step = match added.first() {
+            Some(place) => step_at(place),
+            None => Step::Pass,
+        };
+        let branch = Branch {
+            turn: self.shapes.board.turn(step),
+            below: Below::Won,
+        };
+        self.proofs
+            .add(settled, &[branch], Some(after.key.position), &[])
+    }
+
+    /// The proof of a state whose mover has a turn after which it is certain.
+    fn proof_by_next_turn(&mut self, state: State) -> Result<u32, AllocError> {
+        let side = self.side(state.key.mover);
+        let Some(next) = self.best_next_turn(state, side) else {
+            return Err(AllocError);
+        };
+        let number = match self.proof_after(next.state.key) {
+            Some(number) => number,
+            None => self.proof_by_shape(next.state, side)?,
+        };
+        let branch = Branch {
+            turn: self.shapes.board.turn(next.step),
+            below: Below::Proof(number),
+        };
+        let settled = Settled {
+            key: state.key,
+            winner: state.key.mover,
+            form: Form::Turn,
+            is_expanded: false,
+        };
+        self.proofs
+            .add(settled, &[branch], Some(next.state.key.position), &[])
+    }
+
+    /// The proof of a state that the side has won by shape. It is to be played out.
+    fn proof_by_shape(&mut self, state: State, winner: Side) -> Result<u32, AllocError> {
+        let empty = self.shapes.board.empty(state.position);
+        let playable = empty.and(self.shapes.board.region()).len();
+        let form = match winner {
+            Side::Attacker => Form::Dead,
+            Side::Defender => Form::Alive,
+        };
+        let settled = Settled {
+            key: state.key,
+            winner: self.colour(winner),
+            form,
+            is_expanded: false,
+        };
+        let turns = 3u64 << playable.min(MOST_DOUBLINGS);
+        self.proofs.add_by_shape(settled, turns, DEPTH_BY_SHAPE)
+    }
+}
+
+/// How good a winning child is: an end of the game by pass is best, then any end, then the fewest turns.
+fn cost(child: Child, reason: Reason, proofs: &Proofs) -> u64 {
+    match reason {
+        Reason::Over if child.step == Step::Pass => 0,
+        Reason::Over => 1,
+        Reason::Passes | Reason::Takes => 3,
+        Reason::Proof(number) => proofs.turns_below(Below::Proof(number)).saturating_add(2),
+        _ => 1_000,
+    }
+}
+
+/// The best of the children by which the mover wins.
+pub(crate) fn winning_child(children: &[Child], proofs: &Proofs) -> Option<Child> {
+    let mut best = None;
+    let mut least = u64::MAX;
+    for child in children {
+        if let Outcome::Wins(reason) = child.outcome {
+            let cost = cost(*child, reason, proofs);
+            if best.is_none() || cost < least {
+                best = Some(*child);
+                least = cost;
+            }
+        }
+    }
+    best
+}

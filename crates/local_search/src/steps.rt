@@ -1,0 +1,46 @@
+//! The steps that are left.
+
+ghost use Rattle.std.specs.Prelude.{◌≡◌, ◌≤◌, ◌<◌, ◌+◌, IsOk, OnOk, OnErr, IfErr};
+ghost use Rattle.state_proofs.specs.declared.stop.Stop.TheVariants as stops;
+
+use state_proofs::Stop;
+
+/// The steps that are left of a budget: work goes on until so many as `floor` are left.
+#[derive(Clone, Copy, Debug)]
+pub(crate) struct Steps {
+    pub(crate) left: u64,
+    pub(crate) floor: u64,
+}
+
+impl Steps {
+    /// Makes a step, where one may be made: `left` falls by one.
+    pub(crate) fn take(&mut self) -> Result<(), Stop>
+        ensures one { OnOk result (self.new.left + 1 ≡ self.old.left) }
+        ensures none { OnErr result (self.new.left ≡ self.old.left) }
+        ensures floor { self.new.floor ≡ self.old.floor }
+        ensures all { IfErr result (λ stop. self.new.left ≤ self.new.floor) }
+    {
+        if self.left <= self.floor {
+            return Err(Stop::Steps);
+        }
+        self.left -= 1;
+        Ok(())
+    }
+
+    /// So many of the steps that are left for a shorter search: the floor until then, which `end` takes back.
+    pub(crate) fn begin(&mut self, most: u64) -> u64 {
+        let before = self.floor;
+        self.floor = self.floor.max(self.left.saturating_sub(most));
+        before
+    }
+
+    /// Ends a shorter search.
+    pub(crate) fn end(&mut self, floor: u64) {
+        self.floor = floor;
+    }
+
+    /// Whether no step may be made.
+    pub(crate) fn are_made(self) -> bool {
+        self.left <= self.floor
+    }
+}

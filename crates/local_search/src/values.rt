@@ -1,0 +1,164 @@
+//! How much a turn is worth where a settled state is played out: how large the proof after it may become.
+
+use crate::expanding::step_at;
+use crate::finish::Finish;
+use crate::frame::{State, after_step};
+use local_board::{PlaceSet, Room, Side, Step};
+
+/// A number that grows by this much for each point of room, and where it stops.
+#[derive(Clone, Copy)]
+struct Growth {
+    times: u64,
+    over: u64,
+}
+
+/// Of a living state, by the attacker's room, and of a dead one, by the defender's.
+const LIFE: Growth = Growth { times: 5, over: 4 };
+
+const DEATH: Growth = Growth {
+    times: 13,
+    over: 10,
+};
+
+const FIRST_VALUE: u64 = 1 << 12;
+
+const MOST_VALUE: u64 = 1 << 50;
+
+/// The most branches below a known turn that is taken.
+const MAX_KNOWN_DEPTH: u32 = 1_000;
+
+/// A turn by which a settled state may be played out.
+#[derive(Clone, Copy)]
+pub(crate) struct Turned {
+    pub(crate) step: Step,
+    pub(crate) value: u64,
+    pub(crate) room: Room,
+}
+
+impl Turned {
+    /// A turn that is worse than all.
+    pub(crate) fn worst() -> Turned {
+        Turned {
+            step: Step::Pass,
+            value: u64::MAX,
+            room: Room::most(),
+        }
+    }
+
+    /// Whether it leaves less than the other.
+    pub(crate) fn is_before(self, other: Turned) -> bool {
+        self.value < other.value || self.value == other.value && self.room < other.room
+    }
+}
+
+/// What a state counts for with so much room.
+fn value_of_room(growth: Growth, room: u32) -> u64 {
+    let mut value = FIRST_VALUE;
+    for _ in 0..room {
+        if value >= MOST_VALUE {
+            return value;
+        }
+        value = value.saturating_mul(growth.times) / growth.over.max(1);
+    }
+    value
+}
+
+impl Finish {
+    /// The places where the mover may have moves.
+    pub(crate) fn playable(&self, state: State) -> PlaceSet {
+        let board = &self.search.shapes.board;
+        board.empty(state.position).and(board.region())
+    }
+
+    /// How many states the proof may have of which this is the first: those after a turn of the mover's that have no proof yet, and
+    /// itself, each as often as its room says. Where it is more than `most`, some number above it.
+    pub(crate) fn value(&self, state: State, room: u32, most: u64) -> u64 {
+        let side = self.search.side(state.key.mover);
+        let one = match side {
+            Side::Attacker => value_of_room(LIFE, room),
+            Side::Defender => value_of_room(DEATH, room),
+        };
+        let mut value = one;
+        let plain = self.search.shapes.board.plain(state.position).of(side);
+        let mut rest = self.playable(state).places();
+        for _ in 0..u64::MAX {
+            if value > most {
+                return value;
+            }
+            let Some(place) = rest.take() else {
+                return value;
+            };
+            if self.is_new_after(state, side, place, plain) {
+                value = value.saturating_add(one);
+            }
+        }
+        value
+    }
+
+    /// Whether the state after the side's move at this place has no proof yet.
+    fn is_new_after(&self, state: State, side: Side, place: usize, plain: PlaceSet) -> bool {
+        let board = &self.search.shapes.board;
+        match board.played(state.position, side, place, plain) {
+            Some(position) => {
+                let after = self.search.moved(state, position);
+                !self.search.proofs.knows(after.key)
+            }
+            None => false,
+        }
+    }
+
+    /// The mover's turn to a state that is proved already for him, by the fewest turns; none, where there is no such turn.
+    pub(crate) fn known_turn(&self, state: State) -> Option<(Step, u32)> {
+        let side = self.search.side(state.key.mover);
+        let mut best = None;
+        let mut least = u64::MAX;
+        let mut rest = self.playable(state).places();
+        for _ in 0..u64::MAX {
+            let Some(place) = rest.take() else {
+                break;
+            };
+            let after = self.search.after_move_at(state, side, place);
+            if after.position != state.position && !self.search.past.has(after.key.position) {
+                if let Some((number, turns)) = self.known_proof(state, after) {
+                    if turns < least {
+                        least = turns;
+                        best = Some((step_at(place), number));
+                    }
+                }
+            }
+        }
+        self.better_by_pass(state, side, best, least)
+    }
+
+    /// The known turn, or the defender's pass, where that is better.
+    fn better_by_pass(
+        &self,
+        state: State,
+        side: Side,
+        best: Option<(Step, u32)>,
+        least: u64,
+    ) -> Option<(Step, u32)> {
+        if side == Side::Attacker || state.key.passes > 0 {
+            return best;
+        }
+        let after = State {
+            position: state.position,
+            key: after_step(state.key, Step::Pass, state.key.position),
+        };
+        match self.known_proof(state, after) {
+            Some((number, turns)) if turns < least => Some((Step::Pass, number)),
+            _ => best,
+        }
+    }
+
+    /// The proof for the mover of a state after a turn of his, and its turns.
+    fn known_proof(&self, state: State, after: State) -> Option<(u32, u64)> {
+        let number = self.search.proof_after(after.key)?;
+        let proof = self.search.proofs.get(number)?;
+        if proof.winner == state.key.mover && proof.depth <= MAX_KNOWN_DEPTH {
+            Some((number, proof.turns))
+        } else {
+            None
+        }
+    }
+}

@@ -1,17 +1,23 @@
 #!/usr/bin/env python3
-"""Measures `tsumego solve` on a folder of problems beside another solver of the same game.
+"""Measures `tsumego solve --proof` on folders of problems beside other solvers of the same game, in one run.
 
-    tools/measure_search.py PROGRAM PEER FOLDER INDEX [--steps N,N..] [--every K] [--from K] [--table N] [--rows N]
+    tools/measure_search.py [options] NAME=SOLVER.. -- FOLDER..
 
-PROGRAM is the built tsumego, PEER a program that is called as `PEER run --design c --eps 1/2 --steps N --noclaim FILE` and
-prints the file, the winner or `unknown`, and its steps and seconds. INDEX has a line for each record of FOLDER: its name, and in the
-fourth column who wins. For each number of steps the shares that are solved, steps a second where neither solves, times where both do,
-sizes of claims and memory are printed, and each winner is compared. `not confirmed` has to stay 0. With --rows the records of
-smaller boards are written anew with so many rows, their stones and region in the same corner, and no winner is compared.
+A SOLVER is the path of a built tsumego, which is called as `SOLVER solve --proof --steps N < FILE`; or a command with `{steps}` and
+`{file}` in it, which prints a line whose second field (after a tab) is Black, White or `unknown..`, as
+
+    'stage B=./peer run steps={steps} shrink=0 claim=0 {file}'
+
+Each problem is given to all solvers one after the other. For each number of steps it prints, a line a solver: how many are solved, how many
+within so many seconds of processor time, the seconds in all and the greatest of a solved one, and the greatest memory; for tsumego also how
+many claims were not confirmed or past a limit (the first has to stay 0) and the sizes of claims. Then it names each problem that the first
+solver does not solve and another does, and each winner that differs between solvers or from an index (`index.tsv` in a FOLDER: the name in the
+first column, the winner in the fourth).
 """
 import argparse
 import os
 import re
+import shlex
 import statistics
 import subprocess
 import sys
@@ -19,127 +25,124 @@ import tempfile
 
 
 def run(words, stdin=None):
-    """The output, the processor seconds, and the greatest memory in MB."""
+    """The output, the processor seconds, the greatest memory in MB, and the status."""
     with tempfile.TemporaryFile() as out, open(stdin or os.devnull, "rb") as given:
         started = subprocess.Popen(words, stdin=given, stdout=out, stderr=subprocess.DEVNULL)
         _, status, used = os.wait4(started.pid, 0)
         started.returncode = os.waitstatus_to_exitcode(status)
         out.seek(0)
-        return out.read().decode(), used.ru_utime + used.ru_stime, used.ru_maxrss / 1024, started.returncode
+        return out.read(), used.ru_utime + used.ru_stime, used.ru_maxrss / 1024, started.returncode
 
 
-def winners(index):
-    known = {}
-    with open(index) as lines:
-        next(lines)
-        for line in lines:
-            fields = line.rstrip("\n").split("\t")
-            known[fields[0]] = (fields[3], int(fields[2] or 0))
-    return known
-
-
-def ours(program, record, steps, table):
-    words = [program, "solve", "--proof", "--steps", str(steps)]
-    if table:
-        words += ["--table", str(table)]
+def by_tsumego(program, record, steps, table):
+    words = [program, "solve", "--proof", "--steps", str(steps)] + (["--table", str(table)] if table else [])
     text, seconds, memory, code = run(words, record)
-    found = {"seconds": seconds, "memory": memory, "code": code, "text": ""}
-    claim = re.search(r"^tsucert \d+ \d+ ([BW])$", text, re.M)
+    found = {"seconds": seconds, "memory": memory, "winner": None, "said": "", "bytes": 0}
+    claim = re.search(rb"^tsucert \d+ \d+ ([BW])$", text, re.M)
     if claim:
-        body = text[claim.start():]
-        found["winner"] = {"B": "Black", "W": "White"}[claim.group(1)]
-        found["lemmas"] = len(re.findall(r"^lemma ", body, re.M))
-        found["listed"] = len(re.findall(r"^not ", body, re.M))
-        found["nodes"] = len(re.findall(r"^(?:won|use|play|all)\b", body, re.M))
-        found["bytes"] = len(body)
+        found["winner"] = {b"B": "Black", b"W": "White"}[claim.group(1)]
+        found["bytes"] = len(text) - claim.start()
     else:
-        found["winner"] = None
-        found["text"] = text.strip()
-        told = re.search(r"(\d+) steps", text)
-        found["steps"] = int(told.group(1)) if told else 0
+        found["said"] = text.decode(errors="replace").strip()
+        if code not in (0, 1):
+            found["said"] = f"status {code}: {found['said']}"
     return found
 
 
-def theirs(peer, record, steps):
-    words = [peer, "run", "--design", "c", "--eps", "1/2", "--steps", str(steps), "--noclaim", record]
+def by_peer(command, record, steps):
+    words = [word.format(steps=steps, file=record) for word in shlex.split(command)]
     text, seconds, memory, _ = run(words)
-    fields = text.split("\t")
-    made = int(re.search(r"steps=(\d+)", text).group(1))
-    winner = fields[1] if fields[1] in ("Black", "White") else None
-    return {"winner": winner, "seconds": seconds, "memory": memory, "steps": made}
+    fields = text.decode(errors="replace").split("\t")
+    winner = fields[1] if len(fields) > 1 and fields[1] in ("Black", "White") else None
+    return {"seconds": seconds, "memory": memory, "winner": winner, "said": "", "bytes": 0}
 
 
-def median(values):
-    return statistics.median(values) if values else float("nan")
+def ask(solver, record, steps, table):
+    if "{file}" in solver:
+        return by_peer(solver, record, steps)
+    return by_tsumego(solver, record, steps, table)
 
 
-def with_rows(record, rows, folder):
-    """The path of the same record on a board of so many rows, where it has fewer."""
-    with open(record) as lines:
-        text = lines.read()
-    size = re.search(r"SZ\[(\d+)\]", text)
-    path = os.path.join(folder, os.path.basename(record))
-    with open(path, "w") as wider:
-        wider.write(text.replace(size[0], f"SZ[{max(rows, int(size[1]))}]"))
-    return path
+def records_of(folders, start, every):
+    records = []
+    for folder in folders:
+        names = sorted(name for name in os.listdir(folder) if name.endswith(".sgf"))
+        records += [os.path.join(folder, name) for name in names[start::every]]
+    return records
 
 
-def measure(args, names, known, steps, folder):
-    rows = []
-    for name in names:
-        record = os.path.join(args.folder, name)
-        if args.rows:
-            record = with_rows(record, args.rows, folder)
-        own = ours(args.program, record, steps, args.table)
-        peer = theirs(args.peer, record, steps)
-        rows.append((name, own, peer))
-        if args.verbose:
-            said = own["winner"] or own["text"]
-            print(f"  {name}\t{said}\t{own['seconds']:.2f} s\t{own['memory']:.0f} MB\tpeer {peer['winner']} {peer['seconds']:.2f} s {peer['steps']}", flush=True)
-    solved = [r for r in rows if r[1]["winner"]]
-    print(f"steps {steps}: {len(rows)} problems; solved {len(solved)}, by the peer {sum(1 for r in rows if r[2]['winner'])}")
-    print("  only ours:", " ".join(r[0] for r in rows if r[1]["winner"] and not r[2]["winner"]) or "none")
-    print("  only the peer's:", " ".join(r[0] for r in rows if r[2]["winner"] and not r[1]["winner"]) or "none")
-    wrong = [r[0] for r in solved if known[r[0]][0] not in ("?", r[1]["winner"])]
-    if not args.rows:
-        print("  other winners than known:", " ".join(wrong) or "none")
-    print("  not confirmed:", sum(1 for r in rows if "not confirmed" in r[1]["text"]),
-          "; limit:", sum(1 for r in rows if "limit" in r[1]["text"]), "; memory:", sum(1 for r in rows if "memory" in r[1]["text"]),
-          "; ended otherwise:", sum(1 for r in rows if r[1]["code"] not in (0, 1)))
-    open_in_both = [r for r in rows if not r[1]["winner"] and not r[2]["winner"] and r[1]["steps"]]
-    speeds = [(r[1]["steps"] / max(r[1]["seconds"], 1e-3), r[2]["steps"] / max(r[2]["seconds"], 1e-3)) for r in open_in_both]
-    if speeds:
-        ratios = sorted(a / b for a, b in speeds)
-        print(f"  steps a second where neither solves ({len(speeds)}): {median([a for a, _ in speeds]):.0f}, the peer {median([b for _, b in speeds]):.0f}; ratio least {ratios[0]:.2f}, median {median(ratios):.2f}")
-    both = [r for r in rows if r[1]["winner"] and r[2]["winner"]]
-    if both:
-        print(f"  seconds in all where both solve ({len(both)}): {sum(r[1]['seconds'] for r in both):.1f}, the peer {sum(r[2]['seconds'] for r in both):.1f} (ours with smaller answer, claim and check)")
-        nine = [r[1]["seconds"] for r in solved if known[r[0]][1] in (9, 10)]
-        print(f"  seconds of a solved problem: median {median([r[1]['seconds'] for r in solved]):.2f}, with 9 or 10 region points {median(nine):.2f}, greatest {max(r[1]['seconds'] for r in solved):.1f}")
-        for what in ("lemmas", "listed", "nodes", "bytes"):
-            values = [r[1][what] for r in solved]
-            print(f"  {what} of a claim: median {median(values):.0f}, greatest {max(values)}")
-    print(f"  memory in MB: median {median([r[1]['memory'] for r in rows]):.0f}, greatest {max(r[1]['memory'] for r in rows):.0f}; the peer {median([r[2]['memory'] for r in rows]):.0f}, {max(r[2]['memory'] for r in rows):.0f}", flush=True)
+def winners_of(folders):
+    known = {}
+    for folder in folders:
+        for index in (os.path.join(folder, "index.tsv"), os.path.join(os.path.dirname(folder.rstrip("/")), "index.tsv")):
+            if os.path.exists(index):
+                with open(index) as lines:
+                    for line in lines:
+                        fields = line.rstrip("\n").split("\t")
+                        if len(fields) > 3 and fields[3] in ("Black", "White"):
+                            known[fields[0]] = fields[3]
+    return known
+
+
+def tell(name, rows, limits):
+    solved = [row for row in rows if row["winner"]]
+    seconds = [row["seconds"] for row in solved]
+    within = ", ".join(f"{sum(1 for s in seconds if s <= limit)} within {limit:g} s" for limit in limits)
+    print(f"  {name}: {len(solved)} solved of {len(rows)} ({within}); {sum(row['seconds'] for row in rows):.1f} s in all, "
+          f"{sum(seconds):.1f} s those solved, median {statistics.median(seconds) if seconds else 0:.2f}, greatest {max(seconds, default=0):.2f}; "
+          f"{max(row['memory'] for row in rows):.0f} MB")
+    sizes = [row["bytes"] for row in solved if row["bytes"]]
+    if sizes:
+        said = [row["said"] for row in rows]
+        print(f"    claims: median {statistics.median(sizes) / 1000:.0f} kB, greatest {max(sizes) / 1000:.0f} kB; "
+              f"{sum('not confirmed' in s for s in said)} not confirmed, {sum('limit' in s for s in said)} past a limit, "
+              f"{sum('memory' in s for s in said)} memory, {sum(s.startswith('status') for s in said)} ended otherwise")
+
+
+def compare(names, records, rows, known):
+    first = names[0]
+    for other in names[1:]:
+        lost = [os.path.basename(r) for r, a, b in zip(records, rows[first], rows[other]) if b["winner"] and not a["winner"]]
+        print(f"  solved by {other} and not by {first}: {' '.join(lost) or 'none'}")
+    differ = set()
+    for at, record in enumerate(records):
+        said = {rows[name][at]["winner"] for name in names} | {known.get(os.path.basename(record))}
+        if len(said - {None}) > 1:
+            differ.add(os.path.basename(record))
+    print(f"  winners that differ: {' '.join(sorted(differ)) or 'none'}", flush=True)
 
 
 def main():
     parser = argparse.ArgumentParser(description=__doc__, formatter_class=argparse.RawDescriptionHelpFormatter)
-    parser.add_argument("program")
-    parser.add_argument("peer")
-    parser.add_argument("folder")
-    parser.add_argument("index")
-    parser.add_argument("--steps", default="10000,100000,1000000")
-    parser.add_argument("--every", type=int, default=1, help="each K-th problem alone")
+    parser.add_argument("solvers", nargs="+", metavar="NAME=SOLVER")
+    parser.add_argument("--steps", default="10000,100000")
+    parser.add_argument("--seconds", default="0.3,1,3")
+    parser.add_argument("--every", type=int, default=1, help="each K-th problem of a folder alone")
     parser.add_argument("--from", dest="start", type=int, default=0, help="the first of them")
     parser.add_argument("--table", type=int, default=0)
-    parser.add_argument("--rows", type=int, default=0, help="at least so many rows")
     parser.add_argument("--verbose", action="store_true")
-    args = parser.parse_args()
-    known = winners(args.index)
-    names = sorted(known)[args.start::args.every]
-    with tempfile.TemporaryDirectory() as folder:
-        for steps in args.steps.split(","):
-            measure(args, names, known, int(steps), folder)
+    words = sys.argv[1:]
+    if "--" not in words:
+        parser.error("the folders stand after --")
+    folders = words[words.index("--") + 1:]
+    args = parser.parse_args(words[:words.index("--")])
+    solvers = dict(solver.split("=", 1) for solver in args.solvers)
+    names = list(solvers)
+    limits = [float(limit) for limit in args.seconds.split(",")]
+    records = records_of(folders, args.start, args.every)
+    known = winners_of(folders)
+    for steps in args.steps.split(","):
+        rows = {name: [] for name in names}
+        for record in records:
+            for name in names:
+                rows[name].append(ask(solvers[name], record, int(steps), args.table))
+                if args.verbose:
+                    row = rows[name][-1]
+                    print(f"    {os.path.basename(record)}\t{name}\t{row['winner'] or row['said']}\t{row['seconds']:.2f} s", flush=True)
+        print(f"{steps} steps, {len(records)} problems")
+        for name in names:
+            tell(name, rows[name], limits)
+        compare(names, records, rows, known)
 
 
 if __name__ == "__main__":

@@ -14,18 +14,24 @@ _problem_tools() {
     COMPREPLY=()
     case $before in
     # What follows these is a number, or points.
-    --node | --target | --short | --depth | --numbers) return ;;
+    --node | --target | --shut | --short | --depth | --numbers) return ;;
     # Files stand only where input comes from or output goes to.
     '<' | '>' | '>>' | '2>')
         compopt -o default
+        return
+        ;;
+    --into)
+        mapfile -t COMPREPLY < <(compgen -d -- "$word")
         return
         ;;
     esac
     case $before:$command in
     --to-play:*) options='B W' ;;
     --region:*) options='auto board' ;;
+    --walls:*) options='open kind natural hard race given alone' ;;
     *:) options="$commands --help -h --version -V" ;;
-    *:mark) options='--node --target --region --to-play --help -h' ;;
+    *:split) options='--into --help -h' ;;
+    *:mark) options='--node --target --region --walls --shut --to-play --help -h' ;;
     *:page) options='--short --depth --help -h' ;;
     *:picture) options='--node --numbers --plain --ascii --help -h' ;;
     *:help) options=$commands ;;

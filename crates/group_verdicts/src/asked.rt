@@ -1,0 +1,57 @@
+//! A problem that was put to the search, and its winner.
+
+ghost use Rattle.std.specs.Prelude.{◌≡◌, IfOk, IfSome};
+ghost use Rattle.target_game.specs.State.{start};
+ghost use Rattle.target_game.specs.Wins.{Wins};
+
+use cert_check::Checked;
+use go_points::{Colour, Turn};
+use pn_search::{Budget, Cause, Verdict, solve};
+use std::alloc::{AllocError, Global};
+use target_game::Problem;
+
+/// A problem that was put to the search, and who wins it by a claim that the checker accepted, where one was found.
+#[derive(Drop)]
+pub(crate) struct Asked {
+    pub(crate) problem: Problem,
+    pub(crate) winner: Option<Colour>,
+    /// The winner's first turn, where it moves first.
+    pub(crate) turn: Option<Turn>,
+    ghost wins: { ∥ IfSome winner (λ w. Wins w (start problem)) ∥₁ },
+}
+
+/// Puts the problem to the search. Only memory is refused.
+pub(crate) fn ask(alloc: Global, problem: Problem, budget: Budget) -> Result<Asked, AllocError>
+    ensures { IfOk result (λ a. a.problem ≡ problem) }
+{
+    match solve(alloc, problem, budget) {
+        Verdict::Wins(checked) => won(alloc, &checked),
+        Verdict::Unknown { problem, cause, .. } => unknown(problem, cause),
+    }
+}
+
+/// The problem of the claim, and its winner.
+fn won(alloc: Global, checked: &Checked) -> Result<Asked, AllocError>
+    ensures { IfOk result (λ a. a.problem ≡ checked.now.problem) }
+{
+    let winner = checked.winner();
+    Ok(Asked {
+        problem: checked.problem().copy(alloc)?,
+        winner: Some(winner),
+        turn: checked.first_turn(),
+    })
+}
+
+/// The problem without a winner.
+fn unknown(problem: Problem, cause: Cause) -> Result<Asked, AllocError>
+    ensures { IfOk result (λ a. a.problem ≡ problem) }
+{
+    match cause {
+        Cause::Memory => Err(AllocError),
+        _ => Ok(Asked {
+            problem,
+            winner: None,
+            turn: None,
+        }),
+    }
+}

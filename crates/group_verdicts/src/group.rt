@@ -1,0 +1,63 @@
+//! The group that is asked about.
+
+use crate::side::Side;
+use go_points::{Cell, Colour, Colouring, Point, PointSet, Size};
+use regions::{Order, Position, Supposed};
+use std::alloc::{AllocError, Global};
+use target_game::Problem;
+
+/// A stone of a position, with the order in which points come into its region.
+#[derive(Drop)]
+pub(crate) struct Group {
+    /// The position with its past.
+    pub(crate) problem: Problem,
+    pub(crate) position: Position,
+    pub(crate) order: Order,
+    pub(crate) target: Point,
+    pub(crate) defender: Colour,
+}
+
+impl Group {
+    /// The group of the first target of the problem.
+    pub(crate) fn new(alloc: Global, problem: Problem) -> Result<Option<Group>, AllocError> {
+        let Some(target) = problem.targets().first() else {
+            return Ok(None);
+        };
+        let defender = problem.defender();
+        let position = Position::new(alloc, problem.colouring())?;
+        let order = Order::new(alloc, &position, target, &PointSet::new())?;
+        Ok(Some(Group {
+            problem,
+            position,
+            order,
+            target,
+            defender,
+        }))
+    }
+
+    /// The problem of a position in which what is outside is supposed, with this side to move first. Where no stone was put up
+    /// the past counts; else there is none, since the position never occurred.
+    pub(crate) fn problem_of(
+        &self,
+        alloc: Global,
+        supposed: &Supposed,
+        target: Point,
+        first: Side,
+    ) -> Result<Option<Problem>, AllocError> {
+        let after = Position::new(alloc, &supposed.colouring)?;
+        let targets = after.stones(target);
+        let mover = first.colour(self.defender);
+        let mut history = Vec::new(alloc);
+        let mut place: usize = 0;
+        if *self.problem.colouring() == supposed.colouring {
+            history = self.problem.history().to_vec(alloc)?;
+            place = self.problem.place();
+        } else {
+            history.push(supposed.colouring)?;
+        }
+        match Problem::new(history, place, mover, 0, targets, supposed.region) {
+            Ok(problem) => Ok(Some(problem)),
+            Err(_) => Ok(None),
+        }
+    }
+}

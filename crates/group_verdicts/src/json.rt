@@ -1,0 +1,170 @@
+//! What is found, as JSON: an object a line for each target.
+
+use crate::group::Group;
+use crate::lines::{push_point, push_turn_name};
+use crate::side::{Finding, Side, Word};
+use crate::table::{Row, Table};
+use crate::verdict::{Fate, Judgement};
+use go_points::{Colour, PointSet, Size};
+use std::alloc::{AllocError, Global};
+
+/// The letter of a colour.
+fn letter(colour: Colour) -> char {
+    match colour {
+        Colour::Black => 'B',
+        Colour::White => 'W',
+    }
+}
+
+/// Whither a fate leans that is not decided.
+fn leans(fate: Fate) -> &'static str {
+    match fate {
+        Fate::Alive => "life",
+        Fate::Dead => "death",
+        Fate::Unsettled => "either",
+        Fate::Unknown => "none",
+    }
+}
+
+/// Whether a status is named.
+fn is_decided(word: Word) -> bool {
+    word.rank() <= Word::Likely.rank()
+}
+
+/// The object of a group.
+pub(crate) fn judged_object(
+    alloc: Global,
+    group: &Group,
+    table: &Table,
+    judged: &Judgement,
+) -> Result<String, AllocError> {
+    let mut text = begun(alloc, group)?;
+    let word = judged.word.name();
+    let fate = if is_decided(judged.word) {
+        judged.fate.name()
+    } else {
+        "unknown"
+    };
+    write!(text, ",\"status\":\"{fate}\",\"word\":\"{word}\"")?;
+    if !is_decided(judged.word) {
+        let leans = leans(judged.fate);
+        write!(text, ",\"leans\":\"{leans}\"")?;
+    }
+    push_rows(&mut text, group, table)?;
+    Ok(text)
+}
+
+/// The object where one side alone was asked.
+pub(crate) fn found_object(
+    alloc: Global,
+    group: &Group,
+    table: &Table,
+    first: Side,
+    finding: &Finding,
+) -> Result<String, AllocError> {
+    let mut text = begun(alloc, group)?;
+    let mover = letter(first.colour(group.defender));
+    let word = finding.word.name();
+    write!(text, ",\"first\":\"{mover}\",\"word\":\"{word}\"")?;
+    let winner = if is_decided(finding.word) {
+        finding.winner
+    } else {
+        None
+    };
+    push_winner(&mut text, group.defender, winner)?;
+    push_rows(&mut text, group, table)?;
+    Ok(text)
+}
+
+/// The beginning of an object, with its target.
+fn begun(alloc: Global, group: &Group) -> Result<String, AllocError> {
+    let mut text = String::new(alloc);
+    text.push_str("{\"target\":\"")?;
+    push_point(&mut text, group.position.colouring().size(), group.target)?;
+    text.push('"')?;
+    Ok(text)
+}
+
+fn push_winner(
+    text: &mut String,
+    defender: Colour,
+    winner: Option<Side>,
+) -> Result<(), AllocError> {
+    match winner {
+        Some(side) => {
+            let name = letter(side.colour(defender));
+            write!(text, ",\"winner\":\"{name}\"")
+        }
+        None => text.push_str(",\"winner\":null"),
+    }
+}
+
+/// Puts all questions and the end of the object at the end.
+fn push_rows(text: &mut String, group: &Group, table: &Table) -> Result<(), AllocError> {
+    text.push_str(",\"questions\":[")?;
+    let mut is_first = true;
+    for row in table.rows.as_slice() {
+        if !is_first {
+            text.push(',')?;
+        }
+        is_first = false;
+        push_row(text, group, table, row)?;
+    }
+    text.push_str("]}\n")
+}
+
+/// Puts a question at the end: who moves first, its size and walls, its points, the stones that were put up, and who wins.
+fn push_row(text: &mut String, group: &Group, table: &Table, row: &Row) -> Result<(), AllocError> {
+    let mover = letter(row.first.colour(group.defender));
+    let points = row.count;
+    let walls = row.walls.name();
+    write!(
+        text,
+        "{{\"first\":\"{mover}\",\"points\":{points},\"walls\":\"{walls}\""
+    )?;
+    push_winner(
+        text,
+        group.defender,
+        table.winner_at(row.place, group.defender),
+    )?;
+    push_move(text, group, table, row)?;
+    let size = group.position.colouring().size();
+    push_set(text, "inside", size, &row.inside)?;
+    push_set(text, colour_key(group.defender), size, &row.given)?;
+    push_set(text, colour_key(group.defender.opponent()), size, &row.held)?;
+    push_set(text, "shut", size, &row.shut)?;
+    text.push('}')
+}
+
+/// The name of the list of stones of a colour that were put up.
+fn colour_key(colour: Colour) -> &'static str {
+    match colour {
+        Colour::Black => "black",
+        Colour::White => "white",
+    }
+}
+
+/// Puts the winner's first move at the end.
+fn push_move(text: &mut String, group: &Group, table: &Table, row: &Row) -> Result<(), AllocError> {
+    match table.turn_at(row.place) {
+        Some(turn) => {
+            text.push_str(",\"move\":\"")?;
+            push_turn_name(text, group.position.colouring().size(), turn)?;
+            text.push('"')
+        }
+        None => text.push_str(",\"move\":null"),
+    }
+}
+
+/// Puts a list of points at the end.
+fn push_set(text: &mut String, name: &str, size: Size, set: &PointSet) -> Result<(), AllocError> {
+    write!(text, ",\"{name}\":[")?;
+    let mut is_first = true;
+    for point in set.iter() {
+        text.push_str(if is_first { "\"" } else { ",\"" })?;
+        is_first = false;
+        push_point(text, size, point)?;
+        text.push('"')?;
+    }
+    text.push(']')
+}

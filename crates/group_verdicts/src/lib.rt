@@ -1,0 +1,19 @@
+//! What `group_status` does: says of a group whether it is alive, dead or unsettled, by questions about regions of several
+//! sizes with several suppositions about what is outside. The program is a crate of its own, so that its tests do not prove all
+//! this a second time.
+#![tactic(auto)]
+
+mod all_groups;
+mod asked;
+mod first_procedure;
+mod group;
+mod json;
+mod lines;
+mod program;
+mod second_procedure;
+mod side;
+mod table;
+mod verdict;
+mod words;
+
+pub use program::run;

@@ -1,0 +1,265 @@
+//! What is found, as lines for a reader.
+
+use crate::group::Group;
+use crate::side::{Finding, Side, Word};
+use crate::table::{Row, Table};
+use crate::verdict::{Fate, Judgement};
+use go_points::{Colour, Point, Size, Turn, to_gtp};
+use regions::Walls;
+use std::alloc::{AllocError, Global};
+
+/// All walls that are asked, in the order in which they are told.
+const WALLS: [Walls; 6] = [
+    Walls::Natural,
+    Walls::Kind,
+    Walls::Hard,
+    Walls::Race,
+    Walls::Given,
+    Walls::Alone,
+];
+
+/// Puts the name of the point at the end, as diagrams have it.
+pub(crate) fn push_point(text: &mut String, size: Size, point: Point) -> Result<(), AllocError> {
+    if size.holds(point) {
+        let name = to_gtp(size, point);
+        for byte in name.as_slice() {
+            text.push(char::from(*byte))?;
+        }
+    }
+    Ok(())
+}
+
+/// The name of a colour in a sentence.
+fn colour_name(colour: Colour) -> &'static str {
+    match colour {
+        Colour::Black => "Black",
+        Colour::White => "White",
+    }
+}
+
+/// What happens to the target where this side wins.
+fn end_name(winner: Option<Side>) -> &'static str {
+    match winner {
+        Some(Side::Attacker) => "dies",
+        Some(Side::Defender) => "lives",
+        None => "unknown",
+    }
+}
+
+/// What is supposed with these walls.
+fn walls_text(walls: Walls) -> &'static str {
+    match walls {
+        Walls::Open => "nothing is supposed",
+        Walls::Kind => "walls with few liberties outside fall",
+        Walls::Natural => "walls stand where the attacker is nearer",
+        Walls::Hard => "it is shut in and cut off from every friend",
+        Walls::Race => "walls stand where the attacker gets there first",
+        Walls::Given => "such walls stand, and those with one or two liberties outside fall",
+        Walls::Alone => "such walls stand, no friend helps, and unsafe ways out are shut",
+    }
+}
+
+/// The lines of a group: its fate, and for each side to move first who wins and on what suppositions.
+pub(crate) fn judged_lines(
+    alloc: Global,
+    group: &Group,
+    table: &Table,
+    judged: &Judgement,
+) -> Result<String, AllocError> {
+    let mut text = first_line(alloc, group, judged)?;
+    push_finding(
+        &mut text,
+        group,
+        table,
+        Side::Attacker,
+        &judged.attacker_first,
+    )?;
+    if let Some(finding) = judged.defender_first {
+        push_finding(&mut text, group, table, Side::Defender, &finding)?;
+    }
+    Ok(text)
+}
+
+/// The line of a group with its fate alone, and, where that is not decided, whither it leans.
+pub(crate) fn first_line(
+    alloc: Global,
+    group: &Group,
+    judged: &Judgement,
+) -> Result<String, AllocError> {
+    let mut text = String::new(alloc);
+    push_point(&mut text, group.position.colouring().size(), group.target)?;
+    let fate = judged.fate.name();
+    let word = judged.word.name();
+    match judged.word {
+        Word::Sure => write!(text, ": {fate} ({word})\n")?,
+        Word::Likely => write!(text, ": {fate} ({word})\n")?,
+        Word::Hint => {
+            let leans = leans_text(judged.fate);
+            write!(
+                text,
+                ": unknown\n  a hint: {leans} (7 of 10 hints are right)\n"
+            )?;
+        }
+        Word::Leaning => {
+            let leans = leans_text(judged.fate);
+            write!(text, ": unknown\n  leaning: {leans} (6 of 10 are right)\n")?;
+        }
+        Word::Unknown => write!(text, ": unknown\n")?,
+    }
+    Ok(text)
+}
+
+/// The line of a group of which nothing was decided.
+pub(crate) fn open_line(alloc: Global, group: &Group) -> Result<String, AllocError> {
+    let mut text = String::new(alloc);
+    push_point(&mut text, group.position.colouring().size(), group.target)?;
+    text.push_str(": open\n")?;
+    Ok(text)
+}
+
+/// Whither a group leans whose fate is not decided.
+pub(crate) fn leans_text(fate: Fate) -> &'static str {
+    match fate {
+        Fate::Alive => "it lives",
+        Fate::Dead => "it dies",
+        Fate::Unsettled => "it lives or dies by who moves first",
+        Fate::Unknown => "nothing",
+    }
+}
+
+/// The lines where one side alone was asked: the winner, where it is decided, and the suppositions.
+pub(crate) fn found_lines(
+    alloc: Global,
+    group: &Group,
+    table: &Table,
+    first: Side,
+    finding: &Finding,
+) -> Result<String, AllocError> {
+    let mut text = String::new(alloc);
+    push_point(&mut text, group.position.colouring().size(), group.target)?;
+    let word = finding.word.name();
+    match finding.winner {
+        Some(winner) if finding.word.rank() <= Word::Likely.rank() => {
+            let name = colour_name(winner.colour(group.defender));
+            write!(text, ": {name} wins ({word})\n")?;
+        }
+        _ => write!(text, ": unknown\n")?,
+    }
+    push_finding(&mut text, group, table, first, finding)?;
+    Ok(text)
+}
+
+/// Puts the lines of one first mover at the end.
+fn push_finding(
+    text: &mut String,
+    group: &Group,
+    table: &Table,
+    first: Side,
+    finding: &Finding,
+) -> Result<(), AllocError> {
+    let mover = colour_name(first.colour(group.defender));
+    let end = end_name(finding.winner);
+    write!(text, "  {mover} first: {end}")?;
+    if finding.winner == Some(first) {
+        push_turn(text, group, table, first)?;
+    }
+    if finding.winner.is_some() {
+        let word = finding.word.name();
+        write!(text, " ({word})")?;
+    }
+    text.push('\n')?;
+    for walls in WALLS {
+        push_walls(text, table, group.defender, first, walls)?;
+    }
+    Ok(())
+}
+
+/// Puts the first move of the largest size at which the mover wins at the end.
+fn push_turn(
+    text: &mut String,
+    group: &Group,
+    table: &Table,
+    first: Side,
+) -> Result<(), AllocError> {
+    let Some(turn) = turn_of(table, group.defender, first) else {
+        return Ok(());
+    };
+    text.push_str(", by ")?;
+    push_turn_name(text, group.position.colouring().size(), turn)
+}
+
+/// Puts the name of a turn at the end.
+pub(crate) fn push_turn_name(text: &mut String, size: Size, turn: Turn) -> Result<(), AllocError> {
+    match turn {
+        Turn::Pass => text.push_str("pass"),
+        Turn::At(point) => push_point(text, size, point),
+    }
+}
+
+/// The first move of the largest size at which the mover wins.
+fn turn_of(table: &Table, defender: Colour, first: Side) -> Option<Turn> {
+    let mut largest: usize = 0;
+    let mut found = None;
+    for row in table.rows.as_slice() {
+        if row.first == first
+            && row.count > largest
+            && table.winner_at(row.place, defender) == Some(first)
+        {
+            largest = row.count;
+            found = table.turn_at(row.place);
+        }
+    }
+    found
+}
+
+/// Puts a line for each end that came about with these walls, with its sizes.
+fn push_walls(
+    text: &mut String,
+    table: &Table,
+    defender: Colour,
+    first: Side,
+    walls: Walls,
+) -> Result<(), AllocError> {
+    for end in [Some(Side::Attacker), Some(Side::Defender), None] {
+        let mut count: usize = 0;
+        for row in table.rows.as_slice() {
+            if is_told(table, row, defender, first, walls, end) {
+                push_size(text, end, count, row.count)?;
+                count = count.saturating_add(1);
+            }
+        }
+        if count > 0 {
+            let name = walls.name();
+            let supposed = walls_text(walls);
+            write!(text, " points, {name}: {supposed}\n")?;
+        }
+    }
+    Ok(())
+}
+
+/// Whether the row is one of these.
+fn is_told(
+    table: &Table,
+    row: &Row,
+    defender: Colour,
+    first: Side,
+    walls: Walls,
+    end: Option<Side>,
+) -> bool {
+    row.first == first && row.walls == walls && table.winner_at(row.place, defender) == end
+}
+
+/// Puts a size at the end, before the first of which stands what happens there.
+fn push_size(
+    text: &mut String,
+    end: Option<Side>,
+    before: usize,
+    size: usize,
+) -> Result<(), AllocError> {
+    if before == 0 {
+        let name = end_name(end);
+        write!(text, "    {name} at {size}")
+    } else {
+        write!(text, ", {size}")
+    }
+}

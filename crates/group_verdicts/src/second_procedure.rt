@@ -1,0 +1,154 @@
+//! The second procedure: at sizes that grow, race walls and the bound that speaks most against their winner.
+//!
+//! Against the attacker speak walls with few liberties outside that fall; against the defender, that no friend helps.
+
+use crate::group::Group;
+use crate::side::{Finding, Side, Word};
+use crate::table::{Table, question};
+use regions::Walls;
+use std::alloc::{AllocError, Global};
+
+/// The sizes, in empty points.
+const SIZES: [usize; 7] = [6, 8, 10, 12, 14, 16, 18];
+
+/// From this size on three sizes that are all sure end the questions.
+const ENOUGH: usize = 12;
+
+/// More than any size.
+const ALL: usize = 1_000_000;
+
+/// A size that was decided: by race walls, and by the bound against that winner.
+#[derive(Clone, Copy, Debug)]
+struct Done {
+    count: usize,
+    winner: Side,
+    bound: Option<Side>,
+}
+
+/// The walls that speak most against this winner.
+fn bound_of(winner: Side) -> Walls {
+    match winner {
+        Side::Attacker => Walls::Given,
+        Side::Defender => Walls::Alone,
+    }
+}
+
+/// At how many sizes they have to say the same.
+fn bounds_wanted(winner: Side) -> usize {
+    match winner {
+        Side::Attacker => 3,
+        Side::Defender => 2,
+    }
+}
+
+/// Whether this side won at the last three sizes by both walls.
+fn are_three_sure(done: &[Done], winner: Side) -> bool {
+    let len = done.len();
+    if len < 3 {
+        return false;
+    }
+    for i in len - 3..len {
+        if done[i].winner != winner || done[i].bound != Some(winner) {
+            return false;
+        }
+    }
+    true
+}
+
+/// Whether the last sizes at which this side won are sure: the bound says the same at as many as are wanted of the last at
+/// which it is known.
+fn is_sure(done: &[Done], winner: Side, is_ended: bool) -> bool {
+    let wanted = bounds_wanted(winner);
+    let mut same: usize = 0;
+    let mut known: usize = 0;
+    let mut agree: usize = 0;
+    for back in 1..done.len().saturating_add(1) {
+        if let Some(one) = done.get(done.len().saturating_sub(back)) {
+            if one.winner == winner {
+                same = same.saturating_add(1);
+                if one.bound.is_some() && known < wanted {
+                    known = known.saturating_add(1);
+                    if one.bound == Some(winner) {
+                        agree = agree.saturating_add(1);
+                    }
+                }
+            }
+        }
+    }
+    let due = if is_ended { wanted.min(same) } else { wanted };
+    agree == known && known == due
+}
+
+/// The least size from which on this side wins.
+fn since(done: &[Done], winner: Side) -> usize {
+    let mut least: usize = 0;
+    for back in 1..done.len().saturating_add(1) {
+        if let Some(one) = done.get(done.len().saturating_sub(back)) {
+            if one.winner != winner {
+                return least;
+            }
+            least = one.count;
+        }
+    }
+    least
+}
+
+/// What the sizes that were decided say.
+fn finding(done: &[Done], is_stopped: bool, is_ended: bool) -> Finding {
+    let Some(last) = done.last() else {
+        return Finding::none();
+    };
+    let winner = last.winner;
+    let before = done.get(done.len().saturating_sub(2));
+    let is_same = match before {
+        Some(one) => done.len() > 1 && one.winner == winner,
+        None => false,
+    };
+    let word = if is_stopped || is_sure(done, winner, is_ended) {
+        Word::Sure
+    } else if is_ended || is_same {
+        Word::Likely
+    } else {
+        Word::Leaning
+    };
+    Finding {
+        winner: Some(winner),
+        word,
+        since: since(done, winner),
+        largest: if is_stopped || is_ended {
+            ALL
+        } else {
+            last.count
+        },
+    }
+}
+
+/// What is found where this side moves first.
+pub(crate) fn second_procedure(
+    alloc: Global,
+    group: &Group,
+    table: &mut Table,
+    first: Side,
+) -> Result<Finding, AllocError> {
+    let mut done = Vec::new(alloc);
+    let mut is_stopped = false;
+    let mut is_ended = false;
+    for i in 0..SIZES.len() {
+        let count = SIZES[i];
+        let Some(winner) = question(alloc, group, table, first, Walls::Race, count)? else {
+            break;
+        };
+        let bound = question(alloc, group, table, first, bound_of(winner), count)?;
+        done.push(Done {
+            count,
+            winner,
+            bound,
+        })?;
+        is_ended = group.order.len() <= count;
+        is_stopped = count >= ENOUGH && are_three_sure(done.as_slice(), winner);
+        if is_stopped || is_ended {
+            break;
+        }
+    }
+    Ok(finding(done.as_slice(), is_stopped, is_ended))
+}

@@ -1,0 +1,224 @@
+//! The questions about a group, each asked once.
+
+use crate::asked::{Asked, ask};
+use crate::group::Group;
+use crate::side::Side;
+use go_points::{Colour, Point, PointSet, Turn};
+use pn_search::Budget;
+use regions::{Walls, out_there, suppose};
+use std::alloc::{AllocError, Global};
+use target_game::Problem;
+
+/// A question: who moves first, how many empty points are inside, and what is supposed outside; with its problem, and where
+/// stones were put up.
+#[derive(Drop)]
+pub(crate) struct Row {
+    pub(crate) first: Side,
+    pub(crate) count: usize,
+    pub(crate) walls: Walls,
+    /// The place of the problem among those that were asked; none where there is no such problem.
+    pub(crate) place: Option<usize>,
+    pub(crate) inside: PointSet,
+    pub(crate) shut: PointSet,
+    pub(crate) given: PointSet,
+    pub(crate) held: PointSet,
+}
+
+/// What was asked so far.
+#[derive(Drop)]
+pub(crate) struct Table {
+    pub(crate) asked: Vec<Asked>,
+    pub(crate) rows: Vec<Row>,
+    pub(crate) budget: Budget,
+}
+
+/// Whether two problems with the same past have the same position, mover, targets and region.
+fn are_same(one: &Problem, other: &Problem) -> bool {
+    one.mover() == other.mover()
+        && *one.colouring() == *other.colouring()
+        && *one.targets() == *other.targets()
+        && *one.region() == *other.region()
+}
+
+impl Table {
+    pub(crate) fn new(alloc: Global, budget: Budget) -> Table {
+        Table {
+            asked: Vec::new(alloc),
+            rows: Vec::new(alloc),
+            budget,
+        }
+    }
+
+    /// The place of the same problem among those that were asked.
+    fn place_of(&self, problem: &Problem) -> Option<usize> {
+        let asked = self.asked.as_slice();
+        for i in 0..asked.len() {
+            if are_same(&asked[i].problem, problem) {
+                return Some(i);
+            }
+        }
+        None
+    }
+
+    /// Who wins the problem at this place, where that is known.
+    pub(crate) fn winner_at(&self, place: Option<usize>, defender: Colour) -> Option<Side> {
+        let asked = self.asked.get(place?)?;
+        match asked.winner {
+            Some(colour) => Some(Side::of(colour, defender)),
+            None => None,
+        }
+    }
+
+    /// The winner's first turn in the problem at this place.
+    pub(crate) fn turn_at(&self, place: Option<usize>) -> Option<Turn> {
+        self.asked.get(place?)?.turn
+    }
+
+    /// Whether no problem that was asked has a winner that is known.
+    pub(crate) fn is_open(&self) -> bool {
+        for one in self.asked.as_slice() {
+            if one.winner.is_some() {
+                return false;
+            }
+        }
+        true
+    }
+
+    /// The place of the row of a question, where it was asked.
+    fn row_of(&self, first: Side, walls: Walls, count: usize) -> Option<usize> {
+        let rows = self.rows.as_slice();
+        for i in 0..rows.len() {
+            if rows[i].first == first && rows[i].walls == walls && rows[i].count == count {
+                return Some(i);
+            }
+        }
+        None
+    }
+
+    /// Who wins the question of this row.
+    fn winner_of(&self, row: usize, defender: Colour) -> Option<Side> {
+        let row = self.rows.get(row)?;
+        self.winner_at(row.place, defender)
+    }
+}
+
+/// The place of the problem, which is asked where it was not.
+fn place_asked(
+    alloc: Global,
+    table: &mut Table,
+    problem: Option<Problem>,
+) -> Result<Option<usize>, AllocError> {
+    let Some(problem) = problem else {
+        return Ok(None);
+    };
+    if let Some(place) = table.place_of(&problem) {
+        return Ok(Some(place));
+    }
+    let asked = ask(alloc, problem, table.budget)?;
+    table.asked.push(asked)?;
+    Ok(table.asked.len().checked_sub(1))
+}
+
+/// Who wins where this side moves first, so many empty points are inside, and this is supposed outside.
+pub(crate) fn question(
+    alloc: Global,
+    group: &Group,
+    table: &mut Table,
+    first: Side,
+    walls: Walls,
+    count: usize,
+) -> Result<Option<Side>, AllocError> {
+    if let Some(row) = table.row_of(first, walls, count) {
+        return Ok(table.winner_of(row, group.defender));
+    }
+    let shut = shut_points(alloc, group, table, walls, count)?;
+    let made = suppose(
+        alloc,
+        &group.position,
+        group.target,
+        &group.order,
+        count,
+        walls,
+        &shut,
+    )?;
+    let Some(supposed) = made else {
+        return Ok(None);
+    };
+    let problem = group.problem_of(alloc, &supposed, group.target, first)?;
+    let place = place_asked(alloc, table, problem)?;
+    let winner = table.winner_at(place, group.defender);
+    table.rows.push(Row {
+        first,
+        count,
+        walls,
+        place,
+        inside: supposed.inside,
+        shut,
+        given: supposed.given,
+        held: supposed.walls,
+    })?;
+    Ok(winner)
+}
+
+/// The ways out that are shut: where no friend helps, those at which a stone of the defender would be taken, the attacker
+/// moving first there.
+fn shut_points(
+    alloc: Global,
+    group: &Group,
+    table: &mut Table,
+    walls: Walls,
+    count: usize,
+) -> Result<PointSet, AllocError> {
+    let mut shut = PointSet::new();
+    if walls != Walls::Alone {
+        return Ok(shut);
+    }
+    for point in ways_out(alloc, group, count)?.iter() {
+        if is_taken(alloc, group, table, count, point)? {
+            shut.insert(point);
+        }
+    }
+    Ok(shut)
+}
+
+/// The ways out of a region of so many empty points, where no friend helps.
+fn ways_out(alloc: Global, group: &Group, count: usize) -> Result<PointSet, AllocError> {
+    let none = PointSet::new();
+    let made = suppose(
+        alloc,
+        &group.position,
+        group.target,
+        &group.order,
+        count,
+        Walls::Alone,
+        &none,
+    )?;
+    match made {
+        Some(supposed) => Ok(supposed.ways_out),
+        None => Ok(none),
+    }
+}
+
+/// Whether a stone of the defender that gets out to the point is taken there.
+fn is_taken(
+    alloc: Global,
+    group: &Group,
+    table: &mut Table,
+    count: usize,
+    point: Point,
+) -> Result<bool, AllocError> {
+    let inside = group.order.first(count);
+    let made = out_there(
+        alloc,
+        group.position.colouring(),
+        group.defender,
+        &inside,
+        point,
+    )?;
+    let Some(supposed) = made else {
+        return Ok(true);
+    };
+    let problem = group.problem_of(alloc, &supposed, point, Side::Attacker)?;
+    let place = place_asked(alloc, table, problem)?;
+    Ok(table.winner_at(place, group.defender) == Some(Side::Attacker))
+}

@@ -1,0 +1,179 @@
+//! The command line, read by `clap`.
+
+use crate::side::Side;
+use clap::builder::ValueParser;
+use clap::{Arg, ArgAction, ArgMatches};
+use std::alloc::{AllocError, Global};
+use std::convert::AsStr;
+use tool_parts::{NoRequest, no_request};
+
+/// The most steps that may be asked for.
+const MOST_STEPS: u64 = 10_000_000;
+
+/// The greatest number of a node: more than a record may have.
+const MOST: u64 = 1_000_000;
+
+/// What the words ask for.
+#[derive(Drop)]
+pub(crate) struct Request {
+    /// The node of the main line.
+    pub(crate) node: Option<usize>,
+    /// The stone; that of the record's marks where there is none.
+    pub(crate) target: String,
+    /// The side that moves first, where one alone is asked.
+    pub(crate) first: Option<Side>,
+    /// The most steps of the search for each question.
+    pub(crate) steps: u64,
+    pub(crate) is_quick: bool,
+    /// Whether all groups of the position are asked about.
+    pub(crate) is_all: bool,
+    pub(crate) is_json: bool,
+    /// Whether the past counts for nothing.
+    pub(crate) is_position_only: bool,
+}
+
+/// What the words ask for, the first of which is the program's name.
+pub(crate) fn read_request<'a, S: AsStr>(
+    alloc: Global,
+    words: &'a [S],
+) -> Result<Request, NoRequest> {
+    let program = program(alloc)?;
+    match program.try_get_matches_from(words) {
+        Ok(matches) => chosen(alloc, &matches),
+        Err(error) => Err(no_request(alloc, &error)),
+    }
+}
+
+/// What a parse found.
+fn chosen(alloc: Global, given: &ArgMatches<'_>) -> Result<Request, NoRequest> {
+    let target = text(alloc, given, "target")?;
+    let first = first(alloc, given)?;
+    Ok(Request {
+        node: number(given, "node"),
+        target,
+        first,
+        steps: given.get_one::<u64>("steps").unwrap_or(1),
+        is_quick: flag(given, "quick"),
+        is_all: flag(given, "all"),
+        is_json: flag(given, "json"),
+        is_position_only: flag(given, "position-only"),
+    })
+}
+
+fn flag(given: &ArgMatches<'_>, id: &str) -> bool {
+    given.get_one::<bool>(id).unwrap_or(false)
+}
+
+/// The number of an argument.
+fn number(given: &ArgMatches<'_>, id: &str) -> Option<usize> {
+    match given.get_one::<u64>(id) {
+        Some(number) if number <= MOST => Some(number as usize),
+        _ => None,
+    }
+}
+
+/// The text of an argument; none where it is not there.
+fn text(alloc: Global, given: &ArgMatches<'_>, id: &str) -> Result<String, AllocError> {
+    match given.get_str(id) {
+        Some(text) => format!(in alloc; "{text}"),
+        None => Ok(String::new(alloc)),
+    }
+}
+
+/// The side that moves first, where the words say it.
+fn first(alloc: Global, given: &ArgMatches<'_>) -> Result<Option<Side>, NoRequest> {
+    let text = text(alloc, given, "first")?;
+    match text.as_str() {
+        "" => Ok(None),
+        "attacker" => Ok(Some(Side::Attacker)),
+        "defender" => Ok(Some(Side::Defender)),
+        _ => Err(NoRequest::Words(format!(in alloc;
+            "error: the value of '--first' is attacker or defender\n"
+        )?)),
+    }
+}
+
+fn program<'a>(alloc: Global) -> Result<clap::Command<'a>, AllocError> {
+    let program = clap::Command::new(alloc, "group_status").about(
+        "Says of a stone's group in a record, read from standard input, whether it is alive, dead or unsettled.",
+    );
+    let program = with_argument(program, node_argument(alloc))?;
+    let program = with_argument(program, target_argument(alloc))?;
+    let program = with_argument(program, first_argument(alloc))?;
+    let program = with_argument(program, steps_argument(alloc))?;
+    let program = with_argument(program, quick_argument(alloc))?;
+    let program = with_argument(program, all_argument(alloc))?;
+    let program = with_argument(program, json_argument(alloc))?;
+    with_argument(program, position_argument(alloc))
+}
+
+/// The program with one argument more.
+fn with_argument<'a>(
+    program: clap::Command<'a>,
+    argument: Arg<'a>,
+) -> Result<clap::Command<'a>, AllocError> {
+    program.arg(argument)
+}
+
+fn node_argument<'a>(alloc: Global) -> Arg<'a> {
+    Arg::new(alloc, "node")
+        .help(
+            "The node of the main line, from 0 [default: the root where it sets up stones, else the last]",
+        )
+        .long("node")
+        .value_name("N")
+        .value_parser(ValueParser::unsigned(0, MOST))
+}
+
+fn target_argument<'a>(alloc: Global) -> Arg<'a> {
+    Arg::new(alloc, "target")
+        .help("A stone of the group, as D17 or dc [default: the record's own triangle]")
+        .long("target")
+        .value_name("POINT")
+}
+
+fn first_argument<'a>(alloc: Global) -> Arg<'a> {
+    Arg::new(alloc, "first")
+        .help("Asks only who wins where this side moves first: attacker or defender")
+        .long("first")
+        .value_name("SIDE")
+}
+
+fn steps_argument<'a>(alloc: Global) -> Arg<'a> {
+    Arg::new(alloc, "steps")
+        .help("The most steps of the search for each question, 1 to 10000000")
+        .long("steps")
+        .value_name("N")
+        .value_parser(ValueParser::unsigned(1, MOST_STEPS))
+        .default_value("100000")
+}
+
+fn quick_argument<'a>(alloc: Global) -> Arg<'a> {
+    Arg::new(alloc, "quick")
+        .help(
+            "Asks by one procedure in place of two: less time, and a word that is right less often",
+        )
+        .long("quick")
+        .action(ArgAction::SetTrue)
+}
+
+fn all_argument<'a>(alloc: Global) -> Arg<'a> {
+    Arg::new(alloc, "all")
+        .help("Asks about every group of the position, quickly first, and says a line of each")
+        .long("all")
+        .action(ArgAction::SetTrue)
+}
+
+fn json_argument<'a>(alloc: Global) -> Arg<'a> {
+    Arg::new(alloc, "json")
+        .help("Writes one JSON object, with every question")
+        .long("json")
+        .action(ArgAction::SetTrue)
+}
+
+fn position_argument<'a>(alloc: Global) -> Arg<'a> {
+    Arg::new(alloc, "position-only")
+        .help("Forgets what was played before, so that no ko is barred")
+        .long("position-only")
+        .action(ArgAction::SetTrue)
+}

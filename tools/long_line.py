@@ -9,6 +9,8 @@ stands once. Where the other side would be to move, it passes.
 """
 import sys
 
+import script_words
+
 FEW_TURNS = 10_000
 
 
@@ -21,7 +23,10 @@ def places(points):
 
 
 def main():
-    turns, is_audit = int(sys.argv[1]), sys.argv[2] == "audit"
+    words = script_words.given(__doc__, 2, 2, files=False)
+    if not words[0].isdecimal() or words[1] not in ("audit", "past"):
+        script_words.refuse("tools/long_line.py", "wants a number of turns, and audit or past")
+    turns, is_audit = int(words[0]), words[1] == "audit"
     shapes = 13 if turns <= FEW_TURNS else 17
     corners = [(number % 4 * 4, number // 4 * 3) for number in range(shapes)]
     black = [(x + c, y + r) for x, y in corners for c, r in ((1, 0), (0, 1), (1, 2))]

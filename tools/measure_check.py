@@ -17,6 +17,8 @@ import subprocess
 import sys
 import tempfile
 
+import script_words
+
 DEPTH = 2000
 STACK = 1 << 20
 
@@ -327,9 +329,10 @@ def compare(program, peer, path):
 
 
 def main():
-    if len(sys.argv) > 3:
-        sys.exit(max(compare(sys.argv[1], sys.argv[2], path) for path in sys.argv[3:]))
-    programs = [[sys.argv[1], "check"]] + [[peer] for peer in sys.argv[2:]]
+    files = script_words.given(__doc__, 1, None)
+    if len(files) > 2:
+        sys.exit(max(compare(files[0], files[1], path) for path in files[2:]))
+    programs = [[files[0], "check"]] + [[peer] for peer in files[1:]]
     wrong = 0
     for name, parts, wanted in samples():
         said = []

@@ -11,8 +11,9 @@ length in replies alone, since they may differ on suicide.
 import random
 import shutil
 import subprocess
-import sys
 import time
+
+import script_words
 
 COMMANDS = 20_000
 LETTERS = "ABCDEFGHJKLMNOPQRSTUVWXYZ"
@@ -65,7 +66,7 @@ def client(path):
 
 
 def main():
-    path = sys.argv[1] if len(sys.argv) > 1 else "crates/tsumego/out/tsumego"
+    path = (script_words.given(__doc__, 0, 1) or ["crates/tsumego/out/tsumego"])[0]
     client(path)
     peer = shutil.which("gnugo") or shutil.which("gnugo", path="/usr/games")
     for rows in (5, 9, 19):
@@ -78,4 +79,5 @@ def main():
             print(f"{rows} rows: gnugo {taken:.2f} s, {COMMANDS / taken:.0f} commands a second, {replies} replies")
 
 
-main()
+if __name__ == "__main__":
+    main()

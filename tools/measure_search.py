@@ -122,6 +122,8 @@ def main():
     parser.add_argument("--table", type=int, default=0)
     parser.add_argument("--verbose", action="store_true")
     words = sys.argv[1:]
+    if "--help" in words or "-h" in words:
+        parser.parse_args(["--help"])
     if "--" not in words:
         parser.error("the folders stand after --")
     folders = words[words.index("--") + 1:]

@@ -10,7 +10,8 @@ the least processor time of several runs for each size, and how many times that 
 import pathlib
 import resource
 import subprocess
-import sys
+
+import script_words
 
 RUNS = 15
 SIZES = (9, 13, 19, 25)
@@ -31,7 +32,7 @@ def seconds(path, words, text):
 
 
 def main():
-    path = sys.argv[1] if len(sys.argv) > 1 else "crates/tsumego/out/tsumego"
+    path = (script_words.given(__doc__, 0, 1) or ["crates/tsumego/out/tsumego"])[0]
     for words in WORDS:
         first = None
         for rows in SIZES:
@@ -41,4 +42,5 @@ def main():
             print(f"{words[0]}, {rows} rows: {least:.3f} s, {least / first:.2f} times that of {SIZES[0]} rows")
 
 
-main()
+if __name__ == "__main__":
+    main()

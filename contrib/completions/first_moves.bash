@@ -5,13 +5,13 @@ _first_moves() {
     COMPREPLY=()
     case $before in
     # What follows is a number.
-    --steps) return ;;
+    --steps | --depth) return ;;
     # Files stand only where input comes from or output goes to.
     '<' | '>' | '>>' | '2>')
         compopt -o default
         return
         ;;
     esac
-    mapfile -t COMPREPLY < <(compgen -W '--list --json --steps --progress --help -h --version -V' -- "$word")
+    mapfile -t COMPREPLY < <(compgen -W '--list --json --coordinates --steps --depth --progress --help -h --version -V' -- "$word")
 }
 complete -F _first_moves first_moves

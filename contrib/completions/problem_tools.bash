@@ -13,8 +13,8 @@ _problem_tools() {
     done
     COMPREPLY=()
     case $before in
-    # What follows these is a number, or points.
-    --node | --target | --shut | --short | --depth | --numbers) return ;;
+    # What follows these is a number, points, or a text.
+    --node | --target | --shut | --short | --depth | --numbers | --caption) return ;;
     # Files stand only where input comes from or output goes to.
     '<' | '>' | '>>' | '2>')
         compopt -o default
@@ -26,14 +26,14 @@ _problem_tools() {
         ;;
     esac
     case $before:$command in
-    --to-play:*) options='B W' ;;
+    --to-play:*) options='black white' ;;
     --region:*) options='auto board' ;;
     --walls:*) options='open kind natural hard race given alone' ;;
     *:) options="$commands --help -h --version -V" ;;
     *:split) options='--into --help -h' ;;
-    *:mark) options='--node --target --region --walls --shut --to-play --help -h' ;;
-    *:page) options='--short --depth --help -h' ;;
-    *:picture) options='--node --numbers --plain --ascii --help -h' ;;
+    *:mark) options='--node --target --region --walls --shut --to-play --bare --help -h' ;;
+    *:page) options='--short --depth --past --json --help -h' ;;
+    *:picture) options='--node --numbers --plain --no-squares --whole --caption --dark --auto --ascii --help -h' ;;
     *:help) options=$commands ;;
     *) options='--help -h' ;;
     esac

@@ -1,11 +1,13 @@
 #!/usr/bin/env python3
-"""Runs the program with memory refused, and with reads and writes that fail, are cut short or interrupted: each call in
+"""Runs the programs with memory refused, and with reads and writes that fail, are cut short or interrupted: each call in
 turn, until a run meets none of them. Each outcome is compared with what a run may leave.
 
-    tools/faults/faults.py [PATH OF TSUMEGO]
+    tools/faults/faults.py [PATH OF A PROGRAM..]
 
-It builds `faults.c` with `cc` into a temporary folder and lays it in front of the C library. It prints a table of runs by
-input and fault, and each finding; the exit code is 1 where there is one.
+The name of a path says which program it is: `tsumego`, `first_moves`, `problem_tools` or `group_status`. Without a path
+those are run that stand where `rt run` and the gate leave them. It builds `faults.c` with `cc` into a temporary folder and
+lays it in front of the C library. It prints a table of runs by input and fault, and each finding; the exit code is 1 where
+there is one, and 3 where there is no program.
 """
 import os
 import pathlib
@@ -15,7 +17,10 @@ import sys
 import tempfile
 from concurrent.futures import ThreadPoolExecutor
 
-HERE = pathlib.Path(__file__).parent
+HERE = pathlib.Path(__file__).resolve().parent
+sys.path.insert(0, str(HERE.parent))
+import script_words  # noqa: E402
+
 NO_MEMORY = (4, b"failed: memory\n")
 NO_READ = (4, b"failed: read\n")
 REFUSED = b"? out of memory\n\n"
@@ -65,6 +70,41 @@ RUNS = [
     ("session that solves", ["gtp"], SOLVING_SESSION),
 ]
 
+PROVED = ("(;FF[4]GM[1]SZ[3]AB[ab]AW[aa]PL[B]TR[aa]SQ[ba]C[Black wins];B[ba];W[])")
+GAMES = "(;FF[4]SZ[5]C[one];B[aa])(;FF[4]SZ[5];B[bb];W[cc])(;SZ[5]"
+POSITION = "(;FF[4]GM[1]SZ[5]AB[ab][bb][ca]AW[aa][ba];C[a comment];B[cc])"
+
+# The same for the programs beside it.
+HELPER_RUNS = {
+    "first_moves": [
+        ("two orders", ["--list"], ORDERS),
+        ("two orders", ["--json"], ORDERS),
+        ("two orders", [], ORDERS),
+        ("capture", ["--list", "--steps", "1"], CAPTURE),
+        ("cut off", [], "(;FF[4]SZ[3]AB[aa)"),
+        ("help", ["--help"], ""),
+        ("wrong words", ["--lst"], ""),
+    ],
+    "problem_tools": [
+        ("a broken file", ["split", "2"], GAMES),
+        ("a broken file", ["split", "3"], GAMES),
+        ("position", ["mark", "--target", "aa", "--region", "aa:cb", "--to-play", "black"], POSITION),
+        ("position", ["mark", "--target", "cc"], POSITION),
+        ("solution", ["page"], PROVED),
+        ("no solution", ["page"], CAPTURE),
+        ("capture", ["picture"], CAPTURE),
+        ("capture", ["picture", "--ascii"], CAPTURE),
+        ("help", ["help", "mark"], ""),
+        ("wrong words", ["mark"], ""),
+    ],
+    "group_status": [
+        ("capture", [], CAPTURE),
+        ("cut off", [], "(;FF[4]SZ[3]AB[aa)"),
+        ("help", ["--help"], ""),
+    ],
+}
+SEARCHES = ["first_moves", "group_status"]
+
 # Each fault; N is the number of the call.
 MEMORY = ["memory:N:1", "memory:N:0"]
 DEVICES = ["read:N:1", "read:N:0", "read-short:N:1", "read-short:N:0", "read-interrupt:N:1", "write:N:1", "write:N:0",
@@ -74,7 +114,7 @@ OFTEN = ["read-interrupt:1:1000", "read-interrupt:1:1001", "write-interrupt:1:10
 
 class Program:
     def __init__(self, path, library):
-        self.path, self.library = path, library
+        self.path, self.library, self.name = path, library, os.path.basename(path)
         self.known = {}
 
     def run(self, words, text, fault=None):
@@ -142,10 +182,20 @@ def session_fits(program, text, got):
     return program.answer(["gtp"], b"".join(sent)) == (0, b"".join(wanted)) and len(replies) == len(lines)
 
 
+def tells_less(own, got):
+    """Whether each line is the program's own, or says of something that it is not known."""
+    ours, theirs = own[1].splitlines(), got[1].splitlines()
+    return got[0] == own[0] and len(ours) == len(theirs) and all(a == b or b"unknown" in b for a, b in zip(ours, theirs))
+
+
 def fits_memory(program, words, text, own, got):
     """Whether a run for which memory was refused may end so."""
     if got == own or got == NO_MEMORY:
         return True
+    if program.name in SEARCHES:
+        return tells_less(own, got)
+    if program.name != "tsumego":
+        return False
     if words[0] == "gtp":
         return session_fits(program, text, got)
     if words[0] != "solve":
@@ -209,26 +259,43 @@ def build(folder):
     return library
 
 
+def programs():
+    """The paths of the programs that there are."""
+    named = script_words.given(__doc__, 0, None)
+    if named:
+        return [os.path.abspath(path) for path in named]
+    built = [f"crates/{name}/out/{name}" for name in ["tsumego", *HELPER_RUNS]]
+    return [os.path.abspath(path) for path in built if os.path.exists(path)]
+
+
+def jobs_of(program):
+    runs = RUNS if program.name == "tsumego" else HELPER_RUNS[program.name]
+    for name, words, text in runs:
+        for fault in MEMORY + DEVICES:
+            yield each_call, program, name, words, text.encode(), fault
+        for fault in OFTEN if text else []:
+            yield often, program, name, words, text.encode(), fault
+
+
 def main():
-    path = os.path.abspath(sys.argv[1] if len(sys.argv) > 1 else "crates/tsumego/out/tsumego")
+    paths = programs()
+    if not paths:
+        print("faults.py: no program is built; give its path")
+        sys.exit(3)
     with tempfile.TemporaryDirectory() as folder:
-        program = Program(path, build(folder))
-        jobs = []
-        for name, words, text in RUNS:
-            for fault in MEMORY + DEVICES:
-                jobs.append((each_call, name, words, text.encode(), fault))
-            for fault in OFTEN:
-                jobs.append((often, name, words, text.encode(), fault))
+        library = build(folder)
+        jobs = [job for path in paths for job in jobs_of(Program(path, library))]
         with ThreadPoolExecutor(2) as pool:
-            done = list(pool.map(lambda job: job[0](program, *job[2:]), jobs))
+            done = list(pool.map(lambda job: job[0](job[1], *job[3:]), jobs))
     total, bad, by_run = 0, 0, {}
-    for (_, name, words, _, fault), (count, findings) in zip(jobs, done):
-        counts = by_run.setdefault((name, " ".join(words)), {"memory": 0, "read": 0, "write": 0})
+    for (_, program, name, words, _, fault), (count, findings) in zip(jobs, done):
+        said = " ".join([program.name, *words] if program.name != "tsumego" else words)
+        counts = by_run.setdefault((name, said), {"memory": 0, "read": 0, "write": 0})
         counts[re.match("[a-z]+", fault)[0]] += count
         total += count
         bad += len(findings)
         for place, (status, output) in findings:
-            print(f"FINDING: {name}, {' '.join(words)}, {place}: exit code {status}, {output[-200:]!r}")
+            print(f"FINDING: {name}, {said}, {place}: exit code {status}, {output[-200:]!r}")
     print("| Input | Words | Runs with memory refused | with faulty reads | with faulty writes |\n|---|---|---|---|---|")
     for (name, words), counts in by_run.items():
         print(f"| {name} | `{words}` | {counts['memory']:,} | {counts['read']:,} | {counts['write']:,} |")

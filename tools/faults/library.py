@@ -12,6 +12,7 @@ import sys
 import tempfile
 
 from faults import MEMORY, Program, build, each_call
+import script_words
 
 CALLS = ["store", "play", "setup", "source", "check", "solve"]
 KEYS = 96
@@ -42,7 +43,7 @@ def fits(program, words, text, fault, own, got):
 
 
 def main():
-    path = os.path.abspath(sys.argv[1] if len(sys.argv) > 1 else "crates/library_driver/out/library_driver")
+    path = os.path.abspath((script_words.given(__doc__, 0, 1) or ["crates/library_driver/out/library_driver"])[0])
     total, bad = 0, 0
     print("| Call | Runs that met a refusal | In so many a call was refused |\n|---|---|---|")
     with tempfile.TemporaryDirectory() as folder:

@@ -16,14 +16,14 @@ pub struct Extent {
     pub rounds: u32,
 }
 
-/// Where they are measured.
+/// The size for measuring.
 pub const LARGE: Extent = Extent {
     lemmas: 20_000,
     moves: 7,
     rounds: 500,
 };
 
-/// Where nothing is measured.
+/// The size when nothing is measured.
 pub const SMALL: Extent = Extent {
     lemmas: 20,
     moves: 2,

@@ -20,7 +20,7 @@ pub fn judge(alloc: Global, sample: &Sample) -> Result<Colour, Reject> {
     check(alloc, &sample.problem, &mut source)
 }
 
-/// How many lines the claim has, where each is spelled as lines are.
+/// How many lines the claim has, if each is spelled as lines are.
 pub fn split(sample: &Sample) -> io::Result<u64> {
     let mut source = ReaderSource::new(
         sample.problem.size(),

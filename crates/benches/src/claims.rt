@@ -1,4 +1,4 @@
-//! The checker of claims against splitting the same bytes into lines.
+//! The checker of claims, compared with splitting the same bytes into lines.
 
 use crate::claim_samples::{Extent, FAMILIES, Family, LARGE, SMALL, Sample};
 use crate::claim_timing::{judge, split, time_judging, time_splitting};
@@ -8,7 +8,7 @@ use go_points::Colour;
 use std::io;
 use std::rt::Clock;
 
-/// Says of a small claim of each family what the checker says of it.
+/// Prints what the checker says about a small claim of each family.
 pub fn once<R: Print + AllocGlobal>(rt: &R) -> io::Result<()> {
     for family in FAMILIES {
         judge_once(rt, &family.sample(rt.alloc(), SMALL)?)?;
@@ -16,7 +16,7 @@ pub fn once<R: Print + AllocGlobal>(rt: &R) -> io::Result<()> {
     Ok(())
 }
 
-/// Prints how fast a large claim of each family is judged, and deep paths of several depths.
+/// Prints how fast a large claim of each family is judged, and how fast deep paths of several depths are.
 pub fn measure<R: Print + Clock + AllocGlobal>(rt: &R) -> io::Result<()> {
     for family in FAMILIES {
         measure_claim(rt, &family.sample(rt.alloc(), LARGE)?)?;
@@ -24,7 +24,8 @@ pub fn measure<R: Print + Clock + AllocGlobal>(rt: &R) -> io::Result<()> {
     measure_depths(rt)
 }
 
-/// How deep the deep paths are, in turns of Black: the time of a line may not grow with them. The game is over before 999.
+/// How deep the deep paths are, in turns of Black. The time for a line may not grow with the depth. The game is over before turn
+/// 999.
 const ROUNDS: [u32; 3] = [125, 250, 500];
 
 fn measure_depths<R: Print + Clock + AllocGlobal>(rt: &R) -> io::Result<()> {
@@ -39,7 +40,7 @@ fn measure_depths<R: Print + Clock + AllocGlobal>(rt: &R) -> io::Result<()> {
     Ok(())
 }
 
-/// Says how many lines the claim has, and what the checker says of it.
+/// Prints how many lines the claim has, and what the checker says about it.
 fn judge_once<R: Print + AllocGlobal>(rt: &R, sample: &Sample) -> io::Result<()> {
     let lines = split(sample)?;
     print_answer(rt, sample.name, lines, judge(rt.alloc(), sample))
@@ -70,7 +71,7 @@ fn why_text(why: Why) -> &'static str {
     }
 }
 
-/// Says the same of a large claim, and how many lines a second are judged, and how many are split off alone.
+/// Prints the same for a large claim, and how many lines per second are judged, and how many are only split off.
 fn measure_claim<R: Print + Clock + AllocGlobal>(rt: &R, sample: &Sample) -> io::Result<()> {
     let lines = split(sample)?;
     let (answer, judging) = time_judging(rt, sample)?;

@@ -5,7 +5,8 @@ use go_points::Turn;
 use std::alloc::{AllocError, Global};
 use target_game::{PlayState, Problem};
 
-/// So many turns of Black, each at the last legal point, and after each the first of the replies that are due.
+/// The claim with this many turns of Black, each at the last legal point, and after each turn the first of the replies that are
+/// due.
 pub fn deep_path(alloc: Global, problem: &Problem, rounds: u32) -> Result<Vec<u8>, AllocError> {
     let mut state = PlayState::of(alloc, problem)?;
     let mut text = Vec::new(alloc);
@@ -26,7 +27,7 @@ fn add_round(state: &mut PlayState, text: &mut Vec<u8>) -> Result<(), AllocError
     go_down(state, b"reply ", reply, text)
 }
 
-/// The legal move at the greatest point; the pass, where there is none.
+/// The legal move at the greatest point, or the pass if there is none.
 fn last_move(state: &PlayState) -> Turn {
     let turns = state.turns();
     let all = turns.as_slice();
@@ -48,7 +49,7 @@ fn go_down(
     make(state, turn)
 }
 
-/// Makes the turn, where the game is not over and it is legal.
+/// Makes the turn, if the game is not over and the turn is legal.
 fn make(state: &mut PlayState, turn: Turn) -> Result<(), AllocError> {
     if state.over().is_some() {
         return Ok(());

@@ -8,7 +8,7 @@ use std::alloc::{AllocError, Global};
 use std::io;
 use std::io::ErrorKind;
 
-/// The claim for so many places, checked.
+/// The claim for this many places, checked.
 pub fn checked_claim(alloc: Global, columns: u8) -> io::Result<Checked> {
     let size = board()?;
     let order = sets(alloc, columns)?;
@@ -46,7 +46,7 @@ fn lemmas(
     Ok(lemmas)
 }
 
-/// Black's turns where it has these stones. White answers each by a pass; Black's pass ends the game where White has just passed.
+/// Black's turns when it has these stones. White answers each with a pass; Black's pass ends the game if White has just passed.
 fn replies(
     alloc: Global,
     size: Size,

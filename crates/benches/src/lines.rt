@@ -3,13 +3,13 @@
 use go_points::{Turn, to_sgf};
 use std::alloc::AllocError;
 
-/// The bytes, after what is there.
+/// Adds the bytes.
 pub fn add(text: &mut Vec<u8>, bytes: &[u8]) -> Result<(), AllocError> {
     text.extend_from_slice(bytes)?;
     Ok(())
 }
 
-/// A word and a turn.
+/// Adds a word and a turn.
 pub fn add_turn(text: &mut Vec<u8>, word: &[u8], turn: Turn) -> Result<(), AllocError> {
     add(text, word)?;
     match turn {
@@ -19,7 +19,7 @@ pub fn add_turn(text: &mut Vec<u8>, word: &[u8], turn: Turn) -> Result<(), Alloc
     add(text, b"\n")
 }
 
-/// A word and a number.
+/// Adds a word and a number.
 pub fn add_number(text: &mut Vec<u8>, word: &[u8], number: usize) -> Result<(), AllocError> {
     add(text, word)?;
     let line = format!(in *text.allocator(); "{number}\n")?;

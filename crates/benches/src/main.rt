@@ -48,7 +48,7 @@ fn measure(rt: &HostRuntime, word: &str) -> io::Result<()> {
     }
 }
 
-/// Does each once, and says what came out.
+/// Does each once, and prints the outcome.
 fn once(rt: &HostRuntime) -> io::Result<()> {
     records::once(rt)?;
     within::once(rt)?;

@@ -3,10 +3,10 @@
 use crate::lines::{add, add_number};
 use std::alloc::{AllocError, Global};
 
-/// One lemma: the target is gone.
+/// One lemma, in which the target is gone.
 const LEMMA: &[u8] = b"lemma W 0 .X.X.....\nwon\nend\n";
 
-/// So many lemmas, and the capture after which the last of them is used.
+/// This many lemmas, and the capture after which the last of them is used.
 pub fn many_lemmas(alloc: Global, lemmas: usize) -> Result<Vec<u8>, AllocError> {
     let mut text = Vec::new(alloc);
     add(&mut text, b"tsucert 1 3 B\n")?;

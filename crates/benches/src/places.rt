@@ -22,12 +22,12 @@ pub fn holds(places: Places, column: u8) -> bool {
     places.wrapping_shr(u32::from(column)) & 1 == 1
 }
 
-/// The set and this column.
+/// The set with this column.
 pub fn with(places: Places, column: u8) -> Places {
     places | 1u32.wrapping_shl(u32::from(column))
 }
 
-/// All sets of so many columns but the empty one, larger ones first.
+/// All sets of this many columns except the empty one, larger ones first.
 pub fn sets(alloc: Global, columns: u8) -> Result<Vec<Places>, AllocError> {
     let mut all = Vec::new(alloc);
     for fewer in 0..columns {
@@ -36,7 +36,7 @@ pub fn sets(alloc: Global, columns: u8) -> Result<Vec<Places>, AllocError> {
     Ok(all)
 }
 
-/// Adds the sets of so many of the columns.
+/// Adds the sets of `count` of the columns.
 fn add_sets(all: &mut Vec<Places>, columns: u8, count: u8) -> Result<(), AllocError> {
     for places in 1..256u32 {
         if places.wrapping_shr(u32::from(columns)) == 0 && places.count_ones() == u32::from(count) {
@@ -75,7 +75,7 @@ pub fn colouring(size: Size, places: Places) -> Colouring {
     colouring
 }
 
-/// Black moves first, on so many first places of the last row alone, and would have to capture the corner.
+/// Black moves first, may only move at the first `columns` places of the last row, and would have to capture the corner.
 pub fn problem(alloc: Global, columns: u8) -> io::Result<Problem> {
     let size = board()?;
     let mut history = Vec::new(alloc);
@@ -91,7 +91,7 @@ pub fn problem(alloc: Global, columns: u8) -> io::Result<Problem> {
     }
 }
 
-/// The set of so many first columns.
+/// The set of the first `columns` columns.
 fn all_of(columns: u8) -> Places {
     let mut places = 0;
     for column in 0..columns {

@@ -6,7 +6,7 @@ use std::io;
 use std::io::ErrorKind;
 use target_game::Problem;
 
-/// The points where moves are made in the problem of a wide tree. None of them takes the liberties of another, or of the target.
+/// The points where moves are made in the problem of a wide tree. No such move takes liberties from another, or from the target.
 const APART: [&[u8]; 7] = [b"bg", b"dg", b"ai", b"ci", b"ei", b"gi", b"ii"];
 
 /// The targets of the problem of a deep path. They share a liberty where nobody may move.
@@ -21,7 +21,8 @@ pub fn first_capture(alloc: Global) -> io::Result<Problem> {
     problem(alloc, colouring, points(size, b"aa"), points(size, b"ba"))
 }
 
-/// A board of 9 by 9 with a white stone that Black cannot take: moves are made only at so many points, all far from it.
+/// A board of 9 by 9 with a white stone that Black cannot take. Moves are made only at the first `moves` of some points that are
+/// all far from it.
 pub fn stone_apart(alloc: Global, moves: usize) -> io::Result<Problem> {
     let size = size_of(9)?;
     let mut colouring = Colouring::empty(size);
@@ -35,7 +36,7 @@ pub fn stone_apart(alloc: Global, moves: usize) -> io::Result<Problem> {
     problem(alloc, colouring, points(size, b"aa"), region)
 }
 
-/// A board of 19 by 19 with two black stones that nobody can take, and moves at all the points but theirs and their liberty.
+/// A board of 19 by 19 with two black stones that nobody can take, and moves at all points except theirs and their liberty.
 pub fn eye_apart(alloc: Global) -> io::Result<Problem> {
     let size = size_of(19)?;
     let mut colouring = Colouring::empty(size);
@@ -58,7 +59,7 @@ fn size_of(rows: u8) -> io::Result<Size> {
     }
 }
 
-/// The problem where nothing else has occurred, Black to move.
+/// The problem in which nothing else has occurred, with Black to move.
 fn problem(
     alloc: Global,
     colouring: Colouring,
@@ -73,7 +74,7 @@ fn problem(
     }
 }
 
-/// Stones at the points that these letters name, two for each.
+/// Places stones at the points that these letters name, two for each.
 fn place_stones(colouring: &mut Colouring, letters: &[u8], colour: Colour) {
     for pair in letters.chunks(2) {
         if let Some(point) = sgf_point(colouring.size(), pair) {

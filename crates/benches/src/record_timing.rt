@@ -15,7 +15,7 @@ pub fn read(alloc: Global, text: &[u8]) -> io::Result<Tree> {
     }
 }
 
-/// Writes the tree over what the memory holds.
+/// Writes the tree over the old contents of the memory.
 pub fn write_again(tree: &Tree, into: &mut Vec<u8>) -> io::Result<()> {
     into.clear();
     match write_tree(tree, into) {
@@ -24,14 +24,14 @@ pub fn write_again(tree: &Tree, into: &mut Vec<u8>) -> io::Result<()> {
     }
 }
 
-/// Copies the text over what the memory holds.
+/// Copies the text over the old contents of the memory.
 pub fn copy_again(text: &[u8], into: &mut Vec<u8>) -> io::Result<()> {
     into.clear();
     into.extend_from_slice(text)?;
     Ok(())
 }
 
-/// How long it takes to read the text so often, and to give the trees' memory back.
+/// How long it takes to read the text this often, and to free the memory of the trees.
 pub fn time_reading<R: Clock + AllocGlobal>(
     rt: &R,
     text: &[u8],
@@ -44,7 +44,7 @@ pub fn time_reading<R: Clock + AllocGlobal>(
     start.elapsed(rt)
 }
 
-/// How long it takes to write the text's tree so often.
+/// How long it takes to write the text's tree this often.
 pub fn time_writing<R: Clock + AllocGlobal>(
     rt: &R,
     text: &[u8],
@@ -60,7 +60,7 @@ pub fn time_writing<R: Clock + AllocGlobal>(
     start.elapsed(rt)
 }
 
-/// How long it takes to copy the text so often.
+/// How long it takes to copy the text this often.
 pub fn time_copying<R: Clock + AllocGlobal>(
     rt: &R,
     text: &[u8],

@@ -1,4 +1,4 @@
-//! Reading and writing SGF against copying the same bytes.
+//! Reading and writing SGF, compared with copying the same bytes.
 
 use crate::record_sample::{LARGE, SMALL, sample};
 use crate::record_timing::{
@@ -10,10 +10,10 @@ use std::io;
 use std::rt::Clock;
 use std::time::Duration;
 
-/// How often each is done where it is measured.
+/// How often each is done when it is measured.
 const ROUNDS: usize = 40;
 
-/// Reads, writes and copies a small text, and says whether all gave the same bytes.
+/// Reads, writes and copies a small text, and prints whether all gave the same bytes.
 pub fn once<R: Print + AllocGlobal>(rt: &R) -> io::Result<()> {
     let text = sample(rt.alloc(), SMALL)?;
     if is_same(rt.alloc(), text.as_slice())? {
@@ -48,7 +48,7 @@ pub fn measure<R: Print + Clock + AllocGlobal>(rt: &R) -> io::Result<()> {
     print_ratio(rt, "writing", writing, "copying", copying)
 }
 
-/// Prints how many bytes went through in a second.
+/// Prints how many bytes went through per second.
 fn print_speed(rt: &impl Print, name: &str, len: usize, time: Duration) -> io::Result<()> {
     let speed = per_second((len as u64).saturating_mul(ROUNDS as u64), time);
     println!(rt; "{name}: {speed} bytes per second")

@@ -3,7 +3,7 @@
 use std::io;
 use std::time::Duration;
 
-/// How many of them go by in a second.
+/// How many there are per second.
 pub fn per_second(count: u64, time: Duration) -> u128 {
     u128::from(count).saturating_mul(1_000_000_000) / time.as_nanos().max(1)
 }

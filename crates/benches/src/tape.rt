@@ -17,7 +17,7 @@ pub struct Step {
     pub is_made: bool,
 }
 
-/// The steps of a pass over the tree of so many turns.
+/// The steps of a pass over the tree of this many turns.
 pub fn record(alloc: Global, problem: &Problem, turns: u32) -> Result<Vec<Step>, AllocError> {
     let mut state = PlayState::of(alloc, problem)?;
     let mut tape = Vec::new(alloc);

@@ -13,7 +13,7 @@ use std::time::{Duration, Instant};
 use target_game::Problem;
 use tsumego_problem::{problem_node, read_problem};
 
-/// The claim's answer tree, where it has no more turns than the limit.
+/// The claim's answer tree, if it has no more turns than the limit.
 pub fn expanded(alloc: Global, checked: &Checked, limit: usize) -> io::Result<Answer> {
     match expand(alloc, checked, limit) {
         Ok(answer) => Ok(answer),
@@ -37,7 +37,7 @@ pub fn problem_of(alloc: Global, tree: &Tree) -> io::Result<Problem> {
     }
 }
 
-/// Who wins by the record's tree.
+/// Who wins according to the record's tree.
 pub fn audited(alloc: Global, problem: &Problem, tree: &Tree) -> io::Result<Colour> {
     if problem_node(tree).is_none() {
         return Err(io::Error::from(ErrorKind::InvalidData));
@@ -48,7 +48,7 @@ pub fn audited(alloc: Global, problem: &Problem, tree: &Tree) -> io::Result<Colo
     }
 }
 
-/// How long it takes to expand the claim so often, and to give the trees' memory back.
+/// How long it takes to expand the claim this often, and to free the memory of the trees.
 pub fn time_expanding<R: Clock + AllocGlobal>(
     rt: &R,
     checked: &Checked,
@@ -62,7 +62,7 @@ pub fn time_expanding<R: Clock + AllocGlobal>(
     start.elapsed(rt)
 }
 
-/// How long it takes to audit the text's tree so often.
+/// How long it takes to audit the text's tree this often.
 pub fn time_auditing<R: Clock + AllocGlobal>(
     rt: &R,
     text: &[u8],

@@ -1,4 +1,4 @@
-//! Expanding a claim and auditing its answer tree against reading the record of the same tree.
+//! Expanding a claim and auditing its answer tree, compared with reading the record of the same tree.
 
 use crate::lemma_claim::checked_claim;
 use crate::record_timing::{read, time_reading};
@@ -12,19 +12,19 @@ use std::io;
 use std::rt::Clock;
 use std::time::Duration;
 
-/// For how many places there is a claim. A place more makes the answer tree six to eight times as large.
+/// The numbers of places for which there is a claim. One more place makes the answer tree six to eight times as large.
 const PLACES: [u8; 4] = [5, 6, 7, 8];
 
-/// As many turns as a record may have that is read: 100,000 nodes, less two that stand before them.
+/// The greatest number of turns of a record that can be read: 100,000 nodes, less the two before the turns.
 const MOST_READ: usize = 99_998;
 
 /// More turns than any of the trees has.
 const LIMIT: usize = 1_000_000;
 
-/// How many turns are expanded, read and audited where it is measured; at least one tree.
+/// How many turns are expanded, read and audited when it is measured. It is at least one tree.
 const TURNS: usize = 400_000;
 
-/// Says of each claim how large its answer tree is, and who wins by the record of it.
+/// Prints for each claim how large its answer tree is, and who wins according to its record.
 pub fn once<R: Print + AllocGlobal>(rt: &R) -> io::Result<()> {
     for places in PLACES {
         let checked = checked_claim(rt.alloc(), places)?;
@@ -33,7 +33,7 @@ pub fn once<R: Print + AllocGlobal>(rt: &R) -> io::Result<()> {
     Ok(())
 }
 
-/// Prints how fast each claim is expanded, and the record of its tree read and audited.
+/// Prints how fast each claim is expanded, and how fast the record of its tree is read and audited.
 pub fn measure<R: Print + Clock + AllocGlobal>(rt: &R) -> io::Result<()> {
     for places in PLACES {
         let checked = checked_claim(rt.alloc(), places)?;
@@ -42,7 +42,8 @@ pub fn measure<R: Print + Clock + AllocGlobal>(rt: &R) -> io::Result<()> {
     Ok(())
 }
 
-/// Says how large the claim's answer tree is, whether it is refused with one turn fewer, and what the audit says of its record.
+/// Prints how large the claim's answer tree is, whether it is refused if one turn fewer is allowed, and what the audit says about
+/// its record.
 fn expand_once<R: Print + AllocGlobal>(rt: &R, places: u8, checked: &Checked) -> io::Result<()> {
     let alloc = rt.alloc();
     let answer = expanded(alloc, checked, LIMIT)?;
@@ -58,7 +59,7 @@ fn expand_once<R: Print + AllocGlobal>(rt: &R, places: u8, checked: &Checked) ->
     rt.println(verdict_of(winner))
 }
 
-/// What comes of expanding the claim to at most so many turns.
+/// The outcome of expanding the claim to at most this many turns.
 fn outcome_within(alloc: Global, checked: &Checked, turns: usize) -> io::Result<&'static str> {
     match expand(alloc, checked, turns) {
         Ok(_) => Ok("expanded"),
@@ -67,7 +68,7 @@ fn outcome_within(alloc: Global, checked: &Checked, turns: usize) -> io::Result<
     }
 }
 
-/// What is printed of the side that wins.
+/// What is printed for the side that wins.
 fn verdict_of(winner: Colour) -> &'static str {
     match winner {
         Colour::Black => "Black wins",
@@ -75,7 +76,8 @@ fn verdict_of(winner: Colour) -> &'static str {
     }
 }
 
-/// Prints how many turns a second are expanded; and, where the record can be read, how many are read and audited, and how much longer the two take than reading.
+/// Prints how many turns per second are expanded; and, if the record can be read, how many are read and audited, and how much
+/// longer expanding and auditing take than reading.
 fn measure_claim<R: Print + Clock + AllocGlobal>(
     rt: &R,
     places: u8,
@@ -100,7 +102,7 @@ fn measure_claim<R: Print + Clock + AllocGlobal>(
     print_ratio(rt, "auditing", auditing, "reading", reading)
 }
 
-/// Prints how many turns went by in a second.
+/// Prints how many turns there were per second.
 fn print_speed(rt: &impl Print, name: &str, turns: u64, time: Duration) -> io::Result<()> {
     let speed = per_second(turns, time);
     println!(rt; "{name}: {speed} turns a second")

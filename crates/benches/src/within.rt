@@ -1,4 +1,4 @@
-//! The exact decision within a number of turns against making and taking back the same turns.
+//! The exact decision within a number of turns, compared with making and taking back the same turns.
 
 use crate::speed::{per_second, tenths};
 use crate::tape::{Step, record, states_of};
@@ -8,10 +8,10 @@ use std::io;
 use std::rt::Clock;
 use target_game::{Problem, Within, decide_within};
 
-/// How many turns are looked ahead where nothing is measured.
+/// How many turns are looked ahead when nothing is measured.
 const FEW_TURNS: u32 = 2;
 
-/// Says of each sample what is decided within few turns.
+/// Prints for each sample what is decided within a few turns.
 pub fn once<R: Print + AllocGlobal>(rt: &R) -> io::Result<()> {
     for sample in samples() {
         let problem = sample.problem(rt.alloc())?;
@@ -20,7 +20,7 @@ pub fn once<R: Print + AllocGlobal>(rt: &R) -> io::Result<()> {
     Ok(())
 }
 
-/// Prints how fast each sample is decided, and how long problems with a past take to make.
+/// Prints how fast each sample is decided, and how long it takes to make problems with a past.
 pub fn measure<R: Print + Clock + AllocGlobal>(rt: &R) -> io::Result<()> {
     for sample in samples() {
         let problem = sample.problem(rt.alloc())?;
@@ -29,7 +29,7 @@ pub fn measure<R: Print + Clock + AllocGlobal>(rt: &R) -> io::Result<()> {
     measure_pasts(rt)
 }
 
-/// Prints how long it takes to make a problem of a past, and of one four times as long.
+/// Prints how long it takes to make a problem with a past, and one with a past four times as long.
 fn measure_pasts<R: Print + Clock + AllocGlobal>(rt: &R) -> io::Result<()> {
     let past = LONG_PAST / 4;
     let short = time_making(rt, past)?;
@@ -44,7 +44,7 @@ fn measure_pasts<R: Print + Clock + AllocGlobal>(rt: &R) -> io::Result<()> {
     )
 }
 
-/// Says what is decided within few turns, and by how many states.
+/// Prints what is decided within a few turns, and with how many states.
 fn decide_once<R: Print + AllocGlobal>(
     rt: &R,
     sample: &Sample,
@@ -74,7 +74,7 @@ fn decision_text(decision: Within) -> &'static str {
     }
 }
 
-/// Prints how many states a second are decided, and how many turns a second are made and taken back.
+/// Prints how many states per second are decided, and how many turns per second are made and taken back.
 fn measure_sample<R: Print + Clock + AllocGlobal>(
     rt: &R,
     sample: &Sample,

@@ -1,4 +1,4 @@
-//! The problems that are measured: one corner, on boards of five sizes, and after many positions.
+//! The problems that are measured: one corner, on boards of five sizes, and one after many positions.
 
 ghost use Rattle.std.specs.Prelude.{◌≤◌};
 
@@ -16,10 +16,10 @@ const BLACK: &[u8] = b"dadbdccdbdad";
 /// The corner point and the five points between the stones.
 const REGION: &[u8] = b"aacacbbcaccc";
 
-/// How many positions have occurred where there is a past: as many as a problem may have, with the present one.
+/// How many positions have occurred if there is a past: together with the present one, as many as a problem may have.
 pub const LONG_PAST: u16 = 999;
 
-/// A size of the board, how many turns are looked ahead on it where it is measured, and how many other positions have occurred.
+/// A size of the board, how many turns are looked ahead on it when it is measured, and how many other positions have occurred.
 #[derive(Clone, Copy)]
 pub struct Sample {
     pub rows: u8,
@@ -65,7 +65,7 @@ pub fn samples() -> [Sample; 6] {
 }
 
 impl Sample {
-    /// The corner on a board of this size, Black to move; White's stones are the targets.
+    /// The corner on a board of this size, with Black to move. White's stones are the targets.
     pub fn problem(&self, alloc: Global) -> io::Result<Problem> {
         let Some(size) = Size::new(self.rows) else {
             return Err(io::Error::from(ErrorKind::InvalidData));
@@ -92,7 +92,7 @@ impl Sample {
     }
 }
 
-/// The position with more black stones, on the last row but one and above it: one for each bit of the number.
+/// The position with more black stones, on the second to last row and above it: one for each bit of the number.
 fn earlier(present: Colouring, number: u16) -> Colouring {
     let mut position = present;
     for column in 0..10u8 {
@@ -103,7 +103,7 @@ fn earlier(present: Colouring, number: u16) -> Colouring {
     position
 }
 
-/// A black stone on the last row but one; past its last column, two rows above its end.
+/// Places a black stone on the second to last row; past its last column, two rows above its end.
 fn place_far(position: &mut Colouring, column: u8) {
     let size = position.size();
     let last = size.rows().saturating_sub(1);
@@ -117,7 +117,7 @@ fn place_far(position: &mut Colouring, column: u8) {
     }
 }
 
-/// Stones at the points that these letters name, two for each.
+/// Places stones at the points that these letters name, two for each.
 fn place_stones(colouring: &mut Colouring, letters: &[u8], colour: Colour) {
     for pair in letters.chunks(2) {
         if let Some(point) = sgf_point(colouring.size(), pair) {

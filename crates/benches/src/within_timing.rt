@@ -12,10 +12,10 @@ use std::rt::Clock;
 use std::time::{Duration, Instant};
 use target_game::{Problem, decide_within};
 
-/// How often a problem is made to measure it.
+/// How often a problem is made to measure that.
 const MAKINGS: u32 = 20;
 
-/// How long it takes to decide who wins within so many turns.
+/// How long it takes to decide who wins within this many turns.
 pub fn time_deciding<R: Clock + AllocGlobal>(
     rt: &R,
     problem: &Problem,
@@ -42,7 +42,7 @@ pub fn time_making<R: Clock + AllocGlobal>(rt: &R, past: u16) -> io::Result<Dura
     Ok(start.elapsed(rt)? / MAKINGS)
 }
 
-/// How long it takes to make the turns of the tape, and to take them back, on a record that asks nothing of the game.
+/// How long it takes to make the turns of the tape, and to take them back, on a record, which knows nothing of the game.
 pub fn time_replaying<R: Clock + AllocGlobal>(
     rt: &R,
     problem: &Problem,
@@ -58,7 +58,7 @@ pub fn time_replaying<R: Clock + AllocGlobal>(
     start.elapsed(rt)
 }
 
-/// Makes the turns of the tape and takes them back; whether each was made.
+/// Makes the turns of the tape and takes them back. Returns whether each was made.
 fn replay(record: &mut PlayRecord, tape: &[Step]) -> bool {
     for step in tape {
         let done = if step.is_made {

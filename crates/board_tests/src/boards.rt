@@ -1,4 +1,4 @@
-//! Both boards are asked the same, turn by turn, and answer alike.
+//! Both boards are asked the same questions, turn by turn, and give the same answers.
 
 use crate::expect::expect_that;
 use go_chains::ChainBoard;
@@ -39,7 +39,7 @@ fn move_on<B: Board>(board: &mut B, colour: Colour, number: usize) -> Answer {
     }
 }
 
-// What a board says of another colouring: itself with another cell at one point.
+// What a board says of another colouring, which is its own with another cell at one point.
 fn change_on<B: Board>(board: &mut B, cell: Cell, number: usize) -> Option<Point> {
     let mut wanted = board.colouring();
     let size = wanted.size();
@@ -50,7 +50,8 @@ fn change_on<B: Board>(board: &mut B, cell: Cell, number: usize) -> Option<Point
     }
 }
 
-// Whether both boards answer alike for that many turns: mostly moves of random colours, and now and then a changed point.
+// Whether both boards give the same answers for this many turns. Most turns are moves of random colours; now and then a point is
+// changed.
 fn agree(rows: u8, turns: u32, start: u64) -> bool {
     let Some(size) = Size::new(rows) else {
         return false;

@@ -1,4 +1,4 @@
-//! Keys. The words were drawn by another program, from its own PCG64 made by the number 1.
+//! Keys. The words were drawn by another program, from its own PCG64 seeded with the number 1.
 
 use crate::expect::expect_number;
 use go_points::{Colour, Colouring, MAX_SIZE, Size, Turn, sgf_point};

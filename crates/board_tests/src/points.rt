@@ -34,7 +34,7 @@ fn expect_vertex(rt: &impl Abort, found: Option<Vertex>, wanted: Option<Vertex>)
     assert_eq!(rt; found, wanted);
 }
 
-// The neighbours have these columns and rows.
+// Expects the neighbours to have these columns and rows.
 fn expect_beside(rt: &impl Abort, size: Size, column: u8, row: u8, wanted: &[(u8, u8)]) {
     let found = at(rt, size, column, row).neighbours(size);
     let found = found.as_slice();

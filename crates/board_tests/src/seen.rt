@@ -1,4 +1,4 @@
-//! What has occurred: each colouring has its place, and joins once.
+//! Colourings that have occurred: each has its place, and joins once.
 
 use crate::expect::expect_same;
 use crate::turns::{board, painted};
@@ -31,7 +31,7 @@ fn each_colouring_has_its_place(rt: HostRuntime) {
     expect_same(&rt, are_found.ok(), Some(true));
 }
 
-// Whether a colouring joins the list just where it is new.
+// Whether a colouring joins the list exactly if it is new.
 fn are_joined<S: Seen>(
     alloc: Global,
     first: Colouring,

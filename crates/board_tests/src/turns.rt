@@ -53,7 +53,7 @@ fn empty_record(rt: &impl Abort, alloc: Global, size: Size) -> PlayRecord {
     PlayRecord::new(alloc, &Colouring::empty(size)).expect(rt, "memory")
 }
 
-// The move of this colour in this column and row has this outcome.
+// Expects the move of this colour in this column and row to have this outcome.
 fn expect_played(
     rt: &impl Abort,
     record: &mut PlayRecord,
@@ -65,7 +65,7 @@ fn expect_played(
     expect_done(rt, record.play(colour, turn), wanted);
 }
 
-// The record stands at these cells.
+// Expects the record to be at these cells.
 fn expect_cells(rt: &impl Abort, record: &PlayRecord, text: &str) {
     expect_colouring(rt, record.colouring(), painted(record.size(), text));
 }

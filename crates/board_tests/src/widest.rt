@@ -10,7 +10,7 @@ fn expect_taken(rt: &impl Abort, found: Option<u16>, wanted: Option<u16>) {
     assert_eq!(rt; found, wanted);
 }
 
-// A move on the board, as the number of stones that it takes off, if it is one.
+// Makes a move on the board, and returns the number of stones that it takes off, if the move can be made.
 fn taken<B: Board>(board: &mut B, colour: Colour, point: Point) -> Option<u16> {
     if board.size().holds(point) {
         board.play(colour, point).ok()
@@ -41,7 +41,7 @@ fn moves_on_the_widest_board_count_what_they_take(rt: HostRuntime) {
     expect_taken(&rt, taken(&mut board, Colour::Black, above), Some(1));
 }
 
-// The widest board, full of black stones but for the point in its middle.
+// The widest board, full of black stones except for the point in its middle.
 fn nearly_full() -> Option<Colouring> {
     let size = Size::new(MAX_SIZE)?;
     let mut colouring = Colouring::empty(size);

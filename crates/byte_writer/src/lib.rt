@@ -1,4 +1,4 @@
-//! Bytes written a piece at a time, with what a failed write left.
+//! Bytes written a piece at a time, and what a failed write leaves.
 #![tactic(auto)]
 
 mod pending;

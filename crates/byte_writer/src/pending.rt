@@ -1,4 +1,4 @@
-//! Bytes gathered on the stack, so that a writer without a buffer of its own is called once for some thousand bytes.
+//! Bytes gathered on the stack. A writer without a buffer of its own is then called once for some thousand bytes.
 
 ghost use Rattle.std.specs.Prelude.{◌≡◌, [], false};
 ghost use Rattle.byte_writer.specs.Taken.{Finishes, HasPut};
@@ -11,7 +11,8 @@ use std::marker::Model;
 /// How many bytes are gathered before they are written.
 const MOST_HELD: usize = 4096;
 
-/// Bytes that are still to be written. After a failed write no more is put, so that whoever puts a text in parts asks once, at its end.
+/// Bytes that are still to be written. After a failed write no more are accepted, so a caller that puts a text in parts checks only
+/// once, at the end.
 #[derive(Drop)]
 pub struct PendingBytes {
     held: ArrayVec<u8, MOST_HELD>,
@@ -27,7 +28,7 @@ impl Model for PendingBytes {
 }
 
 impl PendingBytes {
-    /// None.
+    /// No bytes yet.
     pub fn new() -> PendingBytes
         ensures { result ≡ record { held = []; failed = false } }
     {
@@ -37,7 +38,7 @@ impl PendingBytes {
         }
     }
 
-    /// Puts the bytes after those that are held. Where there is no room for them, all are written.
+    /// Puts the bytes after those that are held. If there is no room for them, all are written.
     pub fn put<W: Write>(&mut self, bytes: &[u8], writer: &mut W)
         ensures { HasPut (W.contents writer.old) (W.contents writer.new) self.old self.new
             bytes.now }
@@ -58,7 +59,7 @@ impl PendingBytes {
         }
     }
 
-    /// Writes what is held, and says whether all was written that was put.
+    /// Writes what is held, and says whether everything that was put has been written.
     pub fn finish<W: Write>(self, writer: &mut W) -> Result<(), WriteFault>
         ensures { Finishes result (W.contents writer.old) (W.contents writer.new) self }
     {

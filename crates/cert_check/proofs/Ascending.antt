@@ -54,7 +54,7 @@ pub ascends_once : (cs : List (List Cell)) → Ascends cs → repeats cs ≡ fal
 ascends_once [] h = refl
 ascends_once (c ∷ cs) h = ap (λ b. b || repeats cs) (none_among c cs (above_all c cs h)) ∙ ascends_once cs h.1
 
-ascends_drop : (i : ℕ) (cs : List (List Cell)) → Ascends cs → Ascends (drop i cs)
+pub ascends_drop : (i : ℕ) (cs : List (List Cell)) → Ascends cs → Ascends (drop i cs)
 ascends_drop zero cs h = h
 ascends_drop (suc i) [] h = tt
 ascends_drop (suc i) (c ∷ cs) h = ascends_drop i cs h.1
@@ -102,7 +102,7 @@ pub record IsSplit (cs : List (List Cell)) (c : List Cell) (low high : ℕ) : Ty
   pub above : (k : ℕ) → high ≤ k → k < length cs → text_order (slice_index_or cs k c) c ≡ Greater
   pub within : high ≤ length cs
 
-is_less : (o : Ordering) → is_lt o ≡ true → o ≡ Less
+pub is_less : (o : Ordering) → is_lt o ≡ true → o ≡ Less
 is_less Less e = refl
 is_less Equal e = absurd (cc)
 is_less Greater e = absurd (cc)
@@ -112,7 +112,7 @@ is_equal Less e = absurd (cc)
 is_equal Equal e = refl
 is_equal Greater e = absurd (cc)
 
-is_greater : (o : Ordering) → is_eq o ≡ false → is_lt o ≡ false → o ≡ Greater
+pub is_greater : (o : Ordering) → is_eq o ≡ false → is_lt o ≡ false → o ≡ Greater
 is_greater Less e f = absurd (cc)
 is_greater Equal e f = absurd (cc)
 is_greater Greater e f = refl

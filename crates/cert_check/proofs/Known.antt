@@ -1,8 +1,9 @@
--- What is known at a state, by the list that a body keeps of it; and whether none of two lists stands on the other.
-use Rattle.std.proofs.Common.{◌≡◌, ℕ, ◌<◌, Bool, true, false, not, ◌&&◌, ◌||◌, List, [], ◌∷◌, ◌++◌, length, reverse, filter, cond, slice_index_or, refl, sym, ap, ap₂, ◌∙◌, subst}
+-- What is known at a state, by the list that a body keeps of it.
+use Rattle.std.proofs.Common.{◌≡◌, ℕ, zero, suc, ◌+◌, ◌-◌, ◌<◌, ◌≤◌, arith, take, drop, slice_get, Bool, true, false, not, ◌&&◌, ◌||◌, List, [], ◌∷◌, ◌++◌, length, reverse, filter, cond, slice_index_or, refl, sym, ap, ap₂, ◌∙◌, subst}
 use Rattle.std.specs.List.{list_all}
-use Rattle.std.proofs.lemmas.List.{reverse-append}
-use Rattle.std.proofs.lemmas.List.Folds.{list_any-append}
+use Rattle.std.proofs.lemmas.List.{reverse-append, take-append-drop, take-append-le, length-append, length-drop}
+use Rattle.std.proofs.lemmas.List.Folds.{list_all-append, list_any-append}
+use Rattle.std.proofs.Math.Seq.{take-append_seam, take-length}
 use Rattle.go_points.specs.declared.Colour.{Colour}
 use Rattle.go_points.specs.declared.Cell.{Cell}
 use Rattle.go_points.specs.Grid.{same_cells}
@@ -12,7 +13,9 @@ use Rattle.go_turns.specs.History.{has_occurred}
 use Rattle.target_game.specs.State.{Game, GameState, GameProblem, start, state_alone, state_with}
 use Rattle.target_game.specs.Next.{next}
 use Rattle.cert_check.specs.Body.{is_known}
-use Rattle.cert_check.specs.Private.Known.{SameMembers, IsKnownAt, AreKnown}
+use Rattle.cert_check.specs.Private.Ascending.{Ascends, apart, is_it}
+use Rattle.cert_check.specs.Private.Known.{SameMembers, IsKnownAt, AreKnown, HasStart}
+use Rattle.cert_check.proofs.Apart.{apart_turned}
 use Rattle.cert_check.proofs.Ascending.{any_at}
 
 or_swap : (a b : Bool) → (a || b) ≡ (b || a)
@@ -44,9 +47,9 @@ turned (d ∷ cs) c =
 
 -- WHERE A BODY BEGINS
 
-pub start_known : (q : GameProblem) (cs : List (List Cell)) → q.place < length q.history → cs ≡ q.history → AreKnown (reverse cs) (start q) []
+pub start_known : (q : GameProblem) (cs : List (List Cell)) → q.place < length q.history → SameMembers cs q.history → AreKnown (reverse cs) (start q) []
 start_known q cs low is = record {
-  same = λ c. turned cs c ∙ ap (λ ds. has_occurred ds c) is;
+  same = λ c. turned cs c ∙ is c;
   present = any_at (same_cells (slice_index_or q.history q.place [])) q.history q.place [] low (same_cells_refl (slice_index_or q.history q.place []));
 }
 
@@ -117,35 +120,35 @@ one_known_more known more s before t is h =
     subst (λ cs. AreKnown cs (next s t) (s ∷ before)) (sym (ap reverse is ∙ reverse-append known ((next s t).colouring ∷ [])))
     (known_next (reverse known) s t (at_once (reverse known) s before h), h)
 
--- NONE OF TWO LISTS STANDS ON THE OTHER
+-- THE FRONT OF THE LIST
 
-abbrev pub apart : List (List Cell) → List (List Cell) → Bool
-apart xs ys = list_all (λ x. not (has_occurred ys x)) xs
+pub start_alone : (c : List Cell) → HasStart (c ∷ []) 0 0
+start_alone c = record { ascends = tt; room = omega arith }
 
-apart_nothing : (ys : List (List Cell)) → apart ys [] ≡ true
-apart_nothing [] = refl
-apart_nothing (y ∷ ys) = apart_nothing ys
+pub start_whole : (cs : List (List Cell)) → Ascends cs → HasStart cs (length cs) 0
+start_whole cs up = record { ascends = subst Ascends (sym (take-length cs)) up; room = omega arith }
 
-split : (a b m n : Bool) → (not (a || b) && (m && n)) ≡ ((not a && m) && (not b && n))
-split true b m n = refl
-split false true true n = refl
-split false true false n = refl
-split false false m n = refl
+pub start_with : (others known : List (List Cell)) (root : List Cell) → known ≡ others ++ root ∷ [] → Ascends others → HasStart known (length others) 0
+start_with others known root is up = record {
+  ascends = subst Ascends (sym (ap (take (length others)) is ∙ take-append_seam others (root ∷ []))) up;
+  room = omega (arith, ap length is, length-append others (root ∷ []));
+}
 
-apart_more : (x : List Cell) (xs ys : List (List Cell)) → apart ys (x ∷ xs) ≡ (not (has_occurred ys x) && apart ys xs)
-apart_more x xs [] = refl
-apart_more x xs (y ∷ ys) =
-    ap (λ b. not (same_cells y x || has_occurred xs y) && b) (apart_more x xs ys)
-    ∙ split (same_cells y x) (has_occurred xs y) (not (has_occurred ys x)) (apart ys xs)
-    ∙ ap (λ b. b && (not (has_occurred xs y) && apart ys xs)) (ap (λ b. not b && not (has_occurred ys x)) (same_cells_symm y x) ∙ both (same_cells x y) (has_occurred ys x))
-  where
-    both : (a b : Bool) → (not a && not b) ≡ not (a || b)
-    both true b = refl
-    both false b = refl
+pub start_more : (known more : List (List Cell)) (c : List Cell) (fixed turns : ℕ) → more ≡ known ++ c ∷ [] → HasStart known fixed turns → HasStart more fixed (suc turns)
+start_more known more c fixed turns is h = record {
+  ascends = subst Ascends (sym (ap (take fixed) is ∙ take-append-le fixed known (c ∷ []) (omega (arith, h.room)))) h.ascends;
+  room = omega (arith, h.room, ap length is, length-append known (c ∷ []));
+}
 
-pub apart_turned : (xs ys : List (List Cell)) → apart xs ys ≡ apart ys xs
-apart_turned [] ys = sym (apart_nothing ys)
-apart_turned (x ∷ xs) ys = ap (λ b. not (has_occurred ys x) && b) (apart_turned xs ys) ∙ sym (apart_more x xs ys)
+pub start_less : (known less : List (List Cell)) (c : List Cell) (fixed turns : ℕ) → known ≡ less ++ c ∷ [] → HasStart known fixed (suc turns) → HasStart less fixed turns
+start_less known less c fixed turns is h =
+    let room : fixed + turns ≤ length less = omega (arith, h.room, ap length is, length-append less (c ∷ [])) in
+    record {
+      ascends = subst Ascends (ap (take fixed) is ∙ take-append-le fixed less (c ∷ []) (omega (arith, room))) h.ascends;
+      room = room;
+    }
+
+-- NONE IS KNOWN
 
 same_apart : (cs h ys : List (List Cell)) → SameMembers cs h → apart ys cs ≡ apart ys h
 same_apart cs h [] same = refl
@@ -154,3 +157,24 @@ same_apart cs h (y ∷ ys) same = ap₂ (λ a b. not a && b) (same y) (same_apar
 pub none_of_known : (known list : List (List Cell)) (s : GameState) (before : List GameState) → AreKnown (reverse known) s before → apart known list ≡ list_all (λ c. not (is_known s c)) list
 none_of_known known list s before h =
     apart_turned known list ∙ same_apart known s.history list (λ c. sym (turned known c) ∙ (at_once (reverse known) s before h).same c)
+
+-- the front and the rest
+pub rest_whole : (fixed : ℕ) (known : List (List Cell)) → take (length known - fixed) (drop fixed known) ≡ drop fixed known
+rest_whole fixed known = ap (λ n. take n (drop fixed known)) (sym (length-drop fixed known)) ∙ take-length (drop fixed known)
+
+pub none_of_both : (fixed : ℕ) (known list : List (List Cell)) → (apart (take fixed known) list && apart (drop fixed known) list) ≡ apart known list
+none_of_both fixed known list = sym (list_all-append (λ x. not (has_occurred list x)) (take fixed known) (drop fixed known)) ∙ ap (λ ds. apart ds list) (take-append-drop fixed known)
+
+-- what stands on the list is known
+pub known_at : (known : List (List Cell)) (k : ℕ) (c : List Cell) (s : GameState) (before : List GameState) → AreKnown (reverse known) s before → is_it (slice_get known k) c ≡ true → is_known s c ≡ true
+known_at known k c s before h e = sym ((at_once (reverse known) s before h).same c) ∙ turned known c ∙ stands known k e
+  where
+    or_second : (a b : Bool) → b ≡ true → (a || b) ≡ true
+    or_second true b g = refl
+    or_second false b g = g
+
+    stands : (ds : List (List Cell)) (i : ℕ) → is_it (slice_get ds i) c ≡ true → has_occurred ds c ≡ true
+    stands [] zero f = absurd (cc)
+    stands [] (suc i) f = absurd (cc)
+    stands (d ∷ ds) zero f = or_first (same_cells c d) (has_occurred ds c) (same_cells_symm c d ∙ f)
+    stands (d ∷ ds) (suc i) f = or_second (same_cells c d) (has_occurred ds c) (stands ds i f)

@@ -1,7 +1,7 @@
 -- A certificate that was checked.
 --     CheckedClaim      the problem and the certificate
 --     IsChecked q z      the claim is valid for the problem, and within the limits
---     verdict_on q z      the verdict on the claim's lines, where one that has no spelling is malformed
+--     verdict_on q z      the verdict on the claim's lines, in which a line that has no spelling is malformed
 use Rattle.std.specs.Prelude.{map}
 use Rattle.target_game.specs.State.{GameProblem}
 use Rattle.proof_cert.specs.declared.certificate.Certificate.{Certificate}

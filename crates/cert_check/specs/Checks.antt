@@ -1,6 +1,6 @@
--- What a source of lines gave to the checker, and what is answered of it.
+-- What a source of lines gave to the checker, and what the checker answers.
 --     Took gives n s ls t      calls one after another gave these lines of the program, from the source s of size n on, and left t
---     Answers gives t r      a call may answer so there
+--     Answers gives t r      a call may give this answer there
 --     Accepts, RejectsAt, FailsAt, IsReached      the answers, by the lines taken
 use Rattle.std.specs.Prelude.{◌≡◌, ℕ, suc, ◌+◌, ◌^◌, ◌<◌, ◌≤◌, ◌⊎◌, List, ◌++◌, length, Option, None, Result, Ok, Err}
 use Rattle.go_points.specs.declared.Colour.{Colour}

@@ -1,8 +1,9 @@
 -- The parts of a claim as the program judges them.
 --     head_of      what a lemma says before its tree
---     PassesOn b j      where the body b may use the lemma of number j, it may make the colourings on that lemma's list
+--     PassesOn b j      if the body b may use the lemma with number j, it may make the colourings on that lemma's list
 --     line_values      what lines of the program say
---     header_line_of, opening_line, had_line_of, listed_line, node_line, reply_line_of, end_line_of      the line, where it is of one kind
+--     header_line_of, opening_line, had_line_of, listed_line, node_line, reply_line_of, end_line_of      the line, if it is of one
+--         kind
 --     header_value, .., end_value      what the program's parts say, as lines
 use Rattle.std.specs.Prelude.{ℕ, Bool, true, false, not, List, map, Option, Some, None, IfSome, IsTrue, option_map}
 use Rattle.std.specs.List.{list_all}
@@ -24,7 +25,7 @@ use Rattle.cert_check.specs.declared.lines.Opening.{Opening}
 use Rattle.cert_check.specs.declared.lines.Opening.TheVariants.{Lemma, Main}
 use Rattle.cert_check.specs.Body.{Body, Why, turn_barred, repeats_known, not_listed, ask, is_open, is_known, is_listed, lemma_at, result_of}
 
--- what is judged is never refused for a failed read
+-- what is judged is never refused because of a failed read
 abbrev pub IsJudged : code_why.Why → Type 0
 IsJudged Read = ⊥
 IsJudged _ = Unit {0}
@@ -37,11 +38,11 @@ head_of mover passes root had absent = record { mover = mover; passes = passes; 
 abbrev pub PassesOn : Body → ℕ → Type 0
 PassesOn b j = IfSome (lemma_at b.earlier j) (λ h. IsTrue (list_all (is_listed b.listed) h.absent))
 
--- what lines of the program say, None for a malformed one
+-- what lines of the program say, with None for a malformed one
 abbrev pub line_values : ℕ → List (Option code.Line) → List (Option Line)
 line_values n ls = map (option_map (line_value n)) ls
 
--- the questions of a move alone; a pass has none
+-- the checks that only a move has; a pass has none
 abbrev pub move_fault : Option (List (List Cell)) → GameState → Ply → Option Why
 move_fault listed s pass = None
 move_fault listed s (move p) =
@@ -57,7 +58,7 @@ abbrev pub header_line_of : Line → Option Line
 header_line_of (header_line version size winner) = Some (header_line version size winner)
 header_line_of _ = None
 
--- the lines that stand before a body
+-- the lines before a body
 abbrev pub opening_value : Opening → Line
 opening_value (Lemma mover passes root) = lemma_line mover passes root
 opening_value Main = main_line

@@ -1,6 +1,6 @@
 -- What the program's refusals say.
---     why_value n w      why a line is refused; None where memory was, or where the lines could not be read
---     Rejects n v e      the refusal is that of the verdict; where there is no more memory or no more to read, nothing is said of the claim
+--     why_value n w      why a line is refused; None if memory was refused or the lines could not be read
+--     Rejects n v e      the refusal is that of the verdict; if memory was refused or a read failed, nothing is said of the claim
 use Rattle.std.specs.Prelude.{◌≡◌, ℕ, Option, Some, None}
 use Rattle.go_points.specs.Ply.{ply_of}
 use Rattle.cert_check.specs.declared.reject.Why as code

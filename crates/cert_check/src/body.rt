@@ -3,7 +3,7 @@
 ghost use Rattle.std.specs.Prelude.{◌≡◌, Some, is_some, option_map};
 ghost use Rattle.std.specs.List.{list_all};
 ghost use Rattle.cert_check.specs.Private.Ascending.{Ascends};
-ghost use Rattle.cert_check.specs.Body.{is_known, is_listed, lemma_at, main_body, same_state};
+ghost use Rattle.cert_check.specs.Body.{is_listed, lemma_at, main_body, same_state};
 ghost use Rattle.cert_check.specs.Parts.{head_of};
 
 use crate::listed::{all_stand_on, stands_on};
@@ -102,18 +102,6 @@ impl<'a> Model for Body<'a> {
     ghost invariant = { λ a. IfSome a.listed (λ l. Ascends l.now) };
 }
 
-/// Whether each of the colourings is known at the state.
-pub(crate) fn all_known(state: &PlayState, list: &[Colouring]) -> bool
-    ensures { result ≡ list_all (is_known state.now.state) list.now }
-{
-    for colouring in list {
-        if state.holds(colouring).is_none() {
-            return false;
-        }
-    }
-    true
-}
-
 impl<'a> Body<'a> {
     /// The body of a lemma with this list, after these lemmas.
     pub(crate) fn of_lemma(
@@ -149,7 +137,7 @@ impl<'a> Body<'a> {
         self.winner
     }
 
-    /// The lemma of this number, counted from 1.
+    /// The lemma with this number, counted from 1.
     pub(crate) fn lemma(&self, number: u32) -> Option<&'a Head>
         ensures { option_map (λ h. h.now) result ≡ lemma_at self.now.earlier number }
     {

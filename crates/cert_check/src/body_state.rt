@@ -1,11 +1,11 @@
-//! A state of a body, with what is known there in a list.
+//! A state of a body, with a list of what is known there.
 
 ghost use Rattle.std.specs.Prelude.{◌≡◌, ◌⊎◌, ◌<◌, ◌≤◌, ◌∷◌, [], IsTrue, IsFalse, IfOk, IfErr, OnOk, length, not, None};
 ghost use Rattle.std.specs.List.{All, list_all};
 ghost use Rattle.go_points.specs.Grid.{side_of};
 ghost use Rattle.go_points.specs.Liberty.{first_without_liberty};
 ghost use Rattle.go_points.specs.Ply.{ply_of};
-ghost use Rattle.go_turns.specs.History.{has_occurred, repeats};
+ghost use Rattle.go_turns.specs.History.{repeats};
 ghost use Rattle.target_game.specs.State.{start, state_alone, state_with};
 ghost use Rattle.target_game.specs.Kept.{IsAtFault};
 ghost use Rattle.target_game.specs.Left.{line_if};
@@ -16,30 +16,37 @@ ghost use Rattle.target_game.specs.declared.state.AtFault.TheVariants as AtFault
 ghost use Rattle.cert_check.specs.Private.Ascending.{Ascends};
 ghost use Rattle.cert_check.specs.Body.{is_known};
 
-use crate::listed::stands_on;
+use crate::listed::{are_apart, none_stands_on, skip_before, stands_at};
+use crate::sorting::put_in_order;
 use go_points::{Colour, Colouring, ColouringList, Turn};
 use std::alloc::{AllocError, Global};
 use std::marker::Model;
 use target_game::{AtFault, PlayState, Problem, State};
 
-/// A state of a body. What is known there stands in a list too, the latest last, so that a long list of a lemma is searched for
-/// the few that are known, and not the other way round.
+/// If a body begins with more colourings than this, none of them is looked up by its key: a claim can give one key to thousands.
+const FEW: usize = 64;
+
+/// A state of a body. What is known there is also kept in a list: first what the body begins with, `fixed` colourings in the order
+/// of their texts, and then a lemma's root and the results of the turns, the latest last. The lists of a lemma ascend as well, so
+/// they are compared with what a body begins with in one pass over both, whatever the keys.
 #[derive(Drop)]
 pub(crate) struct BodyState {
     state: PlayState,
     known: Vec<Colouring>,
+    fixed: usize,
 }
 
 impl Model for BodyState {
-    ghost use Rattle.std.specs.Prelude.{reverse};
+    ghost use Rattle.std.specs.Prelude.{length, reverse};
     ghost use Rattle.target_game.specs.State.{Line};
-    ghost use Rattle.cert_check.specs.Private.Known.{AreKnown};
+    ghost use Rattle.cert_check.specs.Private.Known.{AreKnown, HasStart};
 
     ghost Value = { Line };
 
     ghost view = { λ a. a.state };
 
-    ghost invariant = { λ a. AreKnown (reverse a.known.items) a.state.state a.state.before };
+    ghost invariant = { λ a. AreKnown (reverse a.known.items) a.state.state a.state.before
+        × HasStart a.known.items a.fixed (length a.state.before) };
 }
 
 impl BodyState {
@@ -50,12 +57,18 @@ impl BodyState {
         prove!(problem.place() < problem.history().len());
         let mut known = Vec::new(alloc);
         known.extend_from_slice(problem.history())?;
+        put_in_order(&mut known);
+        let fixed = known.as_slice().len();
         let state = State::of(alloc, problem)?;
-        Ok(BodyState { state, known })
+        Ok(BodyState {
+            state,
+            known,
+            fixed,
+        })
     }
 
-    /// A lemma begins, whose root alone is known. The board of the body before is changed where the root differs from it, since
-    /// lemmas that follow one another have most of their stones in common.
+    /// Begins a lemma of which only the root is known. The board of the previous body is changed where the root differs from it,
+    /// since successive lemmas have most of their stones in common.
     pub(crate) fn begin(
         &mut self,
         alloc: Global,
@@ -83,13 +96,14 @@ impl BodyState {
         match self.state.restart(alloc, root, mover, passes) {
             Ok(()) => {
                 self.known = known;
+                self.fixed = 0;
                 Ok(())
             }
             Err(fault) => Err(fault),
         }
     }
 
-    /// The state where a lemma begins, where its root and these others are known.
+    /// The state at which a lemma begins. Its root and these other colourings are known.
     pub(crate) fn at_with(
         alloc: Global,
         problem: &Problem,
@@ -101,6 +115,7 @@ impl BodyState {
         requires size { side_of root.now ≡ problem.now.game.size }
         requires sizes { All (λ c. side_of c ≡ problem.now.game.size) others.now }
         requires once { IsFalse (repeats others.now) }
+        requires ascend { Ascends others.now }
         requires few { passes ≤ 1 }
         ensures ok { IfOk result
             (λ s. s ≡ record {
@@ -108,6 +123,7 @@ impl BodyState {
               before = [];
             }) }
     {
+        let fixed = others.len();
         let mut known = Vec::new(alloc);
         if known.extend_from_slice(others).is_err() {
             return Err(AtFault::Memory);
@@ -116,19 +132,23 @@ impl BodyState {
             return Err(AtFault::Memory);
         }
         match State::at_with(alloc, problem, root, others, mover, passes) {
-            Ok(state) => Ok(BodyState { state, known }),
+            Ok(state) => Ok(BodyState {
+                state,
+                known,
+                fixed,
+            }),
             Err(fault) => Err(fault),
         }
     }
 
-    /// The state alone.
+    /// The state, without the list of what is known.
     pub(crate) fn play(&self) -> &PlayState
         ensures { result.now ≡ self.now }
     {
         &self.state
     }
 
-    /// Makes the turn; where memory is refused nothing changes.
+    /// Makes the turn. If memory is refused, nothing changes.
     pub(crate) fn after(&mut self, turn: Turn) -> Result<(), AllocError>
         requires open { over self.old.state ≡ None }
         requires legal { IsTrue (legal self.old.state (ply_of self.old.state.game.size turn)) }
@@ -146,7 +166,7 @@ impl BodyState {
         Ok(())
     }
 
-    /// Makes the turn where it is legal, and answers whether it was. A move is played once.
+    /// Makes the turn if it is legal, and returns whether it was. A move is played only once.
     pub(crate) fn try_after(&mut self, turn: Turn) -> Result<bool, AllocError>
         requires open { over self.old.state ≡ None }
         ensures legal { IfOk result
@@ -173,30 +193,43 @@ impl BodyState {
         let _last = self.known.pop();
     }
 
-    /// Whether none of the colourings is known. It takes the time of the shorter list, with a search in the longer one for each.
+    /// Whether the colouring is known. It is looked up only if it is not at this place of the list.
+    fn knows(&self, colouring: &Colouring, place: usize) -> bool
+        ensures { result ≡ is_known self.now.state colouring.now }
+    {
+        stands_at(self.known.as_slice(), place, colouring) || self.state.holds(colouring).is_some()
+    }
+
+    /// Whether each of the colourings is known. If they ascend, those that the body begins with are found in one pass over both
+    /// lists; the others are looked up.
+    pub(crate) fn knows_all(&self, colourings: &[Colouring]) -> bool
+        ensures { result ≡ list_all (is_known self.now.state) colourings.now }
+    {
+        let start = &self.known[..self.fixed];
+        let mut place = 0;
+        for colouring in colourings {
+            place = skip_before(start, colouring, place);
+            if !self.knows(colouring, place) {
+                return false;
+            }
+        }
+        true
+    }
+
+    /// Whether none of the colourings is known. It takes one pass over the list and what the body begins with, and one search in
+    /// the list for each turn. If that would take longer, and few colourings could share a key, it takes one look-up for each
+    /// colouring of the list instead.
     pub(crate) fn knows_none(&self, list: &ColouringList) -> bool
         requires { Ascends list.now }
         ensures { result ≡ list_all (λ c. not (is_known self.now.state c)) list.now }
     {
-        if self.known.len() < list.len() {
-            none_stands_on(self.known.as_slice(), list)
-        } else {
-            none_known(&self.state, list)
+        let known = self.known.as_slice();
+        let path = &known[self.fixed..];
+        if self.fixed <= FEW && list.len() <= path.len() {
+            return none_known(&self.state, list);
         }
+        are_apart(&known[..self.fixed], list) && none_stands_on(path, list)
     }
-}
-
-/// Whether none of the colourings stands on the list.
-fn none_stands_on(known: &[Colouring], list: &ColouringList) -> bool
-    requires { Ascends list.now }
-    ensures { result ≡ list_all (λ c. not (has_occurred list.now c)) known.now }
-{
-    for colouring in known {
-        if stands_on(colouring, list) {
-            return false;
-        }
-    }
-    true
 }
 
 /// Whether none of the colourings is known at the state.

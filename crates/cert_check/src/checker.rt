@@ -1,4 +1,4 @@
-//! The checker of claims, over any source of lines: it holds none of them.
+//! The checker of claims, over any source of lines. It holds none of the lines.
 
 ghost use Rattle.std.specs.Prelude.{◌≡◌, ◌<◌, Some, None, IfOk, IfErr};
 ghost use Rattle.target_game.specs.State.{start};
@@ -18,9 +18,9 @@ use target_game::Problem;
 /// More lines than any claim has.
 const MOST_LINES: u64 = 9_223_372_036_854_775_807;
 
-/// Who wins the problem by the claim whose lines the source gives, or the first fault. Lines are taken until one is faulty or
-/// the source has ended, and none is held. Where memory is refused, or a line cannot be read, it is that, and no line before it
-/// is faulty.
+/// Who wins the problem according to the claim whose lines the source gives, or the first fault. Lines are taken until one is
+/// faulty or the source has ended, and none is held. If memory is refused or a line cannot be read, that is the fault, and no line
+/// before it is faulty.
 pub fn check<S: NodeSource>(
     alloc: Global,
     problem: &Problem,

@@ -14,7 +14,8 @@ use go_points::Turn;
 use proof_cert::{Lemma, Node};
 
 impl Checked {
-    /// The claim's first turn, where the winner is to move and nobody has won: it is legal, and the winner wins after it. `None` elsewhere. Each lemma is looked at once at most.
+    /// The claim's first turn, if the winner is to move and nobody has won: it is legal, and the winner wins after it. Otherwise
+    /// `None`. Each lemma is looked at once at most.
     pub fn first_turn(&self) -> Option<Turn>
         ensures value { option_map (ply_of self.now.problem.game.size) result
             ≡ first_turn (claim_of self.now.certificate) (start self.now.problem) }

@@ -1,4 +1,4 @@
-//! Claims that are held, checked once and for all.
+//! Claims held in memory, checked once and for all.
 
 ghost use Rattle.std.specs.Prelude.{◌≡◌, ◌⊎◌, IfOk, IfErr};
 ghost use Rattle.target_game.specs.State.{start};
@@ -44,8 +44,8 @@ impl Model for Checked {
 }
 
 impl Checked {
-    /// Who wins the problem. Each lemma of the claim holds whatever the past, as long as what it says must have occurred has, and
-    /// nothing has that it says must not.
+    /// Who wins the problem. Each lemma of the claim holds whatever the past, as long as everything that it says must have occurred
+    /// has occurred, and nothing that it says must not have.
     pub fn winner(&self) -> Colour
         ensures winner { result ≡ (claim_of self.now.certificate).winner }
         ensures wins { Wins result (start self.now.problem) }
@@ -69,7 +69,7 @@ impl Checked {
     }
 }
 
-/// Who wins by the certificate, or its first fault.
+/// Who wins according to the certificate, or its first fault.
 fn judge_held(alloc: Global, problem: &Problem, certificate: &Certificate) -> Result<Colour, Reject>
     ensures ok { IfOk result (λ x. IsChecked problem.now (claim_of certificate.now)
         × ((claim_of certificate.now).winner ≡ x)) }
@@ -92,9 +92,9 @@ fn judge_held(alloc: Global, problem: &Problem, certificate: &Certificate) -> Re
     check(alloc, problem, &mut HeldSource::new(alloc, certificate))
 }
 
-/// The certificate as one that is checked for the problem, exactly where it is valid for it and within the limits; or its
-/// first fault, with both handed back. Where memory is refused it is that, and says nothing of the certificate. It is never that
-/// the lines could not be read.
+/// The certificate, checked for the problem, exactly if it is valid for it and within the limits; otherwise its first fault, with
+/// the problem and the certificate handed back. If memory is refused, that is the fault, and it says nothing about the certificate.
+/// The fault is never that the lines could not be read.
 pub fn check_held(
     alloc: Global,
     problem: Problem,

@@ -1,5 +1,5 @@
-//! The judge of a claim, which takes a line at a time and holds none of them. `judge_heading` has the lines before a tree, and
-//! `judge_body` those of a tree.
+//! The judge of a claim, which takes a line at a time and holds none of them. `judge_heading` has the calls for the lines before a
+//! tree, and `judge_body` those for the lines of a tree.
 
 ghost use Rattle.std.specs.Prelude.{◌≡◌, ◌<◌, ◌^◌, suc, None, Some, IfOk, IfErr, OnOk};
 ghost use Rattle.proof_cert.specs.Stage.{line_value};
@@ -30,8 +30,8 @@ pub(crate) enum Within {
     Main,
 }
 
-/// Which line is due: the first; `lemma` or `main`; one of a lemma's two lists, or after them; one of the second list, or
-/// its first node; one of a body; or none.
+/// Which line is due: the first line; `lemma` or `main`; a line of either of a lemma's lists, or the one after them; a line of the
+/// second list, or the lemma's first node; a line of a body; or none.
 #[derive(Clone, Copy, Debug, PartialEq, Eq)]
 pub(crate) enum Phase {
     Header,
@@ -42,8 +42,8 @@ pub(crate) enum Phase {
     Done,
 }
 
-/// What is kept of a claim between two lines: the heads of its lemmas, what the present lemma says before its tree, the
-/// lemmas whose lists are known to stand on its own, the state of the present body with its open nodes, and the counts.
+/// What is kept of a claim between two lines: the heads of its lemmas, what the present lemma says before its tree, the lemmas
+/// whose lists are known to be contained in its own list, the state of the present body with its open nodes, and the counts.
 /// `place` is the number of the next line.
 #[derive(Drop)]
 pub(crate) struct Judge<'p> {
@@ -67,7 +67,7 @@ pub(crate) struct Judge<'p> {
 }
 
 impl<'p> Judge<'p> {
-    /// Before the first line.
+    /// The judge before the first line.
     pub(crate) fn new(alloc: Global, problem: &'p Problem) -> Result<Judge<'p>, AllocError>
         ensures problem { IfOk result (λ j. j.problem.now ≡ problem.now) }
         ensures machine { IfOk result (λ j. machine_of j ≡ begun) }
@@ -119,7 +119,7 @@ impl<'p> Judge<'p> {
         }
     }
 
-    /// The next line, which is not counted yet.
+    /// Judges the next line, which has not been counted yet.
     fn step(&mut self, line: &Line) -> Result<(), Why>
         requires ready { IsReady self.old }
         ensures place { self.new.place ≡ self.old.place }
@@ -186,7 +186,7 @@ impl<'p> Judge<'p> {
         self.reject(self.malformed_why())
     }
 
-    /// Who wins, where no line follows.
+    /// Who wins, if no line follows.
     pub(crate) fn end(&self) -> Result<Colour, Reject>
         ensures ok { IfOk result (λ x. ended (machine_of self.now) ≡ accepted x) }
         ensures err { IfErr result (λ e. (why : SpecWhy)

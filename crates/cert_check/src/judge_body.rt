@@ -170,7 +170,7 @@ impl<'p> Judge<'p> {
         ensures judged { IfErr result (λ why. IsJudged why) }
     {
         let body = Body::of_main(self.winner, self.heads.as_slice());
-        // Main has no list that another would have to stand on, so nothing is remembered here.
+        // Main has no list that would have to contain another, so nothing is remembered here.
         let mut none = LemmaSet::new(self.alloc);
         take_node(
             &body,
@@ -181,7 +181,7 @@ impl<'p> Judge<'p> {
         )
     }
 
-    /// Whether one node more may be counted, at the depth of the next one.
+    /// Whether one more node may be counted, at the depth of the next one.
     fn has_room(&self) -> bool
         ensures value { result
             ≡ (nat_lt self.now.node_count max_nodes && nat_le (length self.now.open_nodes.items + 1)
@@ -192,7 +192,7 @@ impl<'p> Judge<'p> {
         self.node_count < MAX_NODES && self.open_nodes.len() < MOST_OPEN
     }
 
-    /// The line of a reply, where this one is due.
+    /// The line of a reply, if this reply is due.
     fn reply(&mut self, within: Within, due: Turn, left: TurnsLeft, line: &Line) -> Result<(), Why>
         requires ready { AwaitsNode self.old (Reply due left) }
         ensures place { self.new.place ≡ self.old.place }
@@ -222,7 +222,7 @@ impl<'p> Judge<'p> {
         }
     }
 
-    /// The line `end` of a body whose nodes are all judged.
+    /// The line `end` of a body whose nodes have all been judged.
     fn close(&mut self, within: Within, line: &Line) -> Result<(), Why>
         requires ascends { Ascends self.old.list }
         requires game { self.old.state.state.game ≡ self.old.problem.now.game }
@@ -250,7 +250,7 @@ impl<'p> Judge<'p> {
         }
     }
 
-    /// The present lemma is judged.
+    /// Ends the present lemma, which has been judged.
     fn close_lemma(&mut self) -> Result<(), Why>
         requires ascends { Ascends self.old.list }
         requires game { self.old.state.state.game ≡ self.old.problem.now.game }

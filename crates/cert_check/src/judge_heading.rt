@@ -211,7 +211,8 @@ impl<'p> Judge<'p> {
         Ok(())
     }
 
-    /// After the colourings that must have occurred: the body begins where they have. Where there is none it stands there already.
+    /// Called after the colourings that must have occurred: the body begins at the state where they have. If there are none, it is
+    /// already there.
     fn remember(&mut self) -> Result<(), Why>
         requires { AwaitsHad self.old }
         ensures rest { self.new
@@ -294,7 +295,7 @@ impl<'p> Judge<'p> {
     }
 }
 
-/// A lemma begins, after so many lemmas.
+/// Begins a lemma, after this many lemmas.
 fn begin(
     alloc: Global,
     heads: &[Head],

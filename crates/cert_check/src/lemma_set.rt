@@ -7,10 +7,10 @@ ghost use Rattle.cert_check.specs.Private.Places.{KeepsAll};
 use std::alloc::{AllocError, Global};
 use std::marker::Model;
 
-/// Numbers of lemmas, the latest last: those whose lists are known to stand on the present lemma's.
-/// A claim may use one lemma thousands of times in a body, with a list of many thousand colourings, so each is asked once.
-/// A number is held where `numbers` has it at the place that `places` says for it. What `places` says for another number
-/// does not matter, and is left as it is where a body ends.
+/// Numbers of lemmas, the latest last: those whose lists are known to be contained in the present lemma's list. A claim may use one
+/// lemma thousands of times in a body, with a list of many thousand colourings, so each lemma is compared once. A number is held if
+/// `numbers` has it at the place that `places` gives for it. What `places` gives for other numbers does not matter, and is left as
+/// it is when a body ends.
 #[derive(Drop)]
 pub(crate) struct LemmaSet {
     numbers: Vec<u32>,
@@ -30,7 +30,7 @@ impl Model for LemmaSet {
 }
 
 impl LemmaSet {
-    /// The set without lemmas. It takes no memory.
+    /// The set without lemmas. It allocates no memory.
     pub(crate) fn new(alloc: Global) -> LemmaSet
         ensures { result ≡ [] }
     {
@@ -61,7 +61,7 @@ impl LemmaSet {
         *found == number
     }
 
-    /// Holds the lemma of this number too.
+    /// Adds the lemma with this number.
     pub(crate) fn insert(&mut self, number: u32) -> Result<(), AllocError>
         ensures ok { OnOk result (self.new ≡ self.old ++ number ∷ []) }
         ensures err { OnErr result (self.new ≡ self.old) }

@@ -19,7 +19,7 @@ use proof_cert::laws::one_claim_of_text;
 use proof_cert::{Certificate, Lemma, MAX_LISTED, MAX_NODES, Node, Version, read_cert, write_cert};
 use std::alloc::{AllocError, Global};
 
-/// The claim's text, where it has one.
+/// The claim's text, if it has one.
 fn text_of(alloc: Global, certificate: &Certificate) -> Result<Vec<u8>, AllocError>
     ensures { IfOk result
         (λ bytes. IsSomeAnd (text (claim_of certificate.now)) (λ spelled. bytes.items ≡ spelled)) }
@@ -31,7 +31,7 @@ fn text_of(alloc: Global, certificate: &Certificate) -> Result<Vec<u8>, AllocErr
     }
 }
 
-/// The claim's main tree once more, in memory of its own: it is read from the claim's text.
+/// A copy of the claim's main tree, in memory of its own. It is read from the claim's text.
 fn main_again(alloc: Global, checked: &Checked) -> Result<Node, AllocError>
     ensures { IfOk result
         (λ node. node_of checked.now.certificate.size node
@@ -89,21 +89,23 @@ fn claim_of_lemma(
     })
 }
 
-/// Whether a claim of one lemma would pass a limit, whose tree has so many nodes and whose lists so many colourings: main has one node more.
+/// Whether a claim of one lemma would pass a limit, if its tree has this many nodes and its lists have this many colourings. Main
+/// has one more node.
 pub(crate) fn passes_limit(nodes: u32, listed: usize) -> bool
     ensures { result ≡ (nat_le max_nodes nodes || nat_lt max_listed listed) }
 {
     nodes >= MAX_NODES || listed > MAX_LISTED as usize
 }
 
-/// The claim as one lemma that main uses: it may be shared wherever the position of the problem comes about again with a like past.
+/// The claim as one lemma that main uses. The lemma can be shared wherever the position of the problem comes about again with a
+/// similar past.
 ///
-/// The lemma has the claim's tree. It must not have occurred what a move of the winner's there gives, and it must have
-/// occurred what a reply that is barred there would have given. A claim of one lemma with these lists is refused as `Limit`
-/// where it would pass a limit, and any claim that has lemmas as `HasLemmas`.
+/// The lemma has the claim's tree. The results of the winner's moves in the tree must not have occurred, and the results that
+/// barred replies in the tree would have given must have occurred. It is refused with `Limit` if a claim of one lemma with these
+/// lists would pass a limit, and with `HasLemmas` if the claim has lemmas.
 ///
-/// It takes the time of playing the tree through, with one move at each empty point of the region wherever the other side is to
-/// move, and of sorting the results.
+/// It takes the time to play through the tree, with one move at each empty point of the region wherever the other side is to move,
+/// and to sort the results.
 pub fn lift(alloc: Global, checked: &Checked) -> Result<Certificate, Lift>
     ensures lifted { IfOk result
         (λ c. IsLifted checked.now.problem (claim_of checked.now.certificate) (claim_of c)) }

@@ -1,4 +1,4 @@
-//! The questions that lines are asked by their kind alone.
+//! The checks that depend only on the kind of a line.
 
 ghost use Rattle.std.specs.Prelude.{◌≡◌, ◌*◌, ℕ, nat_eq, length, Some, IfSome, option_map};
 ghost use Rattle.go_points.specs.Ply.{ply_of};
@@ -18,7 +18,7 @@ pub(crate) struct Header {
     pub(crate) winner: Colour,
 }
 
-/// The line that stands before a body.
+/// The line before a body.
 #[derive(Clone, Copy, Debug)]
 pub(crate) enum Opening {
     Lemma {
@@ -38,7 +38,7 @@ pub(crate) enum NodeLine {
     All(u32),
 }
 
-/// The line, where it is the first of a claim.
+/// The line, if it is the first line of a claim.
 pub(crate) fn header_of(line: &Line) -> Option<Header>
     ensures { (n : ℕ) → option_map header_value result ≡ header_line_of (line_value n line.now) }
 {
@@ -56,7 +56,7 @@ pub(crate) fn header_of(line: &Line) -> Option<Header>
     }
 }
 
-/// The line, where it stands before a body.
+/// The line, if it comes before a body.
 pub(crate) fn opening_of(line: &Line) -> Option<Opening>
     ensures { (n : ℕ) → option_map opening_value result ≡ opening_line (line_value n line.now) }
 {
@@ -75,7 +75,7 @@ pub(crate) fn opening_of(line: &Line) -> Option<Opening>
     }
 }
 
-/// The colouring of the line, where it must have occurred.
+/// The colouring of the line, if it is one that must have occurred.
 pub(crate) fn had_of(line: &Line) -> Option<Colouring>
     ensures { (n : ℕ) → option_map had_value result ≡ had_line_of (line_value n line.now) }
 {
@@ -85,7 +85,7 @@ pub(crate) fn had_of(line: &Line) -> Option<Colouring>
     }
 }
 
-/// The colouring of the line, where it must not have occurred.
+/// The colouring of the line, if it is one that must not have occurred.
 pub(crate) fn listed_of(line: &Line) -> Option<Colouring>
     ensures { (n : ℕ) → option_map listed_value result ≡ listed_line (line_value n line.now) }
 {
@@ -95,7 +95,7 @@ pub(crate) fn listed_of(line: &Line) -> Option<Colouring>
     }
 }
 
-/// The line, where it is a node's.
+/// The line, if it is that of a node.
 pub(crate) fn node_of(line: &Line) -> Option<NodeLine>
     ensures { (n : ℕ) → option_map (node_value n) result ≡ node_line (line_value n line.now) }
 {
@@ -108,7 +108,7 @@ pub(crate) fn node_of(line: &Line) -> Option<NodeLine>
     }
 }
 
-/// The turn of the line, where it is a reply.
+/// The turn of the line, if it is a reply.
 pub(crate) fn reply_of(line: &Line) -> Option<Turn>
     ensures { (n : ℕ) → option_map (reply_value n) result ≡ reply_line_of (line_value n line.now) }
 {
@@ -128,14 +128,14 @@ pub(crate) fn is_end(line: &Line) -> bool
     }
 }
 
-/// Whether a colouring is one of boards of this size.
+/// Whether a colouring is of a board of this size.
 fn colouring_fits(size: Size, colouring: &Colouring) -> bool
     ensures { result ≡ nat_eq (length colouring.now) (size * size) }
 {
     colouring.size().area() == size.area()
 }
 
-/// Whether a turn is one of boards of this size.
+/// Whether a turn is possible on a board of this size.
 fn turn_fits(size: Size, turn: Turn) -> bool
     ensures { result ≡ turn_fits size (ply_of size turn) }
 {
@@ -145,7 +145,7 @@ fn turn_fits(size: Size, turn: Turn) -> bool
     }
 }
 
-/// Whether the line can stand in a claim for boards of this size.
+/// Whether the line is possible in a claim for boards of this size.
 pub(crate) fn line_fits(size: Size, line: &Line) -> bool
     ensures { result ≡ line_fits size (line_value size line.now) }
 {
@@ -159,7 +159,7 @@ pub(crate) fn line_fits(size: Size, line: &Line) -> bool
     }
 }
 
-/// Whether a colouring is after the one before it in its list, where there is one.
+/// Whether a colouring comes after the one before it in its list, if there is one.
 pub(crate) fn is_after(last: Option<Colouring>, colouring: &Colouring) -> bool
     requires { IfSome last (λ c. length c ≡ length colouring.now) }
     ensures { result ≡ is_after last colouring.now }

@@ -1,19 +1,20 @@
 //! Listed colourings, which ascend.
 
-ghost use Rattle.std.specs.Prelude.{◌≡◌};
+ghost use Rattle.std.specs.Prelude.{◌≡◌, ◌∷◌, List, drop, false, slice_get};
 ghost use Rattle.std.specs.List.{list_all};
+ghost use Rattle.go_points.specs.declared.Cell.{Cell};
 ghost use Rattle.go_turns.specs.History.{has_occurred};
-ghost use Rattle.cert_check.specs.Private.Ascending.{Ascends};
+ghost use Rattle.cert_check.specs.Private.Ascending.{Ascends, apart, comes_before, is_it};
 
 use go_points::{Colouring, ColouringList};
 
-/// A list that is shorter than another by this factor is looked up in it, colouring by colouring.
+/// If a list is shorter than another by this factor, its colourings are looked up in the other one by one.
 const MUCH_SHORTER: usize = 16;
 
-/// A list up to this length is looked through, since two colourings are compared faster by their words than by their order.
+/// A list up to this length is searched from the front, since testing two colourings for equality is faster than ordering them.
 const SHORT: usize = 32;
 
-/// Whether the colouring stands on the list.
+/// Whether the colouring is on the list.
 pub(crate) fn stands_on(colouring: &Colouring, list: &ColouringList) -> bool
     requires { Ascends list.now }
     ensures { result ≡ has_occurred list.now colouring.now }
@@ -25,7 +26,7 @@ pub(crate) fn stands_on(colouring: &Colouring, list: &ColouringList) -> bool
     }
 }
 
-/// The same, by looking at each.
+/// Whether the colouring is on the list, by looking at each.
 fn is_among(colouring: &Colouring, list: &ColouringList) -> bool
     ensures { result ≡ has_occurred list.now colouring.now }
 {
@@ -37,7 +38,7 @@ fn is_among(colouring: &Colouring, list: &ColouringList) -> bool
     false
 }
 
-/// The same, by halving: it may stand from `low` on and below `high`.
+/// Whether the colouring is on the list, by binary search from `low` up to, but not including, `high`.
 fn is_found(colouring: &Colouring, list: &ColouringList) -> bool
     requires { Ascends list.now }
     ensures { result ≡ has_occurred list.now colouring.now }
@@ -59,7 +60,7 @@ fn is_found(colouring: &Colouring, list: &ColouringList) -> bool
     false
 }
 
-/// Whether each of the colourings stands on the list.
+/// Whether each of the colourings is on the list.
 pub(crate) fn all_stand_on(few: &ColouringList, list: &ColouringList) -> bool
     requires few { Ascends few.now }
     requires list { Ascends list.now }
@@ -72,7 +73,7 @@ pub(crate) fn all_stand_on(few: &ColouringList, list: &ColouringList) -> bool
     }
 }
 
-/// The same, by halving for each.
+/// Whether each of the colourings is on the list, by a binary search for each.
 fn all_found(few: &ColouringList, list: &ColouringList) -> bool
     requires { Ascends list.now }
     ensures { result ≡ list_all (has_occurred list.now) few.now }
@@ -85,7 +86,7 @@ fn all_found(few: &ColouringList, list: &ColouringList) -> bool
     true
 }
 
-/// The same, by one pass over both.
+/// Whether each of the colourings is on the list, by one pass over both.
 fn all_passed(few: &ColouringList, list: &ColouringList) -> bool
     requires few { Ascends few.now }
     requires list { Ascends list.now }
@@ -101,4 +102,82 @@ fn all_passed(few: &ColouringList, list: &ColouringList) -> bool
         }
     }
     wanted == few.len()
+}
+
+/// Whether the colouring is at this place of the list.
+pub(crate) fn stands_at(list: &[Colouring], place: usize, colouring: &Colouring) -> bool
+    ensures { result ≡ is_it (slice_get list.now place) colouring.now }
+{
+    match list.get(place) {
+        Some(found) => found == colouring,
+        None => false,
+    }
+}
+
+/// Whether there is a colouring at this place of the list that is before this one.
+fn stands_before(list: &[Colouring], place: usize, colouring: &Colouring) -> bool
+    ensures { result ≡ comes_before (slice_get list.now place) colouring.now }
+{
+    match list.get(place) {
+        Some(found) => found.cmp(colouring).is_lt(),
+        None => false,
+    }
+}
+
+/// The first place, at or after this one, that has no colouring before the given one. The colourings that are passed over are on no
+/// list that ascends from the given one.
+pub(crate) fn skip_before(list: &[Colouring], colouring: &Colouring, from: usize) -> usize
+    ensures next { comes_before (slice_get list.now result) colouring.now ≡ false }
+    ensures passed { (rest : List (List Cell)) → Ascends (colouring.now ∷ rest)
+        → apart (drop result list.now) (colouring.now ∷ rest)
+        ≡ apart (drop from list.now) (colouring.now ∷ rest) }
+{
+    let mut place = from;
+    'skipping: while stands_before(list, place, colouring) {
+        place += 1;
+    }
+    place
+}
+
+/// Whether none of the colourings, which ascend, is on the list.
+pub(crate) fn are_apart(few: &[Colouring], list: &ColouringList) -> bool
+    requires few { Ascends few.now }
+    requires list { Ascends list.now }
+    ensures { result ≡ apart few.now list.now }
+{
+    if few.len() < list.len() / MUCH_SHORTER {
+        none_stands_on(few, list)
+    } else {
+        none_met(few, list)
+    }
+}
+
+/// Whether none of the colourings, which may be in any order, is on the list, by a binary search for each.
+pub(crate) fn none_stands_on(few: &[Colouring], list: &ColouringList) -> bool
+    requires { Ascends list.now }
+    ensures { result ≡ apart few.now list.now }
+{
+    for colouring in few {
+        if stands_on(colouring, list) {
+            return false;
+        }
+    }
+    true
+}
+
+/// Whether none of the colourings is on the list, by one pass over both.
+fn none_met(few: &[Colouring], list: &ColouringList) -> bool
+    requires few { Ascends few.now }
+    requires list { Ascends list.now }
+    ensures { result ≡ apart few.now list.now }
+{
+    let mut place = 0;
+    for index in 0..list.len() {
+        let colouring = list.at(index);
+        place = skip_before(few, &colouring, place);
+        if stands_at(few, place, &colouring) {
+            return false;
+        }
+    }
+    true
 }

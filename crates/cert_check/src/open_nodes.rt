@@ -1,4 +1,4 @@
-//! The nodes of a body that are open: the replies of each that are still to come, and the turns that are to be taken back.
+//! The open nodes of a body: the replies of each that are still to come, and the turns that are to be taken back.
 
 ghost use Rattle.std.specs.Prelude.{◌≡◌, ◌<◌, ◌∷◌, suc, length, reverse, None, Some, IfOk, IfErr, OnOk};
 ghost use Rattle.std.specs.List.{All};
@@ -28,7 +28,7 @@ use target_game::TurnsLeft;
 /// The most turns that are made in a body.
 pub(crate) const MOST_OPEN: usize = MAX_DEPTH as usize;
 
-/// Which line is due in a body: a node's; a reply's, which is this one, with those still to come after it; or `end`.
+/// Which line is due in a body: that of a node; that of this reply, with the replies still to come after it; or `end`.
 #[derive(Clone, Copy, Debug, PartialEq, Eq)]
 pub(crate) enum Due {
     Node,
@@ -36,7 +36,7 @@ pub(crate) enum Due {
     End,
 }
 
-/// Takes turns back up to a node that has a reply to come, which is due; up to the body's first state, where there is none.
+/// Takes turns back up to a node that still has a reply to come, which is then due. If there is none, up to the body's first state.
 pub(crate) fn unwind(state: &mut BodyState, open_nodes: &mut ArrayVec<TurnsLeft, MOST_OPEN>) -> Due
     requires { Follows state.old.state.game state.old.before (reverse open_nodes.old.items) }
     ensures follows { Follows state.old.state.game state.new.before (reverse open_nodes.new.items) }
@@ -57,7 +57,7 @@ pub(crate) fn unwind(state: &mut BodyState, open_nodes: &mut ArrayVec<TurnsLeft,
     Due::End
 }
 
-/// The line of a reply, where this one is due.
+/// The line of a reply, if this reply is due.
 pub(crate) fn take_reply(
     state: &mut BodyState,
     open_nodes: &mut ArrayVec<TurnsLeft, MOST_OPEN>,

@@ -1,4 +1,4 @@
-//! The questions that the line of a node is asked at a state, each kind by its own.
+//! The checks on the line of a node at a state. Each kind of node has its own.
 
 ghost use Rattle.std.specs.Prelude.{◌≡◌, nat_eq, length, None, Some, IfOk, option_map};
 ghost use Rattle.std.specs.List.{All, list_all};
@@ -10,7 +10,7 @@ ghost use Rattle.go_points.specs.declared.Turn.TheVariants.{At};
 ghost use Rattle.cert_check.specs.Stage.{why_value};
 ghost use Rattle.cert_check.specs.Parts.{PassesOn, move_fault};
 
-use crate::body::{Body, Head, all_known};
+use crate::body::{Body, Head};
 use crate::body_state::BodyState;
 use crate::lemma_set::LemmaSet;
 use crate::reject::Why;
@@ -18,7 +18,7 @@ use go_points::{Colour, Point, Turn};
 use std::alloc::AllocError;
 use target_game::{PlayState, TurnsLeft};
 
-/// The winner has won here.
+/// Checks that the winner has won here.
 pub(crate) fn won_fault(body: &Body<'_>, state: &PlayState) -> Option<Why>
     ensures { option_map (why_value state.now.state.game.size) result
         ≡ option_map Some (won_fault body.now state.now.state) }
@@ -30,15 +30,15 @@ pub(crate) fn won_fault(body: &Body<'_>, state: &PlayState) -> Option<Why>
     }
 }
 
-/// Nobody has won and this colour is to move.
+/// Whether nobody has won and this colour is to move.
 fn is_to_move(state: &PlayState, colour: Colour) -> bool
     ensures { result ≡ is_to_move colour state.now.state }
 {
     state.over().is_none() && state.mover() == colour
 }
 
-/// Makes a move, which is played once, where nothing is wrong with it: it is at an empty point of the region; its result is not
-/// known, and in a lemma it is on its list.
+/// Makes a move if nothing is wrong with it: it is at an empty point of the region, its result is not known, and in a lemma its
+/// result is on the lemma's list. The move is played only once.
 fn make_move(
     body: &Body<'_>,
     state: &mut BodyState,
@@ -64,7 +64,8 @@ fn make_move(
     Ok(None)
 }
 
-/// Makes the winner's turn, where nothing is wrong with it: it is to move, and where the turn is a move that is asked as well.
+/// Makes the winner's turn if nothing is wrong with it: the winner is to move, and if the turn is a move, that passes its checks as
+/// well.
 pub(crate) fn make_turn(
     body: &Body<'_>,
     state: &mut BodyState,
@@ -90,8 +91,8 @@ pub(crate) fn make_turn(
     }
 }
 
-/// Whether the body may make each of the colourings on the lemma's list. Once this is so, it is so for the rest of the
-/// body, and is remembered.
+/// Whether the body may make each of the colourings on the lemma's list. Once this holds, it holds for the rest of the body, and is
+/// remembered.
 fn is_passed_on(
     body: &Body<'_>,
     passed: &mut LemmaSet,
@@ -103,7 +104,7 @@ fn is_passed_on(
     ensures passed { All (PassesOn body.now) passed.new }
     ensures value { IfOk result (λ b. b ≡ list_all (is_listed body.now.listed) head.now.absent) }
 {
-    // Where there is nothing to compare the answer is at hand.
+    // If there is nothing to compare, the answer is known.
     if !body.has_list() || head.absent().len() == 0 {
         return Ok(body.lists_all(head.absent()));
     }
@@ -117,8 +118,8 @@ fn is_passed_on(
     Ok(true)
 }
 
-/// The lemma of this number speaks of the state: its root is here, the colourings that it needs are known, none of those
-/// on its list is, and in a lemma each of these is on its list.
+/// Checks that the lemma with this number applies to the state: its root is here, the colourings that it needs are known, none of
+/// those on its list is known, and in a lemma each of those on its list is on the present lemma's list.
 fn head_fault(
     body: &Body<'_>,
     passed: &mut LemmaSet,
@@ -136,7 +137,7 @@ fn head_fault(
     if !head.is_at(state.play()) {
         return Ok(Some(Why::StateDiffers));
     }
-    if !all_known(state.play(), head.had()) {
+    if !state.knows_all(head.had()) {
         return Ok(Some(Why::NeededNotOccurred));
     }
     if !state.knows_none(head.absent()) {
@@ -148,7 +149,7 @@ fn head_fault(
     Ok(None)
 }
 
-/// An earlier lemma has the number, and it speaks of the state.
+/// Checks that an earlier lemma has the number, and that it applies to the state.
 pub(crate) fn use_fault(
     body: &Body<'_>,
     passed: &mut LemmaSet,
@@ -167,7 +168,7 @@ pub(crate) fn use_fault(
     }
 }
 
-/// So many turns are legal.
+/// Whether exactly this many turns are legal.
 fn has_turns(state: &PlayState, count: u32) -> bool
     ensures { result ≡ nat_eq count (length (due_replies state.now.state)) }
 {
@@ -180,7 +181,7 @@ fn has_turns(state: &PlayState, count: u32) -> bool
     state.next_left(&mut left).is_none()
 }
 
-/// The other side moves: so many replies are due.
+/// Checks that the other side is to move, and that this many replies are due.
 pub(crate) fn all_fault(body: &Body<'_>, state: &PlayState, replies: u32) -> Option<Why>
     ensures { option_map (why_value state.now.state.game.size) result
         ≡ option_map Some (all_fault body.now state.now.state replies) }

@@ -5,7 +5,7 @@ use go_points::Turn;
 /// Why a line of a claim is faulty.
 #[derive(Clone, Copy, Debug, PartialEq, Eq)]
 pub enum Why {
-    /// Not spelled as lines are, not ended, missing, or of a kind that cannot stand there.
+    /// The line is not spelled as lines are, not ended, missing, or of a kind that is not allowed there.
     Malformed,
     /// The size is not the problem's.
     SizeDiffers,
@@ -15,13 +15,13 @@ pub enum Why {
     NotWon,
     /// The game is over, or the other side is to move.
     WrongSide,
-    /// A point outside the region, or not empty.
+    /// The point is outside the region, or not empty.
     TurnBarred,
     /// The result is a known colouring.
     RepeatsKnown,
     /// The result is not on the lemma's list.
     NotListed,
-    /// The replies are not those that are due; this one is.
+    /// The replies are not those that are due. `due` is the one that is.
     RepliesDiffer { due: Turn },
     /// No lower lemma has this number.
     LemmaNotLower,
@@ -33,9 +33,9 @@ pub enum Why {
     ListedOccurred,
     /// A colouring on the lemma's list is not on the list of the lemma that uses it.
     ListedNotPassedOn,
-    /// The colouring is not greater than the one before it on the list.
+    /// The colouring does not come after the one before it on the list.
     ListOrder,
-    /// More lemmas, nodes or listed colourings, or a deeper node, than a claim may have.
+    /// The claim has more lemmas, nodes or listed colourings, or a deeper node, than a claim may have.
     Limit,
     /// Something follows the claim.
     TextAfterEnd,
@@ -45,7 +45,7 @@ pub enum Why {
     Read,
 }
 
-/// The first fault of a claim: its line, from 1, and why.
+/// The first fault of a claim: its line, counted from 1, and why it is faulty.
 #[derive(Clone, Copy, Debug, PartialEq, Eq)]
 pub struct Reject {
     pub place: u64,

@@ -1,4 +1,4 @@
-//! What the moves of a checked claim's tree give, gathered on a walk over the tree.
+//! The results of the moves in a checked claim's tree, gathered on a walk over the tree.
 
 ghost use Rattle.std.specs.Prelude.{◌≡◌, ◌++◌, IfOk, Some, map, filter};
 ghost use Rattle.go_points.specs.Grid.{points};
@@ -15,12 +15,13 @@ use proof_cert::Node;
 use std::alloc::{AllocError, Global};
 use target_game::{PlayState, State};
 
-/// What the moves of a tree give, in the order of the tree.
+/// The results of the moves in a tree, in the order of the tree.
 #[derive(Drop)]
 pub(crate) struct Results {
-    /// What the winner's moves give.
+    /// The results of the winner's moves.
     pub(crate) plays: Vec<Colouring>,
-    /// What moves of the other side would give at its empty points, where that had occurred before the problem's present position.
+    /// The colourings that moves of the other side at empty points would give, as far as those had occurred before the problem's
+    /// present position.
     pub(crate) barred: Vec<Colouring>,
     /// How many nodes the tree has.
     pub(crate) nodes: u32,
@@ -32,7 +33,8 @@ pub(crate) struct Later<'a> {
     replies: &'a [(Turn, Node)],
 }
 
-/// Makes the next reply that is due, here or at the latest state before that has one: its tree; none where all were walked.
+/// Makes the next reply that is due, here or at the latest earlier state that has one, and returns its tree. `None` if all have
+/// been walked.
 fn next_reply<'a>(
     due: &'a [(Turn, Node)],
     state: &mut PlayState,
@@ -61,14 +63,14 @@ fn next_reply<'a>(
     }
 }
 
-/// Whether the colouring has occurred at the problem's start, and is not the one that stands there.
+/// Whether the colouring had occurred at the problem's start, and is not the one on the board there.
 fn is_other_past(past: &PlayState, colouring: &Colouring) -> bool
     ensures { result ≡ is_past past.now.state colouring.now }
 {
     past.holds(colouring).is_some() && *colouring != past.colouring()
 }
 
-/// Adds what a move of the mover's would give at each empty point of the region, where it is one of the past.
+/// Adds the results that the mover's moves at the empty points of the region would have, as far as they are in the past.
 fn add_barred(
     past: &PlayState,
     state: &PlayState,
@@ -93,7 +95,8 @@ fn add_barred(
     Ok(())
 }
 
-/// Adds what the node's own turn or replies give, and makes its turn or the next reply that is due: the tree there; none where all were walked.
+/// Adds the results of the node's own turn or replies, makes its turn or the next reply that is due, and returns the tree there.
+/// `None` if all have been walked.
 fn step<'a>(
     past: &PlayState,
     node: &'a Node,
@@ -131,8 +134,8 @@ fn step<'a>(
     }
 }
 
-/// What the moves of the claim's tree give. It takes the time of playing the tree through, with a move at each empty point of the
-/// region where the other side is to move.
+/// The results of the moves in the claim's tree. It takes the time to play through the tree, with a move at each empty point of the
+/// region wherever the other side is to move.
 pub(crate) fn results_of(alloc: Global, checked: &Checked) -> Result<Results, AllocError>
     ensures plays { IfOk result
         (λ r. r.plays.items ≡ play_results (start checked.now.problem)

@@ -1,4 +1,4 @@
-//! The claim of shared proofs: lemmas for the states that stand at several places, and the main tree.
+//! The claim of shared proofs: lemmas for the states that occur at several places, and the main tree.
 
 use crate::tree::Writer;
 use go_points::{Colour, Colouring};
@@ -9,7 +9,7 @@ use state_proofs::{Below, Branch, Line, Play, Proof, Proofs, Refusal, Shared};
 use std::alloc::{AllocError, Global};
 use target_game::Problem;
 
-/// At how many places a state stands.
+/// At how many places a state occurs.
 #[derive(Clone, Copy, Debug, PartialEq, Eq)]
 enum Places {
     One,
@@ -19,9 +19,9 @@ enum Places {
 /// Which proofs may become lemmas.
 #[derive(Clone, Copy, Debug, PartialEq, Eq)]
 pub enum Pasts {
-    /// Those too that leave out a move which the past bars.
+    /// Including those that leave out a move which the past bars.
     Needed,
-    /// Those alone that need no past.
+    /// Only those that need no past.
     None,
 }
 
@@ -29,16 +29,16 @@ pub enum Pasts {
 #[derive(Clone, Copy)]
 pub struct Choice {
     pub pasts: Pasts,
-    /// The fewest turns of such a proof.
+    /// The least number of turns that such a proof must have.
     pub least: u64,
 }
 
-/// The lemmas, and which proof each is of.
+/// The lemmas, and the proof of each.
 #[derive(Drop)]
 pub(crate) struct Lemmas {
     pub(crate) made: Vec<Lemma>,
     version: Version,
-    /// For each proof the number of its lemma, counted from 1.
+    /// For each proof, the number of its lemma, counted from 1.
     numbers: Vec<u32>,
     /// How many colourings are listed.
     listed: usize,
@@ -53,13 +53,13 @@ impl Lemmas {
         }
     }
 
-    /// The lemma of this number.
+    /// The lemma with this number.
     pub(crate) fn get(&self, number: u32) -> Option<&Lemma> {
         self.made.get((number as usize).checked_sub(1)?)
     }
 }
 
-/// At how many places each state of the proofs stands, all of which the root uses.
+/// At how many places each state of the proofs occurs. The root uses all of these proofs.
 fn count_places(
     alloc: Global,
     proofs: &Proofs,
@@ -77,7 +77,7 @@ fn count_places(
     Ok(places)
 }
 
-/// One place more for each state below a branch of the proof.
+/// Counts one more place for each state below a branch of the proof.
 fn count_places_below(
     proofs: &Proofs,
     proof: Proof,
@@ -89,7 +89,7 @@ fn count_places_below(
     Ok(())
 }
 
-/// One place more.
+/// Counts one more place.
 fn count_place(
     proofs: &Proofs,
     below: Below,
@@ -107,7 +107,7 @@ fn count_place(
     Ok(())
 }
 
-/// The walk over the proofs that makes the lemmas: each proof is met once, lower ones first.
+/// The walk over the proofs that makes the lemmas. Each proof is met once, lower ones first.
 #[derive(Drop)]
 struct Walk {
     line: Line,
@@ -177,7 +177,7 @@ impl Walk {
         Ok(())
     }
 
-    /// Walks over the proof and all below it. The walk is lent, so that no way out of the loop owes its end.
+    /// Walks over the proof and everything below it. The walk is borrowed, so no exit from the loop has to account for dropping it.
     fn make_lemmas(
         &mut self,
         alloc: Global,
@@ -202,7 +202,7 @@ impl Walk {
         self.lemmas
     }
 
-    /// Goes down the branch where it leads to a proof that was not met.
+    /// Goes down the branch if it leads to a proof that has not been met.
     fn follow(&mut self, proofs: &Proofs, branch: Branch) -> Result<(), Refusal> {
         let last = self.visits.len().saturating_sub(1);
         if last < self.visits.len() {
@@ -224,14 +224,14 @@ impl Walk {
         self.enter(proofs, number)
     }
 
-    /// Whether the proof is to be a lemma: its state stands at several places, and it is one of those that are chosen.
+    /// Whether the proof is to be a lemma: its state occurs at several places, and it is one of those that are chosen.
     fn is_lemma(&self, proofs: &Proofs, proof: Proof) -> bool {
         proof.turns >= self.choice.least
             && (self.choice.pasts == Pasts::Needed || !proofs.needs_a_past(proof))
             && matches!(self.places.get(&proof.key), Some(Places::Several))
     }
 
-    /// Leaves the last proof, all of whose branches were followed, and makes its lemma where it is to be one.
+    /// Leaves the last proof, all of whose branches were followed, and makes its lemma if it is to be one.
     fn leave(
         &mut self,
         alloc: Global,
@@ -262,7 +262,7 @@ impl Walk {
         Ok(had)
     }
 
-    /// The colouring of the position, where it has occurred.
+    /// The colouring of the position, if it has occurred.
     fn occurred_at(&self, position: u64) -> Option<Colouring> {
         let place = self.line.past().place_of(position)?;
         self.occurred.get(place).copied()
@@ -324,8 +324,9 @@ fn lemmas_of(
     Ok(walk.into_lemmas())
 }
 
-/// The claim of the proof in which each state that stands at several places is a lemma, for each of its proofs that is
-/// chosen; others stand in line. A lemma needs what its proof needs to have occurred. Refused past the limits of claims.
+/// The claim of the proof, in which each state that occurs at several places is a lemma for each of its proofs that is chosen. The
+/// others are written in line. A lemma needs the same colourings to have occurred as its proof. Refused if it would pass the limits
+/// of claims.
 pub fn claim_with_lemmas(
     alloc: Global,
     problem: &Problem,

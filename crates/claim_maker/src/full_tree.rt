@@ -6,8 +6,8 @@ use state_proofs::{Below, Branch, Form, Line, Play, Proofs, Refusal, Settled, Sh
 use std::alloc::Global;
 use target_game::Problem;
 
-/// Adds a proof for each node of the tree at the state where nobody has won: what stands there. The tree is at most 201
-/// deep, as full search makes it.
+/// Adds a proof for each node of the tree at a state where nobody has won, and returns what is there. The tree is at most 201 deep,
+/// as full search makes it.
 #[cycle(full_tree)]
 fn note_tree(
     alloc: Global,
@@ -18,7 +18,7 @@ fn note_tree(
 ) -> Result<Below, Refusal> {
     match node {
         Node::Won => Ok(Below::Won),
-        // Full search uses no lemma, so this is never so.
+        // Full search uses no lemma, so this never happens.
         Node::Use(_) => Err(Refusal::Fault),
         Node::Play(turn, below) => {
             let mut branches = Vec::new(alloc);
@@ -36,7 +36,7 @@ fn note_tree(
     }
 }
 
-/// The branch of the turn, with the proofs of what stands below it added.
+/// The branch of the turn. The proofs of what is below it are added.
 #[cycle(full_tree)]
 fn branch_by(
     alloc: Global,
@@ -47,7 +47,7 @@ fn branch_by(
     below: &Node,
 ) -> Result<Branch, Refusal> {
     let made = turn;
-    // The tree has legal turns alone, so one is always made.
+    // The tree has only legal turns, so the turn is always made.
     if !play.go(made)? {
         return Err(Refusal::Fault);
     }
@@ -73,7 +73,7 @@ fn add(
     Ok(Below::Proof(proofs.add(settled, branches, None, &[])?))
 }
 
-/// Adds the proofs of the tree of the problem: the number of its root's.
+/// Adds the proofs of the tree of the problem, and returns the number of the proof of its root.
 fn note_whole(
     alloc: Global,
     proofs: &mut Proofs,

@@ -1,6 +1,6 @@
-//! The claims of shared proofs, and the shared proofs of a tree that is there.
+//! The claims of shared proofs, and the shared proofs of a given tree.
 //!
-//! Nothing is promised of a claim: each is to be put to the checker.
+//! Nothing is promised about a claim: each is to be given to the checker.
 #![tactic(auto)]
 
 mod claim;

@@ -16,18 +16,18 @@ struct Visit {
     first: usize,
 }
 
-/// What writes one tree, the main one or the body of a lemma, at a state of its own.
+/// The writer of one tree, the main one or the body of a lemma, at a state of its own.
 #[derive(Drop)]
 pub(crate) struct Writer {
     play: Play,
     winner: Colour,
-    /// The proof that the lemma is of.
+    /// The proof that the lemma is made from.
     lemma: Option<Proof>,
     visits: Vec<Visit>,
     /// The nodes that are written, each with the turn before it.
     written: Vec<(Turn, Node)>,
     nodes: u64,
-    /// For a lemma the results of the winner's moves, and the lists of the lemmas that are used.
+    /// For a lemma, the results of the winner's moves, and the lists of the lemmas that are used.
     absent: Vec<Colouring>,
 }
 
@@ -65,7 +65,8 @@ impl Writer {
         absent
     }
 
-    /// The tree of the proof, with uses of these lemmas below its first node. Refused past the greatest number of nodes.
+    /// The tree of the proof, with uses of these lemmas below its first node. Refused if it would have more than the greatest
+    /// number of nodes.
     pub(crate) fn write(
         &mut self,
         alloc: Global,
@@ -117,7 +118,7 @@ impl Writer {
         Ok(())
     }
 
-    /// Turns to the next branch of the last proof.
+    /// Goes on to the next branch of the last proof.
     fn pass_on(&mut self) {
         let last = self.visits.len().saturating_sub(1);
         if last < self.visits.len() {
@@ -158,7 +159,7 @@ impl Writer {
         }
     }
 
-    /// Whether the reply that was just made leads to what must have occurred before the lemma.
+    /// Whether the reply that was just made leads to a position that must have occurred before the lemma.
     fn has_occurred(&self, proofs: &Proofs, visit: Visit, turn: Turn) -> bool {
         if visit.proof.form != Form::Replies || turn == Turn::Pass {
             return false;
@@ -172,7 +173,7 @@ impl Writer {
         }
     }
 
-    /// Writes the node after the turn that was just made, takes the turn back, and turns to the next branch.
+    /// Writes the node after the turn that was just made, takes the turn back, and goes on to the next branch.
     fn write_leaf(&mut self, turn: Turn, node: Node) -> Result<(), Refusal> {
         self.count_node()?;
         self.play.back();
@@ -189,7 +190,7 @@ impl Writer {
         Ok(())
     }
 
-    /// Lists what the lemma lists, which is used.
+    /// Lists what the lemma that is used lists.
     fn list_lemma(&mut self, lemmas: &Lemmas, number: u32) -> Result<(), Refusal> {
         if self.lemma.is_some() {
             if let Some(lemma) = lemmas.get(number) {
@@ -199,7 +200,7 @@ impl Writer {
         Ok(())
     }
 
-    /// Writes the node of the last proof, all of whose branches are written: the whole tree, where it is the first.
+    /// Writes the node of the last proof, all of whose branches are written. Returns the whole tree if it is the first.
     fn leave(
         &mut self,
         alloc: Global,
@@ -220,7 +221,7 @@ impl Writer {
         Ok(None)
     }
 
-    /// The node of the proof, from the nodes after its branches.
+    /// The node of the proof, made from the nodes after its branches.
     fn node(&mut self, alloc: Global, visit: Visit) -> Result<Node, Refusal> {
         if visit.first > self.written.len() {
             return Err(Refusal::Fault);

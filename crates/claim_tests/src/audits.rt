@@ -16,7 +16,7 @@ pub(crate) fn audited(alloc: Global, rt: &impl Abort, text: &[u8]) -> Result<Col
     audit(alloc, &problem, &tree)
 }
 
-// The text with a front and n copies of a piece after it.
+// A front and n copies of a piece after it.
 pub(crate) fn repeated(
     rt: &impl Abort,
     alloc: Global,
@@ -99,7 +99,7 @@ fn asks_each_node_for_one_turn(rt: HostRuntime) {
 #[test]
 fn asks_every_branch(rt: HostRuntime) {
     let alloc = rt.alloc();
-    // In all rows but the first White wins in the first line, so that the turns of Black at the problem node are the replies.
+    // In all rows except the first, White wins in the first line, so the turns of Black at the problem node are the replies.
     let rows: [(&[u8], Result<Colour, AuditFault>); 9] = [
         (b"(;B[ba])(;B[]))", at(1, AuditWhy::SeveralAnswers)),
         (b";B[];W[])", at(1, due(&rt, b"ba"))),
@@ -107,7 +107,7 @@ fn asks_every_branch(rt: HostRuntime) {
         (b"(;B[];W[])(;B[ab]))", at(1, due(&rt, b"ba"))),
         (b"(;B[];W[])(;B[ba]))", at(4, AuditWhy::NotWon)),
         (b"(;B[];W[])(;B[ba];W[]))", at(4, AuditWhy::NotWon)),
-        // A turn of the wrong colour counts as the reply that is due, and is refused itself.
+        // A turn of the wrong colour counts as the reply that is due, and is itself refused.
         (b"(;B[];W[])(;W[ba]))", at(4, AuditWhy::WrongColour)),
         (
             b"(;B[](;W[])(;W[]))(;B[ba]))",
@@ -124,7 +124,7 @@ fn asks_every_branch(rt: HostRuntime) {
 fn numbers_nodes_across_branches(rt: HostRuntime) {
     let alloc = rt.alloc();
     let rows: [(&[u8], Result<Colour, AuditFault>); 9] = [
-        // Replies may stand in any order.
+        // Replies may come in any order.
         (b"(;B[cc];W[ba];B[];W[])(;B[];W[]))", Ok(Colour::White)),
         (b"(;B[];W[])(;B[cc];W[ba];B[];W[]))", Ok(Colour::White)),
         (
@@ -200,7 +200,7 @@ fn stops_early_in_deep_trees(rt: HostRuntime) {
     expect_that(&rt, ends_before_four(alloc, &rt, text.as_slice()));
 }
 
-// The values of a property: the points of the board whose numbers leave this rest by 2.
+// The values of a property: the points of the board whose numbers modulo 2 are this.
 fn add_points(rt: &impl Abort, text: &mut Vec<u8>, size: Size, rest: usize) {
     for number in 0..size.area() {
         if number % 2 == rest {
@@ -212,8 +212,8 @@ fn add_points(rt: &impl Abort, text: &mut Vec<u8>, size: Size, rest: usize) {
     }
 }
 
-// Black stones stand like the black squares of a chess board, and Black fills all points between them but two. White may only
-// pass, since each of its moves would be taken off at once. Then Black passes as well and has won. 39 points are filled.
+// Black stones are placed like the black squares of a chess board, and Black fills all points between them except two. White may
+// only pass, since each of its moves would be taken off at once. Then Black passes as well and has won. 39 points are filled.
 fn filled(alloc: Global, rt: &impl Abort, open: &[u8]) -> Vec<u8> {
     let size = Size::new(9).expect(rt, "a size");
     let mut text = Vec::new(alloc);

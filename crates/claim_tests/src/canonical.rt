@@ -1,4 +1,4 @@
-//! Canonical records as they are written.
+//! How canonical records are written.
 
 use crate::expect::{expect_bytes, expect_that};
 use sgf_text::{read_tree, write_tree};
@@ -12,7 +12,7 @@ fn problem_in(rt: &impl Abort, alloc: Global, text: &[u8]) -> Problem {
     read_problem(alloc, &tree).ok().expect(rt, "a problem")
 }
 
-// What the canonical record of the problem is written as.
+// The text of the canonical record of the problem.
 fn canonical(rt: &impl Abort, alloc: Global, problem: &Problem) -> Vec<u8> {
     let tree = problem_tree(alloc, problem).ok().expect(rt, "memory");
     let mut written = Vec::new(alloc);
@@ -29,7 +29,7 @@ fn are_same(problem: &Problem, other: &Problem) -> bool {
         && problem.region() == other.region()
 }
 
-// The problem of the text has this canonical record, which holds the same problem.
+// Expects the problem of the text to have this canonical record, and the record to hold the same problem.
 fn expect_canonical(rt: &impl Abort, alloc: Global, text: &[u8], wanted: &[u8]) {
     let problem = problem_in(rt, alloc, text);
     let written = canonical(rt, alloc, &problem);

@@ -1,4 +1,4 @@
-//! A claim as deep as a claim may be, and one deeper.
+//! A claim that is as deep as a claim may be, and one that is one deeper.
 
 ghost use Rattle.std.specs.Prelude.{IsTrue, IfSome};
 ghost use Rattle.go_points.specs.declared.Turn.TheVariants.{At};
@@ -13,8 +13,8 @@ use std::alloc::Global;
 use std::process::Abort;
 use target_game::{PlayState, Problem};
 
-// A line of play in which the game does not end: the turns of black, `-` for a pass and else the point whose number is that
-// of the character after `0`. White makes the first turn that is legal. It was found by a search outside this program.
+// A line of play in which the game does not end: the turns of black, with `-` for a pass and otherwise the character whose distance
+// from `0` is the number of the point. White makes the first turn that is legal. It was found by a search outside this program.
 pub(crate) const TURNS: [&str; 10] = [
     "CNF?P8@QSEMLBIOHRNIQFRS-MONQSRS-SN5J;K-R@--I;-PCQ-M-O-SKJ-OQ-K--KSBMH8NGCQIO--R-JP-PKQS-JO-KQPQ-QKH>",
     "GN@JRLPDSBO--MKDJHNP-QRD-RP-RHK:JMLPEOBSFCQINJLEQRSNMPM-SQM-MLK9;AH?QENSJFPAGRJNAPRMQ-SP-S---PNCR?9E",
@@ -65,7 +65,7 @@ fn first_move(state: &PlayState) -> Option<Point>
     None
 }
 
-// Makes the turn, which is a pass or a legal move of a game that is not over.
+// Makes the turn, which must be a pass or a legal move in a game that is not over.
 pub(crate) fn make(rt: &impl Abort, state: &mut PlayState, turn: Turn) {
     expect_that(rt, state.over().is_none());
     match turn {
@@ -137,7 +137,7 @@ fn depths_up_to_the_limit(rt: HostRuntime) {
             go_down(&mut claim, &rt, &mut state, turn_of(size, *code));
         }
     }
-    // Three lines make two depths: depth 1 stands at line 3, depth 2,000 at line 3,001, depth 2,001 at line 3,003.
+    // Three lines make two depths: depth 1 is at line 3, depth 2,000 at line 3,001, depth 2,001 at line 3,003.
     expect_same(&rt, MAX_DEPTH, 2000);
     claim.extend_from_slice(b"won\n").expect(&rt, "memory");
     let deeper = judged(rt.alloc(), &problem, claim.as_slice());

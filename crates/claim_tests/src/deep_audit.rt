@@ -25,7 +25,7 @@ fn add_turn(text: &mut Vec<u8>, rt: &impl Abort, word: &[u8], turn: Turn) {
     text.push(b']').expect(rt, "memory");
 }
 
-// The other legal turns of white, each in a tree in which nothing follows; and the end of the tree that they stand in.
+// The other legal turns of white, each in a tree in which nothing follows; and the end of the tree that they are in.
 fn other_replies(alloc: Global, rt: &impl Abort, state: &PlayState, given: Turn) -> Vec<u8> {
     let mut text = Vec::new(alloc);
     text.push(b')').expect(rt, "memory");
@@ -40,7 +40,7 @@ fn other_replies(alloc: Global, rt: &impl Abort, state: &PlayState, given: Turn)
     text
 }
 
-// Adds a turn of black and a reply, each in a tree within the one before. What closes the two trees comes later.
+// Adds a turn of black and a reply, each in a tree within the one before. The brackets that close the two trees come later.
 fn go_down(
     alloc: Global,
     rt: &impl Abort,
@@ -68,7 +68,7 @@ fn end_play(alloc: Global, rt: &impl Abort, text: &mut Vec<u8>, state: &mut Play
     text.extend_from_slice(end.as_slice()).expect(rt, "memory");
 }
 
-// The record: its first line goes down to the end of play, and beside each reply of it stand the other ones, unanswered.
+// The record. Its first line goes down to the end of play, and beside each of its replies are the other replies, unanswered.
 fn record_of(alloc: Global, rt: &impl Abort, problem: &Problem) -> Vec<u8> {
     let mut state = PlayState::of(alloc, problem).expect(rt, "memory");
     let size = state.size();

@@ -1,4 +1,5 @@
-//! Claims as deep as a claim may be, right and wrong: black could take a stone at any time, and plays elsewhere first.
+//! Claims that are as deep as a claim may be, right ones and wrong ones: black could take a stone at any time, and plays elsewhere
+//! first.
 
 use crate::deep::{add_count, add_line, make};
 use crate::expect::expect_same;
@@ -9,8 +10,8 @@ use std::alloc::Global;
 use std::process::Abort;
 use target_game::{PlayState, Problem};
 
-// A board: a white stone in the corner that black can take at once, and elsewhere points that white shuts in. Where black plays
-// there is told by one letter for each of the points; a group of them that is full is taken off by its own last stone.
+// A board: a white stone in the corner that black can take at once, and elsewhere points that white shuts in. The points where
+// black plays there are given by one letter each; a group of these points that is full is taken off by its own last stone.
 struct Ground {
     rows: u8,
     black: &'static [u8],
@@ -104,7 +105,7 @@ fn turn_of(size: Size, points: &[u8], code: u8) -> Turn {
     Turn::Pass
 }
 
-// Black's move elsewhere, its capture after each reply but the pass, and the pass.
+// Black's move elsewhere, its capture after each reply except the pass, and the pass.
 fn add_round(text: &mut Vec<u8>, rt: &impl Abort, state: &mut PlayState, turn: Turn) {
     let made = turn;
     add_line(text, rt, b"play ", turn);
@@ -169,7 +170,8 @@ fn line_feeds(text: &[u8]) -> u64 {
     count
 }
 
-// What is said of so many rounds and these lines after them; `place` is the line that is refused, counted from the end of round 999.
+// The answer to this many rounds with these lines after them. `place` is the line that is refused, counted from the end of round
+// 999.
 fn check_rounds(
     rt: &impl Abort,
     alloc: Global,
@@ -227,7 +229,7 @@ fn wrong_at_its_last_line_on_19_rows(rt: HostRuntime) {
     check_rounds(&rt, rt.alloc(), &WIDE, 999, last, Some((3, Why::Malformed)));
 }
 
-// One round more: its move, its `all`, the first reply, and what answers that at depth 2,001.
+// One more round: its move, its `all`, the first reply, and the answer to that reply at depth 2,001.
 #[test]
 fn depth_2001_on_6_rows(rt: HostRuntime) {
     check_rounds(&rt, rt.alloc(), &SMALL, 1_000, TAKEN, Some((4, Why::Limit)));

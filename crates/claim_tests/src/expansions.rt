@@ -27,7 +27,7 @@ fn with(stones: u32, column: u8) -> u32 {
     stones | 1u32.wrapping_shl(column as u32)
 }
 
-// These stones, and a white one in the upper left corner.
+// The colouring with these stones, and a white one in the upper left corner.
 fn root(rt: &impl Abort, stones: u32) -> Colouring {
     let mut text = [b'.'; 81];
     text[0] = b'O';
@@ -39,7 +39,7 @@ fn root(rt: &impl Abort, stones: u32) -> Colouring {
     Colouring::from_text(nine(rt), &text).expect(rt, "a colouring")
 }
 
-// Black moves first, on the last row's first columns alone, and would have to capture the corner.
+// Black moves first, may only move in the first columns of the last row, and would have to capture the corner.
 fn last_row(alloc: Global, rt: &impl Abort, columns: u8) -> Problem {
     let mut history = Vec::new(alloc);
     history.push(root(rt, 0)).expect(rt, "memory");
@@ -52,7 +52,7 @@ fn last_row(alloc: Global, rt: &impl Abort, columns: u8) -> Problem {
     Problem::new(history, 0, Colour::Black, 0, target, region).expect(rt, "a problem")
 }
 
-// All sets of black stones but the empty one, larger ones first.
+// All sets of black stones except the empty one, larger ones first.
 fn sets(alloc: Global, columns: u8) -> Result<Vec<u32>, AllocError> {
     let mut all = Vec::new(alloc);
     for fewer in 0..columns {
@@ -79,7 +79,7 @@ fn lemma_of(rt: &impl Abort, sets: &[u32], stones: u32) -> u32 {
     number
 }
 
-// Black's turns where it has these stones: White answers each by a pass.
+// Black's turns when it has these stones. White answers each with a pass.
 fn replies(
     alloc: Global,
     rt: &impl Abort,
@@ -105,7 +105,7 @@ fn replies(
     Ok(Node::All(all))
 }
 
-// White wins: it passes whatever Black does, and there is a lemma for each set of black stones.
+// A claim that White wins: it passes whatever Black does, and there is a lemma for each set of black stones.
 fn a_lemma_for_each_set(alloc: Global, rt: &impl Abort, columns: u8) -> Checked {
     let order = sets(alloc, columns).expect(rt, "memory");
     let mut lemmas = Vec::new(alloc);
@@ -146,7 +146,7 @@ fn four_places_of_the_last_row(rt: HostRuntime) {
     );
 }
 
-// Seven and eight places: 7 (2 + 5869) + 2 and 8 (2 + 41098) + 2 turns, with the same rule.
+// Seven and eight places: 7 (2 + 5869) + 2 and 8 (2 + 41098) + 2 turns, by the same rule.
 #[test]
 fn the_whole_last_row(rt: HostRuntime) {
     let seven = a_lemma_for_each_set(rt.alloc(), &rt, 7);
@@ -169,7 +169,7 @@ fn the_whole_last_row(rt: HostRuntime) {
     expect_size(&rt, answer.size(), Some(328_802));
 }
 
-// A line of so many turns, by turns the winner's and the other side's: a pass each.
+// A line of this many turns, all of them passes, alternating between the winner and the other side.
 fn line(alloc: Global, turns: u32) -> Result<Answer, AllocError> {
     let mut answer = Answer::Won;
     for _turn in 0..turns / 2 {

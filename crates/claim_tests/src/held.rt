@@ -1,4 +1,4 @@
-//! Certificates that are held, checked for problems on boards of three rows.
+//! Certificates held in memory, checked for problems on boards of three rows.
 
 use crate::expect::{expect_colour, expect_count, expect_same};
 use crate::small_claims::{point, problem};
@@ -9,12 +9,12 @@ use std::alloc::Global;
 use std::process::Abort;
 use target_game::Problem;
 
-// Black takes a ko, where these colourings have occurred.
+// Black takes a ko, after these colourings have occurred.
 fn ko(alloc: Global, rt: &impl Abort, texts: &[&str]) -> Problem {
     problem(alloc, rt, 3, texts, Colour::Black, &[(1, 0)])
 }
 
-// One lemma, in which black takes the ko, and main, which uses the lemma of this number; for a board of so many rows.
+// One lemma, in which black takes the ko, and main, which uses the lemma with this number; for a board of this many rows.
 fn takes_ko(alloc: Global, rt: &impl Abort, rows: u8, number: u32) -> Certificate {
     let three = Size::new(3).expect(rt, "a size");
     let mut absent = Vec::new(alloc);

@@ -12,12 +12,12 @@ fn atari(alloc: Global, rt: &impl Abort) -> Problem {
     problem(alloc, rt, 3, &["O..X....."], Colour::Black, &[(1, 0)])
 }
 
-// Black takes the corner stone of a ko, where nothing else has occurred.
+// Black takes the corner stone of a ko, and nothing else has occurred.
 fn open_ko(alloc: Global, rt: &impl Abort) -> Problem {
     problem(alloc, rt, 3, &["O.OXO...."], Colour::Black, &[(1, 0)])
 }
 
-// The same after the other position of the ko, so that black may not.
+// The same ko after its other position has occurred, so black may not take.
 fn closed_ko(alloc: Global, rt: &impl Abort) -> Problem {
     problem(
         alloc,
@@ -160,7 +160,7 @@ fn a_lemma_begins_with_its_root_known(rt: HostRuntime) {
     );
 }
 
-// The answer to the lemma in which black takes the ko, and these lines.
+// The answer to the lemma in which black takes the ko, followed by these lines.
 fn behind_the_ko(rt: &impl Abort, alloc: Global, rest: &str) -> Result<Colour, Reject> {
     let mut claim = Vec::new(alloc);
     claim

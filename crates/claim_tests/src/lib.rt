@@ -1,5 +1,5 @@
-//! Tests of problems and their records; of claims that are judged, held, lifted, expanded and written; and of audits. They
-//! call what those crates make public.
+//! Tests of problems and their records; of claims that are judged, held, lifted, expanded and written; and of audits. They use only
+//! the public calls of those crates.
 #![tactic(auto)]
 
 #[cfg(test)]

@@ -1,4 +1,4 @@
-//! Claims that are made into one lemma, as the format's rules give them.
+//! Claims that are made into one lemma, by the rules of the format.
 
 use crate::expect::expect_same;
 use crate::small_claims::problem;
@@ -9,7 +9,7 @@ use std::alloc::Global;
 use std::process::Abort;
 use target_game::Problem;
 
-// The text of what the claim becomes for the problem, or why it is not lifted. What is lifted is valid for the same problem.
+// The text of the lifted claim for the problem, or why the claim is not lifted. The lifted claim is valid for the same problem.
 fn lifted(alloc: Global, rt: &impl Abort, problem: Problem, claim: &str) -> Result<Vec<u8>, Lift> {
     let again = problem.copy(alloc).expect(rt, "memory");
     let certificate = read_cert(alloc, problem.size(), claim.as_bytes()).expect(rt, "a claim");
@@ -128,7 +128,7 @@ fn claims_with_lemmas_are_not_lifted(rt: HostRuntime) {
     }
 }
 
-// A claim of one lemma is refused as `Limit` exactly where it would pass one of these: so the clauses of `lift` say.
+// A claim of one lemma is refused with `Limit` exactly if it would pass one of these limits, as the clauses of `lift` say.
 #[test]
 fn the_limits_of_a_lifted_claim(rt: HostRuntime) {
     expect_same(&rt, MAX_NODES, 10_000_000);

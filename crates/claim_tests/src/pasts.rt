@@ -12,12 +12,12 @@ fn ko(alloc: Global, rt: &impl Abort, texts: &[&str]) -> Problem {
     problem(alloc, rt, 3, texts, Colour::Black, &[(1, 0)])
 }
 
-// What the claim comes to where the other position of the ko has occurred, so that black may not take.
+// The answer to the claim if the other position of the ko has occurred, so black may not take.
 fn closed(alloc: Global, rt: &impl Abort, claim: &[u8]) -> Result<Colour, Reject> {
     judged(alloc, &ko(alloc, rt, &["O.OXO....", ".XOXO...."]), claim)
 }
 
-// The same where nothing else has occurred.
+// The answer to the claim if nothing else has occurred.
 fn open(alloc: Global, rt: &impl Abort, claim: &[u8]) -> Result<Colour, Reject> {
     judged(alloc, &ko(alloc, rt, &["O.OXO...."]), claim)
 }

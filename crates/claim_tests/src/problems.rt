@@ -1,4 +1,4 @@
-//! Values with what they stand for, and records with their problem nodes.
+//! Values and what they stand for, and records and their problem nodes.
 
 use crate::expect::{expect_count, expect_number, expect_same, expect_text, expect_that};
 use go_points::{Colour, MAX_SIZE, Size, Turn, sgf_point, to_sgf};
@@ -123,7 +123,7 @@ fn mover_of(
     read_problem(alloc, &tree).map(|problem| problem.mover())
 }
 
-// Each colour is read where it would be to move without PL, and where it would not.
+// Each colour is read both if it would be to move without PL and if it would not.
 #[test]
 fn reads_colours(rt: HostRuntime) {
     let alloc = rt.alloc();
@@ -215,7 +215,7 @@ fn finds_the_problem_node(rt: HostRuntime) {
     }
 }
 
-// What is left of a record: how many colourings have occurred, which of them is present, who is to move, and the passes.
+// What is kept of a record: how many colourings have occurred, which of them is present, who is to move, and the passes.
 #[test]
 fn walks_along_the_main_line(rt: HostRuntime) {
     let alloc = rt.alloc();

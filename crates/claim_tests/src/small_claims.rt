@@ -61,7 +61,7 @@ pub(crate) fn refused(place: u64, why: Why) -> Result<Colour, Reject> {
     Err(Reject { place, why })
 }
 
-// The answer is the one that is wanted. (The prover takes no `Reject` by value as a type parameter's.)
+// Expects this answer. (The prover does not accept a `Reject` passed by value for a type parameter.)
 pub(crate) fn expect_judged(
     rt: &impl Abort,
     found: Result<Colour, Reject>,
@@ -75,7 +75,7 @@ fn capture(alloc: Global, rt: &impl Abort) -> Problem {
     problem(alloc, rt, 2, &["XO.."], Colour::White, &[(1, 0), (0, 1)])
 }
 
-// White may play below the target, and then nobody anywhere.
+// White may play below the target, and then nobody may play anywhere.
 fn quiet(alloc: Global, rt: &impl Abort) -> Problem {
     problem(alloc, rt, 2, &["X..."], Colour::White, &[(0, 1)])
 }

@@ -1,4 +1,4 @@
-//! Solutions as they are written.
+//! How solutions are written.
 
 use crate::expect::{expect_bytes, expect_count, expect_size, expect_stop};
 use cert_check::{Checked, check_held};
@@ -49,7 +49,7 @@ fn replies(rt: &impl Abort, alloc: Global, first: Turn, below: Answer) -> Vec<(T
     all
 }
 
-/// What is written below the problem node.
+/// The text below the problem node.
 fn below(alloc: Global, rt: &impl Abort, answer: &Answer) -> Vec<u8> {
     let checked = checked(alloc, rt);
     let mut text = Vec::new(alloc);
@@ -83,7 +83,7 @@ fn writes_an_answer_tree(rt: HostRuntime) {
     );
 }
 
-// No answer tree of the problem has these, but each has a record.
+// These are not answer trees of the problem, but each has a record.
 #[test]
 fn writes_any_answers(rt: HostRuntime) {
     let alloc = rt.alloc();
@@ -150,7 +150,7 @@ fn expands_to_two_turns(
     expect_stop(rt, expand(alloc, &checked, 1).err(), Some(Expand::TooLarge));
 }
 
-// The lemma answers a move at bc too, which repeats what stood there before: the tree leaves it out.
+// The lemma also answers a move at bc, which repeats an earlier position: the tree leaves it out.
 #[test]
 fn leaves_out_a_barred_reply(rt: HostRuntime) {
     expands_to_two_turns(

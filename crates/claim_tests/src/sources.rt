@@ -32,7 +32,7 @@ impl<'a> Read for Failing<'a> {
     }
 }
 
-// Gives a text, and then one line for ever, a line at a time.
+// Gives a text, and then the same line for ever, a line at a time.
 #[derive(Drop)]
 struct Endless<'a> {
     left: &'a [u8],
@@ -56,7 +56,7 @@ impl<'a> Read for Endless<'a> {
     }
 }
 
-// The answer where these bytes come, and then a failed read.
+// The answer if these bytes come, and then a read fails.
 fn answer_behind(rt: &impl Abort, alloc: Global, text: &str) -> Result<Colour, Reject> {
     let problem = problem(alloc, rt, 3, &["O..X....."], Colour::Black, &[(1, 0)]);
     let reader = Failing {

@@ -1,4 +1,4 @@
-//! What is asked of the turns at a state of the line whose proof is made smaller.
+//! The questions about the turns at a state of the line whose proof is being made smaller.
 
 use crate::smaller::Smaller;
 use go_points::Turn;
@@ -6,14 +6,14 @@ use pn_table::Key;
 use state_proofs::{Below, Branch, Move, Proof, key_after, move_of};
 use std::alloc::AllocError;
 
-/// What is asked of a turn.
+/// A question about a turn.
 #[derive(Clone, Copy)]
 pub(crate) enum Question {
-    /// Nothing: this stands after it.
+    /// Nothing: this is below it.
     Known(Below),
     /// Whether this proof of the state after it can be made smaller.
     Smaller(u32),
-    /// Whether the winner wins by it, and by how small a proof.
+    /// Whether the winner wins by it, and how small the proof is.
     Wins,
 }
 
@@ -26,7 +26,7 @@ pub(crate) struct Asked {
 }
 
 impl Smaller {
-    /// Lists the turns of the winner, who is to move, that may be better: an end of the game alone, where there is one.
+    /// Lists the turns of the winner, who is to move, that may be better. If a turn ends the game, it is the only one.
     pub(crate) fn list_turns(&mut self, proof: Proof) -> Result<(), AllocError> {
         let first = self.asked.len();
         let end = self.search.line.end();
@@ -61,7 +61,7 @@ impl Smaller {
         Ok(())
     }
 
-    /// Lists the turn, by which the winner has won, and no other.
+    /// Lists only this turn, by which the winner has won.
     fn ask_alone(&mut self, first: usize, turn: Turn, key: Key) -> Result<(), AllocError> {
         self.asked.truncate(first);
         self.asked.push(Asked {
@@ -72,7 +72,7 @@ impl Smaller {
         Ok(())
     }
 
-    /// Lists a turn of the winner's, which may be the proof's own.
+    /// Lists a turn of the winner, which may be the proof's own.
     fn ask_turn(&mut self, own: Option<Branch>, turn: Turn, key: Key) -> Result<(), AllocError> {
         let question = match own {
             Some(own) if own.turn == turn => match own.below {
@@ -120,7 +120,7 @@ impl Smaller {
         !has_turn(self.search.proofs.branches(proof), played)
     }
 
-    /// What is asked of a reply: nothing, where it is not legal here.
+    /// The question about a reply. There is none if the reply is not legal here.
     fn asked_of(&self, branch: Branch) -> Asked {
         let end = self.search.line.end();
         let played = move_of(self.search.moves.as_slice(), branch.turn);

@@ -20,11 +20,11 @@ pub(crate) struct Child {
     pub(crate) turn: Turn,
     pub(crate) key: Key,
     pub(crate) outcome: Outcome,
-    /// Its own children, where it was left unsettled.
+    /// Its own children, if it was left unsettled.
     pub(crate) kept: Option<KeptState>,
 }
 
-/// A state of the line. Its children stand after those of the states above it, in one list for all.
+/// A state of the line. Its children come after those of the states above it, in one list for all.
 #[derive(Clone, Copy)]
 pub(crate) struct Frame {
     pub(crate) key: Key,

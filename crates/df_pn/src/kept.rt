@@ -1,17 +1,17 @@
-//! The children of states that were left unsettled, so that the work there goes on where it stood.
+//! The children of states that were left unsettled, kept so that work can continue there.
 
 use crate::frame::Child;
 use go_points::Turn;
 use std::alloc::Global;
 use std::mem;
 
-/// How many children a list takes before the next is begun.
+/// How many children a list holds before the next is begun.
 const ROOM: usize = 500_000;
 
 /// The children of a state that was left.
 #[derive(Clone, Copy)]
 pub(crate) struct KeptState {
-    /// The number of the list that they stand in, and the place of the first.
+    /// The number of the list that they are in, and the place of the first.
     list: u32,
     first: usize,
     pub(crate) count: usize,
@@ -19,8 +19,8 @@ pub(crate) struct KeptState {
     pub(crate) is_barred: bool,
 }
 
-/// The latest children of states that were left, in two lists: where the newer is full it becomes the older, and what that held is
-/// forgotten.
+/// The latest children of states that were left, in two lists: when the newer is full it becomes the older, and what the older held
+/// is forgotten.
 #[derive(Drop)]
 pub(crate) struct KeptChildren {
     alloc: Global,
@@ -40,7 +40,7 @@ impl KeptChildren {
         }
     }
 
-    /// A state whose children are to be added, and none of them yet.
+    /// A state whose children are still to be added.
     pub(crate) fn begin(&mut self, is_barred: bool) -> KeptState {
         if self.newer.len() >= ROOM {
             self.older = mem::replace(&mut self.newer, Vec::new(self.alloc));
@@ -54,9 +54,9 @@ impl KeptChildren {
         }
     }
 
-    /// Adds a child of the state that was begun last; none where memory is refused, and then nothing changes.
+    /// Adds a child of the state that was begun last. `None` if memory is refused; then nothing changes.
     pub(crate) fn add(&mut self, state: KeptState, child: Child) -> Option<KeptState> {
-        // Its parts are named, since the prover has to meet the type of its turn here.
+        // Its parts are named, since the prover has to see the type of its turn here.
         let turn: Turn = child.turn;
         let copy = Child {
             turn,
@@ -75,7 +75,7 @@ impl KeptChildren {
         })
     }
 
-    /// The child of this place of the state, if it is still kept.
+    /// The child at this place of the state, if it is still kept.
     pub(crate) fn get(&self, state: KeptState, place: usize) -> Option<Child> {
         let at = state.first.saturating_add(place);
         if state.list == self.list {

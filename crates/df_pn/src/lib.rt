@@ -1,6 +1,6 @@
 //! Depth-first proof-number search on boards of any size.
 //!
-//! Nothing is promised of a proof but that the steps are counted: the claim of it is to be put to the checker.
+//! Nothing is promised about a proof except that the steps are counted: its claim is to be given to the checker.
 #![tactic(auto)]
 
 mod asked;

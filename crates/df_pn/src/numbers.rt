@@ -2,7 +2,7 @@
 
 use pn_table::{INFINITY, Numbers};
 
-/// What is left to do at least for the mover to win, and for the other side.
+/// The least that is left to do for the mover to win, and for the other side to win.
 #[derive(Clone, Copy, Debug, PartialEq, Eq)]
 pub(crate) struct MoverNumbers {
     pub(crate) own: u32,
@@ -17,7 +17,7 @@ pub(crate) struct Thresholds {
 }
 
 impl MoverNumbers {
-    /// The numbers of a state that nothing is known of.
+    /// The numbers of a state of which nothing is known.
     pub(crate) fn unknown() -> MoverNumbers {
         MoverNumbers { own: 1, other: 1 }
     }
@@ -37,7 +37,7 @@ impl MoverNumbers {
         }
     }
 
-    /// The same for the table.
+    /// The numbers as they are stored in the table.
     pub(crate) fn for_table(self, is_attacker: bool) -> Numbers {
         if is_attacker {
             Numbers {
@@ -75,8 +75,8 @@ impl Thresholds {
         numbers.own as u64 >= self.own || numbers.other as u64 >= self.other
     }
 
-    /// The thresholds of the child with the least number, as the child's mover sees them. `second` is the least number
-    /// of the other children, if there are others. The child keeps the work until it is half as much again as that.
+    /// The thresholds of the child with the least number, as the child's mover sees them. `second` is the least number of the other
+    /// children, if there are others. Work stays at the child until its number is one and a half times that.
     pub(crate) fn below(
         self,
         numbers: MoverNumbers,
@@ -98,7 +98,7 @@ impl Thresholds {
     }
 }
 
-/// The numbers of a state whose children are looked at one by one.
+/// The numbers of a state, gathered while its children are looked at one by one.
 #[derive(Clone, Copy)]
 pub(crate) struct Count {
     /// The place of the first child with the least number.
@@ -111,7 +111,7 @@ pub(crate) struct Count {
 }
 
 impl Count {
-    /// One child alone.
+    /// The count of a single child.
     pub(crate) fn one(place: usize, numbers: MoverNumbers) -> Count {
         Count {
             best: place,
@@ -121,7 +121,7 @@ impl Count {
         }
     }
 
-    /// With one child more.
+    /// The count with one more child.
     pub(crate) fn with(self, place: usize, numbers: MoverNumbers) -> Count {
         let sum = self.sum.saturating_add(numbers.other);
         if numbers.own < self.least {

@@ -1,11 +1,11 @@
 //! Depth-first proof-number search.
 //!
-//! The line of play that is searched stands on a stack of frames, with the children of all of them in one list. The work
-//! goes down to the child with the least number for its mover, and comes back where the child is settled or its numbers
-//! reach their thresholds; its own children are kept, so that it need not be expanded again where the work comes back to
-//! it. A settled state becomes a proof, which is used again wherever its conditions on the past hold.
+//! The line of play that is searched is a stack of frames, with the children of all of them in one list. The work goes down to the
+//! child with the least number for the mover, and comes back when the child is settled or its numbers reach their thresholds. Its
+//! own children are kept, so it need not be expanded again when the work comes back to it. A settled state becomes a proof, which
+//! is used again wherever its conditions on the past hold.
 //!
-//! Nothing is promised of the numbers: what is found is put to the checker.
+//! Nothing is promised about the numbers: what is found is given to the checker.
 
 ghost use Rattle.std.specs.Prelude.{◌≡◌, ◌≤◌, ◌<◌, ◌+◌, IfErr};
 ghost use Rattle.state_proofs.specs.declared.stop.Stop.TheVariants.{Steps};
@@ -20,8 +20,8 @@ use std::alloc::{AllocError, Global};
 use std::num::NonZeroUsize;
 use target_game::Problem;
 
-/// The most rounds between two steps. Each takes a frame away, settles a child, or goes down to one whose children were
-/// kept and whose numbers are below its thresholds, so there are fewer of them.
+/// More rounds than there are between two steps. Each round removes a frame, settles a child, or goes down to a child whose
+/// children were kept and whose numbers are below its thresholds, so there are fewer than this.
 const MAX_ROUNDS: u32 = 1_000_000;
 
 /// A search, between two steps.
@@ -42,7 +42,7 @@ pub struct Search {
     pub(crate) barred: Vec<u64>,
 }
 
-/// What is to be done after a round.
+/// What has to be done after a round.
 #[derive(Clone, Copy)]
 enum Round {
     /// Another round.
@@ -54,7 +54,7 @@ enum Round {
 }
 
 impl Search {
-    /// A search that knows nothing, at the start of the problem.
+    /// A search that knows nothing yet, at the start of the problem.
     pub fn of(
         alloc: Global,
         problem: &Problem,
@@ -78,8 +78,7 @@ impl Search {
         side == self.attacker
     }
 
-    /// Searches the state at the end of the line until it is settled or no more steps than `floor` are left. The line is
-    /// then as it was.
+    /// Searches the state at the end of the line until it is settled or at most `floor` steps are left. The line is then as it was.
     pub fn settle(&mut self, floor: u64, left: &mut u64) -> Result<u32, Stop>
         requires floor { floor ≤ left.old }
         ensures fewer { left.new ≤ left.old }
@@ -143,7 +142,7 @@ impl Search {
         Ok(())
     }
 
-    /// The child by this turn, which leads to this position, where the attacker has won if this is so.
+    /// The child after this turn, which leads to this position. `attacker_wins` says whether the attacker has won there.
     fn child_by(&mut self, turn: Turn, position: u64, attacker_wins: bool) -> Child {
         let end = self.line.end();
         let made = turn;
@@ -188,7 +187,7 @@ impl Search {
         Some((proof.winner, number))
     }
 
-    /// Expands the state at the end of the line, and goes on until another is to be expanded or the first is settled.
+    /// Expands the state at the end of the line, and goes on until another state has to be expanded or the first is settled.
     fn step(&mut self, thresholds: Thresholds) -> Result<Round, Refusal> {
         self.expand(thresholds)?;
         for _ in 0..MAX_ROUNDS {
@@ -197,7 +196,7 @@ impl Search {
                 return Ok(round);
             }
         }
-        // There are fewer rounds, so this is never so.
+        // There are fewer rounds, so this never happens.
         Err(Refusal::Fault)
     }
 
@@ -247,7 +246,7 @@ impl Search {
         }
     }
 
-    /// Takes the last frame off.
+    /// Removes the last frame.
     fn leave(&mut self, frame: Frame) {
         self.frames.pop();
         self.children.truncate(frame.first);
@@ -259,7 +258,7 @@ impl Search {
     /// Leaves the last frame, which is not settled, with these numbers.
     fn leave_open(&mut self, frame: Frame, numbers: MoverNumbers) {
         let is_attacker = frame.key.mover == self.attacker;
-        // Where memory is refused the table does without.
+        // If memory is refused, the table does without.
         let _stored = self.table.store(frame.key, numbers.for_table(is_attacker));
         let kept = self.keep_children(frame);
         self.leave(frame);
@@ -286,7 +285,7 @@ impl Search {
         }
     }
 
-    /// Goes down to the child with the least number, or settles it where it has been proved meanwhile.
+    /// Goes down to the child with the least number, or settles it if it has been proved in the meantime.
     fn go_down(&mut self, frame: Frame, count: Count) -> Result<Round, Refusal> {
         let place = frame.first.saturating_add(count.best);
         let Some(child) = self.children.get(place).copied() else {
@@ -319,8 +318,8 @@ impl Search {
         Ok(Round::Expand(thresholds))
     }
 
-    /// Adds the frame of the state at the end of the line with the children that were kept of it, and with what has become
-    /// known of them; whether they all still are. It is no step: nothing is expanded.
+    /// Adds the frame of the state at the end of the line with its kept children, and with what has become known of them. Returns
+    /// whether they are all still kept. It is not a step, since nothing is expanded.
     fn open_again(&mut self, kept: KeptState, thresholds: Thresholds) -> Result<bool, AllocError> {
         let first = self.children.len();
         for place in 0..kept.count {
@@ -339,7 +338,7 @@ impl Search {
         Ok(true)
     }
 
-    /// Adds the child of this place with what is known of it now, if it is still kept.
+    /// Adds the child at this place with what is known of it now, if it is still kept.
     fn add_kept(&mut self, kept: KeptState, place: usize) -> Result<bool, AllocError> {
         let Some(child) = self.kept.get(kept, place) else {
             return Ok(false);
@@ -357,7 +356,7 @@ impl Search {
         Ok(true)
     }
 
-    /// What is known of a child now that had this outcome.
+    /// What is now known of a child that had this outcome.
     fn outcome_now(&mut self, key: Key, outcome: Outcome) -> Outcome {
         if !matches!(outcome, Outcome::Open(_)) {
             return outcome;

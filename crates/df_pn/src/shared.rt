@@ -5,18 +5,18 @@ ghost use Rattle.state_proofs.specs.declared.stop.Stop.TheVariants.{Steps};
 
 use crate::search::Search;
 use crate::smaller::Smaller;
-use state_proofs::{Refusal, Shared, Stop, share};
+use state_proofs::{Answers, Refusal, Shared, Stop, share, steps_for_smaller};
 use std::alloc::Global;
 use std::num::NonZeroUsize;
 use target_game::Problem;
 
-/// The proofs that the search finds with a table of so many states, made smaller by the steps that are then left, where a small
-/// answer is wanted. Each step is one expansion.
+/// The proofs that the search finds with a table of this many states, made smaller if a small answer is wanted. Each step is one
+/// expansion.
 pub fn prove(
     alloc: Global,
     problem: &Problem,
     table: NonZeroUsize,
-    wants_small: bool,
+    answers: Answers,
     left: &mut u64,
 ) -> Result<Shared, Stop>
     ensures fewer { left.new ≤ left.old }
@@ -25,12 +25,19 @@ pub fn prove(
     let Ok(mut search) = Search::of(alloc, problem, table) else {
         return Err(Stop::Refused(Refusal::Memory));
     };
+    let before = *left;
     let found = search.settle(0, left)?;
+    let used = before - *left;
     let mut smaller = Smaller::of(alloc, search);
-    let root = if wants_small {
-        smaller.shrink(found, left)
-    } else {
-        found
+    let root = match answers {
+        Answers::First => found,
+        Answers::Small => {
+            let mut own = steps_for_smaller(used).min(*left);
+            let rest = *left - own;
+            let root = smaller.shrink(found, &mut own);
+            *left = rest + own;
+            root
+        }
     };
     match shared(alloc, smaller, root) {
         Ok(shared) => Ok(shared),

@@ -1,7 +1,7 @@
-//! A smaller answer, by the steps that are left after a proof is found.
+//! A smaller answer, found with the steps that are left after a proof is found.
 //!
-//! Each round walks the proof along the real line of play, and puts smaller proofs in place of larger ones: for a state one
-//! that was made elsewhere and holds here, for the winner's turn another one that a short search shows to win as well.
+//! Each round walks the proof along the real line of play, and puts smaller proofs in place of larger ones: for a state, one that
+//! was made elsewhere and holds here; for the winner's turn, another turn that a short search shows to win as well.
 
 ghost use Rattle.std.specs.Prelude.{◌≤◌};
 
@@ -12,26 +12,26 @@ use indexmap::IndexMap;
 use state_proofs::{Below, Branch, Form, Proof, Refusal, Settled, Stop};
 use std::alloc::{AllocError, Global};
 
-/// A proof of so many turns is left as it is.
+/// A proof of at most this many turns is left as it is.
 const FEW_TURNS: u64 = 2;
 
-/// In a proof of more turns than this the winner's other turns are searched, each by at most so many steps.
+/// In a proof of more turns than this, the winner's other turns are searched, each with at most this many steps.
 const MAX_TRIED: u64 = 20;
 
-/// A state of the line whose proof is made smaller.
+/// A state of the line whose proof is being made smaller.
 #[derive(Clone, Copy)]
 struct Visit {
     /// The proof that is walked, and its number.
     number: u32,
     proof: Proof,
-    /// The place of the turn that is asked of next.
+    /// The place of the turn that the next question is about.
     next: usize,
     /// Where its turns, its new branches and its barred positions begin.
     asked: usize,
     made: usize,
     barred: usize,
-    /// Where the mover wins, the best turn that is smaller than the proof's own, with the position after it, and the
-    /// turns of the tree by it.
+    /// If the mover wins, the best turn that gives a smaller tree than the proof's own, with the position after it and the turns of
+    /// its tree.
     best: Option<(Branch, u64)>,
     least: u64,
 }
@@ -61,8 +61,8 @@ impl Smaller {
         }
     }
 
-    /// A smaller proof than this one of the first state: rounds until one gains less than a hundredth, or no step is left.
-    /// Where memory is refused the last one stands.
+    /// A smaller proof of the first state than this one. It makes rounds until one gains less than a hundredth or no step is left.
+    /// If memory is refused, the last proof stays.
     pub(crate) fn shrink(&mut self, root: u32, left: &mut u64) -> u32
         ensures { left.new ≤ left.old }
     {
@@ -89,7 +89,7 @@ impl Smaller {
         self.search.proofs.turns_below(Below::Proof(number))
     }
 
-    /// One round from the first state: its proof then.
+    /// One round from the first state. Returns its proof after the round.
     fn round(&mut self, root: u32, left: &mut u64) -> Result<u32, Refusal>
         ensures { left.new ≤ left.old }
     {
@@ -112,7 +112,7 @@ impl Smaller {
         Err(Refusal::Fault)
     }
 
-    /// Asks the next question of the last state, or makes its proof: the proof of the state at the end of the line, once
+    /// Asks the next question of the last state, or makes its proof. Returns the proof of the state at the end of the line once
     /// there is one.
     fn go_on(&mut self, left: &mut u64) -> Result<Option<u32>, Refusal>
         ensures { left.new ≤ left.old }
@@ -139,7 +139,7 @@ impl Smaller {
         }
     }
 
-    /// The better proof of this one that was made in the round, where it holds at the end of the line.
+    /// The better proof that this one became in the round, if it holds at the end of the line.
     fn known(&self, number: u32) -> Option<u32> {
         let better = self.better.get(&number).copied()?;
         if self.search.proofs.holds_at(better, self.search.line.past()) {
@@ -149,7 +149,7 @@ impl Smaller {
         }
     }
 
-    /// Begins with the proof of the state at the end of the line; or the proof that stands for it at once.
+    /// Begins with the proof of the state at the end of the line, or returns the proof that can replace it at once.
     fn enter(&mut self, number: u32, left: &mut u64) -> Result<Option<u32>, Refusal>
         ensures { left.new ≤ left.old }
     {
@@ -200,7 +200,7 @@ impl Smaller {
         Ok(())
     }
 
-    /// Who wins after the turn, by which proof: one that is known, or, in a proof of many turns, one that a few steps find.
+    /// Who wins after the turn, and by which proof: one that is known, or, in a proof of many turns, one that a few steps find.
     fn found_after(
         &mut self,
         turns: u64,
@@ -237,7 +237,7 @@ impl Smaller {
         }
     }
 
-    /// Takes the proof of the state after the turn that was asked of, or a smaller one that was made elsewhere.
+    /// Takes the proof of the state after the turn that the question was about, or a smaller one that was made elsewhere.
     fn take_smallest(&mut self, number: u32) -> Result<(), Refusal> {
         let Some(visit) = self.visits.last().copied() else {
             return Err(Refusal::Fault);
@@ -255,7 +255,7 @@ impl Smaller {
         self.take(visit, asked, Below::Proof(smallest))
     }
 
-    /// Takes this for the turn that was asked of.
+    /// Takes this for the turn that the question was about.
     fn take(&mut self, visit: Visit, asked: Asked, below: Below) -> Result<(), Refusal> {
         let branch = Branch {
             turn: asked.turn,
@@ -269,7 +269,7 @@ impl Smaller {
         Ok(())
     }
 
-    /// Prefers the winner's turn, where it is smaller than those before.
+    /// Prefers the winner's turn, if it gives a smaller tree than those before.
     fn prefer(&mut self, visit: Visit, branch: Branch, position: u64) {
         let turns = self
             .search
@@ -283,7 +283,7 @@ impl Smaller {
         }
     }
 
-    /// Turns to the next question of the last state.
+    /// Goes on to the next question of the last state.
     fn pass_on(&mut self) {
         let last = self.visits.len().saturating_sub(1);
         if last < self.visits.len() {
@@ -291,7 +291,7 @@ impl Smaller {
         }
     }
 
-    /// Takes the last state off, all of whose questions are answered: its proof then.
+    /// Removes the last state, all of whose questions are answered, and returns its proof.
     fn leave(&mut self, visit: Visit) -> Result<u32, AllocError> {
         let before = visit.number;
         let asked = visit.asked;
@@ -350,7 +350,7 @@ fn settled_as(proof: Proof) -> Settled {
     }
 }
 
-/// Whether the same proofs stand after the branches.
+/// Whether the same proofs are below the branches.
 fn is_same(made: &[Branch], branches: &[Branch]) -> bool {
     if made.len() != branches.len() {
         return false;

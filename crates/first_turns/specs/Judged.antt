@@ -1,4 +1,4 @@
--- What is found of a first turn.
+-- What is found about a first turn.
 use Rattle.std.specs.Prelude.{◌≡◌, ℕ, ◌+◌, Bool, true, false, List, [], ◌∷◌, ◌++◌, length, map, nat_lt, nat_eq, if◌then◌else◌, Some, Ok}
 use Rattle.go_points.specs.declared.Cell.{Cell}
 use Rattle.go_points.specs.Grid.{opponent_of}
@@ -17,7 +17,7 @@ use Rattle.first_turns.specs.declared.found.Found.{Found}
 use Rattle.first_turns.specs.declared.found.Solution.{Solution}
 use Rattle.first_turns.specs.declared.found.Solution.TheVariants as solutions
 
--- the problem of this history and this place, the other side to move, with the targets and the region of another problem
+-- the problem with this history and this place, with the other side to move, and with the targets and the region of another problem
 abbrev pub IsProblemWith : GameProblem → List (List Cell) → ℕ → ℕ → GameProblem → Type 0
 IsProblemWith q history place passes later =
     (targets : List Place) × (region : List Place)
@@ -30,9 +30,9 @@ IsProblemAfter q pass later = IsProblemWith q q.history q.place (q.passes + 1) l
 IsProblemAfter q (move p) later =
     IsProblemWith q (q.history ++ after_move q.game.size (start q).colouring q.mover p ∷ []) (length q.history) 0 later
 
--- A turn by which the mover wins has a checked claim of the problem itself that begins with it. One that is refuted has a
--- checked claim of the other side, of the problem after it; one that ends the game has lost it at once. Of one that is
--- unknown nothing is said.
+-- A turn by which the mover wins has a checked claim for the problem itself that begins with it. A turn that is refuted has a
+-- checked claim of the other side for the problem after it; a turn that ends the game has lost it at once. Nothing is said about a
+-- turn that is unknown.
 abbrev pub IsJudged : GameProblem → Ply → Judged → Type 0
 IsJudged q t (judged.Right checked) =
     (checked.problem ≡ q) × ((claim_of checked.certificate).winner ≡ q.mover) × (first_turn (claim_of checked.certificate) (start q) ≡ Some t)
@@ -48,7 +48,7 @@ AreJudged q (t ∷ ts) (f ∷ fs) = (ply_of q.game.size f.turn ≡ t) × IsJudge
 AreJudged q [] (f ∷ fs) = ⊥
 AreJudged q (t ∷ ts) [] = ⊥
 
--- Whether the mover wins by a turn, and whether nothing is known of it.
+-- Whether the mover wins by a turn, and whether nothing is known about it.
 abbrev pub is_right : Judged → Bool
 is_right (judged.Right checked) = true
 is_right (judged.Refuted checked) = false
@@ -61,13 +61,13 @@ is_unknown (judged.Refuted checked) = false
 is_unknown judged.Ends = false
 is_unknown judged.Unknown = true
 
--- How many of the turns were judged so.
+-- How many of the turns were judged in this way.
 abbrev pub count : (Judged → Bool) → List Found → ℕ
 count test [] = 0
 count test (f ∷ fs) = (if test f.judged then 1 else 0) + count test fs
 
--- What is known of the solution, by how many turns win and how many are unknown: it is unique where one turn wins, and
--- every other turn is known to lose.
+-- What is known about the solution, from how many turns win and how many are unknown: it is unique if one turn wins and every other
+-- turn is known to lose.
 abbrev pub solution_of : ℕ → ℕ → Solution
 solution_of winning unknown =
     if nat_lt 0 unknown then solutions.Open

@@ -1,7 +1,8 @@
 //! Claims that begin with a turn.
 
 use go_points::{Colour, Size, Turn};
-use proof_cert::{Certificate, Lemma, Node, Version};
+use proof_cert::{Certificate, Lemma, MAX_DEPTH, Node, Version};
+use solution_tree::Answer;
 use std::alloc::{AllocError, Global};
 
 /// The claim that this side wins by the turn, after which it has won.
@@ -20,7 +21,7 @@ pub(crate) fn winning_turn(
     })
 }
 
-/// The claim that begins with the turn and goes on as another.
+/// The claim that begins with the turn and goes on like another claim.
 pub(crate) fn turn_before(
     alloc: Global,
     turn: Turn,
@@ -36,7 +37,50 @@ pub(crate) fn turn_before(
     })
 }
 
-/// The same lemmas.
+/// The claim that this side wins by the answer tree, without lemmas. `None` if a line of the tree is too long for a claim.
+pub(crate) fn claim_by(
+    alloc: Global,
+    size: Size,
+    winner: Colour,
+    answer: &Answer,
+) -> Result<Option<Certificate>, AllocError> {
+    let Some(main) = node_by(alloc, answer, MAX_DEPTH)? else {
+        return Ok(None);
+    };
+    Ok(Some(Certificate {
+        version: Version::One,
+        size,
+        winner,
+        lemmas: Vec::new(alloc),
+        main,
+    }))
+}
+
+/// The answer tree as a node. `None` if it is deeper than `depth` nodes; it recurses no deeper than that.
+fn node_by(alloc: Global, answer: &Answer, depth: u32) -> Result<Option<Node>, AllocError> {
+    if depth == 0 {
+        return Ok(None);
+    }
+    match answer {
+        Answer::Won => Ok(Some(Node::Won)),
+        Answer::Turn(turn, below) => match node_by(alloc, below, depth - 1)? {
+            Some(node) => Ok(Some(Node::Play(*turn, Box::new(alloc, node)?))),
+            None => Ok(None),
+        },
+        Answer::Replies(replies) => {
+            let mut nodes = Vec::new(alloc);
+            for (turn, below) in replies {
+                let Some(node) = node_by(alloc, below, depth - 1)? else {
+                    return Ok(None);
+                };
+                nodes.push((*turn, node))?;
+            }
+            Ok(Some(Node::All(nodes)))
+        }
+    }
+}
+
+/// A copy of the lemmas.
 fn copy_lemmas(alloc: Global, lemmas: &[Lemma]) -> Result<Vec<Lemma>, AllocError> {
     let mut copy = Vec::new(alloc);
     for i in 0..lemmas.len() {
@@ -45,7 +89,7 @@ fn copy_lemmas(alloc: Global, lemmas: &[Lemma]) -> Result<Vec<Lemma>, AllocError
     Ok(copy)
 }
 
-/// The same lemma.
+/// A copy of the lemma.
 fn copy_lemma(alloc: Global, lemma: &Lemma) -> Result<Lemma, AllocError> {
     Ok(Lemma {
         mover: lemma.mover,
@@ -57,7 +101,7 @@ fn copy_lemma(alloc: Global, lemma: &Lemma) -> Result<Lemma, AllocError> {
     })
 }
 
-/// The same tree. It recurses as deep as the claim is, which is 2,000 at most.
+/// A copy of the tree. It recurses as deep as the claim is, which is at most 2,000.
 fn copy_node(alloc: Global, node: &Node) -> Result<Node, AllocError> {
     match node {
         Node::Won => Ok(Node::Won),

@@ -1,40 +1,51 @@
-//! What is found of all first turns, and of the solution.
+//! What is found about all turns of a problem, and about the solution.
 
 ghost use Rattle.std.specs.Prelude.{◌≡◌, IfOk};
 ghost use Rattle.target_game.specs.Legal.{legal_turns};
 ghost use Rattle.target_game.specs.State.{start};
 ghost use Rattle.first_turns.specs.Judged.{AreJudged, count, is_right, is_unknown, solution_of};
 
-use crate::judged::{Judged, judge};
-use crate::names::{turn_name, worth_name};
+use crate::judged::{Judged, judge_with};
+use crate::names::{Names, before_text, turn_name, worth_name};
 use go_points::Turn;
 use pn_search::Budget;
 use sgf_text::write_bytes;
+use solution_tree::Answer;
 use std::alloc::{AllocError, Global};
 use std::io::Write;
 use target_game::{PlayState, Problem, TurnsLeft};
 
-/// A legal first turn, and what is found of it.
+/// How turns are judged and told.
+#[derive(Clone, Copy, Debug)]
+pub(crate) struct Settings {
+    /// The budget of the search after each turn.
+    pub(crate) budget: Budget,
+    pub(crate) names: Names,
+    /// Whether each turn is told on standard error when it has been judged.
+    pub(crate) progress: bool,
+}
+
+/// A legal turn, and what is found about it.
 #[derive(Drop)]
 pub(crate) struct Found {
     pub(crate) turn: Turn,
     pub(crate) judged: Judged,
 }
 
-/// What is known of the solution.
+/// What is known about the solution.
 #[derive(Clone, Copy, Debug, PartialEq, Eq)]
 pub(crate) enum Solution {
     /// One turn wins, and every other turn is known to lose.
     Unique,
-    /// Several turns win, and of every turn it is known who does.
+    /// Several turns win, and for every turn it is known who wins.
     Several,
     /// Every turn is known to lose.
     Lost,
-    /// Of some turn nothing is known.
+    /// Nothing is known about some turn.
     Open,
 }
 
-/// How many of the turns win, of how many nothing is known, and what that says of the solution.
+/// How many of the turns win, about how many nothing is known, and what that says about the solution.
 #[derive(Clone, Copy, Debug)]
 pub(crate) struct Tally {
     pub(crate) solution: Solution,
@@ -42,13 +53,14 @@ pub(crate) struct Tally {
     pub(crate) unknown: usize,
 }
 
-/// What is found of each legal first turn of the problem, points ascending and then the pass, with a budget for each.
-/// With `is_told` a line for each goes to `notes` at once.
+/// What is found about each legal turn of the mover, points ascending and then the pass, with a budget for each. A turn whose
+/// answer tree is known needs no search. `before` are the turns since the first problem, which notes name.
 pub(crate) fn judge_turns<N: Write>(
     alloc: Global,
     problem: &Problem,
-    budget: Budget,
-    is_told: bool,
+    before: &[Turn],
+    known: Option<&Answer>,
+    settings: &Settings,
     notes: &mut N,
 ) -> Result<Vec<Found>, AllocError>
     ensures { IfOk result
@@ -60,12 +72,13 @@ pub(crate) fn judge_turns<N: Write>(
     let mut found = Vec::new(alloc);
     let mut turns_left = TurnsLeft::all();
     while let Some(turn) = state.next_left(&mut turns_left) {
-        // The prover takes a turn that was passed on as moved.
+        // The prover treats a turn that was passed on as moved.
         let same = turn;
         let again = turn;
-        let judged = judge(alloc, problem, &state, turn, budget)?;
-        if is_told {
-            tell(alloc, found.len(), count, same, &judged, notes)?;
+        let judged = judge_with(alloc, problem, &state, turn, known, settings.budget)?;
+        if settings.progress {
+            let place = place_text(alloc, settings, before, found.len(), count)?;
+            tell(alloc, settings, place.as_str(), same, &judged, notes)?;
         }
         found.push(Found {
             turn: again,
@@ -75,24 +88,36 @@ pub(crate) fn judge_turns<N: Write>(
     Ok(found)
 }
 
-/// Says on `notes` how far the run is; that a note cannot be written counts for nothing.
-fn tell<N: Write>(
+/// How far the turns after these are: `after dc eb: 2 of 5`.
+fn place_text(
     alloc: Global,
+    settings: &Settings,
+    before: &[Turn],
     done: usize,
     count: usize,
+) -> Result<String, AllocError> {
+    let after = before_text(alloc, &settings.names, before)?;
+    let number = done.saturating_add(1);
+    format!(in alloc; "{after}{number} of {count}")
+}
+
+/// Says on `notes` how far the run is. It does not matter if a note cannot be written.
+fn tell<N: Write>(
+    alloc: Global,
+    settings: &Settings,
+    place: &str,
     turn: Turn,
     judged: &Judged,
     notes: &mut N,
 ) -> Result<(), AllocError> {
-    let name = turn_name(alloc, turn)?;
+    let name = turn_name(alloc, &settings.names, turn)?;
     let worth = worth_name(judged);
-    let number = done.saturating_add(1);
-    let line = format!(in alloc; "first_moves: {number} of {count}: {name} {worth}\n")?;
+    let line = format!(in alloc; "first_moves: {place}: {name} {worth}\n")?;
     let _ = write_bytes(line.as_bytes(), notes);
     Ok(())
 }
 
-/// What the turns say of the solution.
+/// What the turns say about the solution.
 pub(crate) fn counted(found: &[Found]) -> Tally
     ensures winning { result.winning ≡ count is_right found.now }
     ensures unknown { result.unknown ≡ count is_unknown found.now }
@@ -116,7 +141,7 @@ pub(crate) fn counted(found: &[Found]) -> Tally
     }
 }
 
-/// What so many winning and so many unknown turns say of the solution.
+/// What these numbers of winning and unknown turns say about the solution.
 fn solution_of(winning: usize, unknown: usize) -> Solution
     ensures { result ≡ solution_of winning unknown }
 {

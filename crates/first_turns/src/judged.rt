@@ -1,4 +1,4 @@
-//! What is found of a first turn.
+//! What is found about a first turn.
 
 ghost use Rattle.std.specs.Prelude.{◌≡◌, ◌+◌, IfOk, IfSome, None};
 ghost use Rattle.go_points.specs.Move.{after_move};
@@ -8,15 +8,16 @@ ghost use Rattle.target_game.specs.State.{start};
 ghost use Rattle.first_turns.specs.declared.judged.Judged.TheVariants.{Unknown};
 ghost use Rattle.first_turns.specs.Judged.{IsProblemWith, IsProblemAfter, IsJudged};
 
-use crate::claim::{turn_before, winning_turn};
+use crate::claim::{claim_by, turn_before, winning_turn};
 use cert_check::{Checked, Why, check_held};
 use go_points::{Colouring, Point, Turn};
 use pn_search::{Budget, Cause, Verdict, solve};
 use proof_cert::Certificate;
+use solution_tree::Answer;
 use std::alloc::{AllocError, Global};
 use target_game::{PlayState, Problem, State};
 
-/// What is found of a legal first turn.
+/// What is found about a legal first turn.
 #[derive(Drop)]
 pub(crate) enum Judged {
     /// The mover wins by it: a claim for the problem itself, which begins with the turn.
@@ -29,7 +30,7 @@ pub(crate) enum Judged {
     Unknown,
 }
 
-/// The problem of this history with the other side to move.
+/// The problem with this history and the other side to move.
 fn problem_with(
     problem: &Problem,
     history: Vec<Colouring>,
@@ -47,8 +48,8 @@ fn problem_with(
     }
 }
 
-/// The problem after the turn; none where there is none.
-fn problem_after(
+/// The problem after the turn. `None` if there is no such problem.
+pub(crate) fn problem_after(
     alloc: Global,
     problem: &Problem,
     state: &PlayState,
@@ -76,7 +77,7 @@ fn problem_after(
     }
 }
 
-/// The colouring after the mover's move at the point; none where it is no empty point of the region.
+/// The colouring after the mover's move at the point. `None` if it is not an empty point of the region.
 fn colouring_after(state: &PlayState, point: Point) -> Option<Colouring>
     requires { IsOn state.now.state.game.size point }
     ensures { IfSome result
@@ -90,7 +91,7 @@ fn colouring_after(state: &PlayState, point: Point) -> Option<Colouring>
     }
 }
 
-/// What is found of a first turn, with a budget of its own.
+/// What is found about a first turn, with a budget of its own.
 pub(crate) fn judge(
     alloc: Global,
     problem: &Problem,
@@ -122,7 +123,67 @@ pub(crate) fn judge(
     }
 }
 
-/// What a search finds of the problem after a turn.
+/// What is found about a turn of which an answer tree may be known. If the tree begins with the turn, the claim that it spells is
+/// checked first, and there is a search only if it spells none or the checker refuses it.
+pub(crate) fn judge_with(
+    alloc: Global,
+    problem: &Problem,
+    state: &PlayState,
+    turn: Turn,
+    known: Option<&Answer>,
+    budget: Budget,
+) -> Result<Judged, AllocError>
+    requires { state.now.state ≡ start problem.now }
+    ensures { IfOk result
+        (λ found. IsJudged problem.now (ply_of problem.now.game.size turn) found) }
+{
+    // The prover takes a turn that was passed on as moved.
+    let same = turn;
+    let again = turn;
+    if let Some(answer) = known {
+        if begins_with(answer, turn) {
+            let found = by_answer(alloc, problem, same, answer)?;
+            if !is_unknown(&found) {
+                return Ok(found);
+            }
+        }
+    }
+    judge(alloc, problem, state, again, budget)
+}
+
+/// Whether the answer tree begins with this turn of the side that wins.
+fn begins_with(answer: &Answer, turn: Turn) -> bool {
+    match answer {
+        Answer::Turn(first, _) => *first == turn,
+        _ => false,
+    }
+}
+
+/// Whether nothing is known.
+fn is_unknown(judged: &Judged) -> bool {
+    match judged {
+        Judged::Unknown => true,
+        _ => false,
+    }
+}
+
+/// What an answer tree that begins with the turn shows.
+fn by_answer(
+    alloc: Global,
+    problem: &Problem,
+    turn: Turn,
+    answer: &Answer,
+) -> Result<Judged, AllocError>
+    ensures { IfOk result
+        (λ found. IsJudged problem.now (ply_of problem.now.game.size turn) found) }
+{
+    match claim_by(alloc, problem.size(), problem.mover(), answer)? {
+        Some(claim) => confirmed(alloc, problem, turn, claim),
+        None => Ok(Judged::Unknown),
+    }
+}
+
+/// What a search finds about the problem after a turn.
 fn searched(
     alloc: Global,
     problem: &Problem,
@@ -150,7 +211,7 @@ fn searched(
     }
 }
 
-/// The claim as one for the problem itself, where the checker accepts it, the mover wins by it, and it begins with the turn.
+/// The claim as one for the problem itself, if the checker accepts it, the mover wins by it, and it begins with the turn.
 fn confirmed(
     alloc: Global,
     problem: &Problem,
@@ -167,7 +228,7 @@ fn confirmed(
     }
 }
 
-/// What is found where the checker refuses a claim: nothing, unless memory was refused.
+/// What is found if the checker refuses a claim: nothing is known, unless memory was refused.
 fn without_claim(why: Why) -> Result<Judged, AllocError>
     ensures { IfOk result (λ found. found ≡ Unknown) }
 {
@@ -177,7 +238,7 @@ fn without_claim(why: Why) -> Result<Judged, AllocError>
     }
 }
 
-/// The same, where it is accepted.
+/// Like `confirmed`, for a claim that was accepted.
 fn begun(problem: &Problem, turn: Turn, checked: Checked) -> Judged
     requires { checked.problem ≡ problem.now }
     ensures { IsJudged problem.now (ply_of problem.now.game.size turn) result }

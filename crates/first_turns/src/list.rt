@@ -2,28 +2,72 @@
 
 use crate::found::{Found, Solution, Tally};
 use crate::judged::Judged;
-use crate::names::{turn_name, worth_name};
+use crate::line::Line;
+use crate::line_solution::{LineSolution, line_solution};
+use crate::names::{Names, before_text, quoted_turns, turn_name, worth_name};
+use go_points::Turn;
 use std::alloc::{AllocError, Global};
 
-/// A line for each turn, and one of the solution.
-pub(crate) fn listed(alloc: Global, found: &[Found], tally: Tally) -> Result<String, AllocError> {
+/// A line for each turn, one for the solution, and one for the line of play if that was judged.
+pub(crate) fn listed(
+    alloc: Global,
+    names: &Names,
+    found: &[Found],
+    tally: Tally,
+    line: Option<&Line>,
+) -> Result<String, AllocError> {
     let mut text = String::new(alloc);
-    for one in found {
-        let name = turn_name(alloc, one.turn)?;
-        let worth = worth_name(&one.judged);
-        write!(text, "{name} {worth}\n")?;
+    push_turns(alloc, &mut text, names, &[], found)?;
+    if let Some(line) = line {
+        for later in &line.later {
+            let before = later.position.turns.as_slice();
+            push_turns(alloc, &mut text, names, before, later.found.as_slice())?;
+        }
     }
-    let last = tally_text(alloc, tally)?;
+    let last = solution_text(alloc, tally, line)?;
     write!(text, "{last}\n")?;
     Ok(text)
 }
 
-/// What is said of the solution.
-pub(crate) fn tally_text(alloc: Global, tally: Tally) -> Result<String, AllocError> {
+/// Appends a line for each of the turns after these.
+fn push_turns(
+    alloc: Global,
+    text: &mut String,
+    names: &Names,
+    before: &[Turn],
+    found: &[Found],
+) -> Result<(), AllocError> {
+    let after = before_text(alloc, names, before)?;
+    for one in found {
+        let name = turn_name(alloc, names, one.turn)?;
+        let worth = worth_name(&one.judged);
+        write!(text, "{after}{name} {worth}\n")?;
+    }
+    Ok(())
+}
+
+/// What is said about the solution, and in a second line about the line of play if that was judged.
+pub(crate) fn solution_text(
+    alloc: Global,
+    tally: Tally,
+    line: Option<&Line>,
+) -> Result<String, AllocError> {
+    let solution = tally_text(alloc, "solution", tally)?;
+    match line {
+        Some(line) => {
+            let said = line_text(alloc, tally, line)?;
+            format!(in alloc; "{solution}\n{said}")
+        }
+        None => Ok(solution),
+    }
+}
+
+/// What is said about the turns that were counted: `solution unique: 1 winning, 0 unknown`, where `what` is the first word.
+pub(crate) fn tally_text(alloc: Global, what: &str, tally: Tally) -> Result<String, AllocError> {
     let word = solution_name(tally.solution);
     let winning = tally.winning;
     let unknown = tally.unknown;
-    format!(in alloc; "solution {word}: {winning} winning, {unknown} unknown")
+    format!(in alloc; "{what} {word}: {winning} winning, {unknown} unknown")
 }
 
 fn solution_name(solution: Solution) -> &'static str {
@@ -35,21 +79,38 @@ fn solution_name(solution: Solution) -> &'static str {
     }
 }
 
-/// The same as JSON, an object a line. A turn that is refuted has the other side's first reply by that refutation.
+/// What is said about the line of play.
+fn line_text(alloc: Global, tally: Tally, line: &Line) -> Result<String, AllocError> {
+    match line_solution(tally, line.later.as_slice()) {
+        LineSolution::Unique(turns) => {
+            let end = if line.is_whole { ", its last" } else { "" };
+            format!(in alloc; "line unique to turn {turns}{end}")
+        }
+        LineSolution::Several(turn) => {
+            format!(in alloc; "line has several right moves at turn {turn}")
+        }
+        LineSolution::Open(turn, unknown) => {
+            format!(in alloc; "line open at turn {turn}: {unknown} unknown")
+        }
+        LineSolution::Lost => format!(in alloc; "no line: every first turn loses"),
+    }
+}
+
+/// The lines as JSON, with one object on each line. A turn that is refuted has the other side's first reply in that refutation.
 pub(crate) fn json_lines(
     alloc: Global,
+    names: &Names,
     found: &[Found],
     tally: Tally,
+    line: Option<&Line>,
 ) -> Result<String, AllocError> {
     let mut text = String::new(alloc);
-    for one in found {
-        let name = turn_name(alloc, one.turn)?;
-        let worth = worth_name(&one.judged);
-        let refutation = refutation(alloc, &one.judged)?;
-        write!(
-            text,
-            "{{\"turn\":\"{name}\",\"mover\":\"{worth}\"{refutation}}}\n"
-        )?;
+    push_objects(alloc, &mut text, names, &[], found)?;
+    if let Some(line) = line {
+        for later in &line.later {
+            let before = later.position.turns.as_slice();
+            push_objects(alloc, &mut text, names, before, later.found.as_slice())?;
+        }
     }
     let word = solution_name(tally.solution);
     let winning = tally.winning;
@@ -58,16 +119,65 @@ pub(crate) fn json_lines(
         text,
         "{{\"solution\":\"{word}\",\"winning\":{winning},\"unknown\":{unknown}}}\n"
     )?;
+    if let Some(line) = line {
+        let last = line_object(alloc, tally, line)?;
+        write!(text, "{{\"line\":{last}}}\n")?;
+    }
     Ok(text)
 }
 
+/// Puts an object for each of the turns after these at the end.
+fn push_objects(
+    alloc: Global,
+    text: &mut String,
+    names: &Names,
+    before: &[Turn],
+    found: &[Found],
+) -> Result<(), AllocError> {
+    let after = after_field(alloc, names, before)?;
+    for one in found {
+        let name = turn_name(alloc, names, one.turn)?;
+        let worth = worth_name(&one.judged);
+        let refutation = refutation(alloc, names, &one.judged)?;
+        write!(
+            text,
+            "{{{after}\"turn\":\"{name}\",\"mover\":\"{worth}\"{refutation}}}\n"
+        )?;
+    }
+    Ok(())
+}
+
+/// The field with the turns that come before, or nothing.
+fn after_field(alloc: Global, names: &Names, before: &[Turn]) -> Result<String, AllocError> {
+    if before.is_empty() {
+        return Ok(String::new(alloc));
+    }
+    let turns = quoted_turns(alloc, names, before)?;
+    format!(in alloc; "\"after\":[{turns}],")
+}
+
 /// The field with the reply that refutes a turn, or nothing.
-fn refutation(alloc: Global, judged: &Judged) -> Result<String, AllocError> {
+fn refutation(alloc: Global, names: &Names, judged: &Judged) -> Result<String, AllocError> {
     if let Judged::Refuted(checked) = judged {
         if let Some(reply) = checked.first_turn() {
-            let name = turn_name(alloc, reply)?;
+            let name = turn_name(alloc, names, reply)?;
             return format!(in alloc; ",\"refutation\":\"{name}\"");
         }
     }
     Ok(String::new(alloc))
+}
+
+/// What is said of the line of play, after its key.
+fn line_object(alloc: Global, tally: Tally, line: &Line) -> Result<String, AllocError> {
+    match line_solution(tally, line.later.as_slice()) {
+        LineSolution::Unique(turns) => {
+            let is_whole = line.is_whole;
+            format!(in alloc; "\"unique\",\"turn\":{turns},\"last\":{is_whole}")
+        }
+        LineSolution::Several(turn) => format!(in alloc; "\"several\",\"turn\":{turn}"),
+        LineSolution::Open(turn, unknown) => {
+            format!(in alloc; "\"open\",\"turn\":{turn},\"unknown\":{unknown}")
+        }
+        LineSolution::Lost => format!(in alloc; "\"none\""),
+    }
 }

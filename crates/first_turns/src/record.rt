@@ -4,7 +4,9 @@ ghost use Rattle.std.specs.Prelude.{◌≤◌, length};
 
 use crate::found::{Found, Tally};
 use crate::judged::Judged;
-use crate::list::tally_text;
+use crate::line::{Line, MOST_TURNS};
+use crate::line_record::with_line;
+use crate::list::solution_text;
 use cert_check::Checked;
 use go_points::Colour;
 use sgf_text::{SgfNode, Tree};
@@ -14,10 +16,7 @@ use target_game::Problem;
 use tool_parts::{copy_properties, push_nodes, push_trees, single};
 use tsumego_problem::{first_marked, marks_node, past_nodes, turn_node};
 
-/// The most turns of all answer trees of a record.
-const MOST_TURNS: usize = 90_000;
-
-/// The kinds of branches, in the order in which they stand.
+/// The kinds of branches, in the order in which they are written.
 #[derive(Clone, Copy, Debug, PartialEq, Eq)]
 enum Kind {
     Right,
@@ -26,29 +25,29 @@ enum Kind {
 }
 
 /// The record of the problem with a branch for each turn: first those that win (`TE[1]`), then those that lose (`BM[1]`)
-/// with their refutation, then those of which nothing is known (SGF FF[4], "Move annotation properties").
+/// with their refutation, then those about which nothing is known (SGF FF[4], "Move annotation properties"). In the first branch
+/// that wins, further right turns of the line are variations; their trees get the room that those of the branches leave.
 pub(crate) fn moves_record(
     alloc: Global,
     problem: &Problem,
     found: &[Found],
     tally: Tally,
+    line: Option<&Line>,
 ) -> Result<Tree, AllocError> {
     let mut nodes = past_nodes(alloc, problem)?;
     let marks = marks_node(alloc, problem)?;
-    let said = tally_text(alloc, tally)?;
+    let said = solution_text(alloc, tally, line)?;
     nodes.push(with_comment(alloc, &marks, None, said.as_str())?)?;
     let mut branches = Vec::new(alloc);
     let mut left = MOST_TURNS;
     for kind in [Kind::Right, Kind::Wrong, Kind::Unknown] {
         push_branches(alloc, problem, found, kind, &mut left, &mut branches)?;
     }
-    match Tree::new(nodes, branches) {
-        Some(tree) => Ok(tree),
-        None => Err(AllocError),
-    }
+    let branches = with_line(alloc, branches, line, &mut left)?;
+    tree_with(nodes, branches)
 }
 
-/// Puts the branches of this kind at the end.
+/// Appends the branches of this kind.
 fn push_branches(
     alloc: Global,
     problem: &Problem,
@@ -59,7 +58,7 @@ fn push_branches(
 ) -> Result<(), AllocError> {
     for one in found {
         if kind_of(&one.judged) == kind {
-            into.push(branch(alloc, problem, one, left)?)?;
+            into.push(branch(alloc, problem, one, "right", left)?)?;
         }
     }
     Ok(())
@@ -74,19 +73,20 @@ fn kind_of(judged: &Judged) -> Kind {
     }
 }
 
-/// The branch of a turn.
-fn branch(
+/// The branch of a turn; `right` is what a right one is called.
+pub(crate) fn branch(
     alloc: Global,
     problem: &Problem,
     one: &Found,
+    right: &str,
     left: &mut usize,
 ) -> Result<Tree, AllocError> {
     let turn = turn_node(alloc, problem.size(), problem.mover(), one.turn)?;
     let mover = problem.mover();
     match &one.judged {
         Judged::Right(checked) => {
-            let first = with_comment(alloc, &turn, Some(b"TE"), &said(alloc, "right", mover)?)?;
-            // The claim's own first turn is the branch's.
+            let first = with_comment(alloc, &turn, Some(b"TE"), &said(alloc, right, mover)?)?;
+            // The claim's own first turn is that of the branch.
             tree_of_claim(alloc, checked, 1, first, left)
         }
         Judged::Refuted(checked) => {
@@ -111,8 +111,8 @@ fn said(alloc: Global, word: &str, winner: Colour) -> Result<String, AllocError>
     format!(in alloc; "{word}: {side} wins")
 }
 
-/// The node with a comment and, where one is named, a mark of the turn.
-fn with_comment(
+/// The node with a comment and, if one is named, a mark for the turn.
+pub(crate) fn with_comment(
     alloc: Global,
     node: &SgfNode,
     mark: Option<&[u8]>,
@@ -136,15 +136,16 @@ fn single_node(alloc: Global, node: SgfNode) -> Result<Tree, AllocError> {
     tree_with(nodes, Vec::new(alloc))
 }
 
-fn tree_with(nodes: Vec<SgfNode>, children: Vec<Tree>) -> Result<Tree, AllocError> {
+/// The tree of these nodes and child trees.
+pub(crate) fn tree_with(nodes: Vec<SgfNode>, children: Vec<Tree>) -> Result<Tree, AllocError> {
     match Tree::new(nodes, children) {
         Some(tree) => Ok(tree),
         None => Err(AllocError),
     }
 }
 
-/// The node, and below it the answer tree of the claim but for so many nodes of its beginning. Where the tree is too large
-/// for what is left, the node alone.
+/// The node, and below it the answer tree of the claim without its first `skipped` nodes. If the tree is too large for what is
+/// left, only the node.
 fn tree_of_claim(
     alloc: Global,
     checked: &Checked,
@@ -168,7 +169,7 @@ fn tree_of_claim(
     tree_with(nodes, children)
 }
 
-/// The place after the problem node and so many more.
+/// The place after the problem node and this many more nodes.
 fn first_below(nodes: &[SgfNode], skipped: usize) -> usize
     ensures { result ≤ length nodes.now }
 {

@@ -7,31 +7,38 @@ use std::convert::AsStr;
 use tool_parts::{NoRequest, no_request};
 use tsumego_version::VERSION;
 
-/// The most steps that may be asked for.
+/// The greatest number of steps that may be asked for.
 const MOST_STEPS: u64 = 10_000_000;
 
-/// In what form the answer is written.
+/// The greatest number of turns of a line that may be asked for.
+const MOST_DEPTH: u64 = 50;
+
+/// The form in which the answer is written.
 #[derive(Clone, Copy, Debug, PartialEq, Eq)]
 pub(crate) enum Form {
     /// One SGF record with a branch for each turn.
     Record,
     /// A line for each turn.
     List,
-    /// The same as JSON, an object a line.
+    /// The lines as JSON, with one object on each line.
     Json,
 }
 
 /// What the words ask for.
 #[derive(Clone, Copy, Debug, PartialEq, Eq)]
 pub(crate) struct Request {
-    /// The most steps of the search after each turn.
+    /// The greatest number of steps of the search after each turn.
     pub(crate) steps: u64,
     pub(crate) form: Form,
-    /// Whether each turn is told on standard error when it has been judged.
+    /// How many of the mover's turns on the line are judged; with 1 it is the first turns alone.
+    pub(crate) depth: u64,
+    /// Whether points are named as at the edge of the board.
+    pub(crate) coordinates: bool,
+    /// Whether each turn is reported on standard error when it has been judged.
     pub(crate) progress: bool,
 }
 
-/// What the words ask for, the first of which is the program's name.
+/// What the words ask for. The first word is the program's name.
 pub(crate) fn read_request<'a, S: AsStr>(
     alloc: Global,
     words: &'a [S],
@@ -48,11 +55,13 @@ fn chosen(given: &ArgMatches<'_>) -> Request {
     Request {
         steps: given.get_one::<u64>("steps").unwrap_or(1),
         form: chosen_form(given),
+        depth: given.get_one::<u64>("depth").unwrap_or(1),
+        coordinates: given.get_one::<bool>("coordinates").unwrap_or(false),
         progress: given.get_one::<bool>("progress").unwrap_or(false),
     }
 }
 
-/// The form that is asked for; JSON where both others are named.
+/// The form that is asked for; JSON if both others are named.
 fn chosen_form(given: &ArgMatches<'_>) -> Form {
     if given.get_one::<bool>("json").unwrap_or(false) {
         return Form::Json;
@@ -70,8 +79,10 @@ fn program<'a>(alloc: Global) -> Result<clap::Command<'a>, AllocError> {
         )
         .version(VERSION);
     let program = program.arg(steps_argument(alloc))?;
+    let program = program.arg(depth_argument(alloc))?;
     let program = program.arg(list_argument(alloc))?;
     let program = program.arg(json_argument(alloc))?;
+    let program = program.arg(coordinates_argument(alloc))?;
     program.arg(progress_argument(alloc))
 }
 
@@ -82,6 +93,15 @@ fn steps_argument<'a>(alloc: Global) -> Arg<'a> {
         .value_name("N")
         .value_parser(ValueParser::unsigned(1, MOST_STEPS))
         .default_value("100000")
+}
+
+fn depth_argument<'a>(alloc: Global) -> Arg<'a> {
+    Arg::new(alloc, "depth")
+        .help("Judges the winner's turns on the line too, up to its Nth, 1 to 50")
+        .long("depth")
+        .value_name("N")
+        .value_parser(ValueParser::unsigned(1, MOST_DEPTH))
+        .default_value("1")
 }
 
 fn list_argument<'a>(alloc: Global) -> Arg<'a> {
@@ -95,6 +115,13 @@ fn json_argument<'a>(alloc: Global) -> Arg<'a> {
     Arg::new(alloc, "json")
         .help("Writes JSON, an object a line, in place of the record")
         .long("json")
+        .action(ArgAction::SetTrue)
+}
+
+fn coordinates_argument<'a>(alloc: Global) -> Arg<'a> {
+    Arg::new(alloc, "coordinates")
+        .help("Names points of lists and JSON as at the edge of the board, D17 for dc")
+        .long("coordinates")
         .action(ArgAction::SetTrue)
 }
 

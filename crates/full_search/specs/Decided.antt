@@ -1,6 +1,6 @@
 -- What full search answers.
 --     Shows x s k n      x wins s within k turns, and the tree n, which is no larger than the tree of all play, shows it
---     NoneWithin s steps      no side can force a win in so small a tree that these steps are enough
+--     NoneWithin s steps      no side can force a win in a tree that is so small that these steps are enough
 --     IsFirst x s n      the tree n shows that x wins s, within the fewest turns
 --     IsDecided s steps f      what full search of a problem's start answers
 use Rattle.std.specs.Prelude.{◌≡◌, ℕ, ◌+◌, ◌*◌, ◌<◌, ◌≤◌, true, false, [], Option, Some, None, IsTrue}
@@ -20,11 +20,12 @@ pub record Shows (x : Colour) (s : GameState) (k : ℕ) (n : claim.Node) : Type 
   pub depth : depth_of n ≤ k + 1
   pub wins : wins x s k ≡ true
 
--- No side can force a win within k ≤ 200 turns whose tree of all legal play is so small that k + 1 times its states are these steps.
+-- No side can force a win within any k ≤ 200 turns for which k + 1 times the number of states of the tree of all legal play is at
+-- most these steps.
 abbrev pub NoneWithin : GameState → ℕ → Type 0
 NoneWithin s steps = (x : Colour) (k : ℕ) → k ≤ 200 → IsTrue (wins x s k) → steps < (k + 1) * nodes s k
 
--- a tree of a win within k turns, where no side wins within less
+-- a tree of a win within k turns, if no side wins within fewer
 pub record IsFirst (x : Colour) (s : GameState) (n : claim.Node) : Type 0 where
   pub turns : ℕ
   pub few : turns ≤ 200

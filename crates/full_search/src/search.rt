@@ -1,8 +1,7 @@
-//! Full search: all legal play within 0, 1, 2 and so on turns, each depth anew.
+//! Full search: all legal play within 0, 1, 2 and so on turns, starting again at each depth.
 //!
-//! One pass over the states answers who wins and keeps the tree that shows it. It holds one path of play with the
-//! replies that were answered on it. A win within a few turns, in a small tree of play, is found whatever the search
-//! by proof numbers would do.
+//! One pass over the states finds who wins and keeps the tree that shows it. It holds one path of play with the replies that were
+//! answered on it. A win within a few turns, in a small tree of play, is found whatever the search by proof numbers would do.
 
 ghost use Rattle.std.specs.Prelude.{◌≡◌, ◌+◌, ◌≤◌, ◌&&◌, ◌-◌, ℕ, nat_eq, IsTrue, OnOk, IfOk, None};
 ghost use Rattle.go_points.specs.Grid.{same_colour};
@@ -27,7 +26,7 @@ pub(crate) enum Found {
     Wins(Colour, Node),
     /// Neither side wins within the turns that were searched.
     Open,
-    /// There was no step left for a state that was to be expanded, or more states were met than are promised to be searched.
+    /// There was no step left for a state that had to be expanded, or more states were met than are promised to be searched.
     OutOfSteps,
 }
 
@@ -36,17 +35,18 @@ pub(crate) enum Found {
 pub(crate) struct Tried {
     /// Whether neither side wins by one of them.
     is_open: bool,
-    /// The turns with the other side's trees, where it wins by all of them.
+    /// The turns with the other side's trees, if it wins by all of them.
     replies: Vec<(Turn, Node)>,
 }
 
-/// The side that wins the problem within the fewest turns, up to 200, with a tree that shows it; none, where neither
-/// side does or the steps ran out.
+/// The side that wins the problem within the fewest turns, up to 200, with a tree that shows it. `None` if neither side does or the
+/// steps ran out.
 ///
-/// All legal play is searched within 0, 1, 2 and so on turns, each number anew. A step is one expansion, which tries all
-/// turns of a state; so many as `floor` are left alone, and `left` falls by those that were made. The search within k turns ends
-/// as soon as it has met so many states that k + 1 times as many are more than the steps: from there on no win is promised to be
-/// found. Where memory is refused some steps are gone, and no more is said. One path of play and the tree that is found are held.
+/// All legal play is searched within 0, 1, 2 and so on turns, starting again for each number. A step is one expansion, which tries
+/// all turns of a state; `floor` steps are left alone, and `left` falls by the steps that were made. The search within k turns ends
+/// as soon as k + 1 times the number of states that it has met is more than the steps: from there on no win is promised to be
+/// found. If memory is refused, some steps are gone, and nothing more is promised. One path of play and the tree that is found are
+/// held in memory.
 pub fn first_win(
     alloc: Global,
     problem: &Problem,
@@ -64,7 +64,7 @@ pub fn first_win(
     found
 }
 
-/// The same, by these steps alone.
+/// Like `first_win`, with just these steps.
 fn search_depths(
     alloc: Global,
     problem: &Problem,
@@ -86,8 +86,8 @@ fn search_depths(
     Ok(None)
 }
 
-/// What full search of the state within so many turns finds; the state is then as it was. So many states as `room` may be met,
-/// which falls by those that were.
+/// What full search of the state within this many turns finds. The state is then as it was. At most `room` states may be met, and
+/// `room` falls by those that were.
 #[cycle(full)]
 fn search_state(
     alloc: Global,
@@ -118,14 +118,14 @@ fn search_state(
     }
     *left -= 1;
     *room -= 1;
-    // A second pass ends the game at once, so no other turn is tried where it wins.
+    // A second pass ends the game at once, so no other turn is tried if it wins.
     if pass_wins(state)? {
         return won_by(alloc, state.mover(), Turn::Pass, Node::Won);
     }
     search_turns(alloc, state, turns - 1, left, room)
 }
 
-/// Whether one pass stands and the mover wins by a second one.
+/// Whether one pass has just been made and the mover wins by a second one.
 fn pass_wins(state: &mut PlayState) -> Result<bool, AllocError>
     requires nobody { over state.old.state ≡ None }
     ensures state { OnOk result (state.new ≡ state.old) }
@@ -153,7 +153,7 @@ fn is_side(winner: Colour, side: Colour) -> bool
     winner == side
 }
 
-/// The side wins by this turn and the tree after it.
+/// What is found if the side wins by this turn and the tree after it.
 #[tactic(auto, using(proof_cert::proofs::Certificates::node_of_play))]
 fn won_by(alloc: Global, winner: Colour, turn: Turn, below: Node) -> Result<Found, AllocError>
     ensures { IfOk result (λ f. IsWonBy winner turn below f) }
@@ -161,8 +161,8 @@ fn won_by(alloc: Global, winner: Colour, turn: Turn, below: Node) -> Result<Foun
     Ok(Found::Wins(winner, Node::Play(turn, Box::new(alloc, below)?)))
 }
 
-/// What full search finds of a state where nobody has won, whose step is made already, with so many turns after the
-/// first; the state is then as it was.
+/// What full search finds of a state where nobody has won, with this many turns after the first. The step of the state has already
+/// been made. The state is then as it was.
 #[cycle(full)]
 fn search_turns(
     alloc: Global,
@@ -209,7 +209,7 @@ fn is_settled(turns: u32, winner: Option<Colour>) -> bool
     }
 }
 
-/// What is found where this side has won, or nobody has within the turns that are left.
+/// What is found if this side has won, or if nobody has within the turns that are left.
 fn found_at_once(winner: Option<Colour>) -> Found
     ensures { (s : GameState) (k left : ℕ) → over s ≡ winner → (winner ≡ None → k ≡ 0)
         → IsFound s k left result }
@@ -220,7 +220,7 @@ fn found_at_once(winner: Option<Colour>) -> Found
     }
 }
 
-/// What is found where all turns were searched and the mover wins by none.
+/// What is found if all turns were searched and the mover wins by none.
 fn decided(state: &PlayState, turns: u32, seen: Tried) -> Found
     requires nobody { over state.now.state ≡ None }
     requires seen { AreSeen state.now.state turns (legal_turns state.now.state) seen }
@@ -233,8 +233,8 @@ fn decided(state: &PlayState, turns: u32, seen: Tried) -> Found
     }
 }
 
-/// Searches one turn more, after which this side has won: nothing, where it is seen as well; what is found, where it decides
-/// the search of the state. It is made only where play goes on after it.
+/// Searches one more turn, after which `winner` says who has won. Returns `None` if the turn is only added to those that were seen,
+/// or what is found if it decides the search of the state. The turn is made only if play goes on after it.
 #[cycle(full)]
 fn search_turn(
     alloc: Global,
@@ -277,7 +277,7 @@ fn search_turn(
     with_turn(alloc, mover, turn, below, seen)
 }
 
-/// The same, where this was found after the turn.
+/// Like `search_turn`, given what was found after the turn.
 fn with_turn(
     alloc: Global,
     mover: Colour,

@@ -1,4 +1,4 @@
-//! Full search on boards of three rows, where every claim and every step is worked out by hand.
+//! Full search on boards of three rows, with every claim and every step worked out by hand.
 
 use crate::expect::{expect_same, expect_that};
 use crate::positions::{Position, points, problem_of};
@@ -45,8 +45,8 @@ fn is_claim(rt: &impl Abort, alloc: Global, certificate: &Certificate, text: &st
     out.as_slice() == text.as_bytes()
 }
 
-// Whether full search answers the claim of this text where it has just so many steps, of which it makes these, and nothing where
-// one of them is missing. Within k turns it meets no more states than a (k + 1)th of the steps.
+// Whether full search finds the claim of this text with exactly this many steps, of which it makes `made`, and nothing with one
+// fewer. Within k turns it meets no more states than a (k + 1)th of the steps.
 fn finds(
     rt: &impl Abort,
     alloc: Global,
@@ -84,7 +84,7 @@ fn solves(rt: &impl Abort, alloc: Global, problem: Problem, winner: Colour, text
     }
 }
 
-// White's aa is in atari, and Black takes it. The start alone is expanded, once; it and the state after the move are met.
+// White's aa is in atari, and Black takes it. Only the start is expanded, once; the start and the state after the move are met.
 #[test]
 fn a_capture_of_one_turn(rt: HostRuntime) {
     let alloc = rt.alloc();
@@ -94,8 +94,8 @@ fn a_capture_of_one_turn(rt: HostRuntime) {
     expect_that(&rt, solves(&rt, alloc, corner, Colour::Black, text));
 }
 
-// White to move fills ba, and two passes follow. Within one turn the start is expanded; within two the states after ba
-// and after the pass as well; within three the start, the state after ba and the one after Black's pass. Three, five and three
+// White to move fills ba, and two passes follow. Within one turn the start is expanded; within two turns, also the states after ba
+// and after the pass; within three turns, the start, the state after ba and the one after Black's pass. Three, five and three
 // states are met, and a third of 15 steps is five.
 #[test]
 fn a_liberty_filled(rt: HostRuntime) {
@@ -133,7 +133,7 @@ fn a_second_pass_comes_first(rt: HostRuntime) {
     expect_that(&rt, solves(&rt, alloc, threat, Colour::White, text));
 }
 
-// White answers each of Black's moves by the other, which leaves only passes.
+// White answers each of Black's moves with the other one, which leaves only passes.
 #[test]
 fn an_answer_to_each_reply(rt: HostRuntime) {
     let alloc = rt.alloc();
@@ -153,7 +153,7 @@ fn no_move_is_legal(rt: HostRuntime) {
     expect_that(&rt, solves(&rt, alloc, eyes, Colour::Black, text));
 }
 
-// Without a step nothing is found, and the problem is handed back.
+// With no steps nothing is found, and the problem is handed back.
 #[test]
 fn a_problem_is_handed_back(rt: HostRuntime) {
     let alloc = rt.alloc();
@@ -177,7 +177,7 @@ fn a_problem_is_handed_back(rt: HostRuntime) {
     }
 }
 
-// What is above the floor alone counts: with 14 steps the fifth state within two turns is one too many, after four steps.
+// Only the steps above the floor count: with 14 steps the fifth state within two turns is one too many, after four steps.
 #[test]
 fn full_search_stops_at_its_floor(rt: HostRuntime) {
     let alloc = rt.alloc();

@@ -1,4 +1,4 @@
-//! Claims of given trees, whose lemmas are known beforehand, and one whose lemma needs what was played above it.
+//! Claims of given trees whose lemmas are known beforehand, and one whose lemma needs what was played above it.
 
 use crate::expect::{expect_same, expect_that};
 use crate::proof_numbers::{ALL, WITHOUT_PASTS, accepted, found, found_plainly, problem};
@@ -9,7 +9,7 @@ use std::alloc::Global;
 use std::process::Abort;
 use target_game::Problem;
 
-// The tree of this text for the problem gives the claim of that text, with these lemmas, which the checker accepts.
+// Expects the tree of this text for the problem to give the claim of that text, with these lemmas, and the checker to accept it.
 fn becomes(
     rt: &impl Abort,
     alloc: Global,
@@ -34,8 +34,8 @@ fn becomes(
     expect_same(rt, text.as_slice(), expected);
 }
 
-// White always passes. Both orders of Black's moves lead to one colouring with White to move. The state after White's
-// pass stands in that lemma alone, and so in line.
+// White always passes. Both orders of Black's moves lead to one colouring with White to move. The state after White's pass occurs
+// only in that lemma, so it is written in line.
 #[test]
 fn what_is_inside_one_lemma_alone_stays_in_line(rt: HostRuntime) {
     let alloc = rt.alloc();
@@ -73,7 +73,7 @@ fn a_lemma_lists_the_results_of_the_winners_moves(rt: HostRuntime) {
 }
 
 // White always passes. Black may play at two of cb, bc and cc, and never at the third, since that has occurred. Each pair is
-// reached by two orders, and the proof there leaves out the third.
+// reached in two orders, and the proof there leaves out the third point.
 #[test]
 fn lemmas_that_need_a_past(rt: HostRuntime) {
     let alloc = rt.alloc();
@@ -104,12 +104,12 @@ fn lemmas_that_need_a_past(rt: HostRuntime) {
     let all = problem(&rt, alloc, 3, &texts, Colour::Black, "aa", "cbbccc");
     let text = plain.as_bytes();
     becomes(&rt, alloc, all, ALL, text, expected.as_bytes());
-    // Without such lemmas each pair stands in line.
+    // Without such lemmas each pair is written in line.
     let fewer = problem(&rt, alloc, 3, &texts, Colour::Black, "aa", "cbbccc");
     becomes(&rt, alloc, fewer, WITHOUT_PASTS, text, text);
 }
 
-// Whether a lemma needs what stands in no history of the problem: what was played above its first place.
+// Whether a lemma needs something that is not in the history of the problem: what was played above its first place.
 fn needs_what_was_played(problem: &Problem, claim: &Certificate) -> bool {
     for lemma in claim.lemmas.as_slice() {
         for colouring in lemma.had.as_slice() {
@@ -121,8 +121,8 @@ fn needs_what_was_played(problem: &Problem, claim: &Certificate) -> bool {
     false
 }
 
-// White has to live in ten points on the edge, and does not. Where Black takes a ko on them, the proof rests on the position
-// before, which White may not bring back.
+// White has to live in ten points on the edge, and does not. If Black takes a ko there, the proof rests on the position before,
+// which White may not bring back.
 #[test]
 fn a_lemma_may_need_what_was_played_above_it(rt: HostRuntime) {
     let alloc = rt.alloc();

@@ -1,5 +1,5 @@
-//! Tests of play, of full search, and of the search by proof numbers and its table: what these find is put to the checker.
-//! They call what the crates make public.
+//! Tests of play, of full search, and of the search by proof numbers and its table. What these find is given to the checker. The
+//! tests use only the public calls of the crates.
 #![tactic(auto)]
 
 #[cfg(test)]

@@ -36,7 +36,7 @@ fn start(
     PlayState::of(alloc, &problem_of(rt, alloc, &position)).expect(rt, "memory")
 }
 
-// Makes a turn, if it is legal.
+// Makes a turn if it is legal, and returns whether it was.
 fn play(state: &mut PlayState, turn: Turn) -> bool {
     if state.over().is_some() {
         return false;
@@ -64,7 +64,7 @@ fn turns_one_by_one(state: &mut PlayState) -> ArrayVec<Turn, MAX_TURNS> {
     all
 }
 
-// Makes the move with these letters, if it is legal.
+// Makes the move with these letters if it is legal, and returns whether it was.
 fn play_at(rt: &impl Abort, state: &mut PlayState, letters: &str) -> bool {
     play(state, turn(rt, letters))
 }
@@ -73,7 +73,7 @@ fn expect_turns(rt: &impl Abort, found: &[Turn], wanted: &[Turn]) {
     assert_eq!(rt; found, wanted);
 }
 
-// The moves with these letters, two for each, and the pass are all that is legal.
+// Expects the moves with these letters, two for each, and the pass to be the only legal turns.
 fn expect_legal(rt: &impl Abort, state: &PlayState, letters: &str) {
     let mut wanted = ArrayVec::<Turn, MAX_TURNS>::new();
     for pair in letters.as_bytes().chunks(2) {
@@ -85,17 +85,17 @@ fn expect_legal(rt: &impl Abort, state: &PlayState, letters: &str) {
     expect_turns(rt, state.turns().as_slice(), wanted.as_slice());
 }
 
-// The state has these cells.
+// Expects the state to have these cells.
 fn expect_cells(rt: &impl Abort, state: &PlayState, text: &str) {
     expect_colouring(rt, state.colouring(), board_of(rt, 3, text));
 }
 
-// These cells have occurred first at this place, or not at all.
+// Expects these cells to have occurred first at this place, or not at all.
 fn expect_place(rt: &impl Abort, state: &PlayState, text: &str, place: Option<usize>) {
     expect_optional_count(rt, state.holds(&board_of(rt, 3, text)), place);
 }
 
-// The move with these letters leads to this.
+// Expects the move with these letters to lead to this.
 fn expect_child(rt: &impl Abort, state: &PlayState, letters: &str, wanted: Option<Child>) {
     assert_eq!(rt; state.child(turn(rt, letters)), wanted);
 }
@@ -114,7 +114,7 @@ fn a_capture_wins_for_the_attacker(rt: HostRuntime) {
     expect_that(&rt, state.turns().is_empty());
 }
 
-// The keys are exclusive ors of words that another program drew, from its own PCG64 made by the number 1.
+// The keys are exclusive ors of words that another program drew, from its own PCG64 seeded with the number 1.
 #[test]
 fn a_state_has_the_key_of_its_colouring(rt: HostRuntime) {
     let mut state = start(&rt, rt.alloc(), &["O..X....."], Colour::Black, "aa", "ba");
@@ -171,7 +171,7 @@ fn the_past_decides_at_a_ko(rt: HostRuntime) {
     expect_place(&rt, &barred, ".X.XO....", None);
 }
 
-// The state with this colouring alone, one pass just made, in a problem whose history bars the capture at the upper left.
+// The state with only this colouring, after one pass, in a problem whose history bars the capture at the upper left.
 fn alone(rt: &impl Abort, alloc: Global, text: &str) -> Result<PlayState, AtFault> {
     let problem = Problem::new(
         history(rt, alloc, 3, &[".XOXO....", "O.OXO...."]),
@@ -212,7 +212,7 @@ fn a_colouring_alone_forgets_the_past(rt: HostRuntime) {
 fn a_colouring_alone_has_its_liberties(rt: HostRuntime) {
     let size = Size::new(3).expect(&rt, "a size");
     let second = sgf_point(size, b"ba").expect(&rt, "a point");
-    // The white stone has black stones at both sides and below it.
+    // The white stone has black stones on both sides and below it.
     let found = alone(&rt, rt.alloc(), "XOX.X....");
     expect_that(&rt, found.is_err_and(|fault| names(fault, second)));
 }
@@ -288,7 +288,7 @@ fn a_turn_is_taken_back_whole(rt: HostRuntime) {
     expect_place(&rt, &state, "O..X....O", None);
 }
 
-// The start of a problem on the widest board with this colouring, where every point is in the region.
+// The start of a problem on the widest board with this colouring. Every point is in the region.
 fn start_on_the_widest(
     rt: &impl Abort,
     alloc: Global,
@@ -328,7 +328,7 @@ fn turns_on_the_widest_board(rt: HostRuntime) {
     }
 }
 
-// White's stones fill the widest board but for the last point, where Black takes all of them.
+// White's stones fill the widest board except for the last point, where Black takes all of them.
 #[test]
 fn a_capture_of_all_the_widest_board_holds(rt: HostRuntime) {
     let size = Size::new(MAX_SIZE).expect(&rt, "a size");

@@ -5,8 +5,8 @@ use std::alloc::Global;
 use std::process::Abort;
 use target_game::Problem;
 
-/// A problem on a board of so many rows: the texts of its history, the present colouring last; who is to move, after how
-/// many passes; and the points of targets and region, two letters for each.
+/// A problem on a board of `rows` rows: the texts of its history, with the present colouring last; who is to move, and after how
+/// many passes; and the points of the targets and the region, two letters for each.
 #[derive(Drop)]
 pub(crate) struct Position<'a> {
     pub(crate) rows: u8,

@@ -1,4 +1,4 @@
-//! Problems: their parts, and what refuses them.
+//! Problems: their parts, and why they are refused.
 
 use crate::expect::{
     expect_colour, expect_colouring, expect_count, expect_number, expect_same, expect_that,
@@ -143,7 +143,7 @@ fn a_colouring_of_another_size_is_refused(rt: HostRuntime) {
     }
 }
 
-// That many colourings of the widest board, all different: a black stone at one point and a white one at another.
+// This many colourings of the widest board, all different: each has a black stone at one point and a white one at another.
 fn long_history(rt: &impl Abort, alloc: Global, count: usize) -> Vec<Colouring> {
     let size = Size::new(MAX_SIZE).expect(rt, "a size");
     let mut all = Vec::new(alloc);

@@ -1,4 +1,4 @@
-//! What the search by proof numbers finds, put to the checker.
+//! What the search by proof numbers finds, which is given to the checker.
 
 use crate::expect::{expect_same, expect_that};
 use crate::positions::{Position, problem_of};
@@ -6,15 +6,15 @@ use cert_check::check_held;
 use claim_maker::{Choice, Pasts, claim_with_lemmas, claim_without_lemmas};
 use df_pn::Search;
 use go_points::Colour;
-use local_search::{Answers, prove};
+use local_search::prove;
 use proof_cert::{Certificate, Version, write_cert};
-use state_proofs::{Shared, Stop};
+use state_proofs::{Answers, Proofs, Shared, Stop};
 use std::alloc::Global;
 use std::num::NonZeroUsize;
 use std::process::Abort;
 use target_game::Problem;
 
-// The problem on a board of so many rows whose present colouring is the last of its history.
+// The problem on a board of this many rows whose present colouring is the last of its history.
 pub fn problem(
     rt: &impl Abort,
     alloc: Global,
@@ -39,7 +39,7 @@ fn states(rt: &impl Abort, table: usize) -> NonZeroUsize {
     NonZeroUsize::new(table).expect(rt, "a table")
 }
 
-// Why so many steps do not settle the problem, none where they do, and how many are left.
+// Why this many steps do not settle the problem, or `None` if they do, and how many are left.
 fn settled(
     rt: &impl Abort,
     alloc: Global,
@@ -55,7 +55,16 @@ fn settled(
     }
 }
 
-// The proofs that are found with a table of so many entries, by steps enough.
+// Like `settled`, for the first answer of the search that knows shapes.
+fn answered(rt: &impl Abort, alloc: Global, problem: &Problem, steps: u64) -> (Option<Stop>, u64) {
+    let mut left = steps;
+    match prove(alloc, problem, states(rt, 100), Answers::First, &mut left) {
+        Ok(_) => (None, left),
+        Err(stop) => (Some(stop), left),
+    }
+}
+
+// The proofs that are found with a table of this many entries and enough steps.
 pub fn found(rt: &impl Abort, alloc: Global, problem: &Problem, table: usize) -> Shared {
     let mut left = 200_000;
     match prove(alloc, problem, states(rt, table), Answers::Small, &mut left) {
@@ -64,16 +73,16 @@ pub fn found(rt: &impl Abort, alloc: Global, problem: &Problem, table: usize) ->
     }
 }
 
-// The same by the search that knows no shapes.
+// Like `found`, by the search that knows no shapes.
 pub fn found_plainly(rt: &impl Abort, alloc: Global, problem: &Problem, table: usize) -> Shared {
     let mut left = 200_000;
-    match df_pn::prove(alloc, problem, states(rt, table), true, &mut left) {
+    match df_pn::prove(alloc, problem, states(rt, table), Answers::Small, &mut left) {
         Ok(shared) => shared,
         Err(_) => panic!(rt; "a proof"),
     }
 }
 
-// How many lemmas the claim has, which the checker accepts.
+// How many lemmas the claim has. The checker has to accept it.
 pub fn accepted(rt: &impl Abort, alloc: Global, problem: &Problem, claim: Certificate) -> usize {
     let copy = problem.copy(alloc).expect(rt, "memory");
     let lemmas = claim.lemmas.len();
@@ -85,7 +94,7 @@ pub fn accepted(rt: &impl Abort, alloc: Global, problem: &Problem, claim: Certif
     lemmas
 }
 
-// All proofs of states that stand at several places; or those of them that need no past.
+// All proofs of states that occur at several places; or only those of them that need no past.
 pub const ALL: Choice = Choice {
     pasts: Pasts::Needed,
     least: 0,
@@ -96,8 +105,8 @@ pub const WITHOUT_PASTS: Choice = Choice {
     least: 0,
 };
 
-// This side wins; the claims with all lemmas, with those that need no past, and without any are accepted: how many lemmas
-// there are.
+// Expects this side to win, and the claims with all lemmas, with those that need no past, and without any to be accepted. Returns
+// how many lemmas there are.
 fn wins(rt: &impl Abort, alloc: Global, problem: &Problem, winner: Colour, table: usize) -> usize {
     let shared = found(rt, alloc, problem, table);
     expect_same(rt, shared.winner, winner);
@@ -118,7 +127,7 @@ fn wins(rt: &impl Abort, alloc: Global, problem: &Problem, winner: Colour, table
     }
 }
 
-// So many steps suffice, and one fewer does not; the side wins, and no claim is refused.
+// Expects this many steps to be enough in either search, and one fewer not to be; the side to win; and no claim to be refused.
 fn check(rt: &impl Abort, alloc: Global, problem: Problem, winner: Colour, steps: u64) {
     let (stop, none_left) = settled(rt, alloc, &problem, 100, steps.saturating_sub(1));
     expect_same(rt, stop, Some(Stop::Steps));
@@ -126,6 +135,9 @@ fn check(rt: &impl Abort, alloc: Global, problem: Problem, winner: Colour, steps
     let (no_stop, left) = settled(rt, alloc, &problem, 100, steps);
     expect_same(rt, no_stop, None);
     expect_same(rt, left, 0);
+    let too_few = answered(rt, alloc, &problem, steps.saturating_sub(1));
+    expect_that(rt, too_few == (Some(Stop::Steps), 0));
+    expect_that(rt, answered(rt, alloc, &problem, steps) == (None, 0));
     let _lemmas = wins(rt, alloc, &problem, winner, 100);
 }
 
@@ -170,8 +182,8 @@ fn a_ko_without_a_past_is_taken(rt: HostRuntime) {
     check(&rt, alloc, ko, Colour::Black, 1);
 }
 
-// After Black's cc the ko would no longer repeat, so White fills ba. After a pass White passes, which ends the game,
-// though ba wins as well.
+// After Black's cc, taking the ko would no longer repeat a position, so White fills ba. After a pass White passes, which ends the
+// game, though ba wins as well.
 #[test]
 fn the_ko_is_filled_where_it_opens(rt: HostRuntime) {
     let alloc = rt.alloc();
@@ -205,8 +217,8 @@ fn no_steps_find_nothing(rt: HostRuntime) {
     expect_same(&rt, left, 0);
 }
 
-// White's eye space in the corner is aa, ba and ca, and all other liberties are taken. The mover takes the middle: White has
-// two eyes then, and else one.
+// White's eye space in the corner is aa, ba and ca, and all other liberties are taken. The mover takes the middle: if that is
+// White, it has two eyes, and otherwise only one.
 #[test]
 fn three_points_are_decided_by_their_middle(rt: HostRuntime) {
     let alloc = rt.alloc();
@@ -236,12 +248,12 @@ fn six_points_in_a_corner_are_the_movers(rt: HostRuntime) {
 }
 
 // Whether an earlier proof is of the same state.
-fn is_proved_before(search: &Search, place: usize) -> bool {
-    let Some(proof) = search.proofs.at(place) else {
+fn is_proved_before(proofs: &Proofs, place: usize) -> bool {
+    let Some(proof) = proofs.at(place) else {
         return false;
     };
     for earlier in 0..place {
-        if let Some(other) = search.proofs.at(earlier) {
+        if let Some(other) = proofs.at(earlier) {
             if other.key == proof.key {
                 return true;
             }
@@ -250,17 +262,43 @@ fn is_proved_before(search: &Search, place: usize) -> bool {
     false
 }
 
-fn is_a_state_proved_twice(search: &Search) -> bool {
-    for place in 0..search.proofs.len() {
-        if is_proved_before(search, place) {
-            return true;
+// How many states are proved.
+fn proved_states(proofs: &Proofs) -> u64 {
+    let mut states: u64 = 0;
+    for place in 0..proofs.len() {
+        if !is_proved_before(proofs, place) {
+            states = states.saturating_add(1);
         }
     }
-    false
+    states
 }
 
-// In a ko a proof of a state does not hold where what it forbids has occurred, or what it needs has not: the state is proved
-// anew there. The search would make claims that the checker refuses if it used the first proof again.
+// Each state of an answer was expanded, and each expansion is a step, even for states that live by their shape and are played out.
+// As many steps as the answer took find it again, and one fewer does not.
+#[test]
+fn each_state_of_an_answer_is_a_step(rt: HostRuntime) {
+    let alloc = rt.alloc();
+    for mover in [Colour::Black, Colour::White] {
+        let corner = six_points(&rt, alloc, mover);
+        let mut left = 200_000;
+        let found = prove(alloc, &corner, states(&rt, 100), Answers::First, &mut left);
+        let used = 200_000u64.saturating_sub(left);
+        match found {
+            Ok(shared) => {
+                let states = proved_states(&shared.proofs);
+                expect_that(&rt, states > 20);
+                expect_that(&rt, states <= used);
+            }
+            Err(_) => panic!(&rt; "a proof"),
+        }
+        expect_that(&rt, answered(&rt, alloc, &corner, used) == (None, 0));
+        let too_few = answered(&rt, alloc, &corner, used.saturating_sub(1));
+        expect_that(&rt, too_few == (Some(Stop::Steps), 0));
+    }
+}
+
+// In a ko a proof of a state does not hold if something that it forbids has occurred, or something that it needs has not: the state
+// is proved again there. The search would make claims that the checker refuses if it used the first proof again.
 #[test]
 fn a_state_is_proved_anew_where_its_proof_does_not_hold(rt: HostRuntime) {
     let alloc = rt.alloc();
@@ -268,11 +306,12 @@ fn a_state_is_proved_anew_where_its_proof_does_not_hold(rt: HostRuntime) {
     let mut left = 200_000;
     let mut search = Search::of(alloc, &corner, states(&rt, 10_000)).expect(&rt, "memory");
     expect_that(&rt, search.settle(0, &mut left).is_ok());
-    expect_that(&rt, is_a_state_proved_twice(&search));
+    let proofs = &search.proofs;
+    expect_that(&rt, proved_states(proofs) < proofs.len() as u64);
     expect_that(&rt, wins(&rt, alloc, &corner, Colour::Black, 10_000) > 0);
 }
 
-// What a table of one entry forgets is searched in another order.
+// With a table of one entry, states that it forgets are searched in another order.
 #[test]
 fn the_table_has_an_effect(rt: HostRuntime) {
     let alloc = rt.alloc();
@@ -284,8 +323,8 @@ fn the_table_has_an_effect(rt: HostRuntime) {
     expect_that(&rt, left_by_one != left);
 }
 
-// Black may play at aa, at ca, or pass, and White may only pass. Both orders of Black's moves lead to one colouring, where
-// White is to move. What stands after White's pass there stands in that one lemma alone.
+// Black may play at aa, at ca, or pass, and White may only pass. Both orders of Black's moves lead to one colouring, where White is
+// to move. The state after White's pass there occurs only in that lemma.
 #[test]
 fn two_orders_of_moves_meet(rt: HostRuntime) {
     let alloc = rt.alloc();

@@ -1,4 +1,5 @@
-//! What the shapes of groups say of life and death. The answers are those of the rules in the documentation of the questions, by hand.
+//! What the shapes of groups say about life and death. The answers were worked out by hand, from the rules in the documentation of
+//! the questions.
 
 use crate::expect::{expect_same, expect_that};
 use crate::proof_numbers::problem;
@@ -62,7 +63,7 @@ fn a_space_whose_middle_the_attacker_holds_is_no_eye(rt: HostRuntime) {
     expect_that(&rt, !is_alive(&rt, rt.alloc(), text, "aa", region));
 }
 
-// White takes aa at ba; a target that is off the board does not live.
+// White takes aa at ba. A target that is off the board does not live.
 #[test]
 fn what_was_taken_does_not_live(rt: HostRuntime) {
     let alloc = rt.alloc();
@@ -85,7 +86,8 @@ fn three_points_whose_middle_is_taken_are_one_eye(rt: HostRuntime) {
     expect_that(&rt, eyes(&rt, rt.alloc(), text, "ab", "aabaca").is_dead);
 }
 
-// The eye at ca is destroyed by a stone at da or at cb, where White cannot be taken: Black plays one of them, White the other.
+// The eye at ca is destroyed by a stone at da or at cb, where White cannot be taken: Black plays at one of them, White at the
+// other.
 #[test]
 fn an_eye_beside_two_safe_points_is_destroyed(rt: HostRuntime) {
     let text = ".X..OXX.OOOOOOO..........";

@@ -27,7 +27,7 @@ fn problem(
     problem_of(rt, alloc, &position)
 }
 
-// What is decided within so many turns, by at most so many states.
+// What is decided within this many turns, with at most this many states.
 fn decides(rt: &impl Abort, alloc: Global, problem: &Problem, turns: u32, nodes: u64) -> Within {
     if turns <= 200 {
         decide_within(alloc, problem, turns, nodes).expect(rt, "memory")
@@ -40,7 +40,7 @@ fn expect_within(rt: &impl Abort, found: Within, wanted: Within) {
     assert_eq!(rt; found, wanted);
 }
 
-// Within so many turns the problem decides this, and the tree has just so many states.
+// Expects this decision within this many turns, and the tree to have exactly this many states.
 fn check(
     rt: &impl Abort,
     alloc: Global,
@@ -58,9 +58,9 @@ fn check(
     );
 }
 
-// White's aa is in atari. Black takes it at ba. Else, after Black's pass, White fills ba, where only passes are left
-// and the second of them ends the game, or White passes, which ends it at once. So the tree grows by
-// {ba, pass}, {ba, pass}, {pass}, {pass} from the start, and after four turns it ends.
+// White's aa is in atari. Black takes it at ba. Otherwise, after Black's pass, White fills ba, where only passes are left and the
+// second of them ends the game, or White passes, which ends it at once. So the tree grows by {ba, pass}, {ba, pass}, {pass}, {pass}
+// from the start, and after four turns it ends.
 #[test]
 fn a_capture_wins_within_one_turn(rt: HostRuntime) {
     let alloc = rt.alloc();
@@ -74,8 +74,8 @@ fn a_capture_wins_within_one_turn(rt: HostRuntime) {
     check(&rt, alloc, &corner, 200, 7, black);
 }
 
-// White to move there fills ba, and two passes follow; or White passes, and Black takes, or passes and loses. So the
-// tree grows by {ba, pass}, {pass} after ba and {ba, pass} after pass, {pass} after ba and pass.
+// If White is to move there, it fills ba, and two passes follow; or White passes, and Black takes, or passes and loses. So the tree
+// grows by {ba, pass}, {pass} after ba and {ba, pass} after pass, {pass} after ba and pass.
 #[test]
 fn a_liberty_filled_wins_within_three_turns(rt: HostRuntime) {
     let alloc = rt.alloc();
@@ -96,7 +96,7 @@ fn no_states_decide_nothing(rt: HostRuntime) {
     expect_within(&rt, decides(&rt, alloc, &corner, 200, 0), Within::Limit);
 }
 
-// A pass stands. White's pass is the second and wins for the defender; Black's does too, but Black can take.
+// One pass has been made. White's pass is the second and wins for the defender. Black's pass does too, but Black can take.
 #[test]
 fn a_second_pass_wins_for_the_defender(rt: HostRuntime) {
     let alloc = rt.alloc();
@@ -105,16 +105,16 @@ fn a_second_pass_wins_for_the_defender(rt: HostRuntime) {
     check(&rt, alloc, &white, 1, 3, Within::Wins(Colour::White));
     let black = problem(&rt, alloc, &["O..X....."], Colour::Black, 1, "aa", "ba");
     check(&rt, alloc, &black, 1, 3, Within::Wins(Colour::Black));
-    // With cc alone in the region Black plays it, or passes and loses. After cc both sides may only pass, and the
-    // second pass wins.
+    // With only cc in the region, Black plays there, or passes and loses. After cc both sides may only pass, and the second pass
+    // wins.
     let barred = problem(&rt, alloc, &["O..X....."], Colour::Black, 1, "aa", "cc");
     check(&rt, alloc, &barred, 1, 3, Within::Neither);
     check(&rt, alloc, &barred, 2, 4, Within::Neither);
     check(&rt, alloc, &barred, 3, 5, Within::Wins(Colour::White));
 }
 
-// Without a past Black takes aa at ba. Where the colouring after it has occurred, Black may only pass; then White
-// passes and wins, or fills ba, after which two passes end the game.
+// Without a past Black takes aa at ba. If the colouring after that has occurred, Black may only pass; then White passes and wins,
+// or fills ba, after which two passes end the game.
 #[test]
 fn the_past_decides_who_wins(rt: HostRuntime) {
     let alloc = rt.alloc();
@@ -160,8 +160,8 @@ fn a_win_needs_every_reply(rt: HostRuntime) {
     check(&rt, alloc, &ladder, 1, 4, Within::Neither);
     check(&rt, alloc, &ladder, 2, 11, Within::Neither);
     check(&rt, alloc, &ladder, 3, 20, Within::Wins(Colour::Black));
-    // With White to move nobody wins so soon: two turns are one of White's and one of Black's, after which either two
-    // stones of White stand with a liberty, or one of its turns was the only pass.
+    // With White to move, nobody wins so soon: two turns are one of White's and one of Black's, after which either two stones of
+    // White are on the board with a liberty, or only one of the turns was a pass.
     let white = problem(&rt, alloc, &["O...X.X.."], Colour::White, 0, "aa", "baab");
     expect_within(
         &rt,

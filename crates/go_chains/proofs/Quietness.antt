@@ -1,7 +1,7 @@
 -- When a move keeps its stone and changes no other point, from the counts before it.
-use Rattle.std.proofs.Common.{◌≡◌, ◌≢◌, ℕ, ◌+◌, ◌*◌, ◌<◌, ◌≤◌, ◌⊎◌, inl, inr, ◌↔◌, Bool, true, false, not, ◌&&◌, IsTrue, nat_eq, eqb-true, nat_lt, ltb-true, ltb-false, List, [], ◌∷◌, length, slice_index, set, refl, sym, ◌∙◌, ap, subst, arith}
+use Rattle.std.proofs.Common.{◌≡◌, ◌≢◌, ℕ, ◌+◌, ◌*◌, ◌<◌, ◌≤◌, ◌⊎◌, inl, inr, ◌↔◌, Bool, true, false, not, ◌&&◌, IsTrue, nat_eq, eqb-true, eq-eqb, cond, nat_lt, ltb-true, ltb-false, List, [], ◌∷◌, length, slice_index, set, refl, sym, ◌∙◌, ap, subst, arith}
 use Rattle.std.specs.List.{list_any}
-use Rattle.std.proofs.lemmas.Bool.{cases_eq}
+use Rattle.std.proofs.lemmas.Bool.{cases_eq, false_from_ne_true}
 use Rattle.std.proofs.lemmas.List.{get_or-set_same, get_or-set_other, get_or_past}
 use Rattle.go_points.specs.declared.TheConstants.{MAX_POINTS}
 use Rattle.go_points.specs.declared.Colour.{Colour}
@@ -15,10 +15,12 @@ use Rattle.go_points.proofs.Cells.{same_cell_eq, eq_same_cell, adjacent_on_board
 use Rattle.go_points.proofs.Clearing.{EveryStoneReaches, one_or_other, on_or_off}
 use Rattle.go_points.proofs.Quiet.{quiet_reaches}
 use Rattle.go_chains.specs.Joined.{IsWay, Joined}
-use Rattle.go_chains.specs.Private.Chains.{nowhere, touches, liberty_count, IsBoard}
+use Rattle.go_chains.specs.Private.Chains.{nowhere, touches, empties_beside, liberty_count, HasCircles, IsBoard}
 use Rattle.go_chains.specs.Private.Quiet.{has_more, loses_last, lets_stay}
 use Rattle.go_chains.proofs.Joins.{joined_self, joined_on, joined_beside, reaches_beside}
-use Rattle.go_chains.proofs.Counts.{touches_from, touches_to, count_from, count_to, count_filled}
+use Rattle.go_chains.proofs.Counts.{in_member, is_head, touches_from, touches_to, count_from, count_to, count_filled}
+use Rattle.go_chains.proofs.Totals.{total_same}
+use Rattle.go_chains.proofs.Merging.{off}
 use Rattle.go_chains.proofs.Boards.{heads_joined}
 use Rattle.go_chains.proofs.Leaving.{head_holds}
 
@@ -46,6 +48,20 @@ beside_not_self n p x adj same =
     elim (or_cases (nat_eq (row_of n p) (row_of n p) && differ_by_one (column_of n p) (column_of n p)) (nat_eq (column_of n p) (column_of n p) && differ_by_one (row_of n p) (row_of n p)) (and_right (nat_lt p (n * n) && nat_lt p (n * n)) _ self)) [
       | inl e ↦ differ_self (column_of n p) (and_right (nat_eq (row_of n p) (row_of n p)) _ e)
       | inr e ↦ differ_self (row_of n p) (and_right (nat_eq (column_of n p) (column_of n p)) _ e)
+    ]
+
+-- where a stone is put down, the points beside it that have no head are those that are empty afterwards
+pub headless_beside : (n : ℕ) (c d : List Cell) (heads next : List ℕ) (p : ℕ) → HasCircles n c heads next → ((q : ℕ) → q ≢ p → cell_at d q ≡ cell_at c q) → touches n heads nowhere p ≡ empties_beside n d p
+unfolding touches
+headless_beside n c d heads next p chains others =
+    total_same (is_head heads nowhere) (λ q. cond {A = ℕ} (same_cell (cell_at d q) Empty) 1 0) (neighbours n p)
+    (λ q m. (let adj : adjacent n p q ≡ true = member_neighbours n p q (in_member q (neighbours n p) m) in
+    ap (λ b. cond {A = ℕ} b 1 0) (alike q (adjacent_on_board n p q adj).1 ∙ ap (λ a. same_cell a Empty) (sym (others q (beside_not_self n p q adj))))))
+  where
+    alike : (q : ℕ) → q < n * n → nat_eq (slice_index heads q) nowhere ≡ same_cell (cell_at c q) Empty
+    alike q on = elim (cases_eq (slice_index heads q) nowhere) [
+      | inl none ↦ eq-eqb (slice_index heads q) nowhere none ∙ sym (eq_same_cell (cell_at c q) Empty (chains.empties q on none))
+      | inr has ↦ off (slice_index heads q) nowhere has ∙ sym (false_from_ne_true (same_cell (cell_at c q) Empty) (λ e. chains.stones q on has (same_cell_eq (cell_at c q) Empty e)))
     ]
 
 module _ (n : ℕ) (c : List Cell) (heads next counts : List ℕ) (k : Colour) (p : ℕ) (room : n * n ≤ MAX_POINTS) (whole : length c ≡ n * n) (on : p < n * n) (free : cell_at c p ≡ Empty) (board : IsBoard n c heads next counts) where

@@ -1,4 +1,4 @@
-//! Chains without liberty are taken off.
+//! Taking off chains without liberties.
 
 ghost use Rattle.std.specs.Prelude.{◌≡◌, ◌≢◌, ◌+◌, ◌*◌, ◌<◌, ℕ, slice_index};
 ghost use Rattle.go_points.specs.declared.Cell.TheVariants.{Stone};
@@ -12,7 +12,7 @@ use crate::circles::remove;
 use go_points::{Colour, MAX_POINTS};
 use stone_key::KeyedColouring;
 
-/// Takes the chain at the point off where it is of the colour and has no liberty. How many stones it had.
+/// Takes the chain at the point off if it has this colour and no liberty. Returns how many stones it had.
 pub(crate) fn remove_without_liberty(
     colouring: &mut KeyedColouring,
     heads: &mut [u16],
@@ -47,7 +47,7 @@ pub(crate) fn remove_without_liberty(
     remove(colouring, heads, next, counts, head)
 }
 
-/// Takes the chains of the colour off that stand beside the point and have no liberty. How many stones they had.
+/// Takes off the chains of this colour that are beside the point and have no liberty. Returns how many stones they had.
 pub(crate) fn capture(
     colouring: &mut KeyedColouring,
     heads: &mut [u16],

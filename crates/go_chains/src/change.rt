@@ -1,4 +1,5 @@
-//! A board takes another colouring over: its stones that the other does not hold go, and then the other's that are missing are put down.
+//! How a board takes over another colouring: the stones that the other does not hold are taken off, and then the stones that are
+//! missing are put down.
 
 ghost use Rattle.std.specs.Prelude.{◌≡◌, ◌≢◌, ◌⊎◌, ◌*◌, ◌<◌, ℕ, IsTrue, OnOk, OnErr, IfErr, IfSome, IfNone, Some, None, length, slice_index};
 ghost use Rattle.go_points.specs.declared.Cell.TheVariants.{Empty};
@@ -6,7 +7,7 @@ ghost use Rattle.go_points.specs.declared.TheConstants.{MAX_POINTS};
 ghost use Rattle.go_points.specs.Grid.{cell_at, side_of};
 ghost use Rattle.go_points.specs.Liberty.{lacks_liberty as lacks_liberty_of, first_without_liberty};
 ghost use Rattle.go_points.specs.Place.{IsOn, number_of};
-ghost use Rattle.go_chains.specs.Private.Chains.{nowhere, IsBoard, IsSettled, TellsLiberties, LivesAround, LivesWhereNew};
+ghost use Rattle.go_chains.specs.Private.Chains.{nowhere, AreFull, IsBoard, IsSettled, TellsLiberties, LivesAround, LivesWhereNew};
 
 use crate::NoLiberty;
 use crate::cut_point::take_off;
@@ -14,7 +15,10 @@ use crate::stones::fill;
 use go_points::{Cell, Colouring, MAX_POINTS, Point};
 use stone_key::KeyedColouring;
 
-// Takes the stones off where the other colouring holds something else, and of their chains what cannot stay.
+/// If more stones than this are new, looking once at each point is the faster way to tell whether all chains have liberties.
+const FEW: usize = 32;
+
+// Takes off the stones at points where the other colouring holds something else, and those of their chains that cannot stay.
 fn remove_changed(
     colouring: &mut KeyedColouring,
     heads: &mut [u16],
@@ -42,7 +46,61 @@ fn remove_changed(
     }
 }
 
-// Lets an empty point hold the cell.
+// Takes all stones off.
+fn clear(colouring: &mut KeyedColouring, heads: &mut [u16], next: &[u16], counts: &[u32])
+    requires { AreFull heads.old next.now counts.now }
+    ensures size { side_of colouring.new ≡ side_of colouring.old }
+    ensures settled { IsSettled (side_of colouring.old) colouring.new heads.new next.now
+        counts.now }
+    ensures empty { (p : ℕ) → cell_at colouring.new p ≡ Empty }
+{
+    let size = colouring.size();
+    prove!(size.area() <= MAX_POINTS);
+    *colouring = KeyedColouring::empty(size);
+    heads.fill(MAX_POINTS as u16);
+}
+
+// Whether two colourings differ at half of the points.
+fn differ_widely(one: &Colouring, other: &Colouring) -> bool
+    requires { side_of other.now ≡ side_of one.now }
+{
+    let size = one.size();
+    let mut number = one.next_difference(other, 0);
+    for _ in 0..size.area() / 2 {
+        if number >= size.area() {
+            return false;
+        }
+        number = one.next_difference(other, number + 1);
+    }
+    number < size.area()
+}
+
+// Takes off what the other colouring does not hold. If most points change, all stones are taken off at once.
+fn make_way(
+    colouring: &mut KeyedColouring,
+    heads: &mut [u16],
+    next: &mut [u16],
+    counts: &mut [u32],
+    wanted: &Colouring,
+)
+    requires settled { IsSettled (side_of colouring.old) colouring.old heads.old next.old
+        counts.old }
+    requires same_size { side_of wanted.now ≡ side_of colouring.old }
+    ensures size { side_of colouring.new ≡ side_of colouring.old }
+    ensures settled { IsSettled (side_of colouring.old) colouring.new heads.new next.new
+        counts.new }
+    ensures rest { (p : ℕ) → p < side_of colouring.old * side_of colouring.old
+        → (cell_at colouring.new p ≡ Empty) ⊎ (cell_at colouring.new p ≡ cell_at wanted.now p) }
+{
+    prove!(colouring.size().area() <= MAX_POINTS);
+    if differ_widely(colouring.colouring(), wanted) {
+        clear(colouring, heads, next, counts);
+    } else {
+        remove_changed(colouring, heads, next, counts, wanted);
+    }
+}
+
+// Makes an empty point hold the cell.
 fn fill_cell(
     colouring: &mut KeyedColouring,
     heads: &mut [u16],
@@ -67,7 +125,7 @@ fn fill_cell(
     }
 }
 
-// Puts the stones down that the other colouring holds at empty points.
+// Puts down the stones that the other colouring holds at empty points.
 fn fill_changed(
     colouring: &mut KeyedColouring,
     heads: &mut [u16],
@@ -109,7 +167,7 @@ fn lacks_liberty(colouring: &KeyedColouring, heads: &[u16], counts: &[u32], numb
     head != MAX_POINTS as u16 && counts[head as usize] == 0
 }
 
-// Whether the chains of the point and of those beside it have liberties.
+// Whether the chain of the point and the chains of the points beside it have liberties.
 fn live_around(colouring: &KeyedColouring, heads: &[u16], counts: &[u32], number: usize) -> bool
     requires heads_full { length heads.now ≡ MAX_POINTS }
     requires counts_full { length counts.now ≡ MAX_POINTS }
@@ -130,7 +188,8 @@ fn live_around(colouring: &KeyedColouring, heads: &[u16], counts: &[u32], number
     true
 }
 
-// Whether all chains have liberties at and beside the stones that another colouring does not hold.
+// Whether all chains have liberties at and beside the stones that another colouring does not hold, as far as a look at a few of
+// those stones tells.
 fn live_where_new(
     colouring: &KeyedColouring,
     heads: &[u16],
@@ -146,7 +205,12 @@ fn live_where_new(
     let size = colouring.size();
     prove!(size.area() <= MAX_POINTS);
     let mut number = colouring.colouring().next_difference(before, 0);
+    let mut left = FEW;
     'changed: while number < size.area() {
+        if left == 0 {
+            return false;
+        }
+        left -= 1;
         if heads[number] != MAX_POINTS as u16 && !live_around(colouring, heads, counts, number) {
             return false;
         }
@@ -177,7 +241,8 @@ fn find_without_liberty(colouring: &KeyedColouring, heads: &[u16], counts: &[u32
     None
 }
 
-// The same, for a caller that had another colouring with liberties for all: whoever has none now stands at or beside a new stone.
+// Like `find_without_liberty`, for a caller that had another colouring in which all chains had liberties: a chain that has none now
+// is at or beside a new stone.
 fn find_after(
     colouring: &KeyedColouring,
     heads: &[u16],
@@ -202,7 +267,7 @@ fn find_after(
     find_without_liberty(colouring, heads, counts)
 }
 
-// Lets the board hold the other colouring, whether or not each of its chains has a liberty.
+// Makes the board hold the other colouring, whether or not each of its chains has a liberty.
 fn change_to(
     colouring: &mut KeyedColouring,
     heads: &mut [u16],
@@ -217,11 +282,11 @@ fn change_to(
         counts.new }
     ensures value { colouring.new ≡ wanted.now }
 {
-    remove_changed(colouring, heads, next, counts, wanted);
+    make_way(colouring, heads, next, counts, wanted);
     fill_changed(colouring, heads, next, counts, wanted);
 }
 
-/// Takes the colouring over, or names the least point whose chain would have no liberty.
+/// Takes over the colouring, or returns the least point whose chain would have no liberty.
 pub(crate) fn take_over(
     colouring: &mut KeyedColouring,
     heads: &mut [u16],

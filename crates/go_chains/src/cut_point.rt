@@ -1,4 +1,5 @@
-//! A stone is taken off: alone where its chain is whole without it, as mostly when a move is taken back, and else with the whole chain.
+//! Taking off a stone: alone if its chain stays whole without it, as is usual when a move is taken back, and otherwise with the
+//! whole chain.
 
 ghost use Rattle.std.specs.Prelude.{◌≡◌, ◌≢◌, ◌⊎◌, ◌*◌, ◌<◌, ◌≤◌, ℕ, IsTrue, length, slice_index, slice_set};
 ghost use Rattle.go_points.specs.declared.Cell.TheVariants.{Empty};
@@ -32,7 +33,7 @@ fn differ_by_one(one: u8, other: u8) -> bool
     one + 1 == other || other + 1 == one
 }
 
-// Whether two points are one, or beside a stone of the chain that is not this one.
+// Whether two points are the same, or are both beside one stone of the chain that is not this one.
 fn meet(heads: &[u16], size: Size, number: usize, head: u16, one: usize, other: usize) -> bool
     requires room { size * size ≤ MAX_POINTS }
     requires heads_full { length heads.now ≡ MAX_POINTS }
@@ -94,7 +95,7 @@ fn is_no_cut_point(heads: &[u16], next: &[u16], size: Size, number: usize, head:
     false
 }
 
-// Takes a stone off that is no cut point.
+// Takes off a stone that is no cut point.
 fn remove_stone(
     colouring: &mut KeyedColouring,
     heads: &mut [u16],
@@ -125,7 +126,7 @@ fn remove_stone(
     heads[number] = MAX_POINTS as u16;
 }
 
-/// Takes off the stone at the point, and its whole chain where the rest might not be one chain.
+/// Takes off the stone at the point, and its whole chain if the rest might not be one chain.
 pub(crate) fn take_off(
     colouring: &mut KeyedColouring,
     heads: &mut [u16],

@@ -88,7 +88,7 @@ pub(crate) fn takes_chain(
     false
 }
 
-/// Whether a stone of the colour at the point has a liberty at once, or by its neighbours of the colour.
+/// Whether a stone of the colour at the point has a liberty of its own, or through its neighbours of that colour.
 pub(crate) fn has_liberty(
     colouring: &KeyedColouring,
     heads: &[u16],

@@ -11,7 +11,8 @@ use crate::stones::fill;
 use go_points::{Colour, MAX_POINTS};
 use stone_key::KeyedColouring;
 
-/// A stone is put down at an empty point, then the chains of the other colour without liberty are taken off, and then its own if it has none. How many stones are taken off.
+/// Puts a stone down at an empty point, then takes off the chains of the other colour without liberties, and then its own chain if
+/// that has none. Returns how many stones are taken off.
 pub(crate) fn make_move(
     colouring: &mut KeyedColouring,
     heads: &mut [u16],

@@ -1,4 +1,4 @@
-//! A stone is put down, and its chain is made one with those beside it.
+//! Putting down a stone, and joining its chain with those beside it.
 
 ghost use Rattle.std.specs.Prelude.{◌≡◌, ◌≢◌, ◌*◌, ◌<◌, ◌≤◌, ℕ, true, slice_index, slice_set};
 ghost use Rattle.go_points.specs.declared.Cell.TheVariants.{Stone};
@@ -49,14 +49,14 @@ fn place(
 {
     let size = colouring.size();
     prove!(size.area() <= MAX_POINTS);
-    take_from(heads, counts, size, number);
+    let free = take_from(heads, counts, size, number);
     colouring.set(size.point_at(number), Cell::Stone(colour));
     heads[number] = number as u16;
     next[number] = number as u16;
-    counts[number] = empties_at(colouring, number);
+    counts[number] = free;
 }
 
-// Makes the chain of the stone one with that of the neighbour, where this has the same colour.
+// Joins the chain of the stone with that of the neighbour, if the neighbour has the same colour.
 fn join(
     colouring: &KeyedColouring,
     heads: &mut [u16],
@@ -90,7 +90,7 @@ fn join(
     merge(colouring, heads, next, counts, into, from);
 }
 
-/// Puts a stone down at an empty point, and makes one chain of it and of those of its colour beside it. Nothing is taken off.
+/// Puts a stone down at an empty point, and joins it with the chains of its colour beside it. Nothing is taken off.
 pub(crate) fn fill(
     colouring: &mut KeyedColouring,
     heads: &mut [u16],

@@ -19,33 +19,6 @@ use Rattle.go_points.specs.Text.{cell_code}
 pub record SameBelow (c d : List Cell) (i : ℕ) : Type 0 where
   pub same : (j : ℕ) → j < i → cell_at c j ≡ cell_at d j
 
--- The words below a number are the same.
-pub record SameWords (words more : List ℕ) (k : ℕ) : Type 0 where
-  pub word : (j : ℕ) → j < k → get_or words j 0 ≡ get_or more j 0
-
-pub one_word_more : (words more : List ℕ) (k : ℕ) → SameWords words more k → get_or words k 0 ≡ get_or more k 0 → SameWords words more (k + 1)
-one_word_more words more k below here = record {
-  word = λ j low. elim (cases_lt j k) [
-    | inl less ↦ below.word j less
-    | inr past ↦ (let last : j ≡ k = omega (arith, low, past) in ap (λ i. get_or words i 0) last ∙ here ∙ ap (λ i. get_or more i 0) (sym last))
-  ];
-}
-
-bits_same : (words more : List ℕ) (k i : ℕ) → SameWords words more k → i < k * 64 → has_bit words i ≡ has_bit more i
-unfolding has_bit
-bits_same words more k i below low =
-    let word : i / 64 < k = omega (arith, low, div-add-mod' i 64) in
-    ap (λ w. nat_eq (w / 2 ^ (i % 64) % 2) 1) (below.word (i / 64) word)
-
-pub front_same : (n : ℕ) (stones blacks more_stones more_blacks : List ℕ) (k i : ℕ) → SameWords stones more_stones k → SameWords blacks more_blacks k → i < k * 64
-    → cell_at (packed_cells n stones blacks) i ≡ cell_at (packed_cells n more_stones more_blacks) i
-front_same n stones blacks more_stones more_blacks k i of_stones of_blacks low = elim (cases_lt i (n * n)) [
-  | inl on ↦ packed_at n stones blacks i on
-      ∙ ap₂ cell_of_bits (bits_same stones more_stones k i of_stones low) (bits_same blacks more_blacks k i of_blacks low)
-      ∙ sym (packed_at n more_stones more_blacks i on)
-  | inr off ↦ packed_past n stones blacks i off ∙ sym (packed_past n more_stones more_blacks i off)
-]
-
 -- colourings are the same exactly where their sizes and their words are
 module _ (n m : ℕ) (stones blacks more_stones more_blacks : List ℕ) (c d : List Cell) (packed : IsPacked n stones blacks) (also : IsPacked m more_stones more_blacks)
     (is : packed_cells n stones blacks ≡ c) (was : packed_cells m more_stones more_blacks ≡ d) where
@@ -132,7 +105,3 @@ one_cell_more c d k below here = record {
     | inr past ↦ (let last : j ≡ k = omega (arith, low, past) in ap (cell_at c) last ∙ here ∙ ap (cell_at d) (sym last))
   ];
 }
-
--- two that agree up to the lesser of two numbers of words
-pub fewer_words : (words more : List ℕ) (k m : ℕ) → m ≤ k → ((j : ℕ) → j < k → get_or words j 0 ≡ get_or more j 0) → SameWords words more m
-fewer_words words more k m less same = record { word = λ j low. same j (omega (arith, low, less)) }

@@ -34,7 +34,7 @@ same_cells _ _ = false
 abbrev pub points : ℕ → List ℕ
 points n = range_with_len 0 (n * n)
 
--- Point r * n + c stands in row r and in column c.
+-- Point r * n + c is in row r and in column c.
 abbrev pub row_of : ℕ → ℕ → ℕ
 row_of n p = p / n
 
@@ -45,7 +45,8 @@ column_of n p = p % n
 abbrev pub differ_by_one : ℕ → ℕ → Bool
 differ_by_one i j = nat_eq (i + 1) j || nat_eq (j + 1) i
 
--- Two points of the board are adjacent where they stand in one row and in columns that differ by one, or in one column and in rows that differ by one.
+-- Two points of the board are adjacent if they are in one row and in columns that differ by one, or in one column and in rows that
+-- differ by one.
 abbrev pub adjacent : ℕ → ℕ → ℕ → Bool
 adjacent n p q = nat_lt p (n * n) && nat_lt q (n * n)
     && ((nat_eq (row_of n p) (row_of n q) && differ_by_one (column_of n p) (column_of n q))
@@ -55,7 +56,7 @@ adjacent n p q = nat_lt p (n * n) && nat_lt q (n * n)
 unfoldable pub neighbours : ℕ → ℕ → List ℕ
 neighbours n p = filter (adjacent n p) (points n)
 
--- A colouring is the list of what the points hold, in order. What it holds at a point of the board.
+-- A colouring is the list of what the points hold, in order. This is what it holds at a point of the board.
 abbrev pub cell_at : List Cell → ℕ → Cell
 cell_at c p = slice_index_or c p Empty
 

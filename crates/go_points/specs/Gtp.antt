@@ -1,4 +1,5 @@
--- Vertices as GTP 2 has them ("Simple entity types", "Board coordinates"), read in any case: a letter for the column, from the left, and one or two digits for the row, from the bottom; or the word pass.
+-- Vertices as GTP 2 defines them ("Simple entity types", "Board coordinates"), read in any letter case: a letter for the column,
+-- from the left, and one or two digits for the row, from the bottom; or the word pass.
 use Rattle.std.specs.Prelude.{ℕ, ◌+◌, ◌-◌, ◌*◌, ◌/◌, ◌%◌, Bool, ◌&&◌, nat_le, nat_lt, List, [], ◌∷◌, codes, Option, Some, None, if◌then◌else◌}
 use Rattle.std.specs.Char.{to_ascii_lowercase}
 use Rattle.std.specs.Str.{bytes_eq, str_to_ascii_lowercase}
@@ -31,7 +32,7 @@ abbrev pub vertex_named : List ℕ → Option Vertex
 vertex_named [] = None
 vertex_named (c ∷ digits) = (if bytes_eq (str_to_ascii_lowercase (c ∷ digits)) (codes "pass") then Some Pass else vertex_at (column_named (to_ascii_lowercase c)) (row_named digits))
 
--- The letter of a column, and the digits of a row, of one or two.
+-- The letter of a column, and the one or two digits of a row.
 abbrev pub column_letter : ℕ → ℕ
 column_letter column = (if nat_lt column 8 then 65 + column else 66 + column)
 

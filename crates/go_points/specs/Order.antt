@@ -12,7 +12,7 @@ use Rattle.go_points.specs.Text.{cell_code, text_of}
 abbrev pub text_order : List Cell → List Cell → Ordering
 text_order = on text_of (slice_cmp nat_cmp)
 
--- What the order does not tell apart is the same.
+-- Cells that the order does not tell apart are the same.
 code_ties : (a b : Cell) → same_cell a b ≡ nat_eq (cell_code a) (cell_code b)
 code_ties Empty Empty = refl
 code_ties Empty (Stone Black) = refl

@@ -1,4 +1,5 @@
--- Colourings in two bits a cell. These are tools and proofs of the type `Colouring`, which stand here because its impls cite them: a reader may pass them over.
+-- Colourings in two bits a cell. These are tools and proofs for the type `Colouring`. They stand here because its impls cite them,
+-- and a reader may skip them.
 use Rattle.std.proofs.Common.{◌≡◌, ℕ, ◌+◌, ◌*◌, ◌^◌, ◌<◌, ◌≤◌, ◌⊎◌, inl, inr, Bool, true, false, List, map, length, get_or, refl, sym, ◌∙◌, ap, ap₂, subst, arith}
 use Rattle.std.specs.List.{range_with_len}
 use Rattle.std.specs.Int.{bit_at}

@@ -11,7 +11,7 @@ pub record IsOn (n : ℕ) (p : Place) : Type 0 where
   pub row_within : p.row < n
   pub column_within : p.column < n
 
--- The same as a test.
+-- `IsOn` as a test.
 abbrev pub on_board : ℕ → Place → Bool
 on_board n p = nat_lt p.row n && nat_lt p.column n
 

@@ -1,4 +1,4 @@
--- Words of private calls and of the insides of types: no public clause rests on them.
+-- Definitions for private calls and for the insides of types. No public clause rests on them.
 pub mod Inverses
 pub mod Narrow
 pub mod Sides

@@ -1,4 +1,5 @@
--- Points in SGF's letters (SGF FF[4], "Go (GM=1) specific properties"): two lower-case letters, the first for the column, the second for the row, `aa` the upper left.
+-- Points in SGF's letters (SGF FF[4], "Go (GM=1) specific properties"): two lower-case letters, the first for the column and the
+-- second for the row, with `aa` at the upper left.
 use Rattle.std.specs.Prelude.{ℕ, ◌+◌, ◌-◌, Bool, ◌&&◌, nat_le, nat_lt, List, [], ◌∷◌, Option, Some, None, if◌then◌else◌}
 use Rattle.go_points.specs.Place.{Place}
 

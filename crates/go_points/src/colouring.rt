@@ -7,14 +7,15 @@ ghost use Rattle.go_points.specs.Grid.{cell_at, side_of, IsColouring};
 ghost use Rattle.go_points.specs.Place.{IsOn, number_of};
 
 use crate::point::Point;
-use crate::point_bits::{PointBits, alike_words, next_unlike, no_bits, read_bit, write_bit};
+use crate::point_bits::{PointBits, next_unlike, no_bits, read_bit, write_bit};
 use crate::size::Size;
 use crate::{Cell, Colour, MAX_POINTS};
 use std::cmp::Ordering;
 use std::hash::{Hash, Hasher};
 use std::marker::Model;
 
-/// What every point of a board holds, in two bits a cell, with room for the widest board. Colourings are ordered as their texts are. No call takes memory.
+/// What every point of a board holds, in two bits a cell, with room for the widest board. Colourings are ordered as their texts
+/// are. No call allocates memory.
 #[derive(Clone, Copy, Debug)]
 pub struct Colouring {
     pub(crate) size: Size,
@@ -165,7 +166,7 @@ impl Colouring {
         self.cell(point.number(self.size))
     }
 
-    /// Lets the point hold `cell`.
+    /// Makes the point hold `cell`.
     pub fn set(&mut self, point: Point, cell: Cell)
         requires { IsOn (side_of self.old) point }
         ensures value { self.new ≡ slice_set self.old (number_of (side_of self.old) point) cell }
@@ -190,7 +191,8 @@ impl Colouring {
         }
     }
 
-    /// The number of the first point, from this number on, where the other colouring holds something else; one that no point has, where there is none. A look at each word of bits.
+    /// The number of the first point at or after this number where the other colouring holds something else. If there is no such
+    /// point, the result is a number that no point has. It looks at each word of bits.
     pub fn next_difference(&self, other: &Colouring, from: usize) -> usize
         requires { side_of other.now ≡ side_of self.now }
         ensures later { from ≤ result }
@@ -208,15 +210,13 @@ impl Colouring {
         )
     }
 
-    // A number up to which two colourings hold the same at each point: that of the first point of the first words that differ.
+    // The number of the first point where two colourings differ, or a number that no point has.
     fn first_difference(&self, other: &Colouring) -> usize
         ensures { (i : ℕ) → i < result → cell_at self.now i ≡ cell_at other.now i }
     {
-        if self.size != other.size {
+        if self.size() != other.size() {
             return 0;
         }
-        let stones = alike_words(&self.stones, &other.stones);
-        let blacks = alike_words(&self.blacks, &other.blacks);
-        stones.min(blacks) * 64
+        self.next_difference(other, 0)
     }
 }

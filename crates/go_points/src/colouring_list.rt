@@ -1,4 +1,4 @@
-//! A list of colourings, those of at most 19 rows in less room.
+//! A list of colourings. Those of at most 19 rows take less room.
 
 ghost use Rattle.std.specs.Prelude.{◌≡◌, ◌<◌, ◌++◌, ◌-◌, ◌∷◌, [], OnErr, OnOk, Some, length, slice_get};
 
@@ -7,10 +7,10 @@ use crate::narrow_colouring::{NarrowColouring, is_narrow};
 use std::alloc::{AllocError, Global};
 use std::marker::Model;
 
-/// Colourings in a row. One of at most 19 rows takes 104 bytes, as long as no wider one stands before it; others take 168.
+/// Colourings in a row. One of at most 19 rows takes 104 bytes, as long as no wider one comes before it. Others take 168.
 #[derive(Drop)]
 pub struct ColouringList {
-    // Those of the beginning, and those from the first wide one on.
+    // The colourings before the first wide one, and those from it on.
     narrow: Vec<NarrowColouring>,
     wide: Vec<Colouring>,
 }
@@ -25,7 +25,7 @@ impl Model for ColouringList {
 }
 
 impl ColouringList {
-    /// The list without colourings. It takes no memory.
+    /// The list without colourings. It allocates no memory.
     pub fn new(alloc: Global) -> ColouringList
         ensures { result ≡ [] }
     {
@@ -70,7 +70,7 @@ impl ColouringList {
         self.get(self.len().saturating_sub(1))
     }
 
-    /// Puts the colouring after the others; where memory is refused nothing changes.
+    /// Appends the colouring. If memory is refused, nothing changes.
     pub fn push(&mut self, colouring: &Colouring) -> Result<(), AllocError>
         ensures ok { OnOk result (self.new ≡ self.old ++ colouring.now ∷ []) }
         ensures err { OnErr result (self.new ≡ self.old) }

@@ -1,6 +1,6 @@
 //! One bit for each point of the widest board, in fixed words.
 
-ghost use Rattle.std.specs.Prelude.{◌≡◌, ◌≢◌, ◌<◌, ◌≤◌, ◌*◌, ℕ, replicate, slice_index};
+ghost use Rattle.std.specs.Prelude.{◌≡◌, ◌≢◌, ◌<◌, ◌≤◌, ◌*◌, ℕ, replicate};
 ghost use Rattle.std.specs.Int.{bit_at};
 ghost use Rattle.go_points.specs.declared.TheConstants.{MAX_POINTS};
 ghost use Rattle.go_points.specs.Points.{has_bit};
@@ -12,10 +12,10 @@ use crate::MAX_POINTS;
 /// The number of words.
 pub(crate) const WORDS: usize = (MAX_POINTS + 63) / 64;
 
-/// The words: bit i % 64 of word i / 64 is that of the point i.
+/// The words: bit i % 64 of word i / 64 stands for point i.
 pub(crate) type PointBits = [u64; WORDS];
 
-/// Boards of at most so many rows need the first words alone.
+/// Boards of at most this many rows need only the first words.
 pub(crate) const NARROW_SIZE: u8 = 19;
 
 /// The number of those words.
@@ -41,7 +41,7 @@ pub(crate) fn narrow_bits(bits: &PointBits) -> NarrowBits
     narrow
 }
 
-/// The first words, and no bit after them.
+/// The first words, followed by words without a bit.
 pub(crate) fn wide_bits(bits: &NarrowBits) -> PointBits
     ensures { result ≡ first_words word_count bits.now }
 {
@@ -74,20 +74,7 @@ pub(crate) fn write_bit(bits: &mut PointBits, bit: usize, value: bool)
     }
 }
 
-/// How many words at the front are the same.
-pub(crate) fn alike_words(bits: &PointBits, others: &PointBits) -> usize
-    ensures same { (j : ℕ) → j < result → slice_index bits.now j ≡ slice_index others.now j }
-    ensures most { result ≤ word_count }
-{
-    for index in 0..WORDS {
-        if bits[index] != others[index] {
-            return index;
-        }
-    }
-    WORDS
-}
-
-/// The first bit of the word that is set, from this one on; 64 where none is.
+/// The first set bit of the word at or after this one, or 64 if none is set.
 fn next_set(word: u64, from: usize) -> usize
     requires { from < 64 }
     ensures unset { (i : ℕ) → from ≤ i → i < result → bit_at word i ≡ 0 }
@@ -103,7 +90,8 @@ fn next_set(word: u64, from: usize) -> usize
     }
 }
 
-/// The first bit from this one on in which two differ, or two others do; one that no point has, where there is none.
+/// The first bit, at or after this one, in which either pair of bit sets differs. If there is none, the result is the number of a
+/// bit that no point has.
 pub(crate) fn next_unlike(
     bits: &PointBits,
     others: &PointBits,

@@ -28,7 +28,7 @@ impl Model for Size {
 }
 
 impl Size {
-    /// The size with this number of rows; `None` where it is not 1 to `MAX_SIZE`.
+    /// The size with this number of rows. `None` if the number is not from 1 to `MAX_SIZE`.
     pub fn new(rows: u8) -> Option<Size>
         ensures { SomeIff result ((1 ≤ rows) × (rows ≤ MAX_SIZE)) rows }
     {
@@ -95,7 +95,8 @@ const RECIPROCALS: [usize; MAX_SIZE as usize + 1] = [
     4370, 4096, 3856, 3641, 3450, 3277, 3121, 2979, 2850, 2731, 2622,
 ];
 
-// The row of the point with this number: the quotient by the rows, by a multiplication, which takes a fraction of a division's time.
+// The row of the point with this number. The number is divided by the rows with a multiplication, which takes a fraction of the
+// time of a division.
 fn row_of(number: usize, rows: u8) -> usize
     requires least { 1 ≤ rows }
     requires most { rows ≤ MAX_SIZE }

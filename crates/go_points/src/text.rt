@@ -10,7 +10,8 @@ use crate::{Cell, Colour};
 use std::alloc::{AllocError, Global};
 
 impl Colouring {
-    /// The text, this project's own: one byte for each point in order, `.` for empty, `X` for black, `O` for white. Fails where memory is refused.
+    /// The text of the colouring, in this project's own form: one byte for each point in order, `.` for empty, `X` for black, `O`
+    /// for white. Fails if memory is refused.
     pub fn to_text(&self, alloc: Global) -> Result<Vec<u8>, AllocError>
         ensures { IfOk result (λ text. text.items ≡ text_of self.now) }
     {
@@ -22,7 +23,8 @@ impl Colouring {
         Ok(text)
     }
 
-    /// The colouring of this size with this text; `None` where the text has another length than the board has points, or another byte.
+    /// The colouring of this size with this text. `None` if the length of the text is not the number of points of the board, or if
+    /// it has any other byte.
     pub fn from_text(size: Size, text: &[u8]) -> Option<Colouring>
         ensures value { result ≡ colouring_from_text size text.now }
         ensures size { IfSome result (λ colouring. side_of colouring ≡ size) }

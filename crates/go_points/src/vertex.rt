@@ -15,7 +15,8 @@ pub enum Vertex {
     At { column: u8, row: u8 },
 }
 
-/// The vertex that the text names, as GTP 2 has it ("Board coordinates"), in any case: a letter from `A` to `Z` without `I` and a row from 1 to 25 in one or two digits, or `pass`. `None` for any other text.
+/// The vertex that the text names, as GTP 2 defines it ("Board coordinates"), in any letter case: a letter from `A` to `Z` without
+/// `I` and a row from 1 to 25 in one or two digits, or `pass`. `None` for any other text.
 pub fn gtp_vertex(text: &[u8]) -> Option<Vertex>
     ensures { result ≡ vertex_named text.now }
 {
@@ -54,7 +55,7 @@ fn row_of(digits: &[u8]) -> Option<u8>
     }
 }
 
-/// The row of this number, where there is one.
+/// The row with this number, if there is one.
 fn row_with(number: u8) -> Option<u8>
     ensures { result ≡ row_numbered number }
 {
@@ -77,7 +78,8 @@ fn letter_of(column: u8) -> u8
     }
 }
 
-/// The text of the point, as GTP 2 has it ("Board coordinates"): a letter from `A` on without `I` for its column, and the number of its row from the bottom. It reads back as the vertex of the point.
+/// The text of the point, as GTP 2 defines it ("Board coordinates"): a letter for its column, from `A` on but without `I`, and the
+/// number of its row from the bottom. It reads back as the vertex of the point.
 pub fn to_gtp(size: Size, point: Point) -> ArrayVec<u8, 3>
     requires { IsOn size point }
     ensures { result.items ≡ gtp_text size point }

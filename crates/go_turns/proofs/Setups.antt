@@ -13,7 +13,7 @@ use Rattle.go_points.proofs.Sides.{number_below}
 use Rattle.go_turns.specs.declared.fault.TurnFault.{TurnFault}
 use Rattle.go_turns.specs.declared.fault.TurnFault.TheVariants.{OffBoard, NoLiberty}
 use Rattle.go_turns.specs.History.{place_in}
-use Rattle.go_turns.specs.Record.{GameRecord, colouring_of, numbered, assigned, set_to, with_liberties, stepped, setup_of, Did}
+use Rattle.go_turns.specs.Record.{GameRecord, Moment, colouring_of, numbered, assigned, set_to, with_liberties, stepped, setup_of, set_up, Did}
 use Rattle.go_turns.specs.Private.Steps.{IsAt, StepsFit, Joins}
 use Rattle.go_turns.proofs.Steps.{at_end, fit_longer}
 use Rattle.go_turns.proofs.Turns.{on_from, is_on_from}
@@ -102,38 +102,28 @@ module _ (old new : List (List Cell)) (c : List Cell) (place : ℕ) where
   joined_fit occurred place_of_step passes n steps (Some earlier) j fit = rw j.1 fit
   joined_fit occurred place_of_step passes n steps None j fit = rw j.1 (fit_longer occurred place_of_step passes n old (c ∷ []) steps fit)
 
-module _ (r : GameRecord) (cells : List (ℕ × Cell)) (c : List Cell) (is : c ≡ assigned (colouring_of r.present) cells) where
-  choice : Bool → Option ℕ → Option ℕ → Result GameRecord TurnFault
-  choice on found at = stepped r (cond on (with_liberties r.size found (set_to r.present (assigned (colouring_of r.present) cells) at)) (Err OffBoard))
+-- a setup of points is one to the colouring that they make
+pub setup_is : (r : GameRecord) (cells : List (ℕ × Cell)) (c : List Cell) → list_all (λ a. nat_lt a.0 (r.size * r.size)) cells ≡ true → c ≡ assigned (colouring_of r.present) cells → setup_of r cells ≡ set_up r c
+setup_is r cells c all is =
+    ap (λ b. stepped r (cond b (made (assigned (colouring_of r.present) cells)) (Err OffBoard))) all ∙ ap (λ x. stepped r (made x)) (sym is)
+  where
+    made : List Cell → Result Moment TurnFault
+    made x = with_liberties r.size (first_without_liberty r.size x) (set_to r.present x (place_in r.present.history x))
 
-  found : Option ℕ
-  found = first_without_liberty r.size (assigned (colouring_of r.present) cells)
+module _ (r : GameRecord) (c : List Cell) where
+  due : (o : Option ℕ) → first_without_liberty r.size c ≡ o → set_up r c ≡ stepped r (with_liberties r.size o (set_to r.present c (place_in r.present.history c)))
+  due o first = ap (λ f. stepped r (with_liberties r.size f (set_to r.present c (place_in r.present.history c)))) first
 
-  same_found : first_without_liberty r.size c ≡ found
-  unfolding found
-  same_found = ap (first_without_liberty r.size) is
+  pub did_smother : (p : Place) (new : GameRecord) → first_without_liberty r.size c ≡ Some (number_of r.size p) → IsOn r.size p → new ≡ r → Did (set_up r c) r (Err (NoLiberty p)) new
+  did_smother p new first on kept = subst (λ d. Did d r (Err (NoLiberty p)) new) (sym (due (Some (number_of r.size p)) first)) (ap NoLiberty (sym (place_back r.size p on)), kept)
 
-  at : Option ℕ
-  at = place_in r.present.history (assigned (colouring_of r.present) cells)
-
-  -- by its three tests
-  due : (on : Bool) (o : Option ℕ) → list_all (λ a. nat_lt a.0 (r.size * r.size)) cells ≡ on → first_without_liberty r.size c ≡ o → setup_of r cells ≡ choice on o at
-  unfolding choice found at
-  due on o tested first = ap (λ b. choice b found at) tested ∙ ap (λ f. choice on f at) (sym same_found ∙ first)
-
-  pub did_smother : (p : Place) (new : GameRecord) → list_all (λ a. nat_lt a.0 (r.size * r.size)) cells ≡ true → first_without_liberty r.size c ≡ Some (number_of r.size p) → IsOn r.size p → new ≡ r → Did (setup_of r cells) r (Err (NoLiberty p)) new
-  unfolding choice found at
-  did_smother p new all first on kept = subst (λ d. Did d r (Err (NoLiberty p)) new) (sym (due true (Some (number_of r.size p)) all first)) (ap NoLiberty (sym (place_back r.size p on)), kept)
-
-  pub did_set : (place : ℕ) (history : List (List Cell)) (new : GameRecord) → list_all (λ a. nat_lt a.0 (r.size * r.size)) cells ≡ true → first_without_liberty r.size c ≡ None
+  pub did_set : (place : ℕ) (history : List (List Cell)) (new : GameRecord) → first_without_liberty r.size c ≡ None
       → Joins (place_in r.present.history c) r.present.history c place history
       → new ≡ record r { present = record { history = history; place = place; passes = 0; last_colour = r.present.last_colour }; earlier = r.present ∷ r.earlier }
-      → (u : Unit {0}) → Did (setup_of r cells) r (Ok u) new
-  unfolding choice found at
-  did_set place history new all first joins becomes u =
-      subst (λ d. Did d r (Ok u) new) (sym (due true None all first))
-      (go (place_in r.present.history (assigned (colouring_of r.present) cells)) (subst (λ x. Joins (place_in r.present.history x) r.present.history x place history) is joins))
+      → (u : Unit {0}) → Did (set_up r c) r (Ok u) new
+  did_set place history new first joins becomes u =
+      subst (λ d. Did d r (Ok u) new) (sym (due None first)) (go (place_in r.present.history c) joins)
     where
-      go : (o : Option ℕ) → Joins o r.present.history (assigned (colouring_of r.present) cells) place history → Did (stepped r (Ok (set_to r.present (assigned (colouring_of r.present) cells) o))) r (Ok u) new
+      go : (o : Option ℕ) → Joins o r.present.history c place history → Did (stepped r (Ok (set_to r.present c o))) r (Ok u) new
       go (Some earlier) j = becomes ∙ (λ i. record r { present = record { history = j.1 i; place = j.0 i; passes = 0; last_colour = r.present.last_colour }; earlier = r.present ∷ r.earlier })
       go None j = becomes ∙ (λ i. record r { present = record { history = j.1 i; place = j.0 i; passes = 0; last_colour = r.present.last_colour }; earlier = r.present ∷ r.earlier })

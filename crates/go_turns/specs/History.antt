@@ -12,12 +12,12 @@ has_occurred history c = list_any (same_cells c) history
 abbrev pub place_in : List (List Cell) → List Cell → Option ℕ
 place_in history c = position (same_cells c) history
 
--- Does a colouring stand twice?
+-- Does a colouring occur twice?
 abbrev pub repeats : List (List Cell) → Bool
 repeats [] = false
 repeats (c ∷ cs) = has_occurred cs c || repeats cs
 
--- A list with a colouring that was looked for in it: the same where it stands there already, else longer by it.
+-- A list joined by a colouring that was looked for in it: unchanged if the colouring is already there, otherwise longer by it.
 abbrev pub IsJoined : Option ℕ → List (List Cell) → List Cell → List (List Cell) → Type 0
 IsJoined (Some earlier) old c new = new ≡ old
 IsJoined None old c new = new ≡ old ++ c ∷ []

@@ -20,7 +20,8 @@ pub record Moment : Type 0 where
   pub passes : ℕ
   pub last_colour : Option Colour
 
--- A record on a board of `size` rows: its present moment, and those before it, the latest first. The last of these, or the present one where there is none, is the opening.
+-- A record on a board of `size` rows: its present moment, and those before it, the latest first. The last of those, or the present
+-- one if there are none, is the opening.
 pub record GameRecord : Type 0 where
   pub size : ℕ
   pub present : Moment
@@ -34,7 +35,7 @@ colouring_of m = slice_index_or m.history m.place []
 abbrev pub passed : Moment → Colour → Moment
 passed m k = record m { passes = m.passes + 1; last_colour = Some k }
 
--- The moment after the colour k made the colouring c, which may be at some place of the history already: then it repeats.
+-- The moment after the colour k made the colouring c, which may already be at some place of the history: then it repeats.
 abbrev pub moved : Moment → Colour → List Cell → Option ℕ → Result Moment TurnFault
 moved m k c (Some earlier) = Err (Repeats earlier)
 moved m k c None = Ok (record { history = m.history ++ c ∷ []; place = length m.history; passes = 0; last_colour = Some k })
@@ -57,12 +58,12 @@ abbrev pub assigned : List Cell → List (ℕ × Cell) → List Cell
 assigned c [] = c
 assigned c (a ∷ rest) = assigned (slice_set c a.0 a.1) rest
 
--- The moment after a setup to the colouring c, which joins the history where it is new.
+-- The moment after a setup to the colouring c, which joins the history if it is new.
 abbrev pub set_to : Moment → List Cell → Option ℕ → Moment
 set_to m c (Some earlier) = record m { place = earlier; passes = 0 }
 set_to m c None = record m { history = m.history ++ c ∷ []; place = length m.history; passes = 0 }
 
--- Refused, where a stone does not reach empty.
+-- Refused if a stone does not reach empty.
 abbrev pub with_liberties : ℕ → Option ℕ → Moment → Result Moment TurnFault
 with_liberties n (Some p) m = Err (NoLiberty (place_of n p))
 with_liberties n None m = Ok m
@@ -73,7 +74,7 @@ after_setup n m cells = (if list_all (λ a. nat_lt a.0 (n * n)) cells
     then (let c = assigned (colouring_of m) cells in with_liberties n (first_without_liberty n c) (set_to m c (place_in m.history c)))
     else Err OffBoard)
 
--- The opening with this history, or its refusal: the present colouring has to have its liberties.
+-- The opening with this history, or its refusal: every stone of the present colouring must reach empty.
 abbrev pub opened : ℕ → List (List Cell) → ℕ → ℕ → Result Moment TurnFault
 opened n history place passes =
     with_liberties n (first_without_liberty n (slice_index_or history place [])) (record { history = history; place = place; passes = passes; last_colour = None })
@@ -83,7 +84,7 @@ abbrev pub reopened : ℕ → Result Moment TurnFault → Result GameRecord Turn
 reopened n (Ok m) = Ok (record { size = n; present = m; earlier = [] })
 reopened n (Err fault) = Err fault
 
--- The record with one more step, where the step is not refused.
+-- The record with one more step, if the step is not refused.
 abbrev pub stepped : GameRecord → Result Moment TurnFault → Result GameRecord TurnFault
 stepped r (Ok m) = Ok (record r { present = m; earlier = r.present ∷ r.earlier })
 stepped r (Err fault) = Err fault
@@ -95,6 +96,10 @@ play_of r k t = stepped r (after_play r.size r.present k t)
 abbrev pub setup_of : GameRecord → List (ℕ × Cell) → Result GameRecord TurnFault
 setup_of r cells = stepped r (after_setup r.size r.present cells)
 
+-- The record set up to this colouring, whatever the points that change.
+abbrev pub set_up : GameRecord → List Cell → Result GameRecord TurnFault
+set_up r c = stepped r (with_liberties r.size (first_without_liberty r.size c) (set_to r.present c (place_in r.present.history c)))
+
 abbrev pub without_last : GameRecord → List Moment → Result GameRecord TurnFault
 without_last r [] = Err CannotUndo
 without_last r (m ∷ ms) = Ok (record r { present = m; earlier = ms })
@@ -102,14 +107,15 @@ without_last r (m ∷ ms) = Ok (record r { present = m; earlier = ms })
 abbrev pub undo_of : GameRecord → Result GameRecord TurnFault
 undo_of r = without_last r r.earlier
 
--- What a call did, where the definitions give `due`: the new record, or the fault with the record unchanged; or no memory, in place of a new record alone.
+-- What a call did, if the definitions give `due`: the new record, or the fault with the record unchanged; or memory was refused,
+-- which can happen only in place of a new record.
 abbrev pub Did : Result GameRecord TurnFault → GameRecord → Result (Unit {0}) TurnFault → GameRecord → Type 0
 Did (Ok r) old (Ok u) new = new ≡ r
 Did (Ok r) old (Err fault) new = (fault ≡ Memory) × (new ≡ old)
 Did (Err due) old (Ok u) new = ⊥
 Did (Err due) old (Err fault) new = (fault ≡ due) × (new ≡ old)
 
--- The same for a call that says whether the definitions allow it, and refuses for want of memory alone.
+-- `Did` for a call that says whether the definitions allow it, and fails only if memory is refused.
 abbrev pub DidIfLegal : {E : Type 0} → Result GameRecord TurnFault → GameRecord → Result Bool E → GameRecord → Type 0
 DidIfLegal (Ok r) old (Ok true) new = new ≡ r
 DidIfLegal (Ok r) old (Ok false) new = ⊥
@@ -118,14 +124,15 @@ DidIfLegal (Err due) old (Ok true) new = ⊥
 DidIfLegal (Err due) old (Ok false) new = new ≡ old
 DidIfLegal (Err due) old (Err error) new = ⊥
 
--- The same for a call that takes no memory.
+-- `Did` for a call that allocates no memory.
 abbrev pub DidWithoutMemory : Result GameRecord TurnFault → GameRecord → Result (Unit {0}) TurnFault → GameRecord → Type 0
 DidWithoutMemory (Ok r) old (Ok u) new = new ≡ r
 DidWithoutMemory (Ok r) old (Err fault) new = ⊥
 DidWithoutMemory (Err due) old (Ok u) new = ⊥
 DidWithoutMemory (Err due) old (Err fault) new = (fault ≡ due) × (new ≡ old)
 
--- What a new record is, where the definitions give `due`: that opening without steps, or the fault; or no memory, in place of a record alone.
+-- What a new record is, if the definitions give `due`: that opening without steps, or the fault; or memory was refused, which can
+-- happen only in place of a record.
 abbrev pub Opens : ℕ → Result Moment TurnFault → Result GameRecord TurnFault → Type 0
 Opens n (Ok m) (Ok r) = r ≡ record { size = n; present = m; earlier = [] }
 Opens n (Ok m) (Err fault) = fault ≡ Memory

@@ -1,4 +1,4 @@
-//! What a board owes: a colouring in which every stone reaches empty, and moves on it.
+//! What a board provides: a colouring in which every stone reaches empty, and moves on it.
 
 ghost use Rattle.std.specs.Prelude.{◌≡◌, ◌*◌, ◌↔◌, IsTrue, List, slice_set, is_ok, IfOk, IfErr, OnOk, OnErr, replicate, Some, None};
 ghost use Rattle.go_points.specs.declared.Cell.{Cell};
@@ -12,7 +12,7 @@ ghost use Rattle.stone_key.specs.Key.{key_of};
 pub use go_chains::{NoLiberty, Occupied};
 use go_points::{Cell, Colour, Colouring, Point, Size};
 
-/// A colouring in which every stone reaches empty. No call takes memory.
+/// A colouring in which every stone reaches empty. No call allocates memory.
 pub trait Board: Drop {
     /// What its points hold.
     ghost content: { Self → List Cell };
@@ -42,11 +42,13 @@ pub trait Board: Drop {
         ensures liberties { first_without_liberty (side_of (content self.now)) (content self.now)
             ≡ None };
 
-    /// The exclusive or of one word for each stone, the same wherever the colouring comes from. Colourings may share a key.
+    /// The exclusive or of one word for each stone. It depends only on the colouring, however that came about. Different colourings
+    /// may share a key.
     fn key(&self) -> u64
         ensures { result ≡ key_of (content self.now) };
 
-    /// A move with both clearings, whether or not it repeats. The answer is the number of points that held a stone, the new one included, and are empty afterwards.
+    /// Makes a move with both clearings, whether or not it repeats a position. Returns the number of points that held a stone, the
+    /// new one included, and are empty afterwards.
     fn play(&mut self, colour: Colour, point: Point) -> Result<u16, Occupied>
         requires { IsOn (side_of (content self.old)) point }
         ensures variant { is_ok result
@@ -72,7 +74,7 @@ pub trait Board: Drop {
             ≡ slice_set (content self.now) (number_of (side_of (content self.now)) point)
             (Stone colour)) };
 
-    /// Takes the colouring over, or names the least point whose stone does not reach empty.
+    /// Takes over the colouring, or returns the least point whose stone does not reach empty.
     fn assign(&mut self, colouring: &Colouring) -> Result<(), NoLiberty>
         requires { side_of colouring.now ≡ side_of (content self.old) }
         ensures ok { OnOk result (content self.new ≡ colouring.now) }

@@ -1,4 +1,5 @@
-//! Clearing, by marks on the points that are empty or reach empty: sweeps over the board mark each stone that touches a mark, until a sweep marks none.
+//! Clearing with marks on the points that are empty or reach empty. Sweeps over the board mark each stone that touches a mark,
+//! until a sweep marks none.
 
 ghost use Rattle.std.specs.Prelude.{◌≡◌, ◌+◌, ◌*◌, ◌<◌, length, false, IsTrue, IfSome, IfNone, Some, None};
 ghost use Rattle.std.specs.List.{list_any};
@@ -35,7 +36,7 @@ fn touches(point: Point, size: Size, marks: &[bool]) -> bool
     false
 }
 
-// Marks each unmarked stone of the colour that touches a mark, in one sweep over the board. Whether there was one.
+// Marks each unmarked stone of the colour that touches a mark, in one sweep over the board. Returns whether there was one.
 fn spread(colouring: &Colouring, colour: Colour, marks: &mut [bool]) -> bool
     requires board { length marks.old ≡ side_of colouring.now * side_of colouring.now }
     requires sound { IsSound (side_of colouring.now) colouring.now colour marks.old }
@@ -74,7 +75,7 @@ fn mark_free(colouring: &Colouring, colour: Colour, marks: &mut [bool])
     'sweeps: while spread(colouring, colour, marks) {}
 }
 
-// Empties the points of the colour that are not marked. How many there were.
+// Empties the points of the colour that are not marked. Returns how many there were.
 fn remove_unmarked(colouring: &mut Colouring, colour: Colour, marks: &[bool]) -> u16
     requires board { length marks.now ≡ side_of colouring.old * side_of colouring.old }
     requires free { AreFree (side_of colouring.old) colouring.old colour marks.now }
@@ -94,7 +95,7 @@ fn remove_unmarked(colouring: &mut Colouring, colour: Colour, marks: &[bool]) ->
     removed
 }
 
-/// Empties each point of the colour that does not reach empty. How many there were.
+/// Empties each point of the colour that does not reach empty. Returns how many there were.
 pub(crate) fn clear_colour(colouring: &mut Colouring, colour: Colour) -> u16
     ensures cleared { colouring.new ≡ clear (side_of colouring.old) colouring.old colour }
     ensures size { side_of colouring.new ≡ side_of colouring.old }

@@ -1,4 +1,4 @@
-//! The colourings that have occurred, found by their keys: asking for one takes the time of one look-up, however many there are.
+//! The colourings that have occurred, found by their keys. Asking for one takes the time of one look-up, however many there are.
 
 ghost use Rattle.go_turns.specs.History.{place_in, repeats};
 

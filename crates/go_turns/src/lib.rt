@@ -21,10 +21,10 @@ pub use plain_board::PlainBoard;
 pub use record::Record;
 pub use seen::Seen;
 
-/// The board that play uses. The layers above name it so, and a faster one takes its place here alone.
+/// The board that play uses. The layers above use this name, so a faster board would be put in its place only here.
 pub type PlayBoard = ChainBoard;
 
-/// The list of colourings that play uses, named so for the same reason.
+/// The list of colourings that play uses, named here for the same reason.
 pub type PlaySeen = HashSeen;
 
 /// The record that play uses.

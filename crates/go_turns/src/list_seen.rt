@@ -1,4 +1,4 @@
-//! The colourings that have occurred, in a vector that is looked through: the simplest list.
+//! The colourings that have occurred, in a vector that is searched from the front: the simplest list.
 
 ghost use Rattle.std.specs.Prelude.{◌≡◌, ◌<◌, ◌-◌, ◌++◌, ◌∷◌, [], Some, None, IsFalse, OnOk, OnErr, length, slice_get, take};
 ghost use Rattle.go_turns.specs.History.{place_in, repeats};

@@ -6,7 +6,7 @@ use go_points::{Cell, Colour, Colouring, MAX_SIZE, Point, Size};
 use std::marker::Model;
 use stone_key::key_of;
 
-/// A board that keeps its cells alone and looks for captures by sweeps over all of them.
+/// A board that keeps only its cells and looks for captures by sweeps over all of them.
 #[derive(Clone, Copy, Debug)]
 pub struct PlainBoard {
     colouring: Colouring,

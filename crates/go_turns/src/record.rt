@@ -10,7 +10,7 @@ ghost use Rattle.go_points.specs.declared.Cell.TheVariants.{Empty, Stone};
 ghost use Rattle.go_points.specs.Ply.{ply_of, pass as a_pass, move as a_move};
 ghost use Rattle.go_turns.specs.History.{place_in, repeats};
 ghost use Rattle.stone_key.specs.Key.{key_of};
-ghost use Rattle.go_turns.specs.Record.{colouring_of, numbered, assigned, play_of, setup_of, undo_of, opened, reopened, Did, DidIfLegal, DidWithoutMemory, Opens};
+ghost use Rattle.go_turns.specs.Record.{colouring_of, numbered, assigned, play_of, setup_of, set_up, undo_of, opened, reopened, Did, DidIfLegal, DidWithoutMemory, Opens};
 ghost use Rattle.go_turns.specs.Private.Steps.{IsNotAdded, Joins};
 
 use crate::board::Board;
@@ -20,7 +20,8 @@ use go_points::{Cell, Colour, Colouring, Point, Size, Turn};
 use std::alloc::{AllocError, Global};
 use std::marker::Model;
 
-// What stood before a step: the place of the colouring, how many colourings had occurred, the passes in a row, and the colour of the last play.
+// What was there before a step: the place of the colouring, how many colourings had occurred, the passes in a row, and the colour
+// of the last play.
 #[derive(Clone, Copy)]
 struct Step {
     place: usize,
@@ -29,7 +30,9 @@ struct Step {
     last_colour: Option<Colour>,
 }
 
-/// A record of turns: the present colouring, those that have occurred, and the steps to be taken back. Turns are those of the Tromp-Taylor rules, except that either colour may play at any time; setups, undo and the history before the opening are this project's own. A refused call leaves the record as it was.
+/// A record of turns: the present colouring, those that have occurred, and the steps that can be taken back. Turns are those of the
+/// Tromp-Taylor rules, except that either colour may play at any time; setups, undo and the history before the opening are this
+/// project's own. A refused call leaves the record as it was.
 #[derive(Drop)]
 pub struct Record<B: Board, S: Seen> {
     board: B,
@@ -104,7 +107,8 @@ fn add_step<S: Seen>(
     Ok(())
 }
 
-// Adds the step to the steps, and the colouring to the history where it is new, or leaves both as they were. The place of the colouring.
+// Adds the step to the steps, and the colouring to the history where it is new, or leaves both as they were. Returns the place of
+// the colouring.
 fn add_setup<S: Seen>(
     seen: &mut S,
     steps: &mut Vec<Step>,
@@ -164,7 +168,7 @@ fn add_all<S: Seen>(seen: &mut S, history: &[Colouring]) -> Result<(), AllocErro
     Ok(())
 }
 
-// The history that is this colouring alone.
+// The history that has only this colouring.
 fn seen_alone<S: Seen>(alloc: Global, colouring: &Colouring, key: u64) -> Result<S, AllocError>
     requires { key ≡ key_of colouring.now }
     ensures { IfOk result (λ seen. S.content seen ≡ colouring.now ∷ []) }
@@ -175,7 +179,8 @@ fn seen_alone<S: Seen>(alloc: Global, colouring: &Colouring, key: u64) -> Result
 }
 
 impl<B: Board, S: Seen> Record<B, S> {
-    /// The record without steps whose history is this colouring. Refused where a stone does not reach empty, by the least such point.
+    /// The record without steps whose history is this colouring. Refused with the least point whose stone does not reach empty, if
+    /// there is one.
     pub fn new(alloc: Global, colouring: &Colouring) -> Result<Record<B, S>, TurnFault>
         ensures { Opens (side_of colouring.now)
             (opened (side_of colouring.now) (colouring.now ∷ []) 0 0) result }
@@ -183,7 +188,9 @@ impl<B: Board, S: Seen> Record<B, S> {
         Record::with_history(alloc, &[*colouring], 0, 0)
     }
 
-    /// The record without steps whose history is this one, with the colouring at `place` present and so many passes just made. Refused where a stone of that colouring does not reach empty, by the least such point; the others are only remembered.
+    /// The record without steps that has this history. The colouring at `place` is present, and this many passes have just been
+    /// made. Refused with the least point whose stone does not reach empty in that colouring, if there is one; the other colourings
+    /// are only remembered.
     pub fn with_history(
         alloc: Global,
         history: &[Colouring],
@@ -219,7 +226,9 @@ impl<B: Board, S: Seen> Record<B, S> {
         })
     }
 
-    /// Begins anew: the record has no steps, its history is this colouring alone, and so many passes were just made. Refused where a stone does not reach empty, by the least such point. The board is changed only where the colouring differs from the present one.
+    /// Starts again: the record then has no steps, its history is only this colouring, and this many passes have just been made.
+    /// Refused with the least point whose stone does not reach empty, if there is one. The board is changed only where the
+    /// colouring differs from the present one.
     pub fn reopen(
         &mut self,
         alloc: Global,
@@ -249,7 +258,9 @@ impl<B: Board, S: Seen> Record<B, S> {
         Ok(())
     }
 
-    /// Adds a turn of this colour, whoever played last. A pass always succeeds, memory aside. A move succeeds where the board holds the point, it is empty and the colouring that it makes has not occurred, in whatever order of turns (positional superko).
+    /// Adds a turn of this colour, whoever played last. A pass always succeeds, unless memory is refused. A move succeeds if the
+    /// board has the point, the point is empty, and the colouring that the move makes has not occurred before, whoever was to move
+    /// then (positional superko).
     pub fn play(&mut self, colour: Colour, turn: Turn) -> Result<(), TurnFault>
         ensures { Did (play_of self.old colour (ply_of self.old.size turn)) self.old result
             self.new }
@@ -265,7 +276,8 @@ impl<B: Board, S: Seen> Record<B, S> {
         }
     }
 
-    /// The same turn, made exactly where it is legal: whether it was. A move is played once, and where it repeats it is taken back, so a caller need not ask first. The error says that memory was refused, and then nothing changes.
+    /// Makes the turn, as `play` does, exactly if it is legal, and returns whether it was. A move is played once and taken back if
+    /// it repeats a position, so a caller need not ask first. An error means that memory was refused, and then nothing changes.
     pub fn play_if_legal(&mut self, colour: Colour, turn: Turn) -> Result<bool, AllocError>
         ensures { DidIfLegal (play_of self.old colour (ply_of self.old.size turn)) self.old result
             self.new }
@@ -321,28 +333,39 @@ impl<B: Board, S: Seen> Record<B, S> {
         Ok(())
     }
 
-    /// Lets points hold these cells, in order, and ends the passes. Refused where the board does not hold a point, or where a stone is left that does not reach empty, by the least such point. The colouring joins the history where it is new.
+    /// Makes points hold these cells, in order, and ends the passes. Refused if the board does not have one of the points, or with
+    /// the least point whose stone does not reach empty afterwards. The colouring joins the history if it is new.
     pub fn setup(&mut self, cells: &[(Point, Cell)]) -> Result<(), TurnFault>
         ensures { Did (setup_of self.old (map (numbered self.old.size) cells.now)) self.old result
             self.new }
     {
-        let before = self.board.colouring();
-        let Some(after) = with_cells(&before, cells) else {
+        let Some(after) = with_cells(&self.board.colouring(), cells) else {
             return Err(TurnFault::OffBoard);
         };
+        self.set_up(&after)
+    }
+
+    /// Makes all points hold what a colouring says, and ends the passes: a setup of each point. The board is changed once, at the
+    /// points where the colouring differs from the present one. Refused with the least point whose stone does not reach empty
+    /// afterwards, if there is one. The colouring joins the history if it is new.
+    pub fn set_up(&mut self, colouring: &Colouring) -> Result<(), TurnFault>
+        requires { side_of colouring.now ≡ self.old.size }
+        ensures { Did (set_up self.old colouring.now) self.old result self.new }
+    {
+        let before = self.board.colouring();
         let step = Step {
             place: self.place,
             occurred: self.seen.len(),
             passes: self.passes,
             last_colour: self.last_colour,
         };
-        if let Err(refused) = self.board.assign(&after) {
+        if let Err(refused) = self.board.assign(colouring) {
             return Err(TurnFault::NoLiberty {
                 point: refused.point,
             });
         }
         let key = self.board.key();
-        let Ok(place) = add_setup(&mut self.seen, &mut self.steps, step, after, key) else {
+        let Ok(place) = add_setup(&mut self.seen, &mut self.steps, step, *colouring, key) else {
             let _as_before = self.board.assign(&before);
             return Err(TurnFault::Memory);
         };
@@ -351,7 +374,7 @@ impl<B: Board, S: Seen> Record<B, S> {
         Ok(())
     }
 
-    /// Takes the last step back, with all that it changed, and takes no memory. Refused where there is none.
+    /// Takes the last step back, with all that it changed. It allocates no memory. Refused if there is no step.
     pub fn undo(&mut self) -> Result<(), TurnFault>
         ensures { DidWithoutMemory (undo_of self.old) self.old result self.new }
     {

@@ -8,7 +8,7 @@ ghost use Rattle.stone_key.specs.Key.{key_of};
 use go_points::Colouring;
 use std::alloc::{AllocError, Global};
 
-/// A list of colourings without repeats. Only `add`, `add_with` and `add_new` take memory.
+/// A list of colourings without repeats. Only `add`, `add_with` and `add_new` allocate memory.
 pub trait Seen: Drop {
     /// The colourings, in the order in which they occurred.
     ghost content: { Self → List (List Cell) };
@@ -17,11 +17,11 @@ pub trait Seen: Drop {
     fn new(alloc: Global) -> Self
         ensures { content result ≡ [] };
 
-    /// The place of the equal colouring.
+    /// The place of the equal colouring, if there is one.
     fn holds(&self, colouring: &Colouring) -> Option<usize>
         ensures { result ≡ place_in (content self.now) colouring.now };
 
-    /// The same, for a caller that knows the key of the colouring.
+    /// Like `holds`, for a caller that already knows the key of the colouring.
     fn holds_with(&self, colouring: &Colouring, key: u64) -> Option<usize>
         requires { key ≡ key_of colouring.now }
         ensures { result ≡ place_in (content self.now) colouring.now };
@@ -31,7 +31,7 @@ pub trait Seen: Drop {
         requires { place < length (content self.now) }
         ensures { slice_get (content self.now) place ≡ Some result.now };
 
-    /// How many colourings there are; each stands once.
+    /// How many colourings there are. Each occurs once.
     fn len(&self) -> usize
         ensures value { result ≡ length (content self.now) }
         ensures once { IsFalse (repeats (content self.now)) };
@@ -42,14 +42,14 @@ pub trait Seen: Drop {
         ensures ok { OnOk result (content self.new ≡ content self.old ++ colouring ∷ []) }
         ensures err { OnErr result (content self.new ≡ content self.old) };
 
-    /// The same, for a caller that knows the key of the colouring.
+    /// Like `add`, for a caller that already knows the key of the colouring.
     fn add_with(&mut self, colouring: Colouring, key: u64) -> Result<(), AllocError>
         requires key { key ≡ key_of colouring }
         requires fresh { place_in (content self.old) colouring ≡ None }
         ensures ok { OnOk result (content self.new ≡ content self.old ++ colouring ∷ []) }
         ensures err { OnErr result (content self.new ≡ content self.old) };
 
-    /// Adds the colouring where it is not held, by one look-up; else the place of the equal one.
+    /// Adds the colouring with one look-up if it is not held, and returns `None`; otherwise returns the place of the equal one.
     fn add_new(&mut self, colouring: Colouring, key: u64) -> Result<Option<usize>, AllocError>
         requires { key ≡ key_of colouring }
         ensures held { IfOk result (λ place. place ≡ place_in (content self.old) colouring) }
@@ -59,7 +59,7 @@ pub trait Seen: Drop {
         ensures new { OnErr result (place_in (content self.old) colouring ≡ None) }
         ensures err { OnErr result (content self.new ≡ content self.old) };
 
-    /// Takes the last colouring off.
+    /// Removes the last colouring.
     fn take_last(&mut self)
         requires { 0 < length (content self.old) }
         ensures { content self.new ≡ take (length (content self.old) - 1) (content self.old) };

@@ -3,19 +3,22 @@
 use crate::group::Group;
 use crate::json::judged_object;
 use crate::lines::{first_line, open_line};
+use crate::past::without_past;
+use crate::progress::tell_stones;
 use crate::side::Word;
 use crate::table::Table;
 use crate::verdict::{Judgement, judge};
-use crate::words::Request;
-use go_points::{Point, PointSet};
+use crate::words::{Form, Request};
+use go_points::{Cell, Colouring, Point, PointSet};
 use pn_search::Budget;
 use std::alloc::{AllocError, Global};
+use std::io::Write;
 use target_game::Problem;
 
-/// The share of the steps that the first, quick look at a group has.
+/// The first, quick look at a group gets one part in this many of the steps.
 const QUICK_SHARE: u64 = 10;
 
-/// The problem of the stone at the point in the same position, with the same past; none where there is no stone.
+/// The problem of the stone at the point in the same position, with the same past. `None` if there is no stone.
 fn problem_at(
     alloc: Global,
     problem: &Problem,
@@ -33,21 +36,53 @@ fn problem_at(
     }
 }
 
-/// What is said of every group of the problem's position, by row and column of its first stone.
-pub(crate) fn all_groups(
+/// How many stones are on the board.
+fn stone_count(colouring: &Colouring) -> usize {
+    let size = colouring.size();
+    let mut count: usize = 0;
+    for number in 0..size.area() {
+        let point = size.point_at(number);
+        if let Cell::Stone(_) = colouring.get(point) {
+            count = count.saturating_add(1);
+        }
+    }
+    count
+}
+
+/// What is said about every group of the problem's position, by row and column of its first stone.
+pub(crate) fn all_groups<N: Write>(
     alloc: Global,
     problem: &Problem,
     request: &Request,
     budget: Budget,
+    notes: &mut N,
+) -> Result<String, AllocError> {
+    if request.is_position_only {
+        return match without_past(alloc, problem)? {
+            Some(same) => each_group(alloc, &same, request, budget, notes),
+            None => Ok(String::new(alloc)),
+        };
+    }
+    each_group(alloc, problem, request, budget, notes)
+}
+
+/// Like `all_groups`, for this problem with its past.
+fn each_group<N: Write>(
+    alloc: Global,
+    problem: &Problem,
+    request: &Request,
+    budget: Budget,
+    notes: &mut N,
 ) -> Result<String, AllocError> {
     let size = problem.size();
+    let all = stone_count(problem.colouring());
     let mut said = PointSet::new();
     let mut text = String::new(alloc);
     for number in 0..size.area() {
         let point = size.point_at(number);
         if !said.has(point) {
             if let Some(other) = problem_at(alloc, problem, point)? {
-                let part = one_group(alloc, other, request, budget, &mut said)?;
+                let part = one_group(alloc, other, request, budget, all, &mut said, notes)?;
                 text.push_str(part.as_str())?;
             }
         }
@@ -55,13 +90,15 @@ pub(crate) fn all_groups(
     Ok(text)
 }
 
-/// What is said of one group, whose stones are noted.
-fn one_group(
+/// What is said about one group. Its stones are noted.
+fn one_group<N: Write>(
     alloc: Global,
     problem: Problem,
     request: &Request,
     budget: Budget,
+    all: usize,
     said: &mut PointSet,
+    notes: &mut N,
 ) -> Result<String, AllocError> {
     let Some(group) = Group::new(alloc, problem)? else {
         return Ok(String::new(alloc));
@@ -69,21 +106,38 @@ fn one_group(
     for stone in group.position.stones(group.target).iter() {
         said.insert(stone);
     }
+    let text = text_of(alloc, &group, request, budget)?;
+    if request.is_told {
+        tell_stones(alloc, &group, said.len(), all, notes)?;
+    }
+    Ok(text)
+}
+
+/// What is said about the group: what a quick look found, if that is sure, and otherwise what both procedures find.
+fn text_of(
+    alloc: Global,
+    group: &Group,
+    request: &Request,
+    budget: Budget,
+) -> Result<String, AllocError> {
+    // The notes of a run are about its groups, not about their questions.
+    let mut silent: Vec<u8> = Vec::new(alloc);
+    let is_json = request.form == Form::Json;
     let quick = Budget {
         steps: (budget.steps / QUICK_SHARE).max(1),
         table: budget.table,
     };
-    let mut table = Table::new(alloc, quick);
-    let judged = judge(alloc, &group, &mut table, true)?;
+    let mut table = Table::new(alloc, quick, false);
+    let judged = judge(alloc, group, &mut table, true, &mut silent)?;
     if judged.word == Word::Sure || request.is_quick {
-        return said_of(alloc, &group, &table, &judged, request.is_json);
+        return said_of(alloc, group, &table, &judged, is_json);
     }
-    let mut table = Table::new(alloc, budget);
-    let judged = judge(alloc, &group, &mut table, false)?;
-    said_of(alloc, &group, &table, &judged, request.is_json)
+    let mut table = Table::new(alloc, budget, false);
+    let judged = judge(alloc, group, &mut table, false, &mut silent)?;
+    said_of(alloc, group, &table, &judged, is_json)
 }
 
-/// The line or the object of a group. One of which nothing was decided is open.
+/// The line or the object of a group. A group about which nothing was decided is open.
 fn said_of(
     alloc: Global,
     group: &Group,

@@ -1,4 +1,4 @@
-//! A problem that was put to the search, and its winner.
+//! A problem that was given to the search, and its winner.
 
 ghost use Rattle.std.specs.Prelude.{◌≡◌, IfOk, IfSome};
 ghost use Rattle.target_game.specs.State.{start};
@@ -10,23 +10,30 @@ use pn_search::{Budget, Cause, Verdict, solve};
 use std::alloc::{AllocError, Global};
 use target_game::Problem;
 
-/// A problem that was put to the search, and who wins it by a claim that the checker accepted, where one was found.
+/// A problem that was given to the search, and who wins it by a claim that the checker accepted, if one was found.
 #[derive(Drop)]
 pub(crate) struct Asked {
     pub(crate) problem: Problem,
     pub(crate) winner: Option<Colour>,
-    /// The winner's first turn, where it moves first.
+    /// The winner's first turn, if the winner moves first.
     pub(crate) turn: Option<Turn>,
+    /// Why none was found, and after how many steps.
+    pub(crate) cause: Option<Cause>,
+    pub(crate) steps: u64,
     ghost wins: { ∥ IfSome winner (λ w. Wins w (start problem)) ∥₁ },
 }
 
-/// Puts the problem to the search. Only memory is refused.
+/// Gives the problem to the search. It fails only if memory is refused.
 pub(crate) fn ask(alloc: Global, problem: Problem, budget: Budget) -> Result<Asked, AllocError>
     ensures { IfOk result (λ a. a.problem ≡ problem) }
 {
     match solve(alloc, problem, budget) {
         Verdict::Wins(checked) => won(alloc, &checked),
-        Verdict::Unknown { problem, cause, .. } => unknown(problem, cause),
+        Verdict::Unknown {
+            problem,
+            cause,
+            steps,
+        } => unknown(problem, cause, steps),
     }
 }
 
@@ -39,11 +46,13 @@ fn won(alloc: Global, checked: &Checked) -> Result<Asked, AllocError>
         problem: checked.problem().copy(alloc)?,
         winner: Some(winner),
         turn: checked.first_turn(),
+        cause: None,
+        steps: 0,
     })
 }
 
 /// The problem without a winner.
-fn unknown(problem: Problem, cause: Cause) -> Result<Asked, AllocError>
+fn unknown(problem: Problem, cause: Cause, steps: u64) -> Result<Asked, AllocError>
     ensures { IfOk result (λ a. a.problem ≡ problem) }
 {
     match cause {
@@ -52,6 +61,8 @@ fn unknown(problem: Problem, cause: Cause) -> Result<Asked, AllocError>
             problem,
             winner: None,
             turn: None,
+            cause: Some(cause),
+            steps,
         }),
     }
 }

@@ -1,13 +1,18 @@
-//! The first procedure: at sizes that grow, the natural walls and the bound that speaks against their winner.
+//! The first procedure: for growing sizes, the natural walls and the bound that speaks against their winner.
 //!
-//! The attacker wins surely where it wins though weak walls fall, the defender where it wins though it is shut in. Where
+//! The attacker surely wins if it wins though weak walls fall, and the defender surely wins if it wins though it is shut in. If
 //! neither is so, the natural walls decide, if they say the same at the last two sizes.
 
+ghost use Rattle.std.specs.Prelude.{◌≡◌};
+ghost use Rattle.group_verdicts.specs.Sides.{is_won_by};
+ghost use Rattle.group_verdicts.specs.First.{sure_winner, same_winner, is_sure, is_likely, first_finding, found_by};
+
 use crate::group::Group;
-use crate::side::{Finding, Side, Word};
+use crate::side::{Finding, Side, Word, is_won_by};
 use crate::table::{Table, question};
 use regions::Walls;
 use std::alloc::{AllocError, Global};
+use std::io::Write;
 
 /// The sizes, in empty points.
 const SIZES: [usize; 5] = [6, 9, 12, 15, 18];
@@ -15,7 +20,7 @@ const SIZES: [usize; 5] = [6, 9, 12, 15, 18];
 /// What was found so far.
 #[derive(Clone, Copy, Debug)]
 struct Course {
-    /// Walls that were unknown at one size: a larger region would take longer still.
+    /// Walls that were unknown at one size. A larger region would take even longer.
     no_natural: bool,
     no_kind: bool,
     no_hard: bool,
@@ -44,7 +49,7 @@ impl Course {
         }
     }
 
-    /// Takes the answers of one size. Whether any was known.
+    /// Takes the answers of one size. Returns whether any was known.
     fn note(&mut self, natural: Option<Side>, kind: Option<Side>, hard: Option<Side>) -> bool {
         if natural.is_none() && kind.is_none() && hard.is_none() {
             return false;
@@ -60,43 +65,78 @@ impl Course {
         true
     }
 
-    /// Whether the last two sizes are sure of the same.
+    /// Whether the last two sizes are sure of the same winner.
     fn is_settled(&self) -> bool {
-        self.sizes > 1 && self.sure.is_some() && self.sure == self.sure_before
+        self.sizes > 1 && self.sure.is_some() && same_winner(self.sure, self.sure_before)
     }
 
-    /// What is found, where so many points are reached.
-    fn finding(&self, reached: usize) -> Finding {
-        let is_small = reached <= SIZES[0];
-        if let Some(winner) = self.sure {
-            let agrees = self.naturals == 0 || self.natural == Some(winner);
-            if agrees && (self.sizes > 1 || is_small) {
-                return Finding::of(winner, Word::Sure);
-            }
+    /// Whether the winner that was last sure is the one to name. One size is enough if nothing more can be reached.
+    fn is_sure(&self, is_small: bool) -> bool
+        ensures { result ≡ is_sure self.now is_small }
+    {
+        self.sure.is_some()
+            && (self.naturals == 0 || same_winner(self.sure, self.natural))
+            && (self.sizes > 1 || is_small)
+    }
+
+    /// Whether the winner by natural walls is the one to name.
+    fn is_likely(&self, is_small: bool) -> bool
+        ensures { result ≡ is_likely self.now is_small }
+    {
+        self.natural.is_some()
+            && (self.naturals > 1 && same_winner(self.natural, self.natural_before)
+                || self.naturals == 1 && is_small)
+    }
+
+    /// What is found. `is_small` says whether everything that can be reached was in the region at the first size.
+    fn finding(&self, is_small: bool) -> Finding
+        ensures { result ≡ first_finding self.now is_small }
+    {
+        if self.is_sure(is_small) {
+            return found_by(self.sure, Word::Sure);
         }
-        if let Some(winner) = self.natural {
-            let is_same = self.naturals > 1 && self.natural == self.natural_before;
-            if is_same || self.naturals == 1 && is_small {
-                return Finding::of(winner, Word::Likely);
-            }
+        if self.is_likely(is_small) {
+            return found_by(self.natural, Word::Likely);
         }
         Finding::none()
     }
 }
 
+/// Whether the winners are the same, or both `None`.
+fn same_winner(one: Option<Side>, other: Option<Side>) -> bool
+    ensures { result ≡ same_winner one other }
+{
+    match one {
+        Some(side) => is_won_by(side, other),
+        None => other.is_none(),
+    }
+}
+
+/// The finding of this winner, or of none.
+fn found_by(winner: Option<Side>, word: Word) -> Finding
+    ensures { result ≡ found_by winner word }
+{
+    match winner {
+        Some(side) => Finding::of(side, word),
+        None => Finding::none(),
+    }
+}
+
 /// Who wins though everything speaks for the other side.
-fn sure_winner(kind: Option<Side>, hard: Option<Side>) -> Option<Side> {
-    if kind == Some(Side::Attacker) {
+fn sure_winner(kind: Option<Side>, hard: Option<Side>) -> Option<Side>
+    ensures { result ≡ sure_winner kind hard }
+{
+    if is_won_by(Side::Attacker, kind) {
         return Some(Side::Attacker);
     }
-    if hard == Some(Side::Defender) {
+    if is_won_by(Side::Defender, hard) {
         return Some(Side::Defender);
     }
     None
 }
 
 /// The answer with these walls, unless they were unknown at a smaller size.
-fn answer(
+fn answer<N: Write>(
     alloc: Global,
     group: &Group,
     table: &mut Table,
@@ -104,24 +144,27 @@ fn answer(
     walls: Walls,
     count: usize,
     is_off: &mut bool,
+    notes: &mut N,
 ) -> Result<Option<Side>, AllocError> {
     if *is_off {
         return Ok(None);
     }
-    let winner = question(alloc, group, table, first, walls, count)?;
+    let winner = question(alloc, group, table, first, walls, count, notes)?;
     if winner.is_none() {
         *is_off = true;
     }
     Ok(winner)
 }
 
-/// What is found where this side moves first. The walls that shut the defender in are hard, or those where no friend helps.
-pub(crate) fn first_procedure(
+/// What is found if this side moves first. The walls that shut the defender in are the hard ones, or those with which no friend
+/// helps.
+pub(crate) fn first_procedure<N: Write>(
     alloc: Global,
     group: &Group,
     table: &mut Table,
     first: Side,
     hard: Walls,
+    notes: &mut N,
 ) -> Result<Finding, AllocError> {
     let mut course = Course::begin();
     for i in 0..SIZES.len() {
@@ -135,9 +178,19 @@ pub(crate) fn first_procedure(
             Walls::Natural,
             count,
             &mut is_off,
+            notes,
         )?;
         course.no_natural = is_off;
-        let kind = bound_of_kind(alloc, group, table, first, count, natural, &mut course)?;
+        let kind = bound_of_kind(
+            alloc,
+            group,
+            table,
+            first,
+            count,
+            natural,
+            &mut course,
+            notes,
+        )?;
         let bound = bound_of_hard(
             alloc,
             group,
@@ -147,16 +200,17 @@ pub(crate) fn first_procedure(
             count,
             natural,
             &mut course,
+            notes,
         )?;
         if !course.note(natural, kind, bound) || course.is_settled() || group.order.len() <= count {
             break;
         }
     }
-    Ok(course.finding(group.order.len()))
+    Ok(course.finding(group.order.len() <= SIZES[0]))
 }
 
-/// The answer where weak walls fall, unless the natural walls spoke for the defender.
-fn bound_of_kind(
+/// The answer if weak walls fall, unless the natural walls spoke for the defender.
+fn bound_of_kind<N: Write>(
     alloc: Global,
     group: &Group,
     table: &mut Table,
@@ -164,18 +218,28 @@ fn bound_of_kind(
     count: usize,
     natural: Option<Side>,
     course: &mut Course,
+    notes: &mut N,
 ) -> Result<Option<Side>, AllocError> {
     if natural == Some(Side::Defender) {
         return Ok(None);
     }
     let mut is_off = course.no_kind;
-    let winner = answer(alloc, group, table, first, Walls::Kind, count, &mut is_off)?;
+    let winner = answer(
+        alloc,
+        group,
+        table,
+        first,
+        Walls::Kind,
+        count,
+        &mut is_off,
+        notes,
+    )?;
     course.no_kind = is_off;
     Ok(winner)
 }
 
-/// The answer where the defender is shut in, unless the natural walls spoke for the attacker.
-fn bound_of_hard(
+/// The answer if the defender is shut in, unless the natural walls spoke for the attacker.
+fn bound_of_hard<N: Write>(
     alloc: Global,
     group: &Group,
     table: &mut Table,
@@ -184,12 +248,13 @@ fn bound_of_hard(
     count: usize,
     natural: Option<Side>,
     course: &mut Course,
+    notes: &mut N,
 ) -> Result<Option<Side>, AllocError> {
     if natural == Some(Side::Attacker) {
         return Ok(None);
     }
     let mut is_off = course.no_hard;
-    let winner = answer(alloc, group, table, first, hard, count, &mut is_off)?;
+    let winner = answer(alloc, group, table, first, hard, count, &mut is_off, notes)?;
     course.no_hard = is_off;
     Ok(winner)
 }

@@ -35,8 +35,8 @@ impl Group {
         }))
     }
 
-    /// The problem of a position in which what is outside is supposed, with this side to move first. Where no stone was put up
-    /// the past counts; else there is none, since the position never occurred.
+    /// The problem of a position in which something is supposed about the outside, with this side to move first. If no stone was
+    /// placed, the past counts; otherwise there is no past, since the position never occurred.
     pub(crate) fn problem_of(
         &self,
         alloc: Global,

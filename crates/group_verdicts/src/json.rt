@@ -1,4 +1,4 @@
-//! What is found, as JSON: an object a line for each target.
+//! What is found, as JSON: one object for each target, each on its own line.
 
 use crate::group::Group;
 use crate::lines::{push_point, push_turn_name};
@@ -6,6 +6,7 @@ use crate::side::{Finding, Side, Word};
 use crate::table::{Row, Table};
 use crate::verdict::{Fate, Judgement};
 use go_points::{Colour, PointSet, Size};
+use pn_search::Cause;
 use std::alloc::{AllocError, Global};
 
 /// The letter of a colour.
@@ -16,7 +17,7 @@ fn letter(colour: Colour) -> char {
     }
 }
 
-/// Whither a fate leans that is not decided.
+/// Which way a fate that is not decided leans.
 fn leans(fate: Fate) -> &'static str {
     match fate {
         Fate::Alive => "life",
@@ -54,7 +55,7 @@ pub(crate) fn judged_object(
     Ok(text)
 }
 
-/// The object where one side alone was asked.
+/// The object if only one side was asked about.
 pub(crate) fn found_object(
     alloc: Global,
     group: &Group,
@@ -90,16 +91,25 @@ fn push_winner(
     defender: Colour,
     winner: Option<Side>,
 ) -> Result<(), AllocError> {
+    push_named_winner(text, "winner", defender, winner)
+}
+
+fn push_named_winner(
+    text: &mut String,
+    key: &str,
+    defender: Colour,
+    winner: Option<Side>,
+) -> Result<(), AllocError> {
     match winner {
         Some(side) => {
             let name = letter(side.colour(defender));
-            write!(text, ",\"winner\":\"{name}\"")
+            write!(text, ",\"{key}\":\"{name}\"")
         }
-        None => text.push_str(",\"winner\":null"),
+        None => write!(text, ",\"{key}\":null"),
     }
 }
 
-/// Puts all questions and the end of the object at the end.
+/// Appends all questions and the end of the object.
 fn push_rows(text: &mut String, group: &Group, table: &Table) -> Result<(), AllocError> {
     text.push_str(",\"questions\":[")?;
     let mut is_first = true;
@@ -113,7 +123,7 @@ fn push_rows(text: &mut String, group: &Group, table: &Table) -> Result<(), Allo
     text.push_str("]}\n")
 }
 
-/// Puts a question at the end: who moves first, its size and walls, its points, the stones that were put up, and who wins.
+/// Appends a question: who moves first, its size and walls, its points, the stones that were placed, and who wins.
 fn push_row(text: &mut String, group: &Group, table: &Table, row: &Row) -> Result<(), AllocError> {
     let mover = letter(row.first.colour(group.defender));
     let points = row.count;
@@ -127,6 +137,8 @@ fn push_row(text: &mut String, group: &Group, table: &Table, row: &Row) -> Resul
         group.defender,
         table.winner_at(row.place, group.defender),
     )?;
+    push_cause(text, table, row)?;
+    push_forgotten(text, group, table, row)?;
     push_move(text, group, table, row)?;
     let size = group.position.colouring().size();
     push_set(text, "inside", size, &row.inside)?;
@@ -136,7 +148,7 @@ fn push_row(text: &mut String, group: &Group, table: &Table, row: &Row) -> Resul
     text.push('}')
 }
 
-/// The name of the list of stones of a colour that were put up.
+/// The name of the list of stones of a colour that were placed.
 fn colour_key(colour: Colour) -> &'static str {
     match colour {
         Colour::Black => "black",
@@ -144,7 +156,40 @@ fn colour_key(colour: Colour) -> &'static str {
     }
 }
 
-/// Puts the winner's first move at the end.
+/// Appends why nobody's win was found, and after how many steps.
+fn push_cause(text: &mut String, table: &Table, row: &Row) -> Result<(), AllocError> {
+    let Some((cause, steps)) = table.cause_at(row.place) else {
+        return Ok(());
+    };
+    let name = cause_name(cause);
+    write!(text, ",\"unknown\":\"{name}\",\"steps\":{steps}")
+}
+
+/// The cause, as `tsumego` names it.
+fn cause_name(cause: Cause) -> &'static str {
+    match cause {
+        Cause::Steps => "step budget",
+        Cause::Memory => "memory",
+        Cause::NotConfirmed => "not confirmed",
+        Cause::Limit => "limit",
+    }
+}
+
+/// Appends who wins if the past is forgotten, if the past bars a turn.
+fn push_forgotten(
+    text: &mut String,
+    group: &Group,
+    table: &Table,
+    row: &Row,
+) -> Result<(), AllocError> {
+    if row.forgotten.is_none() {
+        return Ok(());
+    }
+    let winner = table.winner_at(row.forgotten, group.defender);
+    push_named_winner(text, "winner_without_past", group.defender, winner)
+}
+
+/// Appends the winner's first move.
 fn push_move(text: &mut String, group: &Group, table: &Table, row: &Row) -> Result<(), AllocError> {
     match table.turn_at(row.place) {
         Some(turn) => {
@@ -156,7 +201,7 @@ fn push_move(text: &mut String, group: &Group, table: &Table, row: &Row) -> Resu
     }
 }
 
-/// Puts a list of points at the end.
+/// Appends a list of points.
 fn push_set(text: &mut String, name: &str, size: Size, set: &PointSet) -> Result<(), AllocError> {
     write!(text, ",\"{name}\":[")?;
     let mut is_first = true;

@@ -8,7 +8,7 @@ use go_points::{Colour, Point, Size, Turn, to_gtp};
 use regions::Walls;
 use std::alloc::{AllocError, Global};
 
-/// All walls that are asked, in the order in which they are told.
+/// All walls that are asked about, in the order in which they are reported.
 const WALLS: [Walls; 6] = [
     Walls::Natural,
     Walls::Kind,
@@ -18,7 +18,7 @@ const WALLS: [Walls; 6] = [
     Walls::Alone,
 ];
 
-/// Puts the name of the point at the end, as diagrams have it.
+/// Appends the name of the point, as in diagrams.
 pub(crate) fn push_point(text: &mut String, size: Size, point: Point) -> Result<(), AllocError> {
     if size.holds(point) {
         let name = to_gtp(size, point);
@@ -30,15 +30,15 @@ pub(crate) fn push_point(text: &mut String, size: Size, point: Point) -> Result<
 }
 
 /// The name of a colour in a sentence.
-fn colour_name(colour: Colour) -> &'static str {
+pub(crate) fn colour_name(colour: Colour) -> &'static str {
     match colour {
         Colour::Black => "Black",
         Colour::White => "White",
     }
 }
 
-/// What happens to the target where this side wins.
-fn end_name(winner: Option<Side>) -> &'static str {
+/// What happens to the target if this side wins.
+pub(crate) fn end_name(winner: Option<Side>) -> &'static str {
     match winner {
         Some(Side::Attacker) => "dies",
         Some(Side::Defender) => "lives",
@@ -47,7 +47,7 @@ fn end_name(winner: Option<Side>) -> &'static str {
 }
 
 /// What is supposed with these walls.
-fn walls_text(walls: Walls) -> &'static str {
+pub(crate) fn walls_text(walls: Walls) -> &'static str {
     match walls {
         Walls::Open => "nothing is supposed",
         Walls::Kind => "walls with few liberties outside fall",
@@ -77,10 +77,24 @@ pub(crate) fn judged_lines(
     if let Some(finding) = judged.defender_first {
         push_finding(&mut text, group, table, Side::Defender, &finding)?;
     }
+    text.push_str(trust_text(judged.word))?;
     Ok(text)
 }
 
-/// The line of a group with its fate alone, and, where that is not decided, whither it leans.
+/// How far a word may be trusted, and what is proved, as a line; empty if no status is named.
+pub(crate) fn trust_text(word: Word) -> &'static str {
+    match word {
+        Word::Sure => {
+            "  sure: more than 9 of 10 agree with people's answers; what is proved is each question's winner, with the stones put up\n"
+        }
+        Word::Likely => {
+            "  likely: more than 8 of 10 agree with people's answers; what is proved is each question's winner, with the stones put up\n"
+        }
+        _ => "",
+    }
+}
+
+/// The line of a group with only its fate and, if that is not decided, which way it leans.
 pub(crate) fn first_line(
     alloc: Global,
     group: &Group,
@@ -104,12 +118,25 @@ pub(crate) fn first_line(
             let leans = leans_text(judged.fate);
             write!(text, ": unknown\n  leaning: {leans} (6 of 10 are right)\n")?;
         }
-        Word::Unknown => write!(text, ": unknown\n")?,
+        Word::Unknown => push_unknown(&mut text, judged)?,
     }
     Ok(text)
 }
 
-/// The line of a group of which nothing was decided.
+/// Appends what is said if nothing is decided: it may depend on the walls.
+fn push_unknown(text: &mut String, judged: &Judgement) -> Result<(), AllocError> {
+    let is_split = match judged.defender_first {
+        Some(finding) => finding.is_split || judged.attacker_first.is_split,
+        None => judged.attacker_first.is_split,
+    };
+    if is_split {
+        text.push_str(": unknown, it depends on the walls\n")
+    } else {
+        text.push_str(": unknown\n")
+    }
+}
+
+/// The line of a group about which nothing was decided.
 pub(crate) fn open_line(alloc: Global, group: &Group) -> Result<String, AllocError> {
     let mut text = String::new(alloc);
     push_point(&mut text, group.position.colouring().size(), group.target)?;
@@ -117,7 +144,7 @@ pub(crate) fn open_line(alloc: Global, group: &Group) -> Result<String, AllocErr
     Ok(text)
 }
 
-/// Whither a group leans whose fate is not decided.
+/// Which way a group whose fate is not decided leans.
 pub(crate) fn leans_text(fate: Fate) -> &'static str {
     match fate {
         Fate::Alive => "it lives",
@@ -127,7 +154,7 @@ pub(crate) fn leans_text(fate: Fate) -> &'static str {
     }
 }
 
-/// The lines where one side alone was asked: the winner, where it is decided, and the suppositions.
+/// The lines if only one side was asked about: the winner, if it is decided, and the suppositions.
 pub(crate) fn found_lines(
     alloc: Global,
     group: &Group,
@@ -146,10 +173,11 @@ pub(crate) fn found_lines(
         _ => write!(text, ": unknown\n")?,
     }
     push_finding(&mut text, group, table, first, finding)?;
+    text.push_str(trust_text(finding.word))?;
     Ok(text)
 }
 
-/// Puts the lines of one first mover at the end.
+/// Appends the lines for one first mover.
 fn push_finding(
     text: &mut String,
     group: &Group,
@@ -157,9 +185,29 @@ fn push_finding(
     first: Side,
     finding: &Finding,
 ) -> Result<(), AllocError> {
+    text.push_str("  ")?;
+    push_end(text, group, table, first, finding)?;
+    text.push('\n')?;
+    for walls in WALLS {
+        push_walls(text, table, group.defender, first, walls)?;
+    }
+    push_ko(text, table, group.defender, first)
+}
+
+/// Appends who moves first, what happens then and by which move, and the word.
+pub(crate) fn push_end(
+    text: &mut String,
+    group: &Group,
+    table: &Table,
+    first: Side,
+    finding: &Finding,
+) -> Result<(), AllocError> {
     let mover = colour_name(first.colour(group.defender));
+    if finding.is_split {
+        return write!(text, "{mover} first: it depends on the walls");
+    }
     let end = end_name(finding.winner);
-    write!(text, "  {mover} first: {end}")?;
+    write!(text, "{mover} first: {end}")?;
     if finding.winner == Some(first) {
         push_turn(text, group, table, first)?;
     }
@@ -167,14 +215,38 @@ fn push_finding(
         let word = finding.word.name();
         write!(text, " ({word})")?;
     }
-    text.push('\n')?;
-    for walls in WALLS {
-        push_walls(text, table, group.defender, first, walls)?;
-    }
     Ok(())
 }
 
-/// Puts the first move of the largest size at which the mover wins at the end.
+/// Appends a line if a winner depends on who took last, with what happens at which sizes if the past is forgotten.
+fn push_ko(
+    text: &mut String,
+    table: &Table,
+    defender: Colour,
+    first: Side,
+) -> Result<(), AllocError> {
+    let mut is_first = true;
+    for row in table.rows.as_slice() {
+        if row.first == first && table.is_ko(row, defender) {
+            text.push_str(if is_first {
+                "    ko: it depends on who took last; without the past "
+            } else {
+                ", "
+            })?;
+            is_first = false;
+            let end = end_name(table.winner_at(row.forgotten, defender));
+            let count = row.count;
+            let walls = row.walls.name();
+            write!(text, "{end} at {count} ({walls})")?;
+        }
+    }
+    if is_first {
+        return Ok(());
+    }
+    text.push('\n')
+}
+
+/// Appends the first move of the largest size at which the mover wins.
 fn push_turn(
     text: &mut String,
     group: &Group,
@@ -188,7 +260,7 @@ fn push_turn(
     push_turn_name(text, group.position.colouring().size(), turn)
 }
 
-/// Puts the name of a turn at the end.
+/// Appends the name of a turn.
 pub(crate) fn push_turn_name(text: &mut String, size: Size, turn: Turn) -> Result<(), AllocError> {
     match turn {
         Turn::Pass => text.push_str("pass"),
@@ -212,7 +284,7 @@ fn turn_of(table: &Table, defender: Colour, first: Side) -> Option<Turn> {
     found
 }
 
-/// Puts a line for each end that came about with these walls, with its sizes.
+/// Appends a line for each end that came about with these walls, with its sizes.
 fn push_walls(
     text: &mut String,
     table: &Table,
@@ -249,7 +321,7 @@ fn is_told(
     row.first == first && row.walls == walls && table.winner_at(row.place, defender) == end
 }
 
-/// Puts a size at the end, before the first of which stands what happens there.
+/// Appends a size. Before the first of them is what happens there.
 fn push_size(
     text: &mut String,
     end: Option<Side>,

@@ -1,16 +1,21 @@
-//! A run of the program: its words and its input to its answer.
+//! A run of the program: from its words and its input to its answer.
 
 use crate::all_groups::all_groups;
+use crate::claims::claims;
 use crate::group::Group;
 use crate::json::{found_object, judged_object};
 use crate::lines::{found_lines, judged_lines};
+use crate::past::without_past;
+use crate::refusals::{no_marks, no_stone, no_tree, refused};
+use crate::side::{Finding, Side};
+use crate::solutions::{Told, solutions};
 use crate::table::Table;
-use crate::verdict::{found, judge};
-use crate::words::{Request, read_request};
+use crate::verdict::{Judgement, found, judge};
+use crate::words::{Form, Request, read_request};
 use go_points::to_sgf;
 use pn_search::Budget;
 use record_tools::{NoStone, marked_problem, stone_problem};
-use sgf_text::{SgfFault, Tree, read_tree, write_bytes};
+use sgf_text::{Tree, read_tree, write_bytes};
 use std::alloc::{AllocError, Global};
 use std::convert::AsStr;
 use std::io::{Read, Write};
@@ -19,7 +24,7 @@ use target_game::Problem;
 use tool_parts::{Output, Status, read_whole, without_input, without_request, write_output};
 use tsumego_problem::{ProblemFault, board_size};
 
-/// The most entries of the search's table.
+/// The greatest number of entries of the search's table.
 const TABLE: usize = 65_536;
 
 /// Runs the program on its words, the first of which is its name.
@@ -51,7 +56,7 @@ fn output<S: AsStr, R: Read, N: Write>(
     match read_tree(alloc, bytes.as_slice()) {
         Ok((tree, end)) => {
             tell_others(alloc, bytes.as_slice(), end, notes);
-            output_of(alloc, &request, &tree)
+            output_of(alloc, &request, &tree, notes)
         }
         Err(fault) => no_tree(alloc, fault),
     }
@@ -69,19 +74,24 @@ fn tell_others<N: Write>(alloc: Global, bytes: &[u8], end: usize, notes: &mut N)
 }
 
 /// What is written for what is asked for and this record.
-fn output_of(alloc: Global, request: &Request, tree: &Tree) -> Result<Output, AllocError> {
+fn output_of<N: Write>(
+    alloc: Global,
+    request: &Request,
+    tree: &Tree,
+    notes: &mut N,
+) -> Result<Output, AllocError> {
     let Some(budget) = budget_of(request) else {
         return Err(AllocError);
     };
     if request.is_all {
-        return all_answered(alloc, request, tree, budget);
+        return all_answered(alloc, request, tree, budget, notes);
     }
     let problem = match problem_asked(alloc, request, tree) {
         Ok(problem) => problem,
-        Err(none) => return no_stone(alloc, none),
+        Err(none) => return nothing_asked(alloc, request, tree, none),
     };
     match group_of(alloc, problem, request.is_position_only)? {
-        Some(group) => answered(alloc, request, &group, budget),
+        Some(group) => answered(alloc, request, &group, budget, notes),
         None => refused(format!(in alloc; "refused: there is no stone at the target\n")?),
     }
 }
@@ -92,6 +102,20 @@ fn problem_asked(alloc: Global, request: &Request, tree: &Tree) -> Result<Proble
         marked_problem(alloc, tree)
     } else {
         stone_problem(alloc, tree, request.node, request.target.as_bytes())
+    }
+}
+
+/// Why there is no such problem.
+fn nothing_asked(
+    alloc: Global,
+    request: &Request,
+    tree: &Tree,
+    none: NoStone,
+) -> Result<Output, AllocError> {
+    if request.target.is_empty() {
+        no_marks(alloc, none)
+    } else {
+        no_stone(alloc, tree, request.node, request.target.as_str(), none)
     }
 }
 
@@ -110,18 +134,6 @@ fn group_of(
     }
 }
 
-/// The problem as if nothing had been played before.
-fn without_past(alloc: Global, problem: &Problem) -> Result<Option<Problem>, AllocError> {
-    let mut history = Vec::new(alloc);
-    history.push(*problem.colouring())?;
-    let targets = *problem.targets();
-    let region = *problem.region();
-    match Problem::new(history, 0, problem.mover(), 0, targets, region) {
-        Ok(made) => Ok(Some(made)),
-        Err(_) => Ok(None),
-    }
-}
-
 /// What the search may use for each question.
 fn budget_of(request: &Request) -> Option<Budget> {
     let entries = NonZeroUsize::new(TABLE)?;
@@ -131,18 +143,19 @@ fn budget_of(request: &Request) -> Option<Budget> {
     })
 }
 
-/// What is said of all groups.
-fn all_answered(
+/// What is said about all groups.
+fn all_answered<N: Write>(
     alloc: Global,
     request: &Request,
     tree: &Tree,
     budget: Budget,
+    notes: &mut N,
 ) -> Result<Output, AllocError> {
     let problem = match any_problem(alloc, tree, request.node) {
         Ok(problem) => problem,
-        Err(none) => return no_stone(alloc, none),
+        Err(none) => return no_stone(alloc, tree, request.node, "", none),
     };
-    let text = all_groups(alloc, &problem, request, budget)?;
+    let text = all_groups(alloc, &problem, request, budget, notes)?;
     Ok(Output::Text(text, Status::Answered))
 }
 
@@ -163,60 +176,86 @@ fn any_problem(alloc: Global, tree: &Tree, node: Option<usize>) -> Result<Proble
 }
 
 /// The answer.
-fn answered(
+fn answered<N: Write>(
     alloc: Global,
     request: &Request,
     group: &Group,
     budget: Budget,
+    notes: &mut N,
 ) -> Result<Output, AllocError> {
-    let mut table = Table::new(alloc, budget);
-    let text = match request.first {
+    let mut table = Table::new(alloc, budget, request.is_told);
+    match request.first {
         Some(first) => {
-            let finding = found(alloc, group, &mut table, first, request.is_quick)?;
-            if request.is_json {
-                found_object(alloc, group, &table, first, &finding)?
-            } else {
-                found_lines(alloc, group, &table, first, &finding)?
-            }
+            let finding = found(alloc, group, &mut table, first, request.is_quick, notes)?;
+            answered_one(alloc, request.form, group, &table, first, finding)
         }
         None => {
-            let judged = judge(alloc, group, &mut table, request.is_quick)?;
-            if request.is_json {
-                judged_object(alloc, group, &table, &judged)?
-            } else {
-                judged_lines(alloc, group, &table, &judged)?
-            }
+            let judged = judge(alloc, group, &mut table, request.is_quick, notes)?;
+            answered_both(alloc, request.form, group, &table, &judged)
         }
+    }
+}
+
+/// The answer if only one side was asked about.
+fn answered_one(
+    alloc: Global,
+    form: Form,
+    group: &Group,
+    table: &Table,
+    first: Side,
+    finding: Finding,
+) -> Result<Output, AllocError> {
+    if form == Form::Json {
+        return text_of(found_object(alloc, group, table, first, &finding)?);
+    }
+    let lines = found_lines(alloc, group, table, first, &finding)?;
+    let told = [Told { first, finding }];
+    in_form(alloc, form, group, table, &told, lines)
+}
+
+/// The answer if both sides were asked about.
+fn answered_both(
+    alloc: Global,
+    form: Form,
+    group: &Group,
+    table: &Table,
+    judged: &Judgement,
+) -> Result<Output, AllocError> {
+    if form == Form::Json {
+        return text_of(judged_object(alloc, group, table, judged)?);
+    }
+    let lines = judged_lines(alloc, group, table, judged)?;
+    let attacker = Told {
+        first: Side::Attacker,
+        finding: judged.attacker_first,
     };
-    Ok(Output::Text(text, Status::Answered))
-}
-
-/// Why no tree was read.
-fn no_tree(alloc: Global, fault: SgfFault) -> Result<Output, AllocError> {
-    if fault == SgfFault::Memory {
-        return Err(AllocError);
-    }
-    refused(format!(in alloc; "refused: {fault}\n")?)
-}
-
-/// Why there is no stone to ask about.
-fn no_stone(alloc: Global, none: NoStone) -> Result<Output, AllocError> {
-    match none {
-        NoStone::Memory => Err(AllocError),
-        NoStone::OffTheLine => {
-            refused(format!(in alloc; "refused: the main line has no such node\n")?)
+    match judged.defender_first {
+        Some(finding) => {
+            let first = Side::Defender;
+            let told = [attacker, Told { first, finding }];
+            in_form(alloc, form, group, table, &told, lines)
         }
-        NoStone::NoPoint => refused(format!(in alloc;
-            "refused: the target is no point of the board\n"
-        )?),
-        NoStone::NoProblem(ProblemFault::BadTargets { node }) => refused(format!(in alloc;
-            "refused: there is no stone at the target at node {node}\n"
-        )?),
-        NoStone::NoProblem(fault) => refused(format!(in alloc; "refused: {fault}\n")?),
+        None => in_form(alloc, form, group, table, &[attacker], lines),
     }
 }
 
-/// A refusal with this text.
-fn refused(text: String) -> Result<Output, AllocError> {
-    Ok(Output::Text(text, Status::Refused))
+/// The lines, with the solutions or the claims if they are asked for.
+fn in_form(
+    alloc: Global,
+    form: Form,
+    group: &Group,
+    table: &Table,
+    told: &[Told],
+    lines: String,
+) -> Result<Output, AllocError> {
+    match form {
+        Form::Record => Ok(Output::Record(solutions(alloc, group, table, told, lines.as_str())?)),
+        Form::Claims => text_of(claims(alloc, group, table, lines.as_str())?),
+        _ => text_of(lines),
+    }
+}
+
+/// The text, as an answer.
+fn text_of(text: String) -> Result<Output, AllocError> {
+    Ok(Output::Text(text, Status::Answered))
 }

@@ -1,17 +1,19 @@
-//! The second procedure: at sizes that grow, race walls and the bound that speaks most against their winner.
+//! The second procedure: for growing sizes, race walls and the bound that speaks most against their winner.
 //!
-//! Against the attacker speak walls with few liberties outside that fall; against the defender, that no friend helps.
+//! The bound against the attacker is that walls with few liberties outside fall; the bound against the defender is that no friend
+//! helps.
 
 use crate::group::Group;
 use crate::side::{Finding, Side, Word};
 use crate::table::{Table, question};
 use regions::Walls;
 use std::alloc::{AllocError, Global};
+use std::io::Write;
 
 /// The sizes, in empty points.
 const SIZES: [usize; 7] = [6, 8, 10, 12, 14, 16, 18];
 
-/// From this size on three sizes that are all sure end the questions.
+/// From this size on, three sizes in a row that are all sure end the questions.
 const ENOUGH: usize = 12;
 
 /// More than any size.
@@ -33,7 +35,7 @@ fn bound_of(winner: Side) -> Walls {
     }
 }
 
-/// At how many sizes they have to say the same.
+/// At how many sizes those walls have to say the same.
 fn bounds_wanted(winner: Side) -> usize {
     match winner {
         Side::Attacker => 3,
@@ -55,8 +57,8 @@ fn are_three_sure(done: &[Done], winner: Side) -> bool {
     true
 }
 
-/// Whether the last sizes at which this side won are sure: the bound says the same at as many as are wanted of the last at
-/// which it is known.
+/// Whether the last sizes at which this side won are sure: at as many as are needed of the last sizes at which the bound is known,
+/// it says the same.
 fn is_sure(done: &[Done], winner: Side, is_ended: bool) -> bool {
     let wanted = bounds_wanted(winner);
     let mut same: usize = 0;
@@ -120,25 +122,27 @@ fn finding(done: &[Done], is_stopped: bool, is_ended: bool) -> Finding {
         } else {
             last.count
         },
+        is_split: false,
     }
 }
 
-/// What is found where this side moves first.
-pub(crate) fn second_procedure(
+/// What is found if this side moves first.
+pub(crate) fn second_procedure<N: Write>(
     alloc: Global,
     group: &Group,
     table: &mut Table,
     first: Side,
+    notes: &mut N,
 ) -> Result<Finding, AllocError> {
     let mut done = Vec::new(alloc);
     let mut is_stopped = false;
     let mut is_ended = false;
     for i in 0..SIZES.len() {
         let count = SIZES[i];
-        let Some(winner) = question(alloc, group, table, first, Walls::Race, count)? else {
+        let Some(winner) = question(alloc, group, table, first, Walls::Race, count, notes)? else {
             break;
         };
-        let bound = question(alloc, group, table, first, bound_of(winner), count)?;
+        let bound = question(alloc, group, table, first, bound_of(winner), count, notes)?;
         done.push(Done {
             count,
             winner,

@@ -1,8 +1,13 @@
 //! The two sides of a question, and how far an answer is to be trusted.
 
+ghost use Rattle.std.specs.Prelude.{◌≡◌};
+ghost use Rattle.group_verdicts.specs.Sides.{colour_of, same_side, is_won_by, rank, says};
+ghost use Rattle.group_verdicts.specs.First.{nothing, finding_of};
+ghost use Rattle.group_verdicts.specs.declared.side.Word.TheVariants.{Sure};
+
 use go_points::Colour;
 
-/// Who wants to take the target, and who to keep it.
+/// The side that wants to take the target, and the side that wants to keep it.
 #[derive(Clone, Copy, Debug, PartialEq, Eq)]
 pub(crate) enum Side {
     Attacker,
@@ -10,19 +15,47 @@ pub(crate) enum Side {
 }
 
 impl Side {
-    pub(crate) fn colour(self, defender: Colour) -> Colour {
+    pub(crate) fn colour(self, defender: Colour) -> Colour
+        ensures { result ≡ colour_of self defender }
+    {
         match self {
             Side::Attacker => defender.opponent(),
             Side::Defender => defender,
         }
     }
 
-    pub(crate) fn of(colour: Colour, defender: Colour) -> Side {
-        if colour == defender {
-            Side::Defender
-        } else {
-            Side::Attacker
+    /// The side of this colour.
+    pub(crate) fn of(colour: Colour, defender: Colour) -> Side
+        ensures { colour_of result defender ≡ colour }
+    {
+        match (colour, defender) {
+            (Colour::Black, Colour::Black) => Side::Defender,
+            (Colour::Black, Colour::White) => Side::Attacker,
+            (Colour::White, Colour::Black) => Side::Attacker,
+            (Colour::White, Colour::White) => Side::Defender,
         }
+    }
+
+    /// Whether they are the same side.
+    pub(crate) fn is(self, other: Side) -> bool
+        ensures { result ≡ same_side self other }
+    {
+        match (self, other) {
+            (Side::Attacker, Side::Attacker) => true,
+            (Side::Attacker, Side::Defender) => false,
+            (Side::Defender, Side::Attacker) => false,
+            (Side::Defender, Side::Defender) => true,
+        }
+    }
+}
+
+/// Whether the winner is this side.
+pub(crate) fn is_won_by(side: Side, winner: Option<Side>) -> bool
+    ensures { result ≡ is_won_by side winner }
+{
+    match winner {
+        Some(other) => side.is(other),
+        None => false,
     }
 }
 
@@ -37,7 +70,9 @@ pub(crate) enum Word {
 }
 
 impl Word {
-    pub(crate) fn rank(self) -> u32 {
+    pub(crate) fn rank(self) -> u32
+        ensures { result ≡ rank self }
+    {
         match self {
             Word::Sure => 0,
             Word::Likely => 1,
@@ -58,44 +93,56 @@ impl Word {
     }
 }
 
-/// What is found where one side moves first: who wins, and how far that is to be trusted.
+/// What is found if one side moves first: who wins, and how far that is to be trusted.
 #[derive(Clone, Copy, Debug, PartialEq, Eq)]
 pub(crate) struct Finding {
     pub(crate) winner: Option<Side>,
     pub(crate) word: Word,
-    /// The least size from which on that winner wins, by the second procedure; 0 where there is none.
+    /// The least size from which on that winner wins, by the second procedure; 0 if there is none.
     pub(crate) since: usize,
-    /// The largest size that was decided there; more than any where all that can be reached was in.
+    /// The largest size that was decided there; more than any size if everything that can be reached was in the region.
     pub(crate) largest: usize,
+    /// Whether both procedures decide, but for different winners.
+    pub(crate) is_split: bool,
 }
 
 impl Finding {
     /// Nothing is found.
-    pub(crate) fn none() -> Finding {
+    pub(crate) fn none() -> Finding
+        ensures { result ≡ nothing }
+    {
         Finding {
             winner: None,
             word: Word::Unknown,
             since: 0,
             largest: 0,
+            is_split: false,
         }
     }
 
-    /// The winner, by one procedure alone.
-    pub(crate) fn of(winner: Side, word: Word) -> Finding {
+    /// The finding of this winner, by only one procedure.
+    pub(crate) fn of(winner: Side, word: Word) -> Finding
+        ensures { result ≡ finding_of winner word }
+    {
         Finding {
             winner: Some(winner),
             word,
             since: 0,
             largest: 0,
+            is_split: false,
         }
     }
 
-    /// Whether this side wins, as sure as the word or surer.
-    pub(crate) fn says(&self, winner: Side, word: Word) -> bool {
-        self.winner == Some(winner) && self.word.rank() <= word.rank()
+    /// Whether this side wins, at least as surely as the word says.
+    pub(crate) fn says(&self, winner: Side, word: Word) -> bool
+        ensures { result ≡ says self.now winner word }
+    {
+        is_won_by(winner, self.winner) && self.word.rank() <= word.rank()
     }
 
-    pub(crate) fn is_sure_of(&self, winner: Side) -> bool {
+    pub(crate) fn is_sure_of(&self, winner: Side) -> bool
+        ensures { result ≡ says self.now winner Sure }
+    {
         self.says(winner, Word::Sure)
     }
 }

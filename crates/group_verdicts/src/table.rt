@@ -2,50 +2,59 @@
 
 use crate::asked::{Asked, ask};
 use crate::group::Group;
+use crate::past::{bars_a_turn, without_past};
+use crate::progress::tell_row;
 use crate::side::Side;
 use go_points::{Colour, Point, PointSet, Turn};
-use pn_search::Budget;
+use pn_search::{Budget, Cause};
 use regions::{Walls, out_there, suppose};
 use std::alloc::{AllocError, Global};
+use std::io::Write;
 use target_game::Problem;
 
-/// A question: who moves first, how many empty points are inside, and what is supposed outside; with its problem, and where
-/// stones were put up.
+/// A question: who moves first, how many empty points are inside, and what is supposed outside; with its problem, and where stones
+/// were placed.
 #[derive(Drop)]
 pub(crate) struct Row {
     pub(crate) first: Side,
     pub(crate) count: usize,
     pub(crate) walls: Walls,
-    /// The place of the problem among those that were asked; none where there is no such problem.
+    /// The place of the problem among those that were asked. `None` if there is no such problem.
     pub(crate) place: Option<usize>,
+    /// The place of the same problem without its past, if a position of the past bars a turn of the mover.
+    pub(crate) forgotten: Option<usize>,
     pub(crate) inside: PointSet,
     pub(crate) shut: PointSet,
     pub(crate) given: PointSet,
     pub(crate) held: PointSet,
 }
 
-/// What was asked so far.
+/// What has been asked so far.
 #[derive(Drop)]
 pub(crate) struct Table {
     pub(crate) asked: Vec<Asked>,
     pub(crate) rows: Vec<Row>,
     pub(crate) budget: Budget,
+    /// Whether each row is reported when it has been asked.
+    pub(crate) is_told: bool,
 }
 
-/// Whether two problems with the same past have the same position, mover, targets and region.
+/// Whether two problems, each with the group's past or with none, have the same past, position, mover, targets and region.
 fn are_same(one: &Problem, other: &Problem) -> bool {
     one.mover() == other.mover()
+        && one.history().len() == other.history().len()
         && *one.colouring() == *other.colouring()
         && *one.targets() == *other.targets()
         && *one.region() == *other.region()
 }
 
 impl Table {
-    pub(crate) fn new(alloc: Global, budget: Budget) -> Table {
+    pub(crate) fn new(alloc: Global, budget: Budget, is_told: bool) -> Table {
         Table {
             asked: Vec::new(alloc),
             rows: Vec::new(alloc),
             budget,
+            is_told,
         }
     }
 
@@ -60,7 +69,7 @@ impl Table {
         None
     }
 
-    /// Who wins the problem at this place, where that is known.
+    /// Who wins the problem at this place, if that is known.
     pub(crate) fn winner_at(&self, place: Option<usize>, defender: Colour) -> Option<Side> {
         let asked = self.asked.get(place?)?;
         match asked.winner {
@@ -74,6 +83,18 @@ impl Table {
         self.asked.get(place?)?.turn
     }
 
+    /// Why the problem at this place has no winner, and after how many steps.
+    pub(crate) fn cause_at(&self, place: Option<usize>) -> Option<(Cause, u64)> {
+        let asked = self.asked.get(place?)?;
+        Some((asked.cause?, asked.steps))
+    }
+
+    /// Whether the winner of the row depends on who took last.
+    pub(crate) fn is_ko(&self, row: &Row, defender: Colour) -> bool {
+        row.forgotten.is_some()
+            && self.winner_at(row.place, defender) != self.winner_at(row.forgotten, defender)
+    }
+
     /// Whether no problem that was asked has a winner that is known.
     pub(crate) fn is_open(&self) -> bool {
         for one in self.asked.as_slice() {
@@ -84,7 +105,7 @@ impl Table {
         true
     }
 
-    /// The place of the row of a question, where it was asked.
+    /// The place of the row of a question, if it was asked.
     fn row_of(&self, first: Side, walls: Walls, count: usize) -> Option<usize> {
         let rows = self.rows.as_slice();
         for i in 0..rows.len() {
@@ -102,7 +123,7 @@ impl Table {
     }
 }
 
-/// The place of the problem, which is asked where it was not.
+/// The place of the problem. It is asked if it has not been asked yet.
 fn place_asked(
     alloc: Global,
     table: &mut Table,
@@ -119,14 +140,15 @@ fn place_asked(
     Ok(table.asked.len().checked_sub(1))
 }
 
-/// Who wins where this side moves first, so many empty points are inside, and this is supposed outside.
-pub(crate) fn question(
+/// Who wins if this side moves first, this many empty points are inside, and this is supposed outside.
+pub(crate) fn question<N: Write>(
     alloc: Global,
     group: &Group,
     table: &mut Table,
     first: Side,
     walls: Walls,
     count: usize,
+    notes: &mut N,
 ) -> Result<Option<Side>, AllocError> {
     if let Some(row) = table.row_of(first, walls, count) {
         return Ok(table.winner_of(row, group.defender));
@@ -145,23 +167,45 @@ pub(crate) fn question(
         return Ok(None);
     };
     let problem = group.problem_of(alloc, &supposed, group.target, first)?;
+    let forgotten = place_forgotten(alloc, table, problem.as_ref())?;
     let place = place_asked(alloc, table, problem)?;
     let winner = table.winner_at(place, group.defender);
-    table.rows.push(Row {
+    let row = Row {
         first,
         count,
         walls,
         place,
+        forgotten,
         inside: supposed.inside,
         shut,
         given: supposed.given,
         held: supposed.walls,
-    })?;
+    };
+    if table.is_told {
+        tell_row(alloc, group, &row, winner, notes)?;
+    }
+    table.rows.push(row)?;
     Ok(winner)
 }
 
-/// The ways out that are shut: where no friend helps, those at which a stone of the defender would be taken, the attacker
-/// moving first there.
+/// The place of the same problem without its past, which is also asked if the past bars a turn.
+fn place_forgotten(
+    alloc: Global,
+    table: &mut Table,
+    problem: Option<&Problem>,
+) -> Result<Option<usize>, AllocError> {
+    let Some(problem) = problem else {
+        return Ok(None);
+    };
+    if !bars_a_turn(alloc, problem)? {
+        return Ok(None);
+    }
+    let same = without_past(alloc, problem)?;
+    place_asked(alloc, table, same)
+}
+
+/// The ways out that are shut: if no friend helps, those at which a stone of the defender would be taken, with the attacker moving
+/// first there.
 fn shut_points(
     alloc: Global,
     group: &Group,
@@ -181,7 +225,7 @@ fn shut_points(
     Ok(shut)
 }
 
-/// The ways out of a region of so many empty points, where no friend helps.
+/// The ways out of a region of this many empty points, if no friend helps.
 fn ways_out(alloc: Global, group: &Group, count: usize) -> Result<PointSet, AllocError> {
     let none = PointSet::new();
     let made = suppose(

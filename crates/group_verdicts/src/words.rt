@@ -6,33 +6,49 @@ use clap::{Arg, ArgAction, ArgMatches};
 use std::alloc::{AllocError, Global};
 use std::convert::AsStr;
 use tool_parts::{NoRequest, no_request};
+use tsumego_version::VERSION;
 
-/// The most steps that may be asked for.
+/// The greatest number of steps that may be asked for.
 const MOST_STEPS: u64 = 10_000_000;
 
 /// The greatest number of a node: more than a record may have.
 const MOST: u64 = 1_000_000;
+
+/// The form in which the answer is written.
+#[derive(Clone, Copy, Debug, PartialEq, Eq)]
+pub(crate) enum Form {
+    /// Lines for a reader.
+    Lines,
+    /// JSON, with one object on each line.
+    Json,
+    /// One SGF record with the solutions as variations.
+    Record,
+    /// The lines, and after them each question that was decided, as a record with its claim.
+    Claims,
+}
 
 /// What the words ask for.
 #[derive(Drop)]
 pub(crate) struct Request {
     /// The node of the main line.
     pub(crate) node: Option<usize>,
-    /// The stone; that of the record's marks where there is none.
+    /// The stone; the one that the record's marks name if this is empty.
     pub(crate) target: String,
-    /// The side that moves first, where one alone is asked.
+    /// The side that moves first, if only one is asked about.
     pub(crate) first: Option<Side>,
-    /// The most steps of the search for each question.
+    /// The greatest number of steps of the search for each question.
     pub(crate) steps: u64,
     pub(crate) is_quick: bool,
     /// Whether all groups of the position are asked about.
     pub(crate) is_all: bool,
-    pub(crate) is_json: bool,
-    /// Whether the past counts for nothing.
+    pub(crate) form: Form,
+    /// Whether the past is ignored.
     pub(crate) is_position_only: bool,
+    /// Whether each question is reported on standard error when it has been asked.
+    pub(crate) is_told: bool,
 }
 
-/// What the words ask for, the first of which is the program's name.
+/// What the words ask for. The first word is the program's name.
 pub(crate) fn read_request<'a, S: AsStr>(
     alloc: Global,
     words: &'a [S],
@@ -46,6 +62,9 @@ pub(crate) fn read_request<'a, S: AsStr>(
 
 /// What a parse found.
 fn chosen(alloc: Global, given: &ArgMatches<'_>) -> Result<Request, NoRequest> {
+    if let Some(fault) = fault_of(given) {
+        return Err(NoRequest::Words(format!(in alloc; "error: {fault}\n")?));
+    }
     let target = text(alloc, given, "target")?;
     let first = first(alloc, given)?;
     Ok(Request {
@@ -55,9 +74,52 @@ fn chosen(alloc: Global, given: &ArgMatches<'_>) -> Result<Request, NoRequest> {
         steps: given.get_one::<u64>("steps").unwrap_or(1),
         is_quick: flag(given, "quick"),
         is_all: flag(given, "all"),
-        is_json: flag(given, "json"),
+        form: chosen_form(given),
         is_position_only: flag(given, "position-only"),
+        is_told: flag(given, "progress"),
     })
+}
+
+/// Why words that are each well formed ask for nothing when taken together.
+fn fault_of(given: &ArgMatches<'_>) -> Option<&'static str> {
+    let forms = [
+        flag(given, "json"),
+        flag(given, "sgf"),
+        flag(given, "claims"),
+    ];
+    if forms.iter().filter(|is_named| **is_named).count() > 1 {
+        return Some("'--json', '--sgf' and '--claims' are forms of one answer; name one of them");
+    }
+    let has_target = given.get_str("target").is_some();
+    if flag(given, "all") {
+        if has_target {
+            return Some("'--all' asks about every group, '--target' about one; name one of them");
+        }
+        if flag(given, "sgf") || flag(given, "claims") || given.get_str("first").is_some() {
+            return Some(
+                "'--first', '--sgf' and '--claims' are for one target, and not for '--all'",
+            );
+        }
+        return None;
+    }
+    if given.get_one::<u64>("node").is_some() && !has_target {
+        return Some("'--node' wants a '--target' at that node, or '--all'");
+    }
+    None
+}
+
+/// The form that is asked for.
+fn chosen_form(given: &ArgMatches<'_>) -> Form {
+    if flag(given, "json") {
+        return Form::Json;
+    }
+    if flag(given, "sgf") {
+        return Form::Record;
+    }
+    if flag(given, "claims") {
+        return Form::Claims;
+    }
+    Form::Lines
 }
 
 fn flag(given: &ArgMatches<'_>, id: &str) -> bool {
@@ -72,7 +134,7 @@ fn number(given: &ArgMatches<'_>, id: &str) -> Option<usize> {
     }
 }
 
-/// The text of an argument; none where it is not there.
+/// The text of an argument; empty if it is not there.
 fn text(alloc: Global, given: &ArgMatches<'_>, id: &str) -> Result<String, AllocError> {
     match given.get_str(id) {
         Some(text) => format!(in alloc; "{text}"),
@@ -80,7 +142,7 @@ fn text(alloc: Global, given: &ArgMatches<'_>, id: &str) -> Result<String, Alloc
     }
 }
 
-/// The side that moves first, where the words say it.
+/// The side that moves first, if the words say so.
 fn first(alloc: Global, given: &ArgMatches<'_>) -> Result<Option<Side>, NoRequest> {
     let text = text(alloc, given, "first")?;
     match text.as_str() {
@@ -94,9 +156,11 @@ fn first(alloc: Global, given: &ArgMatches<'_>) -> Result<Option<Side>, NoReques
 }
 
 fn program<'a>(alloc: Global) -> Result<clap::Command<'a>, AllocError> {
-    let program = clap::Command::new(alloc, "group_status").about(
-        "Says of a stone's group in a record, read from standard input, whether it is alive, dead or unsettled.",
-    );
+    let program = clap::Command::new(alloc, "group_status")
+        .about(
+            "Says of a stone's group in a record, read from standard input, whether it is alive, dead or unsettled.",
+        )
+        .version(VERSION);
     let program = with_argument(program, node_argument(alloc))?;
     let program = with_argument(program, target_argument(alloc))?;
     let program = with_argument(program, first_argument(alloc))?;
@@ -104,10 +168,13 @@ fn program<'a>(alloc: Global) -> Result<clap::Command<'a>, AllocError> {
     let program = with_argument(program, quick_argument(alloc))?;
     let program = with_argument(program, all_argument(alloc))?;
     let program = with_argument(program, json_argument(alloc))?;
-    with_argument(program, position_argument(alloc))
+    let program = with_argument(program, sgf_argument(alloc))?;
+    let program = with_argument(program, claims_argument(alloc))?;
+    let program = with_argument(program, position_argument(alloc))?;
+    with_argument(program, progress_argument(alloc))
 }
 
-/// The program with one argument more.
+/// The program with one more argument.
 fn with_argument<'a>(
     program: clap::Command<'a>,
     argument: Arg<'a>,
@@ -166,7 +233,7 @@ fn all_argument<'a>(alloc: Global) -> Arg<'a> {
 
 fn json_argument<'a>(alloc: Global) -> Arg<'a> {
     Arg::new(alloc, "json")
-        .help("Writes one JSON object, with every question")
+        .help("Writes JSON with every question, an object a line")
         .long("json")
         .action(ArgAction::SetTrue)
 }
@@ -175,5 +242,26 @@ fn position_argument<'a>(alloc: Global) -> Arg<'a> {
     Arg::new(alloc, "position-only")
         .help("Forgets what was played before, so that no ko is barred")
         .long("position-only")
+        .action(ArgAction::SetTrue)
+}
+
+fn sgf_argument<'a>(alloc: Global) -> Arg<'a> {
+    Arg::new(alloc, "sgf")
+        .help("Writes one SGF record, with the solutions of the largest size that was decided")
+        .long("sgf")
+        .action(ArgAction::SetTrue)
+}
+
+fn claims_argument<'a>(alloc: Global) -> Arg<'a> {
+    Arg::new(alloc, "claims")
+        .help("Writes after the lines each question that was decided, as a record with its claim")
+        .long("claims")
+        .action(ArgAction::SetTrue)
+}
+
+fn progress_argument<'a>(alloc: Global) -> Arg<'a> {
+    Arg::new(alloc, "progress")
+        .help("Tells each question on standard error when it has been asked")
+        .long("progress")
         .action(ArgAction::SetTrue)
 }

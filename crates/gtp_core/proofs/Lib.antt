@@ -1,3 +1,4 @@
+pub mod Examples
 pub mod Pieces
 pub mod Telling
 pub mod Orders

@@ -132,6 +132,13 @@ undo_keeps old new r s did = go (undo_of old) refl r did
     go (Err due) e (Ok u) is = absurd is
     go (Err due) e (Err fault) is = subst (SoundOn old.size) (sym is.1) (s, refl)
 
+pub turn_refused : (due : Result GameRecord TurnFault) (old new : GameRecord) (r : Result (Unit {0}) TurnFault) (fault : TurnFault) → r ≡ Err fault → Did due old r new → new ≡ old
+turn_refused due old new r fault is did = go due (subst (λ x. Did due old x new) is did)
+  where
+    go : (due : Result GameRecord TurnFault) → Did due old (Err fault) new → new ≡ old
+    go (Ok v) same = same.1
+    go (Err other) same = same.1
+
 -- ---- sessions
 
 -- another record on the same board

@@ -45,7 +45,7 @@ joined_lines [] = []
 joined_lines (l ∷ []) = l
 joined_lines (l ∷ m ∷ ms) = l ++ 10 ∷ joined_lines (m ∷ ms)
 
--- The texts that some commands answer whatever the session.
+-- The texts that some commands answer whatever the session is.
 abbrev pub said : Saying → List ℕ
 said say.Nothing = []
 said say.ProtocolVersion = codes "2"
@@ -75,7 +75,7 @@ Order = Result Command Refusal
 abbrev pub syntax_error : Order
 syntax_error = Err refusal.SyntaxError
 
--- The order that a value gives; none is a syntax error.
+-- The order that a value gives; no value is a syntax error.
 abbrev pub with_value : {A : Type 0} → Option A → (A → Order) → Order
 with_value value order = option_map_or order value syntax_error
 
@@ -93,12 +93,12 @@ max_turns = 200
 abbrev pub within_order : ℕ → Order
 within_order k = (if nat_le k max_turns then Ok (command.Within k) else syntax_error)
 
--- The point at a vertex; none at a pass and off the board.
+-- The point at a vertex; `None` for a pass and off the board.
 abbrev pub point_at : ℕ → Option Vertex → Option Place
 point_at n (Some (vertex.At column row)) = place_at n column row
 point_at n _ = None
 
--- A set with the points of all the words; none where one of them names no point of the board.
+-- A set with the points of all the words; `None` if one of them names no point of the board.
 abbrev pub with_points : ℕ → List Place → List (List ℕ) → Option (List Place)
 with_points n set [] = Some set
 with_points n set (word ∷ words) = elim (point_at n (vertex_named word)) [ None ↦ None | Some p ↦ with_points n (with_place set p) words ]
@@ -107,7 +107,7 @@ with_points n set (word ∷ words) = elim (point_at n (vertex_named word)) [ Non
 abbrev pub whole_board : ℕ → List Place
 whole_board n = map (place_of n) (points n)
 
--- No words name the whole board.
+-- If there are no words, they name the whole board.
 abbrev pub region_named : ℕ → List (List ℕ) → Option (List Place)
 region_named n [] = Some (whole_board n)
 region_named n (word ∷ words) = with_points n [] (word ∷ words)
@@ -132,7 +132,7 @@ order_named n name.TsuRegion words = with_value (region_named n words) (λ set. 
 order_named n name.TsuSolve words = with_first_word colour_named words (λ k. Ok (command.Solve k))
 order_named n name.TsuWithin words = with_first_word number_named words within_order
 
--- An id alone is too few words.
+-- An id without any other words is too few words.
 abbrev pub order_of : ℕ → List (List ℕ) → Order
 order_of n [] = syntax_error
 order_of n (word ∷ words) = option_map_or (λ c. order_named n c words) (name_of word) (Err refusal.UnknownCommand)

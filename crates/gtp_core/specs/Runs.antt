@@ -18,7 +18,7 @@ GoesThrough s [] written t = (written ≡ []) × (t ≡ s)
 GoesThrough s (line ∷ lines) written t =
     (bytes rest : List ℕ) × (new : GtpSession) × Serves s line (reply bytes) new × (written ≡ bytes ++ rest) × GoesThrough new lines rest t
 
--- After a line that ends the session the others count for nothing.
+-- After a line that ends the session the others are ignored.
 abbrev pub IsRun : GtpSession → List (List ℕ) → List ℕ → Type 0
 IsRun s [] written = written ≡ []
 IsRun s (line ∷ lines) written =
@@ -28,7 +28,7 @@ IsRun s (line ∷ lines) written =
 abbrev pub first_session : GtpSession
 first_session = new_session FIRST_SIZE
 
--- The replies to all lines that had ended, but to none after them.
+-- The replies to all lines that had ended, and to none after them.
 pub record IsReadTo (bytes written : List ℕ) : Type 0 where
   pub front : List (List ℕ)
   pub line : List ℕ
@@ -37,7 +37,7 @@ pub record IsReadTo (bytes written : List ℕ) : Type 0 where
   pub last : GtpSession
   pub through : GoesThrough first_session front written last
 
--- A part from the front of the replies to some lines from the front.
+-- A front of the replies to some lines from the front.
 pub record IsCut (bytes written : List ℕ) : Type 0 where
   pub front : List (List ℕ)
   pub behind : List (List ℕ)
@@ -53,11 +53,11 @@ HasStopped Read told old new = (bytes written : List ℕ) × Tells told bytes ×
 HasStopped Write told old new = (bytes written : List ℕ) × Tells told bytes × Appends old new written × IsCut bytes written
 HasStopped Memory told old new = Appends old new []
 
--- so many bytes an input may have
+-- how many bytes an input may have
 abbrev pub input_limit : ℕ
 input_limit = 67108864
 
--- `read` is known after a read that failed, `write` after a write; or the input is too long.
+-- `read` is known after a failed read, and `write` after a failed write; or the input is too long.
 abbrev pub HasStoppedOn : Type 0 → Type 0 → GtpEnd → Option (List ℕ) → Option (List ℕ) → Option (List ℕ) → Type 0
 HasStoppedOn read write Read told old new =
     (bytes written : List ℕ) × Tells told bytes × Appends old new written × IsReadTo bytes written × (read ⊎ (input_limit < length bytes))

@@ -1,6 +1,7 @@
--- How a session may serve a line. It is a function of the session and the line but for three freedoms: what a search tells, what it plays, and want of memory.
+-- How a session may serve a line. It is a function of the session and the line, with three freedoms: what a search tells, what it
+-- plays, and whether memory is refused.
 --     due_of s order      what an order is due
---     Meets old id due out new      that it gets what it is due
+--     Meets old id due out new      the order gets what it is due
 --     Serves old line out new      a raw line is served: this is written, and this is the session after it
 use Rattle.std.specs.Prelude.{◌≡◌, ℕ, zero, suc, Bool, true, false, List, [], ◌∷◌, ◌++◌, codes, take, drop, IsTrue, Option, Some, None, Result, Ok, Err, ◌⊎◌}
 use Rattle.std.specs.Option.{option_map_or}
@@ -31,7 +32,8 @@ use Rattle.gtp_core.specs.Words.{turn_at, turn_text, success, failure}
 use Rattle.gtp_core.specs.Commands.{Order, order_of, said, refusal_text}
 use Rattle.gtp_core.specs.Session.{GtpSession, new_session, size_of, board_of, stones_at, next_mover, problem_at}
 
--- An answer with the session after it; a refusal; the end; or what a search for this colour finds, told or played, where there is a problem.
+-- An answer with the session after it; a refusal; the end; or what a search for this colour finds, told or played, if there is a
+-- problem.
 pub data Due : Type 0 where
   answers : (text : List ℕ) (new : GtpSession) → Due
   refuses : Refusal → Due
@@ -39,7 +41,7 @@ pub data Due : Type 0 where
   tells : Colour → GameProblem → Due
   plays : Colour → Option GameProblem → Due
 
--- The session where its record or its targets are others.
+-- The session with another record or other targets.
 abbrev pub with_turns : GtpSession → GameRecord → GtpSession
 with_turns s r = record s { turns = r }
 
@@ -50,14 +52,14 @@ abbrev pub record_due : GtpSession → Refusal → Result GameRecord TurnFault �
 record_due s why (Ok r) = answers [] (with_turns s r)
 record_due s why (Err fault) = refuses why
 
--- What a value is due; where there is none, this refusal.
+-- What a value is due; if there is none, this refusal.
 abbrev pub due_or_refusal : {A : Type 0} → Refusal → Option A → (A → Due) → Due
 due_or_refusal why value due = option_map_or due value (refuses why)
 
 abbrev pub turn_due : GtpSession → Colour → Turn → Due
 turn_due s k t = record_due s refusal.IllegalMove (play_of s.turns k (ply_of (size_of s) t))
 
--- So many rows of n bytes, each after a line feed; the text of the board is that of its rows, without the first line feed.
+-- This many rows of n bytes, each after a line feed. The text of the board is that of its rows, without the first line feed.
 abbrev pub fed_rows : ℕ → ℕ → List ℕ → List ℕ
 fed_rows n zero text = []
 fed_rows n (suc k) text = 10 ∷ take n text ++ fed_rows n k (drop n text)
@@ -75,7 +77,7 @@ within_text (within.Wins White) = codes "wins White"
 within_text within.Neither = codes "neither"
 within_text within.Limit = codes "limit"
 
--- The most states of a decision.
+-- The greatest number of states of a decision.
 abbrev pub max_nodes : ℕ
 max_nodes = 1000000
 
@@ -112,7 +114,7 @@ MayTell n k q text =
     ⊎ (Wins (opponent_of k) (start q) × (text ≡ codes "loss"))
     ⊎ (text ≡ codes "unknown")
 
--- It may play a winning turn of the problem, where there is one, or pass.
+-- It may play a winning turn of the problem, if there is one, or pass.
 abbrev pub MayPlay : Colour → Option GameProblem → Ply → Type 0
 MayPlay k None t = t ≡ pass
 MayPlay k (Some q) t = IsWinning k q t ⊎ (t ≡ pass)
@@ -131,7 +133,7 @@ reply bytes = record { bytes = bytes; ends = false }
 abbrev pub last_reply : List ℕ → Output
 last_reply bytes = record { bytes = bytes; ends = true }
 
--- The turn that was played is one that may be, and the record has it.
+-- The turn that was played is one that may be played, and the record has it.
 pub record IsPlayed (old : GtpSession) (id : List ℕ) (k : Colour) (q : Option GameProblem) (out : Output) (new : GtpSession) : Type 0 where
   pub turn : Ply
   pub may : MayPlay k q turn
@@ -153,7 +155,7 @@ output_of fed.Nothing = silence
 output_of (fed.Reply bytes) = reply bytes.items
 output_of (fed.Quit bytes) = last_reply bytes.items
 
--- What a line gets where memory is not refused.
+-- What a line gets if memory is not refused.
 abbrev pub Answers : GtpSession → Request → Output → GtpSession → Type 0
 Answers old nothing out new = (out ≡ silence) × (new ≡ old)
 Answers old bad_line out new = (out ≡ reply (failure [] (codes "syntax error"))) × (new ≡ old)

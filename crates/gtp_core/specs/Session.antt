@@ -1,6 +1,6 @@
--- A session (this project's own): its record since the new board, the targets and the region; and the problem that it stands at.
+-- A session (this project's own): its record since the new board, the targets and the region; and the problem that it has reached.
 --     new_session n      the session with a new board of n rows
---     problem_at s k      its problem with the colour k to move, where it has one
+--     problem_at s k      its problem with the colour k to move, if it has one
 use Rattle.std.specs.Prelude.{ℕ, ◌*◌, Bool, not, ◌&&◌, nat_le, nat_lt, List, [], ◌∷◌, length, map, replicate, Option, None, option_map, if◌then◌else◌}
 use Rattle.std.specs.Option.{option_map_or}
 use Rattle.go_points.specs.declared.Colour.{Colour}
@@ -34,15 +34,15 @@ size_of s = s.turns.size
 abbrev pub board_of : GtpSession → List Cell
 board_of s = colouring_of s.turns.present
 
--- The colour of the stones at these points, where all are stones of one colour.
+-- The colour of the stones at these points, if all are stones of one colour.
 abbrev pub stones_at : GtpSession → List Place → Option Colour
 stones_at s ps = one_colour (map (λ p. cell_at (board_of s) (number_of (size_of s) p)) ps)
 
--- The other colour of the last turn that stands, Black where none does.
+-- The colour that did not make the last turn on the record, or Black if there is no turn.
 abbrev pub next_mover : GtpSession → Colour
 next_mover s = option_map_or opponent_of s.turns.present.last_colour Black
 
--- The problem of the present colouring with the whole history and the passes, where this colour defends the targets.
+-- The problem of the present colouring with the whole history and the passes, in which this colour defends the targets.
 abbrev pub problem_with : GtpSession → Colour → Colour → GameProblem
 problem_with s k defender = record {
   game = record { size = size_of s; targets = map (number_of (size_of s)) s.targets; defender = defender; region = map (number_of (size_of s)) s.region };
@@ -52,10 +52,10 @@ problem_with s k defender = record {
   passes = s.turns.present.passes;
 }
 
--- After two passes, or where too many colourings have occurred, nobody is asked.
+-- After two passes, or if too many colourings have occurred, there is no question to ask.
 abbrev pub has_question : Moment → Bool
 has_question m = not (nat_le 2 m.passes) && not (nat_lt MAX_HISTORY (length m.history))
 
--- The session's problem, where the targets are stones of one colour now.
+-- The session's problem, if the targets are now stones of one colour.
 unfoldable pub problem_at : GtpSession → Colour → Option GameProblem
 problem_at s k = (if has_question s.turns.present then option_map (problem_with s k) (stones_at s s.targets) else None)

@@ -1,6 +1,6 @@
 -- What single words stand for (GTP 2, "Simple entity types"), and the bytes of a reply ("Response structure").
---     colour_named word      the colour, in any case
---     turn_at n v      the turn at a vertex on a board of n rows; none off the board
+--     colour_named word      the colour, in any letter case
+--     turn_at n v      the turn at a vertex on a board of n rows; `None` off the board
 --     turn_text n t      a turn as a vertex
 --     success id text, failure id text      the bytes of a reply
 use Rattle.std.specs.Prelude.{ℕ, ◌-◌, Bool, true, ◌&&◌, nat_lt, List, [], ◌∷◌, ◌++◌, codes, Option, Some, None, option_map, if◌then◌else◌}
@@ -18,7 +18,7 @@ use Rattle.tsumego_problem.specs.Values.{colour_named as colour_in_lower}
 abbrev pub colour_named : List ℕ → Option Colour
 colour_named word = colour_in_lower (str_to_ascii_lowercase word)
 
--- The rows of a vertex are counted from the bottom, those of a board from the top.
+-- The rows of a vertex are counted from the bottom, and those of a board from the top.
 abbrev pub place_at : ℕ → ℕ → ℕ → Option Place
 place_at n column row = (if nat_lt column n && nat_lt row n then Some (record { row = n - 1 - row; column = column }) else None)
 
@@ -26,7 +26,7 @@ abbrev pub turn_at : ℕ → Vertex → Option Turn
 turn_at n vertex.Pass = Some turn.Pass
 turn_at n (vertex.At column row) = option_map (λ p. turn.At p) (place_at n column row)
 
--- Has a board of n rows the turn's point?
+-- Does a board of n rows have the point of the turn?
 abbrev pub is_on_board : ℕ → Turn → Bool
 is_on_board n turn.Pass = true
 is_on_board n (turn.At p) = on_board n p
@@ -35,7 +35,7 @@ abbrev pub turn_text : ℕ → Ply → List ℕ
 turn_text n pass = codes "pass"
 turn_text n (move p) = gtp_text n (place_of n p)
 
--- "=" or "?", the id, a space and the text where there is one, and two line feeds.
+-- "=" or "?", the id, a space and the text if there is one, and two line feeds.
 abbrev pub spaced_text : List ℕ → List ℕ
 spaced_text [] = []
 spaced_text (c ∷ text) = 32 ∷ c ∷ text

@@ -1,7 +1,7 @@
-//! How a run asks its reader and gives to its writer.
+//! How a run reads from its reader and writes to its writer.
 //!
-//! Of a device that any program may hand in nothing is known after a call that failed. One that keeps count of its failures
-//! can say more, and so can a run over it.
+//! After a failed call, nothing is known about a device that any program may hand in. A device that counts its failures can say
+//! more, and so can a run over it.
 
 ghost use Rattle.std.specs.Prelude.{OnOk, OnErr};
 ghost use Rattle.std.specs.Io.{ReadsAtMost};

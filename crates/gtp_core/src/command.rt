@@ -5,7 +5,7 @@ ghost use Rattle.gtp_core.specs.Commands.{said, truth};
 
 use go_points::{Colour, PointSet, Size, Vertex};
 
-/// What is answered whatever the session.
+/// What is answered whatever the session is.
 #[derive(Clone, Copy, Debug, PartialEq, Eq)]
 pub enum Saying {
     Nothing,
@@ -28,7 +28,7 @@ pub enum Command {
     Genmove(Colour),
     Undo,
     Showboard,
-    /// No targets, where the set is empty.
+    /// Sets the targets. An empty set means no targets.
     SetTargets(PointSet),
     SetRegion(PointSet),
     Solve(Colour),

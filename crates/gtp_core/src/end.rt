@@ -11,7 +11,7 @@ pub enum GtpEnd {
     /// A write failed, or took nothing.
     #[error("write")]
     Write = 2,
-    /// There was no memory for a session.
+    /// Memory ran out for a session.
     #[error("memory")]
     Memory = 3,
 }

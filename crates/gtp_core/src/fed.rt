@@ -7,6 +7,6 @@ pub enum Fed {
     Nothing,
     /// The bytes of the reply, with the two line feeds that end it.
     Reply(Vec<u8>),
-    /// The bytes of the last reply: the session ends.
+    /// The bytes of the last reply. The session ends.
     Quit(Vec<u8>),
 }

@@ -10,10 +10,10 @@ use arrayvec::ArrayVec;
 use std::io::Read;
 use std::marker::Model;
 
-/// How many bytes are asked of a reader at once.
+/// How many bytes a reader is asked for at once.
 const BLOCK: usize = 4096;
 
-/// What is kept of a raw line: one byte more than a line may have, so that a longer one shows.
+/// How much of a raw line is kept: one byte more than a line may have, so a line that is too long can be recognized.
 pub(crate) const MAX_KEPT: usize = MAX_LINE + 1;
 
 /// A reader failed, or gave more bytes than an input may have.
@@ -27,7 +27,8 @@ pub(crate) enum Ending {
     End,
 }
 
-/// The bytes that a reader gave and nobody took yet: those of the block from `start` to `end`. No call asks for more before all of them are taken.
+/// The bytes that a reader gave and that have not been taken yet: those of the block from `start` to `end`. No call asks for more
+/// before all of them are taken.
 #[derive(Drop)]
 pub(crate) struct Input {
     block: [u8; BLOCK],
@@ -48,7 +49,7 @@ impl Model for Input {
     ghost invariant = { λ a. (a.start ≤ a.end) × (a.end ≤ 4096) × (length a.block ≡ 4096) };
 }
 
-/// Adds the byte to what is kept of a line, if there is room.
+/// Adds the byte to the part of a line that is kept, if there is room.
 fn keep(line: &mut ArrayVec<u8, MAX_KEPT>, byte: u8)
     ensures { line.new.items ≡ kept (line.old.items ++ byte ∷ []) }
 {
@@ -71,7 +72,7 @@ impl Input {
         }
     }
 
-    /// The next byte, whether or not the input may have one more; none where the reader has ended.
+    /// The next byte, whether or not the input may have one more. `None` if the reader has ended.
     fn take_byte<A: ReadFrom<R>, R: Read>(
         &mut self,
         reader: &mut R,
@@ -97,7 +98,7 @@ impl Input {
         Ok(Some(byte))
     }
 
-    /// The next byte; none where the reader has ended.
+    /// The next byte. `None` if the reader has ended.
     fn next<A: ReadFrom<R>, R: Read>(&mut self, reader: &mut R) -> Result<Option<u8>, ReadFailed>
         ensures byte { IfOk result
             (λ o. IsByte (bounded self.old (R.remaining reader.old))
@@ -118,7 +119,7 @@ impl Input {
         }
     }
 
-    /// The next raw line: the bytes up to a line feed, or to the end. Of a line that is too long only its front is kept.
+    /// The next raw line: the bytes up to a line feed, or to the end. Only the front of a line that is too long is kept.
     pub(crate) fn next_line<A: ReadFrom<R>, R: Read>(
         &mut self,
         reader: &mut R,

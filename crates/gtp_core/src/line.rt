@@ -1,4 +1,4 @@
-//! What of a raw line counts, and its words.
+//! The part of a raw line that counts, and its words.
 
 ghost use Rattle.std.specs.Prelude.{◌≡◌, ◌≤◌, [], drop, take, length, option_map};
 ghost use Rattle.std.specs.Str.{all_ascii_digits};
@@ -11,14 +11,14 @@ use arrayvec::ArrayVec;
 /// The greatest number.
 const MAX_NUMBER: u64 = 2_147_483_647;
 
-/// Whether the byte counts for nothing.
+/// Whether the byte is ignored.
 fn is_control(byte: u8) -> bool
     ensures { result ≡ is_control byte }
 {
     byte < 9 || (10 < byte && byte < 32) || byte == 127
 }
 
-/// What of a raw line counts.
+/// The part of a raw line that counts.
 pub(crate) fn clean(line: &[u8]) -> ArrayVec<u8, MAX_LINE>
     requires { length line.now ≤ max_line }
     ensures { result.items ≡ cleaned line.now }
@@ -50,7 +50,7 @@ fn skip_spaces(text: &[u8]) -> &[u8]
     &[]
 }
 
-/// Where the first space stands; the length, where there is none.
+/// The place of the first space, or the length if there is none.
 fn word_end(text: &[u8]) -> usize
     ensures within { result ≤ length text.now }
     ensures word { HasNone 32 (take result text.now) }

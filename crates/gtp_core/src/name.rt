@@ -3,7 +3,7 @@
 ghost use Rattle.std.specs.Prelude.{◌≡◌};
 ghost use Rattle.gtp_core.specs.Commands.{name_of};
 
-/// A command, by its name; in the order in which they are listed.
+/// A command, by its name. The names are in the order in which they are listed.
 #[derive(Clone, Copy, Debug, PartialEq, Eq)]
 pub enum CommandName {
     ProtocolVersion,

@@ -20,10 +20,10 @@ use tsumego_problem::all_points;
 /// What the words ask for, or why they are refused.
 pub(crate) type Order = Result<Command, Refusal>;
 
-/// The most turns of a decision.
+/// The greatest number of turns of a decision.
 const MAX_TURNS: u32 = 200;
 
-/// What a line asks for, of which the first word is `word`.
+/// What a line asks for. `word` is its first word, and `words` the rest.
 pub(crate) fn order_of(size: Size, word: &[u8], words: &[u8]) -> Order
     ensures value { result ≡ spec.order_of size (word.now ∷ words_of words.now) }
     ensures fits { IfOk result (FitsBoard size) }
@@ -164,7 +164,7 @@ fn first_colour(words: &[u8]) -> Option<Colour>
     colour_named(word)
 }
 
-/// The size of this number.
+/// The size with this number of rows.
 fn size_numbered(number: u32) -> Option<Size>
     ensures { result ≡ size_numbered number }
 {

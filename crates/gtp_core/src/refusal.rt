@@ -16,7 +16,7 @@ pub enum Refusal {
 }
 
 impl Refusal {
-    /// What is written of it.
+    /// The text that is written for it.
     pub(crate) fn text(self) -> &'static [u8]
         ensures { result.now ≡ refusal_text self }
     {

@@ -14,15 +14,16 @@ use sgf_text::WriteFault;
 use std::alloc::Global;
 use std::io::{Read, Write};
 
-/// The most bytes of input: 64 MiB.
+/// The greatest length of the input, in bytes: 64 MiB.
 pub const MAX_INPUT: usize = 67_108_864;
 
-/// What is written where memory was refused.
+/// What is written if memory was refused.
 const NO_MEMORY: &[u8] = b"? out of memory\n\n";
 
 /// Serves the lines of the reader up to its end, or to `quit`.
 ///
-/// Each reply is written, and the writer flushed, before the next byte is asked for. A line for which memory is refused gets a reply that says so, and the session goes on as it was. What is held is one session, one line and one block of the input.
+/// Each reply is written, and the writer flushed, before the next byte is asked for. A line for which memory is refused gets a
+/// reply that says so, and the session goes on as it was. It holds one session, one line and one block of the input.
 pub fn run_gtp<R: Read, W: Write>(
     alloc: Global,
     reader: &mut R,
@@ -37,7 +38,8 @@ pub fn run_gtp<R: Read, W: Write>(
     run_over::<Plain, Plain, R, W>(alloc, reader, writer)
 }
 
-/// The same, where more is known of a reader or a writer after a call that failed: a run that ends for a read has read so, or its input is longer than `MAX_INPUT`; one that ends for a write has written so.
+/// Like `run_gtp`, for a reader and a writer about which more is known after a failed call. If the run ends because of a read, a
+/// read failed in that way or the input is longer than `MAX_INPUT`; if it ends because of a write, a write failed in that way.
 pub fn run_over<A: ReadFrom<R>, B: WriteTo<W>, R: Read, W: Write>(
     alloc: Global,
     reader: &mut R,
@@ -91,7 +93,7 @@ fn serve_lines<A: ReadFrom<R>, B: WriteTo<W>, R: Read, W: Write>(
     }
 }
 
-/// Serves a raw line, and writes what it gets. Whether the session goes on.
+/// Serves a raw line, and writes what it gets. Returns whether the session goes on.
 fn serve<B: WriteTo<W>, W: Write>(
     session: &mut Session,
     line: &[u8],

@@ -9,10 +9,10 @@ use std::alloc::Global;
 use std::num::NonZeroUsize;
 use target_game::Problem;
 
-/// The most steps of a search.
+/// The greatest number of steps of a search.
 const MAX_STEPS: u64 = 100_000;
 
-/// The most entries of its table.
+/// The greatest number of entries of its table.
 const MAX_ENTRIES: usize = 65_536;
 
 /// What a search finds for a side.
@@ -23,6 +23,13 @@ pub(crate) enum Found {
     /// The other side wins.
     Loss,
     Unknown,
+}
+
+/// What a search has found for a side.
+#[derive(Clone, Copy, Debug)]
+pub(crate) struct Known {
+    pub(crate) colour: Colour,
+    pub(crate) found: Found,
 }
 
 /// What a search finds for the side that is to move.
@@ -50,7 +57,7 @@ pub(crate) fn searched(alloc: Global, problem: Problem, colour: Colour) -> Found
     }
 }
 
-/// A winning turn, where the board has it.
+/// A winning turn, if the board has it.
 fn win_on_board(size: Size, turn: Turn) -> Found
     ensures { result ≡ win_on_board size turn }
 {

@@ -1,6 +1,6 @@
 //! A session, and what it does with a line.
 
-ghost use Rattle.std.specs.Prelude.{◌≡◌, ◌≢◌, ◌<◌, ◌≤◌, ◌*◌, [], None, Some, Ok, Err, Result, IfOk, OnErr, IfSome, IsTrue, length};
+ghost use Rattle.std.specs.Prelude.{◌≡◌, ◌≢◌, ◌<◌, ◌≤◌, [], None, Some, Ok, Err, Result, IfOk, OnErr, IfSome, IsTrue, length};
 ghost use Rattle.std.specs.List.{All};
 ghost use Rattle.go_points.specs.Place.{IsOn};
 ghost use Rattle.go_points.specs.declared.Colour.{Colour};
@@ -8,7 +8,7 @@ ghost use Rattle.gtp_core.specs.Lines.{request_of, request_with, words_of, bad_l
 ghost use Rattle.gtp_core.specs.Words.{turn_at};
 ghost use Rattle.gtp_core.specs.Runs.{first_session};
 ghost use Rattle.gtp_core.specs.Session as spec;
-ghost use Rattle.gtp_core.specs.Serving.{Answers, Meets, answers, board_text, command_due, due_of, fed_rows, due_or_refusal, needs_memory, output_of, plays, record_due, refuses, reply, target_due, tells, turn_due, within_due, within_text};
+ghost use Rattle.gtp_core.specs.Serving.{Answers, Meets, answers, board_text, command_due, due_of, due_or_refusal, needs_memory, output_of, plays, record_due, refuses, reply, target_due, tells, turn_due, within_due};
 ghost use Rattle.gtp_core.specs.declared.refusal.Refusal.TheVariants as refusal;
 ghost use Rattle.gtp_core.specs.Private.Following.{FitsBoard, IsFoundAt, IsTurnFault};
 ghost use Rattle.go_turns.specs.Record.{undo_of};
@@ -18,23 +18,23 @@ use crate::fed::Fed;
 use crate::line::{clean, is_digits, number_named, take_word};
 use crate::order::{Order, order_of};
 use crate::refusal::Refusal;
-use crate::reply::{failure, success};
-use crate::search::{Found, searched};
+use crate::reply::{failure, fed_rows, success, within_text};
+use crate::search::{Found, Known, searched};
 use crate::words::{turn_at, with_turn};
 use go_points::{Colour, PointSet, Size, Turn, Vertex};
 use go_turns::{Board, PlayBoard, PlayRecord, Record, Seen, TurnFault};
 use std::alloc::{AllocError, Global};
 use std::marker::Model;
-use target_game::{Problem, Within, colour_at, decide_within};
+use target_game::{Problem, colour_at, decide_within};
 use tsumego_problem::{all_points, history_of};
 
 /// The longest raw line, without its line feed, in bytes.
 pub const MAX_LINE: usize = 4096;
 
-/// The number of rows of the first board, before any is asked for: the usual one.
+/// The number of rows of the first board, before any other is asked for: the usual one.
 pub(crate) const FIRST_SIZE: u8 = 19;
 
-/// The most states of a decision.
+/// The greatest number of states of a decision.
 const MAX_NODES: u64 = 1_000_000;
 
 /// A session: its record since the new board, the targets and the region. It plays by the Tromp-Taylor turn rule over the whole past.
@@ -44,11 +44,14 @@ pub struct Session {
     turns: PlayRecord,
     targets: PointSet,
     region: PointSet,
+    /// The last checked answer to a question about the present problem: the same question need not be searched again.
+    known: Option<Known>,
 }
 
 impl Model for Session {
     ghost use Rattle.gtp_core.specs.Session.{GtpSession};
     ghost use Rattle.gtp_core.specs.Private.Sound.{IsSound};
+    ghost use Rattle.gtp_core.specs.Private.Following.{IsKnown};
 
     ghost Value = { GtpSession };
 
@@ -58,7 +61,7 @@ impl Model for Session {
       turns = a.turns;
       targets = a.targets;
       region = a.region;
-    }) };
+    }) × IsKnown (record { turns = a.turns; targets = a.targets; region = a.region }) a.known };
 }
 
 /// The session with a new board.
@@ -72,6 +75,7 @@ fn with_board(alloc: Global, size: Size) -> Result<Session, AllocError>
             turns,
             targets: PointSet::new(),
             region: all_points(size),
+            known: None,
         }),
         Err(_) => Err(AllocError),
     }
@@ -88,7 +92,8 @@ impl Session {
         }
     }
 
-    /// What a raw line gets, which is given without its line feed. After an error, which says that memory was refused, the session is as it was; and so it is after a failure reply. A line that asks for nothing is never refused.
+    /// What a raw line gets. The line is given without its line feed. An error means that memory was refused. After an error, and
+    /// after a failure reply, the session is as it was. A line that asks for nothing is never refused.
     pub fn feed(&mut self, line: &[u8]) -> Result<Fed, AllocError>
         ensures ok { IfOk result
             (λ fed. Answers self.old (request_of line.now) (output_of fed) self.new) }
@@ -204,7 +209,10 @@ impl Session {
         };
         let bytes = success(self.alloc, id, b"")?;
         match self.turns.play(colour, turn) {
-            Ok(()) => Ok(bytes),
+            Ok(()) => {
+                self.known = None;
+                Ok(bytes)
+            }
             Err(fault) => self.barred(id, fault),
         }
     }
@@ -229,6 +237,8 @@ impl Session {
         ensures err { OnErr result (self.new ≡ self.old) }
     {
         let bytes = success(self.alloc, id, b"")?;
+        // Where there is nothing to take back, the board is empty, and nothing is known of it.
+        self.known = None;
         match self.turns.undo() {
             Ok(()) => Ok(bytes),
             Err(_) => failure(self.alloc, id, Refusal::CannotUndo),
@@ -246,7 +256,7 @@ impl Session {
         success(self.alloc, id, &rows.as_slice()[1..])
     }
 
-    /// Sets the targets, which have to be stones of one colour; an empty set leaves none.
+    /// Sets the targets, which have to be stones of one colour. An empty set removes the targets.
     fn set_targets(&mut self, id: &[u8], set: PointSet) -> Result<Vec<u8>, AllocError>
         requires { All (IsOn self.old.turns.size) set }
         ensures ok { IfOk result
@@ -258,6 +268,7 @@ impl Session {
             return failure(self.alloc, id, Refusal::BadTargets);
         }
         let bytes = success(self.alloc, id, b"")?;
+        self.known = None;
         self.targets = set;
         Ok(bytes)
     }
@@ -272,6 +283,7 @@ impl Session {
         ensures err { OnErr result (self.new ≡ self.old) }
     {
         let bytes = success(self.alloc, id, b"")?;
+        self.known = None;
         self.region = set;
         Ok(bytes)
     }
@@ -291,36 +303,52 @@ impl Session {
         Ok(Problem::new(history, place, mover, passes, self.targets, self.region).ok())
     }
 
-    /// What a search finds for a side, if there is a problem.
+    /// What a search finds for a side, if there is a problem. What is known already is not searched for.
     fn search(&self, colour: Colour) -> Result<Option<Found>, AllocError>
         ensures { IfOk result
             (λ f. IsFoundAt self.now.turns.size colour (spec.problem_at self.now colour) f) }
     {
+        if let Some(known) = self.known {
+            if known.colour == colour {
+                return Ok(Some(known.found));
+            }
+        }
         match self.problem(colour)? {
             Some(problem) => Ok(Some(searched(self.alloc, problem, colour))),
             None => Ok(None),
         }
     }
 
-    /// Tells what a search finds.
-    fn solve(&self, id: &[u8], colour: Colour) -> Result<Vec<u8>, AllocError>
-        ensures { IfOk result
-            (λ bytes. Meets self.now id.now
-            (due_or_refusal refusal.NoProblem (spec.problem_at self.now colour) (tells colour))
-            (reply bytes.items) self.now) }
+    /// Tells what a search finds, and keeps an answer, which was checked. An unknown is not kept: there may be memory for it later.
+    fn solve(&mut self, id: &[u8], colour: Colour) -> Result<Vec<u8>, AllocError>
+        ensures ok { IfOk result
+            (λ bytes. Meets self.old id.now
+            (due_or_refusal refusal.NoProblem (spec.problem_at self.old colour) (tells colour))
+            (reply bytes.items) self.new) }
+        ensures err { OnErr result (self.new ≡ self.old) }
     {
         match self.search(colour)? {
             Some(Found::Win(turn)) => {
                 let text = with_turn(self.alloc, b"win ", self.size(), &turn)?;
+                self.known = Some(Known {
+                    colour,
+                    found: Found::Win(turn),
+                });
                 success(self.alloc, id, text.as_slice())
             }
-            Some(Found::Loss) => success(self.alloc, id, b"loss"),
+            Some(Found::Loss) => {
+                self.known = Some(Known {
+                    colour,
+                    found: Found::Loss,
+                });
+                success(self.alloc, id, b"loss")
+            }
             Some(Found::Unknown) => success(self.alloc, id, b"unknown"),
             None => failure(self.alloc, id, Refusal::NoProblem),
         }
     }
 
-    /// Plays a turn that a search finds, or else passes.
+    /// Plays a turn that a search finds, or passes.
     fn genmove(&mut self, id: &[u8], colour: Colour) -> Result<Vec<u8>, AllocError>
         ensures ok { IfOk result
             (λ bytes. Meets self.old id.now (plays colour (spec.problem_at self.old colour))
@@ -333,13 +361,14 @@ impl Session {
         };
         let text = with_turn(self.alloc, b"", self.size(), &turn)?;
         let bytes = success(self.alloc, id, text.as_slice())?;
+        self.known = None;
         match self.turns.play(colour, turn) {
             Ok(()) => Ok(bytes),
             Err(_) => Err(AllocError),
         }
     }
 
-    /// Decides who can force a win within so many turns.
+    /// Decides who can force a win within this many turns.
     fn within(&self, id: &[u8], turns: u32) -> Result<Vec<u8>, AllocError>
         requires { turns ≤ 200 }
         ensures { IfOk result
@@ -354,7 +383,7 @@ impl Session {
         success(self.alloc, id, within_text(decision))
     }
 
-    /// The other colour of the last turn that stands, Black where none does.
+    /// The colour that did not make the last turn on the record, or Black if there is no turn.
     fn next_mover(&self) -> Colour
         ensures { result ≡ spec.next_mover self.now }
     {
@@ -362,30 +391,5 @@ impl Session {
             Some(colour) => colour.opponent(),
             None => Colour::Black,
         }
-    }
-}
-
-/// So many rows of so many bytes each, each after a line feed.
-fn fed_rows(alloc: Global, rows: usize, cells: &[u8]) -> Result<Vec<u8>, AllocError>
-    requires { length cells.now ≡ rows * rows }
-    ensures { IfOk result (λ text. text.items ≡ fed_rows rows rows cells.now) }
-{
-    let mut text = Vec::new(alloc);
-    for row in 0..rows {
-        text.push(b'\n')?;
-        text.extend_from_slice(&cells[row * rows..row * rows + rows])?;
-    }
-    Ok(text)
-}
-
-/// What is told of a decision.
-fn within_text(decision: Within) -> &'static [u8]
-    ensures { result.now ≡ within_text decision }
-{
-    match decision {
-        Within::Wins(Colour::Black) => b"wins Black",
-        Within::Wins(Colour::White) => b"wins White",
-        Within::Neither => b"neither",
-        Within::Limit => b"limit",
     }
 }

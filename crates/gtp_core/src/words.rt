@@ -8,7 +8,7 @@ ghost use Rattle.gtp_core.specs.Words.{colour_named, place_at, turn_at, is_on_bo
 use go_points::{Colour, Point, Size, Turn, Vertex, to_gtp};
 use std::alloc::{AllocError, Global};
 
-/// The colour that the word names, in any case.
+/// The colour that the word names, in any letter case.
 pub(crate) fn colour_named(word: &[u8]) -> Option<Colour>
     ensures { result ≡ colour_named word.now }
 {
@@ -45,7 +45,7 @@ pub(crate) fn turn_at(size: Size, vertex: Vertex) -> Option<Turn>
     }
 }
 
-/// A text with a turn of the board after it, as a vertex.
+/// A text followed by a turn of the board, as a vertex.
 pub(crate) fn with_turn(
     alloc: Global,
     front: &[u8],

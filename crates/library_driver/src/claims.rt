@@ -1,4 +1,4 @@
-//! Claims that are held: their lines, their judgement, and the search for them.
+//! Claims held in memory: their lines, their judgement, and the search for them.
 
 use crate::problem::{CLAIM, is_same, problem};
 use crate::refusal::{not_begun, say_refused};
@@ -32,7 +32,7 @@ pub fn lines<R: Print + AllocGlobal>(rt: &R) -> io::Result<()> {
     println!(rt; "end: {count} lines")
 }
 
-/// Whether the source answers this fault three times more, at the same line.
+/// Whether the source gives this fault three more times, at the same line.
 fn fails_on(source: &mut HeldSource<'_>, fault: SourceFault) -> bool {
     let place = source.line_number();
     for _ in 0..3u32 {

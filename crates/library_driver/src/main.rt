@@ -1,4 +1,7 @@
-//! Calls of the library that take memory, and what each refusal left: `tools/faults/library.py` runs it with memory refused. Its one word says which call: `store`, `play`, `setup`, `source`, `check` or `solve`. For each call for which memory was refused it writes whether the object is as it was, and calls once more; at the end it writes what came of all calls. Where memory is refused before the first of them it writes `not begun`.
+//! Calls of the library that allocate memory, and what each leaves if it is refused. `tools/faults/library.py` runs this program
+//! with memory refused. Its one word says which call to make: `store`, `play`, `setup`, `source`, `check` or `solve`. For each call
+//! for which memory was refused, it writes whether the object is as it was, and calls once more. At the end it writes the outcome
+//! of all calls. If memory is refused before the first of them, it writes `not begun`.
 #![tactic(auto)]
 
 mod claims;

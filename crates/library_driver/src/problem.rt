@@ -1,4 +1,4 @@
-//! The problem that is judged and solved, and a claim of it.
+//! The problem that is judged and solved, and a claim for it.
 
 use go_points::{Colour, Colouring, PointSet, Size, sgf_point};
 use std::alloc::Global;
@@ -7,7 +7,7 @@ use target_game::Problem;
 /// Three rows, one white stone in the corner that Black cannot take at the two points of the region.
 const CELLS: &[u8] = b"O........";
 
-/// A claim of White, with a lemma.
+/// A claim that White wins, with a lemma.
 pub const CLAIM: &[u8] =
     b"tsucert 1 3 W\nlemma W 0 O......XX\nplay pass\nall 1\nreply pass\nwon\nend\nmain\nall 3\nreply bc\nplay pass\nall 2\nreply cc\nuse 1\nreply pass\nwon\nreply cc\nplay pass\nall 2\nreply bc\nuse 1\nreply pass\nwon\nreply pass\nplay pass\nwon\nend\n";
 
@@ -21,7 +21,7 @@ fn points(size: Size, letters: &[u8]) -> PointSet {
     set
 }
 
-/// The problem, where there is memory for it.
+/// The problem, if there is memory for it.
 pub fn problem(alloc: Global) -> Option<Problem> {
     let size = Size::new(3)?;
     let mut history = Vec::new(alloc);

@@ -41,7 +41,7 @@ fn attempt(rt: &impl Print, record: &mut PlayRecord, change: &Change) -> io::Res
     Ok(())
 }
 
-/// Plays at every point, or sets up stones there, by turns of both colours.
+/// Plays at every point, or sets up stones there, with the two colours alternating.
 pub fn changed<R: Print + AllocGlobal>(rt: &R, is_setup: bool) -> io::Result<()> {
     let Some(mut record) = begun(rt.alloc()) else {
         return not_begun(rt);

@@ -1,4 +1,4 @@
-//! What is written where memory was refused.
+//! What is written if memory was refused.
 
 use std::io;
 

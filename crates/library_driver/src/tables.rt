@@ -6,7 +6,7 @@ use pn_table::{Key, Numbers, Table};
 use std::io;
 use std::num::NonZeroUsize;
 
-/// How many keys are stored, all of which have room.
+/// How many keys are stored. There is room for all of them.
 const KEYS: u32 = 96;
 
 fn key_of(number: u32) -> Key {

@@ -14,7 +14,7 @@ struct Spot {
     point: Point,
     /// The places beside it.
     near: PlaceSet,
-    /// The words of a stone of each side there, whose exclusive or is the key of a colouring.
+    /// The words of a stone of each side there. The key of a colouring is the exclusive or of such words.
     attacker: u64,
     defender: u64,
 }
@@ -24,23 +24,23 @@ struct Spot {
 pub struct Board {
     size: Size,
     spots: Vec<Spot>,
-    /// The place of each point of the board; that of a point which does not change is one that there is not.
+    /// The place of each point of the board. For a point that does not change, it is a place that does not exist.
     places: Vec<u16>,
-    /// All places, those in the region, and those of targets.
+    /// All places, the places in the region, and the places of targets.
     pub(crate) all: PlaceSet,
     pub(crate) region: PlaceSet,
     pub(crate) targets: PlaceSet,
-    /// Places where a stone of a side can never be taken: beside them is an empty point that does not change, or a stone of
-    /// the side's that does not.
+    /// Places where a stone of a side can never be taken: beside them is an empty point that does not change, or a stone of the
+    /// side that does not change.
     pub(crate) lasting: Position,
 }
 
-/// A place that there is not.
+/// A place that does not exist.
 const NO_PLACE: u16 = u16::MAX;
 
 impl Board {
-    /// The places of the problem and its position, where there are no more than `MAX_PLACES` of them. Linear in the
-    /// number of points.
+    /// The places of the problem and its position, if there are at most `MAX_PLACES` places. The time is linear in the number of
+    /// points.
     pub fn of(alloc: Global, problem: &Problem) -> Result<(Board, Position), AllocError> {
         let changing = changing_points(alloc, problem)?;
         let mut board = Board {
@@ -74,7 +74,7 @@ impl Board {
         Ok(())
     }
 
-    /// The place of the point of this number, where it has one.
+    /// The place of the point with this number, if it has one.
     fn place_at(&self, number: usize) -> Option<usize> {
         match self.places.get(number).copied() {
             Some(place) if place < NO_PLACE => Some(place as usize),
@@ -101,7 +101,7 @@ impl Board {
         Ok(())
     }
 
-    /// Notes whether the place of the point is in the region, and whether it is a target's.
+    /// Notes whether the place of the point is in the region, and whether it is that of a target.
     fn note_place(&mut self, problem: &Problem, number: usize) {
         let Some(place) = self.place_at(number) else {
             return;
@@ -188,7 +188,7 @@ impl Board {
         }
     }
 
-    /// The place of the turn; none, where the point does not change.
+    /// The place of the turn. `None` if the point does not change.
     pub fn step(&self, turn: Turn) -> Option<Step> {
         let Turn::At(point) = turn else {
             return Some(Step::Pass);
@@ -246,7 +246,7 @@ impl Board {
         self.all.minus(position.stones())
     }
 
-    /// The places that are connected with these over others of `own`, these among them.
+    /// The places that are connected with these through places of `own`, including these.
     pub fn connected(&self, from: PlaceSet, own: PlaceSet) -> PlaceSet {
         let mut found = from;
         let mut front = from.places();
@@ -261,12 +261,12 @@ impl Board {
         found
     }
 
-    /// The chain of the stone at this place, where the side has these stones.
+    /// The chain of the stone at this place, if the side has these stones.
     pub fn chain(&self, own: PlaceSet, place: usize) -> PlaceSet {
         self.connected(PlaceSet::empty().with(place), own)
     }
 
-    /// The places beside these, but none of them.
+    /// The places beside these, without these themselves.
     pub fn beside(&self, places: PlaceSet) -> PlaceSet {
         self.all_beside(places).minus(places)
     }
@@ -289,7 +289,7 @@ impl Board {
         !self.targets.is_within(position.defender)
     }
 
-    /// The stones of this side, of those given, on chains that can never be taken.
+    /// Those of the given stones of this side that are on chains that can never be taken.
     pub fn permanent(&self, own: PlaceSet, side: Side) -> PlaceSet {
         self.connected(own.and(self.lasting.of(side)), own)
     }

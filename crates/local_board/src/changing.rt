@@ -18,7 +18,7 @@ pub(crate) fn changing_points(alloc: Global, problem: &Problem) -> Result<Vec<bo
     Ok(changing)
 }
 
-/// How many points of the problem can change. Linear in the number of points.
+/// How many points of the problem can change. The time is linear in the number of points.
 pub fn count_changing(alloc: Global, problem: &Problem) -> Result<usize, AllocError> {
     let changing = changing_points(alloc, problem)?;
     let mut count: usize = 0;
@@ -82,7 +82,7 @@ fn has_outer_liberty(problem: &Problem, number: usize) -> bool {
     false
 }
 
-/// One of the at most four points beside a point, by its place among them.
+/// One of the points beside a point, of which there are at most four, by its place among them.
 pub(crate) fn neighbour(size: Size, number: usize, place: usize) -> Option<usize> {
     if number >= size.area() {
         return None;
@@ -96,7 +96,7 @@ pub(crate) fn neighbour(size: Size, number: usize, place: usize) -> Option<usize
     }
 }
 
-/// What the problem has at the point of this number.
+/// What the point with this number holds in the problem.
 pub(crate) fn cell_of(problem: &Problem, number: usize) -> Cell {
     cell_at(problem.colouring(), number)
 }

@@ -1,25 +1,25 @@
 //! Groups that cannot have two eyes.
 //!
-//! An eye of the defender's never touches a stone that cannot be taken. So the question is which points the attacker can reach with
-//! such stones whatever the defender does. The points that he needs for it are put into pairs: where the defender takes one, the
-//! attacker answers at the other. The answer is a guess by shape, which playing it out has to confirm.
+//! An eye of the defender never touches a stone that cannot be taken. So the question is which points the attacker can reach with
+//! such stones whatever the defender does. The points that he needs for it are put into pairs: if the defender takes one, the
+//! attacker answers at the other. The answer is a guess from shape, which has to be confirmed by playing it out.
 
 use crate::board::Board;
 use crate::place_set::PlaceSet;
 use crate::position::{Position, Side};
 
-/// What is guessed of the defender's eyes, where he is to move.
+/// A guess about the defender's eyes when he is to move.
 #[derive(Clone, Copy, Debug, PartialEq, Eq)]
 pub struct Eyes {
-    /// He cannot have two.
+    /// He cannot have two eyes.
     pub is_dead: bool,
-    /// One stone more of the attacker's might bring that about.
+    /// One more stone of the attacker might bring that about.
     pub is_nearly_dead: bool,
-    /// How many points are left where he could have one.
+    /// How many points are left where he could have an eye.
     pub many: u8,
 }
 
-/// Where the defender may come out, or live where nobody can fill.
+/// The guess if the defender may get out, or live where nobody can fill.
 const FAR: Eyes = Eyes {
     is_dead: false,
     is_nearly_dead: false,
@@ -31,24 +31,24 @@ const FAR: Eyes = Eyes {
 struct Reach {
     position: Position,
     empty: PlaceSet,
-    /// All that the defender can ever come to.
+    /// All places that the defender can ever come to.
     inside: PlaceSet,
     /// The attacker's stones that can never be taken, or can be connected to such stones.
     permanent: PlaceSet,
-    /// Points inside where a stone of the attacker's cannot be taken.
+    /// Points inside where a stone of the attacker cannot be taken.
     safe: PlaceSet,
-    /// Points of pairs.
+    /// Points that are in pairs.
     used: PlaceSet,
 }
 
 impl Board {
-    /// All that is connected with a target over places without these stones of the attacker's.
+    /// All places that are connected with a target through places without these stones of the attacker.
     pub(crate) fn inside_of(&self, permanent: PlaceSet) -> PlaceSet {
         self.connected(self.targets, self.all.minus(permanent))
     }
 
-    /// What is guessed of the defender's eyes. `inside` is all that is connected with a target over places without the attacker's
-    /// permanent stones, and `near` what is beside these.
+    /// A guess about the defender's eyes. `inside` has the places that are connected with a target through places without the
+    /// attacker's permanent stones, and `near` has the places beside those stones.
     pub(crate) fn guess_eyes(
         &self,
         position: Position,
@@ -56,7 +56,7 @@ impl Board {
         inside: PlaceSet,
         near: PlaceSet,
     ) -> Eyes {
-        // A liberty may come there that nobody can fill.
+        // There may come to be a liberty there that nobody can fill.
         if !inside.minus(position.defender).is_within(self.region) {
             return FAR;
         }
@@ -76,8 +76,8 @@ impl Board {
         self.judge_eyes(&reach, left)
     }
 
-    /// Whether the attacker can close each way out: a point where the defender could not be taken, which he needs together with
-    /// the only point beside it.
+    /// Whether the attacker can close each way out. A way out is a point where the defender could not be taken, which he needs
+    /// together with the only point beside it.
     fn close_ways_out(&self, reach: &mut Reach) -> bool {
         let mut rest = reach.inside.and(self.lasting.defender).places();
         for _ in 0..u64::MAX {
@@ -115,7 +115,7 @@ impl Board {
         }
     }
 
-    /// Two points by one of which the chain can be connected; none, where there are no two.
+    /// Two points, either of which connects the chain. The set is empty if there are no two such points.
     fn connecting_pair(&self, reach: &Reach, chain: PlaceSet) -> PlaceSet {
         let liberties = self.beside(chain).and(reach.empty).minus(reach.used);
         let safe = liberties.and(reach.safe);
@@ -125,7 +125,7 @@ impl Board {
         let Some(at) = safe.first() else {
             return PlaceSet::empty();
         };
-        // At the one safe point the defender would have no liberty, so he must first take another.
+        // At the only safe point the defender would have no liberty, so he must first play at another point.
         let others = liberties.minus(safe);
         let walls = reach.permanent.or(chain);
         if !others.is_empty() && self.near(at).is_within(walls) && !self.lasting.defender.has(at) {
@@ -134,8 +134,8 @@ impl Board {
         PlaceSet::empty()
     }
 
-    /// The points where the defender could have an eye that the attacker has no pair to destroy. Those with the fewest safe points
-    /// beside them come first.
+    /// The points where the defender could have an eye and the attacker has no pair to destroy it. The points with the fewest safe
+    /// points beside them are handled first.
     fn points_left(&self, reach: &mut Reach) -> PlaceSet {
         let hits = reach.safe.and(reach.empty);
         let [one, two, three, four] = self.counted_beside(hits.minus(reach.used));
@@ -155,7 +155,7 @@ impl Board {
         left
     }
 
-    /// The points beside which are at least one of these, two, three, and four.
+    /// The points that have at least one of these beside them, and those that have at least two, three and four.
     fn counted_beside(&self, hits: PlaceSet) -> [PlaceSet; 4] {
         let mut one = PlaceSet::empty();
         let mut two = PlaceSet::empty();
@@ -175,7 +175,7 @@ impl Board {
         [one, two, three, four]
     }
 
-    /// Takes a pair beside each of these points: those that have none.
+    /// Takes a pair beside each of these points, and returns the points that have none.
     fn pair_off(&self, reach: &mut Reach, hits: PlaceSet, points: PlaceSet) -> PlaceSet {
         let mut left = PlaceSet::empty();
         let mut rest = points.places();
@@ -214,7 +214,8 @@ impl Board {
         }
     }
 
-    /// Whether there are two safe points more each of which leaves one eye at most; and two each of which leaves few points.
+    /// Whether there are two more safe points each of which leaves at most one eye; and whether there are two each of which leaves
+    /// few points.
     fn last_pair(&self, reach: &Reach, left: PlaceSet) -> (bool, bool) {
         let hits = reach.safe.and(reach.empty).minus(reach.used);
         let mut rest = self.all_beside(left).and(hits).places();
@@ -238,7 +239,7 @@ impl Board {
         (false, spoils >= 2)
     }
 
-    /// Whether the defender, to move, makes at most one eye of these points, some of which hold stones of the attacker's.
+    /// Whether the defender, if he is to move, makes at most one eye of these points, some of which hold stones of the attacker.
     fn is_one_eye(&self, points: PlaceSet, attacker: PlaceSet) -> bool {
         let stones = points.and(attacker);
         match points.len() {
@@ -256,7 +257,7 @@ impl Board {
         }
     }
 
-    /// Whether one of these has so many of the points beside it.
+    /// Whether one of these has exactly `count` of the points beside it.
     fn has_with_beside(&self, some: PlaceSet, points: PlaceSet, count: u32) -> bool {
         let mut rest = some.places();
         for _ in 0..u64::MAX {
@@ -270,7 +271,7 @@ impl Board {
         false
     }
 
-    /// Whether four points stand in a square.
+    /// Whether four points form a square.
     fn is_square(&self, points: PlaceSet) -> bool {
         let mut rest = points.places();
         for _ in 0..u64::MAX {
@@ -284,7 +285,7 @@ impl Board {
         false
     }
 
-    /// Whether these are two stones that are not beside one another.
+    /// Whether these are two stones that are not adjacent.
     fn is_across(&self, stones: PlaceSet) -> bool {
         match stones.first() {
             Some(at) => stones.len() == 2 && !self.near(at).meets(stones),

@@ -1,8 +1,8 @@
 //! The board of one problem as the search sees it: sets of the points that can change, and what their shapes say of life and death.
 //!
-//! Points outside the region, and stones that can never be taken, do not change. All others have a number, their place, and
-//! a position is a set of places for each side. Nothing is promised of the answers: they guide a search, and what it finds is
-//! put to the checker.
+//! Points outside the region, and stones that can never be taken, do not change. All other points have a number, their place, and a
+//! position is a set of places for each side. Nothing is promised about the answers: they guide a search, and what it finds is
+//! given to the checker.
 #![tactic(auto)]
 
 mod board;

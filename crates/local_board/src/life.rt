@@ -1,17 +1,17 @@
-//! Groups that live by their shape, whatever the attacker plays, were their owner to pass for ever.
+//! Groups that live by their shape whatever the attacker plays, even if their owner always passes.
 //!
-//! This is Benson's test, with one change: all points of an eye, and not its empty ones alone, have to be beside the chain. Several
-//! stones may take themselves off here, so an attacker could fill an eye, clear it by suicide, and fill it again with another
-//! point left open that is not beside the chain.
+//! This is Benson's test, with one change: all points of an eye, not only its empty ones, have to be beside the chain. Suicide of
+//! several stones is legal here, so an attacker could fill an eye, clear it by suicide, and fill it again leaving open another
+//! point that is not beside the chain.
 
 use crate::board::Board;
 use crate::place_set::PlaceSet;
 use crate::position::{Position, Side};
 
-/// The most eyes, and the most chains, that are looked at.
+/// The greatest number of eyes, and of chains, that are looked at.
 const ROOM: usize = 40;
 
-/// The most points of an eye.
+/// The greatest number of points of an eye.
 const MAX_EYE: u32 = 12;
 
 /// An area between the defender's chains that can be an eye, or a chain that has no lasting liberty.
@@ -20,7 +20,7 @@ struct Part {
     places: PlaceSet,
     /// The places beside it.
     beside: PlaceSet,
-    /// Whether it is still thought to live, or to be an eye of what lives.
+    /// Whether it is still thought to live, or to be an eye of something that lives.
     is_good: bool,
 }
 
@@ -44,7 +44,7 @@ impl Parts {
         }
     }
 
-    /// Adds one more, and answers whether there was room.
+    /// Adds one more, and returns whether there was room.
     fn add(&mut self, places: PlaceSet, beside: PlaceSet) -> bool {
         if self.count >= ROOM {
             return false;
@@ -58,7 +58,7 @@ impl Parts {
         true
     }
 
-    /// Whether two good ones have all their places among these.
+    /// Whether two good parts have all their places among these.
     fn has_two_within(&self, places: PlaceSet) -> bool {
         let mut found = 0u32;
         for index in 0..ROOM {
@@ -76,7 +76,7 @@ impl Parts {
         false
     }
 
-    /// Takes those for bad that are beside these places.
+    /// Marks the parts beside these places as bad.
     fn spoil_beside(&mut self, places: PlaceSet) {
         for index in 0..ROOM {
             if index < self.count && self.parts[index].beside.meets(places) {
@@ -87,8 +87,8 @@ impl Parts {
 }
 
 impl Board {
-    /// Whether no target can ever be taken, whatever the attacker plays: each stands on a chain with a lasting liberty, or on
-    /// one of a set of chains each of which has two eyes that only chains of the set surround.
+    /// Whether no target can ever be taken, whatever the attacker plays: each is on a chain with a lasting liberty, or on one of a
+    /// set of chains each of which has two eyes that only chains of the set surround.
     pub(crate) fn lives(&self, defender: PlaceSet, empty: PlaceSet) -> bool {
         let rest = self.stones_in_question(defender);
         rest.is_empty()
@@ -114,8 +114,8 @@ impl Board {
         found
     }
 
-    /// The defender's stones that can never be taken. As soon as a chain with a target drops out that is asked for, the answer
-    /// is that of lasting liberties alone.
+    /// The defender's stones that can never be taken. As soon as a chain with one of the targets asked about drops out, the answer
+    /// is based on lasting liberties only.
     pub(crate) fn good(&self, defender: PlaceSet, empty: PlaceSet, asked: PlaceSet) -> PlaceSet {
         let lasting = self.permanent(defender, Side::Defender);
         let Some(mut eyes) = self.eye_spaces(defender, empty) else {
@@ -134,8 +134,8 @@ impl Board {
         lasting
     }
 
-    /// The areas that can be eyes: all their points are beside stones of the defender's; none, where there are fewer than two
-    /// of them, or more than are looked at.
+    /// The areas that can be eyes: all their points are beside stones of the defender. `None` if there are fewer than two of them,
+    /// or more than are looked at.
     fn eye_spaces(&self, defender: PlaceSet, empty: PlaceSet) -> Option<Parts> {
         let mut eyes = Parts::none();
         let candidates = self.beside(defender).minus(self.lasting.attacker);
@@ -156,7 +156,7 @@ impl Board {
         if eyes.count < 2 { None } else { Some(eyes) }
     }
 
-    /// The defender's chains but these; none, where there are more than are looked at.
+    /// The defender's chains except these. `None` if there are more than are looked at.
     fn chains_of(&self, defender: PlaceSet, lasting: PlaceSet) -> Option<Parts> {
         let mut chains = Parts::none();
         let mut rest = defender.minus(lasting).places();
@@ -173,8 +173,8 @@ impl Board {
         None
     }
 
-    /// Takes the chains for bad that have not two eyes, and the eyes beside them: whether there were any; none, where one of
-    /// them has a target that is asked for.
+    /// Marks the chains that do not have two eyes as bad, and the eyes beside them. Returns whether there were any, or `None` if
+    /// one of them has a target that is asked about.
     fn spoil_chains(&self, chains: &mut Parts, eyes: &mut Parts, asked: PlaceSet) -> Option<bool> {
         let mut has_changed = false;
         for index in 0..ROOM {
@@ -200,7 +200,7 @@ impl Board {
     }
 }
 
-/// The places of those that are good.
+/// The places of the good parts.
 fn good_places(parts: &Parts) -> PlaceSet {
     let mut found = PlaceSet::empty();
     for index in 0..ROOM {

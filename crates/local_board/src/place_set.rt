@@ -9,7 +9,7 @@ pub struct PlaceSet {
     bits: u128,
 }
 
-/// The places of a set that are still to be met, ascending.
+/// The places of a set that are still to come, ascending.
 #[derive(Clone, Copy)]
 pub struct Places {
     bits: u128,
@@ -21,7 +21,7 @@ impl PlaceSet {
         PlaceSet { bits: 0 }
     }
 
-    /// The set with this place. A place that there is not changes nothing.
+    /// The set with this place. A place that does not exist changes nothing.
     pub fn with(self, place: usize) -> PlaceSet {
         PlaceSet {
             bits: self.bits | bit(place),
@@ -58,7 +58,7 @@ impl PlaceSet {
         }
     }
 
-    /// The places of one of the two sets alone.
+    /// The places that are in exactly one of the two sets.
     pub fn difference(self, other: PlaceSet) -> PlaceSet {
         PlaceSet {
             bits: self.bits ^ other.bits,
@@ -93,14 +93,14 @@ impl PlaceSet {
         Some(self.bits.trailing_zeros() as usize)
     }
 
-    /// The set of the least place alone.
+    /// The set with only the least place.
     pub fn lowest(self) -> PlaceSet {
         PlaceSet {
             bits: self.bits & self.bits.wrapping_neg(),
         }
     }
 
-    /// The set of the two least places, or of fewer, where it has no more.
+    /// The set of the two least places, or of fewer if it has fewer.
     pub fn lowest_two(self) -> PlaceSet {
         let one = self.lowest();
         one.or(self.minus(one).lowest())
@@ -111,7 +111,7 @@ impl PlaceSet {
         Places { bits: self.bits }
     }
 
-    /// A number that is well mixed. Equal sets have the same.
+    /// A number that is well mixed. Equal sets have the same number.
     pub fn mixed(self) -> u64 {
         let low = (self.bits & u64::MAX as u128) as u64;
         let high = (self.bits >> 64) as u64;
@@ -132,18 +132,18 @@ impl Places {
         Some(place)
     }
 
-    /// Adds places that are to be met.
+    /// Adds places that are to come.
     pub fn add(&mut self, more: PlaceSet) {
         self.bits |= more.bits;
     }
 
-    /// Leaves out places that are still to be met.
+    /// Leaves out places that are still to come.
     pub fn skip(&mut self, met: PlaceSet) {
         self.bits &= !met.bits;
     }
 }
 
-/// The bit of the place; none, where there is no such place.
+/// The bit of the place; 0 if there is no such place.
 fn bit(place: usize) -> u128 {
     if place < MAX_PLACES { 1 << place } else { 0 }
 }

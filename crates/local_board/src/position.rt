@@ -5,9 +5,9 @@ use crate::place_set::PlaceSet;
 /// The sides of a problem.
 #[derive(Clone, Copy, Debug, PartialEq, Eq)]
 pub enum Side {
-    /// Who wants to take a target.
+    /// The side that wants to take a target.
     Attacker,
-    /// Who wants to keep the targets.
+    /// The side that wants to keep the targets.
     Defender,
 }
 
@@ -51,7 +51,7 @@ impl Position {
         }
     }
 
-    /// The places of the side, and those of the other.
+    /// The position in which the side has the places `own`, and the other side the places `other`.
     pub fn made(side: Side, own: PlaceSet, other: PlaceSet) -> Position {
         match side {
             Side::Attacker => Position {
@@ -65,7 +65,7 @@ impl Position {
         }
     }
 
-    /// The position with one stone more.
+    /// The position with one more stone.
     pub fn with(self, side: Side, place: usize) -> Position {
         Position::made(side, self.of(side).with(place), self.of(side.other()))
     }

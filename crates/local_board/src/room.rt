@@ -1,10 +1,10 @@
-//! How much there is left to play.
+//! How much is left to play.
 
 use crate::board::Board;
 use crate::place_set::PlaceSet;
 use crate::position::{Position, Side};
 
-/// How much is left to play, the least being best: the first number counts, then the others.
+/// How much is left to play. Less is better. The first number is compared first, then the others.
 #[derive(Clone, Copy, Debug, PartialEq, Eq, PartialOrd, Ord)]
 pub struct Room {
     pub whole: u32,
@@ -24,9 +24,9 @@ impl Room {
 }
 
 impl Board {
-    /// How much a living defender has left to do: the points of the areas between his chains, but one for each (where the attacker
-    /// has lasting stones, the empty points of the region alone), the attacker's moves, the defender's chains, and his stones
-    /// that can be taken; then the attacker's moves alone.
+    /// How much a living defender has left to do. First the sum of the points of the areas between his chains, less one for each
+    /// area (if the attacker has lasting stones, only the empty points of the region), the attacker's moves, the defender's chains,
+    /// and his stones that can be taken; then the attacker's moves alone.
     pub fn room_of_life(&self, position: Position) -> Room {
         let defender = position.defender;
         let moves = self.count_moves(position, Side::Attacker);
@@ -77,7 +77,7 @@ impl Board {
         count
     }
 
-    /// How many moves of this side change anything, whatever has occurred.
+    /// How many moves of this side change anything, whatever has occurred before.
     pub fn count_moves(&self, position: Position, side: Side) -> u32 {
         let playable = self.empty(position).and(self.region);
         let plain = self.plain(position).of(side).and(playable);
@@ -94,9 +94,9 @@ impl Board {
         count
     }
 
-    /// How much is left after the attacker's stone at this place where the defender cannot have two eyes: twice the fewest
-    /// liberties of a chain with a target, the defender's moves that change anything, and one where the stone can still be taken; then
-    /// the liberties; then the moves.
+    /// How much is left after the attacker's stone at this place, if the defender cannot have two eyes. First the sum of twice the
+    /// fewest liberties of a chain with a target, the defender's moves that change anything, and one if the stone can still be
+    /// taken; then the liberties; then the moves.
     pub fn room_of_death(&self, position: Position, place: usize) -> Room {
         let moves = self.count_moves(position, Side::Defender);
         let liberties = self.fewest_liberties(position);

@@ -1,7 +1,7 @@
-//! The questions of shape, with tables of what was answered last.
+//! Questions about shape, with tables of the latest answers.
 //!
-//! The key of an entry is the whole set or position, not a hash of it, so an entry is right or is not used: no answer depends on a
-//! table.
+//! The key of an entry is the whole set or position, not a hash of it, so an entry is either right or not used: no answer depends
+//! on a table.
 
 use crate::board::Board;
 use crate::eyes::Eyes;
@@ -16,7 +16,7 @@ const LIVING: usize = 4_096;
 
 const ASKED: usize = 4_096;
 
-/// What depends on the attacker's permanent stones alone.
+/// What depends only on the attacker's permanent stones.
 #[derive(Clone, Copy)]
 struct Reached {
     permanent: PlaceSet,
@@ -24,21 +24,21 @@ struct Reached {
     near: PlaceSet,
 }
 
-/// Whether these stones of the defender's live where the attacker has no stone.
+/// Whether these stones of the defender live if the attacker has no stones.
 #[derive(Clone, Copy)]
 struct Living {
     defender: PlaceSet,
     lives: bool,
 }
 
-/// What was guessed of a position.
+/// The guess about a position.
 #[derive(Clone, Copy)]
 struct Asked {
     position: Position,
     eyes: Eyes,
 }
 
-/// A board, and what was answered last.
+/// A board, and the latest answers.
 #[derive(Drop)]
 pub struct Shapes {
     pub board: Board,
@@ -48,7 +48,7 @@ pub struct Shapes {
 }
 
 impl Shapes {
-    /// The questions over this board, none of which has been asked.
+    /// The questions about this board. None has been asked yet.
     pub fn of(alloc: Global, board: Board) -> Result<Shapes, AllocError> {
         let mut shapes = Shapes {
             board,
@@ -68,8 +68,8 @@ impl Shapes {
         Ok(shapes)
     }
 
-    /// Whether the defender's stones live by their shape where the attacker has none. If they do not, they live with no stones of
-    /// the attacker's: those count only where they leave an area without an empty point.
+    /// Whether the defender's stones live by their shape if the attacker has none. If they do not, they do not live whatever stones
+    /// the attacker has: those matter only if they leave an area without an empty point.
     pub fn may_live(&mut self, defender: PlaceSet) -> bool {
         let slot = defender.mixed() as usize % LIVING;
         if let Some(Some(known)) = self.living.get(slot).copied() {
@@ -84,14 +84,14 @@ impl Shapes {
         lives
     }
 
-    /// Whether no target can ever be taken, by the shape of the defender's stones. No, where a target is off the board.
+    /// Whether no target can ever be taken, by the shape of the defender's stones. It is `false` if a target is off the board.
     pub fn is_alive(&mut self, position: Position) -> bool {
         !self.board.is_taken(position)
             && self.may_live(position.defender)
             && self.board.is_alive(position)
     }
 
-    /// What is guessed of the defender's eyes, where he is to move.
+    /// A guess about the defender's eyes when he is to move.
     pub fn eyes(&mut self, position: Position) -> Eyes {
         let mixed = position.attacker.mixed() ^ position.defender.mixed() >> 7;
         let slot = mixed as usize % ASKED;
@@ -110,7 +110,7 @@ impl Shapes {
         eyes
     }
 
-    /// What depends on the attacker's permanent stones alone.
+    /// What depends only on the attacker's permanent stones.
     fn reached_by(&mut self, position: Position) -> Reached {
         let permanent = self.board.permanent(position.attacker, Side::Attacker);
         let slot = permanent.mixed() as usize % REACHED;

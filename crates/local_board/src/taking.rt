@@ -7,15 +7,15 @@ use crate::position::{Position, Side};
 /// What is known of the chains of a side.
 #[derive(Clone, Copy)]
 struct Liberties {
-    /// The last liberties of chains that have one alone.
+    /// The liberties of chains that have only one.
     last: PlaceSet,
     /// The stones of these chains.
     weak: PlaceSet,
 }
 
 impl Board {
-    /// The position after a stone of this side at the empty place, by the rules of taking and of suicide; the same position
-    /// where a stone alone takes itself off.
+    /// The position after a stone of this side at the empty place, by the rules of capture and suicide. It is the same position if
+    /// a single stone takes itself off.
     pub fn after(&self, position: Position, side: Side, place: usize) -> Position {
         let own = position.of(side).with(place);
         let other = position.of(side.other());
@@ -52,7 +52,7 @@ impl Board {
         taken
     }
 
-    /// The chain of the stone at this place, where it has no liberty.
+    /// The chain of the stone at this place, if it has no liberty.
     fn chain_without_liberty(
         &self,
         own: PlaceSet,
@@ -78,7 +78,7 @@ impl Board {
         None
     }
 
-    /// For each side the empty places where a stone of its takes nothing and has a liberty: it is put down, and nothing else
+    /// For each side, the empty places where its stone takes nothing and has a liberty: the stone is put down, and nothing else
     /// changes.
     pub fn plain(&self, position: Position) -> Position {
         let empty = self.empty(position);
@@ -126,8 +126,8 @@ impl Board {
         found
     }
 
-    /// The position after a stone of this side at the empty place; none, where nothing changes. `plain` has places where a
-    /// stone is put down and nothing else changes.
+    /// The position after a stone of this side at the empty place. `None` if nothing changes. `plain` has places where a stone is
+    /// put down and nothing else changes.
     pub fn played(
         &self,
         position: Position,

@@ -1,4 +1,6 @@
-//! What is asked of the turns at a state of the line whose proof is made smaller.
+//! The questions about the turns at a state of the line whose proof is being made smaller.
+
+ghost use Rattle.std.specs.Prelude.{◌≡◌};
 
 use crate::expanding::step_at;
 use crate::finish::Finish;
@@ -8,16 +10,16 @@ use local_board::{PlaceSet, Room, Side, Step};
 use state_proofs::{Below, Branch};
 use std::alloc::AllocError;
 
-/// What is asked of a turn.
+/// A question about a turn.
 #[derive(Clone, Copy, Debug, PartialEq, Eq)]
 pub(crate) enum Question {
-    /// Nothing: this stands after it.
+    /// Nothing: this is below it.
     Known(Below),
     /// Whether this proof of the state after it can be made smaller.
     Smaller(u32),
-    /// Whether the winner wins by it, and by how small a proof.
+    /// Whether the winner wins by it, and how small the proof is.
     Wins,
-    /// How small the proof is by which the defender, who lives after it, is played out.
+    /// How small the proof is if the defender, who lives after it, is played out.
     Lives,
 }
 
@@ -29,7 +31,7 @@ pub(crate) struct Asked {
     pub(crate) question: Question,
 }
 
-/// How many turns after which the defender lives are played out.
+/// How many of the turns after which the defender lives are played out.
 const MAX_LIVING: usize = 8;
 
 /// The places of the best living turns, the best first.
@@ -49,7 +51,7 @@ impl LivingTurns {
         }
     }
 
-    /// Adds a turn, where it is one of the best.
+    /// Adds a turn, if it is one of the best.
     fn add(&mut self, place: usize, room: Room) {
         let mut new_place = place;
         let mut new_room = room;
@@ -68,13 +70,15 @@ impl LivingTurns {
 }
 
 impl Smaller {
-    /// Lists the turns of the winner, who is to move, that may be better: an end of the game alone, where there is one. The proof's
-    /// own turn comes first, then those after which the defender lives, then the others.
+    /// Lists the turns of the winner, who is to move, that may be better. If a turn ends the game, it is the only one. Otherwise
+    /// the proof's own turn comes first, then those after which the defender lives, then the others.
     pub(crate) fn list_turns(
         &mut self,
         finish: &mut Finish,
         visit: &Visit,
-    ) -> Result<(), AllocError> {
+    ) -> Result<(), AllocError>
+        ensures steps { finish.new.search.steps ≡ finish.old.search.steps }
+    {
         let state = visit.state;
         if let Some((step, after)) = ending_turn(finish, visit) {
             return self.ask(step, after, Question::Known(Below::Won));
@@ -101,13 +105,15 @@ impl Smaller {
         Ok(())
     }
 
-    /// Lists the best turns after which the defender, who is the winner, lives by his shape: the places of all of them.
+    /// Lists the best turns after which the defender, who is the winner, lives by his shape, and returns the places of all of them.
     fn list_living(
         &mut self,
         finish: &mut Finish,
         visit: &Visit,
         own: Option<Step>,
-    ) -> Result<PlaceSet, AllocError> {
+    ) -> Result<PlaceSet, AllocError>
+        ensures steps { finish.new.search.steps ≡ finish.old.search.steps }
+    {
         if finish.search.side(visit.proof.winner) == Side::Attacker {
             return Ok(PlaceSet::empty());
         }
@@ -187,7 +193,7 @@ impl Smaller {
     }
 }
 
-/// What is asked of a turn that the proof has.
+/// The question about a turn that the proof has.
 fn question_below(branch: Branch) -> Question {
     match branch.below {
         Below::Won => Question::Known(Below::Won),
@@ -210,13 +216,15 @@ fn ending_turn(finish: &Finish, visit: &Visit) -> Option<(Step, State)> {
     Some((step_at(place), after))
 }
 
-/// The places where the defender's move leaves him alive by his shape, but his own turn: the best of them are noted.
+/// The places where the defender's move leaves him alive by his shape, except his own turn. The best of them are noted.
 fn find_living(
     finish: &mut Finish,
     state: State,
     own: Option<Step>,
     best: &mut LivingTurns,
-) -> PlaceSet {
+) -> PlaceSet
+    ensures steps { finish.new.search.steps ≡ finish.old.search.steps }
+{
     let mut found = PlaceSet::empty();
     let mut rest = finish.playable(state).places();
     for _ in 0..u64::MAX {
@@ -234,7 +242,9 @@ fn find_living(
 }
 
 /// Whether the defender's move at this place is legal and leaves him alive by his shape.
-fn lives_after(finish: &mut Finish, state: State, place: usize) -> bool {
+fn lives_after(finish: &mut Finish, state: State, place: usize) -> bool
+    ensures steps { finish.new.search.steps ≡ finish.old.search.steps }
+{
     let after = finish.search.after_move_at(state, Side::Defender, place);
     after.position != state.position
         && !finish.search.past.has(after.key.position)

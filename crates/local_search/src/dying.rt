@@ -1,4 +1,5 @@
-//! Playing out a state where the defender cannot have two eyes: the attacker fills, so that he still cannot.
+//! Playing out a state where the defender cannot have two eyes: the attacker fills points, in such a way that the defender still
+//! cannot have them.
 
 ghost use Rattle.std.specs.Prelude.{◌≡◌, ◌+◌, IfOk};
 ghost use Rattle.local_search.specs.declared.finish.Entered.TheVariants.{Begun};
@@ -23,7 +24,7 @@ struct BestTurns {
 }
 
 impl BestTurns {
-    /// With this turn, if it is one of them. Of equal ones the earlier stands first.
+    /// The turns with this one, if it is one of the best. Among equal turns the earlier comes first.
     fn with(self, turn: Turned) -> BestTurns {
         if is_before(turn, self.first) {
             return BestTurns {
@@ -49,7 +50,7 @@ impl BestTurns {
         self
     }
 
-    /// The turn of this place among them.
+    /// The turn at this place among them.
     fn get(self, place: usize) -> Option<Turned> {
         match place {
             0 => self.first,
@@ -67,8 +68,8 @@ fn is_before(turn: Turned, other: Option<Turned>) -> bool {
 }
 
 impl Finish {
-    /// Begins with a state where the defender cannot have two eyes. Each such state is a step, where it has no proof yet. It
-    /// fails where the state was taken for dead wrongly, or is not dead with this past.
+    /// Begins with a state where the defender cannot have two eyes. Each such state is a step, if it has no proof yet. It fails if
+    /// the state was wrongly taken for dead, or is not dead with this past.
     pub(crate) fn enter_death(&mut self, state: State) -> Result<Entered, Stop>
         ensures step { IfOk result (λ e. e ≡ Begun
             → self.new.search.steps.left + 1 ≡ self.old.search.steps.left) }
@@ -96,7 +97,7 @@ impl Finish {
         self.begin(state, winner, Form::Replies, Needed::All, due, is_barred)
     }
 
-    /// Begins with the attacker's turn: he takes a target, or goes to a state that is proved, or fills.
+    /// Begins with the attacker's turn: he takes a target, goes to a state that is proved, or fills a point.
     fn begin_attack(&mut self, state: State) -> Result<Entered, Stop>
         ensures steps { self.new.search.steps ≡ self.old.search.steps }
     {
@@ -129,7 +130,7 @@ impl Finish {
         Ok(())
     }
 
-    /// The attacker's turns after which the defender cannot have two eyes that leave least to play.
+    /// Among the attacker's turns after which the defender cannot have two eyes, those that leave least to play.
     fn best_turns(&mut self, state: State) -> BestTurns
         ensures steps { self.new.search.steps ≡ self.old.search.steps }
     {
@@ -150,7 +151,7 @@ impl Finish {
         best
     }
 
-    /// The attacker's move at this place, where the defender cannot have two eyes after it, with what it leaves to play.
+    /// The attacker's move at this place, with what it leaves to play, if the defender cannot have two eyes after it.
     fn turn_of_death(&mut self, state: State, place: usize) -> Option<Turned>
         ensures steps { self.new.search.steps ≡ self.old.search.steps }
     {

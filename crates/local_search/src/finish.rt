@@ -1,10 +1,10 @@
-//! The end of the search: a proof is walked along the real line of play, and each state that a question settled is expanded.
+//! The end of the search: a proof is walked along the real line of play, and each state that was settled by a question is expanded.
 //!
-//! A state takes a proof that was made for it before, where that one holds, or a new one. Each new proof has the conditions of the
-//! very place where it is made. States that live by their shape, or cannot have two eyes, are played out by a fixed rule; where the rule
-//! fails, the next turn and a short search take its place.
+//! A state takes a proof that was made for it before, if that holds, or a new one. Each new proof has the conditions of the place
+//! where it is made. States that live by their shape, or cannot have two eyes, are played out by a fixed rule; if the rule fails,
+//! the next turn and a short search take its place.
 
-ghost use Rattle.std.specs.Prelude.{◌≡◌};
+ghost use Rattle.std.specs.Prelude.{◌≡◌, ◌+◌, false, OnOk};
 
 use crate::expanding::step_at;
 use crate::frame::State;
@@ -14,7 +14,7 @@ use local_board::{Side, Step};
 use state_proofs::{Below, Branch, Form, Proof, Refusal, Settled, Stop};
 use std::alloc::{AllocError, Global};
 
-/// The most steps of a search where the rule of playing out has no turn.
+/// The greatest number of steps of a search if the rule for playing out has no turn.
 const MAX_HELP: u64 = 1_000;
 
 /// What is to be made of a state.
@@ -24,7 +24,7 @@ pub(crate) enum Goal {
     Won,
     /// Nothing: this proof holds there.
     Known(u32),
-    /// This proof along the line.
+    /// This proof, made along the line.
     Whole(u32),
     /// A proof that the defender lives.
     Life,
@@ -43,7 +43,7 @@ pub(crate) struct Due {
 #[derive(Clone, Copy, Debug, PartialEq, Eq)]
 pub(crate) enum Needed {
     All,
-    /// The first that can be made; where there is none, a short search.
+    /// The first that can be made, or a short search if there is none.
     One,
 }
 
@@ -82,7 +82,7 @@ pub(crate) struct Finish {
     pub(crate) due: Vec<Due>,
     made: Vec<Branch>,
     barred: Vec<u64>,
-    /// The proofs that short searches made, by their places in the list: they may use what is only known by shape.
+    /// The proofs that short searches made, by their places in the list. They may use what is known only by shape.
     pub(crate) helped: Vec<(usize, usize)>,
 }
 
@@ -98,8 +98,8 @@ impl Finish {
         }
     }
 
-    /// Makes this of the state at the end of the line: the number of its proof; none, where there is none by the rules. The line is
-    /// then as it was.
+    /// Makes what the goal says for the state at the end of the line, and returns the number of its proof. `None` if there is none
+    /// by the rules. The line is then as it was.
     pub(crate) fn make(&mut self, state: State, goal: Goal) -> Result<Option<u32>, Stop> {
         let turns = self.search.turns;
         let positions = self.search.past.len();
@@ -153,25 +153,38 @@ impl Finish {
         }
     }
 
-    /// Begins with the branches of a proof. A state that a question settled is expanded now.
-    fn enter_branches(&mut self, state: State, proof: Proof) -> Result<Entered, Stop> {
+    /// Begins with the branches of a proof. A state that was settled by a question is expanded now.
+    fn enter_branches(&mut self, state: State, proof: Proof) -> Result<Entered, Stop>
+        ensures step { OnOk result (proof.is_expanded ≡ false
+            → self.new.search.steps.left + 1 ≡ self.old.search.steps.left) }
+    {
         if !proof.is_expanded {
             self.search.steps.take()?;
         }
         let due = self.due.len();
-        for place in 0..self.search.proofs.branches(proof).len() {
-            if let Some(branch) = self.search.proofs.branch(proof, place) {
-                self.list_branch(state, branch)?;
-            }
-        }
-        // The past bars a move, or a stone alone would take itself off.
+        self.list_branches(state, proof)?;
+        // The past bars a move, or a single stone would take itself off.
         let listed = self.due.len().saturating_sub(due);
         let is_barred = listed <= self.playable(state).len() as usize;
         self.begin(state, proof.winner, proof.form, Needed::All, due, is_barred)
     }
 
-    /// Lists the branch as due, where it is legal here.
-    fn list_branch(&mut self, state: State, branch: Branch) -> Result<(), Stop> {
+    /// Lists those branches of the proof that are legal here as due.
+    fn list_branches(&mut self, state: State, proof: Proof) -> Result<(), Stop>
+        ensures steps { self.new.search.steps ≡ self.old.search.steps }
+    {
+        for place in 0..self.search.proofs.branches(proof).len() {
+            if let Some(branch) = self.search.proofs.branch(proof, place) {
+                self.list_branch(state, branch)?;
+            }
+        }
+        Ok(())
+    }
+
+    /// Lists the branch as due, if it is legal here.
+    fn list_branch(&mut self, state: State, branch: Branch) -> Result<(), Stop>
+        ensures steps { self.new.search.steps ≡ self.old.search.steps }
+    {
         let turn = branch.turn;
         let Some(step) = self.search.shapes.board.step(turn) else {
             return Err(Stop::Refused(Refusal::Fault));
@@ -250,7 +263,7 @@ impl Finish {
         }
     }
 
-    /// Keeps the branch of the last state, and turns to its next turn, where one more is needed.
+    /// Keeps the branch of the last state, and goes on to its next turn if one more is needed.
     fn keep(&mut self, step: Step, below: Below) -> Result<(), AllocError> {
         let turn = self.search.shapes.board.turn(step);
         self.made.push(Branch { turn, below })?;
@@ -281,7 +294,7 @@ impl Finish {
         Ok(Entered::Begun)
     }
 
-    /// Goes on where the state after the turn that was followed has no proof by the rules.
+    /// Goes on when the state after the turn that was followed has no proof by the rules.
     fn fail(&mut self) -> Entered {
         let Some(step) = self.followed() else {
             return Entered::Failed;
@@ -296,7 +309,7 @@ impl Finish {
         Entered::Failed
     }
 
-    /// Takes the last state off.
+    /// Removes the last state.
     fn drop_last(&mut self) {
         if let Some(visit) = self.visits.pop() {
             self.due.truncate(visit.due);
@@ -335,9 +348,9 @@ impl Finish {
         }
     }
 
-    fn add(&mut self, visit: Visit, reached: Option<u64>) -> Result<u32, AllocError> {
+    fn add(&mut self, visit: Visit, reached: Option<u64>) -> Result<u32, Refusal> {
         if visit.made > self.made.len() {
-            return Err(AllocError);
+            return Err(Refusal::Fault);
         }
         let settled = Settled {
             key: visit.state.key,
@@ -345,15 +358,12 @@ impl Finish {
             form: visit.form,
             is_expanded: true,
         };
-        self.search.proofs.add(
-            settled,
-            &self.made[visit.made..],
-            reached,
-            self.barred.as_slice(),
-        )
+        let made = &self.made[visit.made..];
+        let barred = self.barred.as_slice();
+        Ok(self.search.proofs.add(settled, made, reached, barred)?)
     }
 
-    /// Searches the last state for a few steps, where the rule has no turn, and makes the attacker's proof that is found.
+    /// Searches the last state for a few steps, when the rule has no turn, and makes the attacker's proof that is found.
     fn ask_for_help(&mut self, visit: Visit) -> Result<Entered, Stop> {
         self.drop_last();
         let first = self.search.proofs.len();

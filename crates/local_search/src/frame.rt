@@ -5,7 +5,7 @@ use go_points::Colour;
 use local_board::{Position, Step};
 use pn_table::Key;
 
-/// A state, by the places of its stones and by what it is known by.
+/// A state: the places of its stones, and its key.
 #[derive(Clone, Copy)]
 pub(crate) struct State {
     pub(crate) position: Position,
@@ -45,13 +45,13 @@ pub(crate) struct Child {
     pub(crate) step: Step,
     pub(crate) key: Key,
     pub(crate) outcome: Outcome,
-    /// How many points are left there where the defender could have an eye, where that was asked.
+    /// How many points are left there where the defender could have an eye, if that was asked.
     pub(crate) many: Option<u8>,
-    /// How unlikely the turn is to win, in eighths: its number counts so many times.
+    /// How unlikely the turn is to win, in eighths: the number of the child is multiplied by this.
     pub(crate) weight: u32,
 }
 
-/// A state of the line. Its children stand after those of the states above it, in one list for all.
+/// A state of the line. Its children come after those of the states above it, in one list for all.
 #[derive(Clone, Copy)]
 pub(crate) struct Frame {
     pub(crate) state: State,
@@ -98,7 +98,7 @@ pub(crate) fn standing_of(children: &[Child]) -> Standing {
     }
 }
 
-/// What is known of a state after a pass.
+/// The key of a state after a pass.
 pub(crate) fn after_pass(key: Key) -> Key {
     Key {
         position: key.position,
@@ -107,7 +107,7 @@ pub(crate) fn after_pass(key: Key) -> Key {
     }
 }
 
-/// What is known of a state after a move to this position.
+/// The key of a state after a move to this position.
 pub(crate) fn after_move(key: Key, position: u64) -> Key {
     Key {
         position,
@@ -116,7 +116,7 @@ pub(crate) fn after_move(key: Key, position: u64) -> Key {
     }
 }
 
-/// What is known of a state after this turn, which leads to this position.
+/// The key of a state after this turn, which leads to this position.
 pub(crate) fn after_step(key: Key, step: Step, position: u64) -> Key {
     match step {
         Step::Pass => after_pass(key),

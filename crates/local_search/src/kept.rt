@@ -6,7 +6,7 @@ use pn_table::Key;
 use std::alloc::{AllocError, Global};
 use std::mem;
 
-/// How many moves a list takes before the next is begun.
+/// How many moves a list holds before the next is begun.
 const ROOM: usize = 1_000_000;
 
 /// A turn of a state, and the position after it.
@@ -14,7 +14,7 @@ const ROOM: usize = 1_000_000;
 pub(crate) struct KeptMove {
     pub(crate) step: Step,
     pub(crate) position: u64,
-    /// How many points are left there where the defender could have an eye, where that was asked.
+    /// How many points are left there where the defender could have an eye, if that was asked.
     pub(crate) many: Option<u8>,
 }
 
@@ -25,8 +25,8 @@ pub(crate) struct KeptState {
     pub(crate) count: usize,
 }
 
-/// The latest states that were expanded, in two lists of their turns: where the newer is full it becomes the older, and what that
-/// held is forgotten.
+/// The latest states that were expanded, in two lists of their turns: when the newer is full it becomes the older, and what the
+/// older held is forgotten.
 #[derive(Drop)]
 pub(crate) struct KeptMoves {
     alloc: Global,
@@ -55,7 +55,7 @@ impl KeptMoves {
         self.older_moves.clear();
     }
 
-    /// The turns of the state, where it is kept.
+    /// The turns of the state, if they are kept.
     pub(crate) fn find(&mut self, key: Key) -> Result<Option<KeptState>, AllocError> {
         if let Some(state) = self.states.get(&key).copied() {
             return Ok(Some(state));
@@ -76,7 +76,7 @@ impl KeptMoves {
         Ok(Some(self.keep(key, first)?))
     }
 
-    /// Begins the turns of a state: the place of the first of them.
+    /// Begins the turns of a state, and returns the place of the first of them.
     pub(crate) fn begin(&mut self) -> usize {
         if self.moves.len() >= ROOM {
             self.older_moves = mem::replace(&mut self.moves, Vec::new(self.alloc));
@@ -87,7 +87,7 @@ impl KeptMoves {
 
     /// Adds a turn of the state that was begun last.
     pub(crate) fn add(&mut self, kept: KeptMove) -> Result<(), AllocError> {
-        // Its parts are named, since the prover has to meet the type of its turn here.
+        // Its parts are named, since the prover has to see the type of its turn here.
         let step: Step = kept.step;
         self.moves.push(KeptMove {
             step,
@@ -107,7 +107,7 @@ impl KeptMoves {
         Ok(state)
     }
 
-    /// The turn of this place of the state.
+    /// The turn at this place of the state.
     pub(crate) fn get(&self, state: KeptState, place: usize) -> Option<KeptMove> {
         self.moves.get(state.first.saturating_add(place)).copied()
     }

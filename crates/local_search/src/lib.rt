@@ -1,7 +1,7 @@
-//! Depth-first proof-number search that knows living groups, and hopeless ones, by their shape.
+//! Depth-first proof-number search that recognizes living groups, and hopeless ones, by their shape.
 //!
-//! It is for problems with at most 128 points that can change. Nothing is promised of a proof but that the steps are counted:
-//! the claim of it is to be put to the checker.
+//! It is for problems with at most 128 points that can change. Nothing is promised about a proof except that the steps are counted:
+//! its claim is to be given to the checker.
 #![tactic(auto)]
 
 mod asked;
@@ -21,4 +21,4 @@ mod smaller;
 mod steps;
 mod values;
 
-pub use order::{Answers, prove};
+pub use order::prove;

@@ -13,7 +13,7 @@ use state_proofs::{Form, Stop};
 use std::alloc::AllocError;
 
 impl Finish {
-    /// Begins with a state where the defender lives. Each such state is a step, where it has no proof yet.
+    /// Begins with a state where the defender lives. Each such state is a step, if it has no proof yet.
     pub(crate) fn enter_life(&mut self, state: State) -> Result<Entered, Stop>
         ensures step { IfOk result (λ e. e ≡ Begun
             → self.new.search.steps.left + 1 ≡ self.old.search.steps.left) }
@@ -57,7 +57,8 @@ impl Finish {
         self.begin(state, winner, Form::Turn, Needed::All, due, false)
     }
 
-    /// The defender's turn after which he lives and least is left to play; his pass, where that leaves no more and he lives.
+    /// The defender's turn after which he lives and least is left to play. It is his pass if he lives after that and it leaves no
+    /// more.
     fn living_turn(&mut self, state: State, lives: bool) -> Turned
         ensures steps { self.new.search.steps ≡ self.old.search.steps }
     {
@@ -81,7 +82,7 @@ impl Finish {
         best
     }
 
-    /// The defender's move at this place, where he lives after it, with what it leaves to play.
+    /// The defender's move at this place, with what it leaves to play, if he lives after it.
     fn turn_of_life(&mut self, state: State, place: usize, most: u64) -> Option<Turned>
         ensures steps { self.new.search.steps ≡ self.old.search.steps }
     {
@@ -100,7 +101,7 @@ impl Finish {
         })
     }
 
-    /// Begins with all turns of the attacker's.
+    /// Begins with all turns of the attacker.
     fn begin_attack_on_life(&mut self, state: State) -> Result<Entered, Stop>
         ensures steps { self.new.search.steps ≡ self.old.search.steps }
     {
@@ -117,7 +118,8 @@ impl Finish {
         self.begin(state, winner, Form::Replies, Needed::All, due, is_barred)
     }
 
-    /// Lists all moves of the mover as due with this goal, or as ends of the game where a target goes; whether the past bars one.
+    /// Lists all moves of the mover as due with this goal, or as ends of the game if they take a target. Returns whether the past
+    /// bars one.
     pub(crate) fn list_turns(&mut self, state: State, goal: Goal) -> Result<bool, AllocError>
         ensures steps { self.new.search.steps ≡ self.old.search.steps }
     {

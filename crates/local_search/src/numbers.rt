@@ -2,7 +2,7 @@
 
 use pn_table::{INFINITY, Numbers};
 
-/// What is left to do at least for the mover to win, and for the other side.
+/// The least that is left to do for the mover to win, and for the other side to win.
 #[derive(Clone, Copy, Debug, PartialEq, Eq)]
 pub(crate) struct MoverNumbers {
     pub(crate) own: u32,
@@ -17,7 +17,7 @@ pub(crate) struct Thresholds {
 }
 
 impl MoverNumbers {
-    /// The numbers of a state that nothing is known of.
+    /// The numbers of a state of which nothing is known.
     pub(crate) fn unknown() -> MoverNumbers {
         MoverNumbers { own: 1, other: 1 }
     }
@@ -37,7 +37,7 @@ impl MoverNumbers {
         }
     }
 
-    /// The same for the table.
+    /// The numbers as they are stored in the table.
     pub(crate) fn for_table(self, is_attacker: bool) -> Numbers {
         if is_attacker {
             Numbers {
@@ -75,8 +75,8 @@ impl Thresholds {
         numbers.own as u64 >= self.own || numbers.other as u64 >= self.other
     }
 
-    /// The thresholds of the child that is worked on, as the child's mover sees them. The child keeps the work until its weighed
-    /// number is half as much again as the next one's.
+    /// The thresholds of the child that is worked on, as the child's mover sees them. Work stays at the child until its weighed
+    /// number is one and a half times that of the next one.
     pub(crate) fn below(self, count: Count) -> Thresholds {
         let child = count.best_numbers;
         let own = match count.second {
@@ -96,7 +96,7 @@ impl Thresholds {
     }
 }
 
-/// The numbers of a state whose children are looked at one by one.
+/// The numbers of a state, gathered while its children are looked at one by one.
 #[derive(Clone, Copy)]
 pub(crate) struct Count {
     /// The place of the first child with the least weighed number, its numbers and its weight.
@@ -129,11 +129,11 @@ fn rounded_up(number: u64, by: u64) -> u64 {
     }
 }
 
-/// Weighed numbers stop there.
+/// The upper bound of weighed numbers.
 const MAX_WEIGHED: u64 = 1 << 60;
 
 impl Count {
-    /// One child alone.
+    /// The count of a single child.
     pub(crate) fn one(place: usize, numbers: MoverNumbers, weight: u32) -> Count {
         Count {
             best: place,
@@ -146,7 +146,7 @@ impl Count {
         }
     }
 
-    /// With one child more.
+    /// The count with one more child.
     pub(crate) fn with(self, place: usize, numbers: MoverNumbers, weight: u32) -> Count {
         let sum = self.sum.saturating_add(numbers.other as u64);
         let least = self.least.min(numbers.own);

@@ -1,4 +1,4 @@
-//! The shared proofs of a problem, by the search: the order of all its parts.
+//! The shared proofs of a problem, by the search: its parts and their order.
 
 ghost use Rattle.std.specs.Prelude.{◌≡◌, ◌≤◌, IfErr};
 ghost use Rattle.state_proofs.specs.declared.stop.Stop.TheVariants.{Steps};
@@ -8,30 +8,21 @@ use crate::frame::State;
 use crate::search::Search;
 use crate::smaller::Smaller;
 use local_board::Step;
-use state_proofs::{Below, Refusal, Shared, Stop, used_by};
+use state_proofs::{Answers, Below, Refusal, Shared, Stop, steps_for_smaller, used_by};
 use std::alloc::{AllocError, Global};
 use std::num::NonZeroUsize;
 use target_game::Problem;
 
-/// Which answer is wanted.
-#[derive(Clone, Copy, Debug, PartialEq, Eq)]
-pub enum Answers {
-    /// The first that stands.
-    First,
-    /// A small one, by the steps that are left then.
-    Small,
-}
-
-/// An answer of more turns than this is large: the search is repeated, and takes a group to live only where little is left to play.
+/// An answer of more turns than this is large: the search is repeated, and takes a group to live only if little is left to play.
 const LARGE: u64 = 10_000;
 
-/// How little that is; none, where it is not asked at all who cannot have two eyes.
+/// How little that is. 0 means that the search does not ask at all who cannot have two eyes.
 const ROOMS: [u32; 5] = [0, 15, 11, 7, 4];
 
 /// The steps that are set aside for the last walk.
 const LAST_STEPS: u64 = 500;
 
-/// The proofs that the search finds with a table of so many states. Each state that is opened is a step.
+/// The proofs that the search finds with a table of this many states. Each state that is opened is a step.
 pub fn prove(
     alloc: Global,
     problem: &Problem,
@@ -56,7 +47,7 @@ pub fn prove(
     match found {
         Ok(shared) => Ok(shared),
         Err(Stop::Steps) => {
-            // The search stops for its steps only where it has made them all, so this is never so.
+            // The search stops for lack of steps only when it has made them all, so this never happens.
             if *left > 0 {
                 return Err(Stop::Refused(Refusal::Fault));
             }
@@ -66,7 +57,7 @@ pub fn prove(
     }
 }
 
-/// The whole of the search.
+/// The whole search.
 #[derive(Drop)]
 struct Proving {
     finish: Finish,
@@ -78,10 +69,17 @@ struct Proving {
 impl Proving {
     /// The proofs that are found.
     fn prove(&mut self, alloc: Global, answers: Answers) -> Result<Shared, Stop> {
+        let before = self.finish.search.steps.left;
         let first = self.first()?;
         let best = match answers {
             Answers::First => first,
-            Answers::Small => self.smaller(alloc, first),
+            Answers::Small => {
+                let used = before.saturating_sub(self.finish.search.steps.left);
+                let floor = self.finish.search.steps.begin(steps_for_smaller(used));
+                let best = self.smaller(alloc, first);
+                self.finish.search.steps.end(floor);
+                best
+            }
         };
         let Some(proof) = self.finish.search.proofs.get(best) else {
             return Err(Stop::Refused(Refusal::Fault));
@@ -94,7 +92,7 @@ impl Proving {
         })
     }
 
-    /// The first whole proof. Where a state that was taken for dead is not, all is searched again without that.
+    /// The first whole proof. If a state that was taken for dead is not dead, everything is searched again without that question.
     fn first(&mut self) -> Result<u32, Stop> {
         if let Some(number) = self.find()? {
             return Ok(number);
@@ -107,7 +105,7 @@ impl Proving {
         }
     }
 
-    /// Searches, and makes what is found whole: none, where that fails.
+    /// Searches, and makes what is found whole. `None` if that fails.
     fn find(&mut self) -> Result<Option<u32>, Stop> {
         let found = self.finish.search.settle(self.start, Step::Pass)?;
         self.finish.search.proofs.hide_all();
@@ -121,7 +119,7 @@ impl Proving {
         self.finish.search.proofs.turns_below(Below::Proof(number))
     }
 
-    /// A smaller proof than this one, where the steps that are left find one.
+    /// A smaller proof than this one, if the steps that may be made find one.
     fn smaller(&mut self, alloc: Global, first: u32) -> u32 {
         let mut best = first;
         for room in ROOMS {
@@ -137,9 +135,9 @@ impl Proving {
         }
     }
 
-    /// The smaller one of this proof and of what a search with so little room finds by a third of the steps that are left.
+    /// The smaller of this proof and the one that a search with this little room finds with a third of the steps that may be made.
     fn with_room(&mut self, room: u32, best: u32) -> u32 {
-        let third = self.finish.search.steps.left / 3;
+        let third = self.finish.search.steps.rest() / 3;
         let floor = self.finish.search.steps.begin(third);
         self.finish.search.asks_death = room != 0;
         self.finish.search.room = room;
@@ -157,9 +155,9 @@ impl Proving {
     fn shrunk(&mut self, alloc: Global, root: u32) -> Result<u32, Stop> {
         self.finish.search.forget();
         self.show_whole()?;
-        self.finish.search.steps.floor = LAST_STEPS;
+        let floor = self.finish.search.steps.keep(LAST_STEPS);
         let root = Smaller::of(alloc).shrink(&mut self.finish, self.start, root);
-        self.finish.search.steps.floor = 0;
+        self.finish.search.steps.end(floor);
         self.finish.search.proofs.hide_all();
         match self.finish.make(self.start, Goal::Whole(root))? {
             Some(number) => Ok(number),
@@ -167,7 +165,7 @@ impl Proving {
         }
     }
 
-    /// Lets all whole proofs be found, but those that short searches made on the way.
+    /// Makes all whole proofs findable, except those that short searches made on the way.
     fn show_whole(&mut self) -> Result<(), AllocError> {
         for index in 0..self.whole.len() {
             if let Some(range) = self.whole.get(index).copied() {
@@ -186,7 +184,7 @@ impl Proving {
         Ok(())
     }
 
-    /// Whether a short search made the proof of this place.
+    /// Whether a short search made the proof at this place.
     fn was_helped(&self, place: usize) -> bool {
         for range in self.finish.helped.as_slice() {
             if range.0 <= place && place < range.1 {

@@ -1,32 +1,32 @@
-//! What is certain of a state without looking at its children, by the shape of its stones and by single turns.
+//! What is certain about a state without looking at its children, by the shape of its stones and by single turns.
 //!
-//! A question makes no state and is no step. What is answered by shape is played out at the end, and a guess that fails costs
-//! steps, never a wrong answer.
+//! A question makes no state and is not a step. What is answered by shape is played out at the end, and a wrong guess costs steps
+//! but never gives a wrong answer.
 
 use crate::frame::{Reason, State, after_move};
 use crate::search::Search;
 use local_board::{PlaceSet, Position, Room, Side, Step};
 
-/// A state that is expanded, and what is asked once for all its children.
+/// A state that is expanded, and the questions that are asked once for all its children.
 #[derive(Clone, Copy)]
 pub(crate) struct Parent {
     pub(crate) state: State,
-    /// For each side the places where a stone is put down and nothing else changes.
+    /// For each side, the places where a stone is put down and nothing else changes.
     pub(crate) plain: Position,
-    /// The places where one stone more could make the defender live, if the attacker had no stones.
+    /// The places where one more stone could make the defender live, if the attacker had no stones.
     lives: Option<PlaceSet>,
-    /// The attacker's turns that kill, or nearly, where the defender has passed.
+    /// The attacker's turns that kill, or nearly kill, if the defender has passed.
     kills: Option<PlaceSet>,
 }
 
-/// What was answered.
+/// An answer.
 #[derive(Clone, Copy)]
 pub(crate) struct Answer {
     /// Why the state is settled.
     pub(crate) reason: Option<Reason>,
-    /// Who wins then.
+    /// Who wins in that case.
     pub(crate) winner: Side,
-    /// How many points are left where the defender could have an eye, where that was asked.
+    /// How many points are left where the defender could have an eye, if that was asked.
     pub(crate) many: Option<u8>,
 }
 
@@ -49,7 +49,7 @@ impl Parent {
     }
 }
 
-/// The state is settled for this reason.
+/// The answer that the state is settled for this reason.
 fn settled(reason: Reason, winner: Side, many: Option<u8>) -> Answer {
     Answer {
         reason: Some(reason),
@@ -59,7 +59,7 @@ fn settled(reason: Reason, winner: Side, many: Option<u8>) -> Answer {
 }
 
 impl Search {
-    /// What is certain of a child of the parent's. `takes`: the turn to it took stones, of either side.
+    /// What is certain about a child of the parent. `takes` says that the turn to it took stones, of either side.
     pub(crate) fn ask(&mut self, parent: &mut Parent, child: State, takes: bool) -> Answer {
         let mover = self.side(child.key.mover);
         if mover == Side::Defender && child.key.passes == 1 {
@@ -77,7 +77,7 @@ impl Search {
         self.ask_eyes(parent, child, takes)
     }
 
-    /// What the points for eyes say of the child.
+    /// What the points for eyes say about the child.
     fn ask_eyes(&mut self, parent: &mut Parent, child: State, takes: bool) -> Answer {
         if !self.asks_death {
             return Answer {
@@ -163,8 +163,8 @@ impl Search {
             && (self.room == 0 || self.shapes.board.room_of_life(position).whole < self.room)
     }
 
-    /// The places where one stone more could make the defender live, if the attacker had no stones. It loses nothing: where a turn of
-    /// the attacker's takes nothing the defender has these stones after it, and the attacker's never help him.
+    /// The places where one more stone could make the defender live, if the attacker had no stones. No such place is missed: if a
+    /// turn of the attacker takes nothing, the defender still has these stones after it, and the attacker's stones never help him.
     fn living_places(&mut self, parent: &mut Parent) -> PlaceSet {
         if let Some(places) = parent.lives {
             return places;
@@ -185,7 +185,7 @@ impl Search {
         found
     }
 
-    /// The attacker's turns that kill, or nearly, where the defender has passed. A guess: what it misses is searched.
+    /// The attacker's turns that kill, or nearly kill, if the defender has passed. It is a guess, and what it misses is searched.
     fn killing_places(&mut self, parent: &mut Parent) -> PlaceSet {
         if let Some(places) = parent.kills {
             return places;
@@ -212,7 +212,7 @@ impl Search {
         found
     }
 
-    /// Whether the side has what it wants by shape.
+    /// Whether the side has reached its aim by shape.
     fn is_certain(&mut self, side: Side, position: Position) -> bool {
         match side {
             Side::Defender => self.lives_by_shape(position),
@@ -233,7 +233,7 @@ impl Search {
         None
     }
 
-    /// The side's turn of that kind that leaves least to play.
+    /// The turn of that kind that leaves the side least to play.
     pub(crate) fn best_next_turn(&mut self, state: State, side: Side) -> Option<NextTurn> {
         let mut best: Option<NextTurn> = None;
         let empty = self.shapes.board.empty(state.position);
@@ -250,7 +250,7 @@ impl Search {
         best
     }
 
-    /// The side's turn at this place, where the state is certain after it and its result has not occurred.
+    /// The side's turn at this place, if the state is certain after it and its result has not occurred.
     fn certain_turn(&mut self, state: State, side: Side, place: usize) -> Option<NextTurn> {
         let after = self.after_move_at(state, side, place);
         if after.position == state.position || !self.is_certain(side, after.position) {

@@ -18,10 +18,10 @@ pub(crate) struct TurnResults {
     places: usize,
 }
 
-/// The most tries that a tally keeps.
+/// The greatest number of tries that a tally keeps.
 const MAX_TRIED: u32 = 200;
 
-/// The weight of a turn that nothing is known of, and the least and the greatest weight.
+/// The weight of a turn of which nothing is known, and the least and the greatest weight.
 const EVEN: u32 = 8;
 
 const LEAST: u32 = 4;
@@ -29,7 +29,7 @@ const LEAST: u32 = 4;
 const GREATEST: u32 = 32;
 
 impl TurnResults {
-    /// None yet, on a board with so many places.
+    /// No results yet, on a board with this many places.
     pub(crate) fn of(alloc: Global, places: usize) -> Result<TurnResults, AllocError> {
         let width = places.saturating_add(2);
         let count = width.saturating_mul(width).saturating_mul(2);
@@ -48,7 +48,7 @@ impl TurnResults {
         }
     }
 
-    /// Where the tally of the side's turn stands in this row.
+    /// The index of the tally of the side's turn in this row.
     fn index(&self, side: Side, row: usize, step: Step) -> usize {
         let width = self.places.saturating_add(2);
         let first = match side {
@@ -68,7 +68,8 @@ impl TurnResults {
         }
     }
 
-    /// How unlikely the side's turn after the last one is to win, in eighths: eight times the root of a half in the chance.
+    /// How unlikely the side's turn after the last one is to win, in eighths: eight times the square root of one half divided by
+    /// the chance.
     pub(crate) fn weight(&self, side: Side, step: Step, last: Step) -> u32 {
         let after = self.get(side, self.column(last), step);
         let all = self.get(side, self.places.saturating_add(1), step);
@@ -109,7 +110,7 @@ impl TurnResults {
     }
 }
 
-/// The whole root, within the least and the greatest weight.
+/// The integer square root, within the least and the greatest weight.
 fn root(square: u32) -> u32 {
     for weight in LEAST..GREATEST {
         let next = weight + 1;
@@ -120,7 +121,7 @@ fn root(square: u32) -> u32 {
     GREATEST
 }
 
-/// The weight of a turn that nothing is known of.
+/// The weight of a turn of which nothing is known.
 pub(crate) fn even_weight() -> u32 {
     EVEN
 }

@@ -1,11 +1,11 @@
 //! Depth-first proof-number search.
 //!
-//! The line of play that is searched stands on a stack of frames, with the children of all of them in one list. The work
-//! goes down to the child with the least weighed number for its mover, and comes back where the child is settled or its numbers
-//! reach their thresholds. The moves of a state that was expanded are kept, so that it need not be expanded again where the work
-//! comes back to it. A settled state becomes a proof, which is used again wherever its conditions on the past hold.
+//! The line of play that is searched is a stack of frames, with the children of all of them in one list. The work goes down to the
+//! child with the least weighed number for the mover, and comes back when the child is settled or its numbers reach their
+//! thresholds. The moves of a state that was expanded are kept, so it need not be expanded again when the work comes back to it. A
+//! settled state becomes a proof, which is used again wherever its conditions on the past hold.
 //!
-//! Nothing is promised of the numbers: what is found is put to the checker.
+//! Nothing is promised about the numbers: what is found is given to the checker.
 
 use crate::frame::{
     Child, Frame, Outcome, Reason, Standing, State, after_step, outcome_by, standing_of,
@@ -33,8 +33,8 @@ pub(crate) struct Search {
     pub(crate) turns: usize,
     pub(crate) attacker: Colour,
     pub(crate) steps: Steps,
-    /// Whether it is asked who lives, and who cannot have two eyes, by shape; and below how much that is left to play a group is
-    /// taken to live (0: however much).
+    /// Whether to ask who lives, and who cannot have two eyes, by shape; and how little must be left to play for a group to be
+    /// taken to live (0 for any amount).
     pub(crate) asks_life: bool,
     pub(crate) asks_death: bool,
     pub(crate) room: u32,
@@ -50,7 +50,7 @@ pub(crate) struct Search {
 }
 
 impl Search {
-    /// A search that knows nothing, at the start of the problem: the search, and its first state.
+    /// A search that knows nothing yet, at the start of the problem, and its first state.
     pub(crate) fn of(
         alloc: Global,
         problem: &Problem,
@@ -130,7 +130,7 @@ impl Search {
         self.turns = self.turns.saturating_sub(1);
     }
 
-    /// Takes turns back until the line has so many, and so many positions have occurred.
+    /// Takes turns back until the line has this many turns, and this many positions have occurred.
     pub(crate) fn back_to(&mut self, turns: usize, positions: usize) {
         for _ in positions..self.past.len() {
             self.past.take_last();
@@ -138,13 +138,13 @@ impl Search {
         self.turns = turns;
     }
 
-    /// Forgets what was found: proofs are not found any more, and states are expanded again.
+    /// Forgets what was found: the proofs can no longer be found, and states are expanded again.
     pub(crate) fn forget(&mut self) {
         self.proofs.hide_all();
         self.kept.forget();
     }
 
-    /// The proof of a state at the end of the line that holds there.
+    /// A proof of a state at the end of the line that holds there.
     pub(crate) fn proof_here(&self, key: Key) -> Option<u32> {
         self.proofs.find(key, &self.past, self.turns)
     }
@@ -193,7 +193,7 @@ impl Search {
         }
     }
 
-    /// Settles the last frame, leaves it, or goes down from it: the proof of the first state, where that is settled.
+    /// Settles the last frame, leaves it, or goes down from it. Returns the proof of the first state if that is settled.
     fn round(&mut self) -> Result<Option<u32>, Stop> {
         let Some(frame) = self.frames.last().copied() else {
             return Err(Stop::Refused(Refusal::Fault));
@@ -248,7 +248,7 @@ impl Search {
         }
     }
 
-    /// Takes the last frame off, and notes this outcome in the frame above; whether there is one.
+    /// Removes the last frame, and notes this outcome in the frame above. Returns whether there is one.
     fn leave(&mut self, frame: Frame, outcome: Outcome) -> bool {
         self.frames.pop();
         self.children.truncate(frame.first);
@@ -264,7 +264,7 @@ impl Search {
     fn leave_open(&mut self, frame: Frame, numbers: MoverNumbers) {
         let key = frame.state.key;
         let is_attacker = key.mover == self.attacker;
-        // Where memory is refused the table does without.
+        // If memory is refused, the table does without.
         let _stored = self.table.store(key, numbers.for_table(is_attacker));
         let _left = self.leave(frame, Outcome::Open(numbers.turned()));
     }
@@ -275,7 +275,7 @@ impl Search {
         }
     }
 
-    /// Goes down to the child with the least weighed number, or settles it where it has been proved meanwhile.
+    /// Goes down to the child with the least weighed number, or settles it if it has been proved in the meantime.
     fn go_down(&mut self, frame: Frame, count: Count) -> Result<(), Stop> {
         let place = frame.first.saturating_add(count.best);
         let Some(child) = self.children.get(place).copied() else {

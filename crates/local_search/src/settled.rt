@@ -7,13 +7,13 @@ use crate::frame::{Child, Frame, Outcome, Reason, State};
 use crate::search::Search;
 use go_points::{Colour, Turn};
 use local_board::{Side, Step};
-use state_proofs::{Below, Branch, Form, Proofs, Settled};
+use state_proofs::{Below, Branch, Form, Proofs, Refusal, Settled};
 use std::alloc::AllocError;
 
-/// The turns that a proof by shape counts for, by the empty points of the region: three times a power of two.
+/// A proof by shape counts for three turns, doubled for each empty point of the region, but doubled at most this many times.
 const MOST_DOUBLINGS: u32 = 14;
 
-/// How deep a proof by shape counts.
+/// The depth that a proof by shape counts for.
 const DEPTH_BY_SHAPE: u32 = 30;
 
 impl Search {
@@ -23,7 +23,7 @@ impl Search {
         frame: Frame,
         winner: Colour,
         form: Form,
-    ) -> Result<u32, AllocError> {
+    ) -> Result<u32, Refusal> {
         self.branches.clear();
         self.barred.clear();
         let mut reached = None;
@@ -50,11 +50,11 @@ impl Search {
             form,
             is_expanded: true,
         };
-        self.add_proof(settled, reached)
+        Ok(self.add_proof(settled, reached)?)
     }
 
     /// Adds the branch to a settled child of the state.
-    fn add_branch(&mut self, state: State, child: Child) -> Result<(), AllocError> {
+    fn add_branch(&mut self, state: State, child: Child) -> Result<(), Refusal> {
         let step = child.step;
         let reason = match child.outcome {
             Outcome::Open(_) => return Ok(()),
@@ -109,16 +109,16 @@ impl Search {
         &mut self,
         reason: Reason,
         state: State,
-    ) -> Result<u32, AllocError> {
+    ) -> Result<u32, Refusal> {
         if let Some(number) = self.proof_after(state.key) {
             return Ok(number);
         }
         match reason {
-            Reason::Passes => self.proof_by_pass(state, false),
+            Reason::Passes => Ok(self.proof_by_pass(state, false)?),
             Reason::Takes => self.proof_by_taking(state, false),
             Reason::Next => self.proof_by_next_turn(state),
-            Reason::Dead => self.proof_by_shape(state, Side::Attacker),
-            _ => self.proof_by_shape(state, Side::Defender),
+            Reason::Dead => Ok(self.proof_by_shape(state, Side::Attacker)?),
+            _ => Ok(self.proof_by_shape(state, Side::Defender)?),
         }
     }
 
@@ -146,7 +146,7 @@ impl Search {
         &mut self,
         state: State,
         is_expanded: bool,
-    ) -> Result<u32, AllocError>
+    ) -> Result<u32, Refusal>
         ensures steps { self.new.steps ≡ self.old.steps }
     {
         let settled = Settled {
@@ -156,7 +156,7 @@ impl Search {
             is_expanded,
         };
         let Some(after) = self.taking_turn(state) else {
-            return Err(AllocError);
+            return Err(Refusal::Fault);
         };
         let added = after.position.attacker.minus(state.position.attacker);
         let step = match added.first() {
@@ -167,15 +167,15 @@ impl Search {
             turn: self.shapes.board.turn(step),
             below: Below::Won,
         };
-        self.proofs
-            .add(settled, &[branch], Some(after.key.position), &[])
+        let after = Some(after.key.position);
+        Ok(self.proofs.add(settled, &[branch], after, &[])?)
     }
 
     /// The proof of a state whose mover has a turn after which it is certain.
-    fn proof_by_next_turn(&mut self, state: State) -> Result<u32, AllocError> {
+    fn proof_by_next_turn(&mut self, state: State) -> Result<u32, Refusal> {
         let side = self.side(state.key.mover);
         let Some(next) = self.best_next_turn(state, side) else {
-            return Err(AllocError);
+            return Err(Refusal::Fault);
         };
         let number = match self.proof_after(next.state.key) {
             Some(number) => number,
@@ -191,11 +191,11 @@ impl Search {
             form: Form::Turn,
             is_expanded: false,
         };
-        self.proofs
-            .add(settled, &[branch], Some(next.state.key.position), &[])
+        let after = Some(next.state.key.position);
+        Ok(self.proofs.add(settled, &[branch], after, &[])?)
     }
 
-    /// The proof of a state that the side has won by shape. It is to be played out.
+    /// The proof of a state that the side has won by shape. It still has to be played out.
     fn proof_by_shape(&mut self, state: State, winner: Side) -> Result<u32, AllocError> {
         let empty = self.shapes.board.empty(state.position);
         let playable = empty.and(self.shapes.board.region()).len();

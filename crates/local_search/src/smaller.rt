@@ -1,8 +1,10 @@
-//! A smaller answer, by the steps that are left after a proof is found.
+//! A smaller answer, found with the steps that are left after a proof is found.
 //!
-//! Each round walks the proof along the real line of play, and puts smaller proofs in place of larger ones: for a state one
-//! that was made elsewhere and holds here, for the winner's turn another one that a short search shows to win as well, or one after
-//! which the defender lives and that is played out.
+//! Each round walks the proof along the real line of play, and puts smaller proofs in place of larger ones: for a state, one that
+//! was made elsewhere and holds here; for the winner's turn, another turn that a short search shows to win as well, or one after
+//! which the defender lives and which is played out.
+
+ghost use Rattle.std.specs.Prelude.{◌≡◌, ◌+◌, OnOk};
 
 use crate::asked::{Asked, Question};
 use crate::finish::{Finish, Goal};
@@ -13,16 +15,16 @@ use local_board::Step;
 use state_proofs::{Below, Branch, Form, Proof, Refusal, Settled, Stop};
 use std::alloc::{AllocError, Global};
 
-/// A proof of so many turns is left as it is.
+/// A proof of at most this many turns is left as it is.
 const FEW_TURNS: u64 = 2;
 
-/// In a proof of more turns than this the winner's other turns are searched, each by at most so many steps.
+/// In a proof of more turns than this, the winner's other turns are searched, each with at most this many steps.
 const MAX_TRIED: u64 = 20;
 
-/// The most steps by which a living turn is played out.
+/// The greatest number of steps for playing out a turn after which the defender lives.
 const MAX_PLAYED: u64 = 1_000;
 
-/// A state of the line whose proof is made smaller.
+/// A state of the line whose proof is being made smaller.
 #[derive(Clone, Copy)]
 pub(crate) struct Visit {
     pub(crate) state: State,
@@ -31,13 +33,13 @@ pub(crate) struct Visit {
     /// The proof that is walked, and its number.
     number: u32,
     pub(crate) proof: Proof,
-    /// The place of the turn that is asked of next.
+    /// The place of the turn that the next question is about.
     next: usize,
     /// Where its turns and its new branches begin.
     asked: usize,
     made: usize,
-    /// Where the mover wins, the best turn that is smaller than the proof's own, with the position after it, and the
-    /// turns of the tree by it.
+    /// If the mover wins, the best turn that gives a smaller tree than the proof's own, with the position after it and the turns of
+    /// its tree.
     best: Option<(Branch, u64)>,
     least: u64,
 }
@@ -64,8 +66,8 @@ impl Smaller {
         }
     }
 
-    /// A smaller proof than this one of the first state: rounds until one gains less than a hundredth, or no step is left.
-    /// Where memory is refused the last one stands.
+    /// A smaller proof of the first state than this one. It makes rounds until one gains less than a hundredth or no step is left.
+    /// If memory is refused, the last proof stays.
     pub(crate) fn shrink(&mut self, finish: &mut Finish, start: State, root: u32) -> u32 {
         let mut root = root;
         for _ in 0..u64::MAX {
@@ -88,7 +90,7 @@ impl Smaller {
         root
     }
 
-    /// One round from the first state: its proof then.
+    /// One round from the first state. Returns its proof after the round.
     fn round(&mut self, finish: &mut Finish, start: State, root: u32) -> Result<u32, Stop> {
         self.visits.clear();
         self.asked.clear();
@@ -107,7 +109,7 @@ impl Smaller {
         Err(Stop::Refused(Refusal::Fault))
     }
 
-    /// Asks the next question of the last state, or makes its proof: the proof of the state at the end of the line, once
+    /// Asks the next question of the last state, or makes its proof. Returns the proof of the state at the end of the line once
     /// there is one.
     fn go_on(&mut self, finish: &mut Finish) -> Result<Option<u32>, Stop> {
         let Some(visit) = self.visits.last().copied() else {
@@ -142,7 +144,7 @@ impl Smaller {
         }
     }
 
-    /// The better proof of this one that was made in the round, where it holds at the end of the line.
+    /// The better proof that this one became in the round, if it holds at the end of the line.
     fn known(&self, finish: &Finish, number: u32) -> Option<u32> {
         let better = self.better.get(&number).copied()?;
         if finish.search.proofs.holds_at(better, &finish.search.past) {
@@ -152,7 +154,7 @@ impl Smaller {
         }
     }
 
-    /// Begins with the proof of the state at the end of the line; or the proof that stands for it at once.
+    /// Begins with the proof of the state at the end of the line, or returns the proof that can replace it at once.
     fn enter(
         &mut self,
         finish: &mut Finish,
@@ -172,6 +174,22 @@ impl Smaller {
         if let Some(better) = self.known(finish, number) {
             return Ok(Some(better));
         }
+        self.begin(finish, state, last, number, proof)?;
+        Ok(None)
+    }
+
+    /// Begins the visit of a state. It is expanded, which is a step.
+    fn begin(
+        &mut self,
+        finish: &mut Finish,
+        state: State,
+        last: Step,
+        number: u32,
+        proof: Proof,
+    ) -> Result<(), Stop>
+        ensures step { OnOk result
+            (finish.new.search.steps.left + 1 ≡ finish.old.search.steps.left) }
+    {
         finish.search.steps.take()?;
         let visit = Visit {
             state,
@@ -186,11 +204,13 @@ impl Smaller {
         };
         self.list_questions(finish, &visit)?;
         self.visits.push(visit)?;
-        Ok(None)
+        Ok(())
     }
 
-    /// Lists what is asked of the turns of a state.
-    fn list_questions(&mut self, finish: &mut Finish, visit: &Visit) -> Result<(), AllocError> {
+    /// Lists the questions about the turns of a state.
+    fn list_questions(&mut self, finish: &mut Finish, visit: &Visit) -> Result<(), AllocError>
+        ensures steps { finish.new.search.steps ≡ finish.old.search.steps }
+    {
         if visit.proof.form == Form::Turn {
             self.list_turns(finish, visit)
         } else {
@@ -210,7 +230,7 @@ impl Smaller {
         Ok(())
     }
 
-    /// Who wins after the turn, by which proof: one that is known, or, in a proof of many turns, one that some steps find.
+    /// Who wins after the turn, and by which proof: one that is known, or, in a proof of many turns, one that some steps find.
     fn found_after(
         &mut self,
         finish: &mut Finish,
@@ -238,7 +258,7 @@ impl Smaller {
         }
     }
 
-    /// Takes the proof of the state after the turn that was asked of, or a smaller one that was made elsewhere.
+    /// Takes the proof of the state after the turn that the question was about, or a smaller one that was made elsewhere.
     fn take_smallest(&mut self, finish: &mut Finish, number: u32) -> Result<(), Stop> {
         let Some(visit) = self.visits.last().copied() else {
             return Err(Stop::Refused(Refusal::Fault));
@@ -255,7 +275,7 @@ impl Smaller {
         self.take(finish, visit, asked, Below::Proof(smallest))
     }
 
-    /// Takes this for the turn that was asked of.
+    /// Takes this for the turn that the question was about.
     fn take(
         &mut self,
         finish: &mut Finish,
@@ -274,7 +294,7 @@ impl Smaller {
         Ok(())
     }
 
-    /// Prefers the winner's turn, where it is smaller than those before.
+    /// Prefers the winner's turn, if it gives a smaller tree than those before.
     fn prefer(&mut self, finish: &Finish, visit: Visit, branch: Branch, position: u64) {
         let turns = finish
             .search
@@ -288,7 +308,7 @@ impl Smaller {
         }
     }
 
-    /// Turns to the next question of the last state.
+    /// Goes on to the next question of the last state.
     fn pass_on(&mut self) {
         let last = self.visits.len().saturating_sub(1);
         if last < self.visits.len() {
@@ -296,8 +316,8 @@ impl Smaller {
         }
     }
 
-    /// Takes the last state off, all of whose questions are answered: its proof then.
-    fn leave(&mut self, finish: &mut Finish, visit: Visit) -> Result<u32, AllocError> {
+    /// Removes the last state, all of whose questions are answered, and returns its proof.
+    fn leave(&mut self, finish: &mut Finish, visit: Visit) -> Result<u32, Refusal> {
         let before = visit.number;
         let asked = visit.asked;
         let made = visit.made;
@@ -325,9 +345,9 @@ impl Smaller {
         finish.search.proofs.add(settled, &[branch], reached, &[])
     }
 
-    fn with_replies(&mut self, finish: &mut Finish, visit: Visit) -> Result<u32, AllocError> {
+    fn with_replies(&mut self, finish: &mut Finish, visit: Visit) -> Result<u32, Refusal> {
         if visit.made > self.made.len() {
-            return Err(AllocError);
+            return Err(Refusal::Fault);
         }
         let made = &self.made[visit.made..];
         if is_same(made, finish.search.proofs.branches(visit.proof)) {
@@ -339,10 +359,8 @@ impl Smaller {
         self.barred
             .extend_from_slice(finish.search.barred.as_slice())?;
         let settled = settled_as(visit.proof);
-        finish
-            .search
-            .proofs
-            .add(settled, made, None, self.barred.as_slice())
+        let barred = self.barred.as_slice();
+        Ok(finish.search.proofs.add(settled, made, None, barred)?)
     }
 }
 
@@ -350,7 +368,7 @@ fn turns_of(finish: &Finish, number: u32) -> u64 {
     finish.search.proofs.turns_below(Below::Proof(number))
 }
 
-/// Searches the state at the end of the line for a few steps, or plays it out, where the defender lives there.
+/// Searches the state at the end of the line for a few steps, or plays it out if the defender lives there.
 fn try_turn(finish: &mut Finish, turns: u64, asked: Asked) -> Result<Option<u32>, Stop> {
     if asked.question == Question::Lives {
         let floor = finish.search.steps.begin(turns.min(MAX_PLAYED));
@@ -377,7 +395,7 @@ fn settled_as(proof: Proof) -> Settled {
     }
 }
 
-/// Whether the same proofs stand after the branches.
+/// Whether the same proofs are below the branches.
 fn is_same(made: &[Branch], branches: &[Branch]) -> bool {
     if made.len() != branches.len() {
         return false;

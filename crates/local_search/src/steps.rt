@@ -5,7 +5,7 @@ ghost use Rattle.state_proofs.specs.declared.stop.Stop.TheVariants as stops;
 
 use state_proofs::Stop;
 
-/// The steps that are left of a budget: work goes on until so many as `floor` are left.
+/// The steps that are left of a budget. Work goes on until `floor` steps are left.
 #[derive(Clone, Copy, Debug)]
 pub(crate) struct Steps {
     pub(crate) left: u64,
@@ -13,7 +13,7 @@ pub(crate) struct Steps {
 }
 
 impl Steps {
-    /// Makes a step, where one may be made: `left` falls by one.
+    /// Makes a step, if one may be made: `left` falls by one.
     pub(crate) fn take(&mut self) -> Result<(), Stop>
         ensures one { OnOk result (self.new.left + 1 ≡ self.old.left) }
         ensures none { OnErr result (self.new.left ≡ self.old.left) }
@@ -27,11 +27,23 @@ impl Steps {
         Ok(())
     }
 
-    /// So many of the steps that are left for a shorter search: the floor until then, which `end` takes back.
+    /// Begins a shorter search with at most `most` of the steps that are left. Returns the previous floor, which `end` restores.
     pub(crate) fn begin(&mut self, most: u64) -> u64 {
         let before = self.floor;
         self.floor = self.floor.max(self.left.saturating_sub(most));
         before
+    }
+
+    /// Sets this many steps aside. Returns the previous floor, which `end` restores.
+    pub(crate) fn keep(&mut self, aside: u64) -> u64 {
+        let before = self.floor;
+        self.floor = self.floor.saturating_add(aside);
+        before
+    }
+
+    /// The steps that may be made.
+    pub(crate) fn rest(self) -> u64 {
+        self.left.saturating_sub(self.floor)
     }
 
     /// Ends a shorter search.

@@ -1,4 +1,4 @@
-//! How much a turn is worth where a settled state is played out: how large the proof after it may become.
+//! How much a turn is worth when a settled state is played out: how large the proof after it may become.
 
 use crate::expanding::step_at;
 use crate::finish::Finish;
@@ -12,7 +12,7 @@ struct Growth {
     over: u64,
 }
 
-/// Of a living state, by the attacker's room, and of a dead one, by the defender's.
+/// The growth for a living state, by the attacker's room, and for a dead one, by the defender's room.
 const LIFE: Growth = Growth { times: 5, over: 4 };
 
 const DEATH: Growth = Growth {
@@ -24,7 +24,7 @@ const FIRST_VALUE: u64 = 1 << 12;
 
 const MOST_VALUE: u64 = 1 << 50;
 
-/// The most branches below a known turn that is taken.
+/// The greatest number of branches below a known turn that is taken.
 const MAX_KNOWN_DEPTH: u32 = 1_000;
 
 /// A turn by which a settled state may be played out.
@@ -36,7 +36,7 @@ pub(crate) struct Turned {
 }
 
 impl Turned {
-    /// A turn that is worse than all.
+    /// A turn that is worse than all others.
     pub(crate) fn worst() -> Turned {
         Turned {
             step: Step::Pass,
@@ -51,7 +51,7 @@ impl Turned {
     }
 }
 
-/// What a state counts for with so much room.
+/// What a state counts for with this much room.
 fn value_of_room(growth: Growth, room: u32) -> u64 {
     let mut value = FIRST_VALUE;
     for _ in 0..room {
@@ -70,8 +70,8 @@ impl Finish {
         board.empty(state.position).and(board.region())
     }
 
-    /// How many states the proof may have of which this is the first: those after a turn of the mover's that have no proof yet, and
-    /// itself, each as often as its room says. Where it is more than `most`, some number above it.
+    /// How many states a proof that begins with this one may have: the states after a turn of the mover that have no proof yet, and
+    /// this one, each as often as its room says. If it is more than `most`, the result is some number above that.
     pub(crate) fn value(&self, state: State, room: u32, most: u64) -> u64 {
         let side = self.search.side(state.key.mover);
         let one = match side {
@@ -107,7 +107,7 @@ impl Finish {
         }
     }
 
-    /// The mover's turn to a state that is proved already for him, by the fewest turns; none, where there is no such turn.
+    /// The mover's turn to a state that is already proved for him, by the fewest turns. `None` if there is no such turn.
     pub(crate) fn known_turn(&self, state: State) -> Option<(Step, u32)> {
         let side = self.search.side(state.key.mover);
         let mut best = None;
@@ -130,7 +130,7 @@ impl Finish {
         self.better_by_pass(state, side, best, least)
     }
 
-    /// The known turn, or the defender's pass, where that is better.
+    /// The known turn, or the defender's pass if that is better.
     fn better_by_pass(
         &self,
         state: State,
@@ -151,7 +151,7 @@ impl Finish {
         }
     }
 
-    /// The proof for the mover of a state after a turn of his, and its turns.
+    /// The proof for the mover of a state after one of his turns, and the number of its turns.
     fn known_proof(&self, state: State, after: State) -> Option<(u32, u64)> {
         let number = self.search.proof_after(after.key)?;
         let proof = self.search.proofs.get(number)?;

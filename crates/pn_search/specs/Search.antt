@@ -1,7 +1,7 @@
 -- When a search may end without an answer.
 --     full_steps budget      the steps that full search has
---     cause_told why      what is told where the checker refused the claim for this
---     IsHard q budget      no side can force a win that full search would have found with them
+--     cause_told why      what is told if the checker refused the claim for this reason
+--     IsHard q budget      no side can force a win that full search would have found with those steps
 use Rattle.std.specs.Prelude.{ℕ, ◌+◌, ◌*◌, ◌/◌, ◌<◌, ◌≤◌, min, IsTrue}
 use Rattle.go_points.specs.declared.Colour.{Colour}
 use Rattle.target_game.specs.State.{GameProblem, start}
@@ -18,13 +18,14 @@ use Rattle.pn_search.specs.declared.verdict.Verdict.TheVariants.{Wins, Unknown}
 abbrev pub full_steps : ℕ → ℕ
 full_steps budget = min (budget / 10) 10000000
 
--- A limit and want of memory are told as such, all else as not confirmed.
+-- A limit and refused memory are told as such, everything else as not confirmed.
 abbrev pub cause_told : Why → Cause
 cause_told why.Limit = Limit
 cause_told why.Memory = Memory
 cause_told other = NotConfirmed
 
--- No side can force a win within k ≤ 200 turns whose tree of all legal play is so small that k + 1 times its states are steps of full search.
+-- No side can force a win within any k ≤ 200 turns for which k + 1 times the number of states of the tree of all legal play is at
+-- most the steps of full search.
 abbrev pub IsHard : GameProblem → ℕ → Type 0
 IsHard q budget = (x : Colour) (k : ℕ) → k ≤ 200 → IsTrue (wins x (start q) k) → full_steps budget < (k + 1) * nodes (start q) k
 

@@ -1,9 +1,9 @@
-//! The search for a proof: full search within few turns first, then proof numbers; every claim is put to the checker.
+//! The search for a proof: first full search within a few turns, then proof numbers. Every claim is given to the checker.
 #![tactic(auto)]
 
 mod search;
 mod verdict;
 
-pub use local_search::Answers;
 pub use search::{solve, solve_for};
+pub use state_proofs::Answers;
 pub use verdict::{Budget, Cause, Verdict};

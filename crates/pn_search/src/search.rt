@@ -12,21 +12,15 @@ use claim_maker::{Choice, Pasts, claim_with_lemmas, claim_without_lemmas, share_
 use full_search::first_win;
 use go_points::{Colour, MAX_SIZE};
 use local_board::{MAX_PLACES, count_changing};
-use local_search::Answers;
 use proof_cert::{Certificate, Node, Version};
-use state_proofs::{Below, Refusal, Shared, Stop};
+use state_proofs::{Answers, Refusal, Shared, Stop};
 use std::alloc::Global;
 use target_game::Problem;
 
-/// The most steps of full search.
+/// The greatest number of steps of full search.
 const MAX_FULL_STEPS: u64 = 10_000_000;
 
-/// The steps that a smaller answer has beside those of the first one: at least so many, and at most.
-const LEAST_MORE: u64 = 20_000;
-
-const MOST_MORE: u64 = 200_000;
-
-/// The most states of an answer of which a claim is made: that of a larger one passes a limit.
+/// The greatest number of states of an answer from which a claim is made: the claim of a larger one passes a limit.
 const MAX_STATES: usize = 130_000;
 
 /// How many sizes of lemmas are tried, from the least on.
@@ -37,9 +31,9 @@ type Found = Result<Checked, (Problem, Cause)>;
 
 /// Searches for a claim of either side that the checker accepts for the problem.
 ///
-/// A tenth of the steps is kept for full search of all legal play within 0, 1, 2 and so on to 200 turns, which comes
-/// first; the search by proof numbers has all that this leaves, and makes its answer small with some of the steps that are left then.
-/// The same problem and budget give the same verdict, want of memory aside.
+/// A tenth of the steps is kept for full search of all legal play within 0, 1, 2 and so on up to 200 turns, which comes first. The
+/// search by proof numbers gets all the steps that this leaves, and makes its answer small with some of those that are left then.
+/// The same problem and budget give the same verdict, unless memory is refused.
 pub fn solve(alloc: Global, problem: Problem, budget: Budget) -> Verdict
     ensures problem { IfWins result (λ c. c.problem ≡ problem) }
     ensures kept { IfUnknown result (λ rest cause steps. rest ≡ problem) }
@@ -51,7 +45,7 @@ pub fn solve(alloc: Global, problem: Problem, budget: Budget) -> Verdict
     solve_for(alloc, problem, budget, Answers::Small)
 }
 
-/// The same for an answer of this kind: the first one comes sooner, where nobody reads its tree.
+/// Like `solve`, for an answer of this kind. The first answer comes sooner, which is enough if nobody reads its tree.
 pub fn solve_for(alloc: Global, problem: Problem, budget: Budget, answers: Answers) -> Verdict
     ensures problem { IfWins result (λ c. c.problem ≡ problem) }
     ensures kept { IfUnknown result (λ rest cause steps. rest ≡ problem) }
@@ -78,7 +72,7 @@ fn steps_of_full_search(steps: u64) -> u64
     (steps / 10).min(MAX_FULL_STEPS)
 }
 
-/// What both searches find, each of which lowers the steps that are left.
+/// What both searches find. Each of them lowers the steps that are left.
 fn searched(
     alloc: Global,
     problem: Problem,
@@ -101,8 +95,8 @@ fn searched(
     }
 }
 
-/// What the search by proof numbers finds: its first answer, or a smaller one of a second search, which has some of the steps that
-/// are left.
+/// The claim of what the search by proof numbers finds. If the claim of a first answer passes a limit, a smaller answer is searched
+/// for.
 fn searched_by_numbers(
     alloc: Global,
     problem: Problem,
@@ -115,101 +109,51 @@ fn searched_by_numbers(
     ensures fewer { left.new ≤ left.old }
     ensures all { IfErr result (λ r. r.1 ≡ Steps → left.new ≡ 0) }
 {
-    let before = *left;
-    match proofs_of(alloc, &problem, budget, Answers::First, left) {
-        Err(stop) => Err((problem, cause_of_stop(stop))),
-        Ok(first) => {
-            let used = before - *left;
-            match answers {
-                Answers::First => claimed_first(alloc, problem, budget, first, used, left),
-                Answers::Small => claimed_small(alloc, problem, budget, first, used, left),
-            }
-        }
-    }
-}
-
-/// The claim of the first answer; where it passes a limit, that of a second search, which is smaller.
-fn claimed_first(
-    alloc: Global,
-    problem: Problem,
-    budget: Budget,
-    first: Shared,
-    used: u64,
-    left: &mut u64,
-) -> Found
-    ensures ok { IfOk result (λ c. c.problem ≡ problem) }
-    ensures err { IfErr result (λ r. r.0 ≡ problem) }
-    ensures fewer { left.new ≤ left.old }
-    ensures cause { IfErr result (λ r. r.1 ≢ Steps) }
-{
-    match confirmed_in_turn(alloc, problem, first) {
+    match claimed(alloc, problem, budget, answers, left) {
         Ok(checked) => Ok(checked),
-        Err((problem, Cause::Limit)) => {
-            match second_answer(alloc, &problem, budget, used, left) {
-                Some(small) => confirmed_in_turn(alloc, problem, small),
-                None => Err((problem, Cause::Limit)),
-            }
-        }
+        Err((problem, Cause::Limit)) => match answers {
+            Answers::First => claimed_smaller(alloc, problem, budget, left),
+            Answers::Small => Err((problem, Cause::Limit)),
+        },
         Err((problem, cause)) => Err((problem, cause)),
     }
 }
 
-/// The claim of a second search's answer, where that is smaller than the first one; else that of the first.
-fn claimed_small(
-    alloc: Global,
-    problem: Problem,
-    budget: Budget,
-    first: Shared,
-    used: u64,
-    left: &mut u64,
-) -> Found
+/// The claim of a smaller answer, if that of the first one passes a limit.
+fn claimed_smaller(alloc: Global, problem: Problem, budget: Budget, left: &mut u64) -> Found
     ensures ok { IfOk result (λ c. c.problem ≡ problem) }
     ensures err { IfErr result (λ r. r.0 ≡ problem) }
     ensures fewer { left.new ≤ left.old }
     ensures cause { IfErr result (λ r. r.1 ≢ Steps) }
 {
-    match second_answer(alloc, &problem, budget, used, left) {
-        Some(small) => {
-            if turns_of(&small) >= turns_of(&first) {
-                return confirmed_in_turn(alloc, problem, first);
-            }
-            match confirmed_in_turn(alloc, problem, small) {
-                Ok(checked) => Ok(checked),
-                Err((problem, _cause)) => confirmed_in_turn(alloc, problem, first),
-            }
-        }
-        None => confirmed_in_turn(alloc, problem, first),
+    match claimed(alloc, problem, budget, Answers::Small, left) {
+        Ok(checked) => Ok(checked),
+        Err((problem, Cause::Steps)) => Err((problem, Cause::Limit)),
+        Err((problem, cause)) => Err((problem, cause)),
     }
 }
 
-/// The turns of the answer tree.
-fn turns_of(shared: &Shared) -> u64 {
-    shared.proofs.turns_below(Below::Proof(shared.root))
-}
-
-/// The answer of a search that makes it small. It has the steps of the first search again, and for the smaller answer twice as
-/// many and some more.
-fn second_answer(
+/// The claim of an answer of this kind.
+fn claimed(
     alloc: Global,
-    problem: &Problem,
+    problem: Problem,
     budget: Budget,
-    used: u64,
+    answers: Answers,
     left: &mut u64,
-) -> Option<Shared>
-    ensures { left.new ≤ left.old }
+) -> Found
+    ensures ok { IfOk result (λ c. c.problem ≡ problem) }
+    ensures err { IfErr result (λ r. r.0 ≡ problem) }
+    ensures fewer { left.new ≤ left.old }
+    ensures all { IfErr result (λ r. r.1 ≡ Steps → left.new ≡ 0) }
 {
-    let more = used
-        .saturating_mul(2)
-        .saturating_add(LEAST_MORE)
-        .min(MOST_MORE);
-    let mut own = used.saturating_add(more).min(*left);
-    let rest = *left - own;
-    let found = proofs_of(alloc, problem, budget, Answers::Small, &mut own);
-    *left = rest + own;
-    found.ok()
+    match proofs_of(alloc, &problem, budget, answers, left) {
+        Ok(shared) => confirmed_in_turn(alloc, problem, shared),
+        Err(stop) => Err((problem, cause_of_stop(stop))),
+    }
 }
 
-/// The proofs that a search finds: where few points can change, one that knows living and hopeless groups by their shape.
+/// The proofs that a search finds. If few points can change, it is the search that recognizes living and hopeless groups by their
+/// shape.
 fn proofs_of(
     alloc: Global,
     problem: &Problem,
@@ -224,15 +168,12 @@ fn proofs_of(
         Ok(count) if count <= MAX_PLACES => {
             local_search::prove(alloc, problem, budget.table, answers, left)
         }
-        Ok(_) => {
-            let wants_small = answers == Answers::Small;
-            df_pn::prove(alloc, problem, budget.table, wants_small, left)
-        }
+        Ok(_) => df_pn::prove(alloc, problem, budget.table, answers, left),
         Err(_) => Err(Stop::Refused(Refusal::Memory)),
     }
 }
 
-/// The claim of the tree that full search found, with lemmas where the checker accepts it, else without.
+/// The claim of the tree that full search found, with lemmas if the checker accepts it, otherwise without.
 fn confirmed(alloc: Global, problem: Problem, winner: Colour, main: Node) -> Found
     ensures ok { IfOk result (λ c. c.problem ≡ problem) }
     ensures err { IfErr result (λ r. r.0 ≡ problem) }
@@ -248,7 +189,7 @@ fn confirmed(alloc: Global, problem: Problem, winner: Colour, main: Node) -> Fou
     }
 }
 
-/// The claim of the proofs with lemmas, where the checker accepts it, else without.
+/// The claim of the proofs with lemmas, if the checker accepts it, otherwise without.
 fn confirmed_in_turn(alloc: Global, problem: Problem, shared: Shared) -> Found
     ensures ok { IfOk result (λ c. c.problem ≡ problem) }
     ensures err { IfErr result (λ r. r.0 ≡ problem) }
@@ -263,7 +204,8 @@ fn confirmed_in_turn(alloc: Global, problem: Problem, shared: Shared) -> Found
     }
 }
 
-/// The claim of the proofs with lemmas, where the checker accepts it: with lemmas that may need a past, else with others alone.
+/// The claim of the proofs with lemmas, if the checker accepts it: with lemmas that may need a past, otherwise with only the
+/// others.
 fn confirmed_by_lemmas(alloc: Global, problem: Problem, shared: &Shared, sizes: u32) -> Found
     ensures ok { IfOk result (λ c. c.problem ≡ problem) }
     ensures err { IfErr result (λ r. r.0 ≡ problem) }
@@ -275,7 +217,8 @@ fn confirmed_by_lemmas(alloc: Global, problem: Problem, shared: &Shared, sizes: 
     }
 }
 
-/// The same with lemmas of one kind. Where the claim would pass a limit larger proofs alone become lemmas.
+/// The claim of the proofs with lemmas of one kind, if the checker accepts it. If the claim would pass a limit, only larger proofs
+/// become lemmas.
 fn confirmed_in_sizes(
     alloc: Global,
     problem: Problem,
@@ -321,7 +264,7 @@ fn confirmed_without_lemmas(alloc: Global, problem: Problem, shared: &Shared) ->
     }
 }
 
-/// The claim of the proofs with lemmas of those that are chosen.
+/// The claim of the proofs, with lemmas for those that are chosen.
 fn confirmed_with_lemmas(alloc: Global, problem: Problem, shared: &Shared, choice: Choice) -> Found
     ensures ok { IfOk result (λ c. c.problem ≡ problem) }
     ensures err { IfErr result (λ r. r.0 ≡ problem) }
@@ -333,7 +276,7 @@ fn confirmed_with_lemmas(alloc: Global, problem: Problem, shared: &Shared, choic
     }
 }
 
-/// The claim, where the checker accepts it.
+/// The claim, if the checker accepts it.
 fn accepted(alloc: Global, problem: Problem, certificate: Certificate) -> Found
     ensures ok { IfOk result (λ c. c.problem ≡ problem) }
     ensures err { IfErr result (λ r. r.0 ≡ problem) }
@@ -366,7 +309,7 @@ fn confirmed_plainly(alloc: Global, problem: Problem, winner: Colour, main: Node
     }
 }
 
-/// Why there is no verdict, where the checker refused the claim without lemmas for this.
+/// Why there is no verdict, if the checker refused the claim without lemmas for this reason.
 fn cause_of(why: Why) -> Cause
     ensures { result ≡ cause_told why }
 {
@@ -377,7 +320,7 @@ fn cause_of(why: Why) -> Cause
     }
 }
 
-/// Why there is no verdict, where the search by proof numbers stopped for this.
+/// Why there is no verdict, if the search by proof numbers stopped for this reason.
 fn cause_of_stop(stop: Stop) -> Cause
     ensures { result ≡ Steps → stop ≡ stops.Steps }
 {
@@ -387,7 +330,7 @@ fn cause_of_stop(stop: Stop) -> Cause
     }
 }
 
-/// Why there is no verdict, where a claim could not be written for this.
+/// Why there is no verdict, if a claim could not be written for this reason.
 fn cause_of_refusal(refusal: Refusal) -> Cause
     ensures { result ≢ Steps }
 {

@@ -7,9 +7,9 @@ use target_game::Problem;
 /// What a search may use.
 #[derive(Clone, Copy, Debug, PartialEq, Eq)]
 pub struct Budget {
-    /// The most expansions: each makes the children of one state and asks of each whether the game is over.
+    /// The greatest number of expansions. Each makes the children of one state and asks of each whether the game is over.
     pub steps: u64,
-    /// The most states whose numbers are kept in the table.
+    /// The greatest number of states whose numbers are kept in the table.
     pub table: NonZeroUsize,
 }
 
@@ -31,7 +31,7 @@ pub enum Cause {
 pub enum Verdict {
     /// The claim's winner wins the problem.
     Wins(Checked),
-    /// Nothing is known of the problem, which is handed back; so many steps were made.
+    /// Nothing is known of the problem, which is handed back. `steps` steps were made.
     Unknown {
         problem: Problem,
         cause: Cause,

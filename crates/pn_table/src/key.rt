@@ -1,4 +1,4 @@
-//! What a state is known by in the table.
+//! The key of a state in the table.
 
 use go_points::Colour;
 

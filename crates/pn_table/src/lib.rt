@@ -1,4 +1,4 @@
-//! A table of proof numbers that forgets what was not used for longest. What it holds guides a search and proves nothing.
+//! A table of proof numbers that forgets the least recently used ones. What it holds guides a search and proves nothing.
 #![tactic(auto)]
 
 mod key;

@@ -1,9 +1,9 @@
 //! Proof and disproof numbers.
 
-/// The number of what can never be proved.
+/// The number of something that can never be proved.
 pub const INFINITY: u32 = 4_294_967_295;
 
-/// How many leaves at least have to be proved, and how many disproved.
+/// The least number of leaves that have to be proved, and the least number that have to be disproved.
 #[derive(Clone, Copy, Debug, PartialEq, Eq)]
 pub struct Numbers {
     pub proof: u32,

@@ -12,7 +12,7 @@ use std::alloc::{AllocError, Global};
 use std::marker::Model;
 use std::num::NonZeroUsize;
 
-/// Numbers by key, the latest used first, at most as many as the table was made for.
+/// Numbers by key, the most recently used first, at most as many as the table was made for.
 #[derive(Drop)]
 pub struct Table {
     entries: LruCache<Key, Numbers>,
@@ -27,7 +27,7 @@ impl Model for Table {
 }
 
 impl Table {
-    /// An empty table for so many keys. It begins small and grows.
+    /// An empty table for at most `capacity` keys. It begins small and grows.
     pub fn with_capacity(alloc: Global, capacity: NonZeroUsize) -> Result<Table, AllocError>
         ensures { IfOk result
             (λ t. t ≡ record { entries = []; capacity = non_zero_usize_get capacity }) }
@@ -37,7 +37,7 @@ impl Table {
         })
     }
 
-    /// The numbers of the key, which then counts as the latest used. It takes no memory.
+    /// The numbers of the key, which then counts as the most recently used. It allocates no memory.
     pub fn look(&mut self, key: Key) -> Option<Numbers>
         ensures value { result ≡ lookup (same_key key) self.old.entries }
         ensures content { self.new ≡ looked self.old key }
@@ -47,7 +47,8 @@ impl Table {
         self.entries.get(&key).copied()
     }
 
-    /// Stores the numbers, in place of older ones of the key, which then counts as the latest used. In a full table a new key takes the place of the one that was not used for longest. False, where memory was refused; nothing has changed then.
+    /// Stores the numbers in place of older ones of the key, which then counts as the most recently used. In a full table a new key
+    /// takes the place of the least recently used one. Returns `false` if memory is refused; then nothing has changed.
     pub fn store(&mut self, key: Key, numbers: Numbers) -> bool
         ensures stored { result ≡ true → self.new ≡ stored self.old key numbers }
         ensures kept { result ≡ false → self.new ≡ self.old }

@@ -1,4 +1,4 @@
--- The claim that a certificate of the program is.
+-- The claim that a certificate of the program stands for.
 --     node_of n node      its tree, for a board of n rows and n columns
 --     replies_of n ps      the answers to the other side's turns
 --     lemma_of n l, claim_of c      a lemma, the whole claim

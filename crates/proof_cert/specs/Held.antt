@@ -2,7 +2,7 @@
 --     Held      the board's size, the lines that are left (None for one that has no spelling), the number of the line or fault
 --               that was answered last, and the fault, where one was answered
 --     held_source_of z      before the first call
---     held_gives s r t      a call at s, which has not failed, answers r and leaves t
+--     held_gives s r t      a call at s, which has not failed, gives r and leaves t
 use Rattle.std.specs.Prelude.{◌≡◌, ℕ, ◌-◌, ◌^◌, List, [], ◌∷◌, ◌++◌, map, Option, Some, None, Result, Ok, Err, if◌then◌else◌, ⊤}
 use Rattle.go_points.specs.declared.Turn.{Turn}
 use Rattle.go_points.specs.Ply.{ply_of}
@@ -17,7 +17,7 @@ use Rattle.proof_cert.specs.declared.certificate.Node.{Node}
 use Rattle.proof_cert.specs.declared.task.Task.{Task}
 use Rattle.proof_cert.specs.declared.task.Task.TheVariants.{Lemmas, Had, Listed, Main, Tree, Replies, End}
 
--- the line, unless it has no spelling
+-- the line, if it has a spelling
 abbrev pub spelled_line : ℕ → Option Line → Option Line
 spelled_line n l = (if is_spelled n l then l else None)
 
@@ -30,7 +30,8 @@ pub record Held : Type 0 where
 abbrev pub held_source_of : Claim → Held
 held_source_of z = record { size = z.size; left = map (spelled_line z.size) (lines_of z); number = 0; fault = None }
 
--- A line; None after the last, and from then on; a fault at a line that has no spelling, for want of memory, and where the lines cannot be counted.
+-- A line; None after the last line, and from then on; a fault at a line that has no spelling, if memory is refused, and if there
+-- are too many lines to count.
 abbrev pub held_answer : Held → Result (Option Line) SourceFault → Held → Type 0
 held_answer s (Ok None) t = (s.left ≡ []) × (t.left ≡ [])
 held_answer s (Ok (Some l)) t = s.left ≡ Some l ∷ t.left

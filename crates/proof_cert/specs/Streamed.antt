@@ -1,10 +1,10 @@
--- A source of lines that some bytes and then a reader give, and what one call of it gives and leaves.
---     Unread      the bytes that nobody used yet: those that are held, and after them those that the reader tells, where it does
+-- A source of the lines in some bytes and then in what a reader gives, and what one call of it gives and leaves.
+--     Unread      the bytes that have not been used yet: those that are held, and then those that the reader tells, if it tells any
 --     Streamed      the board's size, the bytes that are left, the number of the line or fault that was answered last, and the fault
---     Tells told bytes      the bytes are those that are told, where they are
+--     Tells told bytes      the bytes are those that are told, if any are told
 --     Uses old new used      these bytes were used from the front
---     IsRead n old new r      what a call answers, from the bytes that were left before it to those after it
---     reader_gives s r t      a call at s, which has not failed, answers r and leaves t
+--     IsRead n old new r      what a call gives, from the bytes that were left before it to those left after it
+--     reader_gives s r t      a call at s, which has not failed, gives r and leaves t
 use Rattle.std.specs.Prelude.{◌≡◌, ℕ, false, nat_eq, length, List, [], ◌∷◌, ◌++◌, Option, Some, None, Result, Ok, Err}
 use Rattle.std.specs.Io.KnownBytes.{Consumes, IsAtEnd}
 use Rattle.proof_cert.specs.Lines.{Line}
@@ -32,7 +32,7 @@ abbrev pub Tells : Option (List ℕ) → List ℕ → Type 0
 Tells None bytes = Unit {0}
 Tells (Some told) bytes = bytes ≡ told
 
--- the bytes that are told; none where nothing is
+-- the bytes that are told; none if nothing is told
 abbrev pub told_bytes : Option (List ℕ) → List ℕ
 told_bytes None = []
 told_bytes (Some told) = told
@@ -41,7 +41,7 @@ told_bytes (Some told) = told
 abbrev pub bytes_left : Unread → List ℕ
 bytes_left b = b.held ++ told_bytes b.told
 
--- some may have been read after those that were held
+-- some of the bytes may come from the reader, after those that were held
 pub record Uses (old new : Unread) (used : List ℕ) : Type 0 where
   pub read : List ℕ
   pub told : Consumes old.told new.told read
@@ -67,7 +67,7 @@ IsPiece old new b End = HasNoFeed b × Uses old new b × HasEnded new
 IsPiece old new b TooLong = (x : ℕ) × HasNoFeed (b ++ x ∷ []) × Uses old new (b ++ x ∷ []) × (length b ≡ max_line)
 
 -- A line: the bytes that were used give it, whatever follows. None: there are no more bytes. A malformed line: the bytes that were
--- used and those that are left begin with it. A read may always fail, and no memory is taken.
+-- used, followed by those that are left, begin with it. A read may always fail, and no memory is allocated.
 abbrev pub IsRead : ℕ → Unread → Unread → Result (Option Line) SourceFault → Type 0
 IsRead n old new (Ok (Some l)) = (used : List ℕ) × Uses old new used × ((more : List ℕ) → lines n (used ++ more) ≡ Some l ∷ lines n more)
 IsRead n old new (Ok None) = Uses old new [] × HasEnded new
@@ -78,7 +78,7 @@ IsRead n old new (Err Read) = Unit {0}
 abbrev pub reader_gives : Streamed → Result (Option Line) SourceFault → Streamed → Type 0
 reader_gives s r t = (s.fault ≡ None) × (t.size ≡ s.size) × (t.fault ≡ fault_of r) × IsRead s.size s.left t.left r
 
--- A source gives the lines of its bytes in their order, and all of them where it has ended.
+-- A source gives the lines of its bytes in order, and has given all of them when it has ended.
 pub record IsFrontOfReader (n : ℕ) (held : List ℕ) (told : Option (List ℕ)) (ls : List (Option Line)) (t : Streamed) : Type 0 where
   pub front : (bytes : List ℕ) × Tells told bytes × (rest : List (Option Line)) × (lines n (held ++ bytes) ≡ ls ++ rest)
   pub all : (u : Streamed) → reader_gives t (Ok None) u → (bytes : List ℕ) × Tells told bytes × (lines n (held ++ bytes) ≡ ls)

@@ -17,7 +17,7 @@ fn read_cell(byte: u8) -> Option<Cell>
     }
 }
 
-/// The colouring of this size with this text, as `Colouring::from_text` gives it; only stones are put down.
+/// The colouring of this size with this text, as `Colouring::from_text` gives it. Only the points with stones are set.
 pub(crate) fn read_cells(size: Size, text: &[u8]) -> Option<Colouring>
     ensures { result ≡ colouring_from_text size text.now }
 {

@@ -1,15 +1,15 @@
-//! Claims that are held: who wins, with the trees that show it.
+//! Claims held in memory: who wins, with the trees that show it.
 
 use crate::version::Version;
 use go_points::{Colour, Colouring, Size, Turn};
 
-/// A proof tree: at a state it says why the winner wins there.
+/// A proof tree. At a state it says why the winner wins there.
 #[derive(Debug, Drop)]
 pub enum Node {
     /// The winner has won.
     Won,
 
-    /// The lemma of this number says so, counted from 1.
+    /// The lemma with this number, counted from 1, says so.
     Use(u32),
 
     /// The winner makes the turn, and then the tree below it holds.
@@ -19,7 +19,8 @@ pub enum Node {
     All(Vec<(Turn, Node)>),
 }
 
-/// A position that is won under every past which holds the root and the colourings of `had`, and none of those of `absent`.
+/// A position that is won whatever the past, as long as the past holds the root and the colourings of `had`, and none of those of
+/// `absent`.
 #[derive(Debug, Drop)]
 pub struct Lemma {
     pub mover: Colour,

@@ -23,7 +23,8 @@ use std::io::Write;
 
 /// Writes the claim's text.
 ///
-/// It takes no memory. A claim that has no spelling is refused before the first byte. After a failed write the writer has taken a front of the text and nothing else.
+/// It allocates no memory. A claim that has no spelling is refused before the first byte is written. After a failed write the
+/// writer has taken a front of the text and nothing else.
 pub fn write_cert<W: Write>(certificate: &Certificate, writer: &mut W) -> Result<(), CertWrite>
     ensures unspelled { (result ≡ Err CertWrite.NoSpelling)
         ↔ (text (claim_of certificate.now) ≡ None) }

@@ -1,4 +1,4 @@
-//! The lines of a certificate that is held, one at a time.
+//! The lines of a certificate held in memory, one at a time.
 
 ghost use Rattle.std.specs.Prelude.{◌≡◌, ◌+◌, ◌-◌, ◌^◌, ◌<◌, ◌∷◌, [], None, Some, Err, IfOk, IfSome, IfNone, map, option_map};
 ghost use Rattle.proof_cert.specs.Lines.{lines_of};
@@ -20,7 +20,8 @@ const MOST_LINES: u64 = 18_446_744_073_709_551_614;
 
 /// The lines of a certificate's text.
 ///
-/// A certificate without a spelling answers `Malformed` at its first line that has none. What is still to be given is kept in memory, one part for each reply and tree that is open.
+/// A certificate without a spelling gives `Malformed` at its first line that has none. What is still to be given is kept in memory,
+/// one part for each open reply and tree.
 #[derive(Drop)]
 pub struct HeldSource<'a> {
     certificate: &'a Certificate,
@@ -72,7 +73,7 @@ fn begin<'a>(certificate: &'a Certificate, tasks: &mut Vec<Task<'a>>) -> Result<
     })
 }
 
-/// The next line of the tasks, which may have no spelling; `None` where no line is left.
+/// The next line of the tasks, which may have no spelling. `None` if no line is left.
 #[tactic(auto, using(crate::proofs::Tasks::left_pushed))]
 fn next_line<'a>(size: Size, tasks: &mut Vec<Task<'a>>) -> Result<Option<Option<Line>>, AllocError>
     ensures none { IfOk result (λ next. IfNone next (lines_left size tasks.old.items ≡ [])) }
@@ -105,7 +106,7 @@ impl<'a> HeldSource<'a> {
         }
     }
 
-    /// The next line, which may have no spelling; `None` where no line is left.
+    /// The next line, which may have no spelling. `None` if no line is left.
     fn walk(&mut self) -> Result<Option<Option<Line>>, AllocError>
         ensures none { IfOk result (λ next. IfNone next (self.old.left ≡ [])) }
         ensures rest { IfOk result (λ next. IfNone next (self.new.left ≡ [])) }
@@ -126,7 +127,7 @@ impl<'a> HeldSource<'a> {
         Ok(Some(Some(line)))
     }
 
-    /// Answers the fault from now on.
+    /// Gives the fault now and at every later call.
     fn fail(&mut self, fault: SourceFault) -> Result<Option<Line>, SourceFault>
         requires { self.old.number < 2 ^ 64 - 1 }
         ensures answer { result ≡ Err fault }

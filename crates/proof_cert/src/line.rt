@@ -34,7 +34,7 @@ pub enum Line {
     End,
 }
 
-/// What stands after the word at the front of the text, where it stands there.
+/// What follows the word at the front of the text. `None` if the text does not begin with the word.
 fn behind_word<'a>(word: &[u8], text: &'a [u8]) -> Option<&'a [u8]>
     ensures { option_map (λ rest. rest.now) result ≡ after_word word.now text.now }
 {
@@ -95,14 +95,14 @@ fn read_vertex(size: Size, text: &[u8]) -> Option<Turn>
     }
 }
 
-/// The place of the first such byte.
+/// The place of the first byte that is this one.
 pub(crate) fn place_of_byte(text: &[u8], wanted: u8) -> Option<usize>
     ensures { result ≡ position (λ x. nat_eq x wanted) text.now }
 {
     text.iter().position(|byte| *byte == wanted)
 }
 
-/// What stands before and after the first space.
+/// What is before and after the first space.
 fn parts_at_space(text: &[u8]) -> Option<(&[u8], &[u8])>
     ensures { option_map (λ parts. (parts.0.now, parts.1.now)) result ≡ at_space text.now }
 {
@@ -154,7 +154,7 @@ fn read_lemma(size: Size, text: &[u8]) -> Option<Line>
 }
 
 impl Line {
-    /// The line that these bytes spell, without their line feed, for a board of this size; `None` where they spell none.
+    /// The line that these bytes, without a line feed, spell for a board of this size. `None` if they spell none.
     pub fn from_text(size: Size, text: &[u8]) -> Option<Line>
         ensures { option_map (line_value size) result ≡ line_of size text.now }
     {
@@ -186,7 +186,7 @@ impl Line {
     }
 }
 
-/// The lines that are a word alone.
+/// The lines that are a single word.
 fn plain_word(text: &[u8]) -> Option<Line>
     ensures { (n : ℕ) → option_map (line_value n) result
         ≡ or_else (at_end main_line (after_word (codes "main") text.now))

@@ -78,7 +78,7 @@ fn put_cells<W: Write>(colouring: &Colouring, pending: &mut PendingBytes, writer
     pending.put(cells_of(colouring).as_slice(), writer);
 }
 
-/// Puts a line that is a word alone.
+/// Puts a line that is a single word.
 pub(crate) fn put_word<W: Write>(word: &[u8], pending: &mut PendingBytes, writer: &mut W)
     ensures { HasPut (W.contents writer.old) (W.contents writer.new) pending.old pending.new
         (word.now ++ line_feed ∷ []) }

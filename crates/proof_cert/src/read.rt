@@ -18,7 +18,7 @@ use crate::write::CertWrite;
 use go_points::{Colour, Colouring, Size, Turn};
 use std::alloc::{AllocError, Global};
 
-/// A list of a lemma: of the colourings that must have occurred, or of those that must not.
+/// One of a lemma's two lists: the colourings that must have occurred, or those that must not have.
 #[derive(Clone, Copy)]
 pub(crate) enum Listing {
     Had,
@@ -50,7 +50,7 @@ fn next_line(reading: &mut LineCursor<'_>) -> Option<Line>
     }
 }
 
-/// The tree of at most so many levels that has this first line.
+/// The tree of at most this many levels that has this first line.
 #[cycle(read)]
 #[tactic(auto, using(crate::proofs::Certificates::node_of_won, crate::proofs::Certificates::node_of_use, crate::proofs::Certificates::node_of_play, crate::proofs::Certificates::node_of_all, crate::proofs::ReadTrees::tree_opened))]
 fn read_tree(
@@ -115,7 +115,7 @@ fn read_below(
     read_tree(alloc, reading, &first, room)
 }
 
-/// So many replies.
+/// This many replies.
 #[cycle(read)]
 fn read_replies(
     alloc: Global,
@@ -183,7 +183,7 @@ fn listed_of(listing: Listing, line: &Line) -> Option<Colouring>
     }
 }
 
-/// The listed colourings, of which the first line is given, and the line after them.
+/// The listed colourings, whose first line is given, and the line after them.
 fn read_listed(
     alloc: Global,
     reading: &mut LineCursor<'_>,
@@ -216,7 +216,7 @@ fn read_listed(
     Ok(None)
 }
 
-/// Both lists of a lemma, of which the first line is given, and the line after them.
+/// Both lists of a lemma, whose first line is given, and the line after them.
 #[tactic(auto, unfolding(crate::specs::Private::Reading::lists_read))]
 fn read_lists(
     alloc: Global,
@@ -347,7 +347,7 @@ fn read_lemmas(
     Ok(None)
 }
 
-/// A whole claim, and maybe more after it.
+/// A whole claim, which more may follow.
 #[tactic(auto, unfolding(crate::specs::Private::Reading::claim_read, crate::specs::Private::Reading::line_as))]
 fn read_claim(
     alloc: Global,
@@ -391,7 +391,7 @@ fn read_claim(
     }))
 }
 
-/// Whether the bytes are the claim's text, which is written for that: the functions above read other texts too.
+/// Whether the bytes are the claim's text. The text is written to find out, since the functions above accept other texts too.
 fn has_text(alloc: Global, certificate: &Certificate, bytes: &[u8]) -> Result<bool, AllocError>
     ensures { IfOk result (λ same. (same ≡ true)
         ↔ (text (claim_of certificate.now) ≡ Some bytes.now)) }
@@ -406,7 +406,8 @@ fn has_text(alloc: Global, certificate: &Certificate, bytes: &[u8]) -> Result<bo
 
 /// Reads the certificate whose text the bytes are, for a board of this size.
 ///
-/// It fails with `Malformed` where no claim of this size within the limits has that text, and with `Memory` where memory is refused. Each claim has one text at most, so what is read is the only one.
+/// It fails with `Malformed` if no claim of this size within the limits has that text, and with `Memory` if memory is refused. Each
+/// claim has at most one text, so what is read is the only such claim.
 pub fn read_cert(alloc: Global, size: Size, bytes: &[u8]) -> Result<Certificate, SourceFault>
     ensures text { IfOk result (λ certificate. text (claim_of certificate) ≡ Some bytes.now) }
     ensures size { IfOk result (λ certificate. certificate.size ≡ size) }

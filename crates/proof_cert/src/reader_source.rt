@@ -1,4 +1,4 @@
-//! The lines of a claim that some bytes and then a reader give, one at a time.
+//! The lines of a claim, one at a time, from some bytes and then from a reader.
 
 ghost use Rattle.std.specs.Prelude.{◌≡◌, ◌<◌, ◌^◌, [], None, IfOk};
 ghost use Rattle.std.specs.Io.KnownBytes.{Consumes};
@@ -17,7 +17,7 @@ use std::marker::Model;
 /// The longest line, without its line feed, in bytes: `lemma B 0 ` and the cells of the widest board.
 pub const MAX_LINE: usize = 10 + MAX_POINTS;
 
-/// More lines than a source gives.
+/// More lines than any source gives.
 const TOO_MANY: u64 = 18_446_744_073_709_551_614;
 
 /// How the bytes of a line ended.
@@ -28,7 +28,8 @@ pub(crate) enum Ending {
     TooLong,
 }
 
-/// The lines of some bytes and then of what a reader gives, for a board of one size. It takes no memory: a block of the bytes and one line are held.
+/// The lines of some bytes and then of what a reader gives, for a board of one size. It allocates no memory: it holds one block of
+/// the bytes and one line.
 #[derive(Drop)]
 pub struct ReaderSource<'a, R: Read + Drop> {
     size: Size,
@@ -102,7 +103,7 @@ fn cut_line<R: Read + Drop>(
     }
 }
 
-/// The next line of the bytes, for a board of this size: at once where the block has the whole of it.
+/// The next line of the bytes, for a board of this size: at once if the block has the whole of it.
 fn read_line<R: Read + Drop>(
     size: Size,
     bytes: &mut ToldBytes<'_, R>,

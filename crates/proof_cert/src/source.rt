@@ -13,7 +13,7 @@ use thiserror::Error;
 /// Why a source gives no line.
 #[derive(Clone, Copy, Debug, PartialEq, Eq, Error)]
 pub enum SourceFault {
-    /// The bytes spell no line, or are not ended by a line feed.
+    /// The bytes spell no line, or do not end with a line feed.
     #[error("malformed")]
     Malformed = 1,
 
@@ -24,7 +24,7 @@ pub enum SourceFault {
     Read = 3,
 }
 
-/// The lines of a text that is held, for a board of one size.
+/// The lines of a text held in memory, for a board of one size.
 #[derive(Drop)]
 pub(crate) struct TextSource<'a> {
     size: Size,
@@ -50,7 +50,7 @@ impl<'a> Model for TextSource<'a> {
     ghost invariant = { λ a. a.number + length a.left.now < 2 ^ 63 };
 }
 
-/// The first line of a text that is not empty, if its bytes spell one and a line feed ends it; and what stands after it.
+/// The first line of a text that is not empty, if its bytes spell one and a line feed ends it; and what follows it.
 fn first_line<'a>(size: Size, text: &'a [u8]) -> (Option<Line>, &'a [u8])
     requires { 0 < length text.now }
     ensures lines { lines size text.now ≡ option_map (line_value size) result.0
@@ -77,7 +77,7 @@ impl<'a> TextSource<'a> {
         }
     }
 
-    /// The next line; `None` where the text has ended. After a fault it is the same fault.
+    /// The next line. `None` if the text has ended. After a fault, it is that fault again.
     pub(crate) fn next(&mut self) -> Result<Option<Line>, SourceFault>
         ensures answer { answer_value self.old.size result ≡ answer self.old }
         ensures later { self.new ≡ later self.old }

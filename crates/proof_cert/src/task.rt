@@ -1,4 +1,4 @@
-//! What a certificate has still to give, line by line.
+//! What a certificate still has to give, line by line.
 
 ghost use Rattle.std.specs.Prelude.{◌≡◌, ◌∷◌, ◌++◌, [], IfOk, IfSome, IfNone, Some, map, option_map};
 ghost use Rattle.proof_cert.specs.Lines.{node_lines, lemma_lines, had_spelled};
@@ -25,7 +25,7 @@ pub(crate) enum Task<'a> {
     End,
 }
 
-/// The line, unless it has no spelling.
+/// The line, if it has a spelling.
 fn if_spelled(size: Size, line: Line) -> Option<Line>
     ensures { option_map (line_value size) result
         ≡ spelled_line size (Some (line_value size line)) }
@@ -37,7 +37,7 @@ fn if_spelled(size: Size, line: Line) -> Option<Line>
     }
 }
 
-/// The line of a colouring that must have occurred, unless it has no spelling in a claim of this version.
+/// The line of a colouring that must have occurred, if it has a spelling in a claim of this version.
 fn had_line(version: Version, size: Size, colouring: &Colouring) -> Option<Line>
     ensures { option_map (line_value size) result
         ≡ spelled_line size (had_spelled (version_number version) colouring.now) }

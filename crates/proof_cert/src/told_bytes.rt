@@ -1,4 +1,4 @@
-//! The bytes that are held and those of a reader, one at a time or a line at once, from a block of fixed size.
+//! The bytes that are held and then those of a reader, one byte or one line at a time, from a block of fixed size.
 
 ghost use Rattle.std.specs.Prelude.{◌≡◌, ◌≤◌, ◌++◌, [], ℕ, length, take, None, IfOk, IfSome, option_map};
 ghost use Rattle.proof_cert.specs.Stage.{line_value};
@@ -10,7 +10,7 @@ use go_points::Size;
 use std::io::Read;
 use std::marker::Model;
 
-/// How many bytes are asked of a reader at once.
+/// How many bytes a reader is asked for at once.
 const BLOCK: usize = 4096;
 
 /// A reader failed.
@@ -25,7 +25,7 @@ struct Rest<'a, R: Read + Drop> {
 }
 
 impl<'a, R: Read + Drop> Rest<'a, R> {
-    /// The next bytes, at the front of the block; so many are there, and none at the end.
+    /// Reads the next bytes into the front of the block. Returns how many there are, which is 0 at the end.
     fn read(&mut self, block: &mut [u8; BLOCK]) -> Result<usize, ReadFailed>
         ensures length { length block.new ≡ 4096 }
         ensures few { IfOk result (λ n. n ≤ 4096) }
@@ -53,7 +53,7 @@ impl<'a, R: Read + Drop> Rest<'a, R> {
     }
 }
 
-/// Bytes that nobody used yet: those of the block from `start` to `end`, and the rest after them.
+/// Bytes that have not been used yet: those of the block from `start` to `end`, and the rest after them.
 #[derive(Drop)]
 pub(crate) struct ToldBytes<'a, R: Read + Drop> {
     rest: Rest<'a, R>,
@@ -88,7 +88,7 @@ impl<'a, R: Read + Drop> ToldBytes<'a, R> {
         }
     }
 
-    /// The next byte; none at the end.
+    /// The next byte. `None` at the end.
     pub(crate) fn next(&mut self) -> Result<Option<u8>, ReadFailed>
         ensures { IfOk result (λ o. IsByte self.old self.new o) }
     {
@@ -108,7 +108,7 @@ impl<'a, R: Read + Drop> ToldBytes<'a, R> {
         Ok(Some(byte))
     }
 
-    /// The next line, where the block has it with its line feed. A line that is spelled as lines are is used.
+    /// The next line, if the block has it with its line feed. If its bytes spell a line, they are used.
     pub(crate) fn whole_line(&mut self, size: Size) -> Option<Option<Line>>
         ensures some { IfSome result
             (λ l. IsRead size self.old self.new (line_answer (option_map (line_value size) l))) }

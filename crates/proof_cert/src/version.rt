@@ -11,7 +11,7 @@ pub enum Version {
 }
 
 impl Version {
-    /// The number that the text has.
+    /// The number of the version in the text.
     pub(crate) fn number(self) -> usize
         ensures { result ≡ version_number self }
     {

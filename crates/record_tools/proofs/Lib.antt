@@ -1,3 +1,2 @@
 pub mod Collection
 pub mod Letters
-pub mod Pages

@@ -1,4 +1,3 @@
 pub mod Games
 pub mod Marked
-pub mod Page
 pub mod Supposed

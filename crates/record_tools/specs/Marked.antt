@@ -10,12 +10,12 @@ use Rattle.tsumego_problem.specs.Walk.{has, has_turn, has_setup}
 abbrev pub unmarked : Node → Node
 unmarked node = without (codes "TR") (without (codes "SQ") node)
 
--- the node without PL, where the marks have it
+-- the node without PL, if the marks have it
 abbrev pub unplayed : Node → Node → Node
 unplayed marks node = if has (codes "PL") marks then without (codes "PL") node else node
 
--- The marks in the node itself; or, where it has a move, beside which PL counts for nothing, or where stones are put up with
--- the marks, in a node after it.
+-- The marks in the node itself; or in a node after it, if it has a move, beside which PL is ignored, or if stones are placed with
+-- the marks.
 abbrev pub marked_here : Node → Node → List Node
 marked_here marks node =
     if has_turn node || has_setup marks then unmarked node ∷ marks ∷ [] else (unplayed marks (unmarked node) ++ marks) ∷ []
@@ -25,23 +25,23 @@ abbrev pub marked_front : Node → List Node → List Node
 marked_front marks [] = []
 marked_front marks (node ∷ nodes) = marked_here marks node ++ nodes
 
--- the nodes of a sequence, of which the one with this number is marked
+-- the nodes of a sequence, in which the one with this number is marked
 abbrev pub marked_nodes : ℕ → Node → List Node → List Node
 marked_nodes k marks nodes = map unmarked (take k nodes) ++ marked_front marks (drop k nodes)
 
--- the child trees, the first of which goes on with the main line; all others stay
+-- the child trees, the first of which continues the main line; all others stay as they are
 abbrev pub marked_forest : ℕ → Node → Forest → Forest
 marked_forest k marks no_tree = no_tree
 marked_forest k marks (tree_then nodes children others) =
     if nat_lt k (length nodes) then tree_then (marked_nodes k marks nodes) children others
     else tree_then (map unmarked nodes) (marked_forest (k - length nodes) marks children) others
 
--- the tree, of whose main line the node with this number is marked
+-- the tree in which the node of the main line with this number is marked
 abbrev pub marked : ℕ → Node → GameTree → GameTree
 marked k marks tree =
     if nat_lt k (length tree.nodes) then record { nodes = marked_nodes k marks tree.nodes; children = tree.children }
     else record { nodes = map unmarked tree.nodes; children = marked_forest (k - length tree.nodes) marks tree.children }
 
--- the tree that was made is another with the marks of a problem at this node of its main line
+-- the new tree is the other one with the marks of a problem at this node of its main line
 abbrev pub IsMarkedRecord : ℕ → GameTree → GameTree → Type 0
 IsMarkedRecord k tree made = (q : GameProblem) × (made ≡ marked k (problem_marks q) tree)

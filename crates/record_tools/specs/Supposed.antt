@@ -1,4 +1,4 @@
--- A record with the marks of a problem for which stones were put up.
+-- A record with the marks of a problem for which stones were placed.
 use Rattle.std.specs.Prelude.{◌≡◌, ℕ, List, ◌++◌, map, codes}
 use Rattle.go_points.specs.Place.{Place}
 use Rattle.go_points.specs.Sgf.{sgf_text}
@@ -7,10 +7,10 @@ use Rattle.target_game.specs.State.{GameProblem}
 use Rattle.tsumego_problem.specs.Canonical.{property, marks as problem_marks}
 use Rattle.record_tools.specs.Marked.{marked}
 
--- AB and AW with these points, each left out where it has none
+-- AB and AW with these points, each left out if it has no points
 abbrev pub stones : List Place → List Place → Node
 stones black white = property (codes "AB") (map sgf_text black) ++ property (codes "AW") (map sgf_text white)
 
--- the tree that was made is another with these stones and the marks of a problem at this node of its main line
+-- the new tree is the other one with these stones and the marks of a problem at this node of its main line
 abbrev pub IsRecordWith : ℕ → List Place → List Place → GameTree → GameTree → Type 0
 IsRecordWith k black white tree made = (q : GameProblem) × (made ≡ marked k (stones black white ++ problem_marks q) tree)

@@ -8,8 +8,8 @@ use crate::parts::{first_tree, part_length, text_after};
 use sgf_text::{SgfFault, Tree, read_tree};
 use std::alloc::Global;
 
-/// The game tree with this number, counted from 0: each is looked for after the end of the one before (SGF FF[4],
-/// Collection). The fault is that of the first tree that cannot be read; after the last tree it is `NoTree`.
+/// The game tree with this number, counted from 0. Each tree is looked for after the end of the one before (SGF FF[4], Collection).
+/// The fault is that of the first tree that cannot be read; after the last tree it is `NoTree`.
 pub(crate) fn game(alloc: Global, text: &[u8], number: usize) -> Result<Tree, SgfFault>
     ensures { IfOk result (λ tree. IsGame number text.now tree) }
 {
@@ -25,8 +25,8 @@ pub(crate) fn game(alloc: Global, text: &[u8], number: usize) -> Result<Tree, Sg
     Ok(tree)
 }
 
-/// The first game tree, and where it ends. Where it was cut off and took the next game for a part of itself, the fault's
-/// place is where that one begins.
+/// The first game tree, and where it ends. If it was cut off and took the next game for a part of itself, the place of the fault is
+/// where that game begins.
 fn whole_tree(alloc: Global, text: &[u8]) -> Result<(Tree, usize), SgfFault>
     ensures found { IfOk result (λ r. Reads text.now r.0 r.1) }
 {

@@ -16,7 +16,7 @@ use tsumego_problem::{has_setup, values_at};
 pub(crate) enum NoMark {
     /// The main line has no node with this number.
     OffTheLine,
-    /// The marks and the node's properties are no node together: a value has a bracket or ends in a backslash.
+    /// The marks and the node's properties do not make a node together: a value has a bracket or ends in a backslash.
     NoNode,
     Memory,
 }
@@ -27,7 +27,7 @@ impl From<AllocError> for NoMark {
     }
 }
 
-/// Puts the properties of the list but those with this name at the end.
+/// Appends the properties of the list except those with this name.
 fn push_without(
     alloc: Global,
     name: &[u8],
@@ -44,7 +44,7 @@ fn push_without(
     Ok(())
 }
 
-/// The properties of the node but TR and SQ.
+/// The properties of the node except TR and SQ.
 fn unmarked_properties(alloc: Global, node: &SgfNode) -> Result<Vec<Property>, AllocError>
     ensures { IfOk result (λ properties. properties.items ≡ unmarked node.now) }
 {
@@ -65,7 +65,7 @@ fn node_with(properties: Vec<Property>) -> Result<SgfNode, NoMark>
     }
 }
 
-/// Puts the node at the end.
+/// Appends the node.
 fn push_node(node: SgfNode, into: &mut Vec<SgfNode>) -> Result<(), NoMark>
     ensures { OnOk result (into.new.items ≡ into.old.items ++ node ∷ []) }
 {
@@ -75,7 +75,7 @@ fn push_node(node: SgfNode, into: &mut Vec<SgfNode>) -> Result<(), NoMark>
     }
 }
 
-/// Puts the nodes without their TR and SQ at the end.
+/// Appends the nodes without their TR and SQ.
 fn push_unmarked(alloc: Global, nodes: &[SgfNode], into: &mut Vec<SgfNode>) -> Result<(), NoMark>
     ensures { OnOk result (into.new.items ≡ into.old.items ++ map unmarked nodes.now) }
 {
@@ -93,7 +93,7 @@ fn has_turn(node: &SgfNode) -> bool
     !values_at(b"B", node).is_empty() || !values_at(b"W", node).is_empty()
 }
 
-/// The properties without PL, where the marks have it.
+/// The properties without PL, if the marks have it.
 fn unplayed(
     alloc: Global,
     properties: Vec<Property>,
@@ -109,8 +109,8 @@ fn unplayed(
     Ok(kept)
 }
 
-/// Puts at the end the node with the marks, which take the place of its own PL; or, where it has a turn or the marks put
-/// stones up, the node and then the marks.
+/// Appends the node with the marks, which replace its own PL; or, if it has a turn or the marks place stones, the node and then the
+/// marks.
 fn push_marked(
     alloc: Global,
     node: &SgfNode,
@@ -129,7 +129,7 @@ fn push_marked(
     push_node(node_with(both)?, into)
 }
 
-/// Puts the properties at the end.
+/// Appends the properties.
 pub(crate) fn push_properties(
     alloc: Global,
     properties: &[Property],
@@ -143,7 +143,7 @@ pub(crate) fn push_properties(
     Ok(())
 }
 
-/// The nodes of a sequence, of which the one with this number is marked.
+/// The nodes of a sequence, in which the one with this number is marked.
 fn mark_nodes(
     alloc: Global,
     nodes: &[SgfNode],
@@ -170,7 +170,7 @@ fn tree_with(nodes: Vec<SgfNode>, children: Vec<Tree>) -> Result<Tree, NoMark>
     }
 }
 
-/// Puts the tree at the end.
+/// Appends the tree.
 fn push_tree(tree: Tree, into: &mut Vec<Tree>) -> Result<(), NoMark>
     ensures { OnOk result (into.new.items ≡ into.old.items ++ tree ∷ []) }
 {
@@ -180,8 +180,8 @@ fn push_tree(tree: Tree, into: &mut Vec<Tree>) -> Result<(), NoMark>
     }
 }
 
-/// The tree, of whose main line the node with this number is marked, and no node before it; all else stays as it is. It
-/// recurses as deep as the main line's trees are nested.
+/// The tree in which the node of the main line with this number is marked, and no node before it. Everything else stays as it is.
+/// It recurses as deep as the main line's trees are nested.
 pub(crate) fn mark_tree(
     alloc: Global,
     tree: &Tree,

@@ -1,17 +1,19 @@
-//! The record whose problem stands where it is asked for.
+//! The record with the problem at the node that is asked for.
 
 ghost use Rattle.std.specs.Prelude.{◌≡◌, IfOk, Ok, Some};
 ghost use Rattle.tsumego_problem.specs.Walk.{problem_within, history_limit};
 ghost use Rattle.record_tools.specs.Marked.{IsMarkedRecord, marked};
 
 use crate::mark::{NoMark, mark_tree};
+use crate::named_points::named_values;
 use crate::region::{proposed_region, whole_chains};
 use go_chains::ChainBoard;
 use go_points::Colour;
 use sgf_text::{Bytes, Property, SgfNode, Tree, Values};
 use std::alloc::{AllocError, Global};
 use target_game::Problem;
-use tsumego_problem::{ProblemFault, all_points, has_setup, marks_node, read_problem};
+use tool_parts::single;
+use tsumego_problem::{ProblemFault, all_points, board_size, has_setup, marks_node, read_problem};
 
 /// Where both sides may play.
 #[derive(Clone, Copy, Debug, PartialEq, Eq)]
@@ -20,16 +22,16 @@ pub(crate) enum Region<'a> {
     Proposed,
     /// The whole board.
     Board,
-    /// Points and rectangles, parted by commas.
+    /// Points and rectangles, separated by commas.
     Points(&'a [u8]),
 }
 
 /// What is asked for.
 #[derive(Clone, Copy, Debug, PartialEq, Eq)]
 pub(crate) struct Marks<'a> {
-    /// The number of a node of the main line; by default the root where it sets stones up, else the main line's last node.
+    /// The number of a node of the main line; by default the root if it sets up stones, otherwise the last node of the main line.
     pub(crate) node: Option<usize>,
-    /// Points of the targets' chains, parted by commas.
+    /// Points of the targets' chains, separated by commas.
     pub(crate) targets: &'a [u8],
     pub(crate) region: Region<'a>,
     /// Who is to move; by default as the record says.
@@ -41,13 +43,17 @@ pub(crate) struct Marks<'a> {
 pub(crate) enum Refusal {
     /// The main line has no such node.
     OffTheLine,
-    /// The marks are none that a record can hold.
+    /// The marks are not such as a record can hold.
     BadMarks,
+    /// The text for the target is not a list of points.
+    BadTarget,
+    /// The text for the region is not a list of points.
+    BadRegion,
     /// With the marks the record has no problem.
     NoProblem(ProblemFault),
     /// The region that is proposed has no point.
     EmptyRegion,
-    /// What is to be shut is no list of points.
+    /// The text for the points to be shut is not a list of points.
     BadShut,
     Memory,
 }
@@ -66,22 +72,6 @@ pub(crate) struct MarkedRecord {
     pub(crate) place: usize,
 }
 
-/// The pieces of a text that commas part.
-fn pieces(alloc: Global, text: &[u8]) -> Result<Vec<Bytes>, AllocError> {
-    let mut found = Vec::new(alloc);
-    let mut piece = Vec::new(alloc);
-    for i in 0..text.len() {
-        if text[i] == b',' {
-            found.push(Bytes::from_vec(piece))?;
-            piece = Vec::new(alloc);
-        } else {
-            piece.push(text[i])?;
-        }
-    }
-    found.push(Bytes::from_vec(piece))?;
-    Ok(found)
-}
-
 /// The property of this name.
 fn property(alloc: Global, name: &[u8], values: Vec<Bytes>) -> Result<Property, AllocError> {
     Ok(Property {
@@ -90,7 +80,7 @@ fn property(alloc: Global, name: &[u8], values: Vec<Bytes>) -> Result<Property, 
     })
 }
 
-/// Puts PL at the end, where it is asked who moves.
+/// Appends PL, if the mover is asked for.
 fn push_mover(
     alloc: Global,
     mover: Option<Colour>,
@@ -101,30 +91,55 @@ fn push_mover(
         Some(Colour::Black) => b"B",
         Some(Colour::White) => b"W",
     };
-    let values = pieces(alloc, name)?;
-    into.push(property(alloc, b"PL", values)?)?;
+    into.push(single(alloc, b"PL", name)?)?;
     Ok(())
 }
 
 /// The node of the marks as they are asked for.
-fn asked_node(alloc: Global, wanted: Marks<'_>) -> Result<SgfNode, Refusal> {
-    match SgfNode::new(asked_properties(alloc, wanted)?) {
+fn asked_node(alloc: Global, tree: &Tree, wanted: Marks<'_>) -> Result<SgfNode, Refusal> {
+    match SgfNode::new(asked_properties(alloc, tree, wanted)?) {
         Some(node) => Ok(node),
         None => Err(Refusal::BadMarks),
     }
 }
 
 /// The properties of the marks as they are asked for.
-fn asked_properties(alloc: Global, wanted: Marks<'_>) -> Result<Vec<Property>, AllocError> {
+fn asked_properties(
+    alloc: Global,
+    tree: &Tree,
+    wanted: Marks<'_>,
+) -> Result<Vec<Property>, Refusal> {
+    let Some(size) = board_size(&tree.nodes()[0]) else {
+        return Err(Refusal::NoProblem(ProblemFault::Size));
+    };
     let mut properties = Vec::new(alloc);
     push_mover(alloc, wanted.mover, &mut properties)?;
-    let targets = pieces(alloc, wanted.targets)?;
-    properties.push(property(alloc, b"TR", targets)?)?;
+    let targets = named_values(alloc, size, wanted.targets)?;
+    push_points(alloc, b"TR", targets, Refusal::BadTarget, &mut properties)?;
     if let Region::Points(points) = wanted.region {
-        let region = pieces(alloc, points)?;
-        properties.push(property(alloc, b"SQ", region)?)?;
+        let region = named_values(alloc, size, points)?;
+        push_points(alloc, b"SQ", region, Refusal::BadRegion, &mut properties)?;
     }
     Ok(properties)
+}
+
+/// Appends the property of this name with these points. If there are no points, it fails with this refusal.
+fn push_points(
+    alloc: Global,
+    name: &[u8],
+    points: Option<Vec<Bytes>>,
+    refusal: Refusal,
+    into: &mut Vec<Property>,
+) -> Result<(), Refusal> {
+    let Some(values) = points else {
+        return Err(refusal);
+    };
+    Ok(push_property(property(alloc, name, values)?, into)?)
+}
+
+fn push_property(property: Property, into: &mut Vec<Property>) -> Result<(), AllocError> {
+    into.push(property)?;
+    Ok(())
 }
 
 /// The number of the main line's last node.
@@ -140,7 +155,7 @@ fn last_of_line(tree: &Tree) -> usize {
     }
 }
 
-/// The node that is marked where none is named: the root where it sets stones up, else the main line's last node.
+/// The node that is marked if none is named: the root if it sets up stones, otherwise the last node of the main line.
 fn default_place(tree: &Tree) -> usize {
     if has_setup(&tree.nodes()[0]) {
         0
@@ -192,7 +207,7 @@ pub(crate) fn asked_problem(
     place: usize,
     wanted: Marks<'_>,
 ) -> Result<Problem, Refusal> {
-    let asked = with_marks(alloc, tree, place, &asked_node(alloc, wanted)?)?;
+    let asked = with_marks(alloc, tree, place, &asked_node(alloc, tree, wanted)?)?;
     problem_of(alloc, &asked)
 }
 
@@ -222,9 +237,9 @@ fn completed(alloc: Global, problem: &Problem, region: Region<'_>) -> Result<Pro
     }
 }
 
-/// The record with the marks that are asked for, at a node of its main line, and none before it; all else stays as it is.
+/// The record with the marks that are asked for at a node of its main line, and no marks before it. Everything else stays as it is.
 ///
-/// The targets are whole chains. What is made is read again: it has a problem.
+/// The targets are whole chains. The new record is read again: it has a problem.
 pub(crate) fn marked_record(
     alloc: Global,
     tree: &Tree,
@@ -237,7 +252,7 @@ pub(crate) fn marked_record(
         Some(place) => place,
         None => default_place(tree),
     };
-    let asked = with_marks(alloc, tree, place, &asked_node(alloc, wanted)?)?;
+    let asked = with_marks(alloc, tree, place, &asked_node(alloc, tree, wanted)?)?;
     let complete = completed(alloc, &problem_of(alloc, &asked)?, wanted.region)?;
     let marks = marks_node(alloc, &complete)?;
     let made = with_marks(alloc, tree, place, &marks)?;

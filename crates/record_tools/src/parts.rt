@@ -1,8 +1,8 @@
-//! Where the games of a file begin, also after one that is broken.
+//! Where the games of a file begin, even after one that is broken.
 //!
-//! A game that is cut off would take the next one for a variation, or for the rest of a comment. But FF[4] has root
-//! properties in roots alone; so a line that begins with a node of which the first property is a root property begins a
-//! game, wherever it stands. Such lines part a file once, from its begin to its end.
+//! A game that is cut off would take the next one for a variation, or for the rest of a comment. But in FF[4] only roots have root
+//! properties, so a line that begins with a node whose first property is a root property begins a game, wherever it is. Such lines
+//! divide a file in one pass, from its beginning to its end.
 
 ghost use Rattle.std.specs.Prelude.{◌≡◌, ◌<◌, ◌≤◌, drop, length};
 
@@ -20,7 +20,7 @@ pub(crate) fn part_length(text: &[u8]) -> usize
     text.len()
 }
 
-/// The place of the first game tree; the length where there is none.
+/// The place of the first game tree, or the length if there is none.
 pub(crate) fn first_tree(text: &[u8]) -> usize
     ensures { result ≤ length text.now }
 {
@@ -59,7 +59,7 @@ fn begins_line(text: &[u8], at: usize) -> bool {
     at == 0 || at <= text.len() && matches!(text[at - 1], b'\n' | b'\r')
 }
 
-/// Whether a game tree begins here whose first property is one that roots alone have.
+/// Whether a game tree begins here whose first property is one that only roots have.
 fn begins_game(text: &[u8], at: usize) -> bool {
     if !begins_tree(text, at) {
         return false;
@@ -71,7 +71,7 @@ fn begins_game(text: &[u8], at: usize) -> bool {
         && begins_value(rest, root.len()))
 }
 
-/// Whether a game tree begins here: a parenthesis, white space or nothing, and a semicolon.
+/// Whether a game tree begins here: a parenthesis and a semicolon, with or without white space between.
 fn begins_tree(text: &[u8], at: usize) -> bool {
     if at >= text.len() || text[at] != b'(' {
         return false;
@@ -80,7 +80,7 @@ fn begins_tree(text: &[u8], at: usize) -> bool {
     place < text.len() && text[place] == b';'
 }
 
-/// Whether a value begins here, after white space or nothing.
+/// Whether a value begins here, with or without white space before it.
 fn begins_value(text: &[u8], at: usize) -> bool {
     let place = after_blanks(text, at);
     place < text.len() && text[place] == b'['

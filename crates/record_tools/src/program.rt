@@ -1,25 +1,27 @@
-//! A run of the program: its words and its input to its answer.
+//! A run of the program: from its words and its input to its answer.
 
-use crate::ascii::ascii;
-use crate::drawing::{NoPicture, View, drawing_of};
+use crate::bare::bare_record;
 use crate::games::game;
-use crate::lines::Cut;
-use crate::marked_record::{Marks, Refusal, Region, marked_record};
-use crate::page::{NoPage, page_of};
+use crate::marked_record::{Marks, Region, marked_record};
+use crate::refusals::{no_mark, no_page, no_picture};
 use crate::split::split_into;
 use crate::supposed_record::{Supposition, supposed_record};
-use crate::svg::svg;
-use crate::told::{tell_region, tell_stones};
-use crate::words::{Request, empty_points, read_request};
+use crate::told::{tell_past, tell_region, tell_stones};
+use crate::words::{PageForm, Request, empty_points, read_request};
+use record_pages::{Cut, page_json, page_of};
+use record_pictures::{Look, View, ascii, drawing_of, svg};
 use sgf_text::{SgfFault, Tree, read_tree};
 use std::alloc::{AllocError, Global};
 use std::convert::AsStr;
 use std::io::{Read, Write};
 use std::rt::Files;
-use tool_parts::{Output, Status, read_whole, without_input, without_request, write_output};
+use target_game::Problem;
+use tool_parts::{
+    Output, Status, read_whole, refused_tree, without_input, without_request, write_output,
+};
 
-/// Runs the program on its words, the first of which is its name. What is said beside the answer goes to `notes`, and the
-/// trees of a file that is taken apart go to `files`.
+/// Runs the program on its words, the first of which is its name. What is said besides the answer goes to `notes`, and the trees of
+/// a file that is split go to `files`.
 pub fn run<S: AsStr, F: Files, R: Read, W: Write, N: Write>(
     alloc: Global,
     files: &F,
@@ -61,7 +63,7 @@ fn output_of<F: Files, N: Write>(
     match request {
         Request::Split { number } => match game(alloc, bytes, number.saturating_sub(1)) {
             Ok(tree) => Ok(Output::Record(tree)),
-            Err(fault) => no_tree(alloc, fault),
+            Err(fault) => refused_tree(alloc, fault),
         },
         Request::SplitInto { folder } => split_into(alloc, files, folder.as_str(), bytes, notes),
         Request::Mark {
@@ -71,6 +73,7 @@ fn output_of<F: Files, N: Write>(
             walls,
             shut,
             mover,
+            is_bare,
         } => {
             let wanted = Marks {
                 node: *node,
@@ -79,19 +82,31 @@ fn output_of<F: Files, N: Write>(
                 mover: *mover,
             };
             match empty_points(region.as_str()) {
-                None => output_marked(alloc, wanted, bytes, notes),
+                None => output_marked(alloc, wanted, *is_bare, bytes, notes),
                 Some(count) => {
                     let supposition = Supposition {
                         count,
                         walls: *walls,
                         shut: shut.as_bytes(),
                     };
-                    output_supposed(alloc, wanted, supposition, bytes, notes)
+                    output_supposed(alloc, wanted, supposition, *is_bare, bytes, notes)
                 }
             }
         }
-        Request::Page(cut) => output_page(alloc, *cut, bytes),
-        Request::Picture { view, ascii } => output_picture(alloc, *view, *ascii, bytes),
+        Request::Page { cut, form } => output_page(alloc, *cut, *form, bytes),
+        Request::Picture {
+            view,
+            look,
+            caption,
+            ascii,
+        } => {
+            let picture = Picture {
+                view: *view,
+                look: *look,
+                is_ascii: *ascii,
+            };
+            output_picture(alloc, picture, caption.as_str(), bytes)
+        }
     }
 }
 
@@ -105,58 +120,89 @@ fn region_named<'a>(word: &'a str) -> Region<'a> {
     }
 }
 
-/// The record of these bytes with the marks, or why there is none. A wide region is told on `notes`.
+/// The record of these bytes with the marks, or why there is none. A wide region is reported on `notes`.
 fn output_marked<N: Write>(
     alloc: Global,
     wanted: Marks<'_>,
+    is_bare: bool,
     bytes: &[u8],
     notes: &mut N,
 ) -> Result<Output, AllocError> {
     let tree = match read_tree(alloc, bytes) {
         Ok((tree, _end)) => tree,
-        Err(fault) => return no_tree(alloc, fault),
+        Err(fault) => return refused_tree(alloc, fault),
     };
     match marked_record(alloc, &tree, wanted) {
         Ok(marked) => {
             tell_region(alloc, &marked.problem, notes)?;
+            if is_bare {
+                return output_bare(alloc, &marked.problem, &tree, notes);
+            }
             Ok(Output::Record(marked.tree))
         }
         Err(refusal) => no_mark(alloc, refusal),
     }
 }
 
-/// The same for a region of so many empty points. Where stones are put up is told on `notes` too.
+/// The record of the problem's position alone. If a position of the game may come back, that is reported on `notes`.
+fn output_bare<N: Write>(
+    alloc: Global,
+    problem: &Problem,
+    titled: &Tree,
+    notes: &mut N,
+) -> Result<Output, AllocError> {
+    match bare_record(alloc, problem, titled) {
+        Ok(bare) => {
+            if bare.is_another {
+                tell_past(notes);
+            }
+            Ok(Output::Record(bare.tree))
+        }
+        Err(refusal) => no_mark(alloc, refusal),
+    }
+}
+
+/// Like `output_marked`, for a region of this many empty points. The places where stones are placed are reported on `notes` too.
 fn output_supposed<N: Write>(
     alloc: Global,
     wanted: Marks<'_>,
     supposition: Supposition<'_>,
+    is_bare: bool,
     bytes: &[u8],
     notes: &mut N,
 ) -> Result<Output, AllocError> {
     let tree = match read_tree(alloc, bytes) {
         Ok((tree, _end)) => tree,
-        Err(fault) => return no_tree(alloc, fault),
+        Err(fault) => return refused_tree(alloc, fault),
     };
     match supposed_record(alloc, &tree, wanted, supposition) {
         Ok(made) => {
             tell_stones(alloc, made.problem.size(), &made.black, &made.white, notes)?;
             tell_region(alloc, &made.problem, notes)?;
+            if is_bare {
+                return output_bare(alloc, &made.problem, &tree, notes);
+            }
             Ok(Output::Record(made.tree))
         }
         Err(refusal) => no_mark(alloc, refusal),
     }
 }
 
-/// The page of the first record of these bytes, with the titles and comments of a second.
-fn output_page(alloc: Global, cut: Cut, bytes: &[u8]) -> Result<Output, AllocError> {
+/// The page of the first record of these bytes, or its data, with the titles and comments of a second.
+fn output_page(
+    alloc: Global,
+    cut: Cut,
+    form: PageForm,
+    bytes: &[u8],
+) -> Result<Output, AllocError> {
     let answer = match game(alloc, bytes, 0) {
         Ok(tree) => tree,
-        Err(fault) => return no_tree(alloc, fault),
+        Err(fault) => return refused_tree(alloc, fault),
     };
     match game(alloc, bytes, 1) {
-        Ok(original) => paged(alloc, &answer, Some(&original), cut),
-        Err(SgfFault::NoTree) => paged(alloc, &answer, None, cut),
-        Err(fault) => no_tree(alloc, fault),
+        Ok(original) => paged(alloc, &answer, Some(&original), cut, form),
+        Err(SgfFault::NoTree) => paged(alloc, &answer, None, cut, form),
+        Err(fault) => refused_tree(alloc, fault),
     }
 }
 
@@ -166,93 +212,49 @@ fn paged(
     answer: &Tree,
     original: Option<&Tree>,
     cut: Cut,
+    form: PageForm,
 ) -> Result<Output, AllocError> {
-    match page_of(alloc, answer, original, cut) {
-        Ok(page) => Ok(Output::Record(page.tree)),
-        Err(refusal) => no_page(alloc, refusal),
+    match form {
+        PageForm::Json => match page_json(alloc, answer, original, cut) {
+            Ok(text) => Ok(Output::Text(text, Status::Answered)),
+            Err(refusal) => no_page(alloc, refusal),
+        },
+        PageForm::Record { keeps_past } => {
+            match page_of(alloc, answer, original, cut, keeps_past) {
+                Ok(page) => Ok(Output::Record(page.tree)),
+                Err(refusal) => no_page(alloc, refusal),
+            }
+        }
     }
+}
+
+/// A picture that is asked for, apart from its caption.
+#[derive(Clone, Copy)]
+struct Picture {
+    view: View,
+    look: Look,
+    is_ascii: bool,
 }
 
 /// The picture of the first record of these bytes, or why there is none.
 fn output_picture(
     alloc: Global,
-    view: View,
-    is_ascii: bool,
+    picture: Picture,
+    caption: &str,
     bytes: &[u8],
 ) -> Result<Output, AllocError> {
     let tree = match read_tree(alloc, bytes) {
         Ok((tree, _end)) => tree,
-        Err(fault) => return no_tree(alloc, fault),
+        Err(fault) => return refused_tree(alloc, fault),
     };
-    let drawing = match drawing_of(alloc, &tree, view) {
+    let drawing = match drawing_of(alloc, &tree, picture.view, caption) {
         Ok(drawing) => drawing,
         Err(refusal) => return no_picture(alloc, refusal),
     };
-    let text = if is_ascii {
+    let text = if picture.is_ascii {
         ascii(alloc, &drawing)?
     } else {
-        svg(alloc, &drawing)?
+        svg(alloc, &drawing, picture.look)?
     };
     Ok(Output::Text(text, Status::Answered))
-}
-
-/// Why no tree was read.
-fn no_tree(alloc: Global, fault: SgfFault) -> Result<Output, AllocError> {
-    if fault == SgfFault::Memory {
-        return Err(AllocError);
-    }
-    refused(format!(in alloc; "refused: {fault}\n")?)
-}
-
-/// A refusal with this text.
-fn refused(text: String) -> Result<Output, AllocError> {
-    Ok(Output::Text(text, Status::Refused))
-}
-
-/// Why no record was made.
-fn no_mark(alloc: Global, refusal: Refusal) -> Result<Output, AllocError> {
-    match refusal {
-        Refusal::Memory => Err(AllocError),
-        Refusal::OffTheLine => off_the_line(alloc),
-        Refusal::BadShut => {
-            refused(format!(in alloc; "refused: what is to be shut is no list of points\n")?)
-        }
-        Refusal::BadMarks => refused(format!(in alloc; "refused: the marks are no points\n")?),
-        Refusal::EmptyRegion => refused(format!(in alloc;
-            "refused: the target can play nowhere, name a region\n"
-        )?),
-        Refusal::NoProblem(fault) => refused(format!(in alloc; "refused: {fault}\n")?),
-    }
-}
-
-fn off_the_line(alloc: Global) -> Result<Output, AllocError> {
-    refused(format!(in alloc; "refused: the main line has no such node\n")?)
-}
-
-/// Why no page was made.
-fn no_page(alloc: Global, refusal: NoPage) -> Result<Output, AllocError> {
-    match refusal {
-        NoPage::Memory => Err(AllocError),
-        NoPage::NoProblem(fault) => refused(format!(in alloc; "refused: {fault}\n")?),
-        NoPage::NoAnswer(fault) => {
-            let text = format!(in alloc; "rejected: {fault}\n")?;
-            Ok(Output::Text(text, Status::Rejected))
-        }
-        NoPage::OtherProblem => refused(format!(in alloc;
-            "refused: the second record has another problem\n"
-        )?),
-        NoPage::NotThePage => refused(format!(in alloc;
-            "refused: the titles, labels or comments do not fit the page\n"
-        )?),
-    }
-}
-
-/// Why no picture was made.
-fn no_picture(alloc: Global, refusal: NoPicture) -> Result<Output, AllocError> {
-    match refusal {
-        NoPicture::Memory => Err(AllocError),
-        NoPicture::BadSize => refused(format!(in alloc; "refused: the board's size is bad\n")?),
-        NoPicture::NoProblemNode => refused(format!(in alloc; "refused: no problem node\n")?),
-        NoPicture::OffTheLine => off_the_line(alloc),
-    }
 }

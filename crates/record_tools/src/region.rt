@@ -78,7 +78,7 @@ fn is_shut_in(board: &ChainBoard, point: Point, set: &PointSet) -> bool
 /// The region that is proposed for targets of this colour: the empty points and the colour's other stones that the
 /// targets reach through such points, and the other colour's chains that have no liberty elsewhere.
 ///
-/// Where the targets are not shut in that is a large part of the board.
+/// If the targets are not shut in, that is a large part of the board.
 pub(crate) fn proposed_region(board: &ChainBoard, colour: Colour, targets: &PointSet) -> PointSet {
     let size = board.size();
     let reached = reached_from(board, colour, targets);

@@ -9,7 +9,7 @@ use std::io::Write;
 use std::rt::Files;
 use tool_parts::{Output, Status, write_record};
 
-/// How far a file has been taken apart.
+/// How far a file has been split.
 #[derive(Drop)]
 struct Progress {
     whole: usize,
@@ -18,8 +18,8 @@ struct Progress {
     failed: Option<String>,
 }
 
-/// Writes the trees of the text as 0001.sgf, 0002.sgf and so on below a folder, in one pass. One that is broken is told on
-/// `notes`, with its number and the byte at which it begins, and the next is looked for after it. No file is written over.
+/// Writes the trees of the text as 0001.sgf, 0002.sgf and so on in a folder, in one pass. A broken tree is reported on `notes`,
+/// with its number and the byte at which it begins, and the next tree is looked for after it. No existing file is overwritten.
 pub(crate) fn split_into<F: Files, N: Write>(
     alloc: Global,
     files: &F,
@@ -105,7 +105,7 @@ fn split_part<F: Files, N: Write>(
     Ok(())
 }
 
-/// Whether the tree is now in a new file. A file that was begun is taken away again.
+/// Writes the tree to a new file, and returns whether it is there now. A file that was only begun is removed again.
 fn write_file<F: Files>(files: &F, path: &str, tree: &sgf_text::Tree) -> bool {
     let Ok(mut file) = File::create_new(files, path) else {
         return false;
@@ -127,7 +127,7 @@ fn moved(fault: SgfFault, begin: usize) -> SgfFault {
     }
 }
 
-/// Tells of a tree that is broken.
+/// Reports a tree that is broken.
 fn tell_broken<N: Write>(
     alloc: Global,
     number: usize,

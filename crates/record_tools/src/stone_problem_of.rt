@@ -13,9 +13,9 @@ use tsumego_problem::{ProblemFault, board_size, read_problem};
 pub enum NoStone {
     /// The main line has no such node.
     OffTheLine,
-    /// The board has no point of that name.
+    /// The board has no point with that name.
     NoPoint,
-    /// Of the record there is no problem with a stone at that point.
+    /// The record gives no problem with a stone at that point.
     NoProblem(ProblemFault),
     Memory,
 }
@@ -38,8 +38,8 @@ fn size_of(tree: &Tree) -> Option<Size> {
     board_size(root)
 }
 
-/// The problem of the stone of this name at the node of the main line with this number; by default at the root where it sets
-/// stones up, else at the main line's last node.
+/// The problem of the stone of this name at the node of the main line with this number; by default at the root if it sets up
+/// stones, otherwise at the last node of the main line.
 pub fn stone_problem(
     alloc: Global,
     tree: &Tree,
@@ -71,7 +71,7 @@ pub fn marked_problem(alloc: Global, tree: &Tree) -> Result<Problem, NoStone> {
     }
 }
 
-/// The same refusal of a stone.
+/// The refusal, as one of a stone.
 fn no_stone(refusal: Refusal) -> NoStone {
     match refusal {
         Refusal::Memory => NoStone::Memory,

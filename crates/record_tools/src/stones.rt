@@ -1,4 +1,4 @@
-//! Properties that put stones up.
+//! Properties that place stones.
 
 ghost use Rattle.std.specs.Prelude.{◌≡◌, ◌++◌, IfOk, OnOk, codes, map};
 ghost use Rattle.go_points.specs.Sgf.{sgf_text};
@@ -28,7 +28,7 @@ fn letters_of(alloc: Global, set: &PointSet) -> Result<Vec<Bytes>, AllocError>
     Ok(values)
 }
 
-/// Puts the property of this name with the points of the set at the end; none where it has no points.
+/// Appends the property of this name with the points of the set, unless it has no points.
 fn push_points(
     alloc: Global,
     name: &[u8],
@@ -48,7 +48,7 @@ fn push_points(
     Ok(())
 }
 
-/// AB and AW of the stones that are put up.
+/// AB and AW of the stones that are placed.
 pub(crate) fn stones(
     alloc: Global,
     black: &PointSet,

@@ -1,4 +1,4 @@
-//! A record with the marks of a problem in which what is outside the region is supposed, by stones that are put up.
+//! A record with the marks of a problem in which something is supposed about what is outside the region, by placing stones there.
 
 ghost use Rattle.std.specs.Prelude.{◌≡◌, ◌++◌, IfOk, Ok, Some};
 ghost use Rattle.tsumego_problem.specs.Walk.{problem_within, history_limit};
@@ -21,12 +21,12 @@ use tsumego_problem::marks_node;
 pub(crate) struct Supposition<'a> {
     pub(crate) count: usize,
     pub(crate) walls: Walls,
-    /// Points outside that are the attacker's, parted by commas.
+    /// Points outside that are the attacker's, separated by commas.
     pub(crate) shut: &'a [u8],
 }
 
-/// The record with its marks, the problem that was marked, the number of the node of the main line that was named, and
-/// where stones were put up.
+/// The record with its marks, the problem that was marked, the number of the node of the main line that was named, and where stones
+/// were placed.
 #[derive(Drop)]
 pub(crate) struct SupposedRecord {
     pub(crate) tree: Tree,
@@ -36,7 +36,7 @@ pub(crate) struct SupposedRecord {
     pub(crate) white: PointSet,
 }
 
-/// What is supposed of the problem's present position, for the first of its targets.
+/// What is supposed about the problem's present position, for the first of its targets.
 fn supposed_of(
     alloc: Global,
     problem: &Problem,
@@ -58,13 +58,13 @@ fn supposed_of(
     Ok(supposed)
 }
 
-/// Puts the colouring at the end.
+/// Appends the colouring.
 fn push_colouring(history: &mut Vec<Colouring>, colouring: Colouring) -> Result<(), AllocError> {
     history.push(colouring)?;
     Ok(())
 }
 
-/// The problem after the stones were put up: its history goes on with the new position, if there is one.
+/// The problem after the stones were placed: its history goes on with the new position, if there is one.
 fn problem_with(alloc: Global, problem: &Problem, supposed: &Supposed) -> Result<Problem, Refusal> {
     let Ok(board) = ChainBoard::from_colouring(&supposed.colouring) else {
         return Err(Refusal::BadMarks);
@@ -85,7 +85,7 @@ fn problem_with(alloc: Global, problem: &Problem, supposed: &Supposed) -> Result
     }
 }
 
-/// Where stones of this colour were put up.
+/// Where stones of this colour were placed.
 fn put_of(supposed: &Supposed, colour: Colour) -> PointSet {
     if supposed.defender == colour {
         supposed.given
@@ -94,7 +94,7 @@ fn put_of(supposed: &Supposed, colour: Colour) -> PointSet {
     }
 }
 
-/// The node with the stones that are put up, and the marks.
+/// The node with the stones that are placed, and the marks.
 fn node_with(
     alloc: Global,
     black: &PointSet,
@@ -111,10 +111,10 @@ fn node_with(
     }
 }
 
-/// The record with the stones that are put up and the marks, at a node of its main line; no node before it is marked, and all
-/// else stays as it is. Where stones are put up they and the marks have a node of their own.
+/// The record with the stones that are placed and the marks, at a node of its main line. No node before it is marked, and
+/// everything else stays as it is. If stones are placed, they and the marks have a node of their own.
 ///
-/// What is made is read again: it has a problem.
+/// The new record is read again: it has a problem.
 pub(crate) fn supposed_record(
     alloc: Global,
     tree: &Tree,

@@ -1,4 +1,4 @@
-//! What is said of a region beside the record.
+//! What is said about a region besides the record.
 
 ghost use Rattle.go_points.specs.Place.{IsOn};
 
@@ -9,7 +9,7 @@ use std::alloc::{AllocError, Global};
 use std::io::Write;
 use target_game::Problem;
 
-/// A region with more empty points than this mostly leaves a problem unknown.
+/// A region with more empty points than this usually leaves a problem unknown.
 const WIDE: usize = 15;
 
 /// How many points of the region are empty.
@@ -26,7 +26,7 @@ fn empty_count(problem: &Problem) -> usize {
     count
 }
 
-/// The first liberty of a target that is not in the region, alone in a set; none where there is no such liberty.
+/// A set with the first liberty of a target that is not in the region, or without points if there is no such liberty.
 fn free_liberty(problem: &Problem) -> PointSet {
     let colouring = problem.colouring();
     let size = colouring.size();
@@ -44,7 +44,7 @@ fn free_liberty(problem: &Problem) -> PointSet {
     free
 }
 
-/// Puts the letter and the number of a point at the end, as diagrams have them.
+/// Appends the letter and the number of a point, as in diagrams.
 fn push_name(text: &mut String, size: Size, point: Point) -> Result<(), AllocError>
     requires { IsOn size point }
 {
@@ -55,7 +55,7 @@ fn push_name(text: &mut String, size: Size, point: Point) -> Result<(), AllocErr
     Ok(())
 }
 
-/// The names of the points, a space before each.
+/// The names of the points, with a space before each.
 fn names_of(alloc: Global, size: Size, set: &PointSet) -> Result<String, AllocError> {
     let mut text = String::new(alloc);
     for number in 0..size.area() {
@@ -68,8 +68,8 @@ fn names_of(alloc: Global, size: Size, set: &PointSet) -> Result<String, AllocEr
     Ok(text)
 }
 
-/// Says on `notes` what hinders an answer: many empty points, and a liberty of a target that no one can fill. That a note
-/// cannot be written counts for nothing.
+/// Says on `notes` what hinders an answer: many empty points, and a liberty of a target that no one can fill. It does not matter if
+/// a note cannot be written.
 pub(crate) fn tell_region<N: Write>(
     alloc: Global,
     problem: &Problem,
@@ -93,7 +93,15 @@ pub(crate) fn tell_region<N: Write>(
     Ok(())
 }
 
-/// Says on `notes` where stones were put up.
+/// Says on `notes` that the position alone asks a different question.
+pub(crate) fn tell_past<N: Write>(notes: &mut N) {
+    let _ = write_bytes(
+        b"problem_tools: play can give a position of the game again, which was barred: without the game the answer may be another\n",
+        notes,
+    );
+}
+
+/// Says on `notes` where stones were placed.
 pub(crate) fn tell_stones<N: Write>(
     alloc: Global,
     size: Size,

@@ -1,20 +1,26 @@
 //! The command line: what the words ask for.
-//!
-//! The words are read by `clap`. Its check is dear, so each part of the grammar has a function of its own.
 
-use crate::drawing::View;
-use crate::lines::Cut;
-use clap::builder::ValueParser;
-use clap::{Arg, ArgAction, ArgMatches};
+use crate::commands::program;
+use clap::ArgMatches;
 use go_points::Colour;
+use record_pages::Cut;
+use record_pictures::{Look, Scheme, Shown, View};
 use regions::Walls;
 use std::alloc::{AllocError, Global};
 use std::convert::AsStr;
 use tool_parts::{NoRequest, no_request};
-use tsumego_version::VERSION;
 
 /// The greatest number of a node or a game: more than a record may have.
-const MOST: u64 = 1_000_000;
+pub(crate) const MOST: u64 = 1_000_000;
+
+/// What is written for a page.
+#[derive(Clone, Copy, Debug, PartialEq, Eq)]
+pub(crate) enum PageForm {
+    /// The data of an interactive page.
+    Json,
+    /// A record, which may keep the game before the problem.
+    Record { keeps_past: bool },
+}
 
 /// What the words ask for.
 #[derive(Drop)]
@@ -32,21 +38,29 @@ pub(crate) enum Request {
         node: Option<usize>,
         targets: String,
         region: String,
-        /// What is supposed outside a region of so many empty points.
+        /// What is supposed outside a region of this many empty points.
         walls: Walls,
         shut: String,
         mover: Option<Colour>,
+        /// Whether only the present position is written.
+        is_bare: bool,
     },
-    /// A reader's copy of a solution record.
-    Page(Cut),
+    /// A reader's copy of a solution record, or the data of an interactive page.
+    Page {
+        cut: Cut,
+        form: PageForm,
+    },
     /// A picture, or a drawing for a terminal.
     Picture {
         view: View,
+        look: Look,
+        /// The text below it; `auto` for what the problem asks.
+        caption: String,
         ascii: bool,
     },
 }
 
-/// What the words ask for, the first of which is the program's name.
+/// What the words ask for. The first word is the program's name.
 pub(crate) fn read_request<'a, S: AsStr>(
     alloc: Global,
     words: &'a [S],
@@ -66,11 +80,8 @@ fn chosen(alloc: Global, matches: &ArgMatches<'_>) -> Result<Request, NoRequest>
     match name {
         "split" => chosen_trees(alloc, given),
         "mark" => chosen_marks(alloc, given),
-        "page" => Ok(Request::Page(Cut {
-            short: number(given, "short").unwrap_or(0),
-            depth: number(given, "depth").unwrap_or(usize::MAX),
-        })),
-        _ => Ok(chosen_picture(given)),
+        "page" => Ok(chosen_page(given)),
+        _ => chosen_picture(alloc, given),
     }
 }
 
@@ -106,20 +117,68 @@ fn chosen_marks(alloc: Global, given: &ArgMatches<'_>) -> Result<Request, NoRequ
         walls,
         shut,
         mover,
+        is_bare: given.get_one::<bool>("bare").unwrap_or(false),
     })
 }
 
+/// The page that is asked for.
+fn chosen_page(given: &ArgMatches<'_>) -> Request {
+    Request::Page {
+        cut: Cut {
+            short: number(given, "short").unwrap_or(0),
+            depth: number(given, "depth").unwrap_or(usize::MAX),
+        },
+        form: chosen_form(given),
+    }
+}
+
+fn chosen_form(given: &ArgMatches<'_>) -> PageForm {
+    if given.get_one::<bool>("json").unwrap_or(false) {
+        return PageForm::Json;
+    }
+    PageForm::Record {
+        keeps_past: given.get_one::<bool>("past").unwrap_or(false),
+    }
+}
+
 /// The picture that is asked for.
-fn chosen_picture(given: &ArgMatches<'_>) -> Request {
+fn chosen_picture(alloc: Global, given: &ArgMatches<'_>) -> Result<Request, NoRequest> {
     let view = View {
         node: number(given, "node"),
         numbers: number(given, "numbers").unwrap_or(0),
-        is_plain: given.get_one::<bool>("plain").unwrap_or(false),
+        marks: chosen_marks_shown(given),
     };
-    Request::Picture {
+    let look = Look {
+        scheme: chosen_scheme(given),
+        is_whole: given.get_one::<bool>("whole").unwrap_or(false),
+    };
+    let caption = text(alloc, given, "caption", "")?;
+    Ok(Request::Picture {
         view,
+        look,
+        caption,
         ascii: given.get_one::<bool>("ascii").unwrap_or(false),
+    })
+}
+
+fn chosen_marks_shown(given: &ArgMatches<'_>) -> Shown {
+    if given.get_one::<bool>("plain").unwrap_or(false) {
+        return Shown::Nothing;
     }
+    if given.get_one::<bool>("no-squares").unwrap_or(false) {
+        return Shown::NoSquares;
+    }
+    Shown::All
+}
+
+fn chosen_scheme(given: &ArgMatches<'_>) -> Scheme {
+    if given.get_one::<bool>("auto").unwrap_or(false) {
+        return Scheme::Reader;
+    }
+    if given.get_one::<bool>("dark").unwrap_or(false) {
+        return Scheme::Dark;
+    }
+    Scheme::Light
 }
 
 /// The number of an argument.
@@ -143,7 +202,7 @@ fn text(
     }
 }
 
-/// How many empty points the region is to have, where the word is a number.
+/// How many empty points the region is to have, if the word is a number.
 pub(crate) fn empty_points(region: &str) -> Option<usize> {
     match region.parse::<u16>() {
         Ok(count) if count > 0 => Some(count as usize),
@@ -162,187 +221,15 @@ fn walls(alloc: Global, given: &ArgMatches<'_>) -> Result<Walls, NoRequest> {
     }
 }
 
-/// Who is to move, where the words say it.
+/// Who is to move, if the words say so.
 fn mover(alloc: Global, given: &ArgMatches<'_>) -> Result<Option<Colour>, NoRequest> {
     let text = text(alloc, given, "to-play", "")?;
     match text.as_str() {
         "" => Ok(None),
-        "B" => Ok(Some(Colour::Black)),
-        "W" => Ok(Some(Colour::White)),
+        "B" | "b" | "black" | "Black" | "BLACK" => Ok(Some(Colour::Black)),
+        "W" | "w" | "white" | "White" | "WHITE" => Ok(Some(Colour::White)),
         _ => Err(NoRequest::Words(format!(in alloc;
             "error: the value of '--to-play' is B or W\n"
         )?)),
     }
-}
-
-/// The program with its subcommands, one of which has to be named.
-fn program<'a>(alloc: Global) -> Result<clap::Command<'a>, AllocError> {
-    let program = clap::Command::new(alloc, "problem_tools")
-        .about("Makes problems of records, read from standard input, and shows them.")
-        .version(VERSION)
-        .subcommand_required(true);
-    let program = with_command(program, split_command(alloc))?;
-    let program = with_command(program, mark_command(alloc))?;
-    let program = with_command(program, page_command(alloc))?;
-    with_command(program, picture_command(alloc))
-}
-
-/// The program with one command more. That a program ends as it should where a command was not made is proved here, once:
-/// each place at which that may happen costs the proof ten seconds.
-fn with_command<'a>(
-    program: clap::Command<'a>,
-    command: Result<clap::Command<'a>, AllocError>,
-) -> Result<clap::Command<'a>, AllocError> {
-    program.subcommand(command?)
-}
-
-fn split_command<'a>(alloc: Global) -> Result<clap::Command<'a>, AllocError> {
-    let split = clap::Command::new(alloc, "split").about(
-        "Writes one of the game trees of a file that holds several, or each of them into a file of its own.",
-    );
-    let split = split.arg(tree_argument(alloc))?;
-    split.arg(folder_argument(alloc))
-}
-
-fn tree_argument<'a>(alloc: Global) -> Arg<'a> {
-    Arg::new(alloc, "N")
-        .help("The number of the tree, from 1")
-        .value_parser(ValueParser::unsigned(1, MOST))
-}
-
-fn folder_argument<'a>(alloc: Global) -> Arg<'a> {
-    Arg::new(alloc, "into")
-        .help("Writes all trees, as 0001.sgf, 0002.sgf and so on, into this folder")
-        .long("into")
-        .value_name("FOLDER")
-}
-
-fn mark_command<'a>(alloc: Global) -> Result<clap::Command<'a>, AllocError> {
-    let mark = clap::Command::new(alloc, "mark").about(
-        "Writes the record with the marks of a problem: TR, SQ and PL.",
-    );
-    let mark = mark.arg(node_argument(alloc))?;
-    let mark = mark.arg(target_argument(alloc))?;
-    let mark = mark.arg(region_argument(alloc))?;
-    let mark = mark.arg(walls_argument(alloc))?;
-    let mark = mark.arg(shut_argument(alloc))?;
-    mark.arg(mover_argument(alloc))
-}
-
-fn node_argument<'a>(alloc: Global) -> Arg<'a> {
-    Arg::new(alloc, "node")
-        .help(
-            "The node of the main line, from 0 [default: the root where it sets up stones, else the last]",
-        )
-        .long("node")
-        .value_name("N")
-        .value_parser(ValueParser::unsigned(0, MOST))
-}
-
-fn target_argument<'a>(alloc: Global) -> Arg<'a> {
-    Arg::new(alloc, "target")
-        .help("Points of the chains that are the target, as aa,cb")
-        .long("target")
-        .value_name("POINTS")
-        .required(true)
-}
-
-fn region_argument<'a>(alloc: Global) -> Arg<'a> {
-    Arg::new(alloc, "region")
-        .help(
-            "Where both sides may play: points and rectangles, as aa,cb:db; the number of empty points, as 9; auto; or board",
-        )
-        .long("region")
-        .value_name("POINTS")
-        .default_value("auto")
-}
-
-fn walls_argument<'a>(alloc: Global) -> Arg<'a> {
-    Arg::new(alloc, "walls")
-        .help(
-            "With a number of empty points: what is supposed outside, by stones that are put up: open, kind, natural, hard, race, given, alone",
-        )
-        .long("walls")
-        .value_name("WORD")
-        .default_value("open")
-}
-
-fn shut_argument<'a>(alloc: Global) -> Arg<'a> {
-    Arg::new(alloc, "shut")
-        .help("With a number of empty points: points outside that are the attacker's too, as F5,G6")
-        .long("shut")
-        .value_name("POINTS")
-}
-
-fn mover_argument<'a>(alloc: Global) -> Arg<'a> {
-    Arg::new(alloc, "to-play")
-        .help("Who is to move, B or W [default: as the record says]")
-        .long("to-play")
-        .value_name("COLOUR")
-}
-
-fn page_command<'a>(alloc: Global) -> Result<clap::Command<'a>, AllocError> {
-    let page = clap::Command::new(alloc, "page").about(
-        "Writes a reader's copy of a solution record. A second record after it, with the same problem, gives titles and comments.",
-    );
-    let page = page.arg(short_argument(alloc))?;
-    page.arg(depth_argument(alloc))
-}
-
-fn short_argument<'a>(alloc: Global) -> Arg<'a> {
-    Arg::new(alloc, "short")
-        .help(
-            "Leaves out replies whose lines end within N turns, but for the first of each branching",
-        )
-        .long("short")
-        .value_name("N")
-        .value_parser(ValueParser::unsigned(0, MOST))
-}
-
-fn depth_argument<'a>(alloc: Global) -> Arg<'a> {
-    Arg::new(alloc, "depth")
-        .help("Shows at most N turns of each line")
-        .long("depth")
-        .value_name("N")
-        .value_parser(ValueParser::unsigned(0, MOST))
-}
-
-fn picture_command<'a>(alloc: Global) -> Result<clap::Command<'a>, AllocError> {
-    let picture = clap::Command::new(alloc, "picture").about(
-        "Writes a picture (SVG) of the problem of a record, or of a node of its main line.",
-    );
-    let picture = picture.arg(pictured_argument(alloc))?;
-    let picture = picture.arg(numbers_argument(alloc))?;
-    let picture = picture.arg(plain_argument(alloc))?;
-    picture.arg(ascii_argument(alloc))
-}
-
-fn pictured_argument<'a>(alloc: Global) -> Arg<'a> {
-    Arg::new(alloc, "node")
-        .help("The node of the main line, from 0 [default: the problem's]")
-        .long("node")
-        .value_name("N")
-        .value_parser(ValueParser::unsigned(0, MOST))
-}
-
-fn numbers_argument<'a>(alloc: Global) -> Arg<'a> {
-    Arg::new(alloc, "numbers")
-        .help("Shows the first N turns after that node too, with their numbers")
-        .long("numbers")
-        .value_name("N")
-        .value_parser(ValueParser::unsigned(0, MOST))
-}
-
-fn plain_argument<'a>(alloc: Global) -> Arg<'a> {
-    Arg::new(alloc, "plain")
-        .help("Leaves marks and labels out")
-        .long("plain")
-        .action(ArgAction::SetTrue)
-}
-
-fn ascii_argument<'a>(alloc: Global) -> Arg<'a> {
-    Arg::new(alloc, "ascii")
-        .help("Draws for a terminal: X, O stones, #, @ targets, + region")
-        .long("ascii")
-        .action(ArgAction::SetTrue)
 }

@@ -1,4 +1,4 @@
--- Stones that are put up outside a region.
+-- Stones that are placed outside a region.
 use Rattle.std.specs.Prelude.{◌≡◌, ℕ, ◌*◌, ◌<◌, Bool, ◌&&◌, not, List, if◌then◌else◌}
 use Rattle.go_points.specs.declared.Colour.{Colour}
 use Rattle.go_points.specs.declared.Cell.{Cell}
@@ -8,7 +8,7 @@ use Rattle.go_points.specs.Place.{Place, place_of}
 use Rattle.go_points.specs.Points.{holds_place}
 use Rattle.regions.specs.declared.supposed.Supposed.{Supposed}
 
--- whether a stone is put up at the point with this number: it is one of the points, not inside, and empty
+-- whether a stone is placed at the point with this number: it is one of the points, not inside, and empty
 abbrev pub is_put : List Place → List Place → List Cell → ℕ → Bool
 is_put inside points before i =
     holds_place points (place_of (side_of before) i) && not (holds_place inside (place_of (side_of before) i)) && same_cell (cell_at before i) Empty
@@ -22,8 +22,8 @@ abbrev pub IsPutUp : List Place → List Place → Colour → List Cell → List
 IsPutUp inside points colour before after =
     (side_of after ≡ side_of before) × ((i : ℕ) → i < side_of before * side_of before → cell_at after i ≡ cell_put inside points colour before i)
 
--- The colouring differs from the given one by stones alone that were put up outside the region: the defender's first, then
--- the attacker's. Where a stone stood it stands, and inside nothing is changed.
+-- The colouring differs from the given one only by stones that were placed outside the region: the defender's first, then the
+-- attacker's. Existing stones stay, and nothing is changed inside.
 abbrev pub IsSupposed : List Cell → Supposed → Type 0
 IsSupposed before s =
     (between : List Cell) × IsPutUp s.inside s.given s.defender before between × IsPutUp s.inside s.walls (opponent_of s.defender) between s.colouring

@@ -18,7 +18,7 @@ pub(crate) fn chain_from(colouring: &Colouring, colour: Colour, point: Point) ->
     let mut left = PointSet::new();
     stones.insert(point);
     left.insert(point);
-    // Each stone is taken from what is left once.
+    // Each stone is taken once from those that are left.
     for _ in 0..MAX_POINTS {
         let Some(stone) = left.first() else {
             break;

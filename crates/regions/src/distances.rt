@@ -10,13 +10,13 @@ use go_points::{Colour, MAX_POINTS, Point, PointSet};
 /// The distance of what cannot be reached.
 pub(crate) const NEVER: u16 = 99;
 
-/// The chain has a liberty inside and one outside.
+/// Whether the chain has a liberty inside and one outside.
 fn is_astride(chain: &Chain, inside: &PointSet) -> bool {
     meet(&chain.liberties, inside) && !is_within(&chain.liberties, inside)
 }
 
-/// The empty points outside at the edge of a set: those beside it, the target's liberties, and those of the defender's
-/// chains that have a liberty in the set and at most so many in all.
+/// The empty points outside at the edge of a set: those beside it, the target's liberties, and those of the defender's chains that
+/// have a liberty in the set and at most `weak` in all.
 pub(crate) fn rim(position: &Position, target: &Chain, inside: &PointSet, weak: usize) -> PointSet {
     let mut edge = without(&target.liberties, inside);
     for point in inside.iter() {
@@ -67,8 +67,8 @@ pub(crate) fn friends_moves(position: &Position, target: &Chain, inside: &PointS
     moves
 }
 
-/// In how many moves each empty point outside the set is reached by steps through such points, from these first ones; 0
-/// where it is not.
+/// In how many moves each empty point outside the set is reached from these first moves, by steps through such points; 0 if it is
+/// not reached.
 pub(crate) fn moves_to(position: &Position, inside: &PointSet, first: &PointSet) -> PointMap {
     let mut map = PointMap::new();
     let mut wave = *first;
@@ -92,8 +92,8 @@ pub(crate) fn moves_to(position: &Position, inside: &PointSet, first: &PointSet)
     map
 }
 
-/// In how many moves of its own the group can stand on each empty point, inside too; its chains on the way cost nothing; 0
-/// where it cannot.
+/// In how many moves of its own the group can have a stone on each empty point, including those inside; its own chains on the way
+/// cost nothing; 0 if it cannot.
 pub(crate) fn groups_moves(position: &Position, target: &Chain) -> PointMap {
     let mut map = PointMap::new();
     let mut joined = target.stones;
@@ -126,7 +126,7 @@ fn unknown(set: &PointSet, map: &PointMap) -> PointSet {
     rest
 }
 
-/// Puts what a group at the point reaches by one move more into the set, through chains that it had not joined.
+/// Adds to the set what a group at the point reaches with one more move, through chains that it had not joined.
 fn add_next(
     position: &Position,
     defender: Colour,
@@ -147,10 +147,10 @@ fn add_next(
     }
 }
 
-/// The number, or that of what is never reached.
+/// The number, or `NEVER` for what is never reached.
 pub(crate) fn or_never(number: u16) -> u16 {
     if number == 0 { NEVER } else { number }
 }
 
-/// More than any chain has liberties.
+/// More liberties than any chain has.
 pub(crate) const ANY: usize = MAX_POINTS;

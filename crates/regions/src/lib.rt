@@ -1,4 +1,4 @@
-//! Regions for a target: in which order points come in, and what is supposed of the points outside, by stones that are put up.
+//! Regions for a target: the order in which points come in, and what is supposed about the points outside, by placing stones there.
 #![tactic(auto)]
 
 mod chain;

@@ -2,10 +2,13 @@
 
 use go_points::{Point, PointSet, Size, Vertex, gtp_vertex, sgf_point};
 
-/// The point that the text names: two letters as in SGF (`dc`), or a letter and a number as on diagrams (`D17`).
+/// The point that the text names: two letters as in SGF (`dc`), or a letter and a number as on diagrams (`D17`), in any case.
 pub fn named_point(size: Size, text: &[u8]) -> Option<Point> {
-    if let Some(point) = sgf_point(size, text) {
-        return Some(point);
+    if let [column, row] = text {
+        let letters = [column.to_ascii_lowercase(), row.to_ascii_lowercase()];
+        if let Some(point) = sgf_point(size, &letters) {
+            return Some(point);
+        }
     }
     match gtp_vertex(text) {
         Some(Vertex::At { column, row }) => {
@@ -16,7 +19,7 @@ pub fn named_point(size: Size, text: &[u8]) -> Option<Point> {
     }
 }
 
-/// The points of a text that commas part; `None` where one of its parts names none. An empty text has no points.
+/// The points that a text names, separated by commas. `None` if one of its parts names none. An empty text has no points.
 pub fn named_set(size: Size, text: &[u8]) -> Option<PointSet> {
     let mut set = PointSet::new();
     if text.is_empty() {
@@ -33,7 +36,7 @@ pub fn named_set(size: Size, text: &[u8]) -> Option<PointSet> {
     Some(set)
 }
 
-/// The part of the text from one place to another; nothing where there is none.
+/// The part of the text from one place to another; empty if there is no such part.
 fn part<'a>(text: &'a [u8], from: usize, end: usize) -> &'a [u8] {
     text.get(from..end).unwrap_or(b"")
 }

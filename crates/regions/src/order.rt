@@ -1,7 +1,7 @@
-//! The order in which empty points come into the region of a target: one walk from the target, the cheapest first.
+//! The order in which empty points come into the region of a target: one walk from the target, cheapest points first.
 //!
-//! Points inside the target's own shape cost least, those along a wall of the attacker most. Weak chains of the attacker,
-//! which the target may take, are walked through with their liberties; strong ones end the walk.
+//! Points inside the target's own shape cost least, and those along a wall of the attacker most. The walk goes through weak chains
+//! of the attacker, which the target may take, and their liberties; strong chains end it.
 
 use crate::chain::Chain;
 use crate::place::{edges, neighbours};
@@ -13,10 +13,10 @@ use std::alloc::{AllocError, Global};
 /// A chain of the attacker with more liberties than this is a wall.
 const WEAK: usize = 3;
 
-/// All costs are less than this, so as many buckets, which take turns, hold all that is due.
+/// All costs are less than this, so this many buckets, used in turn, hold everything that is due.
 const BUCKETS: usize = 6;
 
-/// No distance is greater: each point of the widest board at the greatest cost.
+/// No distance is greater: this is each point of the widest board at the greatest cost.
 const FARTHEST: u16 = 3_200;
 
 /// The empty points that the target reaches, the likeliest to matter first.
@@ -26,8 +26,8 @@ pub struct Order {
 }
 
 impl Order {
-    /// The order for the target at this point: by distance, then those that touch most stones and edges first, then by row
-    /// and column. The barred points are never entered. Only memory is refused.
+    /// The order for the target at this point: by distance, then by how many stones and edges a point touches (most first), then by
+    /// row and column. The barred points are never entered. It fails only if memory is refused.
     pub fn new(
         alloc: Global,
         position: &Position,
@@ -54,7 +54,7 @@ impl Order {
         self.points.len()
     }
 
-    /// The first so many of them.
+    /// The first `count` of them.
     pub fn first(&self, count: usize) -> PointSet {
         let mut set = PointSet::new();
         for i in 0..self.points.len().min(count) {
@@ -64,7 +64,7 @@ impl Order {
     }
 }
 
-/// Puts the points at the end, those that touch most stones and edges first.
+/// Appends the points, with those that touch most stones and edges first.
 fn push_by_touch(
     position: &Position,
     set: &PointSet,
@@ -92,7 +92,7 @@ fn touched(position: &Position, point: Point) -> usize {
     count
 }
 
-/// What it costs to enter a chain; none where it is never entered.
+/// What it costs to enter a chain. `None` if it is never entered.
 fn chain_cost(chain: &Chain, defender: Colour) -> Option<u16> {
     let liberties = chain.liberties.len();
     if chain.colour == defender {
@@ -128,7 +128,7 @@ fn point_cost(position: &Position, defender: Colour, point: Point) -> u16 {
     cost_among(walls, friends, edges(size, point))
 }
 
-/// The cost of a point beside so many stones of walls, stones of the defender, and edges.
+/// The cost of a point with this many stones of walls, stones of the defender, and edges beside it.
 fn cost_among(walls: usize, friends: usize, edges: usize) -> u16 {
     if walls > 0 && friends == 0 {
         // Behind or along the wall.
@@ -144,7 +144,7 @@ fn cost_among(walls: usize, friends: usize, edges: usize) -> u16 {
     }
 }
 
-/// The walk so far. A chain stands for its first stone.
+/// The walk so far. A chain is represented by its first stone.
 #[derive(Clone, Copy, Debug)]
 struct Walk {
     defender: Colour,
@@ -180,7 +180,7 @@ impl Walk {
         true
     }
 
-    /// Notes that the point, or the chain of this first stone, is reached at this distance, unless it is reached sooner.
+    /// Notes that the point, or the chain with this first stone, is reached at this distance, unless it is reached sooner.
     fn offer(&mut self, place: Point, distance: u16) {
         let after = distance.saturating_add(1);
         let known = self.distances.get(place);
@@ -204,7 +204,7 @@ impl Walk {
         Some(place)
     }
 
-    /// Goes on from all that is reached at this distance. The answer has the empty points of it.
+    /// Goes on from everything that is reached at this distance, and returns the empty points among it.
     fn settle(&mut self, position: &Position, distance: u16) -> PointSet {
         let mut reached = PointSet::new();
         // No place is due twice at one distance.
@@ -212,7 +212,7 @@ impl Walk {
             let Some(place) = self.take(distance) else {
                 break;
             };
-            // What was reached sooner in the meantime has been gone on from.
+            // A place that was reached sooner in the meantime has already been handled.
             if self.distances.get(place) == distance.saturating_add(1) {
                 if position.is_empty_at(place) {
                     reached.insert(place);

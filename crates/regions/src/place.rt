@@ -1,9 +1,9 @@
-//! Points of a board, whatever point is asked for.
+//! Points of a board, for any point that is asked for.
 
 use arrayvec::ArrayVec;
 use go_points::{Cell, Colouring, Point, Size};
 
-/// The adjacent points; none where the board does not have the point.
+/// The adjacent points; there are none if the board does not have the point.
 pub(crate) fn neighbours(size: Size, point: Point) -> ArrayVec<Point, 4> {
     if size.holds(point) {
         point.neighbours(size)
@@ -12,7 +12,7 @@ pub(crate) fn neighbours(size: Size, point: Point) -> ArrayVec<Point, 4> {
     }
 }
 
-/// What the point holds; nothing where the board does not have it.
+/// What the point holds; `Empty` if the board does not have it.
 pub(crate) fn cell_at(colouring: &Colouring, point: Point) -> Cell {
     let size = colouring.size();
     if size.holds(point) {

@@ -13,12 +13,12 @@ use std::alloc::{AllocError, Global};
 pub struct Position {
     colouring: Colouring,
     chains: Vec<Chain>,
-    /// One more than the number of the chain of each stone.
+    /// For each stone, one more than the number of its chain.
     numbers: PointMap,
 }
 
 impl Position {
-    /// The chains of the colouring. Only memory is refused.
+    /// The colouring with its chains. It fails only if memory is refused.
     pub fn new(alloc: Global, colouring: &Colouring) -> Result<Position, AllocError>
         ensures { IfOk result (λ p. p.colouring ≡ colouring.now) }
     {
@@ -70,7 +70,7 @@ impl Position {
         self.chains.get(number.checked_sub(1)?)
     }
 
-    /// The stones of the chain at the point; none at an empty point.
+    /// The stones of the chain at the point. There are none at an empty point.
     pub fn stones(&self, point: Point) -> PointSet {
         match self.chain_at(point) {
             Some(chain) => chain.stones,
@@ -78,7 +78,7 @@ impl Position {
         }
     }
 
-    /// The liberties of the chain at the point; none at an empty point.
+    /// The liberties of the chain at the point. There are none at an empty point.
     pub fn liberties(&self, point: Point) -> PointSet {
         match self.chain_at(point) {
             Some(chain) => chain.liberties,

@@ -1,4 +1,4 @@
-//! Stones that are put up.
+//! Placing stones outside a region.
 
 ghost use Rattle.std.specs.Prelude.{◌≡◌, ◌*◌, ◌<◌, ◌&&◌, not, IfOk};
 ghost use Rattle.go_points.specs.Grid.{side_of};
@@ -10,14 +10,14 @@ use crate::sets::common;
 use go_points::{Cell, Colour, Colouring, MAX_POINTS, PointSet};
 use std::alloc::{AllocError, Global};
 
-/// A position with stones that were put up, and where.
+/// A position with stones that were placed, and where they are.
 #[derive(Drop)]
 pub(crate) struct PutUp {
     pub(crate) position: Position,
     pub(crate) points: PointSet,
 }
 
-/// Whether a stone is put up at the point with this number.
+/// Whether a stone is placed at the point with this number.
 fn is_put(before: &Colouring, inside: &PointSet, points: &PointSet, number: usize) -> bool
     requires { number < side_of before.now * side_of before.now }
     ensures { result ≡ is_put inside.now points.now before.now number }
@@ -63,8 +63,8 @@ fn with_stones(
     after
 }
 
-/// The position with stones of this colour at the points, less those that would leave a chain without a liberty: while there
-/// is such a chain the stones put up that belong to it are taken back, or, if none does, those beside it.
+/// The position with stones of this colour at the points, without those that would leave a chain without a liberty: while there is
+/// such a chain, the placed stones that belong to it are taken back, or, if there are none, those beside it.
 pub(crate) fn put_up(
     alloc: Global,
     before: &Colouring,
@@ -92,7 +92,7 @@ pub(crate) fn put_up(
     })
 }
 
-/// The points but for those to be taken back.
+/// The points without those to be taken back.
 fn taken_back(position: &Position, points: &PointSet) -> PointSet {
     let mut left = *points;
     for chain in position.chains() {
@@ -108,14 +108,14 @@ fn taken_back(position: &Position, points: &PointSet) -> PointSet {
     left
 }
 
-/// Takes the points out of the set.
+/// Removes the points from the set.
 fn take(points: &PointSet, set: &mut PointSet) {
     for point in points.iter() {
         set.remove(point);
     }
 }
 
-/// Takes the points beside these stones out of the set.
+/// Removes the points beside these stones from the set.
 fn take_beside(position: &Position, stones: &PointSet, set: &mut PointSet) {
     for stone in stones.iter() {
         for near in neighbours(position.size(), stone) {

@@ -1,8 +1,8 @@
-//! Sets of points together.
+//! Operations on two sets of points.
 
 use go_points::PointSet;
 
-/// Puts all points of the second set into the first.
+/// Adds all points of the second set to the first.
 pub(crate) fn add_all(into: &mut PointSet, more: &PointSet) {
     for point in more.iter() {
         into.insert(point);
@@ -20,7 +20,7 @@ pub(crate) fn without(set: &PointSet, other: &PointSet) -> PointSet {
     rest
 }
 
-/// The points that both sets have.
+/// The points that are in both sets.
 pub(crate) fn common(set: &PointSet, other: &PointSet) -> PointSet {
     let mut both = PointSet::new();
     for point in set.iter() {

@@ -1,4 +1,4 @@
-//! A position in which what is outside a region is supposed.
+//! A position in which something is supposed about what is outside a region.
 
 ghost use Rattle.std.specs.Prelude.{IfOk, IfSome};
 ghost use Rattle.regions.specs.PutUp.{IsSupposed};
@@ -12,27 +12,27 @@ use crate::walls::{Edge, Walls, edge_of, given_points};
 use go_points::{Colour, Colouring, Point, PointSet};
 use std::alloc::{AllocError, Global};
 
-/// A position with stones that were put up outside a region, and the region.
+/// A position with stones that were placed outside a region, and the region.
 #[derive(Clone, Copy, Debug)]
 pub struct Supposed {
     pub colouring: Colouring,
     pub defender: Colour,
     /// The empty points of the region.
     pub inside: PointSet,
-    /// These, and the stones that can be taken.
+    /// The empty points of the region, and the stones that can be taken.
     pub region: PointSet,
-    /// Where stones of the defender were put up.
+    /// Where stones of the defender were placed.
     pub given: PointSet,
-    /// Where stones of the attacker were put up.
+    /// Where stones of the attacker were placed.
     pub walls: PointSet,
-    /// Points at the edge where nobody's stone was put up, where they are looked for.
+    /// Points at the edge where no stone was placed, if they are looked for.
     pub ways_out: PointSet,
 }
 
-/// The position with so many of the first empty points inside, and with these walls; what is shut is the attacker's too. `None`
-/// where there is no stone at the target. Only memory is refused.
+/// The position with the first `count` empty points inside, and with these walls; what is shut is the attacker's too. `None` if
+/// there is no stone at the target. It fails only if memory is refused.
 ///
-/// Where nothing is supposed that hinders the target from getting out its liberties are inside: it could not be taken else.
+/// If nothing is supposed that keeps the target from getting out, its liberties are inside, since otherwise it could not be taken.
 pub fn suppose(
     alloc: Global,
     position: &Position,
@@ -105,7 +105,7 @@ fn still_empty(position: &Position, set: &PointSet) -> PointSet {
 }
 
 /// The empty points inside, and every stone of each chain, of either colour, that has no liberty elsewhere: such chains can be
-/// taken, and then their points be played at.
+/// taken, and then their points can be played at.
 fn region_of(position: &Position, inside: &PointSet) -> PointSet {
     let mut region = *inside;
     for chain in position.chains() {

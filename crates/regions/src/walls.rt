@@ -1,4 +1,4 @@
-//! Where stones are put up outside a region, and whose.
+//! Where stones are placed outside a region, and of which side.
 
 use crate::chain::Chain;
 use crate::distances::{
@@ -9,22 +9,22 @@ use crate::sets::{add_all, meet, without};
 use go_chains::ChainBoard;
 use go_points::{Colour, Point, PointSet};
 
-/// What is supposed of the points outside a region.
+/// What is supposed about the points outside a region.
 #[derive(Clone, Copy, Debug, PartialEq, Eq)]
 pub enum Walls {
-    /// Nothing: no stone is put up.
+    /// Nothing: no stone is placed.
     Open,
-    /// Weak walls fall: the defender has the outside liberties of each that has at most three.
+    /// Weak walls fall: the defender gets the outside liberties of each wall that has at most three.
     Kind,
-    /// The attacker has the points of the edge that it is nearer to.
+    /// The attacker gets the points of the edge that it is nearer to.
     Natural,
     /// The defender is shut in, and cut off from every friend.
     Hard,
-    /// The attacker has the points of the edge where it is no later than the group; walls that cannot get away fall.
+    /// The attacker gets the points of the edge that it reaches no later than the group; walls that cannot get away fall.
     Race,
-    /// The same, and all walls with one or two liberties outside fall.
+    /// Like `Race`, but all walls with one or two liberties outside fall.
     Given,
-    /// The same with no friend that helps and no wall that falls, and with the points that are named shut.
+    /// Like `Race`, with no friend that helps and no wall that falls, and with the named points shut.
     Alone,
 }
 
@@ -65,7 +65,7 @@ pub(crate) const FRIEND: usize = 4;
 pub(crate) struct Edge {
     /// Where the attacker stands.
     pub(crate) held: PointSet,
-    /// Where nobody does.
+    /// Where nobody stands.
     pub(crate) ways_out: PointSet,
 }
 
@@ -85,7 +85,7 @@ pub(crate) fn edge_of(
     }
 }
 
-/// These points, and no way out that is looked for.
+/// An edge with these points held and no ways out looked for.
 fn held(points: PointSet) -> Edge {
     Edge {
         held: points,
@@ -109,7 +109,7 @@ fn natural(position: &Position, target: &Chain, inside: &PointSet) -> PointSet {
     held
 }
 
-/// The points of the edge where the attacker is no later than the group, and the others, which are ways out.
+/// The points of the edge that the attacker reaches no later than the group, and the others, which are ways out.
 pub(crate) fn race(position: &Position, target: &Chain, inside: &PointSet, friend: usize) -> Edge {
     let attackers = attackers_moves(position, target.colour, inside);
     let attacker = moves_to(position, inside, &attackers);
@@ -142,8 +142,8 @@ pub(crate) fn given_points(
     }
 }
 
-/// The outside liberties of the walls that fall: chains of the attacker with a liberty inside and 1 to `most` outside, which,
-/// put out at any of these, would have at most `gain` outside.
+/// The outside liberties of the walls that fall: chains of the attacker with a liberty inside and 1 to `most` outside which,
+/// extended at any of the outside ones, would have at most `gain` outside.
 fn falling(
     position: &Position,
     defender: Colour,

@@ -13,7 +13,7 @@ use std::alloc::{AllocError, Global};
 /// How many empty points such a question has.
 const POINTS: usize = 6;
 
-/// The colouring after a move at the point, where its stone stands there afterwards.
+/// The colouring after a move at the point, if its stone is there afterwards.
 fn after_move(before: &Colouring, colour: Colour, point: Point) -> Option<Colouring> {
     let Ok(mut board) = ChainBoard::from_colouring(before) else {
         return None;
@@ -28,8 +28,8 @@ fn after_move(before: &Colouring, colour: Colour, point: Point) -> Option<Colour
     }
 }
 
-/// The question whether a stone of the defender that has got out to the point can be taken, the attacker to move. What is
-/// inside gives it nothing. `None` where no stone could stand there.
+/// The question whether a stone of the defender that has got out to the point can be taken, with the attacker to move. What is
+/// inside gives it no help. `None` if no stone could be there.
 pub fn out_there(
     alloc: Global,
     before: &Colouring,

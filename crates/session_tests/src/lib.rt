@@ -1,4 +1,4 @@
-//! Tests of sessions of GTP. They call what the crate of sessions makes public.
+//! Tests of GTP sessions. They use only the public calls of the crate of sessions.
 #![tactic(auto)]
 
 #[cfg(test)]

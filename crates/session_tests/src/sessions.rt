@@ -8,7 +8,7 @@ use std::io;
 use std::io::{ErrorKind, Read, Write};
 use std::process::Abort;
 
-// Gives a text in pieces of so many bytes, and then fails, or has ended.
+// Gives a text in pieces of a fixed number of bytes, and then fails or ends.
 #[derive(Drop)]
 struct Pieces<'a> {
     left: &'a [u8],
@@ -33,7 +33,7 @@ impl<'a> Read for Pieces<'a> {
     }
 }
 
-// Takes so many bytes, and then fails; it counts how often it was flushed.
+// Takes a fixed number of bytes, and then fails. It counts how often it was flushed.
 #[derive(Drop)]
 struct Full {
     room: usize,
@@ -60,7 +60,7 @@ impl Write for Full {
     }
 }
 
-// For this input the session writes these replies, however the input is cut.
+// Expects the session to write these replies for this input, however the input is cut.
 fn answers(rt: &impl Abort, alloc: Global, input: &[u8], wanted: &str) {
     for piece in [1, 2, 7, 4_096] {
         let mut reader = Pieces {
@@ -120,7 +120,7 @@ fn add(rt: &impl Abort, text: &mut String, part: &str) {
     text.push_str(part).expect(rt, "memory");
 }
 
-// One stone at a vertex of the board, taken back again.
+// Adds the commands for one stone at a vertex of the board that is taken back again.
 fn add_stone(rt: &impl Abort, input: &mut String, column: usize, row: usize) {
     let letter = LETTERS.as_bytes().get(column).expect(rt, "a column");
     add(rt, input, "play w ");
@@ -149,7 +149,7 @@ fn the_upper_right_corner_of_the_widest_board(rt: HostRuntime) {
     );
 }
 
-// On one point a stone has no liberty.
+// On a board of one point, a stone has no liberty.
 #[test]
 fn a_stone_at_every_vertex_of_every_board(rt: HostRuntime) {
     answers(
@@ -262,7 +262,29 @@ fn passes_count(rt: HostRuntime) {
     );
 }
 
-// A line of so many bytes, and then another.
+// In a region without an empty point both sides can only pass, so the target stays.
+#[test]
+fn a_question_that_is_asked_again(rt: HostRuntime) {
+    answers(
+        &rt,
+        rt.alloc(),
+        b"boardsize 3\nplay b a2\nplay w a3\ntsu-target a3\ntsu-region a2\ntsu-solve b\ntsu-solve b\ntsu-solve w\ntsu-solve w\ntsu-solve b\nplay w a2\ntsu-within 1\ntsu-within 2\ntsu-solve b\n",
+        "=\n\n=\n\n=\n\n=\n\n=\n\n= loss\n\n= loss\n\n= win pass\n\n= win pass\n\n= loss\n\n? illegal move\n\n= neither\n\n= wins White\n\n= loss\n\n",
+    );
+}
+
+// Between each two questions something changes, so the answer to one is not the answer to the next.
+#[test]
+fn a_question_after_each_change_of_the_problem(rt: HostRuntime) {
+    answers(
+        &rt,
+        rt.alloc(),
+        b"boardsize 3\nplay b a2\nplay w a3\ntsu-target a3\ntsu-region b3\ntsu-solve w\ntsu-region a2\ntsu-solve w\ntsu-region b3\ntsu-solve w\ntsu-target a2\ntsu-solve w\ntsu-target a3\nplay w b3\ntsu-solve w\nundo\ntsu-solve w\ngenmove w\ntsu-solve w\nclear_board\ntsu-solve w\n",
+        "=\n\n=\n\n=\n\n=\n\n=\n\n= win B3\n\n=\n\n= win pass\n\n=\n\n= win B3\n\n=\n\n= loss\n\n=\n\n=\n\n= win pass\n\n=\n\n= win B3\n\n= B3\n\n= win pass\n\n=\n\n? no problem\n\n",
+    );
+}
+
+// A line of this many bytes, and then another.
 fn long_line(rt: &impl Abort, alloc: Global, length: usize, wanted: &str) {
     let mut input = Vec::new(alloc);
     input.extend_from_slice(b"name #").expect(rt, "memory");

@@ -11,7 +11,7 @@ use std::alloc::Global;
 use std::rt::Files;
 use std::{fs, io};
 
-/// The files, which lie where the program runs.
+/// The files, which are in the folder where the program runs.
 const NAMES: [&str; 6] = [
     "game.sgf",
     "latin.sgf",
@@ -28,7 +28,7 @@ fn main(rt: HostRuntime) -> io::Result<()> {
     Ok(())
 }
 
-/// Prints what comes of one file.
+/// Prints the outcome for one file.
 fn report<R: Files + Print + AllocGlobal>(rt: &R, name: &str) -> io::Result<()> {
     let text = fs::read(rt, name)?;
     match written_twice(rt.alloc(), text.as_slice()) {
@@ -45,7 +45,7 @@ fn written_twice(alloc: Global, text: &[u8]) -> Result<(usize, bool), SgfFault> 
     Ok((once.len(), once == twice))
 }
 
-/// The text of the first tree. Writing to memory fails only where there is no memory.
+/// The text of the first tree. Writing to memory fails only if memory runs out.
 fn rewritten(alloc: Global, text: &[u8]) -> Result<Vec<u8>, SgfFault>
     ensures { IfOk result (λ out. (tree : GameTree) × (n : ℕ) × Reads text.now tree n
         × (out.items ≡ tree_text tree)) }

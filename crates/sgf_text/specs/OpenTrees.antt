@@ -1,5 +1,5 @@
--- What a reader of trees holds between two bytes, and what each byte does to it. These are words of private functions:
--- no public contract rests on them.
+-- What a reader of trees holds between two bytes, and what each byte does to it. These definitions are for private functions: no
+-- public contract rests on them.
 use Rattle.std.specs.Prelude.{◌≡◌, ◌≢◌, ℕ, ◌+◌, Bool, true, false, List, [], ◌∷◌, ◌++◌, length, map, nat_lt, position, IsTrue, Option, Some, None, Result, Ok, Err}
 use Rattle.std.specs.List.{list_all}
 use Rattle.std.specs.Str.{bytes_eq}
@@ -19,7 +19,7 @@ use Rattle.sgf_text.specs.Trees.{Node, Forest, no_tree, tree_then, GameTree}
 use Rattle.sgf_text.specs.Text.{is_tree, is_forest}
 use Rattle.sgf_text.specs.Followers.{depth_limit, node_limit}
 
--- the values go to the property of this name, which is put at the end where there is none
+-- the values go to the property of this name, which is appended if there is none
 abbrev pub added : List Property → List ℕ → List (List ℕ) → List Property
 added [] name values = record { ident = name; values = values } ∷ []
 added (p ∷ ps) name values = elim (is_named name p) [
@@ -96,7 +96,7 @@ led state s c o = o
 abbrev pub node_pushed : Parser → Parser
 node_pushed o = record { state = o.state; word = o.word; ident = o.ident; values = o.values; properties = []; tree = with_node o.tree o.properties; outer = o.outer; nodes = o.nodes }
 
--- the open node has ended, where one is open in the state
+-- the open node has ended, if one is open in the state
 abbrev pub node_ended : ParserState → Parser → Parser
 node_ended AfterSemicolon o = node_pushed o
 node_ended AfterValue o = node_pushed (property_ended o)

@@ -19,7 +19,7 @@ pub enum Sign {
     Other,
 }
 
-/// What was read last, white space aside.
+/// What was read last, apart from white space.
 #[derive(Clone, Copy, Debug, PartialEq, Eq)]
 pub enum ParserState {
     AfterOpen,
@@ -33,7 +33,7 @@ pub enum ParserState {
     AfterChild,
 }
 
-/// What a byte does in a state: it opens a tree, begins a node, closes a tree, leads on, or is no follower.
+/// What a byte does in a state: it opens a tree, begins a node, closes a tree, leads on, or is not allowed.
 #[derive(Clone, Copy, Debug, PartialEq, Eq)]
 pub enum Transition {
     Opens,
@@ -61,7 +61,7 @@ pub fn sign_of(byte: u8) -> Sign
     }
 }
 
-/// What may stand after the ";" of a node or after a value: a letter, ";", "(" or ")".
+/// What may come after the ";" of a node or after a value: a letter, ";", "(" or ")".
 fn part(sign: Sign) -> Transition
     ensures { result ≡ part sign }
 {

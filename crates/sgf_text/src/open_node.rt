@@ -1,7 +1,7 @@
-//! The node that is being read: properties whose values are joined under one name.
+//! The node that is being read. The values of properties with the same name are joined.
 //!
-//! Names are found by their order, so that no choice of names makes a node with many properties slow to read: a hash has
-//! names that collide.
+//! Names are found by their order, so no choice of names makes a node with many properties slow to read. A hash would have names
+//! that collide.
 
 ghost use Rattle.std.specs.Prelude.{◌≡◌, [], IsTrue, OnOk};
 ghost use Rattle.sgf_text.specs.Nodes.{is_node};
@@ -12,7 +12,7 @@ use std::alloc::{AllocError, Global};
 use std::collections::BTreeMap;
 use std::marker::Model;
 
-/// Properties in the order of their names' first places. Contracts see them as a list.
+/// Properties in the order in which their names first occur. Contracts see them as a list.
 #[derive(Drop)]
 pub struct OpenNode {
     alloc: Global,
@@ -44,7 +44,7 @@ impl OpenNode {
         }
     }
 
-    /// Adds the values to the property of this name, or a property with them at the end.
+    /// Adds the values to the property of this name, or appends a property with them.
     pub fn add(&mut self, ident: Bytes, values: Values) -> Result<(), AllocError>
         ensures { OnOk result (self.new ≡ added self.old ident values) }
     {

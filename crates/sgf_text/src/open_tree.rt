@@ -9,7 +9,7 @@ use crate::tree::Tree;
 use std::alloc::{AllocError, Global};
 use std::marker::Model;
 
-/// What has ended of an open tree. Contracts see it as a game tree, which may have no node yet.
+/// The finished part of an open tree. Contracts see it as a game tree, which may have no node yet.
 #[derive(Drop)]
 pub struct OpenTree {
     nodes: Vec<SgfNode>,

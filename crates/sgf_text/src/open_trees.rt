@@ -1,6 +1,6 @@
 //! The open trees of a text that is being read, byte by byte.
 //!
-//! The trees stand on a stack of their own, which the limit of depth bounds, so reading recurses over nothing.
+//! The trees are on a stack of their own, which the limit on depth bounds, so reading does not recurse.
 
 ghost use Rattle.std.specs.Prelude.{◌≡◌, ◌+◌, false, length, nat_lt, IsTrue, OnOk, IfOk, ◌<◌};
 ghost use Rattle.sgf_text.specs.Bytes.{sign_of};
@@ -60,7 +60,7 @@ impl Model for OpenTrees {
 }
 
 impl OpenTrees {
-    /// Just after the "(" of the first tree.
+    /// The state just after the "(" of the first tree.
     pub fn new(alloc: Global) -> Self
         ensures { result ≡ at_start }
     {
@@ -77,7 +77,7 @@ impl OpenTrees {
         }
     }
 
-    /// Takes the byte at a place of the text. Gives the first tree where the byte ends it.
+    /// Takes the byte at a place of the text. Returns the first tree if the byte ends it.
     pub fn step(&mut self, byte: u8, at: usize) -> Result<Option<Tree>, SgfFault>
         requires { IsSound self.old }
         ensures { Steps (transition self.old.state (sign_of byte)) (sign_of byte) byte at self.old result
@@ -129,7 +129,7 @@ impl OpenTrees {
         Ok(())
     }
 
-    /// Ends the innermost tree, and gives it where it is the first.
+    /// Ends the innermost tree, and returns it if it is the first.
     fn close(&mut self) -> Result<Option<Tree>, AllocError>
         requires sound { IsSound self.old }
         requires closes { IsTrue (can_close self.old.state) }

@@ -16,12 +16,13 @@ use std::alloc::Global;
 /// How many bytes of a text are read, up to the end of its first tree.
 const MOST_BYTES: usize = 1_048_576;
 
-/// Reads the first game tree of a text, and gives the place after its closing bracket.
+/// Reads the first game tree of a text, and returns it with the place after its closing bracket.
 ///
-/// Bytes before the first "(" that white space or nothing and then ";" follows are skipped, and what follows the tree is not read.
-/// The fault is the earliest in the text; its place is counted from the text's begin. Time and memory grow with the bytes that are read.
+/// Bytes before the first "(" that is followed by ";", with or without white space between, are skipped. What follows the tree is
+/// not read. The fault is the earliest in the text; its place is counted from the beginning of the text. Time and memory grow with
+/// the bytes that are read.
 pub fn read_tree(alloc: Global, text: &[u8]) -> Result<(Tree, usize), SgfFault>
-    // What is read is spelled so by the grammar.
+    // The grammar spells what is read in this way.
     ensures found { IfOk result (λ r. Reads text.now r.0 r.1 × IsWithin r.0 r.1) }
     // A fault is the text's first.
     ensures fault { IfErr result (λ e. e ≢ Memory → outcome_of text.now ≡ Err e) }
@@ -62,7 +63,7 @@ fn cut_fault(text: &[u8]) -> SgfFault
     }
 }
 
-/// Where the first "(" stands that white space or nothing and then ";" follows.
+/// The place of the first "(" that is followed by ";", with or without white space between.
 fn tree_place(text: &[u8]) -> Option<usize>
     ensures { result ≡ tree_place text.now }
 {

@@ -24,9 +24,10 @@ impl<'a> Model for TextTokens<'a> {
     ghost invariant = { λ t. t.at ≤ length t.text.now };
 }
 
-/// The tokens of a text, each the longest that begins where it stands, at rising places. White space between them is skipped.
+/// The tokens of a text, in the order of their places. Each is the longest token that begins where it does. White space between
+/// them is skipped.
 ///
-/// No text is refused: a byte that SGF gives no meaning to is a token of its own, and an unclosed value goes on to the end.
+/// No text is refused. A byte that has no meaning in SGF is a token of its own, and an unclosed value goes on to the end.
 pub fn tokens(text: &[u8]) -> TextTokens<'_>
     ensures { result ≡ tokens_of text.now }
 {

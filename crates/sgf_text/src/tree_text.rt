@@ -11,9 +11,9 @@ use crate::tree::Tree;
 use byte_writer::{PendingBytes, WriteFault};
 use std::io::Write;
 
-/// Writes the tree's text: no white space between the parts, no header, values with the backslashes that they have.
+/// Writes the tree's text, without white space between the parts and without a header. Values keep their backslashes.
 ///
-/// It takes no memory. After a failure the writer has taken a front of the text and nothing else.
+/// It allocates no memory. After a failure the writer has taken a front of the text and nothing else.
 pub fn write_tree<W: Write>(tree: &Tree, writer: &mut W) -> Result<(), WriteFault>
     ensures written { OnOk result
         (Appends (W.contents writer.old) (W.contents writer.new) (tree_text tree.now)) }

@@ -1,6 +1,6 @@
-//! What a node may hold: names of upper-case letters that stand once, with values that end where they should.
+//! What a node may hold: names of upper-case letters that occur once, with values that end where they should.
 //!
-//! Nothing here takes memory, so names are compared in pairs: the time is quadratic in the number of properties.
+//! Nothing here allocates memory, so names are compared in pairs: the time is quadratic in the number of properties.
 
 ghost use Rattle.std.specs.Prelude.{◌≡◌, not, ◌&&◌, ◌==◌};
 ghost use Rattle.std.specs.List.{list_any};
@@ -9,7 +9,7 @@ ghost use Rattle.sgf_text.specs.Nodes.{is_value, is_ident, is_property, is_node,
 
 use crate::node::Property;
 
-/// Whether the properties are a node's: each with a name and a value, and no name twice.
+/// Whether the properties make a node: each has a name and a value, and no name occurs twice.
 pub fn is_node(properties: &[Property]) -> bool
     ensures { result ≡ is_node properties.now }
 {
@@ -21,7 +21,7 @@ pub fn is_node(properties: &[Property]) -> bool
     are_distinct(properties)
 }
 
-/// Whether no name stands twice.
+/// Whether no name occurs twice.
 fn are_distinct(properties: &[Property]) -> bool
     ensures { result ≡ are_distinct properties.now }
 {
@@ -42,7 +42,7 @@ fn has_name(properties: &[Property], name: &[u8]) -> bool
         .any(|property| name == property.ident.as_slice())
 }
 
-/// Whether it is a name of one or more upper-case letters with one or more values.
+/// Whether the property has a name of one or more upper-case letters, and one or more values.
 fn is_property(property: &Property) -> bool
     ensures { result ≡ is_property property.now }
 {
@@ -90,7 +90,7 @@ fn is_value(value: &[u8]) -> bool
     !escaped
 }
 
-/// Whether the byte is this one, and no backslash has taken it.
+/// Whether the byte is this one and is not escaped by a backslash.
 fn is_bare(escaped: bool, byte: u8, this: u8) -> bool
     ensures { result ≡ (not escaped && (byte == this)) }
 {

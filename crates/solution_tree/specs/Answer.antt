@@ -1,4 +1,4 @@
--- The answer tree of the definitions that an answer tree of the program is, on a board of n rows and n columns.
+-- The answer tree of the definitions that an answer tree of the program stands for, on a board of n rows and n columns.
 use Rattle.std.specs.Prelude.{ℕ, List, [], ◌∷◌, map}
 use Rattle.go_points.specs.declared.Turn.{Turn}
 use Rattle.go_points.specs.Ply.{ply_of}

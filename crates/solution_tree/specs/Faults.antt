@@ -1,6 +1,6 @@
 -- What the program's faults of an audit say, on a board of n rows and n columns.
---     why_value n w      why a node is refused; None where memory was
---     IsFault n r e      the fault is that of the audit's result r; where memory was refused, nothing is said of the tree
+--     why_value n w      why a node is refused; None if memory was refused
+--     IsFault n r e      the fault is that of the audit's result r; if memory was refused, nothing is said of the tree
 use Rattle.std.specs.Prelude.{◌≡◌, ℕ, Option, Some, None, Result, Err}
 use Rattle.go_points.specs.declared.Colour.{Colour}
 use Rattle.go_points.specs.Ply.{ply_of}

@@ -19,7 +19,7 @@ pub enum Answer {
     Replies(Vec<(Turn, Answer)>),
 }
 
-// A derived drop would call itself once for each turn of a line; this one goes along the last replies in a loop.
+// A derived drop would call itself once for each turn of a line. This one follows the last replies in a loop.
 impl Drop for Answer {
     fn drop(mut self) {
         loop {
@@ -36,7 +36,7 @@ impl Drop for Answer {
 }
 
 impl Answer {
-    /// The number of its turns; `None` where it is past the greatest `usize`. Whatever the board, it is the same.
+    /// The number of its turns, which does not depend on the board. `None` if it is more than a `usize` can hold.
     pub fn size(&self) -> Option<usize>
         ensures some { IfSome result (λ size. (n : ℕ) → answer_size (answer_of n self.now) ≡ size) }
         ensures none { IfNone result ((n : ℕ) → 2 ^ 64 ≤ answer_size (answer_of n self.now)) }
@@ -45,7 +45,7 @@ impl Answer {
     }
 }
 
-/// So many turns and those of the answer. Goes along the last replies in a loop.
+/// The turns of the answer, added to `before`. It follows the last replies in a loop.
 #[cycle(size)]
 fn size_with(answer: &Answer, before: usize) -> Option<usize>
     ensures some { IfSome result (λ size. (n : ℕ)
@@ -73,7 +73,7 @@ fn size_with(answer: &Answer, before: usize) -> Option<usize>
     }
 }
 
-/// So many turns, these, and those below them.
+/// The turns of these replies and those below them, added to `before`.
 #[cycle(size)]
 fn sizes_with(replies: &[(Turn, Answer)], before: usize) -> Option<usize>
     ensures some { IfSome result (λ size. (n : ℕ)

@@ -19,7 +19,7 @@ use proof_cert::Node;
 use std::alloc::{AllocError, Global};
 use target_game::{PlayState, State};
 
-/// Expands a node until a turn was made that it has to go on below, or all is finished.
+/// Expands a node until a turn has been made below which it has to go on, or until everything is finished.
 fn step<'a>(
     alloc: Global,
     checked: &'a Checked,
@@ -48,9 +48,9 @@ fn step<'a>(
     }
 }
 
-/// The answer tree that the claim gives at the start of its problem, with all earlier positions: each use of a lemma is
-/// replaced by the lemma's body, and of the replies those stay that are legal there. Refused where it has more turns
-/// than `limit`; the turns are counted before, so that no memory is taken for a tree that is refused.
+/// The answer tree that the claim gives at the start of its problem, with all earlier positions: each use of a lemma is replaced by
+/// the lemma's body, and only the replies that are legal there stay. Refused if it has more turns than `limit`; the turns are
+/// counted first, so no memory is allocated for a tree that is refused.
 pub fn expand(alloc: Global, checked: &Checked, limit: usize) -> Result<Answer, Expand>
     ensures tree { IfOk result
         (λ a. answer_of checked.now.problem.game.size a

@@ -6,7 +6,7 @@ use thiserror::Error;
 /// Why a node of an answer tree is faulty.
 #[derive(Clone, Copy, Debug, PartialEq, Eq, Error)]
 pub enum AuditWhy {
-    /// B and W together have not one value, or it is no turn of the board, or the node has AB, AW or AE.
+    /// B and W together do not have exactly one value, or it is not a turn of the board, or the node has AB, AW or AE.
     #[error("no turn")]
     NoTurn,
     /// The turn is not the mover's.
@@ -21,7 +21,7 @@ pub enum AuditWhy {
     /// At the other side's move an earlier child of the same node has the same turn.
     #[error("reply twice")]
     ReplyTwice,
-    /// There is no child, or the game is over, and the winner of the first line has not won.
+    /// There is no child or the game is over, and the winner of the first line has not won.
     #[error("not won")]
     NotWon,
     /// The game is over before the turn.
@@ -35,7 +35,7 @@ pub enum AuditWhy {
     Memory,
 }
 
-/// The first fault of a tree: the node, by its number from 0 at the root, and why.
+/// The first fault of a tree: the number of the node, counted from 0 at the root, and why it is faulty.
 #[derive(Clone, Copy, Debug, PartialEq, Eq, Error)]
 #[error("{why} at node {node}")]
 pub struct AuditFault {

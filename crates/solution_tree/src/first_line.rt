@@ -14,7 +14,7 @@ use go_points::Colour;
 use sgf_text::{SgfNode, Tree};
 use target_game::PlayState;
 
-/// Makes the turns of a sequence after the node with this number. The number of its last node.
+/// Makes the turns of a sequence after the node with this number. Returns the number of its last node.
 fn follow(state: &mut PlayState, number: usize, nodes: &[SgfNode]) -> Result<usize, AuditFault>
     ensures size { OnOk result (state.new.state.game.size ≡ state.old.state.game.size) }
     ensures ok { IfOk result (λ last. (below : Nodes)
@@ -27,7 +27,7 @@ fn follow(state: &mut PlayState, number: usize, nodes: &[SgfNode]) -> Result<usi
     let mut last = number;
     let mut left = nodes;
     while let Some((node, rest)) = left.split_first() {
-        // More nodes than a `usize` counts are more than memory holds.
+        // More nodes than a `usize` can count are more than memory can hold.
         let Some(next) = last.checked_add(1) else {
             return Err(AuditFault {
                 node: last,
@@ -58,7 +58,7 @@ fn won_at(number: usize, state: &PlayState) -> Result<Colour, AuditFault>
     }
 }
 
-/// Who has won at the end of the first line, from the node with this number on; else its first fault.
+/// Who has won at the end of the first line, from the node with this number on; or the line's first fault.
 pub(crate) fn first_line(
     state: &mut PlayState,
     number: usize,

@@ -7,7 +7,7 @@ ghost use Rattle.solution_tree.specs.Private.Asked.{Tells, given_has};
 
 use go_points::{PointSet, Turn};
 
-/// A set of turns. No call takes memory.
+/// A set of turns. No call allocates memory.
 #[derive(Clone, Copy)]
 pub(crate) struct Given {
     points: PointSet,
@@ -35,7 +35,7 @@ impl Given {
         }
     }
 
-    /// Puts the turn into the set.
+    /// Adds the turn to the set.
     pub(crate) fn insert(&mut self, turn: Turn)
         ensures { (n : ℕ) (turns : List Ply) → StandsOn n (ply_of n turn) → Tells n self.old turns
             → Tells n self.new (turns ++ ply_of n turn ∷ []) }

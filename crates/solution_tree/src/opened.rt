@@ -1,4 +1,4 @@
-//! An expansion under way: the turns whose trees are not finished, on a stack of its own, so that no line of play is too long.
+//! An expansion under way. The turns whose trees are not finished are on a stack of its own, so no line of play is too long.
 
 ghost use Rattle.std.specs.Prelude.{◌≡◌, ◌+◌, ℕ, List, [], ◌∷◌, IsTrue, IsFalse, IfOk, IfNone, IfSome};
 ghost use Rattle.go_points.specs.Ply.{ply_of};
@@ -40,7 +40,7 @@ pub(crate) enum Part<'a> {
     Finished(Answer),
 }
 
-/// The node, or where it uses a lemma the body of that lemma.
+/// The node, or the body of the lemma if the node uses one.
 #[tactic(auto, using(proof_cert::proofs::Certificates::node_of_won, proof_cert::proofs::Certificates::node_of_play, proof_cert::proofs::Certificates::node_of_all))]
 pub(crate) fn body_of<'a>(checked: &'a Checked, node: &'a Node) -> &'a Node
     requires { IsTrue (uses_below (lemma_count checked.now)
@@ -70,7 +70,7 @@ pub(crate) fn body_of<'a>(checked: &'a Checked, node: &'a Node) -> &'a Node
     }
 }
 
-/// The first of the replies that is legal, and those after it.
+/// The first legal one of the replies, and the replies after it.
 #[tactic(auto, using(crate::proofs::NextReplies::replies_kept, crate::proofs::NextReplies::replies_left_out, crate::proofs::NextReplies::reply_below))]
 fn next_reply<'a>(
     state: &PlayState,
@@ -105,7 +105,7 @@ fn next_reply<'a>(
     }
 }
 
-/// Opens the next reply that is legal; where there is none, the tree of the replies is finished.
+/// Opens the next legal reply. If there is none, the tree of the replies is finished.
 fn go_on<'a>(
     checked: &Checked,
     state: &mut PlayState,
@@ -144,7 +144,7 @@ fn go_on<'a>(
     Ok(Part::Claimed(&reply.1))
 }
 
-/// Opens the node's first turn; where it has none, its tree is finished.
+/// Opens the node's first turn. If it has none, its tree is finished.
 #[tactic(auto, using(proof_cert::proofs::Certificates::node_of_won, proof_cert::proofs::Certificates::node_of_use, proof_cert::proofs::Certificates::node_of_all, crate::proofs::AnswerTrees::answer_of_won, crate::proofs::AnswerTrees::size_won))]
 pub(crate) fn open_node<'a>(
     alloc: Global,

@@ -1,4 +1,4 @@
-//! The questions that a node of an answer tree is asked: as a turn, and for what follows it.
+//! The checks on a node of an answer tree: as a turn, and for what follows it.
 
 ghost use Rattle.std.specs.Prelude.{◌≡◌, ◌&&◌, ◌||◌, ◌∷◌, [], List, IsTrue, IfOk, IfErr, IfSome, OnOk, Some, None, option_map, is_none};
 ghost use Rattle.go_points.specs.Grid.{same_colour};
@@ -20,7 +20,7 @@ use sgf_text::{SgfNode, Tree};
 use target_game::{PlayState, TurnsLeft};
 use tsumego_problem::{has_setup, turn_at, values_at};
 
-/// Whether the node has just one value under B and W together, and no setup.
+/// Whether the node has exactly one value under B and W together, and no setup.
 fn has_one_turn(node: &SgfNode) -> bool
     ensures { result ≡ has_one_turn node.now }
 {
@@ -41,7 +41,7 @@ fn carried(size: Size, node: &SgfNode) -> Option<(Colour, Turn)>
     }
 }
 
-/// Asks the node as a turn, and makes the turn.
+/// Checks the node as a turn, and makes the turn.
 pub(crate) fn take_turn(state: &mut PlayState, node: &SgfNode) -> Result<Turn, AuditWhy>
     ensures asked { OnOk result
         (turn_fault state.old.state (carried state.old.state.game.size node.now) ≡ None) }
@@ -84,7 +84,7 @@ fn has_children(nodes: &[SgfNode], children: &[Tree]) -> bool
     !nodes.is_empty() || !children.is_empty()
 }
 
-/// Whether several nodes follow a node at once.
+/// Whether several nodes follow a node directly.
 fn has_several(nodes: &[SgfNode], children: &[Tree]) -> bool
     requires { IsTrue (is_forest (forest_of children.now)) }
     ensures { result ≡ has_several (follows nodes.now children.now) }
@@ -92,7 +92,7 @@ fn has_several(nodes: &[SgfNode], children: &[Tree]) -> bool
     nodes.is_empty() && children.len() > 1
 }
 
-/// The set with the turn of a node, where it carries one.
+/// Adds the turn of a node to the set, if the node carries one.
 fn add_turn(size: Size, given: &mut Given, node: &SgfNode)
     ensures { (turns : List Ply) → Tells size given.old turns
         → Tells size given.new (with_turn turns (carried size node.now)) }
@@ -117,7 +117,7 @@ fn turns_of_trees(size: Size, children: &[Tree]) -> Given
     given
 }
 
-/// The turns of the nodes that follow a node at once.
+/// The turns of the nodes that follow a node directly.
 fn turns_given(size: Size, nodes: &[SgfNode], children: &[Tree]) -> Given
     ensures { Tells size result (turns_in size [] (follows nodes.now children.now)) }
 {
@@ -164,7 +164,7 @@ pub(crate) fn is_to_move(side: Colour, state: &PlayState) -> bool
     state.mover() == side
 }
 
-/// Asks a node for what follows it.
+/// Checks a node for what follows it.
 pub(crate) fn ask_rest(
     winner: Colour,
     state: &PlayState,

@@ -17,7 +17,7 @@ use sgf_text::{SgfNode, Tree};
 use std::alloc::{AllocError, Global};
 use tsumego_problem::{marks_with_winner, past_nodes, turn_node};
 
-/// The one turn that comes first, with the tree below it; `None` where there is none, and where there are several.
+/// The single turn that comes first, with the tree below it. `None` if there is no turn, or if there are several.
 fn single_turn<'a>(answer: &'a Answer) -> Option<(Turn, &'a Answer)>
     ensures some { (n : ℕ) → is_some result ≡ is_single (answer_of n answer.now) }
     ensures rest { IfSome result (λ r. (n : ℕ) (k : Side)
@@ -40,7 +40,7 @@ fn single_turn<'a>(answer: &'a Answer) -> Option<(Turn, &'a Answer)>
     }
 }
 
-/// The turns that come first, each with the tree below it, where there is not one alone.
+/// The turns that come first, each with the tree below it, if there is not just one.
 fn several_turns<'a>(answer: &'a Answer) -> &'a [(Turn, Answer)]
     ensures rest { (n : ℕ) (k : Side) → IsFalse (is_single (answer_of n answer.now))
         → rest_of n k (answer_of n answer.now)
@@ -55,7 +55,8 @@ fn several_turns<'a>(answer: &'a Answer) -> &'a [(Turn, Answer)]
     }
 }
 
-/// Puts the nodes of the turns at the end, as long as one alone comes next, however many they are. Then the colour to move, and the turns that branch off.
+/// Appends the nodes of the turns for as long as there is a single next turn, however many there are. Returns the colour to move
+/// then, and the turns that branch off.
 fn push_line<'a>(
     alloc: Global,
     size: Size,
@@ -134,7 +135,10 @@ fn reply_trees(
     Ok(trees)
 }
 
-/// The record of a solution (SGF FF[4], in this project's own form): the canonical record of the claim's problem with its winner as a comment (C) of the problem node, and the answer tree below it. The sides take turns from the problem's mover on. One turn alone goes on in the sequence, and of several each begins a game tree, in their order. A move at a point that the board does not have is written as one at the first point below it. Only memory is refused.
+/// The record of a solution (SGF FF[4], in this project's own form): the canonical record of the claim's problem with its winner as
+/// a comment (C) of the problem node, and the answer tree below it. The sides take turns, beginning with the problem's mover. A
+/// single turn continues the sequence; if there are several, each begins a game tree, in their order. A move at a point that the
+/// board does not have is written as one at the first point below the board. It fails only if memory is refused.
 pub fn to_sgf(alloc: Global, checked: &Checked, answer: &Answer) -> Result<Tree, AllocError>
     ensures { IfOk result
         (λ tree. tree ≡ solution checked.now.problem (claim_of checked.now.certificate).winner

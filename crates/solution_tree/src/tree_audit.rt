@@ -22,7 +22,8 @@ use std::alloc::Global;
 use target_game::{PlayState, Problem, State};
 use tsumego_problem::{Mark, locate};
 
-/// Memory was refused at the node with this number, or the number of the next one is past the greatest `usize`: more nodes than that are more than memory holds.
+/// Memory was refused at the node with this number, or the number of the next node is more than a `usize` can hold: that many nodes
+/// are more than memory can hold.
 fn no_memory(node: usize) -> AuditFault
     ensures found { (n : ℕ) (o : Option Fault) → IsFound n o result }
     ensures fault { (n : ℕ) (r : SpecResult SpecColour Fault) → IsFault n r result }
@@ -33,7 +34,7 @@ fn no_memory(node: usize) -> AuditFault
     }
 }
 
-/// Takes so many turns back.
+/// Takes this many turns back.
 fn take_back(state: &mut PlayState, turns: usize)
     requires { turns ≤ length state.old.before }
     ensures { state.new ≡ back turns state.old }
@@ -45,7 +46,8 @@ fn take_back(state: &mut PlayState, turns: usize)
     }
 }
 
-/// Audits the rest of a sequence after the node with this number, without what follows its last node; the state is then that of the last node. The number of the last node.
+/// Audits the rest of a sequence after the node with this number, without what follows its last node. The state is then that of the
+/// last node, whose number is returned.
 fn audit_nodes(
     winner: Colour,
     state: &mut PlayState,
@@ -82,7 +84,8 @@ fn audit_nodes(
     Ok(last)
 }
 
-/// Audits what follows the node with this number: the rest of its sequence, and the child trees after it. The state is then as it was. The number of the last node.
+/// Audits what follows the node with this number: the rest of its sequence, and the child trees after it. The state is then as it
+/// was. Returns the number of the last node.
 #[cycle(audit)]
 fn audit_sequence(
     winner: Colour,
@@ -116,7 +119,7 @@ fn audit_sequence(
     Ok(last)
 }
 
-/// Audits the child trees of the node with this number. The state is then as it was. The number of the last node.
+/// Audits the child trees of the node with this number. The state is then as it was. Returns the number of the last node.
 #[cycle(audit)]
 fn audit_children(
     winner: Colour,
@@ -149,7 +152,8 @@ fn audit_children(
     Ok(last)
 }
 
-/// Audits a child tree, the first node of which follows the node with this number; the earlier children have the turns of the set, and its turn joins them. The state is then as it was. The number of the last node.
+/// Audits a child tree whose first node follows the node with this number. The earlier children have the turns of the set, and its
+/// turn is added to them. The state is then as it was. Returns the number of the last node.
 #[cycle(audit)]
 fn audit_child(
     winner: Colour,
@@ -201,7 +205,7 @@ fn audit_child(
     Ok(last)
 }
 
-/// Who has won at the end of the first line; else its first fault.
+/// Who has won at the end of the first line; or the line's first fault.
 fn first_winner(
     alloc: Global,
     problem: &Problem,
@@ -254,17 +258,17 @@ fn audit_all(
     }
 }
 
-/// Who wins by the tree below the problem node, or the first fault (this project's own).
+/// Who wins according to the tree below the problem node, or the first fault (this project's own).
 ///
-/// Nodes have numbers from 0 at the root, in the order of their semicolons. First the first children are followed down
-/// from the problem node. Each node is asked for one turn of the board and no setup, for the mover's colour, whether play
-/// goes on, and whether the turn is legal; the last node, whether somebody has won. That side is the one that is audited.
-/// Then the problem node is asked for what follows it, and each node below it, in the order of the numbers, first as a turn
-/// and then for what follows it. As a turn: the four questions, and that at the other side's move no earlier child of the
-/// same node has the same turn. For what follows: where there is no child or the game is over, that the side has won; that
-/// there is one child at most where the side is to move; and that each legal turn of the other side has a child.
+/// Nodes have numbers from 0 at the root, in the order of their semicolons. First, the first children are followed down from the
+/// problem node. Each node must have one turn of the board and no setup, the turn must be of the mover's colour, play must still go
+/// on, and the turn must be legal. At the last node somebody must have won: that side is the one that is audited. Then the problem
+/// node is checked for what follows it, and each node below it, in the order of the numbers, first as a turn and then for what
+/// follows it. As a turn, it must pass the same four checks, and at the other side's move no earlier child of the same node may
+/// have the same turn. For what follows: if there is no child or the game is over, the side must have won; if the side is to move,
+/// there may be at most one child; and each legal turn of the other side must have a child.
 ///
-/// `Memory` also stands for more nodes than a `usize` counts.
+/// `Memory` also stands for more nodes than a `usize` can count.
 pub fn audit(alloc: Global, problem: &Problem, tree: &Tree) -> Result<Colour, AuditFault>
     requires { IsSome (problem_node tree.now) }
     ensures ok { IfOk result (λ x. audit problem.now tree.now ≡ Ok x) }

@@ -1,4 +1,4 @@
-//! Whether the tree of a checked claim has more turns than a limit, with no tree built.
+//! Whether the tree of a checked claim has more turns than a limit, without building the tree.
 
 ghost use Rattle.std.specs.Prelude.{◌≡◌, ◌+◌, ◌≤◌, ◌<◌, IsTrue, IfOk, IfNone};
 ghost use Rattle.go_points.specs.Ply.{ply_of};
@@ -18,15 +18,14 @@ use proof_cert::Node;
 use std::alloc::{AllocError, Global};
 use target_game::{PlayState, State};
 
-/// The replies at a state of the line of play that are still to come, not all of which are legal;
-/// none where the winner is to move.
+/// The replies at a state of the line of play that are still to come, not all of which are legal. There are none if the winner is
+/// to move.
 #[derive(Clone, Copy)]
 pub(crate) struct Waiting<'a> {
     replies: &'a [(Turn, Node)],
 }
 
-/// Makes the turn where nobody has won and it is legal, and says whether it did. The replies that
-/// come later then wait.
+/// Makes the turn if nobody has won and it is legal, and returns whether it did. The replies that come later then wait.
 fn make<'a>(
     turn: Turn,
     later: Waiting<'a>,
@@ -50,7 +49,7 @@ fn make<'a>(
     Ok(true)
 }
 
-/// Makes the first of the replies that is legal here, and gives its tree; none where no reply is.
+/// Makes the first of the replies that is legal here, and returns its tree. `None` if no reply is legal.
 fn make_next<'a>(
     checked: &Checked,
     replies: &'a [(Turn, Node)],
@@ -82,8 +81,8 @@ fn make_next<'a>(
     }
 }
 
-/// Makes the next of the replies here, or at the latest state before that still has one, and gives
-/// its tree; none where all were made.
+/// Makes the next of the replies here, or at the latest earlier state that still has one, and returns its tree. `None` if all have
+/// been made.
 fn go_on<'a>(
     checked: &Checked,
     replies: &'a [(Turn, Node)],
@@ -115,8 +114,8 @@ fn go_on<'a>(
     }
 }
 
-/// Makes the node's turn or the first of its replies, or where it has none the next reply that is
-/// still to come, and gives the tree below; none where all were made.
+/// Makes the node's turn or the first of its replies, or, if it has none, the next reply that is still to come. Returns the tree
+/// below, or `None` if all have been made.
 #[tactic(auto, using(proof_cert::proofs::Certificates::node_of_use, proof_cert::proofs::Certificates::node_of_play, proof_cert::proofs::Certificates::node_of_all))]
 fn step<'a>(
     checked: &'a Checked,
@@ -150,10 +149,9 @@ fn step<'a>(
     }
 }
 
-/// Whether the tree that the claim gives at the start of its problem has more turns than the limit.
-/// It takes memory for the line of play and the replies that are still to come alone, and ends at
-/// the first turn past the limit. A turn that cannot be made is not counted: a checked claim has
-/// none, and so nothing need be known here of its being right.
+/// Whether the tree that the claim gives at the start of its problem has more turns than the limit. It takes memory only for the
+/// line of play and the replies that are still to come, and ends at the first turn past the limit. A turn that cannot be made is
+/// not counted: a checked claim has none, so nothing need be known here about its being right.
 pub(crate) fn is_over(alloc: Global, checked: &Checked, limit: usize) -> Result<bool, AllocError>
     ensures { IfOk result (λ large. IsTrue large
         → limit < answer_size (expand (claim_of checked.now.certificate)

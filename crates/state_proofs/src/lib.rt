@@ -1,8 +1,9 @@
 //! Proofs of states: who wins there by which turns, and under which conditions on the past.
 //!
-//! Nothing is promised of a proof: what is made of it is put to the checker.
+//! Nothing is promised about a proof: the claim that is made from it is given to the checker.
 #![tactic(auto)]
 
+mod answers;
 mod line;
 mod past;
 mod play;
@@ -13,6 +14,7 @@ mod sharing;
 mod stop;
 mod used;
 
+pub use answers::{Answers, steps_for_smaller};
 pub use line::{Line, key_after};
 pub use past::Past;
 pub use play::{Move, Play, move_of};

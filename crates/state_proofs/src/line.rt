@@ -9,7 +9,7 @@ use std::alloc::{AllocError, Global};
 use stone_key::key_of;
 use target_game::Problem;
 
-/// What a turn of the line is taken back to.
+/// What taking back a turn of the line restores.
 #[derive(Clone, Copy)]
 struct Before {
     end: Key,
@@ -48,7 +48,7 @@ impl Line {
         self.turns.len()
     }
 
-    /// What the state at its end is known by.
+    /// The key of the state at its end.
     pub fn end(&self) -> Key {
         self.end
     }
@@ -57,7 +57,7 @@ impl Line {
         &self.past
     }
 
-    /// Adds a turn that leads to this state. Where it is not legal, or memory is refused, nothing changes.
+    /// Adds a turn that leads to this state. If it is not legal or memory is refused, nothing changes.
     pub fn go(&mut self, turn: Turn, next: Key) -> Result<(), Refusal> {
         let is_new = match turn {
             Turn::Pass => false,
@@ -87,7 +87,7 @@ impl Line {
         }
     }
 
-    /// Takes the last turn back, where there is one.
+    /// Takes the last turn back, if there is one.
     pub fn back(&mut self) {
         if let Some(before) = self.turns.pop() {
             self.play.back();
@@ -96,14 +96,14 @@ impl Line {
         }
     }
 
-    /// Takes turns back until the line has so many.
+    /// Takes turns back until the line has this many.
     pub fn back_to(&mut self, turns: usize) {
         for _ in turns..self.turns.len() {
             self.back();
         }
     }
 
-    /// The moves at its end, points ascending, barred ones among them.
+    /// The moves at its end, points ascending, including barred ones.
     pub fn list_moves(&self, moves: &mut Vec<Move>) -> Result<(), AllocError> {
         self.play.list_moves(moves)
     }
@@ -113,7 +113,7 @@ impl Line {
     }
 }
 
-/// What a state is known by after a turn at this one.
+/// The key of the state after a turn at this one.
 pub fn key_after(key: Key, turn: Turn, position: u64) -> Key {
     Key {
         position,

@@ -21,7 +21,7 @@ impl Past {
         self.positions.len()
     }
 
-    /// The place of the position in the order of first occurrence; none, where it has not occurred.
+    /// The place of the position in the order of first occurrence. `None` if it has not occurred.
     pub fn place_of(&self, position: u64) -> Option<usize> {
         self.positions.get_index_of(&position)
     }
@@ -30,7 +30,7 @@ impl Past {
         self.positions.contains(&position)
     }
 
-    /// Adds the position, and answers whether it is new.
+    /// Adds the position, and returns whether it is new.
     pub fn add(&mut self, position: u64) -> Result<bool, AllocError> {
         Ok(self.positions.insert(position)?)
     }
@@ -49,7 +49,7 @@ impl Past {
         self.is_met_by(positions)
     }
 
-    /// The same, one of these after the other.
+    /// Whether one of the positions has occurred, looking up each of them.
     fn has_one_of(&self, positions: &[u64]) -> bool {
         for position in positions {
             if self.has(*position) {
@@ -59,7 +59,7 @@ impl Past {
         false
     }
 
-    /// The same, one of those that have occurred after the other.
+    /// Whether one of the positions has occurred, looking at each of those that have.
     fn is_met_by(&self, positions: &[u64]) -> bool {
         for position in self.positions.iter() {
             if positions.binary_search(position).is_ok() {

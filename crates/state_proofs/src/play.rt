@@ -1,4 +1,4 @@
-//! Play on the problem's states, as the search needs it: every call may be made at any time.
+//! Play on the problem's states, as the search needs it. Every call may be made at any time.
 
 ghost use Rattle.std.specs.Prelude.{◌≡◌, ◌≤◌, length, true};
 ghost use Rattle.go_points.specs.Grid.{cell_at, same_cell};
@@ -11,13 +11,13 @@ use std::alloc::{AllocError, Global};
 use stone_key::key_of;
 use target_game::{PlayState, Problem, State};
 
-/// A move of the mover's at an open point that changes the colouring.
+/// A move of the mover at an open point that changes the colouring.
 #[derive(Clone, Copy)]
 pub struct Move {
     pub point: Point,
     /// The key of the colouring after it.
     pub position: u64,
-    /// Whether that colouring has occurred before, so that the move is not legal.
+    /// Whether that colouring has occurred before, which makes the move illegal.
     pub is_barred: bool,
     /// Whether the attacker has won by it.
     pub wins: bool,
@@ -39,7 +39,7 @@ impl Play {
         Ok(Play { state, made: 0 })
     }
 
-    /// The state with this colouring alone in its history; none, where there is no such state.
+    /// The state with only this colouring in its history. `None` if there is no such state.
     pub fn at(
         alloc: Global,
         problem: &Problem,
@@ -56,7 +56,7 @@ impl Play {
         }
     }
 
-    /// Makes the turn, and answers whether it was made: where nobody has won and it is legal.
+    /// Makes the turn if nobody has won and it is legal, and returns whether it was made.
     pub fn go(&mut self, turn: Turn) -> Result<bool, AllocError> {
         if self.state.over().is_some() || self.made == usize::MAX {
             return Ok(false);
@@ -68,7 +68,7 @@ impl Play {
         Ok(true)
     }
 
-    /// Takes the last turn back, where there is one.
+    /// Takes the last turn back, if there is one.
     pub fn back(&mut self) {
         if self.made > 0 {
             self.state.back();
@@ -76,7 +76,7 @@ impl Play {
         }
     }
 
-    /// What the state is known by. At most one pass stands where nobody has won.
+    /// The key of the state. If nobody has won, at most one pass has just been made.
     pub fn key(&self) -> Key {
         Key {
             position: self.state.key(),
@@ -89,7 +89,7 @@ impl Play {
         self.state.colouring()
     }
 
-    /// The mover's moves, points ascending, barred ones among them; none, where somebody has won.
+    /// Lists the mover's moves, points ascending, including barred ones. There are none if somebody has won.
     pub fn list_moves(&self, moves: &mut Vec<Move>) -> Result<(), AllocError> {
         moves.clear();
         if self.state.over().is_some() {
@@ -140,7 +140,7 @@ fn move_at(state: &PlayState, point: Point) -> Move
     }
 }
 
-/// The move of this turn; none, where it is a pass.
+/// The move of this turn. `None` if it is a pass.
 pub fn move_of(moves: &[Move], turn: Turn) -> Option<Move> {
     let Turn::At(point) = turn else {
         return None;

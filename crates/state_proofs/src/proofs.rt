@@ -1,7 +1,7 @@
 //! Settled states, each with a proof of who wins and the conditions on the past under which the proof holds.
 //!
-//! A proof is never changed. It uses lower ones alone. A wrong number in it could at worst lead to a claim that the checker
-//! refuses, so numbers are tested where they are used, and nothing is promised of them.
+//! A proof is never changed, and uses only lower ones. A wrong number in it could at worst lead to a claim that the checker
+//! refuses, so numbers are tested where they are used, and nothing is promised about them.
 
 use crate::past::Past;
 use go_points::{Colour, Turn};
@@ -9,7 +9,7 @@ use indexmap::IndexMap;
 use pn_table::Key;
 use std::alloc::{AllocError, Global};
 
-/// The most turns of a line of play together with those of a proof at its end.
+/// The greatest number of turns of a line of play together with a proof at its end.
 pub const MAX_LINE: usize = 1_900;
 
 /// How a state is won.
@@ -17,7 +17,7 @@ pub const MAX_LINE: usize = 1_900;
 pub enum Form {
     /// The mover wins by one turn.
     Turn,
-    /// The mover loses by all turns.
+    /// The mover loses by every turn.
     Replies,
     /// The defender lives by the shape of his stones, or cannot have two eyes. Such a proof has no branches yet, and no claim
     /// can be made of it.
@@ -25,27 +25,47 @@ pub enum Form {
     Dead,
 }
 
-/// What stands after a turn.
+/// What is below a turn.
 #[derive(Clone, Copy, Debug, PartialEq, Eq)]
 pub enum Below {
     /// The winner has won.
     Won,
-    /// The state that the proof of this number is of.
+    /// The state of the proof with this number.
     Proof(u32),
 }
 
-/// A turn of a proof, and what stands after it.
+/// A turn of a proof, and what is below it.
 #[derive(Clone, Copy)]
 pub struct Branch {
     pub turn: Turn,
     pub below: Below,
 }
 
-/// A part of a list that other parts stand in too.
-#[derive(Clone, Copy)]
+/// A part of a list that is shared with other parts.
+#[derive(Clone, Copy, PartialEq, Eq)]
 struct Span {
     from: u32,
     to: u32,
+}
+
+/// Results of moves, ascending, and one more. If all except that one are those of one proof below, they are not listed again.
+#[derive(Clone, Copy)]
+struct Results {
+    listed: Span,
+    another: Option<u64>,
+}
+
+impl Results {
+    fn none() -> Results {
+        Results {
+            listed: Span { from: 0, to: 0 },
+            another: None,
+        }
+    }
+
+    fn is_empty(self) -> bool {
+        self.listed.from >= self.listed.to && self.another.is_none()
+    }
 }
 
 /// A settled state.
@@ -55,21 +75,21 @@ pub struct Proof {
     pub winner: Colour,
     pub form: Form,
     branches: Span,
-    /// The results of the winner's moves, ascending: none of them may have occurred.
-    not: Span,
+    /// The results of the winner's moves: none of them may have occurred.
+    not: Results,
     /// The results of moves that the proof leaves out, ascending: all of them must have occurred.
     had: Span,
-    /// The turns of the answer tree; the greatest number stands for more.
+    /// The turns of the answer tree; the greatest number also stands for more.
     pub turns: u64,
-    /// The most turns of a line of play below.
+    /// The number of turns of the longest line of play below.
     pub depth: u32,
-    /// Whether its state was expanded, and not settled by a question alone.
+    /// Whether its state was expanded, rather than only settled by a question.
     pub is_expanded: bool,
-    /// Another proof of the same state, made before.
+    /// An earlier proof of the same state.
     next: Option<u32>,
 }
 
-/// What a proof is made of, beside its branches.
+/// What a proof is made of, besides its branches.
 #[derive(Clone, Copy)]
 pub struct Settled {
     pub key: Key,
@@ -94,7 +114,7 @@ pub struct Proofs {
     latest: IndexMap<Key, u32>,
     branches: Vec<Branch>,
     positions: Vec<u64>,
-    /// Positions of a list that is being made.
+    /// The positions of a list that is being made.
     gathered: Vec<u64>,
 }
 
@@ -117,12 +137,12 @@ impl Proofs {
         self.proofs.get(number as usize).copied()
     }
 
-    /// The proof of this place in the list.
+    /// The proof at this place in the list.
     pub fn at(&self, place: usize) -> Option<Proof> {
         self.proofs.get(place).copied()
     }
 
-    /// The turns of what stands below a turn.
+    /// The turns of what is below a turn.
     pub fn turns_below(&self, below: Below) -> u64 {
         match below {
             Below::Won => 0,
@@ -137,7 +157,7 @@ impl Proofs {
         part(self.branches.as_slice(), proof.branches)
     }
 
-    /// The branch of this place.
+    /// The branch at this place.
     pub fn branch(&self, proof: Proof, place: usize) -> Option<Branch> {
         self.branches(proof).get(place).copied()
     }
@@ -152,12 +172,18 @@ impl Proofs {
         part(self.positions.as_slice(), proof.had)
     }
 
-    /// Whether the proof holds where this has occurred.
+    /// Whether the proof holds with this past.
     fn holds(&self, proof: Proof, past: &Past) -> bool {
-        past.has_all(self.had(proof)) && !past.has_any(part(self.positions.as_slice(), proof.not))
+        if let Some(another) = proof.not.another {
+            if past.has(another) {
+                return false;
+            }
+        }
+        past.has_all(self.had(proof))
+            && !past.has_any(part(self.positions.as_slice(), proof.not.listed))
     }
 
-    /// Whether the proof of this number holds where this has occurred.
+    /// Whether the proof with this number holds with this past.
     pub fn holds_at(&self, number: u32, past: &Past) -> bool {
         match self.get(number) {
             Some(proof) => self.holds(proof, past),
@@ -165,8 +191,7 @@ impl Proofs {
         }
     }
 
-    /// The proof with the fewest turns among those of the state that hold at the end of a line of so many turns, where
-    /// this has occurred.
+    /// The proof with the fewest turns among those of the state that hold with this past at the end of a line of `line` turns.
     pub fn find(&self, key: Key, past: &Past, line: usize) -> Option<u32> {
         let mut next = self.latest.get(&key).copied();
         let mut found = None;
@@ -188,8 +213,8 @@ impl Proofs {
         found
     }
 
-    /// Adds the proof of the state by these branches: its number. `reached` is the position after the winner's move, and
-    /// `barred` are the results of moves that the past bars.
+    /// Adds the proof of the state by these branches, and returns its number. `reached` is the position after the winner's move,
+    /// and `barred` are the results of moves that the past bars.
     pub fn add(
         &mut self,
         settled: Settled,
@@ -203,7 +228,7 @@ impl Proofs {
         self.add_with(settled, branches, not, had, size)
     }
 
-    /// Adds a proof without branches, whose tree is thought to have so many turns and to be so deep: its number.
+    /// Adds a proof without branches whose tree is estimated to have this many turns and this depth, and returns its number.
     pub fn add_by_shape(
         &mut self,
         settled: Settled,
@@ -211,7 +236,8 @@ impl Proofs {
         depth: u32,
     ) -> Result<u32, AllocError> {
         let none = Span { from: 0, to: 0 };
-        self.add_with(settled, &[], none, none, TreeSize { turns, depth })
+        let size = TreeSize { turns, depth };
+        self.add_with(settled, &[], Results::none(), none, size)
     }
 
     /// Adds the proof with these lists.
@@ -219,7 +245,7 @@ impl Proofs {
         &mut self,
         settled: Settled,
         branches: &[Branch],
-        not: Span,
+        not: Results,
         had: Span,
         size: TreeSize,
     ) -> Result<u32, AllocError> {
@@ -244,14 +270,17 @@ impl Proofs {
         Ok(number)
     }
 
-    /// Adds a copy of a proof of another list, with these branches: its number.
+    /// Adds a copy of a proof of another list, with these branches, and returns its number.
     pub(crate) fn add_copy(
         &mut self,
         others: &Proofs,
         proof: Proof,
         branches: &[Branch],
     ) -> Result<u32, AllocError> {
-        let not = self.add_positions(part(others.positions.as_slice(), proof.not))?;
+        let not = Results {
+            listed: self.copied_list(others, proof, branches)?,
+            another: proof.not.another,
+        };
         let had = self.add_positions(others.had(proof))?;
         let settled = Settled {
             key: proof.key,
@@ -266,6 +295,24 @@ impl Proofs {
         self.add_with(settled, branches, not, had, size)
     }
 
+    /// A copy of the results of a proof of another list: those of a proof below, if they are the same.
+    fn copied_list(
+        &mut self,
+        others: &Proofs,
+        proof: Proof,
+        branches: &[Branch],
+    ) -> Result<Span, AllocError> {
+        let listed = proof.not.listed;
+        if let Some(below) = others.results_of_one(others.branches(proof)) {
+            if below.listed == listed {
+                if let Some(copied) = self.results_of_one(branches) {
+                    return Ok(copied.listed);
+                }
+            }
+        }
+        self.add_positions(part(others.positions.as_slice(), listed))
+    }
+
     fn add_positions(&mut self, positions: &[u64]) -> Result<Span, AllocError> {
         let from = number_of(self.positions.len())?;
         self.positions.extend_from_slice(positions)?;
@@ -273,17 +320,17 @@ impl Proofs {
         Ok(Span { from, to })
     }
 
-    /// Whether a proof of the state is among those that are found.
+    /// Whether a proof of the state can be found.
     pub fn knows(&self, key: Key) -> bool {
         self.latest.contains_key(&key)
     }
 
-    /// No proof is found any more.
+    /// Hides all proofs: none is found any more.
     pub fn hide_all(&mut self) {
         self.latest.clear();
     }
 
-    /// The proofs from this number on, which were all added since and are found, are not found any more.
+    /// Hides the proofs from this number on, all of which were added last and can be found.
     pub fn hide_from(&mut self, first: usize) -> Result<(), AllocError> {
         for back in first..self.proofs.len() {
             let place = self
@@ -305,7 +352,7 @@ impl Proofs {
         Ok(())
     }
 
-    /// The proof of this place in the list is found again.
+    /// Makes the proof at this place in the list findable again.
     pub fn show(&mut self, place: usize) -> Result<(), AllocError> {
         let number = number_of(place)?;
         if place < self.proofs.len() {
@@ -335,14 +382,17 @@ impl Proofs {
         }
     }
 
-    /// Gathers the lists of what stands below the branches.
+    /// Gathers the lists of what is below the branches.
     fn gather(&mut self, branches: &[Branch], is_had: bool) -> Result<(), AllocError> {
         self.gathered.clear();
         for branch in branches {
             if let Below::Proof(number) = branch.below {
                 if let Some(proof) = self.get(number) {
-                    let span = if is_had { proof.had } else { proof.not };
-                    self.gather_span(span)?;
+                    if is_had {
+                        self.gather_span(proof.had)?;
+                    } else {
+                        self.gather_results(proof.not)?;
+                    }
                 }
             }
         }
@@ -359,12 +409,63 @@ impl Proofs {
         Ok(())
     }
 
-    fn add_not(&mut self, branches: &[Branch], reached: Option<u64>) -> Result<Span, AllocError> {
+    fn gather_results(&mut self, results: Results) -> Result<(), AllocError> {
+        self.gather_span(results.listed)?;
+        if let Some(position) = results.another {
+            self.gathered.push(position)?;
+        }
+        Ok(())
+    }
+
+    /// The results of the proofs below the branches, and this one.
+    fn add_not(
+        &mut self,
+        branches: &[Branch],
+        reached: Option<u64>,
+    ) -> Result<Results, AllocError> {
+        if let Some(not) = self.shared_results(branches, reached) {
+            return Ok(not);
+        }
         self.gather(branches, false)?;
         if let Some(position) = reached {
             self.gathered.push(position)?;
         }
-        self.add_gathered()
+        Ok(Results {
+            listed: self.add_gathered()?,
+            another: None,
+        })
+    }
+
+    /// The results that the branches have, and another, if no list has to be made of them.
+    fn shared_results(&self, branches: &[Branch], another: Option<u64>) -> Option<Results> {
+        let below = self.results_of_one(branches)?;
+        if below.another.is_none() {
+            return Some(Results {
+                listed: below.listed,
+                another,
+            });
+        }
+        if another.is_none() || another == below.another {
+            return Some(below);
+        }
+        None
+    }
+
+    /// The results below the branches, if at most one of the branches has any.
+    fn results_of_one(&self, branches: &[Branch]) -> Option<Results> {
+        let mut found = Results::none();
+        for branch in branches {
+            if let Below::Proof(number) = branch.below {
+                let not = self.get(number)?.not;
+                if !not.is_empty() {
+                    if !found.is_empty() {
+                        return None;
+                    }
+                    found = not;
+                }
+            }
+        }
+        Some(found)
     }
 
     fn add_had(

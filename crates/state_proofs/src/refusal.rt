@@ -2,14 +2,14 @@
 
 use std::alloc::{AllocError, AllocFailed};
 
-/// Why there is nothing to put to the checker, although no step was wanting.
+/// Why there is nothing to give to the checker, although the steps did not run out.
 #[derive(Clone, Copy, Debug, PartialEq, Eq)]
 pub enum Refusal {
     /// Memory was refused.
     Memory,
     /// A limit of claims is passed.
     Limit,
-    /// A turn or a number is not what it was: two colourings have one key.
+    /// A turn or a number is not what it was before: two colourings share a key.
     Fault,
 }
 

@@ -3,7 +3,7 @@
 use crate::proofs::Proofs;
 use go_points::Colour;
 
-/// Who wins, with shared proofs and the number of the first state's.
+/// Who wins, with shared proofs and the number of the proof of the first state.
 #[derive(Drop)]
 pub struct Shared {
     pub winner: Colour,

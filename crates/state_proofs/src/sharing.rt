@@ -1,7 +1,7 @@
-//! One proof of a state for all places of it where that proof holds.
+//! One proof of a state for all its places where that proof holds.
 //!
-//! A found proof is walked along the real line of play, and each state takes a proof that was made for it before, where that
-//! one holds, or a new one. Each new proof has the conditions of the very place where it is made.
+//! A found proof is walked along the real line of play, and each state takes a proof that was made for it before, if that holds, or
+//! a new one. Each new proof has the conditions of the place where it is made.
 
 use crate::line::Line;
 use crate::play::{Move, move_of};
@@ -19,13 +19,13 @@ struct Visit {
     reached: Option<u64>,
     /// The place of the next branch among those that are due.
     next: usize,
-    /// Where its branches, those that are made for it and its barred positions begin.
+    /// Where its branches, the branches that are made for it and its barred positions begin.
     due: usize,
     made: usize,
     barred: usize,
 }
 
-/// The shared proofs of the state at the end of the line, of which this proof was found.
+/// The shared proofs of the state at the end of the line, for which this proof was found.
 pub fn share(alloc: Global, line: Line, found: Proofs, root: u32) -> Result<Shared, Refusal> {
     let Some(proof) = found.get(root) else {
         return Err(Refusal::Fault);
@@ -68,7 +68,7 @@ impl Sharing {
         }
     }
 
-    /// Shares the found proof of the state at the end of the line: the number of its new proof.
+    /// Shares the found proof of the state at the end of the line, and returns the number of its new proof.
     fn share(&mut self, root: u32) -> Result<u32, Refusal> {
         self.enter(root)?;
         for _ in 0..u64::MAX {
@@ -85,7 +85,7 @@ impl Sharing {
         shared
     }
 
-    /// Follows the next branch of the last state, or makes its proof; the first state's ends the walk.
+    /// Follows the next branch of the last state, or makes its proof. The proof of the first state ends the walk.
     fn go_on(&mut self) -> Result<Option<u32>, Refusal> {
         let Some(visit) = self.visits.last().copied() else {
             return Err(Refusal::Fault);
@@ -99,7 +99,7 @@ impl Sharing {
         }
     }
 
-    /// Adds the state at the end of the line, of which this proof was found.
+    /// Adds the state at the end of the line, for which this proof was found.
     fn enter(&mut self, number: u32) -> Result<(), Refusal> {
         let Some(proof) = self.found.get(number) else {
             return Err(Refusal::Fault);
@@ -131,7 +131,7 @@ impl Sharing {
         Ok(())
     }
 
-    /// Lists the winner's turn as due: the position after it, where it is a move.
+    /// Lists the winner's turn as due, and returns the position after it if it is a move.
     fn list_turn(&mut self, proof: Proof) -> Result<Option<u64>, AllocError> {
         let Some(branch) = self.found.branch(proof, 0) else {
             return Ok(None);
@@ -167,13 +167,13 @@ impl Sharing {
         Ok(())
     }
 
-    /// The proof that was made before for the state of a found one, one turn further, and holds there.
+    /// The proof that was made before for the state of a found proof one turn further, if it holds there.
     fn known(&self, found: Proof) -> Option<u32> {
         let line = self.line.len().saturating_add(1);
         self.shared.find(found.key, self.line.past(), line)
     }
 
-    /// Takes what is known of the branch, or goes down it.
+    /// Uses what is known of the branch, or goes down it.
     fn follow(&mut self, branch: Branch) -> Result<(), Refusal> {
         let Below::Proof(number) = branch.below else {
             return self.keep(branch.turn, Below::Won);
@@ -203,7 +203,7 @@ impl Sharing {
         }
     }
 
-    /// Makes the proof of the last state, and gives it to the state above: its number, where there is none above.
+    /// Makes the proof of the last state, and gives it to the state above. Returns its number if there is no state above.
     fn leave(&mut self, visit: Visit) -> Result<Option<u32>, Refusal> {
         let number = self.add(visit)?;
         self.due.truncate(visit.due);

@@ -8,7 +8,7 @@ use std::alloc::{AllocError, AllocFailed};
 pub enum Stop {
     /// No step is left.
     Steps,
-    /// This was met before.
+    /// This refusal came first.
     Refused(Refusal),
 }
 

@@ -1,4 +1,4 @@
-//! The proofs that one of them uses.
+//! The proofs that a proof uses.
 
 use crate::proofs::{Below, Branch, Proof, Proofs};
 use crate::refusal::Refusal;
@@ -8,7 +8,7 @@ use std::alloc::{AllocError, Global};
 #[derive(Drop)]
 struct Copying {
     copied: Proofs,
-    /// For each proof whether it is used, and its number in the copy.
+    /// For each proof, whether it is used, and its number in the copy.
     is_used: Vec<bool>,
     numbers: Vec<u32>,
     branches: Vec<Branch>,
@@ -38,7 +38,7 @@ impl Copying {
         }
     }
 
-    /// Marks what the proofs up to the root use that are marked. A proof uses lower ones alone.
+    /// Marks what the marked proofs up to the root use. A proof uses only lower ones.
     fn mark_below(&mut self, proofs: &Proofs, root: usize) {
         self.mark(root);
         for back in 0..=root {
@@ -59,7 +59,7 @@ impl Copying {
         }
     }
 
-    /// Copies the proof, where it is used.
+    /// Copies the proof, if it is used.
     fn copy(&mut self, proofs: &Proofs, place: usize) -> Result<(), AllocError> {
         if !self.uses(place) {
             return self.numbers.push(0).map_err(|_refused| AllocError);
@@ -99,7 +99,7 @@ impl Copying {
     }
 }
 
-/// The proofs that this one uses, itself among them, as the last. Linear in the number of all.
+/// The proofs that this one uses, with this one as the last. The time is linear in the number of all proofs.
 pub fn used_by(alloc: Global, proofs: &Proofs, root: u32) -> Result<(Proofs, u32), Refusal> {
     if root as usize >= proofs.len() {
         return Err(Refusal::Fault);

@@ -8,7 +8,7 @@ ghost use Rattle.stone_key.specs.Key.{key_of, word_for, word_after};
 use crate::words::word;
 use go_points::{Cell, Colour, Colouring};
 
-/// The word of a stone of this colour at the point of this number, on a board of whatever size. Takes the same time for each.
+/// The word of a stone of this colour at the point with this number, on a board of any size. It takes the same time for each.
 pub fn stone_word(number: usize, colour: Colour) -> u64
     requires { number < MAX_POINTS }
     ensures { result ≡ word_for (Stone colour) (word_after (2 * number))
@@ -20,7 +20,7 @@ pub fn stone_word(number: usize, colour: Colour) -> u64
     }
 }
 
-/// The word of what the point of this number holds: none, where it is empty.
+/// The word of what the point with this number holds; 0 if it is empty.
 pub fn cell_word(number: usize, cell: Cell) -> u64
     requires { number < MAX_POINTS }
     ensures { result ≡ word_for cell (word_after (2 * number)) (word_after (2 * number + 1)) }

@@ -1,5 +1,5 @@
-//! A colouring with its key, which changes with each point: the key of a board that plays, of a position that is looked up, of an
-//! element of a history.
+//! A colouring with its key, which is kept up to date as points change. It serves as a board in play, as a position that is looked
+//! up, and as an element of a history.
 
 ghost use Rattle.std.specs.Prelude.{◌≡◌, ◌*◌, ◌<◌, replicate, slice_set};
 ghost use Rattle.go_points.specs.declared.Cell.TheVariants.{Empty};
@@ -82,7 +82,7 @@ impl KeyedColouring {
         }
     }
 
-    /// The same, for a caller that knows the key.
+    /// Like `of`, for a caller that already knows the key.
     pub fn with_key(colouring: Colouring, key: u64) -> KeyedColouring
         requires { key ≡ key_of colouring }
         ensures { result ≡ colouring }
@@ -118,7 +118,7 @@ impl KeyedColouring {
         self.colouring.get(point)
     }
 
-    /// Lets the point hold `cell`: the word of what it held goes out of the key, and that of the cell comes in.
+    /// Makes the point hold `cell`. The word of what it held leaves the key, and the word of the cell enters it.
     pub fn set(&mut self, point: Point, cell: Cell)
         requires { IsOn (side_of self.old) point }
         ensures value { self.new ≡ slice_set self.old (number_of (side_of self.old) point) cell }

@@ -1,5 +1,5 @@
-//! The words of the keys, as a constant table: a proof by computation shows that they are the generator's, and none is
-//! drawn while the program runs.
+//! The words of the keys, as a constant table: a proof by computation shows that they are the generator's words. None is drawn
+//! while the program runs.
 
 ghost use Rattle.std.specs.Prelude.{◌≡◌, ◌<◌};
 ghost use Rattle.stone_key.specs.declared.words.TheConstants.{WORD_COUNT};
@@ -1263,7 +1263,7 @@ const WORDS: [u64; WORD_COUNT] = [
     3273342464610144078,
 ];
 
-/// The word that the generator draws after so many others.
+/// The word that the generator draws after `number` others.
 pub(crate) fn word(number: usize) -> u64
     requires { number < WORD_COUNT }
     ensures { result ≡ word_after number }

@@ -8,6 +8,6 @@ use Rattle.target_game.specs.Legal.{legal}
 use Rattle.target_game.specs.Next.{next}
 use Rattle.target_game.specs.Over.{over}
 
--- The key of the colouring after the turn, and who has then won; none, where the turn is not legal.
+-- The key of the colouring after the turn, and who has won then; `None` if the turn is not legal.
 abbrev pub child_of : GameState → Ply → Option Child
 child_of s t = (if legal s t then Some (record { key = key_of (next s t).colouring; winner = over (next s t) }) else None)

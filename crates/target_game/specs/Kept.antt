@@ -1,4 +1,4 @@
--- What problems and states keep, as the definitions' values.
+-- The parts of problems and states, as values of the definitions.
 use Rattle.std.specs.Prelude.{◌≡◌, ℕ, List, [], ◌∷◌, map, Option, Some, None, Ok}
 use Rattle.std.specs.List.{range_with_len}
 use Rattle.std.specs.Prelude.{find, ◌*◌, ◌-◌}
@@ -29,7 +29,7 @@ abbrev pub IsMadeOf : ℕ → List (List Cell) → ℕ → Colour → ℕ → Li
 IsMadeOf n history place mover passes targets defender region =
     problem_of history place mover passes targets region ≡ Ok (kept_problem n history place mover passes targets defender region)
 
--- The state at a moment of a record, where the colour k is to move; and those at the moments before it, at which the sides took turns.
+-- The state at a moment of a record, with the colour k to move; and those at the moments before it, at which the sides took turns.
 abbrev pub kept_state : Game → Colour → Moment → GameState
 kept_state g k m = record { game = g; colouring = colouring_of m; history = m.history; mover = k; passes = m.passes }
 
@@ -40,17 +40,18 @@ kept_before g k (m ∷ ms) = kept_state g (opponent_of k) m ∷ kept_before g (o
 abbrev pub kept_line : Game → Colour → GameRecord → Line
 kept_line g k r = record { state = kept_state g k r.present; before = kept_before g k r.earlier }
 
--- Why there is no state, where there is no record.
+-- Why there is no state, if there is no record.
 abbrev pub at_fault : TurnFault → AtFault
 at_fault (turns.NoLiberty p) = NoLiberty p
 at_fault _ = Memory
 
--- Why there is no state with a colouring alone: the least point whose stone does not reach empty; where each does, only memory.
+-- Why there is no state with only this colouring: the least point whose stone does not reach empty; if every stone does, only that
+-- memory was refused.
 abbrev pub IsAtFault : ℕ → Option ℕ → AtFault → Type 0
 IsAtFault n (Some p) fault = fault ≡ NoLiberty (place_of n p)
 IsAtFault n None fault = fault ≡ Memory
 
--- The first legal turn at a point of this number or a greater one; the pass, where there is none.
+-- The first legal turn at a point with this number or a greater one; the pass if there is none.
 abbrev pub turn_or_pass : Option ℕ → Ply
 turn_or_pass None = pass
 turn_or_pass (Some p) = move p

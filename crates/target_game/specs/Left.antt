@@ -25,12 +25,12 @@ abbrev pub after_ply : Ply → Option ℕ
 after_ply pass = None
 after_ply (move p) = Some (p + 1)
 
--- The first of them was taken, which is legal, and the others are left; or there was none.
+-- The first of them, which is legal, was taken, and the others are left; or there was none.
 abbrev pub Takes : GameState → Option ℕ → Option Ply → Option ℕ → Type 0
 Takes s old None new = (old ≡ None) × (new ≡ None)
 Takes s old (Some t) new = (turns_due s old ≡ t ∷ turns_due s new) × (legal s t ≡ true) × (new ≡ after_ply t)
 
--- The line of play with one more turn; with this one where it is made; and with the one that was taken, if one was.
+-- The line of play with one more turn; with this turn if it is made; and with the turn that was taken, if one was.
 abbrev pub line_after : Line → Ply → Line
 line_after l t = record { state = next l.state t; before = l.state ∷ l.before }
 
@@ -42,7 +42,7 @@ abbrev pub line_with : Line → Option Ply → Line
 line_with l None = l
 line_with l (Some t) = line_after l t
 
--- WORDS OF PRIVATE CALLS
+-- DEFINITIONS FOR PRIVATE CALLS
 
 -- No move from one number up to another is legal.
 abbrev pub NoneLegal : GameState → ℕ → ℕ → Type 0

@@ -1,4 +1,4 @@
--- Which problems there are (this project's own): the refusals, in the order in which they are asked.
+-- Which problems there are (this project's own): the refusals, in the order in which they are checked.
 use Rattle.std.specs.Prelude.{ℕ, ◌*◌, Bool, not, ◌&&◌, nat_eq, nat_lt, nat_le, List, [], ◌∷◌, map, length, slice_index_or, if◌then◌else◌, Option, Some, None, is_none, Result, Ok, Err}
 use Rattle.std.specs.List.{list_all}
 use Rattle.go_points.specs.declared.Colour.{Colour}
@@ -14,7 +14,7 @@ use Rattle.target_game.specs.declared.bad_problem.BadProblem.TheVariants.{OtherS
 use Rattle.target_game.specs.declared.TheConstants.{MAX_HISTORY}
 use Rattle.target_game.specs.State.{GameProblem}
 
--- The colour of all these cells, where they are stones of one colour and at least one.
+-- The colour of all these cells, if there is at least one and all are stones of one colour.
 abbrev pub one_colour : List Cell → Option Colour
 one_colour [] = None
 one_colour (Empty ∷ rest) = None
@@ -25,7 +25,7 @@ abbrev pub first_refusal : List (Bool × BadProblem) → Option BadProblem
 first_refusal [] = None
 first_refusal (t ∷ rest) = (if t.0 then Some t.1 else first_refusal rest)
 
--- The tests, in order. The size is that of the first colouring; the targets are asked on the present one.
+-- The tests, in order. The size is that of the first colouring; the targets are checked on the present one.
 abbrev pub refusals : ℕ → List (List Cell) → ℕ → ℕ → List Place → List Place → List (Bool × BadProblem)
 refusals n history place passes targets region =
     (not (list_all (λ c. nat_eq (length c) (n * n)) history && list_all (on_board n) targets && list_all (on_board n) region), OtherSize)

@@ -2,13 +2,13 @@
 
 use thiserror::Error;
 
-/// Why there is no such problem, in the order in which the questions are asked.
+/// Why there is no such problem, in the order in which the checks are made.
 #[derive(Clone, Copy, Debug, PartialEq, Eq, Error)]
 pub enum BadProblem {
     /// A colouring of another size than the first, or a target or a point of the region off the board.
     #[error("other size")]
     OtherSize = 7,
-    /// No colouring stands at the place; with an empty history always this.
+    /// No colouring is at the place. An empty history is always refused with this.
     #[error("bad place")]
     BadPlace = 6,
     /// No targets, an empty one, or stones of two colours.
@@ -25,7 +25,7 @@ pub enum BadProblem {
     /// A colouring of the history with a stone that does not reach empty.
     #[error("no liberty")]
     NoLiberty = 5,
-    /// A colouring stands twice in the history.
+    /// A colouring occurs twice in the history.
     #[error("repeated")]
     Repeated = 8,
 }

@@ -20,7 +20,8 @@ pub struct Child {
 }
 
 impl<B: Board, S: Seen> State<B, S> {
-    /// What the turn leads to, which is not made; none, where it is not legal. Takes no memory, and the time of at most one move.
+    /// What the turn leads to, without making it. `None` if it is not legal. It allocates no memory and takes the time of at most
+    /// one move.
     pub fn child(&self, turn: Turn) -> Option<Child>
         ensures { result ≡ child_of self.now.state (ply_of self.now.state.game.size turn) }
     {
@@ -35,7 +36,8 @@ impl<B: Board, S: Seen> State<B, S> {
         }
     }
 
-    /// Whether the turn is legal, if nobody has won: any turn, at a point of the board or not. It costs what `child` does.
+    /// Whether the turn is legal, if nobody has won. It may be any turn, even at a point off the board. The cost is that of
+    /// `child`.
     pub fn is_legal(&self, turn: Turn) -> bool
         ensures { result ≡ legal self.now.state (ply_of self.now.state.game.size turn) }
     {
@@ -52,7 +54,7 @@ impl<B: Board, S: Seen> State<B, S> {
         }
     }
 
-    /// What a move at the point leads to; none, where it is not legal.
+    /// What a move at the point leads to. `None` if it is not legal.
     pub(crate) fn move_child(&self, point: Point) -> Option<Child>
         requires { IsOn self.now.state.game.size point }
         ensures { result

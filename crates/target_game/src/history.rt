@@ -6,7 +6,7 @@ ghost use Rattle.go_points.specs.Grid.{same_cells};
 use go_points::Colouring;
 use std::alloc::{AllocError, Global};
 
-/// The first colouring, and of the others those that differ from it.
+/// The first colouring, followed by those of the others that differ from it.
 pub(crate) fn with_others(
     alloc: Global,
     first: &Colouring,

@@ -40,7 +40,7 @@ fn are_on_board(points: &PointSet, size: Size) -> bool
     true
 }
 
-/// Whether each of these points holds this.
+/// Whether each of the points holds the cell.
 pub fn all_hold(colouring: &Colouring, points: &PointSet, cell: Cell) -> bool
     requires { All (IsOn (side_of colouring.now)) points.now }
     ensures { result ≡ list_all
@@ -55,7 +55,7 @@ pub fn all_hold(colouring: &Colouring, points: &PointSet, cell: Cell) -> bool
     true
 }
 
-/// The colour of the stones at these points, where they are stones of one colour, and at least one.
+/// The colour of the stones at these points. `None` unless there is at least one point and all hold stones of one colour.
 pub fn colour_at(colouring: &Colouring, points: &PointSet) -> Option<Colour>
     requires { All (IsOn (side_of colouring.now)) points.now }
     ensures { result ≡ one_colour

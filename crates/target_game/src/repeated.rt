@@ -1,5 +1,5 @@
-//! Whether a colouring stands twice in a history, in a time that is linear in its length where keys spread: each is compared with
-//! those before it whose keys fall into the same bucket. No memory is taken.
+//! Whether a colouring occurs twice in a history. The time is linear in the length of the history if the keys spread well: each
+//! colouring is compared with those before it whose keys fall into the same bucket. No memory is allocated.
 
 ghost use Rattle.std.specs.Prelude.{◌≡◌, ◌-◌, ◌<◌, ◌≤◌, ℕ, true, false, [], length, replicate, slice_index, slice_index_or};
 ghost use Rattle.go_points.specs.Grid.{same_cells};
@@ -13,7 +13,8 @@ use stone_key::key_of;
 /// The number of buckets.
 const BUCKETS: usize = 1024;
 
-// Whether the colouring is one of those of its bucket, from the one before this place on. Each names the one before it, by its place and one.
+// Whether the colouring is one of those in its bucket, going back from the one before this place. Each names the one before it, by
+// its place plus one.
 fn stands_before(
     history: &[Colouring],
     before: &[u16],
@@ -46,7 +47,7 @@ fn stands_before(
     false
 }
 
-/// Whether a colouring stands twice in the list. It has at most as many colourings as a problem may have.
+/// Whether a colouring occurs twice in the list, which has at most as many colourings as a problem may have.
 pub(crate) fn stand_twice(history: &[Colouring]) -> bool
     requires { length history.now ≤ history_most }
     ensures { result ≡ repeats history.now }

@@ -27,7 +27,7 @@ use std::marker::Model;
 use stone_key::KeyedColouring;
 use thiserror::Error;
 
-/// Why there is no state with a colouring alone.
+/// Why there is no state with only this colouring in its history.
 #[derive(Clone, Copy, Debug, PartialEq, Eq, Error)]
 pub enum AtFault {
     /// The least point whose stone does not reach empty.
@@ -37,7 +37,7 @@ pub enum AtFault {
     Memory,
 }
 
-/// A state of the game, with the turns that led to it from where it was made.
+/// A state of the game, with the turns that led to it since it was made.
 #[derive(Drop)]
 pub struct State<B: Board, S: Seen> {
     played: Record<B, S>,
@@ -62,7 +62,7 @@ impl<B: Board, S: Seen> Model for State<B, S> {
         × All (IsOn a.played.size) a.region };
 }
 
-// The same, of a state.
+// The fault of a record as that of a state.
 fn at_fault(fault: TurnFault) -> AtFault
     ensures { result ≡ at_fault fault }
 {
@@ -99,7 +99,8 @@ impl<B: Board, S: Seen> State<B, S> {
         }
     }
 
-    /// The state of the problem's game with this colouring alone in its history, and so many passes just made. Refused where a stone does not reach empty, by the least such point.
+    /// The state of the problem's game with only this colouring in its history, after this many passes have just been made. Refused
+    /// with the least point whose stone does not reach empty, if there is one.
     pub fn at(
         alloc: Global,
         problem: &Problem,
@@ -132,7 +133,7 @@ impl<B: Board, S: Seen> State<B, S> {
         }
     }
 
-    /// The same, with these other colourings in the history too, where they are there once. They are only remembered.
+    /// Like `at`, with these other colourings in the history as well, each once. They are only remembered.
     pub fn at_with(
         alloc: Global,
         problem: &Problem,
@@ -172,7 +173,9 @@ impl<B: Board, S: Seen> State<B, S> {
         }
     }
 
-    /// Begins anew in the same game: this colouring is alone in the history, and so many passes were just made. Refused where a stone does not reach empty, by the least such point; then nothing changes. The board is changed only where the colouring differs from the present one.
+    /// Starts again in the same game: the history then has only this colouring, and this many passes have just been made. Refused
+    /// with the least point whose stone does not reach empty, if there is one; then nothing changes. The board is changed only
+    /// where the colouring differs from the present one.
     pub fn restart(
         &mut self,
         alloc: Global,
@@ -203,7 +206,8 @@ impl<B: Board, S: Seen> State<B, S> {
         }
     }
 
-    /// Who has won: the attacker, where some target point does not hold the defender's colour; else the defender, where two passes stand.
+    /// Who has won: the attacker, if some target point does not hold the defender's colour; otherwise the defender, if two passes
+    /// have just been made.
     pub fn over(&self) -> Option<Colour>
         ensures { result ≡ over self.now.state }
     {
@@ -265,7 +269,7 @@ impl<B: Board, S: Seen> State<B, S> {
         None
     }
 
-    /// What stands after the mover's move at an empty point.
+    /// The position after the mover's move at an empty point.
     pub(crate) fn position_after(&self, point: Point) -> KeyedColouring
         requires on_board { IsOn self.now.state.game.size point }
         requires empty { same_cell
@@ -297,7 +301,7 @@ impl<B: Board, S: Seen> State<B, S> {
             .is_some()
     }
 
-    /// Who has won where this colouring stands after a move.
+    /// Who has won if this colouring is on the board after a move.
     pub(crate) fn winner_at(&self, colouring: &Colouring) -> Option<Colour>
         requires { side_of colouring.now ≡ self.now.state.game.size }
         ensures { result ≡ over (record self.now.state { colouring = colouring.now; passes = 0 }) }
@@ -344,7 +348,7 @@ impl<B: Board, S: Seen> State<B, S> {
         self.is_open(point) && !self.has_occurred(&self.position_after(point))
     }
 
-    /// Makes the turn; memory may be refused, and then nothing changes.
+    /// Makes the turn. If memory is refused, nothing changes.
     pub fn after(&mut self, turn: Turn) -> Result<(), AllocError>
         requires open { over self.old.state ≡ None }
         requires legal { IsTrue (legal self.old.state (ply_of self.old.state.game.size turn)) }
@@ -362,7 +366,8 @@ impl<B: Board, S: Seen> State<B, S> {
         Ok(())
     }
 
-    /// Makes the turn where it is legal, and answers whether it was; where it is not, and where memory was refused, nothing changes. A move is played once.
+    /// Makes the turn if it is legal, and returns whether it was. Nothing changes if it is not legal or memory is refused. A move
+    /// is played only once.
     pub fn try_after(&mut self, turn: Turn) -> Result<bool, AllocError>
         requires open { over self.old.state ≡ None }
         ensures legal { IfOk result
@@ -388,7 +393,7 @@ impl<B: Board, S: Seen> State<B, S> {
         }
     }
 
-    /// Makes the move at an empty point of the region where it repeats nothing, and answers whether it was made.
+    /// Makes the move at an empty point of the region if it repeats nothing, and returns whether it was made.
     pub(crate) fn try_move(&mut self, point: Point) -> Result<bool, AllocError>
         requires on_board { IsOn self.old.state.game.size point }
         requires free { (holds_point self.old.state.game.region

@@ -1,7 +1,7 @@
-//! Who wins in the tree of all legal play, and how many states it has: one pass answers both.
+//! Who wins in the tree of all legal play, and how many states the tree has. One pass answers both.
 //!
-//! The pass goes down with a number of states that are still allowed and gives back what is left of it, so no sum can
-//! overflow and it stops at the first state past the limit. It keeps one path of play and makes no list of turns.
+//! The pass goes down with the number of states that are still allowed and gives back what is left of it, so no sum can overflow
+//! and the pass stops at the first state past the limit. It keeps one path of play and makes no list of turns.
 
 ghost use Rattle.std.specs.Prelude.{◌≡◌, ◌+◌, ◌≤◌, OnOk, IfOk, None, if◌then◌else◌};
 ghost use Rattle.go_points.specs.Grid.{same_colour};
@@ -73,7 +73,7 @@ impl Tally {
         }
     }
 
-    /// The same with one turn more: the mover needs one turn that wins, the other side needs all.
+    /// The tally with one more turn: the mover needs one turn that wins, the other side needs all.
     fn with_below(self, mover: Colour, below: Tally) -> Tally
         ensures { result ≡ with_below mover self below }
     {
@@ -106,8 +106,8 @@ impl Tally {
     }
 }
 
-/// The tally of all legal play of at most so many turns from the state, which is then as it was; none, where that has
-/// more states than are left.
+/// The tally of all legal play of at most this many turns from the state, which is left as it was. `None` if that tree has more
+/// states than are left.
 #[cycle(tally)]
 pub(crate) fn tally_state(
     state: &mut PlayState,
@@ -130,7 +130,7 @@ pub(crate) fn tally_state(
     tally_turns(state, turns - 1, left - 1)
 }
 
-/// The tally of a state that is itself counted already, where each turn is the last: none of them is made.
+/// The tally of a state that has already been counted, where each turn is the last. None of the turns is made.
 fn tally_last_turns(state: &PlayState, left: u64) -> Option<Tally>
     ensures { result ≡ with_turns state.now.state 0 (legal_turns state.now.state)
         (before_turns state.now.state.mover left) }
@@ -147,7 +147,7 @@ fn tally_last_turns(state: &PlayState, left: u64) -> Option<Tally>
     Some(seen)
 }
 
-/// The same of a state where nobody has won and that is itself counted already, with so many turns after the first.
+/// The tally of a state where nobody has won and that has already been counted, with this many turns after the first.
 #[cycle(tally)]
 fn tally_turns(state: &mut PlayState, turns: u32, left: u64) -> Result<Option<Tally>, AllocError>
     requires open { over state.old.state ≡ None }

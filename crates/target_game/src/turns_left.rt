@@ -21,7 +21,7 @@ use std::alloc::AllocError;
 /// The legal turns of a state that are still to come: moves, points ascending, and then the pass.
 #[derive(Clone, Copy, Debug, Default, PartialEq, Eq)]
 pub struct TurnsLeft {
-    /// The number of the first point that has not been asked; none, where the pass has been taken.
+    /// The number of the first point that has not been looked at. `None` if the pass has been taken.
     next: Option<u16>,
 }
 
@@ -35,7 +35,7 @@ impl TurnsLeft {
 }
 
 impl<B: Board, S: Seen> State<B, S> {
-    /// The first legal move at a point whose number is not below this one, and what it leads to.
+    /// The first legal move at a point whose number is at least this one, and what it leads to.
     fn next_move(&self, from: usize) -> Option<(Point, Child)>
         ensures some { IfSome result (λ m. IsNextMove self.now.state from m.0) }
         ensures child { IfSome result
@@ -58,7 +58,7 @@ impl<B: Board, S: Seen> State<B, S> {
         None
     }
 
-    /// The first legal turn at a point of this number or a greater one; the pass, where there is none.
+    /// The first legal turn at a point with this number or a greater one; the pass if there is none.
     pub fn next_turn(&self, from: usize) -> Turn
         ensures { ply_of self.now.state.game.size result ≡ turn_from self.now.state from }
     {
@@ -68,9 +68,9 @@ impl<B: Board, S: Seen> State<B, S> {
         }
     }
 
-    /// Takes the next of the legal turns that are left, which is not made, with what it leads to; none, where none is left.
+    /// Takes the next of the legal turns that are left, without making it, and what it leads to. `None` if no turn is left.
     ///
-    /// It asks the empty points of the region up to that turn, each at the cost of a move.
+    /// It looks at the empty points of the region up to that turn, each at the cost of a move.
     pub fn next_child(&self, left: &mut TurnsLeft) -> Option<(Turn, Child)>
         ensures takes { Takes self.now.state left.old.next
             (option_map (λ r. ply_of self.now.state.game.size r.0) result) left.new.next }
@@ -88,7 +88,8 @@ impl<B: Board, S: Seen> State<B, S> {
         Some((Turn::At(found.0), found.1))
     }
 
-    /// Takes the next of the legal turns that are left, which is not made; none, where none is left. It costs what `next_child` does.
+    /// Takes the next of the legal turns that are left, without making it. `None` if no turn is left. The cost is that of
+    /// `next_child`.
     pub fn next_left(&self, left: &mut TurnsLeft) -> Option<Turn>
         ensures { Takes self.now.state left.old.next
             (option_map (ply_of self.now.state.game.size) result) left.new.next }
@@ -99,7 +100,7 @@ impl<B: Board, S: Seen> State<B, S> {
         }
     }
 
-    /// The legal turns, points ascending and then pass; none where somebody has won.
+    /// The legal turns, points ascending and then the pass. There are none if somebody has won.
     pub fn turns(&self) -> ArrayVec<Turn, MAX_TURNS>
         ensures { map (ply_of self.now.state.game.size) result.items
             ≡ (if is_none (over self.now.state) then legal_turns self.now.state else []) }
@@ -117,7 +118,7 @@ impl<B: Board, S: Seen> State<B, S> {
         all
     }
 
-    /// Makes the first legal move at a point whose number is not below this one; where there is none, nothing changes.
+    /// Makes the first legal move at a point whose number is at least this one. If there is none, nothing changes.
     fn make_next_move(&mut self, from: usize) -> Result<Option<Point>, AllocError>
         requires open { over self.old.state ≡ None }
         ensures some { IfOk result (λ o. IfSome o (λ p. IsNextMove self.old.state from p)) }
@@ -143,7 +144,8 @@ impl<B: Board, S: Seen> State<B, S> {
         Ok(None)
     }
 
-    /// Makes the next of the legal turns that are left, and takes it off; none, where none is left. Each move that is asked is played once. Where memory is refused nothing changes.
+    /// Makes the next of the legal turns that are left, and takes it from them. `None` if no turn is left. Each move that is tried
+    /// is played once. If memory is refused, nothing changes.
     pub fn after_next(&mut self, left: &mut TurnsLeft) -> Result<Option<Turn>, AllocError>
         requires open { over self.old.state ≡ None }
         ensures takes { IfOk result

@@ -15,18 +15,18 @@ use std::alloc::{AllocError, Global};
 pub enum Within {
     /// This side can force a win.
     Wins(Colour),
-    /// Neither side can.
+    /// Neither side can force a win.
     Neither,
     /// The tree of all legal play has more states than allowed.
     Limit,
 }
 
-/// Who can force a win within so many turns: `Limit` exactly where the tree of all legal play of at most so many turns
-/// has more states than `nodes`, the start included; else the side that can; else `Neither`.
+/// Who can force a win within `turns` turns. It is `Limit` exactly if the tree of all legal play of at most that many turns has
+/// more states than `nodes`, the start included; otherwise it is the side that can force a win, or `Neither`.
 ///
-/// Winning, turns and states are those of the target game, which is this project's own. Every state of the tree is
-/// visited, up to the first past the limit; memory is that of one path. An error says that memory was refused, and
-/// nothing of the problem.
+/// Winning, turns and states are those of the target game, which is this project's own. Every state of the tree is visited, up to
+/// the first past the limit, and the memory used is that of one path. An error means that memory was refused, and says nothing
+/// about the problem.
 pub fn decide_within(
     alloc: Global,
     problem: &Problem,

@@ -1,4 +1,4 @@
-//! Claims written and walked, against texts that were spelled by hand from the format.
+//! Claims that are written and walked, compared with texts that were spelled by hand from the format.
 
 use crate::expect::{expect_bytes, expect_number, expect_same, expect_text, expect_that};
 use crate::narrow::Narrow;
@@ -46,7 +46,7 @@ fn claim(rt: &impl Abort, winner: Colour, lemmas: Vec<Lemma>, main: Node) -> Cer
     }
 }
 
-/// A lemma with so many passes and these listed colourings, which main uses.
+/// A claim with a lemma that has this many passes and these listed colourings, and which main uses.
 fn one_lemma(alloc: Global, rt: &impl Abort, passes: u8, listed: &[Colouring]) -> Certificate {
     let mut lemmas = Vec::new(alloc);
     lemmas
@@ -220,7 +220,7 @@ fn refuses_what_has_no_spelling(rt: HostRuntime) {
             Err(CertWrite::NoSpelling),
         );
         expect_that(&rt, out.is_empty());
-        // The header and `main` have a spelling, the third line has none.
+        // The header and `main` have a spelling, but the third line has none.
         let mut held = HeldSource::new(alloc, certificate);
         expect_that(&rt, matches!(held.next(), Ok(Some(Line::Header { .. }))));
         expect_that(&rt, matches!(held.next(), Ok(Some(Line::Main))));

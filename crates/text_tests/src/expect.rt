@@ -1,39 +1,39 @@
-//! What a test expects, said by calls: a macro's branch is proved wherever it stands, and proofs of tests took two to four
-//! times as long. A call of a function with a type parameter costs ten times one of a function without.
+//! What a test expects, written as calls: a macro's branch is proved wherever it is used, and proofs of tests took two to four
+//! times as long with macros. A call of a function with a type parameter costs ten times as much as one of a function without.
 
 ghost use Rattle.std.specs.Prelude.{IsTrue};
 
 use std::fmt::Debug;
 use std::process::Abort;
 
-/// Both are the same.
+/// Expects both to be equal.
 pub(crate) fn expect_same<T: PartialEq + Debug + Drop>(rt: &impl Abort, found: T, wanted: T) {
     assert_eq!(rt; found, wanted);
 }
 
-/// The fact holds.
+/// Expects the fact to hold.
 pub(crate) fn expect_that(rt: &impl Abort, fact: bool)
     ensures { IsTrue fact }
 {
     assert!(rt; fact);
 }
 
-/// Both are the same bytes.
+/// Expects both to be the same bytes.
 pub(crate) fn expect_bytes(rt: &impl Abort, found: &[u8], wanted: &[u8]) {
     assert_eq!(rt; found, wanted);
 }
 
-/// Both are the same text.
+/// Expects both to be the same text.
 pub(crate) fn expect_text(rt: &impl Abort, found: &str, wanted: &str) {
     assert_eq!(rt; found, wanted);
 }
 
-/// Both are the same count.
+/// Expects both to be the same count.
 pub(crate) fn expect_count(rt: &impl Abort, found: usize, wanted: usize) {
     assert_eq!(rt; found, wanted);
 }
 
-/// Both are the same number of 64 bits.
+/// Expects both to be the same number of 64 bits.
 pub(crate) fn expect_number(rt: &impl Abort, found: u64, wanted: u64) {
     assert_eq!(rt; found, wanted);
 }

@@ -6,7 +6,7 @@ use proof_cert::{SourceFault, read_cert};
 use std::alloc::Global;
 use std::process::Abort;
 
-/// A claim of so many turns one after another.
+/// A claim of this many turns in a row.
 fn line_of_play(rt: &impl Abort, alloc: Global, turns: usize) -> Vec<u8> {
     let mut text = b"tsucert 1 3 B\nmain\n".to_vec(alloc).expect(rt, "memory");
     for _ in 0..turns {
@@ -30,7 +30,7 @@ fn reads_as_deep_as_a_claim_may_be(rt: HostRuntime) {
     expect_that(&rt, matches!(read, Err(SourceFault::Malformed)));
 }
 
-/// A claim of so many lemmas.
+/// A claim of this many lemmas.
 fn many_lemmas(rt: &impl Abort, alloc: Global, lemmas: usize) -> Vec<u8> {
     let mut text = b"tsucert 1 1 B\n".to_vec(alloc).expect(rt, "memory");
     for _ in 0..lemmas {

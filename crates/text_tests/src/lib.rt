@@ -1,5 +1,5 @@
-//! Tests of texts: SGF records, claims with their lines, and the words of the command line. They call what those crates
-//! make public.
+//! Tests of texts: SGF records, claims with their lines, and the words of the command line. They use only the public calls of those
+//! crates.
 #![tactic(auto)]
 
 #[cfg(test)]

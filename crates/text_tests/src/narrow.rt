@@ -1,14 +1,14 @@
-//! A device that takes bytes by and by.
+//! A device that takes a few bytes at a time.
 
 use std::io;
 
-/// A writer that takes some bytes at a time, and no more than so many in all.
+/// A writer that takes some bytes at a time, and only a limited number in all.
 #[derive(Drop)]
 pub struct Narrow {
     pub taken: Vec<u8>,
     pub piece: usize,
     pub room: usize,
-    /// Whether a write fails where there is no more room. Else it takes nothing.
+    /// Whether a write fails when there is no more room. Otherwise it takes nothing.
     pub fails: bool,
 }
 

@@ -21,7 +21,7 @@ fn expect_refusal(rt: &impl Abort, found: Result<(), CertWrite>, wanted: Result<
     assert_eq!(rt; found, wanted);
 }
 
-/// A claim of this version with a lemma of these lists, which main uses.
+/// A claim of this version, with a lemma that has these lists and which main uses.
 fn of_lists(
     alloc: Global,
     rt: &impl Abort,
@@ -97,7 +97,7 @@ fn version_one_has_no_line_for_what_must_have_occurred(rt: HostRuntime) {
     let mut out = Vec::new(alloc);
     expect_refusal(&rt, write_cert(&old, &mut out), Err(CertWrite::NoSpelling));
     expect_that(&rt, out.is_empty());
-    // The header and the lemma's first line have a spelling, the third line has none.
+    // The header and the lemma's first line have a spelling, but the third line has none.
     let mut held = HeldSource::new(alloc, &old);
     expect_that(
         &rt,

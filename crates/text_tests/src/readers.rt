@@ -10,7 +10,7 @@ use std::process::Abort;
 const CLAIM: &str =
     "tsucert 1 3 B\nlemma B 0 O.OXO....\nnot .XOXO....\nplay ba\nwon\nend\nmain\nuse 1\nend\n";
 
-// Gives a text in pieces of so many bytes, and then fails, or has ended.
+// Gives a text in pieces of a fixed number of bytes, and then fails or ends.
 #[derive(Drop)]
 struct Pieces<'a> {
     left: &'a [u8],

@@ -1,4 +1,4 @@
-//! Texts of the format with what they read as, and trees with what they are written as.
+//! Texts of the format and the trees that they read as, and trees and the texts that they are written as.
 
 use crate::expect::{expect_bytes, expect_count, expect_same, expect_text, expect_that};
 use crate::narrow::Narrow;
@@ -6,7 +6,7 @@ use sgf_text::*;
 use std::alloc::Global;
 use std::process::Abort;
 
-/// The fault of a text, where it has one.
+/// The fault of a text, if it has one.
 fn fault_of(alloc: Global, text: &[u8]) -> Option<SgfFault> {
     read_tree(alloc, text).err()
 }
@@ -194,7 +194,7 @@ fn holds_deep_and_long_trees(rt: HostRuntime) {
     );
 }
 
-/// A node with so many properties of different names, each with one empty value.
+/// A node with this many properties of different names, each with one empty value.
 fn many_names(rt: &impl Abort, alloc: Global, n: usize) -> Vec<u8> {
     let mut text = b"(;".to_vec(alloc).expect(rt, "memory");
     for i in 0..n {

@@ -1,4 +1,4 @@
--- What a run writes: its bytes, and how the run ends where they are written.
+-- What a run writes: its bytes, and how the run ends if they are written.
 use Rattle.std.specs.Prelude.{ℕ, List, [], ◌∷◌, ◌++◌, string_bytes}
 use Rattle.sgf_text.specs.Text.{tree_text}
 use Rattle.tool_parts.specs.declared.output.Output.{Output}

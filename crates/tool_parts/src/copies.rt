@@ -1,18 +1,18 @@
-//! Copies of the parts of a tree, in memory of their own. Only memory is refused.
+//! Copies of the parts of a tree, in memory of their own. A copy fails only if memory is refused.
 
 ghost use Rattle.std.specs.Prelude.{◌≡◌, ◌++◌, ◌∷◌, [], IfOk, OnOk};
 
 use sgf_text::{Bytes, Property, SgfNode, Tree, Values};
 use std::alloc::{AllocError, Global};
 
-/// The same bytes.
+/// A copy of the bytes.
 pub fn copy_bytes(alloc: Global, bytes: &Bytes) -> Result<Bytes, AllocError>
     ensures { IfOk result (λ copy. copy ≡ bytes.now) }
 {
     Ok(Bytes::from_vec(bytes.as_slice().to_vec(alloc)?))
 }
 
-/// The same values.
+/// A copy of the values.
 fn copy_values(alloc: Global, values: &[Bytes]) -> Result<Vec<Bytes>, AllocError>
     ensures { IfOk result (λ copy. copy.items ≡ values.now) }
 {
@@ -23,7 +23,7 @@ fn copy_values(alloc: Global, values: &[Bytes]) -> Result<Vec<Bytes>, AllocError
     Ok(copy)
 }
 
-/// The same property.
+/// A copy of the property.
 pub fn copy_property(alloc: Global, property: &Property) -> Result<Property, AllocError>
     ensures { IfOk result (λ copy. copy ≡ property.now) }
 {
@@ -35,7 +35,7 @@ pub fn copy_property(alloc: Global, property: &Property) -> Result<Property, All
     })
 }
 
-/// The same properties.
+/// A copy of the properties.
 pub fn copy_properties(alloc: Global, properties: &[Property]) -> Result<Vec<Property>, AllocError>
     ensures { IfOk result (λ copy. copy.items ≡ properties.now) }
 {
@@ -46,7 +46,7 @@ pub fn copy_properties(alloc: Global, properties: &[Property]) -> Result<Vec<Pro
     Ok(copy)
 }
 
-/// The same node.
+/// A copy of the node.
 pub fn copy_node(alloc: Global, node: &SgfNode) -> Result<SgfNode, AllocError>
     ensures { IfOk result (λ copy. copy ≡ node.now) }
 {
@@ -57,7 +57,7 @@ pub fn copy_node(alloc: Global, node: &SgfNode) -> Result<SgfNode, AllocError>
     }
 }
 
-/// Puts the same nodes at the end.
+/// Appends copies of the nodes.
 pub fn push_nodes(
     alloc: Global,
     nodes: &[SgfNode],
@@ -71,7 +71,7 @@ pub fn push_nodes(
     Ok(())
 }
 
-/// The same tree. It recurses as deep as trees are nested.
+/// A copy of the tree. It recurses as deep as trees are nested.
 pub fn copy_tree(alloc: Global, tree: &Tree) -> Result<Tree, AllocError>
     ensures { IfOk result (λ copy. copy ≡ tree.now) }
 {
@@ -87,7 +87,7 @@ pub fn copy_tree(alloc: Global, tree: &Tree) -> Result<Tree, AllocError>
     }
 }
 
-/// Puts the same trees at the end.
+/// Appends copies of the trees.
 pub fn push_trees(alloc: Global, trees: &[Tree], into: &mut Vec<Tree>) -> Result<(), AllocError>
     ensures { OnOk result (into.new.items ≡ into.old.items ++ trees.now) }
 {

@@ -6,14 +6,14 @@ ghost use Rattle.std.specs.Io.KnownBytes.{Consumes, IsAtEnd};
 use std::alloc::AllocError;
 use std::io::Read;
 
-/// The most bytes of an input: 64 MiB.
+/// The greatest length of an input, in bytes: 64 MiB.
 const MAX_INPUT: usize = 67_108_864;
 
-/// How many bytes are asked of a reader at once.
+/// How many bytes a reader is asked for at once.
 const BLOCK: usize = 65_536;
 
-/// Appends what the reader has, in blocks. True where the reader has ended; false where a read fails, or where the input
-/// has 64 MiB or more.
+/// Appends what the reader has, in blocks. Returns `true` if the reader has ended, and `false` if a read fails or the input has 64
+/// MiB or more.
 pub fn read_whole<R: Read>(reader: &mut R, into: &mut Vec<u8>) -> Result<bool, AllocError>
     ensures bytes { OnOk result ((bytes : List ℕ) × (into.new.items ≡ into.old.items ++ bytes)
         × Consumes (R.remaining reader.old) (R.remaining reader.new) bytes) }

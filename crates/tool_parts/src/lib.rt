@@ -4,7 +4,9 @@
 mod copies;
 mod input;
 mod output;
+mod refusals;
 mod status;
+mod texts;
 mod words;
 
 pub use copies::{
@@ -13,5 +15,7 @@ pub use copies::{
 };
 pub use input::read_whole;
 pub use output::{Output, without_input, without_request, write_output};
+pub use refusals::{refused_problem, refused_tree};
 pub use status::{Status, write_record, write_text};
+pub use texts::text_of;
 pub use words::{NoRequest, no_request};

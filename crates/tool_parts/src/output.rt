@@ -20,7 +20,7 @@ pub enum Output {
     Text(String, Status),
 }
 
-/// Writes what there is; that memory was refused has a text of its own. The answer is how the run ends.
+/// Writes the output. If memory was refused, a text of its own says so. Returns how the run ends.
 pub fn write_output<W: Write>(writer: &mut W, output: Result<Output, AllocError>) -> Status
     ensures written { IfOk output (λ o. result ≢ Failed
         → Appends (W.contents writer.old) (W.contents writer.new) (bytes_of o)) }
@@ -34,7 +34,7 @@ pub fn write_output<W: Write>(writer: &mut W, output: Result<Output, AllocError>
     }
 }
 
-/// What is written where the words ask for nothing.
+/// What is written if the words ask for nothing.
 pub fn without_request(none: NoRequest) -> Result<Output, AllocError>
     ensures { (text : _) → none ≡ Words text → result ≡ Ok (Text text BadWords) }
 {
@@ -44,7 +44,7 @@ pub fn without_request(none: NoRequest) -> Result<Output, AllocError>
     }
 }
 
-/// What is written where the input was not read to its end.
+/// What is written if the input was not read to its end.
 pub fn without_input(alloc: Global) -> Result<Output, AllocError>
     ensures text { IfOk result (λ o. bytes_of o ≡ codes "failed: read\n") }
     ensures status { IfOk result (λ o. end_of o ≡ Failed) }

@@ -17,14 +17,14 @@ pub enum Status {
     Rejected,
     /// The input is refused.
     Refused,
-    /// The arguments are invalid, or a call for help or the version.
+    /// The arguments are invalid, or ask for help or the version.
     BadWords,
     /// Memory was refused, a read or a write failed, or the input is too long.
     Failed,
 }
 
 impl Status {
-    /// The exit code, as `tsumego` has them.
+    /// The exit code, as in `tsumego`.
     pub fn code(self) -> u8
         ensures { result ≡ code_of self }
     {
@@ -38,7 +38,7 @@ impl Status {
     }
 }
 
-/// Writes the whole text and answers with this status, or `Failed` where a write fails.
+/// Writes the whole text and returns this status, or `Failed` if a write fails.
 pub fn write_text<W: Write>(writer: &mut W, text: &[u8], status: Status) -> Status
     ensures written { result ≢ Failed
         → Appends (W.contents writer.old) (W.contents writer.new) text.now }
@@ -50,7 +50,7 @@ pub fn write_text<W: Write>(writer: &mut W, text: &[u8], status: Status) -> Stat
     }
 }
 
-/// Writes the record and a line feed. `Failed` where a write fails.
+/// Writes the record and a line feed. Returns `Failed` if a write fails.
 pub fn write_record<W: Write>(writer: &mut W, tree: &Tree) -> Status
     ensures written { result ≢ Failed
         → Appends (W.contents writer.old) (W.contents writer.new) (tree_text tree.now ++ 10 ∷ []) }

@@ -7,7 +7,7 @@ use std::alloc::{AllocError, Global};
 /// Why nothing is asked for.
 #[derive(Debug, Drop)]
 pub enum NoRequest {
-    /// The words have a fault, or call for help or the version: this is the text.
+    /// The words have a fault, or ask for help or the version. This is the text.
     Words(String),
     Memory,
 }
@@ -18,7 +18,7 @@ impl From<AllocError> for NoRequest {
     }
 }
 
-/// What a parse that failed says: `clap`'s text, which no clause pins.
+/// What a failed parse says: `clap`'s text, about which no clause says anything.
 pub fn no_request(alloc: Global, error: &Error) -> NoRequest {
     if let ErrorKind::OutOfMemory = error.kind() {
         return NoRequest::Memory;

@@ -1,7 +1,7 @@
-//! The six shapes with one vital point, as Sensei's Library lists them ("Nakade", senseis.xmp.net): straight three, bent
-//! three, pyramid four, bulky five, crossed five and rabbity six. With the attacker to move, the point that the page names
-//! is the one turn that wins; of each of the 34 turns another solver, which shares no code with this one, says the same.
-//! Then what is written for problems so small that it was worked out by hand.
+//! The six shapes with one vital point, as Sensei's Library lists them ("Nakade", senseis.xmp.net): straight three, bent three,
+//! pyramid four, bulky five, crossed five and rabbity six. With the attacker to move, the point that the page names is the only
+//! turn that wins. For each of the 34 turns, another solver, which shares no code with this one, says the same. The rest is what is
+//! written for problems so small that it was worked out by hand.
 
 use crate::expect::expect_written;
 use first_turns::run;
@@ -10,12 +10,19 @@ use std::process::Abort;
 use tool_parts::Status;
 
 // What these words and this input give.
-fn gives(rt: &impl Abort, alloc: Global, words: &[&str], input: &str, status: Status, text: &str) {
+pub(crate) fn gives(
+    rt: &impl Abort,
+    alloc: Global,
+    words: &[&str],
+    input: &str,
+    status: Status,
+    text: &str,
+) {
     gives_with_notes(rt, alloc, words, input, status, text, "");
 }
 
-// The same, with what is said on standard error.
-fn gives_with_notes(
+// Like `gives`, with what is said on standard error.
+pub(crate) fn gives_with_notes(
     rt: &impl Abort,
     alloc: Global,
     words: &[&str],
@@ -33,7 +40,7 @@ fn gives_with_notes(
     assert_eq!(rt; ended, status);
 }
 
-// With White to move the shape has this vital point alone.
+// With White to move, the shape has only this vital point.
 fn has_one_answer(rt: &impl Abort, alloc: Global, record: &str, text: &str) {
     gives(
         rt,
@@ -119,7 +126,7 @@ fn rabbity_six(rt: HostRuntime) {
     );
 }
 
-// With one state that may be expanded, the capture after a pass is found, and what takes two more turns is not.
+// If one state may be expanded, the capture after a pass is found, but not what takes two more turns.
 #[test]
 fn what_is_unknown(rt: HostRuntime) {
     gives(
@@ -195,7 +202,7 @@ fn what_is_refused(rt: HostRuntime) {
         &["first_moves"],
         "",
         Status::Refused,
-        "refused: no tree\n",
+        "refused: sgf 1 no tree\n",
     );
     gives(
         &rt,
@@ -203,6 +210,6 @@ fn what_is_refused(rt: HostRuntime) {
         &["first_moves"],
         "(;SZ[3])",
         Status::Refused,
-        "refused: no problem node\n",
+        "refused: problem 3 no problem node\n",
     );
 }

@@ -1,10 +1,12 @@
-//! Tests of the helper programs, whose libraries these are. They call what the libraries make public.
+//! Tests of the libraries of the helper programs. They use only the public calls of those libraries.
 #![tactic(auto)]
 
 #[cfg(test)]
 mod expect;
 #[cfg(test)]
 mod first_moves;
+#[cfg(test)]
+mod lines;
 #[cfg(test)]
 mod pages;
 #[cfg(test)]

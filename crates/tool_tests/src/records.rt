@@ -1,5 +1,5 @@
-//! Files in the forms that editors and servers write, and what is made of them. The records that are wanted are written
-//! by hand from the rules of the formats.
+//! Files in the forms that editors and servers write, and what is made from them. The expected records were written by hand from
+//! the rules of the formats.
 
 use crate::expect::expect_written;
 use record_tools::run;
@@ -20,7 +20,7 @@ pub(crate) fn gives(
     gives_with_notes(rt, alloc, words, input, status, text, "");
 }
 
-// The same, with these notes on standard error.
+// Like `gives`, with these notes on standard error.
 pub(crate) fn gives_with_notes(
     rt: &(impl Abort + Files),
     alloc: Global,
@@ -71,12 +71,12 @@ fn games_of_a_file(rt: HostRuntime) {
         &["problem_tools", "split", "3"],
         TWO_GAMES,
         Status::Refused,
-        "refused: no tree\n",
+        "refused: sgf 1 no tree\n",
     );
 }
 
-// A game that was cut off, in a variation or in a comment, does not take the next one for a part of itself: a line that
-// begins with a root's property begins a game. Such a text that is no line's begin is a comment's.
+// A game that was cut off, in a variation or in a comment, does not take the next one for a part of itself: a line that begins with
+// a root's property begins a game. Such a text that is not at the beginning of a line belongs to a comment.
 #[test]
 fn games_that_were_cut_off(rt: HostRuntime) {
     let alloc = rt.alloc();
@@ -84,12 +84,12 @@ fn games_that_were_cut_off(rt: HostRuntime) {
         (
             "1",
             "(;SZ[9];B[aa]\n(;FF[4]SZ[7])\n)",
-            "refused: syntax at 14\n",
+            "refused: sgf 2 syntax at 14\n",
         ),
         (
             "2",
             "(;SZ[9])(;C[cut\n( ;\r\nCA [UTF-8]C[two])",
-            "refused: syntax at 8\n",
+            "refused: sgf 2 syntax at 8\n",
         ),
     ] {
         gives(
@@ -133,8 +133,8 @@ fn one_tree_or_a_folder(rt: HostRuntime) {
     );
 }
 
-// A setup with old names, a rectangle, no PL and line ends of another system; its comment stays. The chain that can be
-// taken is part of the region.
+// A setup with old names, a rectangle, no PL and the line ends of another system; its comment stays. The chain that can be taken is
+// part of the region.
 #[test]
 fn a_setup_is_marked(rt: HostRuntime) {
     let alloc = rt.alloc();
@@ -172,7 +172,7 @@ fn a_node_of_a_game_is_marked(rt: HostRuntime) {
     );
 }
 
-// Beside a move PL counts for nothing: the marks stand in a node of their own.
+// Beside a move PL is ignored, so the marks are in a node of their own.
 #[test]
 fn marks_after_a_move(rt: HostRuntime) {
     let alloc = rt.alloc();
@@ -215,7 +215,7 @@ fn what_is_refused(rt: HostRuntime) {
         &words,
         "(;SZ[3]AW[aa])",
         Status::Refused,
-        "refused: the marks are no points\n",
+        "refused: --target is no list of points of the board, as dc,D17\n",
     );
     let words = ["problem_tools", "mark", "--target", "bb"];
     gives(
@@ -224,7 +224,7 @@ fn what_is_refused(rt: HostRuntime) {
         &words,
         "(;SZ[3]AW[aa])",
         Status::Refused,
-        "refused: bad targets\n",
+        "refused: problem 11 bad targets at node 0\n",
     );
     gives(
         &rt,
@@ -232,6 +232,95 @@ fn what_is_refused(rt: HostRuntime) {
         &words,
         "",
         Status::Refused,
-        "refused: no tree\n",
+        "refused: sgf 1 no tree\n",
+    );
+}
+
+// Points as at the edge of the board, including rectangles, and colours as in GTP, in any letter case: A4 is ab on five rows.
+#[test]
+fn points_as_people_name_them(rt: HostRuntime) {
+    let record = "(;SZ[3]AB[ab]AW[aa])";
+    let wanted = "(;SZ[3]AB[ab]AW[aa]PL[B]TR[aa]SQ[ba][ca])\n";
+    gives(
+        &rt,
+        rt.alloc(),
+        &[
+            "problem_tools",
+            "mark",
+            "--target",
+            "a3",
+            "--to-play",
+            "Black",
+            "--region",
+            "C3:b3",
+        ],
+        record,
+        Status::Answered,
+        wanted,
+    );
+    gives(
+        &rt,
+        rt.alloc(),
+        &[
+            "problem_tools",
+            "mark",
+            "--target",
+            "AA",
+            "--to-play",
+            "b",
+            "--region",
+            "ba,C3",
+        ],
+        record,
+        Status::Answered,
+        wanted,
+    );
+    gives(
+        &rt,
+        rt.alloc(),
+        &["problem_tools", "mark", "--target", "a3", "--region", "D3"],
+        record,
+        Status::Refused,
+        "refused: --region is no list of points of the board, as dc,D17:F16\n",
+    );
+}
+
+// The position alone, with the titles of its record. After the ko was taken, the game bars a move that the position does not.
+#[test]
+fn a_position_without_its_game(rt: HostRuntime) {
+    gives(
+        &rt,
+        rt.alloc(),
+        &[
+            "problem_tools",
+            "mark",
+            "--bare",
+            "--target",
+            "aa",
+            "--region",
+            "ba",
+        ],
+        "(;SZ[3]GN[Game]KM[6];B[ab];W[aa];B[cc];W[ca](;B[bb])(;B[]))",
+        Status::Answered,
+        "(;FF[4]GM[1]SZ[3]AB[ab][bb][cc]AW[aa][ca]GN[Game]PL[W]TR[aa]SQ[ba])\n",
+    );
+    gives_with_notes(
+        &rt,
+        rt.alloc(),
+        &[
+            "problem_tools",
+            "mark",
+            "--bare",
+            "--node",
+            "1",
+            "--target",
+            "aa",
+            "--region",
+            "ba,cc",
+        ],
+        "(;SZ[3]AB[ba][ab]AW[ca][bb]PL[W];W[aa])",
+        Status::Answered,
+        "(;FF[4]GM[1]SZ[3]AB[ab]AW[aa][ca][bb]PL[B]TR[aa]SQ[ba][cc])\n",
+        "problem_tools: play can give a position of the game again, which was barred: without the game the answer may be another\n",
     );
 }

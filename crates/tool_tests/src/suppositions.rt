@@ -1,4 +1,4 @@
-//! Regions of so many empty points, with stones that are put up outside. Which points these are was worked out by a program
+//! Regions of a given number of empty points, with stones that are placed outside. The expected points were worked out by a program
 //! in another language, which shares no code with this one.
 
 use crate::records::{gives, gives_with_notes};
@@ -11,7 +11,7 @@ const CORNER: &str = "(;SZ[9]AB[aa][ba][bb][ac]AW[ca][cb][bc][cc][ad]PL[W])";
 
 const REGION: &str = "SQ[aa][ba][ab][bb][ac][ad][bd][ae][be][af][ag])\n";
 
-// What a region of six empty points with these walls gives: what stands before the region, and where stones are put up.
+// What a region of six empty points with these walls gives: what comes before the region, and where stones are placed.
 fn with_walls(rt: &(impl Abort + Files), alloc: Global, walls: &str, front: &str, stones: &str) {
     let words = [
         "problem_tools",
@@ -37,7 +37,7 @@ fn with_walls(rt: &(impl Abort + Files), alloc: Global, walls: &str, front: &str
     );
 }
 
-// Where nothing is put up the marks stand in the node itself; else they have a node of their own with the stones.
+// If no stone is placed, the marks are in the node itself; otherwise they have a node of their own with the stones.
 #[test]
 fn walls_are_put_up(rt: HostRuntime) {
     let alloc = rt.alloc();

@@ -1,4 +1,4 @@
-//! What is written where a search has found a claim.
+//! What is written when a search has found a claim.
 
 ghost use Rattle.std.specs.Prelude.{Bool, IfOk, OnOk, OnErr, true, false};
 ghost use Rattle.std.specs.Io.KnownBytes.{Appends};
@@ -27,22 +27,22 @@ use tsumego_problem::laws::{canonical_reads, problems_are_kept, solution_reads};
 use tsumego_problem::problem_tree;
 use tsumego_replies::{NO_MEMORY, Status, TOO_LARGE};
 
-/// The most turns of an answer tree that is written.
+/// The greatest number of turns of an answer tree that is written.
 pub const MAX_TURNS: usize = 90_000;
 
-/// What is written of a claim: the whole text, and the status with it.
+/// What is written of a claim: the whole text, and its status.
 #[derive(Drop)]
 struct Said {
     status: Status,
     text: Vec<u8>,
 }
 
-/// Writes the solution record of the claim; or, as a proof, the canonical record of its problem, a line feed, and the claim.
-/// With `lift` a proof has the claim as one lemma, or as it is where it has lemmas or would pass a limit.
+/// Writes the solution record of the claim; or, as a proof, the canonical record of its problem, a line feed, and the claim. With
+/// `lift`, a proof has the claim as one lemma, or as it is if it has lemmas or would pass a limit.
 ///
-/// The whole text is made before the first byte is written, so that no want of memory cuts it. An answer tree of more than
-/// `MAX_TURNS` turns is not written, and the text says so. After a failed write the writer has taken a front of a text that
-/// may be written.
+/// The whole text is made before the first byte is written, so it is never cut off because memory is refused. An answer tree of
+/// more than `MAX_TURNS` turns is not written, and the text says so. After a failed write the writer has taken a front of a text
+/// that may be written.
 pub fn answer<W: Write>(
     alloc: Global,
     checked: &Checked,
@@ -73,7 +73,7 @@ fn said_of(alloc: Global, checked: &Checked, proof: bool, lift: bool) -> Result<
     said_as_claim(alloc, checked)
 }
 
-/// The record of the claim's answer tree; none where the tree has more turns than are written.
+/// The record of the claim's answer tree. `None` if the tree has more turns than are written.
 fn solution_of(alloc: Global, checked: &Checked) -> Result<Option<Tree>, AllocError>
     ensures { IfOk result (λ r. IsSolutionOf checked.now r) }
 {
@@ -126,7 +126,7 @@ fn said_as_claim(alloc: Global, checked: &Checked) -> Result<Said, AllocError>
     said_with(alloc, checked, checked.certificate())
 }
 
-/// The canonical record and the claim as one lemma; or as it was found, where it has lemmas or would pass a limit.
+/// The canonical record and the claim as one lemma, or as it was found if it has lemmas or would pass a limit.
 fn said_as_lemma(alloc: Global, checked: &Checked) -> Result<Said, AllocError>
     ensures { IfOk result (λ r. MayAnswer true true checked.now r.status r.text.items) }
 {
@@ -142,7 +142,7 @@ fn said_as_lemma(alloc: Global, checked: &Checked) -> Result<Said, AllocError>
     }
 }
 
-/// The canonical record and this claim, which is written of the one that was found.
+/// The canonical record and this claim, which is written for the one that was found.
 fn said_with(
     alloc: Global,
     checked: &Checked,
@@ -207,7 +207,7 @@ pub(crate) fn write_all<W: Write>(bytes: &[u8], writer: &mut Counting<W>) -> Res
     Ok(())
 }
 
-/// Writes the whole text; a failed write has a status of its own.
+/// Writes the whole text. A failed write has a status of its own.
 pub fn write_text<W: Write>(writer: &mut Counting<W>, text: &[u8], status: Status) -> Status
     ensures { Writes (HasFailed writer.new.faults writer.new.interrupts)
         (W.contents writer.old.inner) (W.contents writer.new.inner) text.now status result }

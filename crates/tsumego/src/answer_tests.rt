@@ -17,7 +17,7 @@ const LAST_ROW: &[u8] = b"(;FF[4]SZ[9]AW[aa]PL[B]TR[aa]SQ[ai:hi])";
 const CANONICAL: &[u8] =
     b"(;FF[4]GM[1]SZ[9]AW[aa];PL[B]TR[aa]SQ[ai][bi][ci][di][ei][fi][gi][hi])\n";
 
-// The columns of the last row, as they stand in a vertex.
+// The points of the last row, as they are written in a vertex.
 const COLUMNS: [&str; 8] = ["ai", "bi", "ci", "di", "ei", "fi", "gi", "hi"];
 
 fn push(claim: &mut Vec<u8>, text: &str) -> Result<(), AllocError> {
@@ -28,7 +28,7 @@ fn push(claim: &mut Vec<u8>, text: &str) -> Result<(), AllocError> {
 // The stone on each column in a set of stones.
 const STONES: [usize; 8] = [1, 2, 4, 8, 16, 32, 64, 128];
 
-// Black's turns where it has these stones: after each White passes, and the lemma of the larger set goes on.
+// Black's turns when it has these stones: after each, White passes, and the lemma of the larger set goes on.
 fn push_replies(
     alloc: Global,
     claim: &mut Vec<u8>,
@@ -66,7 +66,7 @@ fn push_cells(claim: &mut Vec<u8>, stones: usize) -> Result<(), AllocError> {
     push(claim, ".\n")
 }
 
-// All sets of stones but the empty one, larger ones first.
+// All sets of stones except the empty one, larger ones first.
 fn sets(alloc: Global) -> Result<Vec<usize>, AllocError> {
     let mut all = Vec::new(alloc);
     for fewer in 0..8u32 {
@@ -129,7 +129,7 @@ fn checked(rt: &impl Abort, alloc: Global, claim: &[u8]) -> Checked {
         .expect(rt, "a valid claim")
 }
 
-// What is written of the claim as a proof: a claim that has lemmas is not made into one lemma.
+// Whether the claim is written whole as a proof. A claim that has lemmas is not made into one lemma.
 fn is_written_whole(rt: &impl Abort, alloc: Global, checked: &Checked, claim: &[u8], lift: bool) {
     let mut proof = Counting::new(Vec::new(alloc));
     let ended = answer(alloc, checked, true, lift, &mut proof);

@@ -5,7 +5,7 @@ use std::alloc::Global;
 use std::process::Abort;
 use tsumego_replies::Status;
 
-// For this record `audit` has this status and this text.
+// Expects this status and this text from `audit` for this record.
 fn audits(rt: &impl Abort, alloc: Global, record: &str, status: Status, text: &str) {
     answers(rt, alloc, &["tsumego", "audit"], record, status, text);
 }
@@ -105,8 +105,8 @@ fn faulty_branches_are_rejected(rt: HostRuntime) {
     }
 }
 
-// What is no record, and a record without a problem, are refused as for the other commands; what stands after the record
-// is not read.
+// Input that is no record, and a record without a problem, are refused as for the other commands. What comes after the record is
+// not read.
 #[test]
 fn the_record_counts_and_nothing_behind_it(rt: HostRuntime) {
     let alloc = rt.alloc();

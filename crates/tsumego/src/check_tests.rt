@@ -1,4 +1,4 @@
-//! Records and claims with what `check` says of them, from the rules and the formats.
+//! Records and claims and what `check` says of them, from the rules and the formats.
 
 use crate::tests::checks;
 use go_points::MAX_POINTS;
@@ -208,7 +208,7 @@ fn claims_with_lemmas(rt: HostRuntime) {
     }
 }
 
-// A claim of so many lemmas, all alike, of which main uses the last that it may.
+// A claim of this many lemmas, all alike. Main uses the last one that it may use.
 fn many_lemmas(alloc: Global, rt: &impl Abort, count: usize) -> String {
     let mut input = String::new(alloc);
     input
@@ -235,7 +235,7 @@ fn a_claim_has_at_most_65535_lemmas(rt: HostRuntime) {
     checks(&rt, alloc, more.as_str(), Status::Unanswered, refused);
 }
 
-// The points of the widest board: these hold black stones, this one a white one, the others nothing.
+// The cells of the widest board: these points hold black stones, this one a white stone, and the others nothing.
 fn add_cells(rt: &impl Abort, text: &mut String, black: &[usize], white: Option<usize>) {
     for number in 0..MAX_POINTS {
         let cell = if black.contains(&number) {

@@ -1,19 +1,19 @@
 //! Readers and writers whose failures are counted.
 //!
-//! A run ends as failed only for what is counted here, so that whoever reads the count knows whether a device was at fault.
+//! A run ends as failed only because of what is counted here, so a caller can tell from the count whether a device was at fault.
 
-ghost use Rattle.std.specs.Prelude.{◌≡◌, ◌<◌, ◌≤◌, true, false, length, IfOk, OnErr};
+ghost use Rattle.std.specs.Prelude.{◌≡◌, ◌<◌, ◌≤◌, ◌+◌, min, true, false, length, IfOk, OnErr};
 ghost use Rattle.std.specs.Io.{ReadsAtMost, WritesAtMost};
 ghost use Rattle.std.specs.Io.KnownBytes.{Keeps, ReadConsumes, WriteAppends};
-ghost use Rattle.tsumego.specs.Devices.{HasFailed, interrupt_limit};
+ghost use Rattle.tsumego.specs.Devices.{Counts, HasFailed, interrupt_limit, most_faults};
 
 use std::io;
 use std::io::{ErrorKind, Read, Write};
 
-/// How often a device may be interrupted in all: after so many times it is asked again, and then no more.
+/// How often a device may be interrupted in all. It is asked again after each of this many interruptions, and then no more.
 pub const MAX_INTERRUPTS: u32 = 1_000;
 
-/// A reader or a writer, with how often it has failed and how often it was interrupted.
+/// A reader or a writer, with counts of how often it has failed and how often it was interrupted.
 #[derive(Debug, Drop)]
 pub struct Counting<T> {
     pub inner: T,
@@ -22,7 +22,7 @@ pub struct Counting<T> {
 }
 
 impl<T> Counting<T> {
-    /// The device, of which nothing is counted yet.
+    /// The device, with nothing counted yet.
     pub fn new(inner: T) -> Counting<T>
         ensures inner { result.inner ≡ inner }
         ensures faults { result.faults ≡ 0 }
@@ -35,7 +35,8 @@ impl<T> Counting<T> {
         }
     }
 
-    /// How many calls failed, interrupted ones apart: those that answered an error, and writes that took none of some bytes. The greatest number stands for more.
+    /// How many calls failed, not counting interrupted ones: those that returned an error, and writes that took none of their
+    /// bytes. The greatest number also stands for more.
     pub fn faults(&self) -> u64
         ensures { result ≡ self.now.faults }
     {
@@ -59,20 +60,22 @@ impl<T> Counting<T> {
     }
 }
 
-/// Counts one more.
+/// Counts one more, up to the greatest number.
 fn one_more(count: u64) -> u64
-    ensures { 0 < result }
+    ensures { result ≡ min (count + 1) most_faults }
 {
     count.saturating_add(1)
 }
 
 impl<R: Read> Counting<R> {
-    /// A read of the device, which is asked again where it was interrupted.
+    /// Reads from the device, which is asked again if it was interrupted.
     pub fn ask(&mut self, buf: &mut [u8]) -> io::Result<usize>
         ensures bound { ReadsAtMost result buf.new }
         ensures bytes { ReadConsumes (R.remaining self.old.inner) (R.remaining self.new.inner)
             result buf.new }
         ensures failed { OnErr result (HasFailed self.new.faults self.new.interrupts) }
+        ensures counted { self.old.interrupts ≤ interrupt_limit + 1
+            → Counts result self.old.faults self.new.faults self.new.interrupts }
     {
         while self.interrupts <= MAX_INTERRUPTS {
             match self.inner.read(&mut *buf) {
@@ -91,13 +94,15 @@ impl<R: Read> Counting<R> {
 }
 
 impl<W: Write> Counting<W> {
-    /// A write of the device, which is asked again where it was interrupted.
+    /// Writes to the device, which is asked again if it was interrupted.
     pub fn put(&mut self, buf: &[u8]) -> io::Result<usize>
         ensures bound { WritesAtMost result buf.now }
         ensures bytes { WriteAppends (W.contents self.old.inner) (W.contents self.new.inner) result
             buf.now }
         ensures some { IfOk result (λ n. 0 < length buf.now → 0 < n) }
         ensures failed { OnErr result (HasFailed self.new.faults self.new.interrupts) }
+        ensures counted { self.old.interrupts ≤ interrupt_limit + 1
+            → Counts result self.old.faults self.new.faults self.new.interrupts }
     {
         while self.interrupts <= MAX_INTERRUPTS {
             match self.inner.write(buf) {
@@ -120,10 +125,12 @@ impl<W: Write> Counting<W> {
         Err(io::Error::from(ErrorKind::Interrupted))
     }
 
-    /// A flush of the device, which is asked again where it was interrupted.
+    /// Flushes the device, which is asked again if it was interrupted.
     pub fn flush_device(&mut self) -> io::Result<()>
         ensures kept { Keeps (W.contents self.old.inner) (W.contents self.new.inner) }
         ensures failed { OnErr result (HasFailed self.new.faults self.new.interrupts) }
+        ensures counted { self.old.interrupts ≤ interrupt_limit + 1
+            → Counts result self.old.faults self.new.faults self.new.interrupts }
     {
         while self.interrupts <= MAX_INTERRUPTS {
             match self.inner.flush() {

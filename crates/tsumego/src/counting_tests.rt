@@ -1,8 +1,9 @@
 //! What is counted of devices that fail, and how often an interrupted one is asked again.
 
+use crate::answer::write_text;
 use crate::counting::Counting;
 use crate::devices::Faulty;
-use crate::expect::{expect_number, expect_status, expect_text};
+use crate::expect::{expect_number, expect_status, expect_text, expect_that};
 use crate::run::run;
 use std::alloc::{AllocError, Global};
 use std::io::{ErrorKind, Read};
@@ -21,7 +22,7 @@ fn first(alloc: Global, count: u64) -> Result<Vec<u64>, AllocError> {
     Ok(calls)
 }
 
-// A reader that is interrupted so often, and then gives a claim that is accepted.
+// A reader that is interrupted this often, and then gives a claim that is accepted.
 fn reads(rt: &impl Abort, alloc: Global, interrupts: u64, status: Status, text: &str) {
     let calls = first(alloc, interrupts).expect(rt, "memory");
     let mut reader = Counting::new(Faulty {
@@ -47,7 +48,7 @@ fn a_reader_is_asked_again_a_thousand_times(rt: HostRuntime) {
     reads(&rt, rt.alloc(), 1_001, Status::Failed, "failed: read\n");
 }
 
-// A writer that is interrupted so often.
+// A writer that is interrupted this often.
 fn writes(rt: &impl Abort, alloc: Global, interrupts: u64, status: Status, text: &str) {
     let calls = first(alloc, interrupts).expect(rt, "memory");
     let mut reader = Counting::new(INPUT.as_bytes());
@@ -87,4 +88,18 @@ fn each_failed_call_is_counted_once(rt: HostRuntime) {
         expect_number(&rt, reader.faults(), wanted);
         expect_number(&rt, u64::from(reader.interrupts()), 0);
     }
+}
+
+// However much is written at once, and to a device that takes all of it, no failure is counted.
+#[test]
+fn a_write_of_two_megabytes_is_no_failure(rt: HostRuntime) {
+    let mut bytes = Vec::new(rt.alloc());
+    for _ in 0..2_000_000 {
+        bytes.push(b'.').expect(&rt, "memory");
+    }
+    let mut writer = Counting::new(Vec::new(rt.alloc()));
+    let status = write_text(&mut writer, bytes.as_slice(), Status::Answered);
+    expect_status(&rt, status, Status::Answered);
+    expect_number(&rt, writer.faults(), 0);
+    expect_that(&rt, writer.inner.len() == 2_000_000);
 }

@@ -1,11 +1,11 @@
-//! Readers and writers of tests: a text in pieces, a text and then one byte for ever, and calls that fail.
+//! Readers and writers of tests: a text in pieces, a text and then one byte for ever, calls that fail, and what was flushed.
 
 ghost use Rattle.std.specs.Prelude.{◌≡◌};
 
 use std::io;
 use std::io::{ErrorKind, Read, Write};
 
-/// A text of which a read gives at most so many bytes.
+/// A text of which a read gives at most a fixed number of bytes.
 #[derive(Debug, Drop)]
 pub struct Pieces<'a> {
     pub left: &'a [u8],
@@ -51,7 +51,7 @@ impl<'a> Read for Endless<'a> {
     }
 }
 
-/// A reader or a writer of which some calls fail, each with one kind of error; the calls are counted from 0.
+/// A reader or a writer some of whose calls fail, each with one kind of error. The calls are counted from 0.
 #[derive(Debug, Drop)]
 pub struct Faulty<'a, T> {
     pub inner: T,
@@ -94,5 +94,28 @@ impl<'a, W: Write> Write for Faulty<'a, W> {
 
     fn flush(&mut self) -> io::Result<()> {
         self.inner.flush()
+    }
+}
+
+/// A writer that counts how many of its bytes were flushed.
+#[derive(Debug, Drop)]
+pub struct Flushable {
+    pub written: usize,
+    pub flushed: usize,
+}
+
+impl Write for Flushable {
+    ghost use Rattle.std.specs.Prelude.{None};
+
+    ghost contents = { λ w. None };
+
+    fn write(&mut self, buf: &[u8]) -> io::Result<usize> {
+        self.written = self.written.saturating_add(buf.len());
+        Ok(buf.len())
+    }
+
+    fn flush(&mut self) -> io::Result<()> {
+        self.flushed = self.written;
+        Ok(())
     }
 }

@@ -1,8 +1,8 @@
 //! The program over GTP commands.
 
 use crate::counting::Counting;
-use crate::devices::Faulty;
-use crate::expect::{expect_number, expect_status, expect_text};
+use crate::devices::{Faulty, Flushable};
+use crate::expect::{expect_number, expect_status, expect_text, expect_that};
 use crate::run::run;
 use crate::tests::answers;
 use std::alloc::Global;
@@ -61,7 +61,7 @@ fn words_after_gtp(rt: HostRuntime) {
     );
 }
 
-// A session whose reader fails at its second call, and whose writer fails at these.
+// A session whose reader fails at its second call, and whose writer fails at these calls.
 fn fails(
     rt: &impl Abort,
     alloc: Global,
@@ -106,4 +106,33 @@ fn a_session_ends_for_a_device_that_has_failed(rt: HostRuntime) {
     );
     fails(&rt, alloc, &[], &[0], "", (0, 1));
     fails(&rt, alloc, &[], &[1], "= tsumego\n\n", (0, 1));
+}
+
+// A client at the other end of a pipe waits for what is flushed.
+#[test]
+fn each_reply_of_a_session_is_flushed(rt: HostRuntime) {
+    let mut reader = Counting::new("name\nprotocol_version\n".as_bytes());
+    let mut writer = Counting::new(Flushable {
+        written: 0,
+        flushed: 0,
+    });
+    expect_status(
+        &rt,
+        run(rt.alloc(), &["tsumego", "gtp"], &mut reader, &mut writer),
+        Status::Answered,
+    );
+    expect_that(&rt, writer.inner.flushed == "= tsumego\n\n= 2\n\n".len());
+}
+
+// Five points in a bulky shape have one vital point, the one beside three others. Finding it takes more than a few steps.
+#[test]
+fn a_session_searches_as_far_as_it_has_to(rt: HostRuntime) {
+    answers(
+        &rt,
+        rt.alloc(),
+        &["tsumego", "gtp"],
+        "boardsize 9\nplay b b9\nplay b f9\nplay b b8\nplay b e8\nplay b f8\nplay b b7\nplay b c7\nplay b d7\nplay b e7\nplay w a9\nplay w g9\nplay w a8\nplay w g8\nplay w a7\nplay w f7\nplay w g7\nplay w b6\nplay w c6\nplay w d6\nplay w e6\ntsu-target b9 f9 b8 e8 f8 b7 c7 d7 e7\ntsu-region c9 d9 e9 c8 d8\ntsu-solve w\n",
+        Status::Answered,
+        "=\n\n=\n\n=\n\n=\n\n=\n\n=\n\n=\n\n=\n\n=\n\n=\n\n=\n\n=\n\n=\n\n=\n\n=\n\n=\n\n=\n\n=\n\n=\n\n=\n\n=\n\n=\n\n=\n\n= win D9\n\n",
+    );
 }

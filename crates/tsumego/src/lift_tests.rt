@@ -17,7 +17,7 @@ const TAKEN_KO_LIFTED: &str =
 // Black may play at aa, at ca, or pass, and White may only pass: both orders meet.
 const TWO_ORDERS: &str = "(;SZ[5]AB[ba][da][ab][bb][cb][db]AW[ee]PL[B]TR[ee]SQ[aa][ca])";
 
-// For the record `solve --proof --lift` writes this, which `check` accepts for the side.
+// Expects `solve --proof --lift` to write this text for the record, and `check` to accept it for the side.
 fn lifts(rt: &impl Abort, alloc: Global, record: &str, text: &str, winner: &str) {
     answers(rt, alloc, LIFTED, record, Status::Answered, text);
     checks(rt, alloc, text, Status::Answered, winner);
@@ -43,6 +43,38 @@ fn a_move_of_the_winner(rt: HostRuntime) {
 }
 
 // The lemma needs a past that this record does not have.
+// This many empty cells of a claim.
+fn empty_cells(rt: &impl Abort, alloc: Global, count: usize) -> String {
+    let mut cells = String::new(alloc);
+    for _ in 0..count {
+        cells.push_str(".").expect(rt, "memory");
+    }
+    cells
+}
+
+// A capture in the corner of a board of this many rows. A claim's cells go row by row from the upper left corner.
+fn is_lifted_on(rt: &impl Abort, alloc: Global, rows: usize) {
+    let row = empty_cells(rt, alloc, rows.saturating_sub(2));
+    let others = rows.saturating_mul(rows).saturating_sub(rows);
+    let rest = empty_cells(rt, alloc, others.saturating_sub(1));
+    let row = row.as_str();
+    let rest = rest.as_str();
+    let record = format!(in alloc; "(;FF[4]GM[1]SZ[{rows}]AB[ab]AW[aa]PL[B]TR[aa]SQ[ba])").expect(
+        rt, "memory",
+    );
+    let text = format!(in alloc;
+        "(;FF[4]GM[1]SZ[{rows}]AB[ab]AW[aa];PL[B]TR[aa]SQ[ba])\ntsucert 1 {rows} B\nlemma B 0 O.{row}X{rest}\nnot .X{row}X{rest}\nplay ba\nwon\nend\nmain\nuse 1\nend\n"
+    ).expect(rt, "memory");
+    lifts(rt, alloc, record.as_str(), text.as_str(), "wins Black\n");
+}
+
+#[test]
+fn boards_of_every_width_are_lifted(rt: HostRuntime) {
+    for rows in [5, 9, 10, 13, 19, 25] {
+        is_lifted_on(&rt, rt.alloc(), rows);
+    }
+}
+
 #[test]
 fn a_lifted_claim_is_refused_without_its_past(rt: HostRuntime) {
     let alloc = rt.alloc();

@@ -1,4 +1,4 @@
-//! Claims of version 2 after their records, with what `check` says of them, from the rules and the formats.
+//! Claims of version 2 after their records, and what `check` says of them, from the rules and the formats.
 
 use crate::tests::checks;
 use tsumego_replies::Status;

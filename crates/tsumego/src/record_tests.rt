@@ -103,7 +103,7 @@ fn records_with_a_faulty_node_are_refused(rt: HostRuntime) {
     }
 }
 
-// Records with a node that is at fault where it stands on the main line.
+// Records with a node that is at fault because of where it is on the main line.
 const WRONG_LINE: [(&str, &str); 10] = [
     (
         "(;SZ[3]AW[aa]AB[ba][ab]TR[ba])",
@@ -186,7 +186,7 @@ fn records_have_problems(rt: HostRuntime) {
     }
 }
 
-// A record whose nodes give so many colourings, each another: the stones of the first row count in twos.
+// A record whose nodes give this many colourings, all different: the stones of the first row count in binary.
 fn many_colourings(alloc: Global, rt: &impl Abort, count: usize) -> String {
     let mut record = String::new(alloc);
     record.push_str("(;AB[as]").expect(rt, "memory");

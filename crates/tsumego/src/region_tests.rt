@@ -1,5 +1,5 @@
-//! Claims over regions of one to four points, with either side as winner and either to move. They were found by a search
-//! outside this program, which knows the rules alone.
+//! Claims over regions of one to four points, with either side as winner and either to move. They were found by a search outside
+//! this program, which knows only the rules.
 
 use crate::tests::checks;
 use tsumego_replies::Status;

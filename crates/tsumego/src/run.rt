@@ -1,4 +1,4 @@
-//! A run of the program: its words and its input to its answer.
+//! A run of the program: from its words and its input to its answer.
 
 ghost use Rattle.std.specs.Prelude.{◌≡◌, ℕ, List, map, Some, IfOk, IsFalse};
 ghost use Rattle.tsumego_words.specs.CommandLine.{command_of, is_session, FitsRanges};
@@ -19,17 +19,17 @@ use tsumego_replies::{
 };
 use tsumego_words::{Command, NoCommand, read_command};
 
-/// The most bytes that are asked for a record: one more than a record may have.
+/// The greatest number of bytes that are read for a record: one more than a record may have.
 pub const MAX_FRONT: usize = 1_048_577;
 
-/// Runs the program on its words, the first of which is its name, on devices of which nothing was counted so far.
+/// Runs the program on its words, the first of which is its name, with devices for which nothing has been counted yet.
 ///
-/// For every list of bytes that the reader tells, the status and the text that the writer has taken are those of the
-/// command that the words give; after a failed write what was taken is a part of such a text. No command but `check` asks for
-/// more bytes than a record may have, and one.
+/// For every list of bytes that the reader tells, the status and the text that the writer has taken are those of the command that
+/// the words give; after a failed write what was taken is a part of such a text. No command except `check` and `gtp` asks for more
+/// bytes than one more than a record may have. Words that give no command, `--help` among them, ask for none.
 ///
-/// A run that ends as failed tells why: memory was refused, and the text says so; a read failed and was counted, or a bound on
-/// what is read was passed, and it says so, in a session after replies; or a write failed and was counted.
+/// A run that ends as failed tells why: memory was refused, and the text says so; a read failed and was counted, or a bound on what
+/// is read was passed, and the text says so, in a session after the replies; or a write failed and was counted.
 pub fn run<S: AsStr, R: Read, W: Write>(
     alloc: Global,
     words: &[S],
@@ -82,7 +82,7 @@ fn obey<R: Read, W: Write>(
         Ok(Response::TooLong) => write_text(writer, NO_READ, Status::Failed),
         Err(Failure::Memory) => write_text(writer, NO_MEMORY, Status::Failed),
         Err(Failure::Read) => {
-            // A source of lines says so too where it cannot count them any more, and no reader lives to give so many.
+            // A source of lines also says so when it cannot count them any more, but no reader will ever give that many lines.
             if reader.has_failed() {
                 return write_text(writer, NO_READ, Status::Failed);
             }
@@ -91,7 +91,7 @@ fn obey<R: Read, W: Write>(
     }
 }
 
-/// What the command answers for the input, of which the front is read first. Where it has ended, nothing more is asked of it.
+/// What the command answers for the input, whose front is read first. If the input has ended, no more is read from it.
 fn answer_of<R: Read>(alloc: Global, command: Command, reader: &mut R) -> Result<Response, Failure>
     requires fits { FitsRanges command }
     requires whole { IsFalse (is_session command) }

@@ -6,7 +6,7 @@ use std::alloc::Global;
 use std::process::Abort;
 use tsumego_replies::Status;
 
-// For this record `solve` writes this.
+// Expects `solve` to write this for this record.
 fn solves(rt: &impl Abort, alloc: Global, record: &str, text: &str) {
     answers(
         rt,
@@ -18,7 +18,7 @@ fn solves(rt: &impl Abort, alloc: Global, record: &str, text: &str) {
     );
 }
 
-// What `solve` writes with these words after it.
+// What `solve` writes when these words follow it.
 fn written(rt: &impl Abort, alloc: Global, words: &[&str], record: &str) -> String {
     let (status, written) = outcome(alloc, words, record.as_bytes());
     assert_eq!(rt; status, Status::Answered, "{record}");
@@ -43,12 +43,12 @@ fn solutions_of_one_answer(rt: HostRuntime) {
             "(;FF[4]GM[1]SZ[3]AB[ab]AW[aa][ca][bb]PL[B]TR[aa]SQ[ba])",
             "(;FF[4]GM[1]SZ[3]AB[ab]AW[aa][ca][bb];PL[B]TR[aa]SQ[ba]C[Black wins];B[ba])\n",
         ),
-        // The same ko, where the colouring after the capture has occurred.
+        // The same ko, when the colouring after the capture has occurred.
         (
             "(;FF[4]GM[1]SZ[3]AB[ba][ab]AW[ca][bb]PL[W];W[aa]TR[aa]SQ[ba])",
             "(;FF[4]GM[1]SZ[3]AB[ba][ab]AW[ca][bb];AW[aa]AE[ba];PL[B]TR[aa]SQ[ba]C[White wins];B[];W[])\n",
         ),
-        // The same with a place for a threat, after which the ko has to be filled.
+        // The same ko with a place for a threat, after which the ko has to be filled.
         (
             "(;FF[4]GM[1]SZ[3]AB[ba][ab]AW[ca][bb]PL[W];W[aa]TR[aa]SQ[ba][cc])",
             "(;FF[4]GM[1]SZ[3]AB[ba][ab]AW[ca][bb];AW[aa]AE[ba];PL[B]TR[aa]SQ[ba][cc]C[White wins](;B[cc];W[ba];B[];W[])(;B[];W[]))\n",
@@ -82,7 +82,7 @@ fn a_budget_that_is_too_small(rt: HostRuntime) {
     );
 }
 
-// What `solve` writes, `audit` and `check` accept for the same side.
+// Whether `audit` and `check` accept what `solve` writes, for the same side.
 fn is_accepted(rt: &impl Abort, alloc: Global, record: &str, text: &str) {
     let tree = written(rt, alloc, &["tsumego", "solve"], record);
     answers(
@@ -124,7 +124,7 @@ fn what_is_written_is_accepted(rt: HostRuntime) {
     }
 }
 
-// States that stand at several places become lemmas.
+// States that occur at several places become lemmas.
 #[test]
 fn a_written_claim_shares_its_states(rt: HostRuntime) {
     let claim = written(

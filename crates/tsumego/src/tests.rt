@@ -9,7 +9,7 @@ use std::io::ErrorKind;
 use std::process::Abort;
 use tsumego_replies::Status;
 
-// What comes of these words and this input.
+// The outcome of these words and this input.
 pub fn outcome(alloc: Global, words: &[&str], input: &[u8]) -> (Status, Vec<u8>) {
     let mut reader = Counting::new(input);
     let mut writer = Counting::new(Vec::new(alloc));
@@ -17,7 +17,7 @@ pub fn outcome(alloc: Global, words: &[&str], input: &[u8]) -> (Status, Vec<u8>)
     (status, writer.inner)
 }
 
-// For these words and this input the program has this status and this text.
+// Expects this status and this text from the program for these words and this input.
 pub fn answers(
     rt: &impl Abort,
     alloc: Global,
@@ -31,7 +31,7 @@ pub fn answers(
     assert_eq!(rt; written.as_slice(), text.as_bytes(), "{input}");
 }
 
-// The same for `check`, whole and in pieces.
+// Expects this status and this text from `check`, with the input whole and in pieces.
 pub fn checks(rt: &impl Abort, alloc: Global, input: &str, status: Status, text: &str) {
     answers(rt, alloc, &["tsumego", "check"], input, status, text);
     for piece in [1, 2, 7, 4_096] {
@@ -39,7 +39,7 @@ pub fn checks(rt: &impl Abort, alloc: Global, input: &str, status: Status, text:
     }
 }
 
-// The same for `check`, in pieces of so many bytes.
+// Expects this status and this text from `check`, with the input in pieces of this many bytes.
 fn checks_pieces(
     rt: &impl Abort,
     alloc: Global,
@@ -106,7 +106,19 @@ fn other_words_have_clap_s_text(rt: HostRuntime) {
     }
 }
 
-// White space may part record and claim, up to a bound.
+// Words that give no command are answered before anything is read, so that nobody waits for a terminal.
+#[test]
+fn other_words_read_nothing(rt: HostRuntime) {
+    for word in ["--help", "--version", "chek"] {
+        let mut reader = Counting::new("abc".as_bytes());
+        let mut writer = Counting::new(Vec::new(rt.alloc()));
+        let status = run(rt.alloc(), &["tsumego", word], &mut reader, &mut writer);
+        expect_status(&rt, status, Status::BadWords);
+        expect_text(&rt, reader.inner, "abc");
+    }
+}
+
+// White space may separate record and claim, up to a bound.
 #[test]
 fn white_space_past_the_bound_is_a_failed_read(rt: HostRuntime) {
     let alloc = rt.alloc();
@@ -186,7 +198,7 @@ fn a_reader_that_never_ends(rt: HostRuntime) {
     }
 }
 
-// A read that fails before the input has ended is told, whatever was read before it.
+// A read that fails before the input has ended is reported, whatever was read before it.
 #[test]
 fn a_failed_read_is_told(rt: HostRuntime) {
     let alloc = rt.alloc();
@@ -218,7 +230,7 @@ fn a_failed_read_is_told(rt: HostRuntime) {
     }
 }
 
-// The claim stands after more white space than is read with the record, and a read fails in it.
+// The claim comes after more white space than is read with the record, and a read fails in it.
 #[test]
 fn a_failed_read_in_a_claim_is_told(rt: HostRuntime) {
     let alloc = rt.alloc();

@@ -1,16 +1,17 @@
-//! Boards of more than 19 rows through every command: `tt` names a point of theirs.
+//! Boards of more than 19 rows through every command. On these boards `tt` names a point.
 
 use crate::tests::{answers, checks};
 use std::alloc::Global;
 use std::process::Abort;
 use tsumego_replies::Status;
 
-// With these words the program answers this input by this text.
+// Expects the program to answer this input with this text, for these words.
 fn says(rt: &impl Abort, alloc: Global, words: &[&str], input: &str, text: &str) {
     answers(rt, alloc, words, input, Status::Answered, text);
 }
 
-// For this record all commands give the answers of a capture in one turn, which is written at the end of the solution.
+// Expects all commands to give the answers of a capture in one turn for this record. The capture is written at the end of the
+// solution.
 fn is_a_capture(rt: &impl Abort, alloc: Global, rows: &str, setup: &str, marks: &str, turn: &str) {
     let record = format!(in alloc; "(;SZ[{rows}]{setup}PL[B]{marks})").expect(rt, "memory");
     let record = record.as_str();

@@ -1,11 +1,17 @@
 -- Points that two sets share, one point after another.
-use Rattle.std.proofs.Common.{◌≡◌, ℕ, Bool, true, false, ◌||◌, List, ◌∷◌, map, sym, ◌∙◌, ap, subst, arith}
+use Rattle.std.proofs.Common.{◌≡◌, ℕ, Bool, true, false, not, ◌&&◌, ◌||◌, List, [], ◌∷◌, map, refl, sym, ◌∙◌, ap, subst, arith}
+use Rattle.std.specs.Prelude.{filter, unwrap_or}
 use Rattle.std.specs.List.{All, list_any}
 use Rattle.go_points.specs.Place.{Place, IsOn, number_of}
+use Rattle.go_points.specs.Grid.{points}
 use Rattle.go_points.specs.Points.{holds_place}
 use Rattle.target_game.specs.Legal.{holds_point}
 use Rattle.target_game.proofs.Playing.{holds_numbered}
 use Rattle.target_game.proofs.Loops.{left_on}
+use Rattle.sgf_text.specs.Nodes.{values_at}
+use Rattle.sgf_text.specs.Trees.{Node}
+use Rattle.tsumego_problem.specs.Values.{points_of}
+use Rattle.tsumego_problem.specs.Walk.{has, is_empty, points_at, share_point}
 
 module _ (n : ℕ) (held : List Place) (numbers : List ℕ) (same : map (number_of n) held ≡ numbers) (on_held : All (IsOn n) held)
     (old new : List Place) (p : Place) (first : old ≡ p ∷ new) (on_old : All (IsOn n) old) (whole : Bool) (had : list_any (holds_point numbers) (map (number_of n) old) ≡ whole) where
@@ -23,3 +29,33 @@ module _ (n : ℕ) (held : List Place) (numbers : List ℕ) (same : map (number_
 
   pub on_rest : All (IsOn n) new
   on_rest = left_on (IsOn n) old new p first on_old
+
+-- A PROPERTY THAT THE NODE LACKS SHARES NOTHING
+
+none_held : (ps : List ℕ) → list_any (holds_point []) ps ≡ false
+none_held [] = refl
+none_held (p ∷ ps) = none_held ps
+
+none_left : (ps : List ℕ) → filter (holds_point []) ps ≡ []
+none_left [] = refl
+none_left (p ∷ ps) = none_left ps
+
+lacks : (n : ℕ) (name : List ℕ) (node : Node) → has name node ≡ false → points_at n name node ≡ []
+lacks n name node e = go (values_at name node) refl e
+  where
+    go : (values : List (List ℕ)) → values_at name node ≡ values → not (is_empty values) ≡ false → points_at n name node ≡ []
+    go [] is none = ap (λ vs. unwrap_or (points_of n vs) []) is ∙ none_left (points n)
+    go (value ∷ values) is none = absurd (cc)
+
+lacks_first : (n : ℕ) (a b : List ℕ) (node : Node) → has a node ≡ false → share_point n a b node ≡ false
+lacks_first n a b node e = ap (λ ps. list_any (holds_point ps) (points_at n b node)) (lacks n a node e) ∙ none_held (points_at n b node)
+
+lacks_second : (n : ℕ) (a b : List ℕ) (node : Node) → has b node ≡ false → share_point n a b node ≡ false
+lacks_second n a b node e = ap (list_any (holds_point (points_at n a node))) (lacks n b node e)
+
+pub lacks_either : (n : ℕ) (a b : List ℕ) (node : Node) → (has a node && has b node) ≡ false → share_point n a b node ≡ false
+lacks_either n a b node e = go (has a node) refl e
+  where
+    go : (h : Bool) → has a node ≡ h → (h && has b node) ≡ false → share_point n a b node ≡ false
+    go true is rest = lacks_second n a b node rest
+    go false is rest = lacks_first n a b node is

@@ -1,4 +1,4 @@
--- What joins the walk and the canonical record.
+-- How the walk and the canonical record fit together.
 use Rattle.std.specs.Prelude.{◌≡◌, ◌≢◌, ◌*◌, ◌≤◌, Bool, true, List, [], ◌∷◌, ◌++◌, length, IsTrue, not, ◌&&◌, ◌==◌, Ok, filter, Some}
 use Rattle.std.specs.List.{list_all}
 use Rattle.go_points.specs.declared.TheConstants.{MAX_SIZE}
@@ -14,12 +14,14 @@ use Rattle.tsumego_problem.specs.Canonical.{canonical, solution, present}
 use Rattle.tsumego_problem.specs.Below.{below_problem, Shows, Below}
 use Rattle.sgf_text.specs.Trees.{Forest, GameTree}
 
--- Is each colouring new after the ones before it?
+-- Is each colouring different from those before it?
 abbrev pub each_new : List (List Cell) → List (List Cell) → Bool
 each_new before [] = true
 each_new before (c ∷ cs) = not (has_occurred before c) && each_new (before ++ c ∷ []) cs
 
--- What each problem keeps: a board of 1 to `MAX_SIZE` rows; colourings of its size, each once, in which every stone reaches empty; a present one among them; at most one pass; and ascending points as targets, stones of the defender's colour, and as region.
+-- What holds for each problem: a board of 1 to `MAX_SIZE` rows; colourings of its size, each once, in which every stone reaches
+-- empty; a present one among them; at most one pass; and ascending points as targets, stones of the defender's colour, and as
+-- region.
 pub record IsProblem (q : GameProblem) : Type 0 where
   pub small : 1 ≤ q.game.size
   pub large : q.game.size ≤ MAX_SIZE
@@ -38,16 +40,12 @@ pub record IsProblem (q : GameProblem) : Type 0 where
 abbrev pub CanonicalReads : Type 0
 CanonicalReads = (q : GameProblem) → IsProblem q → problem_of (canonical q) ≡ Ok q
 
--- a tree's problem is one that the type of problems holds
-abbrev pub ProblemsAreRead : Type 0
-ProblemsAreRead = (tree : GameTree) (q : GameProblem) → problem_of tree ≡ Ok q → IsProblem q
-
 -- the solution record holds the same problem, and the answer tree below its problem node
 abbrev pub SolutionReads : Type 0
 SolutionReads = (q : GameProblem) (x : Colour) (a : AnswerTree) → IsProblem q → IsTrue (answers x (start q) a) →
     (problem_of (solution q x a) ≡ Ok q) × Below (solution q x a) x (start q)
 
--- the same with that very answer tree: it is what the children of the problem node show
+-- the children of the problem node show exactly that answer tree
 abbrev pub SolutionShows : Type 0
 SolutionShows = (q : GameProblem) (x : Colour) (a : AnswerTree) → IsProblem q → IsTrue (answers x (start q) a) →
     (problem_of (solution q x a) ≡ Ok q) × (children : Forest) × (below_problem (solution q x a) ≡ Some children) × Shows q.game.size q.mover a children

@@ -1,4 +1,4 @@
--- What a record stands for, said without what is refused: the state in which its problem is set.
+-- What a record stands for, stated without mentioning refusals: the state in which its problem is set.
 use Rattle.std.specs.Prelude.{◌≡◌, ℕ, ◌+◌, Bool, true, false, List, [], ◌∷◌, ◌++◌, fold, map, take, slice_index_or, unwrap_or, Option, Some, None}
 use Rattle.go_points.specs.declared.Colour.{Colour}
 use Rattle.go_points.specs.declared.Colour.TheVariants.{Black}
@@ -16,7 +16,7 @@ abbrev pub first_state : Game → Node → GameState
 first_state g root = let c = assigned g.size root (map (λ p. Empty) (points g.size)) in
     record { game = g; colouring = c; history = c ∷ []; mover = Black; passes = 0 }
 
--- What a node does: its turn, by the colour that makes it; else its setup, and PL.
+-- What a node does: its turn, by the colour that makes it; otherwise its setup, and PL.
 abbrev pub state_after : Node → GameState → Option (Colour × Ply) → Bool → GameState
 state_after node s (Some turn) setup = next (record s { mover = turn.0 }) turn.1
 state_after node s None true = let c = assigned s.game.size node s.colouring in
@@ -26,7 +26,8 @@ state_after node s None false = record s { mover = unwrap_or (player_at node) s.
 abbrev pub after_node : GameState → Node → GameState
 after_node s node = state_after node s (turn_at s.game.size node) (has_setup node)
 
--- The game that a problem node sets: TR names the targets, which the colour that they hold defends, and SQ the region.
+-- The game that a problem node sets: TR names the targets, which are defended by the colour of their stones, and SQ names the
+-- region.
 abbrev pub game_at : ℕ → Node → List Cell → Game
 game_at n node c = record { size = n; targets = targets_at n node; defender = colour_of c (targets_at n node); region = region_at n node }
 

@@ -17,7 +17,7 @@ skip_white (c ∷ rest) = if is_white c then skip_white rest else c ∷ rest
 abbrev pub trim : List ℕ → List ℕ
 trim value = reverse (skip_white (reverse (skip_white value)))
 
--- FF[4], Go, "Point": two lower-case letters, column and then row, "aa" being the upper left, on the board.
+-- FF[4], Go, "Point": two lower-case letters, column and then row, with "aa" at the upper left, for a point on the board.
 abbrev pub point_at : ℕ → ℕ → ℕ → Option ℕ
 point_at n c r = if is_lower c && is_lower r && nat_lt (c - 97) n && nat_lt (r - 97) n then Some ((r - 97) * n + (c - 97)) else None
 
@@ -35,7 +35,7 @@ points_named n (c ∷ r ∷ []) = option_map (λ p. p ∷ []) (point_at n c r)
 points_named n (c ∷ r ∷ colon ∷ d ∷ s ∷ []) = if colon == 58 then option_and_then (λ p. option_and_then (rectangle n p) (point_at n d s)) (point_at n c r) else None
 points_named n _ = None
 
--- the points of all the values, or none at all where one of them names none
+-- the points of all the values, or `None` if one of them names none
 abbrev pub points_of_each : ℕ → List (List ℕ) → Option (List ℕ)
 points_of_each n [] = Some []
 points_of_each n (value ∷ values) = option_and_then (λ ps. option_map (λ qs. ps ++ qs) (points_of_each n values)) (points_named n (trim value))
@@ -44,7 +44,7 @@ points_of_each n (value ∷ values) = option_and_then (λ ps. option_map (λ qs.
 abbrev pub points_of : ℕ → List (List ℕ) → Option (List ℕ)
 points_of n values = option_map (λ ps. filter (holds_point ps) (points n)) (points_of_each n values)
 
--- FF[4], Go, "Move": a point, or a pass, which is an empty value or "tt" where that is no point.
+-- FF[4], Go, "Move": a point, or a pass, which is an empty value or "tt" if that is not a point.
 abbrev pub turn_named : ℕ → List ℕ → Option Ply
 turn_named n [] = Some pass
 turn_named n (c ∷ r ∷ []) = elim (point_at n c r) [ Some p ↦ Some (move p) | None ↦ (if c == 116 && r == 116 then Some pass else None) ]
@@ -56,7 +56,7 @@ turn_in n value = turn_named n (trim value)
 abbrev pub is_digit : ℕ → Bool
 is_digit d = nat_le 48 d && nat_le d 57
 
--- FF[4], "Number" from 0 on: digits, with "+" before them or not
+-- FF[4], "Number" from 0 on: digits, with or without "+" before them
 abbrev pub digits_value : List ℕ → Option ℕ
 digits_value [] = None
 digits_value (c ∷ cs) = if list_all is_digit (c ∷ cs) then Some (fold (λ m d. 10 * m + (d - 48)) 0 (c ∷ cs)) else None

@@ -47,7 +47,7 @@ is_marked node = has (codes "TR") node || has (codes "SQ") node
 abbrev pub problem_node : GameTree → Option ℕ
 problem_node tree = position is_marked (main_line tree)
 
--- the number, where a `usize` holds it
+-- the number, if a `usize` can hold it
 abbrev pub usize_of : ℕ → Option ℕ
 usize_of k = if nat_lt k (2 ^ 64) then Some k else None
 
@@ -92,7 +92,7 @@ player_at node = player_of (values_at (codes "PL") node)
 
 -- ---- the refusals
 
--- the fault, where the test is true
+-- the fault, if the test is true
 abbrev pub when : Bool → ProblemFault → Option ProblemFault
 when test fault = if test then Some fault else None
 
@@ -114,7 +114,7 @@ is_bad_turn n name node = list_any (λ value. is_none (turn_in n value)) (values
 abbrev pub share_point : ℕ → List ℕ → List ℕ → Node → Bool
 share_point n a b node = list_any (holds_point (points_at n a node)) (points_at n b node)
 
--- refusals 4 to 8 of the node with number k: those that what stands in the node gives
+-- refusals 4 to 8 of the node with number k: those that depend only on the contents of the node
 abbrev pub node_fault : ℕ → ℕ → Node → Option ProblemFault
 node_fault n k node = first_fault (
     when (has_many (codes "B") node) (faults.ManyValues single.B k)
@@ -129,14 +129,15 @@ node_fault n k node = first_fault (
 
 -- ---- the walk
 
--- Where the walk stands: the colourings that have occurred, each once, in the order in which they first did; the present one; the mover; and the passes.
+-- The state of the walk: the colourings that have occurred, each once, in the order of first occurrence; the present one; the
+-- mover; and the passes.
 pub record Walk : Type 0 where
   pub history : List (List Cell)
   pub present : List Cell
   pub mover : Colour
   pub passes : ℕ
 
--- the colourings with one more, where it is new
+-- the colourings with one more, if it is new
 abbrev pub joined_by : List (List Cell) → List Cell → List (List Cell)
 joined_by history c = if has_occurred history c then history else history ++ c ∷ []
 
@@ -149,7 +150,7 @@ abbrev pub opening : ℕ → Node → Walk
 opening n root = let c = assigned n root (map (λ p. Empty) (points n)) in
     record { history = c ∷ []; present = c; mover = Black; passes = 0 }
 
--- The walk after a pass, after a move that gives this colouring, and after a setup that does.
+-- The walk after a pass, after a move that gives this colouring, and after a setup that gives it.
 abbrev pub walk_after_pass : Colour → Walk → Walk
 walk_after_pass colour w = record w { mover = opponent_of colour; passes = w.passes + 1 }
 
@@ -159,7 +160,7 @@ walk_after_move colour c w = record { history = w.history ++ c ∷ []; present =
 abbrev pub walk_after_setup : Node → List Cell → Walk → Walk
 walk_after_setup node c w = record { history = joined_by w.history c; present = c; mover = unwrap_or (player_at node) w.mover; passes = 0 }
 
--- The walk after PL alone, which changes only whose turn it is.
+-- The walk after a PL on its own, which changes only whose turn it is.
 abbrev pub walk_after_player : Node → Walk → Walk
 walk_after_player node w = record w { mover = unwrap_or (player_at node) w.mover }
 
@@ -188,19 +189,19 @@ changed_by n k node w None false = Ok (walk_after_player node w)
 abbrev pub changed : ℕ → ℕ → Node → Walk → Result Walk ProblemFault
 changed n k node w = changed_by n k node w (turn_at n node) (has_setup node)
 
--- the targets of a problem node, and its region: without SQ the whole board
+-- the targets of a problem node, and its region, which is the whole board without SQ
 abbrev pub targets_at : ℕ → Node → List ℕ
 targets_at n node = points_at n (codes "TR") node
 
 abbrev pub region_at : ℕ → Node → List ℕ
 region_at n node = if has (codes "SQ") node then points_at n (codes "SQ") node else points n
 
--- Are the targets stones of one colour, one at least?
+-- Are the targets stones of one colour, and is there at least one?
 abbrev pub are_targets : List Cell → List ℕ → Bool
 are_targets c [] = false
 are_targets c (p ∷ ps) = not (same_cell (cell_at c p) Empty) && list_all (λ q. same_cell (cell_at c q) (cell_at c p)) ps
 
--- refusals 11 to 14, asked after the node's turn or setup; the history may have any length where there is no limit
+-- refusals 11 to 14, checked after the node's turn or setup; the history may have any length if there is no limit
 abbrev pub late_fault : Option ℕ → ℕ → ℕ → Node → Walk → Option ProblemFault
 late_fault limit n k node w = first_fault (
     when (is_marked node && not (are_targets w.present (targets_at n node))) (faults.BadTargets k)
@@ -213,7 +214,7 @@ late_fault limit n k node w = first_fault (
     is_over None count = false
     is_over (Some most) count = nat_lt most count
 
--- the walk, where there is no fault
+-- the walk, if there is no fault
 abbrev pub unless : Option ProblemFault → Walk → Result Walk ProblemFault
 unless None w = Ok w
 unless (Some fault) w = Err fault
@@ -234,7 +235,7 @@ walk limit n k (node ∷ nodes) w = walk_node limit n k node w >>= (λ v. walk l
 
 -- ---- the problem
 
--- FF[4], GM and SZ, of the root alone: 1 and the default size where they are not given
+-- FF[4], GM and SZ, of the root only: 1 and the default size if they are not given
 abbrev pub is_one : List (List ℕ) → Bool
 is_one [] = true
 is_one (value ∷ values) = is_empty values && bytes_eq (trim value) (codes "1")
@@ -242,7 +243,7 @@ is_one (value ∷ values) = is_empty values && bytes_eq (trim value) (codes "1")
 abbrev pub is_go : Node → Bool
 is_go root = is_one (values_at (codes "GM") root)
 
--- the number, where boards of so many rows are played on
+-- the number, if it is the number of rows of a board
 abbrev pub board_of : ℕ → Option ℕ
 board_of n = if nat_le 1 n && nat_le n MAX_SIZE then Some n else None
 

@@ -1,6 +1,6 @@
--- The walk as the program makes it. Words of private calls, but for `IsRefusal`.
---     IsRefusal due fault      the refusal is the one that is due; where memory was refused, nothing is said
---     walk_of r k      where a record stands in the walk, with the colour k to move
+-- The walk as the program makes it. These definitions are for private calls, except `IsRefusal`.
+--     IsRefusal due fault      the refusal is the one that is due; if memory was refused, nothing is said
+--     walk_of r k      the point of the walk at which a record is, with the colour k to move
 --     walk_to_mark      the walk up to the first marked node, and that node
 --     IsHistory n h, HasReached      what the walk keeps of its history, and what it has asked at the marked node
 use Rattle.std.specs.Prelude.{◌≡◌, ◌≢◌, ℕ, ◌+◌, ◌*◌, ◌<◌, true, false, nat_eq, List, [], ◌∷◌, length, Option, None, Result, Ok, Err, if◌then◌else◌}

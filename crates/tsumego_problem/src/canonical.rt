@@ -34,7 +34,7 @@ fn history_nodes(
     Ok(nodes)
 }
 
-/// Puts one more node at the end, where the present colouring is not the last.
+/// Appends one more node if the present colouring is not the last.
 fn push_present(
     alloc: Global,
     problem: &Problem,
@@ -52,7 +52,7 @@ fn push_present(
     Ok(())
 }
 
-/// The name of the property with a turn of this side, and of this side in PL.
+/// The name of the property for a turn of this side, which also names this side in PL.
 fn colour_name(colour: Colour) -> &'static [u8]
     ensures { result.now ≡ colour_name colour }
 {
@@ -62,7 +62,7 @@ fn colour_name(colour: Colour) -> &'static [u8]
     }
 }
 
-/// The two letters of a point; of one that the board does not have, those of the first one below it.
+/// The two letters of a point. A point that the board does not have gets the letters of the first point below the board.
 fn letters_on(size: Size, point: Point) -> [u8; 2]
     ensures { result ≡ turn_value size (ply_of size (At point)) }
 {
@@ -74,7 +74,8 @@ fn letters_on(size: Size, point: Point) -> [u8; 2]
     }
 }
 
-/// The value of a turn: two letters, none for a pass. A point that the board does not have is written as the first one below it.
+/// The value of a turn: two letters, or nothing for a pass. A point that the board does not have is written as the first point
+/// below the board.
 fn turn_value(alloc: Global, size: Size, turn: Turn) -> Result<Vec<u8>, AllocError>
     ensures { IfOk result (λ value. value.items ≡ turn_value size (ply_of size turn)) }
 {
@@ -84,7 +85,8 @@ fn turn_value(alloc: Global, size: Size, turn: Turn) -> Result<Vec<u8>, AllocErr
     }
 }
 
-/// The node of a turn: B or W, by whose it is, with the two letters of the point, or nothing for a pass (SGF FF[4], Go, "Move"). A point that the board does not have is written as the first one below it.
+/// The node of a turn: B or W, for the side that makes it, with the two letters of the point, or nothing for a pass (SGF FF[4], Go,
+/// "Move"). A point that the board does not have is written as the first point below the board.
 pub fn turn_node(
     alloc: Global,
     size: Size,
@@ -104,7 +106,7 @@ pub fn turn_node(
     Ok(node_of(properties))
 }
 
-/// Puts the pass of the mover's opponent at the end, where one stands.
+/// Appends the pass of the mover's opponent, if that is the last turn.
 fn push_pass(alloc: Global, problem: &Problem, nodes: &mut Vec<SgfNode>) -> Result<(), AllocError>
     ensures { OnOk result (nodes.new.items ≡ nodes.old.items ++ pass_nodes problem.now) }
 {
@@ -115,7 +117,9 @@ fn push_pass(alloc: Global, problem: &Problem, nodes: &mut Vec<SgfNode>) -> Resu
     Ok(())
 }
 
-/// The nodes before the problem node of the canonical record: the root with FF, GM, SZ and the first colouring, a node of setup for each later colouring and for the present one where it is not the last, and the pass of the mover's opponent where one stands.
+/// The nodes before the problem node of the canonical record: the root with FF, GM, SZ and the first colouring, a setup node for
+/// each later colouring and for the present one if it is not the last, and the pass of the mover's opponent if that is the last
+/// turn.
 pub fn past_nodes(alloc: Global, problem: &Problem) -> Result<Vec<SgfNode>, AllocError>
     ensures { IfOk result (λ nodes. nodes.items ≡ past_nodes problem.now) }
 {
@@ -151,7 +155,7 @@ fn are_all(size: Size, set: &PointSet) -> bool
     true
 }
 
-/// The properties of the problem node: PL, TR, and SQ where the region is not the whole board.
+/// The properties of the problem node: PL, TR, and SQ if the region is not the whole board.
 fn mark_properties(alloc: Global, problem: &Problem) -> Result<Vec<Property>, AllocError>
     ensures { IfOk result (λ properties. properties.items ≡ marks problem.now) }
 {
@@ -168,7 +172,7 @@ fn mark_properties(alloc: Global, problem: &Problem) -> Result<Vec<Property>, Al
     Ok(properties)
 }
 
-/// The problem node of the canonical record: PL, TR with the targets, and SQ with the region where it is not the whole board.
+/// The problem node of the canonical record: PL, TR with the targets, and SQ with the region if it is not the whole board.
 pub fn marks_node(alloc: Global, problem: &Problem) -> Result<SgfNode, AllocError>
     ensures { IfOk result (λ node. node ≡ marks problem.now) }
 {
@@ -199,7 +203,11 @@ pub fn marks_with_winner(
     Ok(node_of(properties))
 }
 
-/// The canonical record of the problem, of one sequence of nodes (SGF FF[4] properties, in this project's own order): the root with FF, GM, SZ and the first colouring as AB and AW; for each later colouring a node with AB, AW and AE of the points that change; one more where the present colouring is not the last; the pass of the mover's opponent where one stands; and the problem node with PL, TR and SQ, which is left out where the region is the whole board. Points ascend, row by row. Only memory is refused.
+/// The canonical record of the problem: one sequence of nodes, with SGF FF[4] properties in this project's own order. It has the
+/// root with FF, GM, SZ and the first colouring as AB and AW; for each later colouring a node with AB, AW and AE of the points that
+/// change; one more if the present colouring is not the last; the pass of the mover's opponent if that is the last turn; and the
+/// problem node with PL, TR and SQ, where SQ is left out if the region is the whole board. Points ascend, row by row. It fails only
+/// if memory is refused.
 pub fn problem_tree(alloc: Global, problem: &Problem) -> Result<Tree, AllocError>
     ensures { IfOk result (λ tree. tree ≡ canonical problem.now) }
 {

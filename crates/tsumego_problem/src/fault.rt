@@ -2,7 +2,7 @@
 
 use thiserror::Error;
 
-/// A property of which a node takes one value.
+/// A property of which a node may have only one value.
 #[derive(Clone, Copy, Debug, PartialEq, Eq, Error)]
 pub enum SingleProperty {
     #[error("B")]
@@ -13,7 +13,7 @@ pub enum SingleProperty {
     PL,
 }
 
-/// Why the turn of a record is no turn.
+/// Why the turn of a record cannot be made.
 #[derive(Clone, Copy, Debug, PartialEq, Eq, Error)]
 pub enum TurnFaultCause {
     #[error("occupied")]
@@ -23,13 +23,14 @@ pub enum TurnFaultCause {
     Repeats { earlier: usize },
 }
 
-/// Why a tree gives no problem, in the order in which the questions are asked. Nodes are numbered from 0 in the order of their semicolons.
+/// Why a tree gives no problem, in the order in which the checks are made. Nodes are numbered from 0 in the order of their
+/// semicolons.
 #[derive(Clone, Copy, Debug, PartialEq, Eq, Error)]
 pub enum ProblemFault {
-    /// The root's GM is not one value `1`.
+    /// The root's GM is not the single value `1`.
     #[error("game")]
     Game,
-    /// The root's SZ is not one size of a board.
+    /// The root's SZ is not a single size of a board.
     #[error("size")]
     Size,
     /// No node of the main line has TR or SQ.
@@ -41,7 +42,7 @@ pub enum ProblemFault {
         property: SingleProperty,
         node: usize,
     },
-    /// A value is no point, rectangle or turn of the board.
+    /// A value is not a point, a rectangle or a turn of the board.
     #[error("bad point")]
     BadPoint {
         node: usize,
@@ -61,7 +62,7 @@ pub enum ProblemFault {
     BothColours {
         node: usize,
     },
-    /// A move that is no turn.
+    /// A move that cannot be made.
     #[error("illegal turn: {cause}")]
     IllegalTurn {
         node: usize,
@@ -77,7 +78,7 @@ pub enum ProblemFault {
     BadTargets {
         node: usize,
     },
-    /// Two passes or more stand at the problem node.
+    /// Two or more passes come just before the problem.
     #[error("ended")]
     Ended {
         node: usize,

@@ -9,7 +9,7 @@ ghost use Rattle.tsumego_problem.specs.Walk.{has, has_setup, has_turn, is_marked
 
 use sgf_text::{Bytes, SgfNode, Tree};
 
-/// The values of the property with this name, none where the node does not have it.
+/// The values of the property with this name. There are none if the node does not have it.
 pub fn values_at<'a>(name: &[u8], node: &'a SgfNode) -> &'a [Bytes]
     ensures { result.now ≡ values_at name.now node.now }
 {
@@ -49,17 +49,18 @@ pub(crate) fn has_turn(node: &SgfNode) -> bool
     has(b"B", node) || has(b"W", node)
 }
 
-/// The place of the first of these nodes that has TR or SQ; `None` where none has. On the main line that is the problem node (this project's own).
+/// The place of the first of these nodes that has TR or SQ, or `None` if no node has. On the main line that is the problem node
+/// (this project's own).
 pub fn first_marked(nodes: &[SgfNode]) -> Option<usize>
     ensures { result ≡ position is_marked nodes.now }
 {
     nodes.iter().position(|node| is_marked(node))
 }
 
-/// A problem node in its place.
+/// A problem node and where it is.
 #[derive(Clone, Copy)]
 pub struct Mark<'a> {
-    /// Its number on the main line; `None` where that is past the greatest `usize`.
+    /// Its number on the main line. `None` if that is more than a `usize` can hold.
     pub number: Option<usize>,
     /// The nodes after it in its sequence.
     pub nodes: &'a [SgfNode],
@@ -67,14 +68,14 @@ pub struct Mark<'a> {
     pub children: &'a [Tree],
 }
 
-/// A number, where a `usize` holds it, and so many more.
+/// The number plus `more`, if a `usize` can hold it.
 fn add(number: Option<usize>, more: usize) -> Option<usize>
     ensures { result ≡ option_and_then (λ n. usize_of (n + more)) number }
 {
     number?.checked_add(more)
 }
 
-/// The problem node, the first node of the main line that has TR or SQ. `None` where there is none.
+/// The problem node, the first node of the main line that has TR or SQ. `None` if there is none.
 pub fn locate<'a>(tree: &'a Tree) -> Option<Mark<'a>>
     ensures found { is_some result ≡ is_some (problem_node tree.now) }
     ensures number { IfSome result
@@ -102,7 +103,8 @@ pub fn locate<'a>(tree: &'a Tree) -> Option<Mark<'a>>
     }
 }
 
-/// The number of the problem node: of the first node of the main line that has TR or SQ. `None` where there is none, or where its number is past the greatest `usize`.
+/// The number of the problem node, which is the first node of the main line that has TR or SQ. `None` if there is none, or if its
+/// number is more than a `usize` can hold.
 pub fn problem_node(tree: &Tree) -> Option<usize>
     ensures { result ≡ option_and_then usize_of (problem_node tree.now) }
 {

@@ -24,7 +24,7 @@ fn is_inside(first: Point, last: Point, point: Point) -> bool
         && point.row() <= last.row()
 }
 
-/// Puts the points of a rectangle into the set.
+/// Adds the points of a rectangle to the set.
 fn add_inside(size: Size, first: Point, last: Point, set: &mut PointSet)
     requires first { IsOn size first }
     requires last { IsOn size last }
@@ -40,7 +40,7 @@ fn add_inside(size: Size, first: Point, last: Point, set: &mut PointSet)
     }
 }
 
-/// Puts the point with these letters into the set. Whether the board has it.
+/// Adds the point with these letters to the set. Returns whether the board has it.
 fn add_point(size: Size, letters: &[u8], set: &mut PointSet) -> bool
     requires { length letters.now ≡ 2 }
     ensures { Adds size (points_named size letters.now) result set.old set.new }
@@ -62,7 +62,7 @@ fn are_corners(first: Point, last: Point) -> bool
     first.col() <= last.col() && first.row() <= last.row()
 }
 
-/// Puts the points of the rectangle from the first to the last point into the set. Whether the board has it.
+/// Adds the points of the rectangle from the first to the last point to the set. Returns whether the board has it.
 fn add_rectangle(size: Size, first: &[u8], last: &[u8], set: &mut PointSet) -> bool
     requires first { length first.now ≡ 2 }
     requires last { length last.now ≡ 2 }
@@ -83,7 +83,7 @@ fn add_rectangle(size: Size, first: &[u8], last: &[u8], set: &mut PointSet) -> b
     }
 }
 
-/// Puts the points of a value into the set. Whether it names any.
+/// Adds the points of a value to the set. Returns whether it names any.
 fn add_named(size: Size, value: &[u8], set: &mut PointSet) -> bool
     ensures { Adds size (points_named size (trim value.now)) result set.old set.new }
 {
@@ -95,7 +95,8 @@ fn add_named(size: Size, value: &[u8], set: &mut PointSet) -> bool
     }
 }
 
-/// The points that the values of AB, AW, AE, TR or SQ stand for (SGF FF[4], "Compressed point lists"): points and rectangles, each point once. `None` where a value names none.
+/// The points that the values of AB, AW, AE, TR or SQ stand for (SGF FF[4], "Compressed point lists"): points and rectangles, each
+/// point once. `None` if a value names no point.
 pub(crate) fn read_points(size: Size, values: &[Bytes]) -> Option<PointSet>
     ensures value { option_map (map (number_of size)) result ≡ points_of size values.now }
     ensures on_board { IfSome result (λ s. All (IsOn size) s) }
@@ -110,7 +111,7 @@ pub(crate) fn read_points(size: Size, values: &[Bytes]) -> Option<PointSet>
     Some(set)
 }
 
-/// The points of a property whose values have been found good. Bad values count as none.
+/// The points of a property whose values have been found good. Bad values are ignored.
 pub fn points_at(size: Size, name: &[u8], node: &SgfNode) -> PointSet
     ensures value { map (number_of size) result ≡ points_at size name.now node.now }
     ensures on_board { All (IsOn size) result }

@@ -1,12 +1,11 @@
 //! What the turn or the setup of a node does to a record.
 
-ghost use Rattle.std.specs.Prelude.{◌≡◌, map, option_map, if◌then◌else◌, IfOk, IfErr, IfSome, OnOk, Ok};
-ghost use Rattle.go_points.specs.Grid.{points, cell_at, side_of};
+ghost use Rattle.std.specs.Prelude.{◌≡◌, option_map, if◌then◌else◌, IfOk, IfErr, IfSome, OnOk, Ok};
+ghost use Rattle.go_points.specs.Grid.{side_of};
 ghost use Rattle.go_points.specs.Points.{holds_place};
 ghost use Rattle.go_points.specs.declared.Cell.TheVariants.{Empty, Stone};
 ghost use Rattle.go_points.specs.declared.Colour.TheVariants.{Black, White};
 ghost use Rattle.go_points.specs.Ply.{ply_of};
-ghost use Rattle.go_turns.specs.Record.{numbered};
 ghost use Rattle.tsumego_problem.specs.Walk.{assigned, turn_at, player_at, turned, set_to, changed, has_no_liberty};
 ghost use Rattle.tsumego_problem.specs.Walked.{walk_of, StandsOn, IsSetupFault, IsNoLiberty, IsRefusal};
 
@@ -17,9 +16,9 @@ use crate::values::{read_colour, read_turn};
 use go_points::{Cell, Colour, Colouring, Point, PointSet, Size, Turn};
 use go_turns::{PlayRecord, TurnFault};
 use sgf_text::SgfNode;
-use std::alloc::{AllocError, Global};
 
-/// The turn of a node, and whose it is: the first value of B, else of W (SGF FF[4], "Move properties"). `None` where the node has neither, or the value is no turn of a board of this size.
+/// The turn of a node, and whose it is: the first value of B, or otherwise of W (SGF FF[4], "Move properties"). `None` if the node
+/// has neither, or if the value is not a turn on a board of this size.
 pub fn turn_at(size: Size, node: &SgfNode) -> Option<(Colour, Turn)>
     ensures value { option_map (λ t. (t.0, ply_of size t.1)) result ≡ turn_at size node.now }
     ensures on_board { IfSome result (λ t. StandsOn size (ply_of size t.1)) }
@@ -93,26 +92,7 @@ pub fn assigned(size: Size, node: &SgfNode, colouring: &Colouring) -> Colouring
     after
 }
 
-/// Every point of the colouring with what it holds.
-fn cells_of(
-    alloc: Global,
-    size: Size,
-    colouring: &Colouring,
-) -> Result<Vec<(Point, Cell)>, AllocError>
-    requires { side_of colouring.now ≡ size }
-    ensures { IfOk result
-        (λ cells. map (numbered size) cells.items
-        ≡ map (λ p. (p, cell_at colouring.now p)) (points size)) }
-{
-    let mut cells = Vec::new(alloc);
-    for number in 0..size.area() {
-        let point = size.point_at(number);
-        cells.push((point, colouring.get(point)))?;
-    }
-    Ok(cells)
-}
-
-/// Plays the turn of the node with this number. The colour to move afterwards.
+/// Plays the turn of the node with this number. Returns the colour to move afterwards.
 fn play(
     played: &mut PlayRecord,
     size: Size,
@@ -161,7 +141,6 @@ fn setup_fault(number: usize, fault: TurnFault) -> ProblemFault
 
 /// Assigns the setup of the node with this number.
 fn set_up(
-    alloc: Global,
     played: &mut PlayRecord,
     size: Size,
     number: usize,
@@ -179,18 +158,14 @@ fn set_up(
         (set_to number node.now c (walk_of played.old mover) (has_no_liberty size c)) e) }
 {
     let after = assigned(size, node, &played.colouring());
-    let Ok(cells) = cells_of(alloc, size, &after) else {
-        return Err(ProblemFault::Memory);
-    };
-    match played.setup(cells.as_slice()) {
+    match played.set_up(&after) {
         Ok(()) => Ok(player_at(node).unwrap_or(mover)),
         Err(fault) => Err(setup_fault(number, fault)),
     }
 }
 
-/// Does what the node with this number says. The colour to move afterwards.
+/// Does what the node with this number says. Returns the colour to move afterwards.
 pub(crate) fn change(
-    alloc: Global,
     played: &mut PlayRecord,
     size: Size,
     number: usize,
@@ -208,7 +183,7 @@ pub(crate) fn change(
         return play(played, size, number, mover, colour, turn);
     }
     if has_setup(node) {
-        return set_up(alloc, played, size, number, mover, node);
+        return set_up(played, size, number, mover, node);
     }
     Ok(player_at(node).unwrap_or(mover))
 }

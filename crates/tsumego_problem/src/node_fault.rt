@@ -1,9 +1,9 @@
-//! The refusals that what stands in a node gives.
+//! The refusals that depend only on the contents of a node.
 
-ghost use Rattle.std.specs.Prelude.{◌≡◌, ◌||◌, ◌∷◌, [], ℕ, codes, is_none, option_map};
+ghost use Rattle.std.specs.Prelude.{◌≡◌, ◌&&◌, ◌||◌, ◌∷◌, [], ℕ, codes, is_none, option_map};
 ghost use Rattle.std.specs.List.{list_any};
 ghost use Rattle.tsumego_problem.specs.Values.{turn_in};
-ghost use Rattle.tsumego_problem.specs.Walk.{has_many, is_bad, is_bad_turn, share_point, node_fault, first_fault, when};
+ghost use Rattle.tsumego_problem.specs.Walk.{has, has_many, is_bad, is_bad_turn, share_point, node_fault, first_fault, when};
 ghost use Rattle.tsumego_problem.specs.declared.fault.ProblemFault.TheVariants as faults;
 ghost use Rattle.tsumego_problem.specs.declared.fault.SingleProperty.TheVariants as single;
 
@@ -58,14 +58,14 @@ fn has_bad_points(size: Size, node: &SgfNode) -> bool
         || is_bad(size, b"SQ", node)
 }
 
-/// Whether the value is no turn.
+/// Whether the value is not a turn.
 fn is_no_turn(size: Size, value: &Bytes) -> bool
     ensures { result ≡ is_none (turn_in size value.now) }
 {
     read_turn(size, value.as_slice()).is_none()
 }
 
-/// Whether a value of the property is no turn.
+/// Whether a value of the property is not a turn.
 fn is_bad_turn(size: Size, name: &[u8], node: &SgfNode) -> bool
     ensures { result ≡ is_bad_turn size name.now node.now }
 {
@@ -77,8 +77,22 @@ fn is_bad_turn(size: Size, name: &[u8], node: &SgfNode) -> bool
     false
 }
 
+/// Whether the node has both properties.
+fn has_both(first: &[u8], second: &[u8], node: &SgfNode) -> bool
+    ensures { result ≡ (has first.now node.now && has second.now node.now) }
+{
+    has(first, node) && has(second, node)
+}
+
 /// Whether two properties share a point.
 fn share_point(size: Size, first: &[u8], second: &[u8], node: &SgfNode) -> bool
+    ensures { result ≡ share_point size first.now second.now node.now }
+{
+    has_both(first, second, node) && name_one_point(size, first, second, node)
+}
+
+/// Whether two properties share a point, if the node has both.
+fn name_one_point(size: Size, first: &[u8], second: &[u8], node: &SgfNode) -> bool
     ensures { result ≡ share_point size first.now second.now node.now }
 {
     let held = points_at(size, first, node);
@@ -101,7 +115,7 @@ fn setup_overlaps(size: Size, node: &SgfNode) -> bool
         || share_point(size, b"AW", b"AE", node)
 }
 
-/// The first of the refusals of this node that do not depend on what stands before it.
+/// The first of the refusals of this node that do not depend on what comes before it.
 pub(crate) fn node_fault(size: Size, number: usize, node: &SgfNode) -> Option<ProblemFault>
     ensures { result ≡ node_fault size number node.now }
 {

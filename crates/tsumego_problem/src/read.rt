@@ -33,10 +33,10 @@ fn is_go(root: &SgfNode) -> bool
     }
 }
 
-/// The number of rows of a board whose record does not say it, as SGF FF[4] has it for Go ("Root properties", SZ).
+/// The number of rows if the record does not give it, as SGF FF[4] defines it for Go ("Root properties", SZ).
 pub(crate) const DEFAULT_SIZE: u8 = 19;
 
-/// The size that the root gives: the default, 19 rows, where SZ is absent.
+/// The size that the root gives; the default of 19 rows if SZ is absent.
 pub fn board_size(root: &SgfNode) -> Option<Size>
     ensures { result ≡ board_size root.now }
 {
@@ -47,7 +47,7 @@ pub fn board_size(root: &SgfNode) -> Option<Size>
     }
 }
 
-/// The record with which the walk begins.
+/// The record that the walk begins with.
 fn open(alloc: Global, size: Size, root: &SgfNode) -> Result<PlayRecord, ProblemFault>
     ensures ok { IfOk result (λ r. walk_of r Black ≡ opening size root.now) }
     ensures size { IfOk result (λ r. r.size ≡ size) }
@@ -69,7 +69,7 @@ fn open(alloc: Global, size: Size, root: &SgfNode) -> Result<PlayRecord, Problem
     }
 }
 
-/// The region of a problem node: without SQ the whole board.
+/// The region of a problem node, which is the whole board without SQ.
 fn region_at(size: Size, node: &SgfNode) -> PointSet
     ensures value { map (number_of size) result ≡ region_at size node.now }
     ensures on_board { All (IsOn size) result }
@@ -92,7 +92,7 @@ pub fn history_of<S: Seen>(alloc: Global, seen: &S) -> Result<Vec<Colouring>, Al
     Ok(history)
 }
 
-/// The problem that the walk has led to. It is one, since the walk has asked all that a problem is asked.
+/// The problem that the walk has led to. It is a problem, since the walk has made every check that a problem needs.
 fn problem_at(
     alloc: Global,
     played: &PlayRecord,
@@ -118,7 +118,8 @@ fn problem_at(
     }
 }
 
-/// The problem of a record: its main line is walked up to the first node with TR or SQ (SGF FF[4], with this project's own walk). Else the first refusal.
+/// The problem of a record, or the first refusal. The main line is walked up to the first node with TR or SQ (SGF FF[4], with this
+/// project's own walk).
 pub fn read_problem(alloc: Global, tree: &Tree) -> Result<Problem, ProblemFault>
     ensures ok { IfOk result (λ q. problem_within (Some history_limit) tree.now ≡ Ok q) }
     ensures refused { IfErr result
@@ -138,7 +139,7 @@ pub fn read_problem(alloc: Global, tree: &Tree) -> Result<Problem, ProblemFault>
         Ok(played) => played,
         Err(fault) => return Err(fault),
     };
-    match walk_line(alloc, &mut played, size, Colour::Black, tree) {
+    match walk_line(&mut played, size, Colour::Black, tree) {
         Ok((node, mover)) => problem_at(alloc, &played, size, mover, node),
         Err(fault) => Err(fault),
     }

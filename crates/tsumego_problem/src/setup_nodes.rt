@@ -1,4 +1,4 @@
-//! Nodes of setup: what changes from one colouring to another.
+//! Setup nodes: what changes from one colouring to another.
 
 ghost use Rattle.std.specs.Prelude.{◌≡◌, ◌++◌, ◌∷◌, ◌&&◌, [], not, IfOk, OnOk, IsTrue, decimal};
 ghost use Rattle.go_points.specs.Grid.{same_cell, side_of};
@@ -18,7 +18,7 @@ pub(crate) fn point_value(alloc: Global, point: Point) -> Result<Bytes, AllocErr
     Ok(Bytes::from_vec(letters.as_slice().to_vec(alloc)?))
 }
 
-/// Puts a property at the end of a node's properties; none where it has no values.
+/// Appends a property to a node's properties, unless it has no values.
 pub(crate) fn push_property(
     alloc: Global,
     properties: &mut Vec<Property>,
@@ -37,7 +37,7 @@ pub(crate) fn push_property(
     Ok(())
 }
 
-/// Puts a property with one value at the end of a node's properties.
+/// Appends a property with one value to a node's properties.
 pub(crate) fn push_one(
     alloc: Global,
     properties: &mut Vec<Property>,
@@ -63,14 +63,14 @@ pub(crate) fn node_of(properties: Vec<Property>) -> SgfNode
     }
 }
 
-/// Whether a point comes to hold this.
+/// Whether a point comes to hold the cell.
 fn comes_to(cell: Cell, old: Cell, new: Cell) -> bool
     ensures { result ≡ (same_cell new cell && not (same_cell old cell)) }
 {
     new == cell && old != cell
 }
 
-/// The points that come to hold this.
+/// The points that come to hold the cell.
 fn changed_to(
     alloc: Global,
     size: Size,
@@ -93,7 +93,7 @@ fn changed_to(
     Ok(values)
 }
 
-/// Puts AB, AW and AE of the points that change at the end of a node's properties.
+/// Appends AB, AW and AE of the points that change to a node's properties.
 fn push_changes(
     alloc: Global,
     size: Size,

@@ -8,7 +8,7 @@ ghost use Rattle.tsumego_problem.specs.Walk.{board_of};
 use crate::values::trim;
 use go_points::{MAX_SIZE, Size};
 
-/// The number with one more digit, where it is one and the number does not pass `MAX_SIZE`.
+/// The number with one more digit, if that is a digit and the number does not pass `MAX_SIZE`.
 fn with_digit(number: u8, digit: u8) -> Option<u8>
     requires { number ≤ MAX_SIZE }
     ensures { result ≡ if is_digit digit && nat_le (10 * number + (digit - 48)) MAX_SIZE then Some
@@ -25,7 +25,7 @@ fn with_digit(number: u8, digit: u8) -> Option<u8>
     }
 }
 
-/// The board with so many rows as these digits say.
+/// The size with as many rows as these digits say.
 fn read_digits(digits: &[u8]) -> Option<Size>
     ensures { result ≡ option_and_then board_of (digits_value digits.now) }
 {
@@ -42,7 +42,7 @@ fn read_digits(digits: &[u8]) -> Option<Size>
     Size::new(number)
 }
 
-/// The board with so many rows as this number says.
+/// The size with as many rows as this number says.
 fn read_number(number: &[u8]) -> Option<Size>
     ensures { result ≡ option_and_then board_of (number_named number.now) }
 {
@@ -59,7 +59,7 @@ fn colon_in(value: &[u8]) -> Option<usize>
     value.iter().position(|byte| *byte == b':')
 }
 
-/// The board with so many rows as both these numbers say.
+/// The size with as many rows as both numbers say.
 fn read_square(first: &[u8], second: &[u8]) -> Option<Size>
     ensures { result ≡ option_and_then board_of
         (equal (number_named first.now) (number_named second.now)) }
@@ -77,7 +77,8 @@ fn read_square(first: &[u8], second: &[u8]) -> Option<Size>
     }
 }
 
-/// The size that a value of SZ stands for (SGF FF[4], "Root properties"): a number of rows, or a square's `n:n`. White space at its ends does not count.
+/// The size that a value of SZ stands for (SGF FF[4], "Root properties"): a number of rows, or a square's `n:n`. White space at its
+/// ends is ignored.
 pub(crate) fn read_size(value: &[u8]) -> Option<Size>
     ensures { result ≡ option_and_then board_of (size_in value.now) }
 {

@@ -7,7 +7,7 @@ ghost use Rattle.tsumego_problem.specs.Values.{skip_white, trim, turn_in, colour
 use go_points::{Colour, Size, Turn, sgf_point};
 use sgf_text::token::is_white;
 
-/// The text from its first byte on that is no white space.
+/// The text from its first byte that is not white space.
 pub fn skip_white(text: &[u8]) -> &[u8]
     ensures value { result.now ≡ skip_white text.now }
     ensures shorter { length result.now ≤ length text.now }
@@ -20,7 +20,7 @@ pub fn skip_white(text: &[u8]) -> &[u8]
     &[]
 }
 
-/// The text up to its last byte that is no white space.
+/// The text up to its last byte that is not white space.
 fn cut_white(text: &[u8]) -> &[u8]
     ensures { result.now ≡ reverse (skip_white (reverse text.now)) }
 {
@@ -38,7 +38,8 @@ pub(crate) fn trim(value: &[u8]) -> &[u8]
     cut_white(skip_white(value))
 }
 
-/// The turn that a value of B or W stands for (SGF FF[4], Go, "Move"): the point of two letters; or a pass, which is an empty value, or `tt` where that is no point. White space at its ends does not count. `None` for any other value.
+/// The turn that a value of B or W stands for (SGF FF[4], Go, "Move"): the point that two letters name; or a pass, which is an
+/// empty value, or `tt` if that is not a point of the board. White space at its ends is ignored. `None` for any other value.
 pub fn read_turn(size: Size, value: &[u8]) -> Option<Turn>
     ensures { option_map (ply_of size) result ≡ turn_in size value.now }
 {
@@ -56,7 +57,8 @@ pub fn read_turn(size: Size, value: &[u8]) -> Option<Turn>
     }
 }
 
-/// The colour that a value of PL stands for (SGF FF[4], "Color"): its letter or its English word, in any case. White space at its ends does not count.
+/// The colour that a value of PL stands for (SGF FF[4], "Color"): its letter or its English word, in any letter case. White space
+/// at its ends is ignored.
 pub(crate) fn read_colour(value: &[u8]) -> Option<Colour>
     ensures { result ≡ colour_in value.now }
 {

@@ -16,10 +16,9 @@ use crate::node_fault::node_fault;
 use go_points::{Cell, Colour, Colouring, PointSet, Size};
 use go_turns::{Board, PlayBoard, PlayRecord, Record, Seen, TurnFault};
 use sgf_text::{SgfNode, Tree};
-use std::alloc::Global;
 use target_game::{MAX_HISTORY, all_hold};
 
-/// Whether these points are stones of one colour, one at least.
+/// Whether the points hold stones of one colour, and there is at least one.
 fn are_targets(colouring: &Colouring, points: &PointSet) -> bool
     requires { All (IsOn (side_of colouring.now)) points.now }
     ensures { result ≡ are_targets colouring.now
@@ -32,7 +31,7 @@ fn are_targets(colouring: &Colouring, points: &PointSet) -> bool
     !cell.is_empty() && all_hold(colouring, points, cell)
 }
 
-/// The first of the refusals that are asked after what a node does.
+/// The first of the refusals that are checked after the node has done what it says.
 fn late_fault(
     played: &PlayRecord,
     size: Size,
@@ -58,9 +57,8 @@ fn late_fault(
     None
 }
 
-/// Walks over one node. The colour to move afterwards.
+/// Walks over one node. Returns the colour to move afterwards.
 fn walk_node(
-    alloc: Global,
     played: &mut PlayRecord,
     size: Size,
     number: usize,
@@ -79,7 +77,7 @@ fn walk_node(
     if let Some(fault) = node_fault(size, number, node) {
         return Err(fault);
     }
-    let mover = match change(alloc, played, size, number, mover, node) {
+    let mover = match change(played, size, number, mover, node) {
         Ok(mover) => mover,
         Err(fault) => return Err(fault),
     };
@@ -89,9 +87,9 @@ fn walk_node(
     }
 }
 
-/// Walks over the nodes of a tree's own sequence, the first of which has this number, up to the first marked one. Its place in the sequence, where there is one; and the colour to move.
+/// Walks over the nodes of a tree's own sequence, up to the first marked one. The first node has this number. Returns the place of
+/// the marked node in the sequence, if there is one, and the colour to move.
 fn walk_sequence(
-    alloc: Global,
     played: &mut PlayRecord,
     size: Size,
     first: usize,
@@ -119,7 +117,7 @@ fn walk_sequence(
     let mut mover = mover;
     for place in 0..nodes.len() {
         let node = &nodes[place];
-        match walk_node(alloc, played, size, first + place, mover, node) {
+        match walk_node(played, size, first + place, mover, node) {
             Ok(next) => mover = next,
             Err(fault) => return Err(fault),
         }
@@ -130,9 +128,8 @@ fn walk_sequence(
     Ok((None, mover))
 }
 
-/// Walks along the main line up to the first marked node: that node, and the colour to move there.
+/// Walks along the main line up to the first marked node. Returns that node, and the colour to move there.
 pub(crate) fn walk_line<'a>(
-    alloc: Global,
     played: &mut PlayRecord,
     size: Size,
     mover: Colour,
@@ -151,11 +148,11 @@ pub(crate) fn walk_line<'a>(
     let mut first: usize = 0;
     let mut mover = mover;
     loop {
-        // More nodes than a `usize` counts are more than memory holds.
+        // More nodes than a `usize` can count are more than memory can hold.
         let Some(next) = first.checked_add(part.nodes().len()) else {
             return Err(ProblemFault::Memory);
         };
-        match walk_sequence(alloc, played, size, first, mover, part) {
+        match walk_sequence(played, size, first, mover, part) {
             Err(fault) => return Err(fault),
             Ok((Some(place), at_mark)) => return Ok((&part.nodes()[place], at_mark)),
             Ok((None, behind)) => mover = behind,

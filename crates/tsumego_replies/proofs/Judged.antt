@@ -2,7 +2,7 @@
 use Rattle.std.proofs.Common.{◌≡◌, ℕ, ◌+◌, ◌-◌, ◌<◌, ◌≤◌, Bool, true, false, List, [], ◌∷◌, ◌++◌, length, drop, Option, Some, None, Result, Ok, Err, inl, inr, refl, sym, ◌∙◌, ap, ap₂, subst, arith, append_assoc, append-nil, length-append, if◌then◌else◌}
 use Rattle.std.specs.Prelude.{IfOk, string_bytes}
 use Rattle.std.specs.Io.KnownBytes.{Consumes, IsAtEnd}
-use Rattle.std.proofs.KnownBytes.{Consumes-nil}
+use Rattle.std.proofs.KnownBytes.{Consumes-nil, Keeps-refl}
 use lib.Seq.{drop-append-le}
 use Rattle.go_points.specs.declared.Colour.{Colour}
 use Rattle.target_game.specs.State.{GameProblem}
@@ -250,7 +250,7 @@ may_ask (Solve steps table proof lift) old new bytes given few = (bytes, given, 
 may_ask Gtp old new bytes given few = tt
 
 pub may_ask_nothing : (command : Option Command) (old : Option (List ℕ)) → MayAsk command old old
-may_ask_nothing None old = ([], Consumes-nil old, omega arith)
+may_ask_nothing None old = Keeps-refl old
 may_ask_nothing (Some Check) old = tt
 may_ask_nothing (Some (Within turns nodes)) old = ([], Consumes-nil old, omega arith)
 may_ask_nothing (Some Audit) old = ([], Consumes-nil old, omega arith)

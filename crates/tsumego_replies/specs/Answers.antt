@@ -1,5 +1,7 @@
--- What each command that reads a record answers: the whole text, and the status with it. A session reads none, and says nothing here.
---     check_answer, within_answer, audit_answer      of what the definitions of claims, of winning and of answer trees say
+-- What each command that reads a record answers: the whole text, and the status with it. A session reads no record, and nothing is
+-- said about it here.
+--     check_answer, within_answer, audit_answer      the answers to what the definitions of claims, of winning and of answer trees
+--         say
 --     Says command bytes status text      the whole text that the command may have for these bytes
 use Rattle.std.specs.Prelude.{◌≡◌, ℕ, ◌-◌, ◌<◌, ◌≤◌, List, length, drop, Some, Result, Ok, Err, ◌⊎◌}
 use Rattle.go_points.specs.declared.Colour.{Colour}
@@ -28,13 +30,13 @@ use Rattle.tsumego_replies.specs.Texts.{line, wins_text, rejected_line_text, rej
 abbrev pub Answer : Type 0
 Answer = Status × List ℕ
 
--- The bytes begin with a record, of which this is the tree, and this is its problem; the record ends before the place n.
+-- The bytes begin with a record that has this tree and this problem, and the record ends before the place n.
 pub record IsRecord (bytes : List ℕ) (tree : GameTree) (n : ℕ) (q : GameProblem) : Type 0 where
   pub reads : Reads bytes tree n
   pub within : IsWithin tree n
   pub problem : problem_within (Some history_limit) tree ≡ Ok q
 
--- The bytes are refused; or they begin with a record, and what is said of its problem is said.
+-- The bytes are refused; or they begin with a record, and the answer is that to its problem.
 abbrev pub RefusedOr : (GameProblem → GameTree → ℕ → Status → List ℕ → Type 0) → List ℕ → Status → List ℕ → Type 0
 RefusedOr Said bytes status text =
     ((refusal : List ℕ) × Refuses bytes refusal × (status ≡ Refused) × (text ≡ line refusal))
@@ -46,15 +48,15 @@ abbrev pub check_answer : ℕ → Verdict → Answer
 check_answer n (accepted x) = (Answered, wins_text x)
 check_answer n (rejected place why) = (Unanswered, rejected_line_text n place why)
 
--- how many bytes of white space stand at the front
+-- how many bytes of white space are at the front
 abbrev pub white_before : List ℕ → ℕ
 white_before bytes = length bytes - length (skip_white bytes)
 
--- After a record stands white space, no more than may be, and then the claim: what is said is the verdict on it.
+-- A record is followed by white space, no more than is allowed, and then by the claim. The answer is the verdict on the claim.
 abbrev pub JudgesClaim : GameProblem → List ℕ → Status → List ℕ → Type 0
 JudgesClaim q bytes status text = (white_before bytes ≤ white_limit) × ((v : Verdict) × HasVerdict q (skip_white bytes) v × ((status, text) ≡ check_answer q.game.size v))
 
--- After a record stands more white space than may be.
+-- A record is followed by more white space than is allowed.
 abbrev pub PassesWhite : List ℕ → Type 0
 PassesWhite bytes = (q : GameProblem) × (tree : GameTree) × (n : ℕ) × IsRecord bytes tree n q × (white_limit < white_before (drop n bytes))
 

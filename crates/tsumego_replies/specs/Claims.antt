@@ -1,5 +1,5 @@
--- What the bytes of a claim come to: a line is read as the one whose spelling it is.
---     IsLineOf n p l      a piece of a text, for a board of n rows, is this line; None where it is no line's
+-- What the bytes of a claim mean: a line is read as the one that it spells.
+--     IsLineOf n p l      a piece of a text, for a board of n rows, is this line; None if it spells no line
 --     HasVerdict q bytes v      the verdict on a claim for a problem
 use Rattle.std.specs.Prelude.{◌≡◌, ℕ, Bool, true, List, [], ◌∷◌, Option, Some, None}
 use Rattle.target_game.specs.State.{GameProblem}

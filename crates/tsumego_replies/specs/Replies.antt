@@ -1,4 +1,4 @@
--- What the calls that make a reply give. The clauses of a run do not rest on these words.
+-- What the calls that make a reply give. The clauses of a run do not rest on these definitions.
 use Rattle.std.specs.Prelude.{◌≡◌, ℕ, ◌<◌, Bool, true, false, List, [], ◌∷◌, ◌++◌, length, Option, Some, None, ◌⊎◌, string_bytes}
 use Rattle.std.specs.Io.KnownBytes.{Consumes, IsAtEnd}
 use Rattle.sgf_text.specs.Bytes.{is_white}
@@ -30,12 +30,12 @@ use Rattle.tsumego_replies.specs.Answers.{Says, check_answer, JudgesClaim, Passe
 use Rattle.proof_cert.specs.Streamed.{Tells}
 use Rattle.tsumego_replies.specs.Texts.{line, rejected_line_text, rejected_node_text}
 
--- The bytes have no record with this text; where memory was refused, nothing is said.
+-- The bytes have no record, and this text says why; if memory was refused, nothing is said.
 abbrev pub HasNoRecord : List ℕ → NoRecord → Type 0
 HasNoRecord bytes (Refused text) = (refusal : List ℕ) × Refuses bytes refusal × (string_bytes text ≡ line refusal)
 HasNoRecord bytes Memory = Unit {0}
 
--- what is told is this text; where memory was refused, nothing is
+-- what is told is this text; if memory was refused, nothing is told
 abbrev pub IsTold : List ℕ → NoRecord → Type 0
 IsTold wanted (Refused text) = string_bytes text ≡ wanted
 IsTold wanted Memory = Unit {0}
@@ -44,7 +44,7 @@ IsTold wanted Memory = Unit {0}
 abbrev pub IsRejectionOf : ℕ → Reject → Status → List ℕ → Type 0
 IsRejectionOf n e status text = (why : Why) × (why_value n e.why ≡ Some why) × (status ≡ Unanswered) × (text ≡ rejected_line_text n e.place why)
 
--- the same of an audit's fault
+-- the same for the fault of an audit
 abbrev pub IsNodeRejectionOf : ℕ → AuditFault → Status → List ℕ → Type 0
 IsNodeRejectionOf n e status text =
     (why : audit.Why) × (fault.why_value n e.why ≡ Some why) × (status ≡ Unanswered) × (text ≡ rejected_node_text n (record { node = e.node; why = why }))
@@ -55,7 +55,7 @@ IsReply command bytes (Text reply) = Says command bytes reply.status (string_byt
 IsReply command bytes (Solution checked proof lift) = (status : Status) (text : List ℕ) → MayAnswer proof lift checked status text → Says command bytes status text
 IsReply command bytes TooLong = PassesBound command bytes
 
--- A record is decided by the bytes that were read: there are more of them than a record may have, or the reader has ended.
+-- The bytes that were read decide the record: there are more of them than a record may have, or the reader has ended.
 abbrev pub Decides : List ℕ → Option (List ℕ) → Type 0
 Decides front told = (byte_limit < length front) ⊎ IsAtEnd told
 
@@ -66,7 +66,7 @@ SaysAfter command front told status text = (rest : List ℕ) × Tells told rest 
 abbrev pub IsReplyAfter : Command → List ℕ → Option (List ℕ) → Response → Type 0
 IsReplyAfter command front told r = (rest : List ℕ) × Tells told rest × IsReply command (front ++ rest) r
 
--- no command but `check` asks for more
+-- no command except `check` asks for more
 abbrev pub AsksOn : Command → Option (List ℕ) → Option (List ℕ) → Type 0
 AsksOn Check old new = Unit {0}
 AsksOn _ old new = new ≡ old
@@ -75,7 +75,8 @@ abbrev pub AllWhite : List ℕ → Type 0
 AllWhite [] = Unit {0}
 AllWhite (x ∷ bytes) = (is_white x ≡ true) × AllWhite bytes
 
--- After less white space than this there is a byte of another kind, or nothing: the bytes were given up to it. Or there is as much.
+-- After less white space than this there is a byte of another kind, or nothing, and the bytes up to there were given. Or there is
+-- as much white space.
 abbrev pub IsPastWhite : ℕ → Option (List ℕ) → Option (List ℕ) → White → Type 0
 IsPastWhite room old new End = (white : List ℕ) × AllWhite white × (length white < room) × Consumes old new white × IsAtEnd new
 IsPastWhite room old new TooMuch = (white : List ℕ) × AllWhite white × (length white ≡ room) × Consumes old new white
@@ -85,19 +86,19 @@ IsPastWhite room old new (Before b) = (white : List ℕ) × AllWhite white × (l
 abbrev pub claim_verdict : GameProblem → List ℕ → Verdict
 claim_verdict q claim = verdict q (lines q.game.size claim)
 
--- the answer to a claim in these bytes and those that the reader tells after them, where it is judged
+-- the answer to a claim in these bytes and those that the reader tells after them, if it is judged
 abbrev pub IsJudgedAfter : GameProblem → List ℕ → Option (List ℕ) → Status → List ℕ → Type 0
 IsJudgedAfter q claim told status text = (rest : List ℕ) × Tells told rest × ((status, text) ≡ check_answer q.game.size (claim_verdict q (claim ++ rest)))
 
--- the same, where white space stands before the claim
+-- the same, if there is white space before the claim
 abbrev pub IsCheckedAfter : GameProblem → List ℕ → Option (List ℕ) → Status → List ℕ → Type 0
 IsCheckedAfter q behind told status text = (rest : List ℕ) × Tells told rest × JudgesClaim q (behind ++ rest) status text
 
--- more white space than may be stands before a claim, in these bytes and those that the reader tells after them
+-- there is more white space than is allowed before a claim, in these bytes and those that the reader tells after them
 abbrev pub IsPastLimit : List ℕ → Option (List ℕ) → Type 0
 IsPastLimit behind told = (rest : List ℕ) × Tells told rest × (white_limit < white_before (behind ++ rest))
 
--- a claim after white space is judged; or there is too much of that
+-- a claim after white space is judged; or there is too much white space
 abbrev pub IsJudged : GameProblem → List ℕ → Option (List ℕ) → Option Reply → Type 0
 IsJudged q behind told (Some r) = IsCheckedAfter q behind told r.status (string_bytes r.text)
 IsJudged q behind told None = IsPastLimit behind told

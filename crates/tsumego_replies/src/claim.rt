@@ -17,11 +17,11 @@ use std::io::Read;
 use target_game::Problem;
 use tsumego_problem::skip_white;
 
-/// The most white space between a record and a claim, in bytes.
+/// The greatest amount of white space between a record and a claim, in bytes.
 pub const MAX_WHITE: usize = 1_048_576;
 
-/// Judges the claim after white space: in the bytes after the record, and in what the reader has after them. None where there is
-/// too much white space.
+/// Judges the claim that comes after white space, in the bytes after the record and in what the reader has after those. `None` if
+/// there is too much white space.
 pub fn judge<R: Read>(
     alloc: Global,
     problem: &Problem,

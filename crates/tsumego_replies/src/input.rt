@@ -1,4 +1,4 @@
-//! What is read of the input: its front, and white space before a claim.
+//! Reading the input: its front, and the white space before a claim.
 
 ghost use Rattle.std.specs.Prelude.{◌≡◌, ◌≤◌, ◌+◌, ◌++◌, ℕ, List, length, OnOk, IfOk};
 ghost use Rattle.std.specs.Io.KnownBytes.{Consumes, IsAtEnd};
@@ -8,7 +8,7 @@ use sgf_text::token::is_white;
 use std::alloc::AllocError;
 use std::io::Read;
 
-/// How many bytes are asked of a reader at once.
+/// How many bytes a reader is asked for at once.
 const BLOCK: usize = 65_536;
 
 /// How reading ended.
@@ -26,14 +26,14 @@ pub enum InputEnd {
 #[derive(Clone, Copy, Debug)]
 pub struct ReadFailed;
 
-/// What stands after white space.
+/// What comes after white space.
 #[derive(Clone, Copy, Debug, PartialEq, Eq)]
 pub enum White {
-    /// This byte, which is none.
+    /// This byte, which is not white space.
     Before(u8),
     /// Nothing: the reader has ended.
     End,
-    /// There is more of it than may be.
+    /// There is more white space than is allowed.
     TooMuch,
 }
 
@@ -64,7 +64,7 @@ pub fn read_to_limit<R: Read>(
     Ok(InputEnd::Full)
 }
 
-/// The first byte that is no white space, after fewer than so many that are. It is read byte by byte.
+/// The first byte that is not white space, after fewer than `room` bytes that are. The input is read byte by byte.
 pub fn read_past_white<R: Read>(reader: &mut R, room: usize) -> Result<White, ReadFailed>
     ensures { IfOk result
         (λ o. IsPastWhite room (R.remaining reader.old) (R.remaining reader.new) o) }

@@ -38,13 +38,13 @@ pub struct Reply {
 pub enum Response {
     /// This text.
     Text(Reply),
-    /// What is written of this claim: as a tree, or as a proof, for which the claim may be made into one lemma.
+    /// This claim is to be written: as a tree, or as a proof, for which it may be made into one lemma.
     Solution {
         checked: Checked,
         proof: bool,
         lift: bool,
     },
-    /// What is read has no end in sight: a bound was passed.
+    /// The input has no end in sight: a bound was passed.
     TooLong,
 }
 
@@ -56,7 +56,7 @@ pub enum Failure {
     Read,
 }
 
-/// What the command answers for these bytes and what the reader has after them. `check` alone reads on.
+/// What the command answers for these bytes and what the reader has after them. Only `check` reads on.
 pub fn reply_to<R: Read>(
     alloc: Global,
     command: Command,
@@ -113,7 +113,7 @@ fn as_response(reply: Result<Option<Reply>, Failure>) -> Result<Response, Failur
     }
 }
 
-/// What is answered where there is no record, whatever the command.
+/// What is answered if there is no record, whatever the command is.
 fn refused(none: NoRecord) -> Result<Reply, Failure>
     ensures { (command : Command) (bytes : List ℕ) → IsFalse (is_session command)
         → HasNoRecord bytes none

@@ -23,7 +23,7 @@ use tsumego_problem::{ProblemFault, SingleProperty, TurnFaultCause};
 /// Memory was refused.
 pub const NO_MEMORY: &[u8] = b"failed: memory\n";
 
-/// A read failed, or what is read has no end in sight.
+/// A read failed, or the input has no end in sight.
 pub const NO_READ: &[u8] = b"failed: read\n";
 
 /// The answer tree has more turns than are written.
@@ -119,7 +119,7 @@ pub fn problem_refusal(alloc: Global, fault: ProblemFault) -> Result<String, All
     }
 }
 
-/// Why a line of a claim is refused. The cause is not want of memory.
+/// Why a line of a claim is refused. The cause must not be that memory was refused.
 pub fn reject_text(alloc: Global, size: Size, reject: &Reject) -> Result<String, AllocError>
     ensures { IfOk result (λ text. (why : SpecWhy) → why_value size reject.now.why ≡ Some why
         → string_bytes text ≡ rejected_line_text size reject.now.place why) }
@@ -159,7 +159,7 @@ fn why_text(alloc: Global, size: Size, why: Why) -> Result<String, AllocError>
     }
 }
 
-/// Why a node of an answer tree is refused. The cause is not want of memory.
+/// Why a node of an answer tree is refused. The cause must not be that memory was refused.
 pub fn node_reject_text(alloc: Global, size: Size, fault: &AuditFault) -> Result<String, AllocError>
     ensures { IfOk result (λ text. (why : NodeWhy) → node_why size fault.now.why ≡ Some why
         → string_bytes text ≡ rejected_node_text size
@@ -205,8 +205,8 @@ fn turn_text(alloc: Global, size: Size, turn: Turn) -> Result<String, AllocError
     }
 }
 
-/// The letters of a point. One that the board does not hold, which no reply that is due is, has those of the place after
-/// the last point.
+/// The letters of a point. A point that the board does not have gets the letters of the place after the last point; no reply that
+/// is due is such a point.
 fn letters_of(size: Size, point: Point) -> [u8; 2]
     ensures value { result ≡ vertex_text size (ply_of size (At point)) }
     ensures ascii { All (λ letter. letter < 128) result }

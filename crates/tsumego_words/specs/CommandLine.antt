@@ -13,14 +13,14 @@ use Rattle.tsumego_words.specs.declared.command_line.Command.TheVariants.{Check,
 use Rattle.tsumego_words.specs.declared.command_line.NoCommand.{NoCommand}
 use Rattle.tsumego_words.specs.declared.command_line.NoCommand.TheVariants.{Words, Memory}
 
--- The most turns, and the most states, that may be asked for.
+-- The greatest number of turns, and of states, that may be asked for.
 abbrev pub most_turns : ℕ
 most_turns = 200
 
 abbrev pub most_nodes : ℕ
 most_nodes = 4294967295
 
--- The most steps, and the most entries of the table, that may be asked for; at least one of each is.
+-- The greatest number of steps, and of table entries, that may be asked for. The least is one of each.
 abbrev pub most_steps : ℕ
 most_steps = 10000000
 
@@ -31,7 +31,7 @@ most_entries = 1000000
 abbrev pub turns_rule : Rule
 turns_rule = record (new_rule (codes "K")) { required = true; parser = Some (Unsigned 0 most_turns) }
 
--- an option for a number, with the text that stands for it where it is not given
+-- an option for a number, with the text that stands for it if it is not given
 abbrev pub number_rule : Text → Text → ℕ → ℕ → Rule
 number_rule name default least most =
     record (new_rule name) { long = Some name; value_names = 1; defaults = default ∷ []; parser = Some (Unsigned least most) }
@@ -61,14 +61,14 @@ within_shape = record (new_shape (codes "within")) { rules = turns_rule ∷ node
 abbrev pub solve_shape : Shape
 solve_shape = record (new_shape (codes "solve")) { rules = steps_rule ∷ table_rule ∷ proof_rule ∷ lift_rule ∷ [] }
 
--- The program, one of whose subcommands has to be named, and which has a version.
+-- The program. It has a version, and one of its subcommands has to be named.
 abbrev pub grammar : App
 grammar = record {
   top = record (new_shape (codes "tsumego")) { is_leaf = false; subcommand_required = true; has_version = true };
   subs = new_shape (codes "check") ∷ within_shape ∷ new_shape (codes "audit") ∷ solve_shape ∷ new_shape (codes "gtp") ∷ [];
 }
 
--- The number that the first value of an argument writes, where it is at least so much and at most so much.
+-- The number that the first value of an argument writes, if it is within these bounds.
 abbrev pub number_in : ℕ → ℕ → Text → Option ℕ
 number_in least most text =
     (if is_unsigned_in least most text then Some (digits_value 10 (without_leading_plus text)) else None)
@@ -76,7 +76,7 @@ number_in least most text =
 abbrev pub number_of : Text → ℕ → ℕ → List Row → Option ℕ
 number_of id least most rows = option_and_then (number_in least most) (one_of id rows)
 
--- A flag is on where its value is `true`.
+-- A flag is on if its value is `true`.
 abbrev pub flag_of : Text → List Row → Bool
 flag_of id rows = option_map_or (λ text. bytes_eq text (codes "true")) (one_of id rows) false
 
@@ -98,16 +98,17 @@ command_named name rows =
     else (if bytes_eq name (codes "gtp") then Some Gtp
     else None)))))
 
--- No command at a fault.
+-- No command if there is a fault.
 abbrev pub unless_faulty : Kinds → Option Command → Option Command
 unless_faulty [] command = command
 unless_faulty (_ ∷ _) command = None
 
--- The command that the words give, the first of which is the program's name: that of the subcommand which `clap` finds in them, where it finds no fault.
+-- The command that the words give. The first word is the program's name. It is the command of the subcommand that `clap` finds in
+-- the words, if it finds no fault.
 unfoldable pub command_of : List Text → Option Command
 command_of words = unless_faulty (fault_of grammar words) (option_and_then (λ p. command_named p.0 p.1) (subcommand_of grammar words))
 
--- `clap` finds a fault in the words, or a call for help or the version.
+-- `clap` finds a fault in the words, or a request for help or the version.
 abbrev pub HasFault : List Text → Type 0
 HasFault words = fault_of grammar words ≡ [] → ⊥
 
@@ -119,12 +120,12 @@ FitsRanges Audit = Unit {0}
 FitsRanges (Solve steps table proof lift) = (1 ≤ steps) × (steps ≤ most_steps) × (1 ≤ table) × (table ≤ most_entries)
 FitsRanges Gtp = Unit {0}
 
--- The command serves a session, and answers each line by itself.
+-- The command serves a session, which answers each line by itself.
 abbrev pub is_session : Command → Bool
 is_session Gtp = true
 is_session other = false
 
--- The words are at fault, and not the memory.
+-- The words are at fault; memory was not refused.
 abbrev pub IsWordsFault : NoCommand → Type 0
 IsWordsFault (Words text) = Unit {0}
 IsWordsFault Memory = ⊥

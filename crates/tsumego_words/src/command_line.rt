@@ -1,7 +1,7 @@
 //! The command line: its grammar, and the command that the words give.
 //!
-//! The words are read by `clap`, whose contracts make the command a function of the words. Its check is dear, so
-//! each part of the grammar has a function of its own, and nothing else stands here.
+//! The words are read by `clap`, whose contracts make the command a function of the words. Proving this is expensive, so each part
+//! of the grammar has a function of its own, and nothing else is here.
 
 ghost use Rattle.std.specs.Prelude.{◌≡◌, ◌≤◌, false, Some, None, codes, IfOk, IfErr, IfSome, option_and_then, map};
 ghost use Rattle.clap.specs.Words.{app_of, found_of, kind_of, new_app, rows_of, rule_of, subcommand_rows_of, with_rule, with_subcommand};
@@ -16,16 +16,16 @@ use std::alloc::{AllocError, Global};
 use std::convert::AsStr;
 use tsumego_version::VERSION;
 
-/// The most turns that may be asked for.
+/// The greatest number of turns that may be asked for.
 const MOST_TURNS: u64 = 200;
 
-/// The most states that may be asked for.
+/// The greatest number of states that may be asked for.
 const MOST_NODES: u64 = 4_294_967_295;
 
-/// The most steps that may be asked for.
+/// The greatest number of steps that may be asked for.
 const MOST_STEPS: u64 = 10_000_000;
 
-/// The most entries of the table that may be asked for.
+/// The greatest number of table entries that may be asked for.
 const MOST_ENTRIES: u64 = 1_000_000;
 
 /// What the words ask for.
@@ -33,15 +33,15 @@ const MOST_ENTRIES: u64 = 1_000_000;
 pub enum Command {
     /// Judge the claim after a record.
     Check,
-    /// Decide who wins the problem of a record within so many turns, where the tree has at most so many states.
+    /// Decide who wins the problem of a record within `turns` turns, if the tree has at most `nodes` states.
     Within {
         turns: u32,
         nodes: u64,
     },
     /// Judge the answer tree below a record's problem node.
     Audit,
-    /// Search for a solution by at most so many steps, with a table of so many entries; and write it as a tree, or as a
-    /// claim, which may be made into one lemma.
+    /// Search for a solution with at most this many steps and a table of this many entries. It is written as a tree, or as a claim,
+    /// which may be made into one lemma.
     Solve {
         steps: u64,
         table: usize,
@@ -53,7 +53,7 @@ pub enum Command {
 }
 
 impl Command {
-    /// Whether the command serves a session, and answers each line by itself.
+    /// Whether the command serves a session, which answers each line by itself.
     pub fn is_session(self) -> bool
         ensures { result ≡ is_session self }
     {
@@ -70,13 +70,13 @@ impl Command {
 /// Why there is no command.
 #[derive(Debug, Drop)]
 pub enum NoCommand {
-    /// The words have a fault, or call for help or the version: this is `clap`'s text.
+    /// The words have a fault, or ask for help or the version. This is `clap`'s text.
     Words(String),
     Memory,
 }
 
-/// The command that the words give, the first of which is the program's name: just where `clap` finds no fault in
-/// them, want of memory aside.
+/// The command that the words give. The first word is the program's name. There is a command exactly if `clap` finds no fault in
+/// the words, unless memory is refused.
 pub fn read_command<'a, S: AsStr>(alloc: Global, words: &'a [S]) -> Result<Command, NoCommand>
     ensures ok { IfOk result (λ c. command_of (map S.text words.now) ≡ Some c) }
     ensures ranges { IfOk result FitsRanges }
@@ -147,7 +147,7 @@ fn chosen(matches: &ArgMatches<'_>) -> Option<Command>
     None
 }
 
-/// The number of an argument, where it is at least so much and at most so much.
+/// The number of an argument, if it is at least `least` and at most `most`.
 fn number(given: &ArgMatches<'_>, id: &str, least: u64, most: u64) -> Option<u64>
     ensures value { result ≡ number_of id.now least most (rows_of (found_of given.now)) }
     ensures least { IfSome result (λ n. least ≤ n) }
@@ -163,7 +163,7 @@ fn number(given: &ArgMatches<'_>, id: &str, least: u64, most: u64) -> Option<u64
 fn flag(given: &ArgMatches<'_>, id: &str) -> bool
     ensures { result ≡ flag_of id.now (rows_of (found_of given.now)) }
 {
-    // `get_flag` promises nothing of a text that is neither `true` nor `false`.
+    // `get_flag` promises nothing about a text that is neither `true` nor `false`.
     match given.get_one::<bool>(id) {
         Some(on) => on,
         None => false,
@@ -178,7 +178,7 @@ fn program<'a>(alloc: Global) -> Result<clap::Command<'a>, AllocError>
     program.subcommand(gtp_command(alloc))
 }
 
-/// The program with the subcommands that judge: all but `solve` and `gtp`.
+/// The program with the subcommands that judge: all except `solve` and `gtp`.
 fn judging<'a>(alloc: Global) -> Result<clap::Command<'a>, AllocError>
     ensures { IfOk result (λ c. with_subcommand (with_subcommand (app_of c) solve_shape)
         (new_shape (codes "gtp")) ≡ grammar) }
@@ -296,7 +296,9 @@ fn proof_argument<'a>(alloc: Global) -> Arg<'a>
     ensures local { result.global ≡ false }
 {
     Arg::new(alloc, "proof")
-        .help("Writes the record and the claim of the solution in place of the tree")
+        .help(
+            "Writes the record and a claim in place of the tree, also where that is 'too large': solved, but over 90,000 turns",
+        )
         .long("proof")
         .action(ArgAction::SetTrue)
 }

@@ -1,4 +1,4 @@
--- What was heard of a source: the lines that were taken leave the machine so, whatever follows.
+-- What was heard of a source: the lines that were taken leave the machine in this state, whatever follows.
 use Rattle.std.specs.Prelude.{◌≡◌, ℕ, suc, ◌+◌, List, ◌++◌, length, Option, Result}
 use Rattle.target_game.specs.State.{GameProblem}
 use Rattle.proof_cert.specs.Lines.{Line}

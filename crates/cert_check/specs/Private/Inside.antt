@@ -1,6 +1,6 @@
--- The nodes of a body that are open, as the program keeps them: for each turn that was made, those that are still to come after it.
---     owed_by      what these say of the states before the turns
---     Follows      they are as many as the turns that were made, and nobody had won before any of these, in the same game
+-- The open nodes of a body, as the program keeps them: for each turn that was made, the turns that are still to come after it.
+--     owed_by      what they say about the states before the turns
+--     Follows      there are as many as the turns that were made, and nobody had won before any of those turns, in the same game
 use Rattle.std.specs.Prelude.{◌≡◌, ℕ, suc, ◌<◌, List, [], ◌∷◌, length, Option, Some, None, IsTrue}
 use Rattle.go_points.specs.Ply.{ply_of}
 use Rattle.target_game.specs.State.{Game, GameState}
@@ -49,7 +49,7 @@ abbrev pub MayBeMade : Due → GameState → ℕ → Type 0
 MayBeMade (Reply due left) s n = (over s ≡ None) × IsTrue (legal s (ply_of s.game.size due)) × (n < 2000)
 MayBeMade _ s n = Unit {0}
 
--- the questions of a node's line, and what is due after it
+-- the checks on a node's line, and what is due after it
 abbrev pub node_fault : Body → GameState → Line → Option Why
 node_fault b s won_line = won_fault b s
 node_fault b s (use_line j) = use_fault b s j

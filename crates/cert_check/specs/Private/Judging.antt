@@ -56,8 +56,8 @@ phase_held j Done = done j.winner
 abbrev pub machine_of : Judge → Machine
 machine_of j = record { phase = phase_held j j.phase; place = j.place; nodes = j.node_count; listed = j.listed_count }
 
--- Before and after a body: no colouring of a lemma was listed, no earlier lemma's list was asked for it, and the state is of the
--- problem's game.
+-- Before and after a body: no colouring of a lemma was listed, no earlier lemma's list was compared with it, and the state is of
+-- the problem's game.
 pub record IsBetweenBodies (j : Judge) : Type 0 where
   pub had : j.had.items ≡ []
   pub list : j.list ≡ []
@@ -70,7 +70,8 @@ pub record AwaitsHeader (j : Judge) : Type 0 where
   pub heads : j.heads.items ≡ []
   pub between : IsBetweenBodies j
 
--- among the `had` lines: the state is the lemma's root alone, no other colouring was listed, and those that were are of the board
+-- among the `had` lines: the state is only the lemma's root, no other colouring was listed, and those that were listed are of the
+-- board
 pub record AwaitsHad (j : Judge) : Type 0 where
   pub state : j.state ≡ record { state = state_alone j.problem.now.game j.root j.mover j.passes; before = [] }
   pub root : side_of j.root ≡ j.problem.now.game.size
@@ -82,7 +83,7 @@ pub record AwaitsHad (j : Judge) : Type 0 where
   pub sizes : All (λ c. side_of c ≡ j.problem.now.game.size) j.had.items
   pub ascends : Ascends j.had.items
 
--- between these and the body: the state is where the body begins, and the colouring listed last is one of the board
+-- between the `had` lines and the body: the state is where the body begins, and the colouring listed last is of the board
 pub record AwaitsList (j : Judge) : Type 0 where
   pub state : j.state ≡ record { state = lemma_start j.problem.now.game (lemma_of j); before = [] }
   pub closed : j.open_nodes.items ≡ []
@@ -90,7 +91,7 @@ pub record AwaitsList (j : Judge) : Type 0 where
   pub fits : IfSome (last_of j.list) (λ c. length c ≡ j.problem.now.game.size * j.problem.now.game.size)
   pub ascends : Ascends j.list
 
--- in a body: the lemmas that are remembered pass their lists on to the present lemma's
+-- in a body: the lists of the lemmas that are remembered are contained in the present lemma's list
 pub record AwaitsNode (j : Judge) (due : Due) : Type 0 where
   pub game : j.state.state.game ≡ j.problem.now.game
   pub follows : Follows j.problem.now.game j.state.before (reverse j.open_nodes.items)
@@ -109,7 +110,7 @@ IsReadyFor j Done = Unit {0}
 abbrev pub IsReady : Judge → Type 0
 IsReady j = IsReadyFor j j.phase
 
--- the same after a line, where it is not the first one that is due
+-- what the judge keeps after a line, when the first line is no longer the one that is due
 abbrev pub IsBehindFor : Judge → Phase → Type 0
 IsBehindFor j Header = ⊥
 IsBehindFor j Opening = IsReadyFor j Opening
@@ -128,7 +129,8 @@ GoesOn old new step = step ≡ goes_on (record (machine_of new) { place = suc ol
 abbrev pub StopsFor : Judge → AfterLine → stop.Why → Type 0
 StopsFor j step why = ((p : Why) → why_value j.problem.now.game.size why ≡ Some p → step ≡ stops j.place p) × IsJudged why
 
--- What the machine does with a line that fits the board: of one of the lists or after it, of a body's node, of a reply, and of a body.
+-- What the machine does with a line that fits the board: a line of one of the lists or after it, of a body's node, of a reply, and
+-- of a body.
 abbrev pub had_here : Judge → Read.Line → AfterLine
 had_here j l = had_taken j.problem.now (machine_of j) (heading_of j) (lemma_of j) (Some l) (had_of (Some l))
 

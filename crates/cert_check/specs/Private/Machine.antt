@@ -1,7 +1,7 @@
 -- Judging a claim a line at a time: what is kept between two lines, and what a line makes of it.
 --     Machine      what is kept: the line that is due, its number, and the counts
 --     taken q m l      what the line l makes of m: it goes on, or the line is faulty
---     ended m      what is said where no line follows
+--     ended m      what is said if no line follows
 --     verdict_from q m ls      the lines ls, one after another
 use Rattle.std.specs.Prelude.{◌≡◌, ℕ, suc, ◌&&◌, ◌||◌, nat_eq, nat_lt, nat_le, List, [], ◌∷◌, ◌++◌, Option, Some, None, if◌then◌else◌}
 use Rattle.go_points.specs.declared.Colour.{Colour}
@@ -23,15 +23,15 @@ pub record Owed : Type 0 where
   pub due : Ply
   pub others : List Ply
 
--- what is known after the header: its version, the winner, and the heads of the lemmas that were judged
+-- what is known after the header: its version, the winner, and the heads of the lemmas that have been judged
 pub record Heading : Type 0 where
   pub version : ℕ
   pub winner : Colour
   pub heads : List Head
 
--- Which line is due: the header; `lemma` or `main`; a line of one of a lemma's lists or what follows it, with what its head says so far;
--- a node at a depth and a state; the next reply, or `end` where no node is open; or nothing more.
--- A body is that of the lemma with this head, or main. Its open nodes are held innermost first.
+-- Which line is due: the header; `lemma` or `main`; a line of one of a lemma's lists or what follows it, with what its head says so
+-- far; a node at a depth and a state; the next reply, or `end` if no node is open; or nothing more. A body is that of the lemma
+-- with this head, or main. Its open nodes are held innermost first.
 pub data Phase : Type 0 where
   header : Phase
   opening : Heading → Phase
@@ -59,7 +59,7 @@ pub data AfterLine : Type 0 where
 abbrev pub moved : Machine → Phase → Machine
 moved m p = record m { phase = p; place = suc m.place }
 
--- goes on where the questions of the line at this place leave no fault
+-- goes on if the checks on the line at this place find no fault
 abbrev pub goes_if : ℕ → Option Why → Machine → AfterLine
 goes_if place None m = goes_on m
 goes_if place (Some why) m = stops place why
@@ -75,7 +75,7 @@ abbrev pub owing : ℕ → GameState → List Ply → List Owed → List Owed
 owing depth s [] os = os
 owing depth s (due ∷ others) os = record { depth = depth; state = s; due = due; others = others } ∷ os
 
--- a node's line, which is counted, where its questions leave no fault
+-- a node's line, which is counted, if its checks find no fault
 abbrev pub counted : Machine → ℕ → Option Why → Phase → AfterLine
 counted m depth fault p =
     goes_if m.place (ask (nat_lt m.nodes max_nodes && nat_le depth max_depth) limit fault) (record m { phase = p; place = suc m.place; nodes = suc m.nodes })
@@ -133,12 +133,12 @@ header_taken q m _ = stops 1 malformed
 
 -- LINES
 
--- a line that is there; one that is None is malformed
+-- a line that is there; None is a malformed one
 abbrev pub there : Machine → Option Line → (Line → AfterLine) → AfterLine
 there m None take = stops m.place malformed
 there m (Some l) take = take l
 
--- where a lemma's lists end its body begins, with the same line
+-- when a lemma's lists end, its body begins with the same line
 abbrev pub first_taken : GameProblem → Machine → Heading → Head → Option Line → AfterLine
 first_taken q m f h l = there m l (node_taken m f (Some h) 1 (lemma_start q.game h) [])
 
@@ -164,7 +164,7 @@ phase_taken q m (done x) l = stops m.place text_after_end
 abbrev pub taken : GameProblem → Machine → Option Line → AfterLine
 taken q m l = phase_taken q m m.phase (fitting q.game.size l)
 
--- a line that is missing is malformed, at the number that it would have
+-- a missing line is malformed, at the number that it would have
 abbrev pub ended_at : ℕ → Phase → Verdict
 ended_at place (done x) = accepted x
 ended_at place _ = rejected place malformed

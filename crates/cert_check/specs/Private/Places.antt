@@ -1,6 +1,6 @@
--- Numbers in a list that are found by the places that another list has for them.
+-- Numbers in a list, found by the places that another list has for them.
 --     IsPlaced ns ps n      ps has a place for n, and n stands there in ns
---     ArePlaced ns ps      so does each number of ns
+--     ArePlaced ns ps      each number of ns is placed in this way
 use Rattle.std.specs.Prelude.{◌≡◌, ℕ, List, Some, slice_get}
 use Rattle.std.specs.List.{All}
 
@@ -10,6 +10,6 @@ IsPlaced ns ps n = (k : ℕ) × (slice_get ps n ≡ Some k) × (slice_get ns k �
 abbrev pub ArePlaced : List ℕ → List ℕ → Type 0
 ArePlaced ns ps = All (IsPlaced ns ps) ns
 
--- what stood in a list stands there still
+-- what was in a list is still there
 abbrev pub KeepsAll : List ℕ → List ℕ → Type 0
 KeepsAll ps ps' = (i v : ℕ) → slice_get ps i ≡ Some v → slice_get ps' i ≡ Some v

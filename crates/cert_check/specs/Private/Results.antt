@@ -1,8 +1,8 @@
--- What a walk over a tree gathers: the results of moves, in the order of the tree. No public clause rests on these words.
+-- What a walk over a tree gathers: the results of moves, in the order of the tree. No public clause rests on these definitions.
 --     Gathered      what was gathered, or is still to be gathered
 --     of_node past s n, of_branches past s bs      all that a tree, or the trees of replies, give from the state s on
 --     node_at past line ls node, due_at past line ls rs      all that is left at a tree, or at replies, with the open replies of the states before
---     claim_with q x had absent body      the claim of one lemma that is made of it
+--     claim_with q x had absent body      the claim of one lemma that is made of them
 --     IsPlayable s n      each turn of the tree is legal where it is made, and nobody has won there
 use Rattle.std.specs.Prelude.{◌≡◌, ℕ, ◌+◌, Bool, not, ◌&&◌, List, [], ◌∷◌, ◌++◌, filter, Option, Some, None, IsTrue, reverse}
 use Rattle.std.specs.Borrow.{Bor}
@@ -82,7 +82,7 @@ abbrev pub IsPlayablePart : GameState → Option (Bor code.Node) → Type 0
 IsPlayablePart s None = Unit {0}
 IsPlayablePart s (Some node) = IsPlayable s (node_of s.game.size node.now)
 
--- there is a state before for each of the open replies, and they may be played there
+-- for each of the open replies there is an earlier state, and they may be played there
 abbrev pub AreOpen : List Later → List GameState → Type 0
 AreOpen [] [] = Unit {0}
 AreOpen (l ∷ ls) (s ∷ ss) = ArePlayable s (replies_of s.game.size l.replies.now) × AreOpen ls ss

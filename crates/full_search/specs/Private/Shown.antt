@@ -1,7 +1,7 @@
--- What full search knows of a state and of its turns. No public clause rests on these words.
---     rest left room      how much may still be met, with so many steps left and room for so many states
---     IsFound s k left f      what full search of s within k turns answers, with so many steps left
---     AreSeen s k ts seen      what is known where the turns ts were searched and the mover wins by none of them
+-- What full search knows of a state and of its turns. No public clause rests on these definitions.
+--     rest left room      how many states may still be met, with this many steps left and room for this many states
+--     IsFound s k left f      what full search of s within k turns finds, with this many steps left
+--     AreSeen s k ts seen      what is known if the turns ts were searched and the mover wins by none of them
 --     IsTurnSeen s k t left old new r      what the search of one turn more, t, makes of what is known
 use Rattle.std.specs.Prelude.{◌≡◌, ℕ, ◌+◌, ◌<◌, ◌≤◌, true, false, List, [], ◌∷◌, ◌++◌, sum_by, min, Option, Some, None}
 use Rattle.std.specs.List.{list_any, list_all}
@@ -27,7 +27,7 @@ use Rattle.full_search.specs.Decided.{Shows}
 abbrev pub nodes_behind : GameState → ℕ → List Ply → ℕ
 nodes_behind s k ts = sum_by (λ t. nodes (next s t) k) ts
 
--- what `Shows` says of one tree, of the trees after these turns, one for each
+-- what `Shows` says of one tree, for the trees after these turns, one for each
 pub record AllShow (x : Colour) (s : GameState) (k : ℕ) (ts : List Ply) (bs : Branches) : Type 0 where
   pub turns : branch_turns bs ≡ ts
   pub fits : FitsBranches (main_body x []) s bs
@@ -52,7 +52,8 @@ pub record AreSeen (s : GameState) (k : ℕ) (ts : List Ply) (seen : Tried) : Ty
   pub some : seen.is_open ≡ true → list_all (λ t. wins (opponent_of s.mover) (next s t) k) ts ≡ false
   pub all : seen.is_open ≡ false → AllShow (opponent_of s.mover) s k ts (replies_of s.game.size seen.replies.items)
 
--- one turn more was searched, with so many steps left before it: it is seen as well, or it decides the search of the state
+-- one more turn was searched, with this many steps left before it: it is added to those that were seen, or it decides the search of
+-- the state
 abbrev pub IsTurnSeen : GameState → ℕ → Ply → ℕ → Tried → Tried → Option Found → Type 0
 IsTurnSeen s k t left old new None = (ts : List Ply) → AreSeen s k ts old → AreSeen s k (ts ++ t ∷ []) new
 IsTurnSeen s k t left old new (Some (Wins x tree)) = Shows x s (k + 1) (node_of s.game.size tree)

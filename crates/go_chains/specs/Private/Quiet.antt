@@ -1,4 +1,5 @@
--- What a stone at p would do to its neighbours q, from the counts. Words of private parts alone: no public clause rests on them.
+-- What a stone at p would do to its neighbours q, from the counts. These definitions are for private parts only: no public clause
+-- rests on them.
 use Rattle.std.specs.Prelude.{ℕ, Bool, not, ◌&&◌, ◌||◌, nat_lt, List, slice_index}
 use Rattle.go_points.specs.declared.Colour.{Colour}
 use Rattle.go_points.specs.declared.Cell.{Cell}

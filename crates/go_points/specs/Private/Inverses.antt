@@ -1,4 +1,5 @@
--- `words_of` gives back the words of a set. These are proofs, which stand here because the impls in `src` cite them: a reader may pass them over.
+-- `words_of` gives back the words of a set. These are proofs. They stand here because the impls in `src` cite them, and a reader
+-- may skip them.
 use Rattle.std.proofs.Common.{◌≡◌, ℕ, zero, suc, ◌+◌, ◌*◌, ◌/◌, ◌%◌, ◌^◌, ◌<◌, ◌≤◌, Bool, true, false, cond, ◌&&◌, ◌||◌, nat_eq, eqb-true, eq-eqb, List, [], ◌∷◌, map, filter, get_or, refl, sym, ◌∙◌, ap, ap₂, subst, inl, inr, ◌⊎◌, arith}
 use Rattle.std.specs.List.{list_any, range_with_len}
 use Rattle.std.specs.Int.{bit_at}
@@ -13,7 +14,7 @@ use Rattle.go_points.specs.Place.{place_of}
 use Rattle.go_points.specs.Points.{same_place, holds_place, places_that, has_bit}
 use Rattle.go_points.specs.Private.Words.{word_that, words_that, IsWords}
 
--- two points are the same where their numbers are
+-- two points are the same if their numbers are
 pub same_numbers : (n i k : ℕ) → same_place (place_of n i) (place_of n k) ≡ nat_eq i k
 same_numbers n i k = go (nat_eq (i / n) (k / n)) (nat_eq (i % n) (k % n)) (nat_eq i k) refl refl refl
   where
@@ -26,7 +27,7 @@ same_numbers n i k = go (nat_eq (i / n) (k / n)) (nat_eq (i % n) (k % n)) (nat_e
     go false b true e f g = sym e ∙ eq-eqb (i / n) (k / n) (ap (λ m. m / n) (eqb-true i k g))
     go false b false e f g = refl
 
--- a point of a list of numbers is held exactly where its number is in the list and passes
+-- a point of a list of numbers is held exactly if its number is in the list and passes
 holds_of : (n : ℕ) (test : ℕ → Bool) (i : ℕ) (xs : List ℕ) → holds_place (map (place_of n) (filter test xs)) (place_of n i) ≡ (list_any (nat_eq i) xs && test i)
 holds_of n test i [] = refl
 holds_of n test i (x ∷ xs) = go (test x) refl (nat_eq i x) refl (list_any (nat_eq i) xs) (holds_of n test i xs)

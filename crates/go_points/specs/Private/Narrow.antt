@@ -1,4 +1,4 @@
--- Colourings of boards of at most 19 rows, in fewer words. These are tools of the list of colourings: a reader may pass them over.
+-- Colourings of boards of at most 19 rows, in fewer words. These are tools for the list of colourings, and a reader may skip them.
 use Rattle.std.specs.Prelude.{◌≡◌, ℕ, ◌+◌, ◌*◌, ◌/◌, ◌≤◌, false, List, map, slice_index}
 use Rattle.std.specs.List.{range_with_len}
 use Rattle.go_points.specs.declared.point_bits.TheConstants.{NARROW_SIZE}
@@ -9,7 +9,7 @@ use Rattle.go_points.specs.Private.Words.{IsWords}
 abbrev pub narrow_count : ℕ
 narrow_count = (NARROW_SIZE * NARROW_SIZE + 63) / 64
 
--- So many words from the first on: those of a longer list, or of a shorter one with zeros after it.
+-- The first `count` words of a list, with zeros after it if it is shorter.
 unfoldable pub first_words : ℕ → List ℕ → List ℕ
 first_words count words = map (λ j. slice_index words j) (range_with_len 0 count)
 

@@ -1,4 +1,4 @@
--- How many stones a colouring holds. Words of the private functions of boards: no public clause rests on them.
+-- How many stones a colouring holds. Definitions for the private functions of boards. No public clause rests on them.
 use Rattle.std.specs.Prelude.{ℕ, Bool, true, false, List, count_by}
 use Rattle.go_points.specs.declared.Cell.{Cell}
 use Rattle.go_points.specs.declared.Cell.TheVariants.{Empty, Stone}

@@ -1,4 +1,5 @@
--- Marks on the points of a board, one for each point, in order: on those that are empty or reach empty over stones of one colour. Words of private functions alone: no public clause rests on them.
+-- Marks on the points of a board, one for each point, in order: on those that are empty or reach empty over stones of one colour.
+-- These definitions are for private functions only: no public clause rests on them.
 use Rattle.std.specs.Prelude.{◌≡◌, ℕ, ◌*◌, ◌<◌, ◌⊎◌, Bool, true, false, List, slice_index_or, count_by}
 use Rattle.std.specs.List.{list_any}
 use Rattle.go_points.specs.declared.Colour.{Colour}

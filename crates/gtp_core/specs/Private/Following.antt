@@ -1,4 +1,4 @@
--- Words of the private calls that read orders and follow them. No public clause rests on them.
+-- Definitions for the private calls that read orders and follow them. No public clause rests on them.
 use Rattle.std.specs.Prelude.{◌≡◌, ℕ, ◌<◌, ◌≤◌, ◌&&◌, nat_le, length, List, [], ◌∷◌, IsTrue, Option, Some, None, if◌then◌else◌}
 use Rattle.std.specs.List.{All}
 use Rattle.go_points.specs.declared.Colour.{Colour}
@@ -15,11 +15,13 @@ use Rattle.gtp_core.specs.declared.command.Command.{Command}
 use Rattle.gtp_core.specs.declared.command.Command.TheVariants.{SetTargets, SetRegion, Within}
 use Rattle.gtp_core.specs.declared.search.Found.{Found}
 use Rattle.gtp_core.specs.declared.search.Found.TheVariants as found
+use Rattle.gtp_core.specs.declared.search.Known.{Known}
 use Rattle.gtp_core.specs.Commands.{max_turns}
 use Rattle.gtp_core.specs.Words.{colour_named, is_on_board}
 use Rattle.gtp_core.specs.Serving.{IsWinning}
+use Rattle.gtp_core.specs.Session.{GtpSession, problem_at}
 
--- The targets and the region of an order are points of the board, the region has one, and its turns are not too many.
+-- The targets and the region of an order are points of the board, the region has at least one, and there are not too many turns.
 abbrev pub FitsBoard : ℕ → Command → Type 0
 FitsBoard n (SetTargets set) = All (IsOn n) set
 FitsBoard n (SetRegion set) = All (IsOn n) set × (0 < length set)
@@ -45,17 +47,22 @@ abbrev pub FoundOnBoard : GameProblem → Found → Type 0
 FoundOnBoard q (found.Win t) = IsTrue (is_on_board q.game.size t)
 FoundOnBoard q other = Unit {0}
 
--- The same where there may be no problem.
+-- `IsFound`, when there may be no problem.
 abbrev pub IsFoundAt : ℕ → Colour → Option GameProblem → Option Found → Type 0
 IsFoundAt n k None None = Unit {0}
 IsFoundAt n k (Some q) (Some f) = (q.game.size ≡ n) × IsFound k q f × FoundOnBoard q f
 IsFoundAt n k _ _ = ⊥
+
+-- What is known is found: it answers the session's present problem, for its colour.
+abbrev pub IsKnown : GtpSession → Option Known → Type 0
+IsKnown s None = Unit {0}
+IsKnown s (Some known) = IsFoundAt s.turns.size known.colour (problem_at s known.colour) (Some known.found)
 
 -- The rules refuse the turn; memory was not refused.
 abbrev pub IsTurnFault : TurnFault → Type 0
 IsTurnFault Memory = ⊥
 IsTurnFault other = Unit {0}
 
--- A winning turn, where the board has it.
+-- A winning turn, if the board has it.
 abbrev pub win_on_board : ℕ → Turn → Found
 win_on_board n t = (if is_on_board n t then found.Win t else found.Unknown)

@@ -1,4 +1,4 @@
--- Words of the private calls that part lines and words. No public clause rests on them.
+-- Definitions for the private calls that split lines and words. No public clause rests on them.
 use Rattle.std.specs.Prelude.{◌≡◌, ℕ, true, false, nat_eq, List, [], ◌∷◌, Option, Some, None}
 use Rattle.gtp_core.specs.Lines.{words_of}
 
@@ -17,7 +17,7 @@ abbrev pub BeginsWord : List ℕ → Type 0
 BeginsWord [] = Unit {0}
 BeginsWord (c ∷ cs) = nat_eq c 32 ≡ false
 
--- The first word with those after it, where there is one.
+-- The first word with those after it, if there is one.
 abbrev pub words_from : Option (List ℕ × List ℕ) → List (List ℕ)
 words_from None = []
 words_from (Some parts) = parts.0 ∷ words_of parts.1

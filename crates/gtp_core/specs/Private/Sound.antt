@@ -1,4 +1,4 @@
--- What a session keeps of its record and its points. No public clause rests on these words.
+-- What always holds for a session's record and points. No public clause rests on these definitions.
 use Rattle.std.specs.Prelude.{◌≡◌, ℕ, ◌*◌, ◌<◌, true, false, nat_eq, List, [], ◌∷◌, length, Some}
 use Rattle.std.specs.List.{All, list_all}
 use Rattle.go_points.specs.Liberty.{all_reach_empty}
@@ -7,7 +7,8 @@ use Rattle.go_turns.specs.History.{place_in, repeats}
 use Rattle.go_turns.specs.Record.{Moment, GameRecord, colouring_of}
 use Rattle.gtp_core.specs.Session.{GtpSession}
 
--- The colourings that have occurred are of a board of n rows, each once, every stone of them reaches empty, and the present one stands at its place.
+-- The colourings that have occurred are of a board of n rows, each once; every stone in them reaches empty, and the present one is
+-- at its place.
 pub record IsSoundMoment (n : ℕ) (m : Moment) : Type 0 where
   pub full : list_all (λ c. nat_eq (length c) (n * n)) m.history ≡ true
   pub once : repeats m.history ≡ false

@@ -1,4 +1,4 @@
--- Words of the private calls that take lines from a reader. No public clause rests on them.
+-- Definitions for the private calls that take lines from a reader. No public clause rests on them.
 use Rattle.std.specs.Prelude.{◌≡◌, ◌<◌, ◌+◌, ℕ, Bool, not, List, [], ◌∷◌, ◌++◌, length, take, Option, None, Some, ◌⊎◌}
 use Rattle.std.specs.Io.KnownBytes.{Appends, Consumes, IsAtEnd, prepend_known}
 use Rattle.byte_writer.specs.Taken.{TakesPart}
@@ -15,7 +15,7 @@ pub record HeldInput : Type 0 where
   pub held : List ℕ
   pub room : ℕ
 
--- What an input has left, where its reader tells it, and how many bytes of it may be taken.
+-- What an input has left, if its reader tells it, and how many bytes of it may be taken.
 pub record Bounded : Type 0 where
   pub left : Option (List ℕ)
   pub room : ℕ
@@ -31,7 +31,7 @@ Gives old new bytes = Consumes old.left new.left bytes × (length bytes + new.ro
 abbrev pub IsTooLong : Bounded → Type 0
 IsTooLong input = (bytes : List ℕ) × (left : Option (List ℕ)) × Consumes input.left left bytes × (input.room < length bytes)
 
--- A read failed, of which this is known; or the input is too long.
+-- A read failed, about which this is known; or the input is too long.
 abbrev pub CannotGoOn : Type 0 → Bounded → Type 0
 CannotGoOn failed input = failed ⊎ IsTooLong input
 
@@ -40,7 +40,7 @@ abbrev pub HasByte : Option (List ℕ) → Option (List ℕ) → Option ℕ → 
 HasByte old new None = Consumes old new [] × IsAtEnd new
 HasByte old new (Some b) = Consumes old new (b ∷ [])
 
--- The same of an input, where it may have that byte.
+-- The same for an input, if it may have that byte.
 abbrev pub IsByte : Bounded → Bounded → Option ℕ → Type 0
 IsByte old new None = Gives old new [] × IsAtEnd new.left
 IsByte old new (Some b) = Gives old new (b ∷ [])
@@ -53,7 +53,7 @@ abbrev pub IsRawLine : Bounded → Bounded → List ℕ → Ending → Type 0
 IsRawLine old new front LineFeed = (line : List ℕ) × HasNone 10 line × (front ≡ kept line) × Gives old new (line ++ 10 ∷ [])
 IsRawLine old new front End = (line : List ℕ) × HasNone 10 line × (front ≡ kept line) × Gives old new line × IsAtEnd new.left
 
--- A raw line was served, and what was written for it was written whole; or a part from its front.
+-- A raw line was served, and its reply was written whole or a front of it was.
 abbrev pub IsServed : GtpSession → List ℕ → Bool → Option (List ℕ) → Option (List ℕ) → GtpSession → Type 0
 IsServed s line goes_on old new t = (bytes : List ℕ) × Serves s line (record { bytes = bytes; ends = not goes_on }) t × Appends old new bytes
 

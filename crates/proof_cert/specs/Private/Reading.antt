@@ -1,9 +1,9 @@
--- How the program reads whole claims, line by line, within the limits. It reads each claim from its text, and reads
--- other texts too, so that what was read is written and compared with the text. Nothing here gives a public contract its meaning.
+-- How the program reads whole claims, line by line, within the limits. It reads each claim from its text, but also accepts other
+-- texts, so what was read is written again and compared with the text. Nothing here gives a public contract its meaning.
 --     Left      the lines that are left, the nodes and the listed colourings so far
---     tree_read room l s      the tree of at most so many levels whose first line is l, and what is left after it
---     lemmas_read room s      at most so many lemmas, up to the line `main`
---     claim_read n s      a whole claim for a board of n rows, and maybe more after it
+--     tree_read room l s      the tree of at most `room` levels whose first line is l, and what is left after it
+--     lemmas_read room s      at most `room` lemmas, up to the line `main`
+--     claim_read n s      a whole claim for a board of n rows, which more may follow
 --     with_rest f o t      what the program read, if anything, and what it leaves
 use Rattle.std.specs.Prelude.{◌≡◌, ◌≤◌, sum_by, ℕ, zero, suc, ◌+◌, ◌-◌, Vec, nat_lt, List, [], ◌∷◌, Option, Some, None, option_map, option_and_then, if◌then◌else◌}
 use Rattle.go_points.specs.declared.Colour.{Colour}
@@ -27,7 +27,7 @@ pub record Left : Type 0 where
   pub nodes : ℕ
   pub listed : ℕ
 
--- what a source of the program has left; one that has failed has a malformed line
+-- what a source of the program has left; a source that has failed has a malformed line
 abbrev pub left_of : Source → ℕ → ℕ → Left
 left_of s nodes listed = record { lines = (if s.has_failed then None ∷ [] else s.left); nodes = nodes; listed = listed }
 
@@ -44,7 +44,7 @@ first_of s (Some l ∷ ls) = Some (l, record s { lines = ls })
 unfoldable pub line_read : Left → Option (Line × Left)
 line_read s = first_of s s.lines
 
--- the first line, where it is of a kind
+-- the first line, if it is of this kind
 unfoldable pub line_as : {A : Type 0} → (Line → Option A) → Left → Option (A × Left)
 line_as pick s = option_and_then (λ p. option_map (λ a. (a, p.1)) (pick p.0)) (line_read s)
 
@@ -56,12 +56,12 @@ as_reply _ = None
 abbrev pub reply_read : (Left → Option (Node × Left)) → Left → Option ((Ply × Node) × Left)
 reply_read below s = option_and_then (λ p. option_map (λ q. ((p.0, q.0), q.1)) (below p.1)) (line_as as_reply s)
 
--- so many replies
+-- this many replies
 abbrev pub replies_read : (Left → Option (Node × Left)) → ℕ → Left → Option (Branches × Left)
 replies_read below zero s = Some (no_branch, s)
 replies_read below (suc m) s = option_and_then (λ p. option_map (λ q. (branch p.0.0 p.0.1 q.0, q.1)) (replies_read below m p.1)) (reply_read below s)
 
--- a tree, of which the first line is given; its node is counted first
+-- a tree whose first line is given; its node is counted first
 abbrev pub opened : (Left → Option (Node × Left)) → Line → Left → Option (Node × Left)
 opened below won_line s = Some (won, s)
 opened below (use_line j) s = Some (by_lemma j, s)
@@ -95,7 +95,7 @@ abbrev pub picks : Listing → Line → Option (List Cell)
 picks listings.Had = as_had
 picks listings.Not = as_not
 
--- a list whose first line, or the line after it, is given: the colourings, of which at most so many may follow, and the line after them
+-- a list whose first line, or the line after it, is given: at most this many colourings, and the line after them
 abbrev pub listed_more : (Line → Left → Option ((List (List Cell) × Line) × Left)) → Option (List Cell) → Line → Left → Option ((List (List Cell) × Line) × Left)
 listed_more others None l s = Some (([], l), s)
 listed_more others (Some c) l s = option_map (λ q. ((c ∷ q.0.0, q.0.1), q.1)) (option_and_then (λ p. others p.0 p.1) (line_read (record s { listed = s.listed + 1 })))
@@ -125,7 +125,7 @@ body_read l s = option_and_then (λ p. option_map (λ q. (p.0, q.1)) (line_read 
 abbrev pub lemma_made : Colour → ℕ → List Cell → List (List Cell) → List (List Cell) → Node → Lemma
 lemma_made k p root had absent body = record { head = record { mover = k; passes = p; root = root; had = had; absent = absent }; body = body }
 
--- both lists, of which the first line, or the line after them, is given
+-- both lists, whose first line, or the line after them, is given
 unfoldable pub lists_read : Line → Left → Option (((List (List Cell) × List (List Cell)) × Line) × Left)
 lists_read l s = option_and_then (λ h. option_map (λ a. (((h.0.0, a.0.0), a.0.1), a.1)) (list_read as_not h.0.1 h.1)) (list_read as_had l s)
 
@@ -133,7 +133,7 @@ unfoldable pub lemma_read : Colour → ℕ → List Cell → Left → Option (Le
 lemma_read k p root s =
     option_and_then (λ f. option_and_then (λ q. option_map (λ r. (lemma_made k p root q.0.0.0 q.0.0.1 r.0, r.1)) (body_read q.0.1 q.1)) (lists_read f.0 f.1)) (line_read s)
 
--- the lemmas up to `main`, fewer than so many
+-- the lemmas up to `main`, fewer than this many
 abbrev pub lemmas_more : (Left → Option (List Lemma × Left)) → Line → Left → Option (List Lemma × Left)
 lemmas_more others main_line s = Some ([], s)
 lemmas_more others (lemma_line k p root) s = option_and_then (λ q. option_map (λ r. (q.0 ∷ r.0, r.1)) (others q.1)) (lemma_read k p root s)

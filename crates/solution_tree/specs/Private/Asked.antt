@@ -1,7 +1,8 @@
--- The audit as the program makes it, along the rest of a sequence with the child trees after it. Words of private calls.
---     follows nodes trees      what stands below a node that these nodes of its sequence and these child trees follow
---     IsWhy n o w, IsFound n o e      the program's fault is the one that is due; where memory was refused, nothing is said
---     Tells n given turns      the set holds just these turns
+-- The audit as the program makes it, along the rest of a sequence with the child trees after it. These definitions are for private
+-- calls.
+--     follows nodes trees      what is below a node that is followed by these nodes of its sequence and these child trees
+--     IsWhy n o w, IsFound n o e      the program's fault is the one that is due; if memory was refused, nothing is said
+--     Tells n given turns      the set holds exactly these turns
 --     back k l      a line of play with k turns taken back
 use Rattle.std.specs.Prelude.{◌≡◌, ◌≤◌, ℕ, zero, suc, Bool, List, [], ◌∷◌, length, Option, Some, None}
 use Rattle.go_points.specs.declared.Turn.{Turn}

@@ -1,7 +1,8 @@
--- Where a count of turns stands: the replies that wait, latest first, each list at a state before. These are words of private calls.
+-- The state of a count of turns: the replies that wait, latest first, each list at an earlier state. These definitions are for
+-- private calls.
 --     due k ws line      the turns of the trees of all replies that wait
---     IsPlayed k ws line      there is a state before for each list of replies that waits
---     found_size k found s      a turn that was made and those of the tree below it, where one was
+--     IsPlayed k ws line      there is an earlier state for each list of replies that waits
+--     found_size k found s      a turn that was made and those of the tree below it, if one was made
 use Rattle.std.specs.Prelude.{◌≡◌, ℕ, ◌+◌, Bool, true, false, List, [], ◌∷◌, ◌++◌, Option, Some, None, IsTrue, reverse}
 use Rattle.std.specs.Borrow.{Bor}
 use Rattle.target_game.specs.State.{GameState, Line}
@@ -15,7 +16,7 @@ use Rattle.solution_tree.specs.declared.turn_count.Waiting.{Waiting}
 abbrev pub latest_first : List Waiting → List Waiting
 latest_first ws = reverse ws
 
--- these, and one more where a turn was made
+-- these, and one more if a turn was made
 abbrev pub with_one : Bool → List Waiting → Waiting → List Waiting
 with_one true ws w = ws ++ w ∷ []
 with_one false ws w = ws
@@ -31,7 +32,7 @@ due_before k (w ∷ ws) (s ∷ ss) = waiting_size k w s + due_before k ws ss
 abbrev pub due : CheckedClaim → List Waiting → Line → ℕ
 due k ws line = due_before k (latest_first ws) line.before
 
--- there is a state before for each, of the claim's size, and what waits there uses the claim's lemmas alone
+-- there is an earlier state of the claim's size for each, and what waits there uses only the claim's lemmas
 abbrev pub AreWaiting : CheckedClaim → List Waiting → List GameState → Type 0
 AreWaiting k [] ss = Unit {0}
 AreWaiting k (w ∷ ws) [] = ⊥

@@ -1,7 +1,8 @@
--- Where an expansion stands: the turns whose trees are not finished, from the first to the latest. No public clause rests on these words.
+-- The state of an expansion: the turns whose trees are not finished, from the first to the latest. No public clause rests on these
+-- definitions.
 --     expanded k      the answer tree that a checked claim gives at its problem's start
---     whole k turns a      the same tree, where a stands below the last of the open turns
---     Expands k turns line a      the expansion stands at this line of play, and a is what belongs there
+--     whole k turns a      the same tree, if a is below the last of the open turns
+--     Expands k turns line a      the expansion is at this line of play, and a is what belongs there
 --     uses_below m n      each lemma that the tree n uses has a number from 1 to m
 use Rattle.std.specs.Prelude.{◌≡◌, ℕ, ◌+◌, Bool, true, false, ◌&&◌, nat_le, List, [], ◌∷◌, IsTrue, length}
 use Rattle.go_points.specs.Ply.{Ply, ply_of}
@@ -32,7 +33,7 @@ tree_at k n s = expand_node (lemma_answers k) n s
 abbrev pub branches_at : CheckedClaim → Branches → GameState → ReplyTrees
 branches_at k bs s = expand_branches (lemma_answers k) bs s
 
--- these replies, and then those
+-- the first replies, and then the second ones
 abbrev pub replies_then : ReplyTrees → ReplyTrees → ReplyTrees
 replies_then none rs = rs
 replies_then (reply t a more) rs = reply t a (replies_then more rs)
@@ -41,7 +42,7 @@ abbrev pub turn_of : ℕ → OpenTurn → Ply
 turn_of n (Made t) = ply_of n t
 turn_of n (Reply done t later) = ply_of n t
 
--- the tree at the state of an open turn, where a stands below that turn
+-- the tree at the state of an open turn, if a is below that turn
 abbrev pub closed : CheckedClaim → OpenTurn → GameState → AnswerTree → AnswerTree
 closed k (Made t) s a = turn (ply_of k.certificate.size t) a
 closed k (Reply done t later) s a =
@@ -81,7 +82,7 @@ abbrev mutual
   all_below m no_branch = true
   all_below m (branch t n bs) = uses_below m n && all_below m bs
 
--- the body of each lemma uses lower ones alone, where so many came before
+-- the body of each lemma uses only lower ones, if this many came before
 abbrev pub lemmas_below : ℕ → List Lemma → Bool
 lemmas_below m [] = true
 lemmas_below m (l ∷ ls) = uses_below m l.body && lemmas_below (m + 1) ls
@@ -89,15 +90,16 @@ lemmas_below m (l ∷ ls) = uses_below m l.body && lemmas_below (m + 1) ls
 abbrev pub lemma_count : CheckedClaim → ℕ
 lemma_count k = length k.certificate.lemmas.items
 
--- what still follows the open turns uses the claim's lemmas alone
+-- what still follows the open turns uses only the claim's lemmas
 abbrev pub open_below : CheckedClaim → List OpenTurn → Bool
 open_below k [] = true
 open_below k (Made t ∷ os) = open_below k os
 open_below k (Reply done t later ∷ os) = all_below (lemma_count k) (claim.replies_of k.certificate.size later.now) && open_below k os
 
--- ---- where the expansion stands
+-- ---- the state of the expansion
 
--- The line of play is that of the open turns; with the tree a below the last of them the whole is the expansion, which answers; and the boards have one size.
+-- The line of play is that of the open turns; with the tree a below the last of them, the whole is the expansion, which is an
+-- answer tree; and the boards have one size.
 pub record Expands (k : CheckedClaim) (turns : List OpenTurn) (line : Line) (a : AnswerTree) : Type 0 where
   pub play : line ≡ played k.certificate.size turns (record { state = start k.problem; before = [] })
   pub tree : whole k turns a ≡ expanded k

@@ -1,8 +1,8 @@
--- A word of the private calls that write a solution record.
+-- A definition for the private calls that write a solution record.
 use Rattle.std.specs.Prelude.{Bool, true, false}
 use Rattle.target_game.specs.Answers.{AnswerTree, leaf, turn, replies, ReplyTrees, none, reply}
 
--- Does one turn alone come first?
+-- Is there just one first turn?
 abbrev pub is_one : ReplyTrees → Bool
 is_one (reply t a none) = true
 is_one _ = false

@@ -1,4 +1,5 @@
--- Colourings of a history in buckets by their keys. Words of private functions alone: no public clause rests on them.
+-- Colourings of a history in buckets by their keys. These definitions are for private functions only: no public clause rests on
+-- them.
 use Rattle.std.specs.Prelude.{◌≡◌, ℕ, ◌-◌, ◌%◌, ◌<◌, ◌≤◌, List, [], slice_index, slice_index_or}
 use Rattle.go_points.specs.declared.Cell.{Cell}
 use Rattle.stone_key.specs.Key.{key_of}
@@ -14,7 +15,8 @@ history_most = 1000
 unfoldable pub bucket_at : List (List Cell) → ℕ → ℕ
 bucket_at h k = key_of (slice_index_or h k []) % bucket_count
 
--- Below i each place names the one before it in its bucket, and each bucket its latest place; by the place and one, 0 where there is none.
+-- Below i each place names the one before it in its bucket, and each bucket names its latest place. A place is named by its number
+-- plus one, and 0 means that there is none.
 pub record AreChained (h : List (List Cell)) (latest before : List ℕ) (i : ℕ) : Type 0 where
   pub down : (j : ℕ) → j < i → slice_index before j ≤ j
   pub met : (j k : ℕ) → k < j → j < i → bucket_at h k ≡ bucket_at h j → k < slice_index before j

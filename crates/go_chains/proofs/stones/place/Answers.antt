@@ -5,13 +5,14 @@ use Rattle.go_points.specs.declared.Cell.TheVariants.{Empty, Stone}
 use Rattle.go_points.specs.declared.TheConstants.{MAX_POINTS}
 use Rattle.go_points.specs.Grid.{cell_at, side_of}
 use Rattle.go_points.specs.Place.{number_of}
-use Rattle.go_chains.specs.Private.Chains.{touches, empties_beside}
+use Rattle.go_chains.specs.Private.Chains.{nowhere, touches, empties_beside}
 use Rattle.go_chains.proofs.Filling.{touches_few}
 use Rattle.go_chains.proofs.Placing.{placed_circles, placed_counts}
+use Rattle.go_chains.proofs.Quietness.{headless_beside}
 use Rattle.go_chains.proofs.stones.place.Goals as goal
 
-pub take_from-requires-clause-enough : goal.take_from-requires-clause-enough
-take_from-requires-clause-enough c = λ j on own.
+pub take_from-free-requires-clause-enough : goal.take_from-free-requires-clause-enough
+take_from-free-requires-clause-enough c = λ j on own.
     let cells = c.args.colouring.now in
     let heads = c.args.heads.now in
     let n = side_of cells in
@@ -47,12 +48,13 @@ returns-clause-counted c =
     let here : cell_at c.set.new.self p ≡ Stone c.args.colour = ap (λ (l : List Cell). cell_at l p) put ∙ get_or-set_same cells p (Stone c.args.colour) Empty (omega (arith, c.requires.on, c.size-size.ensures.colouring.full)) in
     let others : (q : ℕ) → q ≢ p → cell_at c.set.new.self q ≡ cell_at cells q = λ q ne. ap (λ (l : List Cell). cell_at l q) put ∙ get_or-set_other cells p q (Stone c.args.colour) Empty ne in
     let free : cell_at cells p ≡ Empty = c.requires.settled.chains.empties p c.requires.on c.requires.free in
-    let lesser = c.take_from.new.counts in
-    let more = slice_set lesser p c.empties_at.result in
+    let lesser = c.take_from-free.new.counts in
+    let more = slice_set lesser p c.take_from-free.result in
     let at_it : slice_index more p ≡ empties_beside n c.set.new.self p =
-    get_or-set_same lesser p c.empties_at.result 0 (omega (arith, c.requires.on, room, c.take_from.ensures.full)) ∙ c.empties_at.ensures ∙ ap (λ (m : ℕ). empties_beside m c.set.new.self p) c.set.ensures.size in
+    get_or-set_same lesser p c.take_from-free.result 0 (omega (arith, c.requires.on, room, c.take_from-free.ensures.full)) ∙ c.take_from-free.ensures.free ∙ ap (λ (m : ℕ). touches m heads nowhere p) c.size-size.ensures.value
+    ∙ headless_beside n cells c.set.new.self heads c.args.next.now p c.requires.settled.chains others in
     let taken : (j : ℕ) → j < n * n → j ≢ p → slice_index heads j ≡ j → slice_index more j + touches n heads j p ≡ slice_index c.args.counts.now j =
-    λ j on ne own. ap (λ (t : ℕ). t + touches n heads j p) (get_or-set_other lesser p j c.empties_at.result 0 ne)
-    ∙ ap (λ (m : ℕ). slice_index lesser j + touches m heads j p) (sym c.size-size.ensures.value) ∙ c.take_from.ensures.taken j (subst (λ (m : ℕ). j < m * m) (sym c.size-size.ensures.value) on) in
+    λ j on ne own. ap (λ (t : ℕ). t + touches n heads j p) (get_or-set_other lesser p j c.take_from-free.result 0 ne)
+    ∙ ap (λ (m : ℕ). slice_index lesser j + touches m heads j p) (sym c.size-size.ensures.value) ∙ c.take_from-free.ensures.taken j (subst (λ (m : ℕ). j < m * m) (sym c.size-size.ensures.value) on) in
     placed_counts n cells c.set.new.self heads c.args.next.now c.args.colour p room c.requires.settled.full.heads_full c.requires.settled.full.next_full c.requires.on c.requires.settled.chains c.requires.free here others
     c.args.counts.now more free c.requires.settled.counted at_it taken

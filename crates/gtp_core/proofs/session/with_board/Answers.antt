@@ -27,4 +27,4 @@ invariant_of-result c =
     let is : made ≡ replicate (n * n) Empty = c.colouring-colouring.ensures.value ∙ c.new.ensures.value in
     let turns = record_is n (side_of made) made c.in-Ok.turns size is free (subst (λ r. Opens (side_of made) (opened (side_of made) (made ∷ []) 0 0) r) c.in-Ok.is c.new-2.ensures) in
     let low : 1 ≤ n = search rules in
-    new_session_sound n c.in-Ok.turns c.new-in-Ok.result c.all_points.result (subst (SoundOn n) (sym turns) (new_record_sound n)) c.new-in-Ok.ensures c.all_points.ensures.on_board (somewhere_of n c.all_points.result low c.all_points.ensures.value)
+    (new_session_sound n c.in-Ok.turns c.new-in-Ok.result c.all_points.result (subst (SoundOn n) (sym turns) (new_record_sound n)) c.new-in-Ok.ensures c.all_points.ensures.on_board (somewhere_of n c.all_points.result low c.all_points.ensures.value), tt)

@@ -1,10 +1,10 @@
-use Rattle.std.proofs.Common.{rules, ◌≡◌, List, [], ◌∷◌, ◌++◌, reverse, subst, sym, ap, ◌∙◌}
+use Rattle.std.proofs.Common.{rules, ◌≡◌, List, [], ◌∷◌, ◌++◌, length, reverse, subst, sym, ap, ◌∙◌}
 use Rattle.go_points.specs.declared.Cell.{Cell}
 use Rattle.go_points.specs.Ply.{Ply, ply_of}
 use Rattle.target_game.specs.State.{Line}
 use Rattle.target_game.specs.Next.{next}
-use Rattle.cert_check.specs.Private.Known.{AreKnown}
-use Rattle.cert_check.proofs.Known.{one_known_more}
+use Rattle.cert_check.specs.Private.Known.{AreKnown, HasStart}
+use Rattle.cert_check.proofs.Known.{one_known_more, start_more}
 use Rattle.cert_check.proofs.body_state.BodyState.after.Goals as goal
 
 pub invariant_of-self-else-is_err : goal.invariant_of-self-else-is_err
@@ -15,6 +15,9 @@ invariant_of-self-else-is_err c =
     let ds : List (List Cell) = c.push.new.self.items in
     let is : c.after.new.self ≡ record { state = next l.state t; before = l.state ∷ l.before } = c.in_ok-after.ensures.ok in
     let present : c.colouring.result ≡ (next l.state t).colouring = c.colouring.ensures ∙ ap (λ (m : Line). m.state.colouring) is in
-    let pushed : ds ≡ cs ++ c.colouring.result ∷ [] = search rules in
-    subst (λ (m : Line). AreKnown (reverse ds) m.state m.before) (sym is)
-    (one_known_more cs ds l.state l.before t (pushed ∙ ap (λ d. cs ++ d ∷ []) present) c.self.invariant)
+    let pushed : ds ≡ cs ++ c.colouring.result ∷ [] = search rules in (
+      subst (λ (m : Line). AreKnown (reverse ds) m.state m.before) (sym is)
+          (one_known_more cs ds l.state l.before t (pushed ∙ ap (λ d. cs ++ d ∷ []) present) c.self.invariant.0),
+      subst (λ (m : Line). HasStart ds c.self.inside.fixed (length m.before)) (sym is)
+          (start_more cs ds c.colouring.result c.self.inside.fixed (length l.before) pushed c.self.invariant.1),
+    )

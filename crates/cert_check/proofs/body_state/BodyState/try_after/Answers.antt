@@ -1,11 +1,11 @@
-use Rattle.std.proofs.Common.{rules, ◌≡◌, Bool, true, List, [], ◌∷◌, ◌++◌, reverse, subst, sym, ap, ◌∙◌}
+use Rattle.std.proofs.Common.{rules, ◌≡◌, Bool, true, List, [], ◌∷◌, ◌++◌, length, reverse, subst, sym, ap, ◌∙◌}
 use Rattle.go_points.specs.declared.Cell.{Cell}
 use Rattle.go_points.specs.Ply.{Ply, ply_of}
 use Rattle.target_game.specs.State.{Line}
 use Rattle.target_game.specs.Left.{line_if}
 use Rattle.target_game.specs.Next.{next}
-use Rattle.cert_check.specs.Private.Known.{AreKnown}
-use Rattle.cert_check.proofs.Known.{one_known_more}
+use Rattle.cert_check.specs.Private.Known.{AreKnown, HasStart}
+use Rattle.cert_check.proofs.Known.{one_known_more, start_more}
 use Rattle.cert_check.proofs.body_state.BodyState.try_after.Goals as goal
 
 pub invariant_of-self-else-is_err : goal.invariant_of-self-else-is_err
@@ -17,6 +17,9 @@ invariant_of-self-else-is_err c =
     let made : c.in_ok-try_after.field-0 ≡ true = search rules in
     let is : c.try_after.new.self ≡ record { state = next l.state t; before = l.state ∷ l.before } = c.in_ok-try_after.ensures.state ∙ ap (λ (b : Bool). line_if b l t) made in
     let present : c.colouring.result ≡ (next l.state t).colouring = c.colouring.ensures ∙ ap (λ (m : Line). m.state.colouring) is in
-    let pushed : ds ≡ cs ++ c.colouring.result ∷ [] = search rules in
-    subst (λ (m : Line). AreKnown (reverse ds) m.state m.before) (sym is)
-    (one_known_more cs ds l.state l.before t (pushed ∙ ap (λ d. cs ++ d ∷ []) present) c.self.invariant)
+    let pushed : ds ≡ cs ++ c.colouring.result ∷ [] = search rules in (
+      subst (λ (m : Line). AreKnown (reverse ds) m.state m.before) (sym is)
+          (one_known_more cs ds l.state l.before t (pushed ∙ ap (λ d. cs ++ d ∷ []) present) c.self.invariant.0),
+      subst (λ (m : Line). HasStart ds c.self.inside.fixed (length m.before)) (sym is)
+          (start_more cs ds c.colouring.result c.self.inside.fixed (length l.before) pushed c.self.invariant.1),
+    )

@@ -13,15 +13,19 @@ use Rattle.gtp_core.proofs.session.Session.genmove.Goals as goal
 
 pub invariant_of-self : goal.invariant_of-self
 invariant_of-self c =
-    let s = c.self.inside in
-    with_turns_sound s.turns c.play.new.self s.targets s.region c.self.invariant
-    (play_keeps c.args.colour (ply_of s.turns.size c.match-branch-2.turn) s.turns c.play.new.self c.play.result c.self.invariant.turns c.play.ensures)
+    let s = c.self.inside in (
+      with_turns_sound s.turns c.play.new.self s.targets s.region c.self.invariant.0
+          (play_keeps c.args.colour (ply_of s.turns.size c.match-branch-2.turn) s.turns c.play.new.self c.play.result c.self.invariant.0.turns c.play.ensures),
+      tt,
+    )
 
 pub invariant_of-self-2 : goal.invariant_of-self-2
 invariant_of-self-2 c =
-    let s = c.self.inside in
-    with_turns_sound s.turns c.play.new.self s.targets s.region c.self.invariant
-    (play_keeps c.args.colour (ply_of s.turns.size c.match-branch-2.turn) s.turns c.play.new.self c.play.result c.self.invariant.turns c.play.ensures)
+    let s = c.self.inside in (
+      with_turns_sound s.turns c.play.new.self s.targets s.region c.self.invariant.0
+          (play_keeps c.args.colour (ply_of s.turns.size c.match-branch-2.turn) s.turns c.play.new.self c.play.result c.self.invariant.0.turns c.play.ensures),
+      tt,
+    )
 
 pub returns-in-Ok-clause-ok : goal.returns-in-Ok-clause-ok
 returns-in-Ok-clause-ok c =

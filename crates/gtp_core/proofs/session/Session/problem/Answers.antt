@@ -19,7 +19,7 @@ unfolding seen
 made c =
     let s = seen c in
     let m = s.turns.present in
-    let sound : IsSound s = c.self.invariant in
+    let sound : IsSound s = c.self.invariant.0 in
     let side : side_of (board_of s) ≡ s.turns.size = ap side_of (sym c.colouring.ensures.value) ∙ c.colouring.ensures.size in
     let place : c.unwrap_or-place.result ≡ m.place =
     c.unwrap_or-place.ensures ∙ ap (λ (o : Option ℕ). unwrap_or o 0) (c.holds.ensures ∙ ap₂ place_in c.seen-2.ensures c.colouring.ensures.value) ∙ problem_placed s c.args.mover sound side in

@@ -1,0 +1,116 @@
+//! The questions that were decided, each as a record with its claim, one after another.
+
+use crate::asked::Asked;
+use crate::group::Group;
+use crate::lines::{colour_name, push_point};
+use crate::table::Table;
+use cert_check::Checked;
+use go_points::Colour;
+use pn_search::{Verdict, solve};
+use proof_cert::{CertWrite, write_cert};
+use sgf_text::{WriteFault, write_bytes, write_tree};
+use std::alloc::{AllocError, Global};
+use tsumego_problem::problem_tree;
+
+/// The lines, and after them each question that was decided: a line that says which, its record, and its claim.
+///
+/// The questions are asked again for their claims, which were not kept. The same steps find the same claims.
+pub(crate) fn claims(
+    alloc: Global,
+    group: &Group,
+    table: &Table,
+    lines: &str,
+) -> Result<String, AllocError> {
+    let mut bytes = Vec::new(alloc);
+    bytes.extend_from_slice(lines.as_bytes())?;
+    let asked = table.asked.as_slice();
+    for i in 0..asked.len() {
+        if let Some(winner) = asked[i].winner {
+            let head = head_of(alloc, group, table, i, &asked[i], winner)?;
+            bytes.extend_from_slice(head.as_bytes())?;
+            push_claim(alloc, table, &asked[i], &mut bytes)?;
+        }
+    }
+    match String::from_utf8(bytes) {
+        Ok(text) => Ok(text),
+        Err(_) => Err(AllocError),
+    }
+}
+
+/// The line of a question: its number, who moves first, the sizes and walls that ask it, and who wins.
+fn head_of(
+    alloc: Global,
+    group: &Group,
+    table: &Table,
+    place: usize,
+    asked: &Asked,
+    winner: Colour,
+) -> Result<String, AllocError> {
+    let mut text = String::new(alloc);
+    let number = place.saturating_add(1);
+    let mover = colour_name(asked.problem.mover());
+    let name = colour_name(winner);
+    write!(text, "== {number} ")?;
+    let size = group.position.colouring().size();
+    if let Some(target) = asked.problem.targets().first() {
+        push_point(&mut text, size, target)?;
+    }
+    write!(text, ", {mover} first")?;
+    push_rows(&mut text, table, place)?;
+    write!(text, ": {name} wins\n")?;
+    Ok(text)
+}
+
+/// Appends the sizes and walls of all rows that ask this problem. The problem of a way out has no row.
+fn push_rows(text: &mut String, table: &Table, place: usize) -> Result<(), AllocError> {
+    let mut is_named = false;
+    for row in table.rows.as_slice() {
+        let count = row.count;
+        let walls = row.walls.name();
+        if row.place == Some(place) {
+            write!(text, ", {count} points {walls}")?;
+            is_named = true;
+        } else if row.forgotten == Some(place) {
+            write!(text, ", {count} points {walls} without the past")?;
+            is_named = true;
+        }
+    }
+    if is_named {
+        return Ok(());
+    }
+    text.push_str(", a way out")
+}
+
+/// Appends the record of the question and its claim.
+fn push_claim(
+    alloc: Global,
+    table: &Table,
+    asked: &Asked,
+    bytes: &mut Vec<u8>,
+) -> Result<(), AllocError> {
+    let problem = asked.problem.copy(alloc)?;
+    match solve(alloc, problem, table.budget) {
+        Verdict::Wins(checked) => push_checked(alloc, &checked, bytes),
+        Verdict::Unknown { .. } => Err(AllocError),
+    }
+}
+
+/// Appends the record of the claim's problem, and the claim.
+fn push_checked(alloc: Global, checked: &Checked, bytes: &mut Vec<u8>) -> Result<(), AllocError> {
+    let tree = problem_tree(alloc, checked.problem())?;
+    written(write_tree(&tree, bytes))?;
+    written(write_bytes(b"\n", bytes))?;
+    match write_cert(checked.certificate(), bytes) {
+        Ok(()) => Ok(()),
+        Err(CertWrite::Write) => Err(AllocError),
+        Err(CertWrite::NoSpelling) => Err(AllocError),
+    }
+}
+
+/// A write into memory fails only if memory is refused.
+fn written(outcome: Result<(), WriteFault>) -> Result<(), AllocError> {
+    match outcome {
+        Ok(()) => Ok(()),
+        Err(WriteFault::Write) => Err(AllocError),
+    }
+}

@@ -1,0 +1,311 @@
+"""Input that is meant to hurt: records, claims and sessions, for `tools/hostile`."""
+import itertools
+import os
+import random
+import re
+import subprocess
+import sys
+import tempfile
+
+HERE = os.path.dirname(os.path.abspath(__file__))
+LETTERS = "abcdefghijklmnopqrstuvwxy"
+
+
+def board(middle, rows=19):
+    return f"(;SZ[{rows}]AB[ab]AW[aa]PL[B]TR[aa]SQ[ba]{middle})"
+
+
+def names(size):
+    """Distinct names, one value each."""
+    text, number = [], 0
+    while sum(map(len, text[:1])) * len(text) < size:
+        letters, n = "", number
+        for _ in range(6):
+            letters, n = chr(65 + n % 26) + letters, n // 26
+        text.append(f"Z{letters}[]")
+        number += 1
+    return "".join(text)
+
+
+def nested(size):
+    return "(;" * 900 + "C[" + "a" * size + "]" + ")" * 900
+
+
+def setups(size, values):
+    """Setup nodes before the problem node, by turns; a record has at most 100,000 nodes."""
+    count = size // 11
+    return "(;SZ[19]" + "".join(";" + values[i % len(values)] for i in range(count)) + ";AB[ab]AW[aa]PL[B]TR[aa]SQ[ba])"
+
+
+def past(size):
+    """999 other positions, and then setups that change nothing."""
+    names_of = [chr(97 + c) + chr(97 + r) for r in range(19) for c in range(19)][40:]
+    walk = [f";A{'BW'[i % 2]}[{names_of[i // 2 % 300]}]" + (f"AE[{names_of[(i // 2 - 7) % 300]}]" if i > 20 else "")
+            for i in range(900)]
+    return "(;SZ[19]" + "".join(walk) + ";AE[ca]" * (size // 11) + ";AB[ab]AW[aa]PL[B]TR[aa]SQ[ba])"
+
+
+def swaps(size, values):
+    """Setup nodes on 25 rows that each change nearly the whole board, by turns."""
+    count = min(size // 10, 99_900)
+    nodes = "".join(f";{values[i % len(values)]}[aa:yx]" for i in range(count))
+    return f"(;SZ[25]{nodes};AE[aa:yy];AB[ab]AW[aa]PL[B]TR[aa]SQ[ba])"
+
+
+def teeth(size):
+    """Setup nodes that join 13 chains by a row, and part them again."""
+    columns = "".join(f"[{column}b:{column}x]" for column in LETTERS[::2])
+    nodes = "".join(f";A{'BE'[i % 2]}[aa:ya]" for i in range(min(size // 10, 99_900)))
+    return f"(;SZ[25]AB{columns}{nodes};AE[aa:yy];AB[ab]AW[aa]PL[B]TR[aa]SQ[ba])"
+
+
+def holes(size):
+    """Setup nodes that take one stone out of a chain of 600, and put it back."""
+    nodes = "".join(f";A{'EB'[i % 2]}[ml]" for i in range(min(size // 7, 99_900)))
+    return f"(;SZ[25]AB[aa:yx]{nodes};AE[aa:yy];AB[ab]AW[aa]PL[B]TR[aa]SQ[ba])"
+
+
+def captures(size):
+    """A session in which 624 stones are taken and come back, time after time."""
+    columns = "ABCDEFGHJKLMNOPQRSTUVWXYZ"
+    whites = [f"play w {column}{row}" for row in range(1, 26) for column in columns][1:]
+    return "\n".join(["boardsize 25", *whites]) + "\n" + "play b A1\nundo\n" * (size // 15)
+
+
+# ---- claims
+
+def fillings(points, is_outermost=True):
+    """Lines of a node where black is to move: black fills the points in every order, and white only passes; the points once full,
+    lemma 1 is used."""
+    lines = [f"all {len(points) + 1}"]
+    for point in points:
+        rest = [other for other in points if other != point]
+        lines += [f"reply {point}"] + (["play pass", *fillings(rest, False)] if rest else ["use 1"])
+    return lines + ["reply pass"] + (["play pass"] if is_outermost else []) + ["won"]
+
+
+def colourings(first, rows, count):
+    """So many colourings in ascending order that begin with these cells."""
+    places, step = rows * rows - len(first), 3 ** 15 // count
+    for number in range(count):
+        number, cells = number * step, []
+        for _ in range(min(places, 15)):
+            number, cell = divmod(number, 3)
+            cells.append(".OX"[cell])
+        yield first + "".join(reversed(cells)) + "." * (places - len(cells))
+
+
+class Filled:
+    """A white stone that black cannot take, and points that black may fill."""
+
+    def __init__(self, rows, points, nodes=(), stones=None):
+        self.rows, self.points, self.nodes = rows, points, "".join(nodes)
+        self.stones = {"aa": "O", **(stones or {})}
+
+    def record(self):
+        marks = "PL[B]TR[aa]SQ" + "".join(f"[{point}]" for point in self.points)
+        if not self.nodes:
+            return f"(;SZ[{self.rows}]AW[aa]{marks})\n"
+        return f"(;SZ[{self.rows}]{self.nodes};AW[aa]{marks})\n"
+
+    def cells(self, stones):
+        points = (chr(97 + column) + chr(97 + row) for row in range(self.rows) for column in range(self.rows))
+        return "".join(stones.get(point, ".") for point in points)
+
+    def lemma(self, listed):
+        """Lemma 1: the points are full, and white passes."""
+        root = self.cells({**self.stones, **{point: "X" for point in self.points}})
+        return [f"lemma W 0 {root}", *listed, "play pass", "all 1", "reply pass", "won", "end"]
+
+    def with_lists(self, first, second):
+        """Lemma 2 uses lemma 1 once for each order of the points; main needs neither. Version 2."""
+        full = "".join(f"[{point}]" for point in self.points)
+        lines = [f"(;SZ[{self.rows}]AW[aa]AB{full}PL[B]TR[aa]SQ{full})", f"tsucert 2 {self.rows} W", *self.lemma(first),
+                 f"lemma B 0 {self.cells(self.stones)}", *second, *fillings(self.points), "end",
+                 "main", "all 1", "reply pass", "play pass", "won", "end"]
+        return "\n".join(lines) + "\n"
+
+    def passed_on(self, count):
+        """A list that lemma 2 passes on to lemma 1, at each of its uses."""
+        listed = [f"not {cells}" for cells in colourings("X", self.rows, count)]
+        second = [f"lemma B 0 {self.cells(self.stones)}", *listed, *fillings(self.points), "end"]
+        lines = [f"tsucert 1 {self.rows} W", *self.lemma(listed), *second, "main", "use 2", "end"]
+        return self.record() + "\n".join(lines) + "\n"
+
+    def asked(self, count):
+        """A list that is asked of the whole past, at each use."""
+        listed = [f"not {cells}" for cells in colourings("X", self.rows, count)]
+        lines = [f"tsucert 1 {self.rows} W", *self.lemma(listed), "main", *fillings(self.points), "end"]
+        return self.record() + "\n".join(lines) + "\n"
+
+
+def colliding(size):
+    """Names, with a value each, that all begin in one group of the table of names."""
+    with tempfile.TemporaryDirectory() as folder:
+        program = os.path.join(folder, "colliding_names")
+        source = os.path.join(HERE, "colliding_names.c")
+        subprocess.run([os.environ.get("CC", "cc"), "-O2", "-o", program, source], check=True)
+        found = subprocess.run([program, str(size // 9)], stdout=subprocess.PIPE, check=True)
+    return board("".join(name + "[]" for name in found.stdout.decode().split()))
+
+
+FOUR_ROWS = ["ac", "bc", "cc", "dc", "ad", "bd", "cd"]
+
+
+def walk(length):
+    """Setup nodes that each lead to another position, and the stones after them."""
+    places = [chr(97 + column) + chr(97 + row) for row in range(3, 16, 2) for column in range(1, 18, 2)]
+    nodes, stones = [], {}
+    for i in range(length):
+        place, colour = places[i // 2 % len(places)], "BW"[(i // 2 // len(places) + i) % 2]
+        nodes.append(f";A{colour}[{place}]")
+        stones[place] = "XO"["BW".index(colour)]
+    return nodes, stones
+
+
+def passed_on(points):
+    return lambda size: Filled(4, FOUR_ROWS[:points]).passed_on((size - len("\n".join(fillings(FOUR_ROWS[:points])))) // 42)
+
+
+def asked(size):
+    nodes, stones = walk(990)
+    return Filled(19, ["cs", "ds", "es", "fs", "gs"], nodes, stones).asked(size // 366)
+
+
+def long_line(size):
+    """A line of turns after the problem node: 6 bytes each, 90,000 at most."""
+    script = os.path.join(HERE, "long_line.py")
+    turns = str(min(size * 3 // 34, 90_000))
+    return subprocess.run([sys.executable, script, turns, "audit"], stdout=subprocess.PIPE, check=True).stdout.decode()
+
+
+# ---- colourings of one key
+
+def stone_words():
+    """The words whose exclusive or is a colouring's key: black's and white's of each point."""
+    with open(os.path.join(HERE, "../crates/stone_key/src/words.rt"), encoding="utf-8") as source:
+        table = source.read().split("const WORDS:")[1].split("];")[0]
+    return [int(word) for word in re.findall(r"\d{5,}", table)]
+
+
+def without_key(points):
+    """Sets of points, as bits, on which black stones have the key 0: by elimination over two elements."""
+    words, rows, found = stone_words(), [], []
+    for point in points:
+        value, bits = words[2 * point], 1 << point
+        for other, its_bits in rows:
+            if value ^ other < value:
+                value, bits = value ^ other, bits ^ its_bits
+        if value:
+            rows = sorted([*rows, (value, bits)], reverse=True)
+        else:
+            found.append(bits)
+    return found
+
+
+def of_one_key(points, count):
+    """So many sets of points, each unlike the one before in one of the sets without a key, all of one key."""
+    steps, bits = without_key(points), 0
+    assert count <= 1 << len(steps)
+    for number in range(1, count + 1):
+        yield bits
+        bits ^= steps[(number & -number).bit_length() - 1]
+
+
+def texts_of_one_key(rows, count):
+    area = rows * rows
+    return sorted("".join("X" if bits >> point & 1 else "." for point in range(area)) for bits in of_one_key(range(area), count))
+
+
+def last_points(rows, count):
+    return [LETTERS[point % rows] + LETTERS[point // rows] for point in range(rows * rows - count, rows * rows)]
+
+
+def lines(word, texts):
+    return [f"{word} {text}" for text in texts]
+
+
+def had_of_one_key(count, points):
+    """A list of what must have occurred, asked at each use."""
+    had = lines("had", texts_of_one_key(9, count))
+    return Filled(9, last_points(9, points)).with_lists(had, had)
+
+
+def had_and_root(count, points):
+    """The same, and the body's own root, which does not stand among them."""
+    filled, texts = Filled(9, last_points(9, points)), texts_of_one_key(9, count)
+    return filled.with_lists(lines("had", sorted([*texts, filled.cells(filled.stones)])), lines("had", texts))
+
+
+def had_and_not_of_one_key(count, points):
+    """A body that begins with many, and as many others that must not have occurred."""
+    texts = texts_of_one_key(9, 2 * count)
+    known, others = lines("had", texts[::2]), lines("not", texts[1::2])
+    return Filled(9, last_points(9, points)).with_lists(others, known + others)
+
+
+def had_and_not(count, points):
+    """The same on 3 rows, with keys of all kinds."""
+    filled = Filled(3, last_points(3, points))
+    texts = ["".join(cells) for cells in itertools.product(".OX", repeat=9)]
+    texts = [text for text in texts if not (text[0] == "O" and "O" not in text[1:] and text[1] == ".")]
+    random.Random(2).shuffle(texts)
+    known, others = lines("had", sorted(texts[:count])), lines("not", sorted(texts[count : 2 * count]))
+    return filled.with_lists(others, known + others)
+
+
+def past_of_one_key(count, points):
+    """A past of positions of one key, all of which lemma 1 needs; main uses it once for each order of the points."""
+    rows, filled = 15, Filled(15, last_points(15, points))
+    odd = [point for point in range(rows * rows) if (point // rows + point % rows) % 2 and point not in (1, rows)]
+    nodes, before, texts = [], 0, []
+    for bits in of_one_key(odd, count):
+        texts.append("".join("X" if bits >> point & 1 else "." for point in range(rows * rows)))
+        changed = {"AB": bits & ~before, "AE": before & ~bits}
+        nodes.append(";" + "".join(name + "".join(f"[{LETTERS[point % rows]}{LETTERS[point // rows]}]" for point in odd if some >> point & 1)
+                                   for name, some in changed.items() if some))
+        before = bits
+    filled.nodes = "".join(nodes) + f";AE[aa:{LETTERS[rows - 1] * 2}]"
+    text = [f"tsucert 2 {rows} W", *filled.lemma(lines("had", sorted(texts))), "main", *fillings(filled.points), "end"]
+    return filled.record() + "\n".join(text) + "\n"
+
+
+def asked_at_each_use(count, points):
+    """A long list that is asked of 990 positions at each use, on 5 rows."""
+    # No two of these are adjacent, so that each colouring of them is a position.
+    places, before, nodes = ["ca", "ea", "bb", "db", "ac", "cc", "ec"], "." * 7, []
+    for held in itertools.islice(map("".join, itertools.product(".XO", repeat=7)), 1, 991):
+        changed = {name: "".join(f"[{place}]" for place, old, new in zip(places, before, held) if old != new == stone)
+                   for name, stone in (("AB", "X"), ("AW", "O"), ("AE", "."))}
+        nodes.append(";" + "".join(name + some for name, some in changed.items() if some))
+        before = held
+    filled = Filled(5, last_points(5, points), nodes + [";AE[aa:ee]"])
+    pick, texts = random.Random(3), set()
+    while len(texts) < count:
+        texts.add("X" + "".join(pick.choice(".OX") for _ in range(24)))
+    text = ["tsucert 1 5 W", *filled.lemma(lines("not", sorted(texts))), "main", *fillings(filled.points), "end"]
+    return filled.record() + "\n".join(text) + "\n"
+
+
+def many_lemmas(size):
+    """Lemmas with a list of 1,500 each, which nobody uses."""
+    texts = itertools.islice(("".join(cells) for cells in itertools.product(".OX", repeat=9)), 1_500)
+    lemma = ["lemma W 1 O........", *lines("had", texts), "play pass", "won", "end"]
+    text = ["(;SZ[3]AW[aa]PL[B]TR[aa]SQ[ba])", "tsucert 2 3 W", *lemma * (size // 21_100), "main"]
+    return "\n".join([*text, "all 2", "reply ba", "play pass", "all 1", "reply pass", "won", "reply pass", "play pass", "won", "end"]) + "\n"
+
+
+def deep_line():
+    """A line of 340 turns, cut off at its end: at each turn of black's up to 171 replies are due, after 990 positions."""
+    nodes, stones = walk(990)
+    points = [chr(97 + column) + chr(97 + row) for row in range(2, 19) for column in range(0, 19, 2)]
+    lines = ["tsucert 1 19 W", "main"]
+    for number, point in enumerate(points):
+        lines += [f"all {len(points) - number + 1}", f"reply {point}", "play pass"]
+    # The claim begins a line after the record, and is malformed where its next line should be.
+    text = Filled(19, points, nodes, stones).record() + "\n".join(lines) + "\n"
+    return text, (1, f"rejected line {len(lines) + 1}: C01 malformed\n")
+
+
+def won(points, count):
+    return Filled(4, points).passed_on(count), (0, "wins White\n")

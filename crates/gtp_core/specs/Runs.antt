@@ -28,7 +28,7 @@ IsRun s (line ∷ lines) written =
 abbrev pub first_session : GtpSession
 first_session = new_session FIRST_SIZE
 
--- The replies to all lines that had ended, and to none after them.
+-- The replies to lines from the front, each of which had ended, and to none after them. That it is all that had ended is not said.
 pub record IsReadTo (bytes written : List ℕ) : Type 0 where
   pub front : List (List ℕ)
   pub line : List ℕ

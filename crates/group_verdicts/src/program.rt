@@ -6,7 +6,7 @@ use crate::group::Group;
 use crate::json::{found_object, judged_object};
 use crate::lines::{found_lines, judged_lines};
 use crate::past::without_past;
-use crate::refusals::{no_marks, no_stone, no_tree, refused};
+use crate::refusals::{before_passes, no_marks, no_stone, no_tree, node_asked, refused};
 use crate::side::{Finding, Side};
 use crate::solutions::{Told, solutions};
 use crate::table::Table;
@@ -151,12 +151,49 @@ fn all_answered<N: Write>(
     budget: Budget,
     notes: &mut N,
 ) -> Result<Output, AllocError> {
-    let problem = match any_problem(alloc, tree, request.node) {
+    let problem = match position_asked(alloc, tree, request.node, notes) {
         Ok(problem) => problem,
         Err(none) => return no_stone(alloc, tree, request.node, "", none),
     };
     let text = all_groups(alloc, &problem, request, budget, notes)?;
     Ok(Output::Text(text, Status::Answered))
+}
+
+/// The problem of the first stone of the position. If no node is named and the game ends there with two passes, the position is the
+/// one before them, which is the same with the turn to move.
+fn position_asked<N: Write>(
+    alloc: Global,
+    tree: &Tree,
+    node: Option<usize>,
+    notes: &mut N,
+) -> Result<Problem, NoStone> {
+    let found = any_problem(alloc, tree, node);
+    if node.is_some() {
+        return found;
+    }
+    match found {
+        Err(NoStone::NoProblem(ProblemFault::Ended { .. })) => {
+            let last = node_asked(tree, node);
+            let before = before_passes(last);
+            tell_passes(alloc, last, before, notes)?;
+            any_problem(alloc, tree, Some(before))
+        }
+        _ => found,
+    }
+}
+
+/// Says on `notes` that another node is asked about than the last.
+fn tell_passes<N: Write>(
+    alloc: Global,
+    last: usize,
+    before: usize,
+    notes: &mut N,
+) -> Result<(), AllocError> {
+    let note = format!(in alloc;
+        "group_status: two passes end the game at node {last}; the position of node {before} is asked about\n"
+    )?;
+    let _ = write_bytes(note.as_bytes(), notes);
+    Ok(())
 }
 
 /// The problem of the first stone of the position.

@@ -1,11 +1,11 @@
 //! Why nothing is asked, in one line that names the node and the point.
 
-use record_tools::NoStone;
+use record_tools::{NoStone, default_node, last_node};
 use sgf_text::{SgfFault, Tree};
 use std::alloc::{AllocError, Global};
 use std::convert::AsStr;
 use tool_parts::{Output, Status};
-use tsumego_problem::{ProblemFault, board_size, has_setup};
+use tsumego_problem::{ProblemFault, board_size};
 
 /// Why no tree was read.
 pub(crate) fn no_tree(alloc: Global, fault: SgfFault) -> Result<Output, AllocError> {
@@ -20,25 +20,17 @@ pub(crate) fn refused(text: String) -> Result<Output, AllocError> {
     Ok(Output::Text(text, Status::Refused))
 }
 
-/// How many nodes the main line has. It recurses as deep as trees are nested.
-fn node_count(tree: &Tree) -> usize {
-    let here = tree.nodes().len();
-    let children = tree.children();
-    if children.is_empty() {
-        return here;
+/// The number of the node that is asked about.
+pub(crate) fn node_asked(tree: &Tree, node: Option<usize>) -> usize {
+    match node {
+        Some(number) => number,
+        None => default_node(tree),
     }
-    here.saturating_add(node_count(&children[0]))
 }
 
-/// The number of the node that is asked about: by default the root if it sets up stones, otherwise the last node of the main line.
-fn node_asked(tree: &Tree, node: Option<usize>) -> usize {
-    if let Some(number) = node {
-        return number;
-    }
-    if has_setup(&tree.nodes()[0]) {
-        return 0;
-    }
-    node_count(tree).saturating_sub(1)
+/// The number of the node before two passes, the second of which is the node with this number.
+pub(crate) fn before_passes(node: usize) -> usize {
+    node.saturating_sub(2)
 }
 
 /// Why there is no stone of this name to ask about at this node. There is no name if all groups are asked about.
@@ -53,7 +45,7 @@ pub(crate) fn no_stone(
     match none {
         NoStone::Memory => Err(AllocError),
         NoStone::OffTheLine => {
-            let last = node_count(tree).saturating_sub(1);
+            let last = last_node(tree);
             refused(format!(in alloc;
                 "refused: the main line has no node {number}, its last is node {last}\n"
             )?)
@@ -100,8 +92,9 @@ fn no_problem(
         )?);
     }
     if let ProblemFault::Ended { .. } = fault {
+        let before = before_passes(number);
         return refused(format!(in alloc;
-            "refused: {name}{comma}node {number}: two passes stand there, so the game is over\n"
+            "refused: {name}{comma}node {number}: two passes stand there, so the game is over; --node {before} is before them\n"
         )?);
     }
     match node_of(fault) {

@@ -3,6 +3,7 @@
 use crate::side::Side;
 use clap::builder::ValueParser;
 use clap::{Arg, ArgAction, ArgMatches};
+use record_tools::node_argument;
 use std::alloc::{AllocError, Global};
 use std::convert::AsStr;
 use tool_parts::{NoRequest, no_request};
@@ -180,16 +181,6 @@ fn with_argument<'a>(
     argument: Arg<'a>,
 ) -> Result<clap::Command<'a>, AllocError> {
     program.arg(argument)
-}
-
-fn node_argument<'a>(alloc: Global) -> Arg<'a> {
-    Arg::new(alloc, "node")
-        .help(
-            "The node of the main line, from 0 [default: the root where it sets up stones, else the last]",
-        )
-        .long("node")
-        .value_name("N")
-        .value_parser(ValueParser::unsigned(0, MOST))
 }
 
 fn target_argument<'a>(alloc: Global) -> Arg<'a> {

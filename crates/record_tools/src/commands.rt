@@ -1,5 +1,6 @@
 //! The command line, in `clap`'s terms. Proving it is expensive, so each part of the grammar has a function of its own.
 
+use crate::asked_node::node_argument;
 use crate::words::MOST;
 use clap::builder::ValueParser;
 use clap::{Arg, ArgAction};
@@ -59,16 +60,6 @@ fn mark_command<'a>(alloc: Global) -> Result<clap::Command<'a>, AllocError> {
     let mark = mark.arg(shut_argument(alloc))?;
     let mark = mark.arg(mover_argument(alloc))?;
     mark.arg(bare_argument(alloc))
-}
-
-fn node_argument<'a>(alloc: Global) -> Arg<'a> {
-    Arg::new(alloc, "node")
-        .help(
-            "The node of the main line, from 0 [default: the root where it sets up stones, else the last]",
-        )
-        .long("node")
-        .value_name("N")
-        .value_parser(ValueParser::unsigned(0, MOST))
 }
 
 fn target_argument<'a>(alloc: Global) -> Arg<'a> {

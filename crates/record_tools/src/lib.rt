@@ -2,6 +2,7 @@
 //! answer. The program is a crate of its own, so its tests do not prove all this a second time.
 #![tactic(auto)]
 
+mod asked_node;
 mod bare;
 mod commands;
 mod games;
@@ -19,5 +20,6 @@ mod supposed_record;
 mod told;
 mod words;
 
+pub use asked_node::{default_node, last_node, node_argument};
 pub use program::run;
 pub use stone_problem_of::{NoStone, marked_problem, stone_problem};

@@ -4,6 +4,7 @@ ghost use Rattle.std.specs.Prelude.{◌≡◌, IfOk, Ok, Some};
 ghost use Rattle.tsumego_problem.specs.Walk.{problem_within, history_limit};
 ghost use Rattle.record_tools.specs.Marked.{IsMarkedRecord, marked};
 
+use crate::asked_node::default_node;
 use crate::mark::{NoMark, mark_tree};
 use crate::named_points::named_values;
 use crate::region::{proposed_region, whole_chains};
@@ -13,7 +14,7 @@ use sgf_text::{Bytes, Property, SgfNode, Tree, Values};
 use std::alloc::{AllocError, Global};
 use target_game::Problem;
 use tool_parts::single;
-use tsumego_problem::{ProblemFault, all_points, board_size, has_setup, marks_node, read_problem};
+use tsumego_problem::{ProblemFault, all_points, board_size, marks_node, read_problem};
 
 /// Where both sides may play.
 #[derive(Clone, Copy, Debug, PartialEq, Eq)]
@@ -29,7 +30,7 @@ pub(crate) enum Region<'a> {
 /// What is asked for.
 #[derive(Clone, Copy, Debug, PartialEq, Eq)]
 pub(crate) struct Marks<'a> {
-    /// The number of a node of the main line; by default the root if it sets up stones, otherwise the last node of the main line.
+    /// The number of a node of the main line; by default that of `default_node`.
     pub(crate) node: Option<usize>,
     /// Points of the targets' chains, separated by commas.
     pub(crate) targets: &'a [u8],
@@ -142,28 +143,6 @@ fn push_property(property: Property, into: &mut Vec<Property>) -> Result<(), All
     Ok(())
 }
 
-/// The number of the main line's last node.
-fn last_of_line(tree: &Tree) -> usize {
-    let mut part = tree;
-    let mut count: usize = 0;
-    loop {
-        count = count.saturating_add(part.nodes().len());
-        let Some(child) = part.children().first() else {
-            return count.saturating_sub(1);
-        };
-        part = child;
-    }
-}
-
-/// The node that is marked if none is named: the root if it sets up stones, otherwise the last node of the main line.
-fn default_place(tree: &Tree) -> usize {
-    if has_setup(&tree.nodes()[0]) {
-        0
-    } else {
-        last_of_line(tree)
-    }
-}
-
 /// The tree with these marks.
 pub(crate) fn with_marks(
     alloc: Global,
@@ -196,7 +175,7 @@ pub(crate) fn problem_of(alloc: Global, tree: &Tree) -> Result<Problem, Refusal>
 pub(crate) fn chosen_place(tree: &Tree, node: Option<usize>) -> usize {
     match node {
         Some(place) => place,
-        None => default_place(tree),
+        None => default_node(tree),
     }
 }
 
@@ -248,10 +227,7 @@ pub(crate) fn marked_record(
     ensures marked { IfOk result (λ r. IsMarkedRecord r.place tree.now r.tree) }
     ensures problem { IfOk result (λ r. problem_within (Some history_limit) r.tree ≡ Ok r.problem) }
 {
-    let place = match wanted.node {
-        Some(place) => place,
-        None => default_place(tree),
-    };
+    let place = chosen_place(tree, wanted.node);
     let asked = with_marks(alloc, tree, place, &asked_node(alloc, tree, wanted)?)?;
     let complete = completed(alloc, &problem_of(alloc, &asked)?, wanted.region)?;
     let marks = marks_node(alloc, &complete)?;

@@ -38,8 +38,7 @@ fn size_of(tree: &Tree) -> Option<Size> {
     board_size(root)
 }
 
-/// The problem of the stone of this name at the node of the main line with this number; by default at the root if it sets up
-/// stones, otherwise at the last node of the main line.
+/// The problem of the stone of this name at the node of the main line with this number; by default at that of `default_node`.
 pub fn stone_problem(
     alloc: Global,
     tree: &Tree,

@@ -7,12 +7,13 @@ ghost use Rattle.sgf_text.specs.Bytes.{sign_of};
 ghost use Rattle.sgf_text.specs.Followers.{transition, depth_limit, node_limit};
 ghost use Rattle.sgf_text.specs.OpenTrees.{Steps, IsSound, at_start, led, can_close, opened_in, begun_in, ClosesTo, node_ended, property_ended, ident_ended, value_ended, with_byte};
 
+use crate::bytes::Bytes;
 use crate::fault::SgfFault;
 use crate::followers::{ParserState, Sign, Transition, follow, sign_of};
-use crate::node::{Bytes, Values};
 use crate::open_node::OpenNode;
 use crate::open_tree::OpenTree;
 use crate::tree::Tree;
+use crate::values::Values;
 use std::alloc::{AllocError, Global};
 use std::marker::Model;
 use std::mem;
@@ -30,7 +31,7 @@ pub struct OpenTrees {
     state: ParserState,
     word: Vec<u8>,
     ident: Bytes,
-    values: Values,
+    values: Vec<Bytes>,
     node: OpenNode,
     tree: OpenTree,
     outer: Vec<OpenTree>,
@@ -51,7 +52,7 @@ impl Model for OpenTrees {
       state = o.state;
       word = o.word.items;
       ident = o.ident;
-      values = o.values;
+      values = o.values.items;
       properties = o.node;
       tree = o.tree;
       outer = reverse o.outer.items;
@@ -69,7 +70,7 @@ impl OpenTrees {
             state: ParserState::AfterOpen,
             word: Vec::new(alloc),
             ident: Bytes::from_vec(Vec::new(alloc)),
-            values: Values::from_vec(Vec::new(alloc)),
+            values: Vec::new(alloc),
             node: OpenNode::new(alloc),
             tree: OpenTree::new(alloc),
             outer: Vec::new(alloc),
@@ -156,8 +157,8 @@ impl OpenTrees {
             ParserState::AfterValue => self.end_property()?,
             _ => return Ok(()),
         }
-        let node = mem::replace(&mut self.node, OpenNode::new(self.alloc));
-        self.tree.push_node(node.into_node())
+        let node = self.node.take_node()?;
+        self.tree.push_node(node)
     }
 
     /// Takes a byte that leads on.
@@ -174,7 +175,7 @@ impl OpenTrees {
                 .word
                 .push(byte)?,
             (ParserState::InIdent(_), Sign::Lower) => {}
-            (ParserState::InIdent(_), _) => self.end_ident(),
+            (ParserState::InIdent(_), _) => self.end_ident()?,
             (ParserState::InValue, Sign::CloseSquare) => self.end_value()?,
             (ParserState::InValue | ParserState::AfterBackslash, _) => self.word.push(byte)?,
             _ => {}
@@ -182,25 +183,28 @@ impl OpenTrees {
         Ok(())
     }
 
-    fn end_ident(&mut self)
-        ensures { self.new ≡ ident_ended self.old }
+    fn end_ident(&mut self) -> Result<(), AllocError>
+        ensures { OnOk result (self.new ≡ ident_ended self.old) }
     {
-        let word = mem::replace(&mut self.word, Vec::new(self.alloc));
-        self.ident = Bytes::from_vec(word);
+        self.ident = Bytes::copy_from_slice(self.alloc, self.word.as_slice())?;
+        self.word.clear();
+        Ok(())
     }
 
     fn end_value(&mut self) -> Result<(), AllocError>
         ensures { OnOk result (self.new ≡ value_ended self.old) }
     {
-        let word = mem::replace(&mut self.word, Vec::new(self.alloc));
-        self.values.push(Bytes::from_vec(word))
+        let value = Bytes::copy_from_slice(self.alloc, self.word.as_slice())?;
+        self.word.clear();
+        self.values.push(value)?;
+        Ok(())
     }
 
     fn end_property(&mut self) -> Result<(), AllocError>
         ensures { OnOk result (self.new ≡ property_ended self.old) }
     {
         let ident = mem::replace(&mut self.ident, Bytes::from_vec(Vec::new(self.alloc)));
-        let values = mem::replace(&mut self.values, Values::from_vec(Vec::new(self.alloc)));
+        let values = Values::taken_from(self.alloc, &mut self.values);
         self.node.add(ident, values)
     }
 }

@@ -6,7 +6,8 @@ ghost use Rattle.byte_writer.specs.Taken.{HasPut, TakesPart};
 ghost use Rattle.sgf_text.specs.Text.{value_text, property_text, node_text, tree_text};
 ghost use Rattle.sgf_text.specs.Trees.{forest_of};
 
-use crate::node::{Bytes, Property, SgfNode};
+use crate::bytes::Bytes;
+use crate::node::{Property, SgfNode};
 use crate::tree::Tree;
 use byte_writer::{PendingBytes, WriteFault};
 use std::io::Write;

@@ -35,7 +35,7 @@ fn written(rt: &impl Abort, alloc: Global, text: &[u8]) -> Vec<u8> {
 #[test]
 fn reads_and_writes(rt: HostRuntime) {
     let alloc = rt.alloc();
-    let rows: [(&[u8], &[u8]); 7] = [
+    let rows: [(&[u8], &[u8]); 9] = [
         (b"(;AB[aa]AB[bb]C[a\\]b])", b"(;AB[aa][bb]C[a\\]b])"),
         (b"(;)", b"(;)"),
         (
@@ -49,6 +49,16 @@ fn reads_and_writes(rt: HostRuntime) {
             b"(;FF[4]C[two\r\nlines \xe9\xfc\x00])",
         ),
         (b"((;B[aa])", b"(;B[aa])"),
+        // Names come back before and after the eighth.
+        (
+            b"(;A[1]B[2]C[3]D[4]E[5]F[6]G[7]H[8]I[9]J[10]A[11]H[12]I[13]J[14]K[15]K[16]J[17])",
+            b"(;A[1][11]B[2]C[3]D[4]E[5]F[6]G[7]H[8][12]I[9][13]J[10][14][17]K[15][16])",
+        ),
+        // Values and names of 22 and 23 bytes.
+        (
+            b"(;C[abcdefghijklmnopqrstuv][abcdefghijklmnopqrstuvw]ABCDEFGHIJKLMNOPQRSTUV[]ABCDEFGHIJKLMNOPQRSTUVW[])",
+            b"(;C[abcdefghijklmnopqrstuv][abcdefghijklmnopqrstuvw]ABCDEFGHIJKLMNOPQRSTUV[]ABCDEFGHIJKLMNOPQRSTUVW[])",
+        ),
     ];
     for (text, out) in rows {
         expect_bytes(&rt, written(&rt, alloc, text).as_slice(), out);

@@ -261,6 +261,24 @@ impl Board {
         found
     }
 
+    /// The chain of the stone at this place, if the side has these stones, and the places beside its stones.
+    pub(crate) fn chain_and_near(&self, own: PlaceSet, place: usize) -> (PlaceSet, PlaceSet) {
+        let mut found = PlaceSet::empty().with(place);
+        let mut front = found.places();
+        let mut near = PlaceSet::empty();
+        for _ in 0..u64::MAX {
+            let Some(at) = front.take() else {
+                break;
+            };
+            let beside = self.near(at);
+            let more = beside.and(own).minus(found);
+            near = near.or(beside);
+            found = found.or(more);
+            front.add(more);
+        }
+        (found, near)
+    }
+
     /// The chain of the stone at this place, if the side has these stones.
     pub fn chain(&self, own: PlaceSet, place: usize) -> PlaceSet {
         self.connected(PlaceSet::empty().with(place), own)

@@ -144,9 +144,9 @@ impl Board {
             let Some(at) = rest.take() else {
                 break;
             };
-            let area = self.chain(candidates, at);
+            let (area, near) = self.chain_and_near(candidates, at);
             rest.skip(area);
-            let beside = self.beside(area);
+            let beside = near.minus(area);
             if beside.is_within(defender) && area.meets(empty) && area.len() <= MAX_EYE {
                 if !eyes.add(area, beside) {
                     return None;
@@ -164,9 +164,9 @@ impl Board {
             let Some(at) = rest.take() else {
                 return Some(chains);
             };
-            let chain = self.chain(defender, at);
+            let (chain, near) = self.chain_and_near(defender, at);
             rest.skip(chain);
-            if !chains.add(chain, self.beside(chain)) {
+            if !chains.add(chain, near.minus(chain)) {
                 return None;
             }
         }

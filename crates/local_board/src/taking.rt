@@ -61,6 +61,9 @@ impl Board {
         side: Side,
     ) -> Option<PlaceSet> {
         let lasting = self.lasting.of(side);
+        if lasting.has(place) {
+            return None;
+        }
         let mut chain = PlaceSet::empty().with(place);
         let mut front = chain.places();
         for _ in 0..u64::MAX {
@@ -68,10 +71,10 @@ impl Board {
                 return Some(chain);
             };
             let near = self.near(at);
-            if near.meets(empty) || lasting.has(at) {
+            let more = near.and(own).minus(chain);
+            if near.meets(empty) || more.meets(lasting) {
                 return None;
             }
-            let more = near.and(own).minus(chain);
             chain = chain.or(more);
             front.add(more);
         }
@@ -115,9 +118,9 @@ impl Board {
             let Some(at) = rest.take() else {
                 return found;
             };
-            let chain = self.chain(own, at);
+            let (chain, near) = self.chain_and_near(own, at);
             rest.skip(chain);
-            let liberties = self.all_beside(chain).and(empty);
+            let liberties = near.and(empty);
             if !liberties.has_several() {
                 found.weak = found.weak.or(chain);
                 found.last = found.last.or(liberties);
@@ -151,9 +154,9 @@ impl Board {
             let Some(at) = rest.take() else {
                 return found;
             };
-            let chain = self.chain(position.defender, at);
+            let (chain, near) = self.chain_and_near(position.defender, at);
             rest.skip(chain);
-            let liberties = self.beside(chain).and(empty);
+            let liberties = near.and(empty);
             if !chain.meets(self.lasting.defender) && !liberties.has_several() {
                 found = found.or(liberties.and(self.region));
             }

@@ -252,10 +252,11 @@ impl Search {
 
     /// The side's turn at this place, if the state is certain after it and its result has not occurred.
     fn certain_turn(&mut self, state: State, side: Side, place: usize) -> Option<NextTurn> {
-        let after = self.after_move_at(state, side, place);
-        if after.position == state.position || !self.is_certain(side, after.position) {
+        let position = self.shapes.board.after(state.position, side, place);
+        if position == state.position || !self.is_certain(side, position) {
             return None;
         }
+        let after = self.moved(state, position);
         if self.past.has(after.key.position) || place > u16::MAX as usize {
             return None;
         }

@@ -1,0 +1,3 @@
+pub mod Standing
+pub mod Never
+pub mod Examples

@@ -1,6 +1,6 @@
 -- Groups that do not live by their shape: in each the moves that take a target are computed by the definitions of play. Boards of 3
 -- and 4 rows; points aa, ba, ca, .. are 0, 1, 2, ..
-use Rattle.std.proofs.Common.{◌≡◌, ℕ, true, false, ◌⊎◌, inl, inr, List, [], ◌∷◌, map, unwrap_or, codes, refl, sym, ◌∙◌}
+use Rattle.std.proofs.Common.{◌≡◌, ℕ, false, inl, List, [], ◌∷◌, unwrap_or, codes, refl}
 use Prim.Native.String.{String}
 use Rattle.go_points.specs.declared.Colour.TheVariants.{Black}
 use Rattle.go_points.specs.declared.Cell.{Cell}
@@ -10,7 +10,7 @@ use Rattle.go_points.specs.Reach.{reaches_within, reaches}
 use Rattle.go_points.specs.Clear.{clear}
 use Rattle.go_points.specs.Move.{after_move}
 use Rattle.go_points.specs.Text.{cells_of}
-use Rattle.go_points.proofs.Lists.{Member, all_at}
+use Rattle.go_points.proofs.Lists.{all_at}
 use Rattle.go_points.proofs.Cells.{eq_same_cell}
 use Rattle.target_game.specs.State.{Game}
 use Rattle.pass_alive.specs.Life.{PassAlive}

@@ -1,6 +1,6 @@
 -- The attacker wins no state whose targets live by their shape.
-use Rattle.std.proofs.Common.{◌≡◌, ℕ, zero, suc, ◌*◌, ◌≤◌, Bool, true, false, ◌&&◌, not, nat_eq, nat_lt, if◌then◌else◌, ◌⊎◌, inl, inr, IsTrue, IsFalse, List, [], ◌∷◌, Option, Some, None, refl, sym, ◌∙◌, ap, subst, arith}
-use Rattle.std.specs.List.{list_any, list_all}
+use Rattle.std.proofs.Common.{◌≡◌, ℕ, zero, suc, ◌*◌, ◌≤◌, Bool, true, false, ◌&&◌, nat_eq, nat_lt, if◌then◌else◌, ◌⊎◌, inl, inr, IsTrue, IsFalse, List, [], ◌∷◌, Some, None, refl, sym, ◌∙◌, subst, arith}
+use Rattle.std.specs.List.{list_all}
 use Rattle.go_points.specs.declared.Colour.{Colour}
 use Rattle.go_points.specs.declared.Colour.TheVariants.{Black, White}
 use Rattle.go_points.specs.declared.Cell.{Cell}
@@ -10,8 +10,6 @@ use Rattle.go_points.specs.Move.{after_move}
 use Rattle.go_points.specs.Ply.{Ply, pass, move}
 use Rattle.go_points.proofs.Lists.{and_left, and_right, any_from, all_at, all_from}
 use Rattle.go_points.proofs.Cells.{same_cell_eq, eq_same_cell, same_colour_eq}
-use Rattle.go_turns.specs.History.{has_occurred}
-use Rattle.go_chains.specs.Joined.{Joined}
 use Rattle.go_chains.proofs.Joins.{joined_self}
 use Rattle.target_game.specs.State.{Game, GameState}
 use Rattle.target_game.specs.Legal.{holds_point, legal, legal_turns}
@@ -21,7 +19,7 @@ use Rattle.target_game.specs.Wins.{wins, Wins, some_or_each}
 use Rattle.target_game.specs.Status.{moving, IsAlive}
 use Rattle.target_game.proofs.Winning.{wins_over, wins_none, wins_next, member_legal, legal_member}
 use Rattle.target_game.proofs.Ending.{winner_exists}
-use Rattle.pass_alive.specs.Life.{Points, Fixed, Lasting, Live, PassAlive}
+use Rattle.pass_alive.specs.Life.{Points, Fixed, Live, PassAlive}
 use Rattle.pass_alive.specs.Laws.{Stands, MayMove, after_moves, AreMoves}
 use Rattle.pass_alive.proofs.Standing.{pass_alive_stands, pass_alive_stays}
 

@@ -1,11 +1,10 @@
 -- What stones that live by their shape keep, whatever the attacker plays.
-use Rattle.std.proofs.Common.{◌≡◌, ◌≢◌, ℕ, ◌*◌, ◌<◌, ◌≤◌, Bool, true, false, ◌⊎◌, inl, inr, IsTrue, IsFalse, List, [], ◌∷◌, length, set, refl, sym, ◌∙◌, ap, subst, arith}
+use Rattle.std.proofs.Common.{◌≡◌, ◌≢◌, ℕ, ◌*◌, ◌<◌, ◌≤◌, ◌⊎◌, inl, inr, IsTrue, List, [], ◌∷◌, length, set, refl, sym, ◌∙◌, ap, subst, arith}
 use Rattle.std.proofs.lemmas.List.{get_or_past, get_or-set_same, get_or-set_other, length-set}
 use Rattle.std.proofs.lemmas.Bool.{cases_lt}
-use Rattle.go_points.specs.declared.Colour.{Colour}
 use Rattle.go_points.specs.declared.Cell.{Cell}
 use Rattle.go_points.specs.declared.Cell.TheVariants.{Empty, Stone}
-use Rattle.go_points.specs.Grid.{opponent_of, adjacent, cell_at}
+use Rattle.go_points.specs.Grid.{opponent_of, cell_at}
 use Rattle.go_points.specs.Reach.{IsPath, Reaches}
 use Rattle.go_points.specs.Clear.{clear}
 use Rattle.go_points.specs.Move.{after_move}
@@ -15,7 +14,7 @@ use Rattle.go_chains.specs.Joined.{IsWay, Joined}
 use Rattle.go_chains.proofs.Joins.{joined_holds, joined_self, joined_back, joined_on, joined_beside, reaches_beside}
 use Rattle.target_game.specs.State.{Game}
 use Rattle.target_game.specs.Legal.{holds_point}
-use Rattle.pass_alive.specs.Life.{Points, Fixed, IsBeside, Lasting, EyeSpace, EyeOf, TwoEyes, Live}
+use Rattle.pass_alive.specs.Life.{Points, Fixed, IsBeside, EyeSpace, TwoEyes, Live}
 use Rattle.pass_alive.specs.Laws.{Stands, MayMove}
 
 -- once a stone is put down at p, each point holds what it held, or that stone

@@ -8,7 +8,7 @@ use Rattle.go_points.specs.Points.{holds_place}
 use Rattle.go_points.proofs.Lists.{Member, any_to, member_map}
 use Rattle.go_points.proofs.Cells.{neighbours_member, adjacent_on_board}
 use Rattle.go_chains.specs.Joined.{IsChainOf, AreLibertiesOf}
-use Rattle.go_chains.proofs.Joins.{joined_back, joined_on}
+use Rattle.go_chains.proofs.Joins.{joined_self, joined_back, joined_on}
 use Rattle.pass_alive.specs.Life.{Points, Lasting}
 use Rattle.pass_alive.specs.Sets.{these, number_on}
 use Rattle.pass_alive.specs.Private.Areas.{IsNear, IsEyeArea, IsEyeOutside, NoEyeBelow, TwoEyeAreas, TwoEyeSets}
@@ -53,8 +53,12 @@ module _ (n : ℕ) (a : List Cell) (p : ℕ) (stones : Points) (chain walls area
   pub eye_within : IsEyeArea n a stones (IsNear n (these n chain)) p → (r : ℕ) → r < n * n → IsTrue (these n walls r) → IsTrue (stones r)
   eye_within eye r on held = eye.walls r on ((lib.liberties r on).0 held)
 
-  pub eye_near : IsEyeArea n a stones (IsNear n (these n chain)) p → (q : ℕ) → q < n * n → IsTrue (these n area q) → IsNear n (these n chain) q
-  eye_near eye q on held = eye.beside q on ((is.joined q on).0 held)
+pub eye_near : (n : ℕ) (a : List Cell) (p : ℕ) (stones chain : Points) (area : List Place) → IsChainOf n a p area → IsEyeArea n a stones (IsNear n chain) p → (q : ℕ) → q < n * n → IsTrue (these n area q) → IsNear n chain q
+eye_near n a p stones chain area is eye q on held = eye.beside q on ((is.joined q on).0 held)
+
+-- what an eye asks of its own point
+pub eye_here : (n : ℕ) (a : List Cell) (stones chain : Points) (p : ℕ) → p < n * n → IsEyeArea n a stones (IsNear n chain) p → IsNear n chain p
+eye_here n a stones chain p on eye = eye.beside p on (joined_self n a p)
 
 -- two eyes, from the two that were looked for
 module _ (n : ℕ) (c a : List Cell) (stones chain : Points) where

@@ -8,7 +8,7 @@ ghost use Rattle.go_chains.specs.Joined.{IsChainOf};
 ghost use Rattle.pass_alive.specs.Sets.{these};
 ghost use Rattle.pass_alive.specs.Private.Areas.{HasAreas, IsEyeArea, IsNear, IsEyeOutside, NoEyeBelow, TwoEyeAreas, TwoEyeSets};
 
-use crate::sets::{are_near, is_within};
+use crate::sets::{are_near, is_near, is_within};
 use go_chains::ChainBoard;
 use go_points::{Point, PointSet};
 
@@ -28,8 +28,11 @@ fn eye_at(areas: &ChainBoard, stones: &PointSet, chain: &PointSet, point: Point)
 {
     let size = areas.size();
     let area = areas.chain_of(point)?;
+    if !are_near(size, &area, chain) {
+        return None;
+    }
     let walls = areas.liberties(point)?;
-    if is_within(size, &walls, stones) && are_near(size, &area, chain) {
+    if is_within(size, &walls, stones) {
         Some(area)
     } else {
         None
@@ -56,7 +59,7 @@ fn eye_outside(
     let size = board.size();
     for number in 0..size.area() {
         let point = size.point_at(number);
-        if board.cell(point).is_empty() && !known.has(point) {
+        if board.cell(point).is_empty() && !known.has(point) && is_near(size, point, chain) {
             if let Some(eye) = eye_at(areas, stones, chain, point) {
                 return Some(eye);
             }

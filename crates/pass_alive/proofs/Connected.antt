@@ -1,5 +1,5 @@
 -- The points of a board are connected: so each area is beside a stone, if there is one.
-use Rattle.std.proofs.Common.{◌≡◌, ◌≢◌, ℕ, zero, suc, ◌+◌, ◌-◌, ◌*◌, ◌/◌, ◌%◌, ◌<◌, ◌≤◌, Bool, true, false, not, ◌&&◌, ◌⊎◌, inl, inr, IsTrue, List, [], ◌∷◌, is_none, Some, zero-le, refl, sym, ◌∙◌, ap, subst, arith}
+use Rattle.std.proofs.Common.{◌≡◌, ◌≢◌, ℕ, zero, suc, ◌+◌, ◌-◌, ◌*◌, ◌/◌, ◌%◌, ◌<◌, ◌≤◌, Bool, true, false, not, ◌&&◌, ◌⊎◌, inl, inr, IsTrue, List, [], ◌∷◌, Some, zero-le, refl, sym, ◌∙◌, ap, subst, arith}
 use Rattle.std.proofs.Math.Nat.{mul-le-mul_right}
 use Rattle.std.proofs.lemmas.Nat.{div-add-mod'}
 use Rattle.std.proofs.lemmas.Bool.{lt-ltb}
@@ -104,4 +104,4 @@ module _ (n : ℕ) (k : Colour) (c a : List Cell) (cells : (q : ℕ) → q < n *
 
   -- so a board of areas that is refused has no stone of the colour around
   pub no_stone : (p : ℕ) → first_without_liberty n a ≡ Some p → (q : ℕ) → q < n * n → cell_at c q ≢ Stone k
-  no_stone p found q q_on wall = cc (areas_reach q q_on wall, ap is_none found)
+  no_stone p found q q_on wall = cc (areas_reach q q_on wall, found)

@@ -175,7 +175,7 @@ module _ (n : ℕ) (c : List Cell) (x : ℕ) (chain : List Place) (is : IsChainO
 near_eye : (n : ℕ) (a : List Cell) (stones : Points) (near other : ℕ → Type 0) (p : ℕ) → ((q : ℕ) → near q → other q) → IsEyeArea n a stones near p → IsEyeArea n a stones other p
 near_eye n a stones near other p into eye = record { walls = eye.walls; beside = λ q on j. into q (eye.beside q on j) }
 
-near_areas : (n : ℕ) (c a : List Cell) (stones : Points) (near other : ℕ → Type 0) → ((q : ℕ) → near q → other q) → TwoEyeAreas n c a stones near → TwoEyeAreas n c a stones other
+pub near_areas : (n : ℕ) (c a : List Cell) (stones : Points) (near other : ℕ → Type 0) → ((q : ℕ) → near q → other q) → TwoEyeAreas n c a stones near → TwoEyeAreas n c a stones other
 near_areas n c a stones near other into two = record {
   first = two.first;
   second = two.second;
@@ -188,15 +188,18 @@ near_areas n c a stones near other into two = record {
   apart = two.apart;
 }
 
-pub safe_by_sets : (n : ℕ) (c a : List Cell) (stones : Points) (x : ℕ) (chain : List Place) → IsChainOf n c x chain → TwoEyeSets n c a stones (IsNear n (these n chain)) → TwoEyeSets n c a stones (IsBeside n c x)
+pub near_sets : (n : ℕ) (c a : List Cell) (stones : Points) (near other : ℕ → Type 0) → ((q : ℕ) → near q → other q) → TwoEyeSets n c a stones near → TwoEyeSets n c a stones other
 unfolding near_areas
-safe_by_sets n c a stones x chain is two = record {
-  areas = near_areas n c a stones (IsNear n (these n chain)) (IsBeside n c x) (near_beside n c x chain is) two.areas;
+near_sets n c a stones near other into two = record {
+  areas = near_areas n c a stones near other into two.areas;
   first_set = two.first_set;
   second_set = two.second_set;
   is_first = two.is_first;
   is_second = two.is_second;
 }
+
+pub safe_by_sets : (n : ℕ) (c a : List Cell) (stones : Points) (x : ℕ) (chain : List Place) → IsChainOf n c x chain → TwoEyeSets n c a stones (IsNear n (these n chain)) → TwoEyeSets n c a stones (IsBeside n c x)
+safe_by_sets n c a stones x chain is two = near_sets n c a stones (IsNear n (these n chain)) (IsBeside n c x) (near_beside n c x chain is) two
 
 pub areas_by_chain : (n : ℕ) (c a : List Cell) (stones : Points) (x : ℕ) (chain : List Place) → IsChainOf n c x chain → TwoEyeAreas n c a stones (IsBeside n c x) → TwoEyeAreas n c a stones (IsNear n (these n chain))
 areas_by_chain n c a stones x chain is two = near_areas n c a stones (IsBeside n c x) (IsNear n (these n chain)) (beside_near n c x chain is) two

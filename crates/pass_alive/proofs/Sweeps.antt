@@ -6,18 +6,19 @@ use Rattle.go_points.specs.declared.Cell.{Cell}
 use Rattle.go_points.specs.declared.Cell.TheVariants.{Stone}
 use Rattle.go_points.specs.Grid.{same_cell, cell_at}
 use Rattle.go_points.specs.Place.{Place, IsOn, place_of}
-use Rattle.go_points.specs.Points.{same_place, holds_place, without_place}
+use Rattle.go_points.specs.Points.{same_place, holds_place, with_place, without_place}
 use Rattle.go_points.specs.Private.Inverses.{same_numbers}
-use Rattle.go_points.proofs.Membership.{sets_lose}
-use Rattle.go_points.proofs.Lists.{and_right, and_both, all_at, all_from}
+use Rattle.go_points.proofs.Membership.{sets_gain, sets_lose}
+use Rattle.go_points.proofs.Lists.{and_right, and_both, or_cases, all_at, all_from}
 use Rattle.go_points.proofs.Cells.{same_cell_eq, eq_same_cell, adjacent_on_board}
-use Rattle.go_chains.specs.Joined.{IsWay, HoldsThose}
+use Rattle.go_chains.specs.Joined.{IsWay, Joined, IsChainOf, HoldsThose}
+use Rattle.go_chains.proofs.Joins.{joined_self, joined_back, joined_on}
 use Rattle.target_game.specs.State.{Game}
 use Rattle.pass_alive.specs.Life.{Points, IsBeside, Live, PassAlive}
 use Rattle.pass_alive.specs.Sets.{these, number_on, game_of, AreLiving}
-use Rattle.pass_alive.specs.Private.Areas.{area_cell, MayLive, IsSafe, IsDropped}
+use Rattle.pass_alive.specs.Private.Areas.{area_cell, MayLive, IsSafe, IsDropped, IsWithout, HasAtMost, IsJudged}
 use Rattle.pass_alive.proofs.Regions.{targets_hold}
-use Rattle.pass_alive.proofs.Spaces.{two_eyes, two_areas, may_live_more, place_on}
+use Rattle.pass_alive.proofs.Spaces.{two_eyes, two_areas, near_areas, near_sets, may_live_more, place_on}
 
 -- a set that loses a place that it held is smaller
 without_fewer : (ps : List Place) (p : Place) → length (without_place ps p) ≤ length ps
@@ -36,27 +37,149 @@ without_less (q ∷ qs) p h = go (same_place p q) refl h (without_less qs p)
     go true e held rest = grind (arith, without_fewer qs p)
     go false e held rest = grind (arith, rest held)
 
+-- points are taken out of a set, or put in, one by one
+module _ (n : ℕ) (other old : List Place) where
+  pub record TakenSoFar (now : List Place) (i : ℕ) : Type 0 where
+    pub within : (p : Place) → IsTrue (holds_place now p) → IsTrue (holds_place old p)
+    pub kept : (q : ℕ) → q < n * n → IsFalse (these n other q) → IsTrue (these n old q) → IsTrue (these n now q)
+    pub rest : (q : ℕ) → i ≤ q → IsTrue (these n old q) → IsTrue (these n now q)
+    pub shorter : length now ≤ length old
+    pub fewer : (q : ℕ) → q < i → IsTrue (these n other q) → IsTrue (these n old q) → length now < length old
+
+  pub taken_first : TakenSoFar old 0
+  taken_first = record {
+    within = λ p h. h;
+    kept = λ q on not_other held. held;
+    rest = λ q from held. held;
+    shorter = omega arith;
+    fewer = λ q low. absurd (omega (arith, low));
+  }
+
+  pub taken_no : (now : List Place) (i : ℕ) → IsFalse (these n other i) → TakenSoFar now i → TakenSoFar now (i + 1)
+  taken_no now i not_other h = record {
+    within = h.within;
+    kept = h.kept;
+    rest = λ q from held. h.rest q (omega (arith, from)) held;
+    shorter = h.shorter;
+    fewer = λ q low is held.
+        let split : (q < i) ⊎ (q ≡ i) = grind (arith, low) in
+        elim split [
+          | inl less ↦ h.fewer q less is held
+          | inr here ↦ absurd (cc (is, not_other, ap (these n other) here))
+        ];
+  }
+
+  pub taken_yes : (now : List Place) (i : ℕ) → IsTrue (these n other i) → TakenSoFar now i → TakenSoFar (without_place now (place_of n i)) (i + 1)
+  taken_yes now i there h = record {
+    within = λ p held. h.within p (and_right (not (same_place p (place_of n i))) _ (sym (sets_lose now (place_of n i) p) ∙ held));
+    kept = λ q on not_other held. stays q (λ e. cc (there, not_other, ap (these n other) e)) (h.kept q on not_other held);
+    rest = λ q from held. stays q (λ e. absurd (omega (arith, from, e))) (h.rest q (omega (arith, from)) held);
+    shorter = le (without_fewer now (place_of n i)) h.shorter;
+    fewer = λ q low is held.
+        let split : (q < i) ⊎ (q ≡ i) = grind (arith, low) in
+        elim split [
+          | inl less ↦ (let before : length now < length old = h.fewer q less is held in omega (arith, before, without_fewer now (place_of n i)))
+          | inr here ↦
+              (let now_there : IsTrue (these n now i) = h.rest i (omega arith) (subst (λ z. IsTrue (these n old z)) here held) in
+              omega (arith, without_less now (place_of n i) now_there, h.shorter))
+        ];
+  }
+    where
+      le : length (without_place now (place_of n i)) ≤ length now → length now ≤ length old → length (without_place now (place_of n i)) ≤ length old
+      le one two = omega (arith, one, two)
+
+      stays : (q : ℕ) → (q ≡ i → ⊥) → IsTrue (these n now q) → IsTrue (these n (without_place now (place_of n i)) q)
+      stays q ne held = sets_lose now (place_of n i) (place_of n q) ∙ and_both _ _ (apart (nat_eq q i) refl) held
+        where
+          apart : (b : Bool) → nat_eq q i ≡ b → not (same_place (place_of n q) (place_of n i)) ≡ true
+          apart true e = absurd (ne (eqb-true q i e))
+          apart false e = ap not (same_numbers n q i ∙ e)
+
+  pub taken_all : (now : List Place) (i : ℕ) → n * n ≤ i → TakenSoFar now i → IsWithout n other old now
+  taken_all now i all h = record { within = h.within; kept = h.kept; fewer = λ q on. h.fewer q (omega (arith, on, all)) }
+
+  pub put_yes : (now : List Place) (i : ℕ) → IsTrue (these n other i) → HasAtMost n other old now → HasAtMost n other old (with_place now (place_of n i))
+  put_yes now i there h q on held = elim (or_cases (same_place (place_of n q) (place_of n i)) (these n now q) (sym (sets_gain now (place_of n i) (place_of n q)) ∙ held)) [
+    | inl same ↦ inr (subst (λ z. IsTrue (these n other z)) (sym (eqb-true q i (sym (same_numbers n q i) ∙ same))) there)
+    | inr had ↦ h q on had
+  ]
+
+module _ (n : ℕ) (region : List ℕ) (c a : List Cell) where
+  -- the stones of a chain are safe together, and may live together
+  beside_joined : (x y q : ℕ) → Joined n c y x → IsBeside n c x q → IsBeside n c y q
+  beside_joined x y q j near = (near.0, near.1, joined_on n c y x near.0 j near.2)
+
+  pub may_live_joined : (stones : Points) (x y : ℕ) → Joined n c y x → MayLive n region c a stones x → MayLive n region c a stones y
+  may_live_joined stones x y j (inl lasting) = inl (lasting.0, lasting.1, beside_joined x y lasting.0 j lasting.2)
+  may_live_joined stones x y j (inr two) = inr (near_areas n c a stones (IsBeside n c x) (IsBeside n c y) (λ q. beside_joined x y q j) two)
+
+  pub safe_joined : (stones : Points) (x y : ℕ) → Joined n c y x → IsSafe n region c a stones x → IsSafe n region c a stones y
+  safe_joined stones x y j (inl lasting) = inl (lasting.0, lasting.1, beside_joined x y lasting.0 j lasting.2)
+  safe_joined stones x y j (inr two) = inr (near_sets n c a stones (IsBeside n c x) (IsBeside n c y) (λ q. beside_joined x y q j) two)
+
+  -- a chain that is passed over, one that is safe, and one that is not
+  module _ (i : ℕ) (old marked : List Place) where
+    pub judged_before : (IsTrue (these n old i) → IsTrue (these n marked i)) → IsJudged n region c a i old marked old marked false
+    judged_before before = record {
+      same = λ e. refl;
+      marked = λ e q on held. inl held;
+      safe = λ e held. inl (before held);
+      within = λ p held. held;
+      fewer = λ e. absurd (cc e);
+      kept = λ e. absurd (cc e);
+    }
+
+    module _ (chain : List Place) (is : IsChainOf n c i chain) where
+      pub judged_safe : (more : List Place) → HasAtMost n chain marked more → IsSafe n region c a (these n old) i → IsJudged n region c a i old marked old more false
+      judged_safe more most safe = record {
+        same = λ e. refl;
+        marked = λ e q on held. elim (most q on held) [
+          | inl had ↦ inl had
+          | inr new ↦ inr (safe_joined (these n old) i q (joined_back n c i q ((is.joined q on).0 new)) safe)
+        ];
+        safe = λ e held. inr safe;
+        within = λ p held. held;
+        fewer = λ e. absurd (cc e);
+        kept = λ e. absurd (cc e);
+      }
+
+      pub judged_unsafe : (left : List Place) → IsWithout n chain old left → i < n * n → IsTrue (these n old i) → (MayLive n region c a (these n old) i → ⊥) → IsJudged n region c a i old marked left marked true
+      judged_unsafe left without on there dead = record {
+        same = λ e. absurd (cc e);
+        marked = λ e. absurd (cc e);
+        safe = λ e. absurd (cc e);
+        within = without.within;
+        fewer = λ e. without.fewer i on ((is.joined i on).1 (joined_self n c i)) there;
+        kept = λ e q q_on held may. without.kept q q_on (other q q_on may (these n chain q) refl) held;
+      }
+        where
+          other : (q : ℕ) → q < n * n → MayLive n region c a (these n old) q → (b : Bool) → these n chain q ≡ b → b ≡ false
+          other q q_on may true e = absurd (dead (may_live_joined (these n old) q i ((is.joined q q_on).0 e) may))
+          other q q_on may false e = refl
+
 module _ (n : ℕ) (region : List ℕ) (c a : List Cell) (old : List Place) where
   -- after the points below i
-  pub record SweptSoFar (now : List Place) (has_changed : Bool) (i : ℕ) : Type 0 where
+  pub record SweptSoFar (now marked : List Place) (has_changed : Bool) (i : ℕ) : Type 0 where
     pub within : (p : Place) → IsTrue (holds_place now p) → IsTrue (holds_place old p)
     pub fewer : IsTrue has_changed → length now < length old
     pub same : IsFalse has_changed → now ≡ old
     pub kept : (stones : Points) → ((x : ℕ) → IsTrue (stones x) → (x < n * n) × MayLive n region c a stones x)
         → ((q : ℕ) → IsTrue (stones q) → IsTrue (these n old q)) → (q : ℕ) → IsTrue (stones q) → IsTrue (these n now q)
     pub safe : IsFalse has_changed → (q : ℕ) → q < i → IsTrue (these n now q) → IsSafe n region c a (these n now) q
+    pub marked_safe : IsFalse has_changed → (q : ℕ) → q < n * n → IsTrue (these n marked q) → IsSafe n region c a (these n now) q
 
-  pub swept_none : SweptSoFar old false 0
-  swept_none = record {
+  pub swept_none : (marked : List Place) → marked ≡ [] → SweptSoFar old marked false 0
+  swept_none marked none = record {
     within = λ p h. h;
     fewer = λ e. absurd (cc e);
     same = λ e. refl;
     kept = λ stones live into q is. into q is;
     safe = λ e q low held. absurd (omega (arith, low));
+    marked_safe = λ e q on held. absurd (cc (held, none));
   }
 
-  pub swept_kept : (now : List Place) (has_changed : Bool) (i : ℕ) → (IsTrue (these n now i) → IsSafe n region c a (these n now) i) → SweptSoFar now has_changed i → SweptSoFar now has_changed (i + 1)
-  swept_kept now has_changed i safe h = record {
+  pub swept_kept : (now marked new new_marked : List Place) (has_changed : Bool) (i : ℕ) → i < n * n → IsJudged n region c a i now marked new new_marked false → SweptSoFar now marked has_changed i → SweptSoFar new new_marked has_changed (i + 1)
+  swept_kept now marked new new_marked has_changed i on judged h = subst (λ s. SweptSoFar s new_marked has_changed (i + 1)) (sym (judged.same refl)) (record {
     within = h.within;
     fewer = h.fewer;
     same = h.same;
@@ -65,36 +188,30 @@ module _ (n : ℕ) (region : List ℕ) (c a : List Cell) (old : List Place) wher
         let split : (q < i) ⊎ (q ≡ i) = grind (arith, low) in
         elim split [
           | inl less ↦ h.safe e q less held
-          | inr here ↦ subst (IsSafe n region c a (these n now)) (sym here) (safe (subst (λ z. IsTrue (these n now z)) here held))
+          | inr here ↦ subst (IsSafe n region c a (these n now)) (sym here) (here_safe e (subst (λ z. IsTrue (these n now z)) here held))
         ];
-  }
+    marked_safe = λ e q q_on held. elim (judged.marked refl q q_on held) [ inl had ↦ h.marked_safe e q q_on had | inr safe ↦ safe ];
+  })
+    where
+      here_safe : IsFalse has_changed → IsTrue (these n now i) → IsSafe n region c a (these n now) i
+      here_safe e held = elim (judged.safe refl held) [ inl had ↦ h.marked_safe e i on had | inr safe ↦ safe ]
 
-  pub swept_taken : (now : List Place) (has_changed : Bool) (i : ℕ) → IsTrue (these n now i) → (MayLive n region c a (these n now) i → ⊥) → SweptSoFar now has_changed i → SweptSoFar (without_place now (place_of n i)) true (i + 1)
-  swept_taken now has_changed i there dead h = record {
-    within = λ p held. h.within p (and_right (not (same_place p (place_of n i))) _ (sym (sets_lose now (place_of n i) p) ∙ held));
+  pub swept_taken : (now marked new new_marked : List Place) (has_changed : Bool) (i : ℕ) → IsJudged n region c a i now marked new new_marked true → SweptSoFar now marked has_changed i → SweptSoFar new new_marked true (i + 1)
+  swept_taken now marked new new_marked has_changed i judged h = record {
+    within = λ p held. h.within p (judged.within p held);
     fewer = λ e. few has_changed refl;
     same = λ e. absurd (cc e);
-    kept = kept;
+    kept = λ stones live into q is. judged.kept refl q (live q is).0 (h.kept stones live into q is) (may_live_more n region c a stones (these n now) q (h.kept stones live into) (live q is).1);
     safe = λ e. absurd (cc e);
+    marked_safe = λ e. absurd (cc e);
   }
     where
-      less : length (without_place now (place_of n i)) < length now
-      less = without_less now (place_of n i) there
+      few : (b : Bool) → has_changed ≡ b → length new < length old
+      few true e = let before = h.fewer e in omega (arith, judged.fewer refl, before)
+      few false e = let same : length now ≡ length old = ap length (h.same e) in omega (arith, judged.fewer refl, same)
 
-      few : (b : Bool) → has_changed ≡ b → length (without_place now (place_of n i)) < length old
-      few true e = let before = h.fewer e in omega (arith, less, before)
-      few false e = let same : length now ≡ length old = ap length (h.same e) in omega (arith, less, same)
-
-      kept : (stones : Points) → ((x : ℕ) → IsTrue (stones x) → (x < n * n) × MayLive n region c a stones x)
-          → ((q : ℕ) → IsTrue (stones q) → IsTrue (these n old q)) → (q : ℕ) → IsTrue (stones q) → IsTrue (these n (without_place now (place_of n i)) q)
-      kept stones live into q is = sets_lose now (place_of n i) (place_of n q) ∙ and_both _ _ (other (nat_eq q i) refl) (h.kept stones live into q is)
-        where
-          other : (b : Bool) → nat_eq q i ≡ b → not (same_place (place_of n q) (place_of n i)) ≡ true
-          other true e = absurd (dead (may_live_more n region c a stones (these n now) i (h.kept stones live into) (subst (MayLive n region c a stones) (eqb-true q i e) (live q is).1)))
-          other false e = ap not (same_numbers n q i ∙ e)
-
-  pub swept_all : (now : List Place) (has_changed : Bool) (i : ℕ) → n * n ≤ i → SweptSoFar now has_changed i → IsDropped n region c a old now has_changed
-  swept_all now has_changed i all h = record {
+  pub swept_all : (now marked : List Place) (has_changed : Bool) (i : ℕ) → n * n ≤ i → SweptSoFar now marked has_changed i → IsDropped n region c a old now has_changed
+  swept_all now marked has_changed i all h = record {
     within = h.within;
     fewer = h.fewer;
     kept = h.kept;

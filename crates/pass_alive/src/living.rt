@@ -8,11 +8,11 @@ ghost use Rattle.go_points.specs.Place.{IsOn, number_of};
 ghost use Rattle.go_chains.specs.Joined.{HoldsThose};
 ghost use Rattle.pass_alive.specs.Life.{Lasting, PassAlive};
 ghost use Rattle.pass_alive.specs.Sets.{these, number_on, game_of, AreLiving};
-ghost use Rattle.pass_alive.specs.Private.Areas.{HasAreas, MayLive, IsSafe, IsDropped};
+ghost use Rattle.pass_alive.specs.Private.Areas.{HasAreas, MayLive, IsSafe, IsJudged, IsDropped};
 
 use crate::areas::areas_of;
 use crate::eyes::has_two_eyes;
-use crate::sets::{are_members, is_within};
+use crate::sets::{are_members, is_within, put_in, take_out};
 use go_chains::ChainBoard;
 use go_points::{Colour, Point, PointSet};
 
@@ -55,7 +55,40 @@ fn is_safe(
     is_lasting(board, region, point) || has_two_eyes(board, areas, stones, &chain)
 }
 
-/// Takes the stones away that are not safe by those that are left so far. Returns whether there were any.
+/// Judges the chain at the point, if its stones are left and not yet marked: marks them as safe, or takes them away. Returns whether
+/// it takes any away.
+fn drop_chain(
+    board: &ChainBoard,
+    areas: &ChainBoard,
+    region: &PointSet,
+    stones: &mut PointSet,
+    marked: &mut PointSet,
+    point: Point,
+) -> bool
+    requires areas { HasAreas board.now areas.now }
+    requires on { IsOn (side_of board.now) point }
+    requires own { (q : ℕ) → q < side_of board.now * side_of board.now
+        → IsTrue (these (side_of board.now) stones.old q) → cell_at board.now q ≢ Empty }
+    ensures { IsJudged (side_of board.now) (map (number_on (side_of board.now)) region.now)
+        board.now areas.now (number_of (side_of board.now) point)
+        stones.old marked.old stones.new marked.new result }
+{
+    let size = board.size();
+    if !stones.has(point) || marked.has(point) {
+        return false;
+    }
+    let Some(chain) = board.chain_of(point) else {
+        return false;
+    };
+    if is_safe(board, areas, region, stones, point) {
+        put_in(size, marked, &chain);
+        return false;
+    }
+    take_out(size, stones, &chain);
+    true
+}
+
+/// Takes the chains away that are not safe by the stones that are left so far. Returns whether there were any.
 fn drop_unsafe(
     board: &ChainBoard,
     areas: &ChainBoard,
@@ -69,11 +102,11 @@ fn drop_unsafe(
         board.now areas.now stones.old stones.new result }
 {
     let size = board.size();
+    let mut marked = PointSet::new();
     let mut has_changed = false;
     for number in 0..size.area() {
         let point = size.point_at(number);
-        if stones.has(point) && !is_safe(board, areas, region, stones, point) {
-            stones.remove(point);
+        if drop_chain(board, areas, region, stones, &mut marked, point) {
             has_changed = true;
         }
     }

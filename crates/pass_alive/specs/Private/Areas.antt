@@ -79,3 +79,22 @@ pub record IsDropped (n : ℕ) (region : List ℕ) (c a : List Cell) (old new : 
   pub kept : (stones : Points) → ((x : ℕ) → IsTrue (stones x) → (x < n * n) × MayLive n region c a stones x)
       → ((q : ℕ) → IsTrue (stones q) → IsTrue (these n old q)) → (q : ℕ) → IsTrue (stones q) → IsTrue (these n new q)
   pub safe : IsFalse has_changed → (q : ℕ) → q < n * n → IsTrue (these n new q) → IsSafe n region c a (these n new) q
+
+-- The set without another set of points of the board.
+pub record IsWithout (n : ℕ) (other old new : List Place) : Type 0 where
+  pub within : (p : Place) → IsTrue (holds_place new p) → IsTrue (holds_place old p)
+  pub kept : (q : ℕ) → q < n * n → IsFalse (these n other q) → IsTrue (these n old q) → IsTrue (these n new q)
+  pub fewer : (q : ℕ) → q < n * n → IsTrue (these n other q) → IsTrue (these n old q) → length new < length old
+
+-- The set with no more than another set.
+abbrev pub HasAtMost : ℕ → List Place → List Place → List Place → Type 0
+HasAtMost n other old new = (q : ℕ) → q < n * n → IsTrue (these n new q) → IsTrue (these n old q) ⊎ IsTrue (these n other q)
+
+-- One chain is judged, that of the stone i: it is marked as safe, or its stones are taken away.
+pub record IsJudged (n : ℕ) (region : List ℕ) (c a : List Cell) (i : ℕ) (old old_marked new new_marked : List Place) (has_dropped : Bool) : Type 0 where
+  pub same : IsFalse has_dropped → new ≡ old
+  pub marked : IsFalse has_dropped → (q : ℕ) → q < n * n → IsTrue (these n new_marked q) → IsTrue (these n old_marked q) ⊎ IsSafe n region c a (these n old) q
+  pub safe : IsFalse has_dropped → IsTrue (these n old i) → IsTrue (these n old_marked i) ⊎ IsSafe n region c a (these n old) i
+  pub within : (p : Place) → IsTrue (holds_place new p) → IsTrue (holds_place old p)
+  pub fewer : IsTrue has_dropped → length new < length old
+  pub kept : IsTrue has_dropped → (q : ℕ) → q < n * n → IsTrue (these n old q) → MayLive n region c a (these n old) q → IsTrue (these n new q)

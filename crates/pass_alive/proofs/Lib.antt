@@ -1,0 +1,9 @@
+pub mod Standing
+pub mod Never
+pub mod Spaces
+pub mod Regions
+pub mod Connected
+pub mod Sweeps
+pub mod Filling
+pub mod Tests
+pub mod Examples

@@ -1,0 +1,300 @@
+-- Sweeps over the stones: what is left after some points of one, and after some sweeps.
+use Rattle.std.proofs.Common.{◌≡◌, ◌≢◌, ℕ, ◌+◌, ◌*◌, ◌<◌, ◌≤◌, Bool, true, false, cond, not, ◌||◌, ◌⊎◌, inl, inr, IsTrue, IsFalse, ◌↔◌, nat_eq, eqb-true, List, [], ◌∷◌, map, length, refl, sym, ◌∙◌, ap, subst, arith}
+use Rattle.std.specs.List.{list_all}
+use Rattle.go_points.specs.declared.Colour.{Colour}
+use Rattle.go_points.specs.declared.Cell.{Cell}
+use Rattle.go_points.specs.declared.Cell.TheVariants.{Stone}
+use Rattle.go_points.specs.Grid.{same_cell, cell_at}
+use Rattle.go_points.specs.Place.{Place, IsOn, place_of}
+use Rattle.go_points.specs.Points.{same_place, holds_place, with_place, without_place}
+use Rattle.go_points.specs.Private.Inverses.{same_numbers}
+use Rattle.go_points.proofs.Membership.{sets_gain, sets_lose}
+use Rattle.go_points.proofs.Lists.{and_right, and_both, or_cases, all_at, all_from}
+use Rattle.go_points.proofs.Cells.{same_cell_eq, eq_same_cell, adjacent_on_board}
+use Rattle.go_chains.specs.Joined.{IsWay, Joined, IsChainOf, HoldsThose}
+use Rattle.go_chains.proofs.Joins.{joined_self, joined_back, joined_on}
+use Rattle.target_game.specs.State.{Game}
+use Rattle.pass_alive.specs.Life.{Points, IsBeside, Live, PassAlive}
+use Rattle.pass_alive.specs.Sets.{these, number_on, game_of, AreLiving}
+use Rattle.pass_alive.specs.Private.Areas.{area_cell, MayLive, IsSafe, IsDropped, IsWithout, HasAtMost, IsJudged}
+use Rattle.pass_alive.proofs.Regions.{targets_hold}
+use Rattle.pass_alive.proofs.Spaces.{two_eyes, two_areas, near_areas, near_sets, may_live_more, place_on}
+
+-- a set that loses a place that it held is smaller
+without_fewer : (ps : List Place) (p : Place) → length (without_place ps p) ≤ length ps
+without_fewer [] p = omega arith
+without_fewer (q ∷ qs) p = go (same_place p q) refl (without_fewer qs p)
+  where
+    go : (b : Bool) → same_place p q ≡ b → length (without_place qs p) ≤ length qs → length (cond (not b) (q ∷ without_place qs p) (without_place qs p)) ≤ length (q ∷ qs)
+    go true e rest = grind (arith, rest)
+    go false e rest = grind (arith, rest)
+
+without_less : (ps : List Place) (p : Place) → holds_place ps p ≡ true → length (without_place ps p) < length ps
+without_less [] p h = absurd (cc h)
+without_less (q ∷ qs) p h = go (same_place p q) refl h (without_less qs p)
+  where
+    go : (b : Bool) → same_place p q ≡ b → (b || holds_place qs p) ≡ true → (holds_place qs p ≡ true → length (without_place qs p) < length qs) → length (cond (not b) (q ∷ without_place qs p) (without_place qs p)) < length (q ∷ qs)
+    go true e held rest = grind (arith, without_fewer qs p)
+    go false e held rest = grind (arith, rest held)
+
+-- points are taken out of a set, or put in, one by one
+module _ (n : ℕ) (other old : List Place) where
+  pub record TakenSoFar (now : List Place) (i : ℕ) : Type 0 where
+    pub within : (p : Place) → IsTrue (holds_place now p) → IsTrue (holds_place old p)
+    pub kept : (q : ℕ) → q < n * n → IsFalse (these n other q) → IsTrue (these n old q) → IsTrue (these n now q)
+    pub rest : (q : ℕ) → i ≤ q → IsTrue (these n old q) → IsTrue (these n now q)
+    pub shorter : length now ≤ length old
+    pub fewer : (q : ℕ) → q < i → IsTrue (these n other q) → IsTrue (these n old q) → length now < length old
+
+  pub taken_first : TakenSoFar old 0
+  taken_first = record {
+    within = λ p h. h;
+    kept = λ q on not_other held. held;
+    rest = λ q from held. held;
+    shorter = omega arith;
+    fewer = λ q low. absurd (omega (arith, low));
+  }
+
+  pub taken_no : (now : List Place) (i : ℕ) → IsFalse (these n other i) → TakenSoFar now i → TakenSoFar now (i + 1)
+  taken_no now i not_other h = record {
+    within = h.within;
+    kept = h.kept;
+    rest = λ q from held. h.rest q (omega (arith, from)) held;
+    shorter = h.shorter;
+    fewer = λ q low is held.
+        let split : (q < i) ⊎ (q ≡ i) = grind (arith, low) in
+        elim split [
+          | inl less ↦ h.fewer q less is held
+          | inr here ↦ absurd (cc (is, not_other, ap (these n other) here))
+        ];
+  }
+
+  pub taken_yes : (now : List Place) (i : ℕ) → IsTrue (these n other i) → TakenSoFar now i → TakenSoFar (without_place now (place_of n i)) (i + 1)
+  taken_yes now i there h = record {
+    within = λ p held. h.within p (and_right (not (same_place p (place_of n i))) _ (sym (sets_lose now (place_of n i) p) ∙ held));
+    kept = λ q on not_other held. stays q (λ e. cc (there, not_other, ap (these n other) e)) (h.kept q on not_other held);
+    rest = λ q from held. stays q (λ e. absurd (omega (arith, from, e))) (h.rest q (omega (arith, from)) held);
+    shorter = le (without_fewer now (place_of n i)) h.shorter;
+    fewer = λ q low is held.
+        let split : (q < i) ⊎ (q ≡ i) = grind (arith, low) in
+        elim split [
+          | inl less ↦ (let before : length now < length old = h.fewer q less is held in omega (arith, before, without_fewer now (place_of n i)))
+          | inr here ↦
+              (let now_there : IsTrue (these n now i) = h.rest i (omega arith) (subst (λ z. IsTrue (these n old z)) here held) in
+              omega (arith, without_less now (place_of n i) now_there, h.shorter))
+        ];
+  }
+    where
+      le : length (without_place now (place_of n i)) ≤ length now → length now ≤ length old → length (without_place now (place_of n i)) ≤ length old
+      le one two = omega (arith, one, two)
+
+      stays : (q : ℕ) → (q ≡ i → ⊥) → IsTrue (these n now q) → IsTrue (these n (without_place now (place_of n i)) q)
+      stays q ne held = sets_lose now (place_of n i) (place_of n q) ∙ and_both _ _ (apart (nat_eq q i) refl) held
+        where
+          apart : (b : Bool) → nat_eq q i ≡ b → not (same_place (place_of n q) (place_of n i)) ≡ true
+          apart true e = absurd (ne (eqb-true q i e))
+          apart false e = ap not (same_numbers n q i ∙ e)
+
+  pub taken_all : (now : List Place) (i : ℕ) → n * n ≤ i → TakenSoFar now i → IsWithout n other old now
+  taken_all now i all h = record { within = h.within; kept = h.kept; fewer = λ q on. h.fewer q (omega (arith, on, all)) }
+
+  pub put_yes : (now : List Place) (i : ℕ) → IsTrue (these n other i) → HasAtMost n other old now → HasAtMost n other old (with_place now (place_of n i))
+  put_yes now i there h q on held = elim (or_cases (same_place (place_of n q) (place_of n i)) (these n now q) (sym (sets_gain now (place_of n i) (place_of n q)) ∙ held)) [
+    | inl same ↦ inr (subst (λ z. IsTrue (these n other z)) (sym (eqb-true q i (sym (same_numbers n q i) ∙ same))) there)
+    | inr had ↦ h q on had
+  ]
+
+module _ (n : ℕ) (region : List ℕ) (c a : List Cell) where
+  -- the stones of a chain are safe together, and may live together
+  beside_joined : (x y q : ℕ) → Joined n c y x → IsBeside n c x q → IsBeside n c y q
+  beside_joined x y q j near = (near.0, near.1, joined_on n c y x near.0 j near.2)
+
+  pub may_live_joined : (stones : Points) (x y : ℕ) → Joined n c y x → MayLive n region c a stones x → MayLive n region c a stones y
+  may_live_joined stones x y j (inl lasting) = inl (lasting.0, lasting.1, beside_joined x y lasting.0 j lasting.2)
+  may_live_joined stones x y j (inr two) = inr (near_areas n c a stones (IsBeside n c x) (IsBeside n c y) (λ q. beside_joined x y q j) two)
+
+  pub safe_joined : (stones : Points) (x y : ℕ) → Joined n c y x → IsSafe n region c a stones x → IsSafe n region c a stones y
+  safe_joined stones x y j (inl lasting) = inl (lasting.0, lasting.1, beside_joined x y lasting.0 j lasting.2)
+  safe_joined stones x y j (inr two) = inr (near_sets n c a stones (IsBeside n c x) (IsBeside n c y) (λ q. beside_joined x y q j) two)
+
+  -- a chain that is passed over, one that is safe, and one that is not
+  module _ (i : ℕ) (old marked : List Place) where
+    pub judged_before : (IsTrue (these n old i) → IsTrue (these n marked i)) → IsJudged n region c a i old marked old marked false
+    judged_before before = record {
+      same = λ e. refl;
+      marked = λ e q on held. inl held;
+      safe = λ e held. inl (before held);
+      within = λ p held. held;
+      fewer = λ e. absurd (cc e);
+      kept = λ e. absurd (cc e);
+    }
+
+    module _ (chain : List Place) (is : IsChainOf n c i chain) where
+      pub judged_safe : (more : List Place) → HasAtMost n chain marked more → IsSafe n region c a (these n old) i → IsJudged n region c a i old marked old more false
+      judged_safe more most safe = record {
+        same = λ e. refl;
+        marked = λ e q on held. elim (most q on held) [
+          | inl had ↦ inl had
+          | inr new ↦ inr (safe_joined (these n old) i q (joined_back n c i q ((is.joined q on).0 new)) safe)
+        ];
+        safe = λ e held. inr safe;
+        within = λ p held. held;
+        fewer = λ e. absurd (cc e);
+        kept = λ e. absurd (cc e);
+      }
+
+      pub judged_unsafe : (left : List Place) → IsWithout n chain old left → i < n * n → IsTrue (these n old i) → (MayLive n region c a (these n old) i → ⊥) → IsJudged n region c a i old marked left marked true
+      judged_unsafe left without on there dead = record {
+        same = λ e. absurd (cc e);
+        marked = λ e. absurd (cc e);
+        safe = λ e. absurd (cc e);
+        within = without.within;
+        fewer = λ e. without.fewer i on ((is.joined i on).1 (joined_self n c i)) there;
+        kept = λ e q q_on held may. without.kept q q_on (other q q_on may (these n chain q) refl) held;
+      }
+        where
+          other : (q : ℕ) → q < n * n → MayLive n region c a (these n old) q → (b : Bool) → these n chain q ≡ b → b ≡ false
+          other q q_on may true e = absurd (dead (may_live_joined (these n old) q i ((is.joined q q_on).0 e) may))
+          other q q_on may false e = refl
+
+module _ (n : ℕ) (region : List ℕ) (c a : List Cell) (old : List Place) where
+  -- after the points below i
+  pub record SweptSoFar (now marked : List Place) (has_changed : Bool) (i : ℕ) : Type 0 where
+    pub within : (p : Place) → IsTrue (holds_place now p) → IsTrue (holds_place old p)
+    pub fewer : IsTrue has_changed → length now < length old
+    pub same : IsFalse has_changed → now ≡ old
+    pub kept : (stones : Points) → ((x : ℕ) → IsTrue (stones x) → (x < n * n) × MayLive n region c a stones x)
+        → ((q : ℕ) → IsTrue (stones q) → IsTrue (these n old q)) → (q : ℕ) → IsTrue (stones q) → IsTrue (these n now q)
+    pub safe : IsFalse has_changed → (q : ℕ) → q < i → IsTrue (these n now q) → IsSafe n region c a (these n now) q
+    pub marked_safe : IsFalse has_changed → (q : ℕ) → q < n * n → IsTrue (these n marked q) → IsSafe n region c a (these n now) q
+
+  pub swept_none : (marked : List Place) → marked ≡ [] → SweptSoFar old marked false 0
+  swept_none marked none = record {
+    within = λ p h. h;
+    fewer = λ e. absurd (cc e);
+    same = λ e. refl;
+    kept = λ stones live into q is. into q is;
+    safe = λ e q low held. absurd (omega (arith, low));
+    marked_safe = λ e q on held. absurd (cc (held, none));
+  }
+
+  pub swept_kept : (now marked new new_marked : List Place) (has_changed : Bool) (i : ℕ) → i < n * n → IsJudged n region c a i now marked new new_marked false → SweptSoFar now marked has_changed i → SweptSoFar new new_marked has_changed (i + 1)
+  swept_kept now marked new new_marked has_changed i on judged h = subst (λ s. SweptSoFar s new_marked has_changed (i + 1)) (sym (judged.same refl)) (record {
+    within = h.within;
+    fewer = h.fewer;
+    same = h.same;
+    kept = h.kept;
+    safe = λ e q low held.
+        let split : (q < i) ⊎ (q ≡ i) = grind (arith, low) in
+        elim split [
+          | inl less ↦ h.safe e q less held
+          | inr here ↦ subst (IsSafe n region c a (these n now)) (sym here) (here_safe e (subst (λ z. IsTrue (these n now z)) here held))
+        ];
+    marked_safe = λ e q q_on held. elim (judged.marked refl q q_on held) [ inl had ↦ h.marked_safe e q q_on had | inr safe ↦ safe ];
+  })
+    where
+      here_safe : IsFalse has_changed → IsTrue (these n now i) → IsSafe n region c a (these n now) i
+      here_safe e held = elim (judged.safe refl held) [ inl had ↦ h.marked_safe e i on had | inr safe ↦ safe ]
+
+  pub swept_taken : (now marked new new_marked : List Place) (has_changed : Bool) (i : ℕ) → IsJudged n region c a i now marked new new_marked true → SweptSoFar now marked has_changed i → SweptSoFar new new_marked true (i + 1)
+  swept_taken now marked new new_marked has_changed i judged h = record {
+    within = λ p held. h.within p (judged.within p held);
+    fewer = λ e. few has_changed refl;
+    same = λ e. absurd (cc e);
+    kept = λ stones live into q is. judged.kept refl q (live q is).0 (h.kept stones live into q is) (may_live_more n region c a stones (these n now) q (h.kept stones live into) (live q is).1);
+    safe = λ e. absurd (cc e);
+    marked_safe = λ e. absurd (cc e);
+  }
+    where
+      few : (b : Bool) → has_changed ≡ b → length new < length old
+      few true e = let before = h.fewer e in omega (arith, judged.fewer refl, before)
+      few false e = let same : length now ≡ length old = ap length (h.same e) in omega (arith, judged.fewer refl, same)
+
+  pub swept_all : (now marked : List Place) (has_changed : Bool) (i : ℕ) → n * n ≤ i → SweptSoFar now marked has_changed i → IsDropped n region c a old now has_changed
+  swept_all now marked has_changed i all h = record {
+    within = h.within;
+    fewer = h.fewer;
+    kept = h.kept;
+    safe = λ e q low held. h.safe e q (omega (arith, low, all)) held;
+  }
+
+-- stones that live are on the board
+way_on_board : (n : ℕ) (c : List Cell) (own : Cell) (x r : ℕ) (rs : List ℕ) → r < n * n → IsWay n c own x r rs → x < n * n
+way_on_board n c own x r [] on w = subst (λ z. z < n * n) (sym w.1) on
+way_on_board n c own x r (s ∷ ss) on w = (adjacent_on_board n x s w.1).0
+
+beside_on : (n : ℕ) (c : List Cell) (x q : ℕ) → IsBeside n c x q → x < n * n
+beside_on n c x q near = way_on_board n c (cell_at c x) x near.0 near.2.0 (adjacent_on_board n q near.0 near.1).1 near.2.1
+
+pub live_on : (g : Game) (c : List Cell) (stones : Points) → Live g c stones → (q : ℕ) → IsTrue (stones q) → q < g.size * g.size
+live_on g c stones live q is = elim (live.safe q is) [
+  | inl lasting ↦ beside_on g.size c q lasting.0 lasting.2
+  | inr eyes ↦ beside_on g.size c q eyes.is_first.space.some_empty.0 (eyes.is_first.beside eyes.is_first.space.some_empty.0 eyes.is_first.space.some_empty.1)
+]
+
+-- after some sweeps
+pub record LivingSoFar (n : ℕ) (k : Colour) (region : List Place) (c : List Cell) (now : List Place) : Type 0 where
+  pub on_board : (p : Place) → IsTrue (holds_place now p) → IsOn n p
+  pub own : (q : ℕ) → IsTrue (these n now q) → cell_at c q ≡ Stone k
+  pub kept : (stones : Points) → Live (game_of n [] k region) c stones → (q : ℕ) → IsTrue (stones q) → IsTrue (these n now q)
+
+module _ (n : ℕ) (k : Colour) (region : List Place) (c a : List Cell) (cells : (q : ℕ) → q < n * n → cell_at a q ≡ area_cell k (cell_at c q)) where
+  pub living_first : (now : List Place) → HoldsThose n (λ q. same_cell (cell_at c q) (Stone k)) now → LivingSoFar n k region c now
+  living_first now those = record {
+    on_board = those.on_board;
+    own = λ q held. same_cell_eq (cell_at c q) (Stone k) (sym (those.holds q (place_on n q (those.on_board (place_of n q) held))) ∙ held);
+    kept = λ stones live q is. those.holds q (live_on (game_of n [] k region) c stones live q is) ∙ eq_same_cell (cell_at c q) (Stone k) (live.own q is);
+  }
+
+  may_live : (stones : Points) → Live (game_of n [] k region) c stones → (x : ℕ) → IsTrue (stones x) → (x < n * n) × MayLive n (map (number_on n) region) c a stones x
+  may_live stones live x is = (
+    live_on (game_of n [] k region) c stones live x is,
+    elim (live.safe x is) [
+      | inl lasting ↦ inl lasting
+      | inr eyes ↦ inr (two_areas n k c a cells stones live.own x eyes)
+    ],
+  )
+
+  pub living_more : (old now : List Place) (has_changed : Bool) → IsDropped n (map (number_on n) region) c a old now has_changed → LivingSoFar n k region c old → LivingSoFar n k region c now
+  living_more old now has_changed dropped h = record {
+    on_board = λ p held. h.on_board p (dropped.within p held);
+    own = λ q held. h.own q (dropped.within (place_of n q) held);
+    kept = λ stones live. dropped.kept stones (may_live stones live) (h.kept stones live);
+  }
+
+  pub living_all : (old now : List Place) → IsDropped n (map (number_on n) region) c a old now false → LivingSoFar n k region c now → AreLiving n k region c now
+  living_all old now dropped h = record {
+    on_board = h.on_board;
+    live = record {
+      own = h.own;
+      safe = λ q held. elim (dropped.safe refl q (place_on n q (h.on_board (place_of n q) held)) held) [
+        | inl lasting ↦ inl lasting
+        | inr two ↦ inr (two_eyes n k c a cells (these n now) q two)
+      ];
+    };
+    greatest = h.kept;
+  }
+
+-- without a stone of the colour none lives
+pub none_living : (n : ℕ) (k : Colour) (region : List Place) (c : List Cell) → ((q : ℕ) → q < n * n → cell_at c q ≢ Stone k) → AreLiving n k region c []
+none_living n k region c none = record {
+  on_board = λ p held. absurd (cc held);
+  live = record { own = λ q held. absurd (cc held); safe = λ q held. absurd (cc held) };
+  greatest = λ stones live q is. absurd (none q (live_on (game_of n [] k region) c stones live q is) (live.own q is));
+}
+
+-- so the targets live by their shape exactly if they are in the set
+pub pass_alive_by : (n : ℕ) (k : Colour) (targets region : List Place) (c : List Cell) (s : List Place) → AreLiving n k region c s → (b : Bool) → b ≡ list_all (holds_place s) targets → IsTrue b ↔ PassAlive (game_of n targets k region) c
+pass_alive_by n k targets region c s living b is = (
+  λ h. record {
+    stones = these n s;
+    live = with_targets (these n s) [] targets living.live;
+    targets = targets_hold n s living.on_board targets ∙ sym is ∙ h;
+  },
+  λ alive.
+      let smaller : Live (game_of n [] k region) c alive.stones = with_targets alive.stones targets [] alive.live in
+      is ∙ sym (targets_hold n s living.on_board targets) ∙ all_from (these n s) (map (number_on n) targets) (λ q m. living.greatest alive.stones smaller q (all_at alive.stones q (map (number_on n) targets) alive.targets m)),
+)
+  where
+    with_targets : (stones : Points) (ts us : List Place) → Live (game_of n ts k region) c stones → Live (game_of n us k region) c stones
+    with_targets stones ts us live = record { own = live.own; safe = live.safe }

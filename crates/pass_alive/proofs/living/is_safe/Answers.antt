@@ -1,0 +1,21 @@
+use Rattle.std.proofs.Common.{inl, inr}
+use Rattle.go_points.specs.Grid.{side_of}
+use Rattle.go_points.specs.Place.{number_of}
+use Rattle.pass_alive.specs.Sets.{these}
+use Rattle.pass_alive.proofs.Spaces.{safe_by_sets, areas_by_chain}
+use Rattle.pass_alive.proofs.living.is_safe.Goals as goal
+
+pub returns-else-is_lasting-clause-sound : goal.returns-else-is_lasting-clause-sound
+returns-else-is_lasting-clause-sound c held =
+    let cells = c.args.board.now in
+    let n = side_of cells in
+    inr (safe_by_sets n cells c.args.areas.now (these n c.args.stones.now) (number_of n c.args.point) c.in-Some.chain c.in-Some.ensures.chain (c.has_two_eyes.ensures.sound held))
+
+pub returns-else-is_lasting-clause-complete : goal.returns-else-is_lasting-clause-complete
+returns-else-is_lasting-clause-complete c may =
+    let cells = c.args.board.now in
+    let n = side_of cells in
+    elim may [
+      | inl lasting ↦ absurd (cc (c.is_lasting.ensures.1 lasting, c.if-is_lasting.false))
+      | inr two ↦ c.has_two_eyes.ensures.complete (areas_by_chain n cells c.args.areas.now (these n c.args.stones.now) (number_of n c.args.point) c.in-Some.chain c.in-Some.ensures.chain two)
+    ]

@@ -1,0 +1,4 @@
+pub mod Life
+pub mod Laws
+pub mod Sets
+pub mod Private

@@ -1,0 +1,2 @@
+-- Definitions for private calls. No public clause rests on them.
+pub mod Areas

@@ -1,0 +1,100 @@
+-- The areas between the stones of one colour, as the chains of another board.
+use Rattle.std.specs.Prelude.{◌≡◌, ◌≢◌, ℕ, ◌*◌, ◌<◌, ◌⊎◌, Bool, IsTrue, IsFalse, List, length, if◌then◌else◌}
+use Rattle.go_points.specs.declared.Colour.{Colour}
+use Rattle.go_points.specs.declared.Cell.{Cell}
+use Rattle.go_points.specs.declared.Cell.TheVariants.{Empty, Stone}
+use Rattle.go_points.specs.Grid.{opponent_of, same_cell, adjacent, cell_at, side_of}
+use Rattle.go_points.specs.Place.{Place}
+use Rattle.go_points.specs.Points.{holds_place}
+use Rattle.go_chains.specs.Joined.{Joined, IsChainOf, IsLibertyOf}
+use Rattle.pass_alive.specs.Life.{Points, IsBeside, Lasting}
+use Rattle.pass_alive.specs.Sets.{these}
+
+-- What that board holds at a point: nothing at a stone of the colour, and a stone of the other colour elsewhere.
+abbrev pub area_cell : Colour → Cell → Cell
+area_cell k x = (if same_cell x (Stone k) then Empty else Stone (opponent_of k))
+
+pub record AreAreas (k : Colour) (c a : List Cell) : Type 0 where
+  pub size : side_of a ≡ side_of c
+  pub cells : (q : ℕ) → q < side_of c * side_of c → cell_at a q ≡ area_cell k (cell_at c q)
+
+-- What the code needs of it: each empty point is in an area.
+pub record HasAreas (c a : List Cell) : Type 0 where
+  pub size : side_of a ≡ side_of c
+  pub free : (q : ℕ) → q < side_of c * side_of c → cell_at c q ≡ Empty → cell_at a q ≢ Empty
+
+-- The area of the point p is an eye: the stones around it are among these, and each of its points is near.
+pub record IsEyeArea (n : ℕ) (a : List Cell) (stones : Points) (near : ℕ → Type 0) (p : ℕ) : Type 0 where
+  pub walls : (r : ℕ) → r < n * n → IsLibertyOf n a p r → IsTrue (stones r)
+  pub beside : (q : ℕ) → q < n * n → Joined n a p q → near q
+
+-- Adjacent to a point of the set.
+abbrev pub IsNear : ℕ → Points → ℕ → Type 0
+IsNear n chain q = (r : ℕ) × IsTrue (adjacent n q r) × IsTrue (chain r)
+
+-- An empty point that is not among the known ones, and whose area, which is s, is an eye.
+pub record IsEyeOutside (n : ℕ) (c a : List Cell) (stones chain known : Points) (s : List Place) : Type 0 where
+  pub at : ℕ
+  pub on : at < n * n
+  pub empty : cell_at c at ≡ Empty
+  pub unknown : IsFalse (known at)
+  pub area : IsChainOf n a at s
+  pub eye : IsEyeArea n a stones (IsNear n chain) at
+
+-- There is none below i.
+abbrev pub NoEyeBelow : ℕ → List Cell → List Cell → Points → Points → Points → ℕ → Type 0
+NoEyeBelow n c a stones chain known i = (p : ℕ) → p < i → cell_at c p ≡ Empty → IsFalse (known p) → IsEyeArea n a stones (IsNear n chain) p → ⊥
+
+-- Two empty points of different areas, each of which is an eye.
+pub record TwoEyeAreas (n : ℕ) (c a : List Cell) (stones : Points) (near : ℕ → Type 0) : Type 0 where
+  pub first : ℕ
+  pub second : ℕ
+  pub first_on : first < n * n
+  pub second_on : second < n * n
+  pub first_empty : cell_at c first ≡ Empty
+  pub second_empty : cell_at c second ≡ Empty
+  pub first_eye : IsEyeArea n a stones near first
+  pub second_eye : IsEyeArea n a stones near second
+  pub apart : Joined n a first second → ⊥
+
+-- The same with the sets of their points, as the code finds them.
+pub record TwoEyeSets (n : ℕ) (c a : List Cell) (stones : Points) (near : ℕ → Type 0) : Type 0 where
+  pub areas : TwoEyeAreas n c a stones near
+  pub first_set : List Place
+  pub second_set : List Place
+  pub is_first : IsChainOf n a areas.first first_set
+  pub is_second : IsChainOf n a areas.second second_set
+
+-- The chain of the stone x has a lasting liberty, or two such areas; and the same with the sets.
+abbrev pub MayLive : ℕ → List ℕ → List Cell → List Cell → Points → ℕ → Type 0
+MayLive n region c a stones x = Lasting n region c x ⊎ TwoEyeAreas n c a stones (IsBeside n c x)
+
+abbrev pub IsSafe : ℕ → List ℕ → List Cell → List Cell → Points → ℕ → Type 0
+IsSafe n region c a stones x = Lasting n region c x ⊎ TwoEyeSets n c a stones (IsBeside n c x)
+
+-- One sweep: some of the stones are taken away, none of those that may live among themselves; if none is taken away, all are safe.
+pub record IsDropped (n : ℕ) (region : List ℕ) (c a : List Cell) (old new : List Place) (has_changed : Bool) : Type 0 where
+  pub within : (p : Place) → IsTrue (holds_place new p) → IsTrue (holds_place old p)
+  pub fewer : IsTrue has_changed → length new < length old
+  pub kept : (stones : Points) → ((x : ℕ) → IsTrue (stones x) → (x < n * n) × MayLive n region c a stones x)
+      → ((q : ℕ) → IsTrue (stones q) → IsTrue (these n old q)) → (q : ℕ) → IsTrue (stones q) → IsTrue (these n new q)
+  pub safe : IsFalse has_changed → (q : ℕ) → q < n * n → IsTrue (these n new q) → IsSafe n region c a (these n new) q
+
+-- The set without another set of points of the board.
+pub record IsWithout (n : ℕ) (other old new : List Place) : Type 0 where
+  pub within : (p : Place) → IsTrue (holds_place new p) → IsTrue (holds_place old p)
+  pub kept : (q : ℕ) → q < n * n → IsFalse (these n other q) → IsTrue (these n old q) → IsTrue (these n new q)
+  pub fewer : (q : ℕ) → q < n * n → IsTrue (these n other q) → IsTrue (these n old q) → length new < length old
+
+-- The set with no more than another set.
+abbrev pub HasAtMost : ℕ → List Place → List Place → List Place → Type 0
+HasAtMost n other old new = (q : ℕ) → q < n * n → IsTrue (these n new q) → IsTrue (these n old q) ⊎ IsTrue (these n other q)
+
+-- One chain is judged, that of the stone i: it is marked as safe, or its stones are taken away.
+pub record IsJudged (n : ℕ) (region : List ℕ) (c a : List Cell) (i : ℕ) (old old_marked new new_marked : List Place) (has_dropped : Bool) : Type 0 where
+  pub same : IsFalse has_dropped → new ≡ old
+  pub marked : IsFalse has_dropped → (q : ℕ) → q < n * n → IsTrue (these n new_marked q) → IsTrue (these n old_marked q) ⊎ IsSafe n region c a (these n old) q
+  pub safe : IsFalse has_dropped → IsTrue (these n old i) → IsTrue (these n old_marked i) ⊎ IsSafe n region c a (these n old) i
+  pub within : (p : Place) → IsTrue (holds_place new p) → IsTrue (holds_place old p)
+  pub fewer : IsTrue has_dropped → length new < length old
+  pub kept : IsTrue has_dropped → (q : ℕ) → q < n * n → IsTrue (these n old q) → MayLive n region c a (these n old) q → IsTrue (these n new q)

@@ -1,3 +1,4 @@
 pub mod Sides
 pub mod First
 pub mod Rule
+pub mod Shape

@@ -1,5 +1,6 @@
 //! The groups of a position, one after another.
 
+use crate::by_shape::{by_shape_line, by_shape_object, lives_anywhere};
 use crate::group::Group;
 use crate::json::judged_object;
 use crate::lines::{first_line, open_line};
@@ -123,6 +124,9 @@ fn text_of(
     // The notes of a run are about its groups, not about their questions.
     let mut silent: Vec<u8> = Vec::new(alloc);
     let is_json = request.form == Form::Json;
+    if lives_anywhere(group.problem.colouring(), group.target, group.defender) {
+        return said_by_shape(alloc, group, budget, is_json);
+    }
     let quick = Budget {
         steps: (budget.steps / QUICK_SHARE).max(1),
         table: budget.table,
@@ -135,6 +139,19 @@ fn text_of(
     let mut table = Table::new(alloc, budget, false);
     let judged = judge(alloc, group, &mut table, false, &mut silent)?;
     said_of(alloc, group, &table, &judged, is_json)
+}
+
+/// The line or the object of a group that lives by its shape.
+fn said_by_shape(
+    alloc: Global,
+    group: &Group,
+    budget: Budget,
+    is_json: bool,
+) -> Result<String, AllocError> {
+    if is_json {
+        return by_shape_object(alloc, group, &Table::new(alloc, budget, false), None);
+    }
+    by_shape_line(alloc, group)
 }
 
 /// The line or the object of a group. A group about which nothing was decided is open.

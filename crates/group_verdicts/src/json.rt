@@ -10,7 +10,7 @@ use pn_search::Cause;
 use std::alloc::{AllocError, Global};
 
 /// The letter of a colour.
-fn letter(colour: Colour) -> char {
+pub(crate) fn letter(colour: Colour) -> char {
     match colour {
         Colour::Black => 'B',
         Colour::White => 'W',
@@ -78,7 +78,7 @@ pub(crate) fn found_object(
 }
 
 /// The beginning of an object, with its target.
-fn begun(alloc: Global, group: &Group) -> Result<String, AllocError> {
+pub(crate) fn begun(alloc: Global, group: &Group) -> Result<String, AllocError> {
     let mut text = String::new(alloc);
     text.push_str("{\"target\":\"")?;
     push_point(&mut text, group.position.colouring().size(), group.target)?;
@@ -110,7 +110,7 @@ fn push_named_winner(
 }
 
 /// Appends all questions and the end of the object.
-fn push_rows(text: &mut String, group: &Group, table: &Table) -> Result<(), AllocError> {
+pub(crate) fn push_rows(text: &mut String, group: &Group, table: &Table) -> Result<(), AllocError> {
     text.push_str(",\"questions\":[")?;
     let mut is_first = true;
     for row in table.rows.as_slice() {

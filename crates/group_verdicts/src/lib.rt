@@ -5,6 +5,7 @@
 
 mod all_groups;
 mod asked;
+mod by_shape;
 mod claims;
 mod first_procedure;
 mod group;

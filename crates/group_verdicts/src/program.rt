@@ -1,6 +1,7 @@
 //! A run of the program: from its words and its input to its answer.
 
 use crate::all_groups::all_groups;
+use crate::by_shape::{by_shape_lines, by_shape_object, lives_anywhere};
 use crate::claims::claims;
 use crate::group::Group;
 use crate::json::{found_object, judged_object};
@@ -221,6 +222,9 @@ fn answered<N: Write>(
     notes: &mut N,
 ) -> Result<Output, AllocError> {
     let mut table = Table::new(alloc, budget, request.is_told);
+    if lives_anywhere(group.problem.colouring(), group.target, group.defender) {
+        return answered_by_shape(alloc, request, group, &table);
+    }
     match request.first {
         Some(first) => {
             let finding = found(alloc, group, &mut table, first, request.is_quick, notes)?;
@@ -231,6 +235,20 @@ fn answered<N: Write>(
             answered_both(alloc, request.form, group, &table, &judged)
         }
     }
+}
+
+/// The answer if the group lives by its shape, so that nothing was asked.
+fn answered_by_shape(
+    alloc: Global,
+    request: &Request,
+    group: &Group,
+    table: &Table,
+) -> Result<Output, AllocError> {
+    if request.form == Form::Json {
+        return text_of(by_shape_object(alloc, group, table, request.first)?);
+    }
+    let lines = by_shape_lines(alloc, group, request.first)?;
+    in_form(alloc, request.form, group, table, &[], lines)
 }
 
 /// The answer if only one side was asked about.

@@ -247,7 +247,7 @@ may_ask Check old new bytes given few = tt
 may_ask (Within turns nodes) old new bytes given few = (bytes, given, few)
 may_ask Audit old new bytes given few = (bytes, given, few)
 may_ask (Solve steps table proof lift) old new bytes given few = (bytes, given, few)
-may_ask Gtp old new bytes given few = tt
+may_ask Gtp old new bytes given few = (bytes, given, omega (arith, few))
 
 pub may_ask_nothing : (command : Option Command) (old : Option (List ℕ)) → MayAsk command old old
 may_ask_nothing None old = Keeps-refl old
@@ -255,4 +255,4 @@ may_ask_nothing (Some Check) old = tt
 may_ask_nothing (Some (Within turns nodes)) old = ([], Consumes-nil old, omega arith)
 may_ask_nothing (Some Audit) old = ([], Consumes-nil old, omega arith)
 may_ask_nothing (Some (Solve steps table proof lift)) old = ([], Consumes-nil old, omega arith)
-may_ask_nothing (Some Gtp) old = tt
+may_ask_nothing (Some Gtp) old = ([], Consumes-nil old, omega arith)

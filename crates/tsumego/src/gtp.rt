@@ -3,7 +3,7 @@
 ghost use Rattle.std.specs.Prelude.{Some};
 ghost use Rattle.tsumego.specs.Devices.{HasFailed, ReadFails};
 ghost use Rattle.tsumego.specs.Outcome.{EndsOn, RanOn};
-ghost use Rattle.tsumego_replies.specs.Bounds.{MayAsk};
+ghost use Rattle.tsumego_replies.specs.Asking.{MayAsk};
 
 use crate::answer::{write_all, write_text};
 use crate::counting::Counting;

@@ -13,10 +13,10 @@ use Rattle.cert_check.specs.Body.{Why}
 use Rattle.cert_check.specs.Verdict.{Verdict, verdict, accepted, rejected}
 use Rattle.cert_check.specs.Private.Machine.{Machine, begun, Phase, header, opening, listing_had, listing_not, node_due, reply_due, done, goes_on, stops, taken, ended, ended_at, after_step, verdict_from}
 use Rattle.cert_check.specs.Parts.{line_values}
-use Rattle.cert_check.specs.Checks.{Answers, Accepts, RejectsAt, FailsAt, IsReached}
+use Rattle.cert_check.specs.Checks.{Answers, Accepts, AsksTo, RejectsAt, FailsAt, IsReached}
 use Rattle.cert_check.specs.Private.Heard.{Heard}
 use Rattle.cert_check.proofs.Machines.{lines_judged}
-use Rattle.cert_check.proofs.Taking.{took_more, one_more}
+use Rattle.cert_check.proofs.Taking.{asks_before, asks_there, took_more, one_more}
 
 pub either_way : {F : Type 0} (o : Option F) (P : Type 0) → (o ≡ None → P) → OnSome o P → P
 either_way None P f h = f refl
@@ -102,3 +102,10 @@ module _ {S : Type 0} (gives : S → Result (Option Line) SourceFault → S → 
         behind = at ∙ put;
         faultless = λ k w said. let here = ended_behind m.place k m.phase w (sym (heard_all t m h) ∙ said) in omega (arith, here, put);
       }
+
+  -- the source was not asked for a line after this one
+  pub heard_asks : (t : S) (m : Machine) (p : ℕ) → Heard gives number n q s t m → p ≡ m.place → AsksTo gives s p t
+  heard_asks t m p h at = asks_before gives n s t h.taken p h.took (at ∙ h.placed)
+
+  pub heard_asks_there : (t u : S) (m : Machine) (r : Result (Option Line) SourceFault) (p : ℕ) → Heard gives number n q s t m → gives t r u → p ≡ m.place → AsksTo gives s p u
+  heard_asks_there t u m r p h one at = asks_there gives n s t u h.taken r p h.took one (at ∙ h.placed)

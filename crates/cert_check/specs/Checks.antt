@@ -2,7 +2,9 @@
 --     Took gives n s ls t      calls one after another gave these lines of the program, from the source s of size n on, and left t
 --     Answers gives t r      a call may give this answer there
 --     Accepts, RejectsAt, FailsAt, IsReached      the answers, by the lines taken
-use Rattle.std.specs.Prelude.{◌≡◌, ℕ, suc, ◌+◌, ◌^◌, ◌<◌, ◌≤◌, ◌⊎◌, List, ◌++◌, length, Option, None, Result, Ok, Err}
+--     Asked gives s k t      k calls one after another took the source from s to t
+--     AsksTo gives s place t      the same, for no more calls than the number of this line
+use Rattle.std.specs.Prelude.{◌≡◌, ℕ, zero, suc, ◌+◌, ◌^◌, ◌<◌, ◌≤◌, ◌⊎◌, List, ◌++◌, length, Option, None, Result, Ok, Err}
 use Rattle.go_points.specs.declared.Colour.{Colour}
 use Rattle.target_game.specs.State.{GameProblem}
 use Rattle.proof_cert.specs.Lines.{Line}
@@ -56,6 +58,13 @@ pub record IsReached {S : Type 0} (gives : S → Result (Option Line) SourceFaul
   pub took : Took gives n s taken left
   pub behind : place ≡ suc (length taken)
   pub faultless : (p : ℕ) (w : Why) → verdict q (line_values q.game.size taken) ≡ rejected p w → length taken < p
+
+abbrev pub Asked : {S : Type 0} → (S → Result (Option Line) SourceFault → S → Type 0) → S → ℕ → S → Type 0
+Asked gives s zero t = s ≡ t
+Asked {S} gives s (suc k) t = (r : Result (Option Line) SourceFault) × (u : S) × gives s r u × Asked gives u k t
+
+abbrev pub AsksTo : {S : Type 0} → (S → Result (Option Line) SourceFault → S → Type 0) → S → ℕ → S → Type 0
+AsksTo gives s place t = (k : ℕ) × (k ≤ place) × Asked gives s k t
 
 -- Over some bytes and a reader the answers are those of the verdict on all the lines of those bytes and the reader's.
 pub record ReadersJudged : Type 0 where

@@ -6,7 +6,7 @@ ghost use Rattle.target_game.specs.Wins.{Wins};
 ghost use Rattle.cert_check.specs.declared.reject.Why.TheVariants.{Memory, Read};
 ghost use Rattle.cert_check.specs.Body.{Why as SpecWhy};
 ghost use Rattle.cert_check.specs.Stage.{why_value};
-ghost use Rattle.cert_check.specs.Checks.{Accepts, RejectsAt, FailsAt, IsReached};
+ghost use Rattle.cert_check.specs.Checks.{Accepts, AsksTo, RejectsAt, FailsAt, IsReached};
 
 use crate::judge::Judge;
 use crate::reject::{Reject, Why};
@@ -19,8 +19,8 @@ use target_game::Problem;
 const MOST_LINES: u64 = 9_223_372_036_854_775_807;
 
 /// Who wins the problem according to the claim whose lines the source gives, or the first fault. Lines are taken until one is
-/// faulty or the source has ended, and none is held. If memory is refused or a line cannot be read, that is the fault, and no line
-/// before it is faulty.
+/// faulty or the source has ended, and none is held: the source is not asked for a line after the faulty one. If memory is refused
+/// or a line cannot be read, that is the fault, and no line before it is faulty.
 pub fn check<S: NodeSource>(
     alloc: Global,
     problem: &Problem,
@@ -37,6 +37,8 @@ pub fn check<S: NodeSource>(
     ensures memory { S.fault source.old ≡ None
         → IfErr result (λ e. e.why ≡ Memory
         → IsReached S.gives (S.size source.old) problem.now source.old e.place) }
+    ensures asked { S.fault source.old ≡ None
+        → IfErr result (λ e. AsksTo S.gives source.old e.place source.new) }
 {
     prove!(problem.place() < problem.history().len());
     let Ok(mut judge) = Judge::new(alloc, problem) else {

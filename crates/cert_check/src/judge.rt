@@ -192,6 +192,7 @@ impl<'p> Judge<'p> {
         ensures err { IfErr result (λ e. (why : SpecWhy)
             → why_value self.now.problem.now.game.size e.why ≡ Some why
             → ended (machine_of self.now) ≡ rejected e.place why) }
+        ensures there { IfErr result (λ e. e.place ≡ self.now.place) }
         ensures judged { IfErr result (λ e. IsJudged e.why) }
         ensures heard { IfErr result (λ e. e.why ≡ Memory → ⊥) }
     {

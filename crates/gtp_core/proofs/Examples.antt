@@ -1,6 +1,6 @@
 -- Lines and sessions of GTP, computed by the definitions.
-use Rattle.std.proofs.Common.{◌≡◌, ℕ, List, [], ◌∷◌, ◌++◌, codes, Some, None, Ok, Err, refl}
-use Rattle.go_points.specs.declared.Colour.TheVariants.{Black, White}
+use Rattle.std.proofs.Common.{◌≡◌, [], ◌∷◌, ◌++◌, codes, Some, Ok, Err, refl}
+use Rattle.go_points.specs.declared.Colour.TheVariants.{Black}
 use Rattle.go_points.specs.declared.vertex.Vertex.TheVariants as vertex
 use Rattle.gtp_core.specs.declared.command.Command.TheVariants as command
 use Rattle.gtp_core.specs.declared.refusal.Refusal.TheVariants as refusal

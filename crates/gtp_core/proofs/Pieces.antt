@@ -4,7 +4,7 @@ use Rattle.std.proofs.lemmas.Bool.{cases_lt}
 use Rattle.std.proofs.lemmas.List.{append-nil, length-append, length-take-le, take_all, take-append-le}
 use Rattle.std.proofs.KnownBytes.{Consumes-trans}
 use Rattle.gtp_core.specs.declared.input.Ending.TheVariants.{LineFeed}
-use Rattle.gtp_core.specs.Private.Taking.{Bounded, CannotGoOn, Gives, kept, IsRawLine}
+use Rattle.gtp_core.specs.Private.Taking.{Bounded, Gives, Stops, kept, IsRawLine}
 use Rattle.gtp_core.specs.Lines.{with_byte, parted_at, whole_words, words_of}
 use Rattle.gtp_core.specs.Private.Pieces.{HasNone, IsAtSpace}
 
@@ -68,12 +68,13 @@ gives_all old mid new xs ys h k =
     let a = h.1 in let b = k.1 in
     (Consumes-trans old.left mid.left new.left xs ys h.0 k.0, omega (arith, a, b, length-append xs ys))
 
--- what can go on no further could not after a part more
-pub no_further : (failed : Type 0) (old new : Bounded) (xs : List ℕ) → Gives old new xs → CannotGoOn failed new → CannotGoOn failed old
-no_further failed old new xs h (inl known) = inl known
-no_further failed old new xs h (inr (bytes, left, consumed, long)) =
+-- what stops at once stops after the bytes that were taken before
+pub stops_after : (failed : Type 0) (held : List ℕ) (old mid new : Bounded) (xs : List ℕ) → Gives old mid xs → Stops failed held mid new [] → Stops failed held old new xs
+stops_after failed held old mid new xs h (inl (known, none, given)) =
+    inl (known, none, subst (Gives old new) (append-nil xs) (gives_all old mid new xs [] h given))
+stops_after failed held old mid new xs h (inr (b, consumed, full)) =
     let a = h.1 in
-    inr (xs ++ bytes, left, Consumes-trans old.left new.left left xs bytes h.0 consumed, omega (arith, a, long, length-append xs bytes))
+    inr (b, Consumes-trans old.left mid.left new.left xs (b ∷ []) h.0 consumed, omega (arith, a, full))
 
 -- a byte more of a raw line
 pub line_more : (old left new : Bounded) (items next : List ℕ) (b : ℕ) → (line : List ℕ) × HasNone 10 line × (items ≡ kept line) × Gives old left line → nat_eq b 10 ≡ false

@@ -1,21 +1,21 @@
 -- Runs, line by line, over a reader and a writer.
-use Rattle.std.proofs.Common.{◌≡◌, ℕ, ◌+◌, ◌<◌, Bool, true, false, IsTrue, codes, cond, nat_eq, lt-ltb, List, [], ◌∷◌, ◌++◌, length, Option, None, Some, ◌⊎◌, inl, inr, refl, sym, ap, ◌∙◌, subst, arith, append_assoc, append-nil}
+use Rattle.std.proofs.Common.{◌≡◌, ℕ, ◌+◌, ◌<◌, ◌≤◌, Bool, true, false, IsTrue, codes, cond, lt-ltb, List, [], ◌∷◌, ◌++◌, length, take, Option, None, Some, ◌⊎◌, inl, inr, refl, sym, ap, ◌∙◌, subst, arith, append_assoc, append-nil}
 use Rattle.std.proofs.lemmas.Bool.{cases_lt}
-use Rattle.std.proofs.lemmas.List.{length-append, length-take-le, take_all}
-use Rattle.std.specs.Io.KnownBytes.{Consumes, IsAtEnd}
+use Rattle.std.proofs.lemmas.List.{length-append, length-take-le, take_all, take-append-le}
+use Rattle.std.specs.Io.KnownBytes.{Consumes, IsAtEnd, prepend_known}
 use Rattle.std.proofs.KnownBytes.{Appends-nil, Appends-trans, Consumes-nil, Consumes-trans}
 use Rattle.byte_writer.specs.Taken.{TakesPart}
 use Rattle.proof_cert.specs.Streamed.{Tells}
 use Rattle.gtp_core.specs.declared.end.GtpEnd.TheVariants.{Read, Write}
 use Rattle.gtp_core.specs.declared.input.Ending.{Ending}
 use Rattle.gtp_core.specs.declared.input.Ending.TheVariants.{LineFeed, End}
-use Rattle.gtp_core.specs.Lines.{bad_line, request_of, request_with, cleaned, words_of, raw_lines, with_byte}
+use Rattle.gtp_core.specs.Lines.{bad_line, request_of, request_with, cleaned, words_of, raw_lines}
 use Rattle.gtp_core.specs.Private.Pieces.{HasNone}
 use Rattle.gtp_core.specs.Session.{GtpSession}
 use Rattle.gtp_core.specs.Words.{failure}
 use Rattle.gtp_core.specs.Serving.{Output, needs_memory, reply, last_reply, Answers, HadNoMemory, Serves}
-use Rattle.gtp_core.specs.Runs.{GoesThrough, IsRun, first_session, input_limit, IsReadTo, HasRun, HasStoppedOn}
-use Rattle.gtp_core.specs.Private.Taking.{Bounded, CannotGoOn, kept, IsRawLine, IsServed, IsPartServed, IsUnderWay}
+use Rattle.gtp_core.specs.Runs.{GoesThrough, IsRun, first_session, input_limit, block_limit, IsReadTo, EndsWithLine, AsksWithin, HasRun, HasStoppedOn}
+use Rattle.gtp_core.specs.Private.Taking.{Bounded, HeldInput, bounded, StopsInLine, kept, IsRawLine, IsServed, IsPartServed, IsUnderWay}
 use Rattle.gtp_core.proofs.Pieces.{parted_one, parted_more}
 
 -- one line more
@@ -52,11 +52,11 @@ pub serves_kept : (s : GtpSession) (line : List ℕ) (out : Output) (t : GtpSess
 serves_kept s line out t h = subst (λ r. Answers s r out t ⊎ HadNoMemory s r out t) (kept_request line) h
 
 -- the bytes that a reader has left, where it tells them
-left_bytes : Option (List ℕ) → List ℕ
+pub left_bytes : Option (List ℕ) → List ℕ
 left_bytes None = []
 left_bytes (Some xs) = xs
 
-tells_all : (told left : Option (List ℕ)) (used : List ℕ) → Consumes told left used → Tells told (used ++ left_bytes left)
+pub tells_all : (told left : Option (List ℕ)) (used : List ℕ) → Consumes told left used → Tells told (used ++ left_bytes left)
 unfolding left_bytes
 tells_all None left used c = tt
 tells_all (Some x) None used c = absurd c
@@ -67,15 +67,26 @@ unfolding left_bytes
 none_left None e = refl
 none_left (Some xs) e = e
 
--- there is always a line
-some_line : (xs : List ℕ) → (l : List ℕ) × (ls : List (List ℕ)) × (raw_lines xs ≡ l ∷ ls)
-some_line [] = ([], [], refl)
-some_line (c ∷ cs) = go (nat_eq c 10) (some_line cs)
-  where
-    go : (b : Bool) → (l : List ℕ) × (ls : List (List ℕ)) × (raw_lines cs ≡ l ∷ ls)
-        → (l : List ℕ) × (ls : List (List ℕ)) × (elim b [ true ↦ [] ∷ raw_lines cs | false ↦ with_byte c (raw_lines cs) ] ≡ l ∷ ls)
-    go true rest = ([], raw_lines cs, refl)
-    go false (l, ls, is) = (c ∷ l, ls, ap (with_byte c) is)
+-- what was used and what is held were taken from the reader
+taken_with : (told left : Option (List ℕ)) (held used : List ℕ) → Consumes told (prepend_known held left) used → Consumes told left (used ++ held)
+taken_with None left held used c = tt
+taken_with (Some x) None held used c = absurd c
+taken_with (Some x) (Some y) held used c = c ∙ sym (append_assoc used held y)
+
+end_of_reader : (left : Option (List ℕ)) (held : List ℕ) → IsAtEnd (prepend_known held left) → IsAtEnd left
+end_of_reader None held e = tt
+end_of_reader (Some []) held e = refl
+end_of_reader (Some (y ∷ ys)) held e = absurd (let long = length-append held (y ∷ ys) in let none = ap length e in omega (arith, long, none))
+
+-- nothing was taken
+pub asks_nothing : (told : Option (List ℕ)) → AsksWithin told told
+asks_nothing told = ([], Consumes-nil told, omega arith)
+
+-- no more was taken than a byte past the limit, and what is held
+asks_within : (told left : Option (List ℕ)) (held used : List ℕ) → Consumes told (prepend_known held left) used → length used ≤ input_limit + 1 → length held < block_limit → AsksWithin told left
+asks_within told left held used c within few =
+    let long = length-append used held in
+    (used ++ held, taken_with told left held used c, omega (arith, long, within, few))
 
 room_left : (used more : List ℕ) (room new : ℕ) → length used + room ≡ input_limit → length more + new ≡ room → length (used ++ more) + new ≡ input_limit
 room_left used more room new h k = omega (arith, h, k, length-append used more)
@@ -92,7 +103,14 @@ begins told old left is room = record {
   through = (refl, refl);
 }
 
-module _ (told : Option (List ℕ)) (left mid : Bounded) (old now : Option (List ℕ)) (s : GtpSession) (run : IsUnderWay told left old now s) where
+module _ (told : Option (List ℕ)) (left : Bounded) (input : HeldInput) (rest : Option (List ℕ)) (old now : Option (List ℕ)) (s : GtpSession) (run : IsUnderWay told left old now s) where
+  abbrev mid : Bounded
+  mid = bounded input rest
+
+  -- the bytes that were used, with those of a part more
+  used_more : (more : List ℕ) → Consumes left.left mid.left more → Consumes told mid.left (run.used ++ more)
+  used_more more taken = Consumes-trans told left.left mid.left run.used more run.consumed taken
+
   -- a line that a line feed ended
   fed : (line more : List ℕ) → HasNone 10 line → raw_lines ((run.used ++ (line ++ 10 ∷ [])) ++ more) ≡ (run.front ++ line ∷ []) ++ raw_lines more
   fed line more none =
@@ -111,7 +129,7 @@ module _ (told : Option (List ℕ)) (left mid : Bounded) (old now : Option (List
         used = run.used ++ (line ++ 10 ∷ []);
         front = run.front ++ line ∷ [];
         parted = λ more. fed line more raw.1;
-        consumed = Consumes-trans told left.left mid.left run.used (line ++ 10 ∷ []) run.consumed raw.3.0;
+        consumed = used_more (line ++ 10 ∷ []) raw.3.0;
         spent = room_left run.used (line ++ 10 ∷ []) left.room mid.room run.spent raw.3.1;
         written = run.written ++ bytes;
         appended = Appends-trans old now new run.written bytes run.appended served.2;
@@ -136,7 +154,7 @@ module _ (told : Option (List ℕ)) (left mid : Bounded) (old now : Option (List
         line = line;
         is = raw.2;
         bytes = (run.used ++ (line ++ 10 ∷ [])) ++ more;
-        tells = tells_all told mid.left (run.used ++ (line ++ 10 ∷ [])) (Consumes-trans told left.left mid.left run.used (line ++ 10 ∷ []) run.consumed raw.3.0);
+        tells = tells_all told mid.left (run.used ++ (line ++ 10 ∷ [])) (used_more (line ++ 10 ∷ []) raw.3.0);
         behind = raw_lines more;
         parted = fed line more raw.1 ∙ append_assoc run.front (line ∷ []) (raw_lines more);
         last = λ h. absurd (cc h);
@@ -147,14 +165,25 @@ module _ (told : Option (List ℕ)) (left mid : Bounded) (old now : Option (List
         line = line;
         is = raw.2;
         bytes = run.used ++ line;
-        tells = subst (Tells told) (ap (λ xs. (run.used ++ line) ++ xs) (none_left mid.left raw.4) ∙ append-nil (run.used ++ line)) (tells_all told mid.left (run.used ++ line) (Consumes-trans told left.left mid.left run.used line run.consumed raw.3.0));
+        tells = subst (Tells told) (ap (λ xs. (run.used ++ line) ++ xs) (none_left mid.left raw.4) ∙ append-nil (run.used ++ line)) (tells_all told mid.left (run.used ++ line) (used_more line raw.3.0));
         behind = [];
         parted = run.parted line ∙ ap (λ ls. run.front ++ ls) (parted_one 10 line raw.1);
         last = λ h. refl;
       }
 
+  -- no more was asked for than the line and what is held
+  pub asks_for_line : (front : List ℕ) (e : Ending) → IsRawLine left mid front e → length input.held < block_limit → AsksWithin told rest
+  asks_for_line front LineFeed raw few =
+      let line = raw.0 in
+      let spent = room_left run.used (line ++ 10 ∷ []) left.room mid.room run.spent raw.3.1 in
+      asks_within told rest input.held (run.used ++ (line ++ 10 ∷ [])) (used_more (line ++ 10 ∷ []) raw.3.0) (omega (arith, spent)) few
+  asks_for_line front End raw few =
+      let line = raw.0 in
+      let spent = room_left run.used line left.room mid.room run.spent raw.3.1 in
+      asks_within told rest input.held (run.used ++ line) (used_more line raw.3.0) (omega (arith, spent)) few
+
   -- the session ends with the input, or with a line
-  pub ends_with_input : (front : List ℕ) (new : Option (List ℕ)) (t : GtpSession) → IsRawLine left mid front End → IsServed s front true now new t → HasRun told old new
+  pub ends_with_input : (front : List ℕ) (new : Option (List ℕ)) (t : GtpSession) → IsRawLine left mid front End → IsServed s front true now new t → HasRun told rest old new
   ends_with_input front new t raw served =
       let k = taken front End raw in
       let bytes = served.0 in
@@ -165,10 +194,34 @@ module _ (told : Option (List ℕ)) (left mid : Bounded) (old now : Option (List
         Appends-trans old now new run.written bytes run.appended served.2,
         subst (λ ls. IsRun first_session ls (run.written ++ bytes)) (sym (k.parted ∙ ap (λ ls. run.front ++ k.line ∷ ls) (k.last refl)))
             (through_is_run first_session (run.front ++ k.line ∷ []) (run.written ++ bytes) t (through_more first_session run.front run.written s k.line bytes t run.through serves)),
+        inl (end_of_reader rest input.held raw.4),
       )
 
-  pub ends_with_line : (front : List ℕ) (e : Ending) (new : Option (List ℕ)) (t : GtpSession) → IsRawLine left mid front e → IsServed s front false now new t → HasRun told old new
-  ends_with_line front e new t raw served =
+  -- if a line feed ended the last line, no more was asked for than what is held
+  stops_at : (front : List ℕ) (e : Ending) (bytes : List ℕ) (t : GtpSession) → IsRawLine left mid front e → Serves s front (last_reply bytes) t → length input.held < block_limit
+      → IsAtEnd rest ⊎ EndsWithLine told rest (run.written ++ bytes)
+  stops_at front End bytes t raw served few = inl (end_of_reader rest input.held raw.4)
+  stops_at front LineFeed bytes t raw served few =
+      let line = raw.0 in
+      inr (record {
+        front = run.front;
+        line = line;
+        used = run.used ++ (line ++ 10 ∷ []);
+        parted = ap raw_lines (sym (append-nil (run.used ++ (line ++ 10 ∷ [])))) ∙ fed line [] raw.1 ∙ append_assoc run.front (line ∷ []) ([] ∷ []);
+        before = run.written;
+        last = s;
+        through = run.through;
+        bytes = bytes;
+        new = t;
+        ends = serves_kept s line (last_reply bytes) t (subst (λ l. Serves s l (last_reply bytes) t) raw.2 served);
+        whole = refl;
+        ahead = input.held;
+        few = few;
+        taken = taken_with told rest input.held (run.used ++ (line ++ 10 ∷ [])) (used_more (line ++ 10 ∷ []) raw.3.0);
+      })
+
+  pub ends_with_line : (front : List ℕ) (e : Ending) (new : Option (List ℕ)) (t : GtpSession) → IsRawLine left mid front e → IsServed s front false now new t → length input.held < block_limit → HasRun told rest old new
+  ends_with_line front e new t raw served few =
       let k = taken front e raw in
       let bytes = served.0 in
       let serves : Serves s k.line (last_reply bytes) t = serves_kept s k.line (last_reply bytes) t (subst (λ l. Serves s l (last_reply bytes) t) k.is served.1) in (
@@ -177,40 +230,60 @@ module _ (told : Option (List ℕ)) (left mid : Bounded) (old now : Option (List
         k.tells,
         Appends-trans old now new run.written bytes run.appended served.2,
         subst (λ ls. IsRun first_session ls (run.written ++ bytes)) (sym k.parted) (ended_is_run first_session run.front run.written s k.line k.behind bytes t run.through serves),
+        stops_at front e bytes t raw served.1 few,
       )
 
-  -- the lines that had ended, where no more may be taken
-  read_to : (written more : List ℕ) → written ≡ run.written → IsReadTo (run.used ++ more) written
-  read_to written more is =
-      let next = some_line more in
-      record {
-        front = run.front;
-        line = next.0;
-        behind = next.1;
-        parted = run.parted more ∙ ap (λ ls. run.front ++ ls) next.2;
-        last = s;
-        through = subst (λ w. GoesThrough first_session run.front w s) (sym is) run.through;
-      }
+  -- the replies to the lines that had ended, where the bytes after them have no line feed
+  read_to : (all line : List ℕ) → HasNone 10 line → take input_limit all ≡ run.used ++ line → IsReadTo all run.written
+  read_to all line none is = record {
+    front = run.front;
+    line = line;
+    parted = ap raw_lines is ∙ run.parted line ∙ ap (λ ls. run.front ++ ls) (parted_one 10 line none);
+    last = s;
+    through = run.through;
+  }
 
   -- a read failed, or the input is too long
-  pub read_failed : (read write : Type 0) → CannotGoOn read left → HasStoppedOn read write Read told old now
-  read_failed read write (inl known) =
-      let more = left_bytes left.left in
-      (run.used ++ more, run.written, tells_all told left.left run.used run.consumed, run.appended, read_to run.written more refl, inl known)
-  read_failed read write (inr (bytes, after, consumed, long)) =
-      let more = bytes ++ left_bytes after in
-      let all = append_assoc run.used bytes (left_bytes after) in
-      let spent = run.spent in (
-        run.used ++ more,
+  pub read_failed : (read write : Type 0) → StopsInLine read input.held left mid → HasStoppedOn read write Read told rest old now
+  read_failed read write (line, none, inl (known, empty, given)) =
+      let spent = room_left run.used line left.room mid.room run.spent given.1 in
+      let used = run.used ++ line in (
+        used,
         run.written,
-        subst (Tells told) all (tells_all told after (run.used ++ bytes) (Consumes-trans told left.left after run.used bytes run.consumed consumed)),
+        subst (Consumes told rest) (ap (λ xs. used ++ xs) empty ∙ append-nil used) (taken_with told rest input.held used (used_more line given.0)),
         run.appended,
-        read_to run.written more refl,
-        inr (omega (arith, spent, long, length-append run.used more, length-append bytes (left_bytes after))),
+        read_to used line none (take_all input_limit used (omega (arith, spent))),
+        inl known,
+      )
+  read_failed read write (line, none, inr (b, consumed, full)) =
+      let spent = run.spent in
+      let used = run.used ++ line in
+      let count = length-append run.used line in
+      let all : (run.used ++ (line ++ b ∷ [])) ++ input.held ≡ used ++ (b ∷ input.held) =
+      ap (λ xs. xs ++ input.held) (sym (append_assoc run.used line (b ∷ []))) ∙ append_assoc used (b ∷ []) input.held in
+      let long = length-append used (b ∷ input.held) in (
+        used ++ (b ∷ input.held),
+        run.written,
+        subst (Consumes told rest) all (taken_with told rest input.held (run.used ++ (line ++ b ∷ [])) (used_more (line ++ b ∷ []) consumed)),
+        run.appended,
+        read_to (used ++ (b ∷ input.held)) line none
+            (take-append-le input_limit used (b ∷ input.held) (omega (arith, spent, full, count)) ∙ take_all input_limit used (omega (arith, spent, full, count))),
+        inr (omega (arith, spent, full, count, long)),
       )
 
+  -- no more was asked for than a byte past the limit, and what is held
+  pub asks_to_stop : (read : Type 0) → StopsInLine read input.held left mid → length input.held < block_limit → AsksWithin told rest
+  asks_to_stop read (line, none, inl (known, empty, given)) few =
+      let spent = room_left run.used line left.room mid.room run.spent given.1 in
+      asks_within told rest input.held (run.used ++ line) (used_more line given.0) (omega (arith, spent)) few
+  asks_to_stop read (line, none, inr (b, consumed, full)) few =
+      let spent = run.spent in
+      let count = length-append run.used (line ++ b ∷ []) in
+      let more = length-append line (b ∷ []) in
+      asks_within told rest input.held (run.used ++ (line ++ b ∷ [])) (used_more (line ++ b ∷ []) consumed) (omega (arith, spent, full, count, more)) few
+
   -- a write failed
-  pub write_failed : (read write : Type 0) (front : List ℕ) (e : Ending) (new : Option (List ℕ)) → IsRawLine left mid front e → IsPartServed s front now new → write → HasStoppedOn read write Write told old new
+  pub write_failed : (read write : Type 0) (front : List ℕ) (e : Ending) (new : Option (List ℕ)) → IsRawLine left mid front e → IsPartServed s front now new → write → HasStoppedOn read write Write told rest old new
   write_failed read write front e new raw (out, t, served, part) known =
       let k = taken front e raw in
       let serves : Serves s k.line out t = serves_kept s k.line out t (subst (λ l. Serves s l out t) k.is served) in

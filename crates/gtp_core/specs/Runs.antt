@@ -1,10 +1,13 @@
 -- A run of a session over the lines of an input.
 --     GoesThrough s lines written t      all the lines are served in turn, and the session goes on as t
 --     IsRun s lines written      the lines are served in turn, up to their end or to one that ends the session
---     HasRun, HasStopped      what a run over a reader leaves with the writer
+--     EndsWithLine told left written      a run ended with a line, and asked for less than a block after it
+--     AsksWithin told left      what a run asks for at most
+--     HasRun, HasStopped      what a run over a reader leaves with the writer, and what it has asked for
 --     HasStoppedOn      the same, with what is known of a read or a write that failed
-use Rattle.std.specs.Prelude.{◌≡◌, ◌<◌, ℕ, List, length, [], ◌∷◌, ◌++◌, Option, ◌⊎◌}
-use Rattle.std.specs.Io.KnownBytes.{Appends}
+-- `told` is what the reader tells before a run, and `left` what it tells after it.
+use Rattle.std.specs.Prelude.{◌≡◌, ◌<◌, ◌≤◌, ◌+◌, ℕ, List, length, take, [], ◌∷◌, ◌++◌, Option, ◌⊎◌}
+use Rattle.std.specs.Io.KnownBytes.{Appends, Consumes, IsAtEnd}
 use Rattle.proof_cert.specs.Streamed.{Tells}
 use Rattle.gtp_core.specs.declared.session.TheConstants.{FIRST_SIZE}
 use Rattle.gtp_core.specs.declared.end.GtpEnd.{GtpEnd}
@@ -28,12 +31,18 @@ IsRun s (line ∷ lines) written =
 abbrev pub first_session : GtpSession
 first_session = new_session FIRST_SIZE
 
--- The replies to lines from the front, each of which had ended, and to none after them. That it is all that had ended is not said.
-pub record IsReadTo (bytes written : List ℕ) : Type 0 where
+-- how many bytes an input may have, and how many are asked for at once
+abbrev pub input_limit : ℕ
+input_limit = 67108864
+
+abbrev pub block_limit : ℕ
+block_limit = 4096
+
+-- The replies to all lines that had ended in the bytes that were taken, as far as an input may have these, and to no others.
+pub record IsReadTo (taken written : List ℕ) : Type 0 where
   pub front : List (List ℕ)
   pub line : List ℕ
-  pub behind : List (List ℕ)
-  pub parted : raw_lines bytes ≡ front ++ line ∷ behind
+  pub parted : raw_lines (take input_limit taken) ≡ front ++ line ∷ []
   pub last : GtpSession
   pub through : GoesThrough first_session front written last
 
@@ -45,21 +54,40 @@ pub record IsCut (bytes written : List ℕ) : Type 0 where
   pub rest : List ℕ
   pub run : IsRun first_session front (written ++ rest)
 
-abbrev pub HasRun : Option (List ℕ) → Option (List ℕ) → Option (List ℕ) → Type 0
-HasRun told old new = (bytes written : List ℕ) × Tells told bytes × Appends old new written × IsRun first_session (raw_lines bytes) written
+-- The last line that was served ended the session. The bytes up to the line feed after it were taken, and less than a block more.
+pub record EndsWithLine (told left : Option (List ℕ)) (written : List ℕ) : Type 0 where
+  pub front : List (List ℕ)
+  pub line : List ℕ
+  pub used : List ℕ
+  pub parted : raw_lines used ≡ front ++ line ∷ [] ∷ []
+  pub before : List ℕ
+  pub last : GtpSession
+  pub through : GoesThrough first_session front before last
+  pub bytes : List ℕ
+  pub new : GtpSession
+  pub ends : Serves last line (last_reply bytes) new
+  pub whole : written ≡ before ++ bytes
+  pub ahead : List ℕ
+  pub few : length ahead < block_limit
+  pub taken : Consumes told left (used ++ ahead)
 
-abbrev pub HasStopped : GtpEnd → Option (List ℕ) → Option (List ℕ) → Option (List ℕ) → Type 0
-HasStopped Read told old new = (bytes written : List ℕ) × Tells told bytes × Appends old new written × IsReadTo bytes written
-HasStopped Write told old new = (bytes written : List ℕ) × Tells told bytes × Appends old new written × IsCut bytes written
-HasStopped Memory told old new = Appends old new []
+-- The bytes that were taken are no more than an input may have, and a block.
+abbrev pub AsksWithin : Option (List ℕ) → Option (List ℕ) → Type 0
+AsksWithin told left = (taken : List ℕ) × Consumes told left taken × (length taken ≤ input_limit + block_limit)
 
--- how many bytes an input may have
-abbrev pub input_limit : ℕ
-input_limit = 67108864
+abbrev pub HasRun : Option (List ℕ) → Option (List ℕ) → Option (List ℕ) → Option (List ℕ) → Type 0
+HasRun told left old new =
+    (bytes written : List ℕ) × Tells told bytes × Appends old new written × IsRun first_session (raw_lines bytes) written
+    × (IsAtEnd left ⊎ EndsWithLine told left written)
+
+abbrev pub HasStopped : GtpEnd → Option (List ℕ) → Option (List ℕ) → Option (List ℕ) → Option (List ℕ) → Type 0
+HasStopped Read told left old new = (taken written : List ℕ) × Consumes told left taken × Appends old new written × IsReadTo taken written
+HasStopped Write told left old new = (bytes written : List ℕ) × Tells told bytes × Appends old new written × IsCut bytes written
+HasStopped Memory told left old new = Appends old new []
 
 -- `read` is known after a failed read, and `write` after a failed write; or the input is too long.
-abbrev pub HasStoppedOn : Type 0 → Type 0 → GtpEnd → Option (List ℕ) → Option (List ℕ) → Option (List ℕ) → Type 0
-HasStoppedOn read write Read told old new =
-    (bytes written : List ℕ) × Tells told bytes × Appends old new written × IsReadTo bytes written × (read ⊎ (input_limit < length bytes))
-HasStoppedOn read write Write told old new = (bytes written : List ℕ) × Tells told bytes × Appends old new written × IsCut bytes written × write
-HasStoppedOn read write Memory told old new = Appends old new []
+abbrev pub HasStoppedOn : Type 0 → Type 0 → GtpEnd → Option (List ℕ) → Option (List ℕ) → Option (List ℕ) → Option (List ℕ) → Type 0
+HasStoppedOn read write Read told left old new =
+    (taken written : List ℕ) × Consumes told left taken × Appends old new written × IsReadTo taken written × (read ⊎ (input_limit < length taken))
+HasStoppedOn read write Write told left old new = (bytes written : List ℕ) × Tells told bytes × Appends old new written × IsCut bytes written × write
+HasStoppedOn read write Memory told left old new = Appends old new []

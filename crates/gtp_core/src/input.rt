@@ -1,7 +1,9 @@
 //! The raw lines of a reader, one at a time, from a block of fixed size.
 
-ghost use Rattle.std.specs.Prelude.{◌≡◌, ◌++◌, ◌∷◌, [], IfOk, OnErr};
-ghost use Rattle.gtp_core.specs.Private.Taking.{HasByte, IsByte, IsRawLine, CannotGoOn, kept, bounded};
+ghost use Rattle.std.specs.Prelude.{◌≡◌, ◌<◌, ◌++◌, ◌∷◌, [], length, IfOk, OnErr};
+ghost use Rattle.std.specs.Io.KnownBytes.{Consumes};
+ghost use Rattle.gtp_core.specs.Runs.{block_limit};
+ghost use Rattle.gtp_core.specs.Private.Taking.{HasByte, IsByte, IsRawLine, Stops, StopsInLine, kept, bounded};
 
 use crate::channel::ReadFrom;
 use crate::run::MAX_INPUT;
@@ -81,7 +83,11 @@ impl Input {
             (λ o. HasByte (bounded self.old (R.remaining reader.old)).left
             (bounded self.new (R.remaining reader.new)).left o) }
         ensures room { self.new.room ≡ self.old.room }
+        ensures few { length self.new.held < block_limit }
         ensures failed { OnErr result (A.read_failed reader.new) }
+        ensures stopped { OnErr result ((self.new.held ≡ [])
+            × Consumes (bounded self.old (R.remaining reader.old)).left
+            (bounded self.new (R.remaining reader.new)).left []) }
     {
         if self.start == self.end {
             match A::read_block(reader, &mut self.block) {
@@ -103,8 +109,11 @@ impl Input {
         ensures byte { IfOk result
             (λ o. IsByte (bounded self.old (R.remaining reader.old))
             (bounded self.new (R.remaining reader.new)) o) }
+        ensures few { length self.new.held < block_limit }
         ensures failed { OnErr result
-            (CannotGoOn (A.read_failed reader.new) (bounded self.old (R.remaining reader.old))) }
+            (Stops (A.read_failed reader.new) self.new.held
+            (bounded self.old (R.remaining reader.old)) (bounded self.new (R.remaining reader.new))
+            []) }
     {
         match self.take_byte::<A, R>(reader) {
             Ok(Some(byte)) => {
@@ -128,8 +137,11 @@ impl Input {
         ensures line { IfOk result
             (λ e. IsRawLine (bounded self.old (R.remaining reader.old))
             (bounded self.new (R.remaining reader.new)) line.new.items e) }
+        ensures few { length self.new.held < block_limit }
         ensures failed { OnErr result
-            (CannotGoOn (A.read_failed reader.new) (bounded self.old (R.remaining reader.old))) }
+            (StopsInLine (A.read_failed reader.new) self.new.held
+            (bounded self.old (R.remaining reader.old))
+            (bounded self.new (R.remaining reader.new))) }
     {
         line.clear();
         loop {

@@ -1,7 +1,7 @@
 //! A run of a session over a reader and a writer.
 
 ghost use Rattle.std.specs.Prelude.{◌≡◌, [], OnOk, IfErr, IfOk, OnErr};
-ghost use Rattle.gtp_core.specs.Runs.{HasRun, HasStopped, HasStoppedOn, first_session};
+ghost use Rattle.gtp_core.specs.Runs.{AsksWithin, HasRun, HasStopped, HasStoppedOn, first_session};
 ghost use Rattle.gtp_core.specs.Private.Taking.{IsServed, IsPartServed};
 
 use crate::channel::{Plain, ReadFrom, WriteTo};
@@ -24,16 +24,21 @@ const NO_MEMORY: &[u8] = b"? out of memory\n\n";
 ///
 /// Each reply is written, and the writer flushed, before the next byte is asked for. A line for which memory is refused gets a
 /// reply that says so, and the session goes on as it was. It holds one session, one line and one block of the input.
+///
+/// After `quit` nothing more is asked for, and after a failed read all lines that had ended by then have their replies. No more is
+/// ever asked for than `MAX_INPUT` bytes and a block.
 pub fn run_gtp<R: Read, W: Write>(
     alloc: Global,
     reader: &mut R,
     writer: &mut W,
 ) -> Result<(), GtpEnd>
     ensures ok { OnOk result
-        (HasRun (R.remaining reader.old) (W.contents writer.old) (W.contents writer.new)) }
-    ensures err { IfErr result
-        (λ e. HasStopped e (R.remaining reader.old) (W.contents writer.old)
+        (HasRun (R.remaining reader.old) (R.remaining reader.new) (W.contents writer.old)
         (W.contents writer.new)) }
+    ensures err { IfErr result
+        (λ e. HasStopped e (R.remaining reader.old) (R.remaining reader.new)
+        (W.contents writer.old) (W.contents writer.new)) }
+    ensures asked { AsksWithin (R.remaining reader.old) (R.remaining reader.new) }
 {
     run_over::<Plain, Plain, R, W>(alloc, reader, writer)
 }
@@ -46,10 +51,13 @@ pub fn run_over<A: ReadFrom<R>, B: WriteTo<W>, R: Read, W: Write>(
     writer: &mut W,
 ) -> Result<(), GtpEnd>
     ensures ok { OnOk result
-        (HasRun (R.remaining reader.old) (W.contents writer.old) (W.contents writer.new)) }
+        (HasRun (R.remaining reader.old) (R.remaining reader.new) (W.contents writer.old)
+        (W.contents writer.new)) }
     ensures err { IfErr result
         (λ e. HasStoppedOn (A.read_failed reader.new) (B.write_failed writer.new) e
-        (R.remaining reader.old) (W.contents writer.old) (W.contents writer.new)) }
+        (R.remaining reader.old) (R.remaining reader.new) (W.contents writer.old)
+        (W.contents writer.new)) }
+    ensures asked { AsksWithin (R.remaining reader.old) (R.remaining reader.new) }
 {
     match Session::new(alloc) {
         Ok(session) => serve_lines::<A, B, R, W>(session, Input::new(), reader, writer),
@@ -68,10 +76,13 @@ fn serve_lines<A: ReadFrom<R>, B: WriteTo<W>, R: Read, W: Write>(
     requires held { input.held ≡ [] }
     requires room { input.room ≡ 67108864 }
     ensures ok { OnOk result
-        (HasRun (R.remaining reader.old) (W.contents writer.old) (W.contents writer.new)) }
+        (HasRun (R.remaining reader.old) (R.remaining reader.new) (W.contents writer.old)
+        (W.contents writer.new)) }
     ensures err { IfErr result
         (λ e. HasStoppedOn (A.read_failed reader.new) (B.write_failed writer.new) e
-        (R.remaining reader.old) (W.contents writer.old) (W.contents writer.new)) }
+        (R.remaining reader.old) (R.remaining reader.new) (W.contents writer.old)
+        (W.contents writer.new)) }
+    ensures asked { AsksWithin (R.remaining reader.old) (R.remaining reader.new) }
 {
     let mut line = ArrayVec::new();
     loop {

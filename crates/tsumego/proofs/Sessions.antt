@@ -1,5 +1,5 @@
 -- What a run of a session leaves is what the command leaves.
-use Rattle.std.proofs.Common.{◌≡◌, ℕ, ◌<◌, true, length, List, [], ◌∷◌, ◌++◌, codes, Option, Some, ◌⊎◌, inl, inr, refl, sym, ap, ◌∙◌, subst, append_assoc, append-nil}
+use Rattle.std.proofs.Common.{◌≡◌, ℕ, ◌<◌, true, false, length, List, [], ◌∷◌, ◌++◌, codes, Option, Some, None, ◌⊎◌, inl, inr, refl, sym, ap, ◌∙◌, subst, arith, append_assoc, append-nil, length-append}
 use Rattle.std.specs.Io.KnownBytes.{Appends}
 use Rattle.std.proofs.KnownBytes.{Appends-trans}
 use Rattle.gtp_core.specs.declared.end.GtpEnd.TheVariants as stop
@@ -14,7 +14,8 @@ use Rattle.tsumego_words.specs.declared.command_line.Command.TheVariants.{Check,
 use Rattle.tsumego_replies.specs.declared.status.Status.{Status}
 use Rattle.tsumego_replies.specs.declared.status.Status.TheVariants.{Answered, Failed}
 use Rattle.tsumego_replies.specs.Texts.{no_read_text}
-use Rattle.tsumego.specs.Outcome.{MaySay, RanOn}
+use Rattle.gtp_core.proofs.Running.{left_bytes, tells_all}
+use Rattle.tsumego.specs.Outcome.{EndsOn, MaySay, RanOn}
 use Rattle.tsumego.specs.Private.Written.{Writes}
 
 -- every session can serve every line
@@ -46,35 +47,71 @@ runs_on s (l ∷ ls) behind w (inl (bytes, rest, new, one, whole, others)) =
     (more, inl (bytes, rest ++ more, new, one, ap (λ x. x ++ more) whole ∙ append_assoc bytes rest more, on))
 runs_on s (l ∷ ls) behind w (inr (new, last)) = ([], inr (new, subst (λ x. Serves s l (last_reply x) new) (sym (append-nil w)) last))
 
-module _ (told old : Option (List ℕ)) (reads fails : Type 0) where
-  pub session_ends : (new : Option (List ℕ)) → HasRun told old new → RanOn (Some Gtp) told (λ bytes. reads ⊎ (input_limit < length bytes)) fails Answered old new
-  session_ends new (bytes, written, tells, taken, run) = (bytes, written, tells, taken, inl (inl (refl, run)), λ failed. absurd (cc failed))
+module _ (told left old : Option (List ℕ)) (reads fails : Type 0) where
+  pub session_ends : (new : Option (List ℕ)) → HasRun told left old new → RanOn (Some Gtp) told (λ bytes. reads ⊎ (input_limit < length bytes)) fails Answered old new
+  session_ends new (bytes, written, tells, taken, run, end) = (bytes, written, tells, taken, inl (inl (refl, run)), λ failed. absurd (cc failed))
 
-  pub session_read_fails : (writes : Type 0) (mid new : Option (List ℕ)) (result : Status) → HasStoppedOn reads writes stop.Read told old mid → Writes fails mid new no_read_text Failed result
+  -- an input with more is too long as well
+  too_long : (taken more : List ℕ) → reads ⊎ (input_limit < length taken) → reads ⊎ (input_limit < length (taken ++ more))
+  too_long taken more (inl known) = inl known
+  too_long taken more (inr long) = let all = length-append taken more in inr (omega (arith, long, all))
+
+  pub session_read_fails : (writes : Type 0) (mid new : Option (List ℕ)) (result : Status) → HasStoppedOn reads writes stop.Read told left old mid → Writes fails mid new no_read_text Failed result
       → RanOn (Some Gtp) told (λ bytes. reads ⊎ (input_limit < length bytes)) fails result old new
-  session_read_fails writes mid new result (bytes, written, tells, taken, read, why) (inl (same, whole)) = (
-    bytes,
-    written ++ no_read_text,
-    tells,
-    Appends-trans old mid new written no_read_text taken whole,
-    inl (subst (λ s. MaySay Gtp bytes s (written ++ no_read_text)) (sym same) (inr (refl, (written, read, refl)))),
-    λ failed. inr (inl (why, (written, refl))),
-  )
-  session_read_fails writes mid new result (bytes, written, tells, taken, read, why) (inr (failed, fault, (part, rest, whole, more))) = (
-    bytes,
-    written ++ part,
-    tells,
-    Appends-trans old mid new written part taken more,
-    inr (failed, inr (rest, inl (Failed, inr (refl, (written, read, append_assoc written part rest ∙ ap (λ x. written ++ x) (sym whole)))))),
-    λ e. inr (inr fault),
-  )
+  session_read_fails writes mid new result (taken, written, given, appended, read, why) (inl (same, whole)) =
+      let more = left_bytes left in
+      let said : MaySay Gtp (taken ++ more) Failed (written ++ no_read_text) = inr (refl, (taken, more, written, refl, read, refl)) in (
+        taken ++ more,
+        written ++ no_read_text,
+        tells_all told left taken given,
+        Appends-trans old mid new written no_read_text appended whole,
+        inl (subst (λ s. MaySay Gtp (taken ++ more) s (written ++ no_read_text)) (sym same) said),
+        λ failed. inr (inl (too_long taken more why, (written, refl))),
+      )
+  session_read_fails writes mid new result (taken, written, given, appended, read, why) (inr (failed, fault, (part, rest, whole, passed))) =
+      let more = left_bytes left in
+      let text : (written ++ part) ++ rest ≡ written ++ no_read_text = append_assoc written part rest ∙ ap (λ x. written ++ x) (sym whole) in (
+        taken ++ more,
+        written ++ part,
+        tells_all told left taken given,
+        Appends-trans old mid new written part appended passed,
+        inr (failed, inr (rest, inl (Failed, inr (refl, (taken, more, written, refl, read, text))))),
+        λ e. inr (inr fault),
+      )
 
-  pub session_write_fails : (new : Option (List ℕ)) → HasStoppedOn reads fails stop.Write told old new → RanOn (Some Gtp) told (λ bytes. reads ⊎ (input_limit < length bytes)) fails Failed old new
+  pub session_write_fails : (new : Option (List ℕ)) → HasStoppedOn reads fails stop.Write told left old new → RanOn (Some Gtp) told (λ bytes. reads ⊎ (input_limit < length bytes)) fails Failed old new
   session_write_fails new (bytes, written, tells, taken, cut, fault) =
       let on = runs_on first_session cut.front cut.behind (written ++ cut.rest) cut.run in
       let run : IsRun first_session (raw_lines bytes) (written ++ (cut.rest ++ on.0)) =
       subst (λ ls. IsRun first_session ls (written ++ (cut.rest ++ on.0))) (sym cut.parted) (subst (IsRun first_session (cut.front ++ cut.behind)) (append_assoc written cut.rest on.0) on.1) in
       (bytes, written, tells, taken, inr (refl, inr (cut.rest ++ on.0, inl (Answered, inl (refl, run)))), λ e. inr (inr fault))
+
+-- what is said of a session that was answered says nothing of a run that failed, and of another command
+fails_with : (fails : Type 0) (mid new : Option (List ℕ)) (text : List ℕ) (result : Status) → Writes fails mid new text Failed result → result ≡ Failed
+fails_with fails mid new text result (inl (same, whole)) = same
+fails_with fails mid new text result (inr (failed, fault, part)) = failed
+
+module _ (told left old new : Option (List ℕ)) where
+  pub ends_failed : (command : Option Command) → EndsOn command Failed told left old new
+  ends_failed None = tt
+  ends_failed (Some Gtp) = λ answered. absurd (cc answered)
+  ends_failed (Some Check) = tt
+  ends_failed (Some (Within turns nodes)) = tt
+  ends_failed (Some Audit) = tt
+  ends_failed (Some (Solve steps table proof lift)) = tt
+
+  pub ends_written : (command : Option Command) (fails : Type 0) (mid : Option (List ℕ)) (text : List ℕ) (result : Status) → Writes fails mid new text Failed result → EndsOn command result told left old new
+  ends_written command fails mid text result writes = subst (λ s. EndsOn command s told left old new) (sym (fails_with fails mid new text result writes)) (ends_failed command)
+
+  pub ends_other : (command : Command) (status : Status) → is_session command ≡ false → EndsOn (Some command) status told left old new
+  ends_other Gtp status whole = absurd (cc whole)
+  ends_other Check status whole = tt
+  ends_other (Within turns nodes) status whole = tt
+  ends_other Audit status whole = tt
+  ends_other (Solve steps table proof lift) status whole = tt
+
+  pub ends_wordless : (command : Option Command) (status : Status) → command ≡ None → EndsOn command status told left old new
+  ends_wordless command status none = subst (λ k. EndsOn k status told left old new) (sym none) tt
 
 -- nothing was written before
 pub writes_after : (old mid new : Option (List ℕ)) (fails : Type 0) (text : List ℕ) (status result : Status) → Appends old mid [] → Writes fails mid new text status result → Writes fails old new text status result

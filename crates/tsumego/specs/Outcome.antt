@@ -4,10 +4,11 @@
 --     Outcome command bytes status written      `command` is what the words ask for, if they ask for something
 --     Explains command read write status written      a run that ended as failed did so because of memory, a read or a write
 --     RanOn      the same between the devices before a run and after it, with why the run failed, if it did
+--     EndsOn command status told left old new      what a session that was answered has asked for, and written
 use Rattle.std.specs.Prelude.{◌≡◌, ℕ, List, ◌++◌, Option, Some, None, ◌⊎◌}
 use Rattle.std.specs.Io.KnownBytes.{Appends}
 use Rattle.gtp_core.specs.Lines.{raw_lines}
-use Rattle.gtp_core.specs.Runs.{IsRun, IsReadTo, first_session}
+use Rattle.gtp_core.specs.Runs.{IsRun, IsReadTo, HasRun, first_session}
 use Rattle.tsumego_words.specs.declared.command_line.Command.{Command}
 use Rattle.tsumego_words.specs.declared.command_line.Command.TheVariants.{Gtp}
 use Rattle.tsumego_replies.specs.declared.status.Status.{Status}
@@ -20,11 +21,12 @@ use Rattle.proof_cert.specs.Streamed.{Tells}
 abbrev pub Saying : Type 1
 Saying = Status → List ℕ → Type 0
 
--- the replies of a session to all lines; or, if a read failed, those to the lines that had ended, and that it failed
+-- the replies of a session to all lines; or, if a read failed, those to the lines that had ended in the bytes before it, and that
+-- it failed
 abbrev pub SessionSays : List ℕ → Saying
 SessionSays bytes status text =
     ((status ≡ Answered) × IsRun first_session (raw_lines bytes) text)
-    ⊎ ((status ≡ Failed) × ((replies : List ℕ) × IsReadTo bytes replies × (text ≡ replies ++ no_read_text)))
+    ⊎ ((status ≡ Failed) × ((taken rest replies : List ℕ) × (bytes ≡ taken ++ rest) × IsReadTo taken replies × (text ≡ replies ++ no_read_text)))
 
 -- The whole text that the command may have for these bytes, and its status.
 abbrev pub MaySay : Command → List ℕ → Saying
@@ -62,3 +64,8 @@ HasLeftOn Said write status old new = (written : List ℕ) × Appends old new wr
 abbrev pub RanOn : Option Command → Option (List ℕ) → (List ℕ → Type 0) → Type 0 → Status → Option (List ℕ) → Option (List ℕ) → Type 0
 RanOn command told read write status old new =
     (bytes written : List ℕ) × Tells told bytes × Appends old new written × Outcome command bytes status written × Explains command (read bytes) write status written
+
+-- A session that was answered has taken all that its reader has; or the line that ended it, and less than a block after that.
+abbrev pub EndsOn : Option Command → Status → Option (List ℕ) → Option (List ℕ) → Option (List ℕ) → Option (List ℕ) → Type 0
+EndsOn (Some Gtp) status told left old new = status ≡ Answered → HasRun told left old new
+EndsOn _ status told left old new = Unit {0}

@@ -2,7 +2,8 @@
 
 ghost use Rattle.std.specs.Prelude.{Some};
 ghost use Rattle.tsumego.specs.Devices.{HasFailed, ReadFails};
-ghost use Rattle.tsumego.specs.Outcome.{RanOn};
+ghost use Rattle.tsumego.specs.Outcome.{EndsOn, RanOn};
+ghost use Rattle.tsumego_replies.specs.Asking.{MayAsk};
 
 use crate::answer::{write_all, write_text};
 use crate::counting::Counting;
@@ -43,9 +44,14 @@ pub fn serve_gtp<R: Read, W: Write>(
     reader: &mut Counting<R>,
     writer: &mut Counting<W>,
 ) -> Status
-    ensures { RanOn (Some Command.Gtp) (R.remaining reader.old.inner)
+    ensures ran { RanOn (Some Command.Gtp) (R.remaining reader.old.inner)
         (ReadFails (Some Command.Gtp) reader.new.faults reader.new.interrupts)
         (HasFailed writer.new.faults writer.new.interrupts) result (W.contents writer.old.inner)
+        (W.contents writer.new.inner) }
+    ensures asked { MayAsk (Some Command.Gtp) (R.remaining reader.old.inner)
+        (R.remaining reader.new.inner) }
+    ensures ended { EndsOn (Some Command.Gtp) result (R.remaining reader.old.inner)
+        (R.remaining reader.new.inner) (W.contents writer.old.inner)
         (W.contents writer.new.inner) }
 {
     match run_over::<Counted, Counted, Counting<R>, Counting<W>>(alloc, reader, writer) {

@@ -2,9 +2,9 @@
 
 ghost use Rattle.std.specs.Prelude.{◌≡◌, ℕ, List, map, Some, IfOk, IsFalse};
 ghost use Rattle.tsumego_words.specs.CommandLine.{command_of, is_session, FitsRanges};
-ghost use Rattle.tsumego_replies.specs.Bounds.{MayAsk};
+ghost use Rattle.tsumego_replies.specs.Asking.{MayAsk};
 ghost use Rattle.tsumego.specs.Devices.{HasFailed, ReadFails};
-ghost use Rattle.tsumego.specs.Outcome.{RanOn};
+ghost use Rattle.tsumego.specs.Outcome.{EndsOn, RanOn};
 ghost use Rattle.proof_cert.specs.Streamed.{Tells};
 ghost use Rattle.tsumego_replies.specs.Replies.{IsReply};
 
@@ -26,7 +26,9 @@ pub const MAX_FRONT: usize = 1_048_577;
 ///
 /// For every list of bytes that the reader tells, the status and the text that the writer has taken are those of the command that
 /// the words give; after a failed write what was taken is a part of such a text. No command except `check` and `gtp` asks for more
-/// bytes than one more than a record may have. Words that give no command, `--help` among them, ask for none.
+/// bytes than one more than a record may have; `check` only behind a record, and `gtp` for no more than a session may have, and a
+/// block. Words that give no command, `--help` among them, ask for none. A session that `quit` ended has asked for less than a block
+/// after that line.
 ///
 /// A run that ends as failed tells why: memory was refused, and the text says so; a read failed and was counted, or a bound on what
 /// is read was passed, and the text says so, in a session after the replies; or a write failed and was counted.
@@ -44,6 +46,9 @@ pub fn run<S: AsStr, R: Read, W: Write>(
         (W.contents writer.new.inner) }
     ensures asked { MayAsk (command_of (map S.text words.now)) (R.remaining reader.old.inner)
         (R.remaining reader.new.inner) }
+    ensures ended { EndsOn (command_of (map S.text words.now)) result
+        (R.remaining reader.old.inner) (R.remaining reader.new.inner)
+        (W.contents writer.old.inner) (W.contents writer.new.inner) }
 {
     match read_command(alloc, words) {
         Ok(command) => obey(alloc, command, reader, writer),
@@ -66,6 +71,9 @@ fn obey<R: Read, W: Write>(
         (W.contents writer.new.inner) }
     ensures asked { MayAsk (Some command) (R.remaining reader.old.inner)
         (R.remaining reader.new.inner) }
+    ensures ended { EndsOn (Some command) result (R.remaining reader.old.inner)
+        (R.remaining reader.new.inner) (W.contents writer.old.inner)
+        (W.contents writer.new.inner) }
 {
     if command.is_session() {
         return serve_gtp(alloc, reader, writer);

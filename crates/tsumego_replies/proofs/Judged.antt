@@ -26,10 +26,11 @@ use Rattle.tsumego_replies.specs.declared.reply.Response.{Response}
 use Rattle.tsumego_replies.specs.declared.status.Status.{Status}
 use Rattle.tsumego_replies.specs.declared.status.Status.TheVariants.{Answered}
 use Rattle.tsumego_replies.specs.Texts.{wins_text}
-use Rattle.tsumego_replies.specs.Bounds.{front_limit, white_limit, MayAsk}
+use Rattle.tsumego_replies.specs.Bounds.{front_limit, white_limit}
+use Rattle.tsumego_replies.specs.Asking.{MayAsk}
 use Rattle.tsumego_replies.specs.Answers.{IsRecord, Says, JudgesClaim, check_answer, white_before}
 use Rattle.proof_cert.specs.Streamed.{Tells}
-use Rattle.tsumego_replies.specs.Replies.{AllWhite, Decides, HasNoRecord, IsReply, IsReplyAfter, IsRejectionOf, IsJudged, IsJudgedAfter, IsCheckedAfter, IsPastLimit, IsSaidAfter, SaysAfter, claim_verdict}
+use Rattle.tsumego_replies.specs.Replies.{AllWhite, AsksOn, Decides, HasNoRecord, IsReply, IsReplyAfter, IsRejectionOf, IsJudged, IsJudgedAfter, IsCheckedAfter, IsPastLimit, IsSaidAfter, SaysAfter, claim_verdict}
 use Rattle.tsumego_replies.proofs.Claims.{has_verdict}
 use Rattle.tsumego_replies.proofs.Saying.{some_bytes}
 
@@ -243,16 +244,32 @@ replied_to_whole command old front (Err e) tells said = tt
 -- ---- what is asked for
 
 pub may_ask : (command : Command) (old new : Option (List ℕ)) (bytes : List ℕ) → Consumes old new bytes → length bytes ≤ front_limit → MayAsk (Some command) old new
-may_ask Check old new bytes given few = tt
+may_ask Check old new bytes given few = inl (bytes, given, few)
 may_ask (Within turns nodes) old new bytes given few = (bytes, given, few)
 may_ask Audit old new bytes given few = (bytes, given, few)
 may_ask (Solve steps table proof lift) old new bytes given few = (bytes, given, few)
-may_ask Gtp old new bytes given few = tt
+may_ask Gtp old new bytes given few = (bytes, given, omega (arith, few))
 
 pub may_ask_nothing : (command : Option Command) (old : Option (List ℕ)) → MayAsk command old old
 may_ask_nothing None old = Keeps-refl old
-may_ask_nothing (Some Check) old = tt
-may_ask_nothing (Some (Within turns nodes)) old = ([], Consumes-nil old, omega arith)
-may_ask_nothing (Some Audit) old = ([], Consumes-nil old, omega arith)
-may_ask_nothing (Some (Solve steps table proof lift)) old = ([], Consumes-nil old, omega arith)
-may_ask_nothing (Some Gtp) old = tt
+may_ask_nothing (Some command) old = may_ask command old old [] (Consumes-nil old) (omega arith)
+
+-- after the front
+pub may_ask_on : (command : Command) (old told new : Option (List ℕ)) (front : List ℕ) → Consumes old told front → length front ≤ front_limit → AsksOn command front told new → MayAsk (Some command) old new
+may_ask_on Check old told new front given few (inl same) = inl (front, subst (λ o. Consumes old o front) (sym same) given, few)
+may_ask_on Check old told new front given few (inr (rest, tells, q, tree, n, found)) = inr (front ++ rest, told_more old told front rest given tells, q, tree, n, found)
+may_ask_on (Within turns nodes) old told new front given few same = (front, subst (λ o. Consumes old o front) (sym same) given, few)
+may_ask_on Audit old told new front given few same = (front, subst (λ o. Consumes old o front) (sym same) given, few)
+may_ask_on (Solve steps table proof lift) old told new front given few same = (front, subst (λ o. Consumes old o front) (sym same) given, few)
+may_ask_on Gtp old told new front given few same = (front, subst (λ o. Consumes old o front) (sym same) given, omega (arith, few))
+
+pub asks_no_more : (command : Command) (front : List ℕ) (told : Option (List ℕ)) → AsksOn command front told told
+asks_no_more Check front told = inl refl
+asks_no_more (Within turns nodes) front told = refl
+asks_no_more Audit front told = refl
+asks_no_more (Solve steps table proof lift) front told = refl
+asks_no_more Gtp front told = refl
+
+-- `check` behind a record
+pub asks_behind : (law : FrontsDecide) (front : List ℕ) (told new : Option (List ℕ)) (tree : GameTree) (n : ℕ) (q : GameProblem) → IsRecord front tree n q → AsksOn Check front told new
+asks_behind law front told new tree n q found = let b = some_bytes told in inr (b.0, b.1, q, tree, n, record_more law front b.0 tree n q found)

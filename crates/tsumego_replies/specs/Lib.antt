@@ -1,4 +1,5 @@
 pub mod Bounds
+pub mod Asking
 pub mod Texts
 pub mod Claims
 pub mod Solutions

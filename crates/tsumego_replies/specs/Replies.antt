@@ -3,6 +3,7 @@ use Rattle.std.specs.Prelude.{◌≡◌, ℕ, ◌<◌, Bool, true, false, List, 
 use Rattle.std.specs.Io.KnownBytes.{Consumes, IsAtEnd}
 use Rattle.sgf_text.specs.Bytes.{is_white}
 use Rattle.sgf_text.specs.Followers.{byte_limit}
+use Rattle.sgf_text.specs.Trees.{GameTree}
 use Rattle.target_game.specs.State.{GameProblem}
 use Rattle.tsumego_problem.specs.Refusals.{Refuses}
 use Rattle.tsumego_replies.specs.declared.record.NoRecord.{NoRecord}
@@ -26,7 +27,7 @@ use Rattle.tsumego_replies.specs.declared.input.White.{White}
 use Rattle.tsumego_replies.specs.declared.input.White.TheVariants.{Before, End, TooMuch}
 use Rattle.tsumego_replies.specs.Bounds.{white_limit}
 use Rattle.tsumego_replies.specs.Solutions.{MayAnswer, Unsolved}
-use Rattle.tsumego_replies.specs.Answers.{Says, check_answer, JudgesClaim, PassesBound, white_before}
+use Rattle.tsumego_replies.specs.Answers.{IsRecord, Says, check_answer, JudgesClaim, PassesBound, white_before}
 use Rattle.proof_cert.specs.Streamed.{Tells}
 use Rattle.tsumego_replies.specs.Texts.{line, rejected_line_text, rejected_node_text}
 
@@ -66,10 +67,13 @@ SaysAfter command front told status text = (rest : List ℕ) × Tells told rest 
 abbrev pub IsReplyAfter : Command → List ℕ → Option (List ℕ) → Response → Type 0
 IsReplyAfter command front told r = (rest : List ℕ) × Tells told rest × IsReply command (front ++ rest) r
 
--- no command except `check` asks for more
-abbrev pub AsksOn : Command → Option (List ℕ) → Option (List ℕ) → Type 0
-AsksOn Check old new = Unit {0}
-AsksOn _ old new = new ≡ old
+-- no command except `check` asks for more after the front, and `check` only behind a record
+abbrev pub RecordAfter : List ℕ → Option (List ℕ) → Type 0
+RecordAfter front told = (rest : List ℕ) × Tells told rest × (q : GameProblem) × (tree : GameTree) × (n : ℕ) × IsRecord (front ++ rest) tree n q
+
+abbrev pub AsksOn : Command → List ℕ → Option (List ℕ) → Option (List ℕ) → Type 0
+AsksOn Check front old new = (new ≡ old) ⊎ RecordAfter front old
+AsksOn _ front old new = new ≡ old
 
 abbrev pub AllWhite : List ℕ → Type 0
 AllWhite [] = Unit {0}

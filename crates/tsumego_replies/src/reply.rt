@@ -56,7 +56,7 @@ pub enum Failure {
     Read,
 }
 
-/// What the command answers for these bytes and what the reader has after them. Only `check` reads on.
+/// What the command answers for these bytes and what the reader has after them. Only `check` reads on, and only behind a record.
 pub fn reply_to<R: Read>(
     alloc: Global,
     command: Command,
@@ -67,7 +67,7 @@ pub fn reply_to<R: Read>(
     requires whole { IsFalse (is_session command) }
     requires decided { Decides front.now (R.remaining reader.old) }
     ensures reply { IfOk result (λ r. IsReplyAfter command front.now (R.remaining reader.old) r) }
-    ensures asked { AsksOn command (R.remaining reader.old) (R.remaining reader.new) }
+    ensures asked { AsksOn command front.now (R.remaining reader.old) (R.remaining reader.new) }
 {
     fronts_decide();
     let record = match read_record(alloc, front) {

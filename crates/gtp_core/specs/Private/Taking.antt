@@ -1,5 +1,5 @@
 -- Definitions for the private calls that take lines from a reader. No public clause rests on them.
-use Rattle.std.specs.Prelude.{◌≡◌, ◌<◌, ◌+◌, ℕ, Bool, not, List, [], ◌∷◌, ◌++◌, length, take, Option, None, Some, ◌⊎◌}
+use Rattle.std.specs.Prelude.{◌≡◌, ◌+◌, ℕ, Bool, not, List, [], ◌∷◌, ◌++◌, length, take, Option, None, Some, ◌⊎◌}
 use Rattle.std.specs.Io.KnownBytes.{Appends, Consumes, IsAtEnd, prepend_known}
 use Rattle.byte_writer.specs.Taken.{TakesPart}
 use Rattle.gtp_core.specs.declared.input.Ending.{Ending}
@@ -27,13 +27,16 @@ bounded input remaining = record { left = prepend_known input.held remaining; ro
 abbrev pub Gives : Bounded → Bounded → List ℕ → Type 0
 Gives old new bytes = Consumes old.left new.left bytes × (length bytes + new.room ≡ old.room)
 
--- The input has more bytes than may be taken.
-abbrev pub IsTooLong : Bounded → Type 0
-IsTooLong input = (bytes : List ℕ) × (left : Option (List ℕ)) × Consumes input.left left bytes × (input.room < length bytes)
+-- After these bytes a read failed, about which this is known, with nothing held; or they are all that may be taken, and the input
+-- has one more, which was taken too.
+abbrev pub Stops : Type 0 → List ℕ → Bounded → Bounded → List ℕ → Type 0
+Stops failed held old new bytes =
+    (failed × (held ≡ []) × Gives old new bytes)
+    ⊎ ((b : ℕ) × Consumes old.left new.left (bytes ++ b ∷ []) × (length bytes ≡ old.room))
 
--- A read failed, about which this is known; or the input is too long.
-abbrev pub CannotGoOn : Type 0 → Bounded → Type 0
-CannotGoOn failed input = failed ⊎ IsTooLong input
+-- The same, for the bytes of a line that had not ended.
+abbrev pub StopsInLine : Type 0 → List ℕ → Bounded → Bounded → Type 0
+StopsInLine failed held old new = (line : List ℕ) × HasNone 10 line × Stops failed held old new line
 
 -- A reader gave one byte, or has ended.
 abbrev pub HasByte : Option (List ℕ) → Option (List ℕ) → Option ℕ → Type 0

@@ -15,7 +15,7 @@ use Rattle.cert_check.specs.Stage.{why_value}
 use Rattle.cert_check.proofs.ReadingClaims.{accepted_sides_win}
 use Rattle.cert_check.proofs.Steps.{if_ok_map, if_err_map}
 use Rattle.cert_check.proofs.Taking.{never}
-use Rattle.cert_check.proofs.Hearing.{either_way, heard_more, heard_accepts, heard_ends, heard_rejects, heard_fails, heard_reaches}
+use Rattle.cert_check.proofs.Hearing.{either_way, heard_more, heard_accepts, heard_ends, heard_rejects, heard_fails, heard_reaches, heard_asks, heard_asks_there}
 use Rattle.cert_check.proofs.checker.check.Goals as goal
 
 pub returns-in-Err-clause-err : goal.returns-in-Err-clause-err
@@ -141,3 +141,33 @@ loop-count-preserved g c = (
   (let moved = c.in_default-take.ensures.place in let placed = c.loop-count.invariant.3 in omega (arith, moved, placed)),
   c.in_default-take.ensures.ready,
 )
+
+pub returns-in-Err-clause-asked : goal.returns-in-Err-clause-asked
+returns-in-Err-clause-asked g c = λ fresh.
+    let inv = c.loop-count.invariant.0 fresh in
+    heard_asks_there g.S.NodeSource.gives g.S.NodeSource.number (g.S.NodeSource.size c.args.source.now) c.args.problem.now c.args.source.now c.loop-count.source c.next.new.self (machine_of c.loop-count.judge) _ c.in-Err.reject.place inv.2 (c.in-Ok-Some.ensures.gives inv.0) c.in-Err.ensures.there
+
+pub returns-in-Ok-None-clause-asked : goal.returns-in-Ok-None-clause-asked
+returns-in-Ok-None-clause-asked g c = λ fresh.
+    let inv = c.loop-count.invariant.0 fresh in
+    if_err_map c.end.result _ _ (λ e there. heard_asks_there g.S.NodeSource.gives g.S.NodeSource.number (g.S.NodeSource.size c.args.source.now) c.args.problem.now c.args.source.now c.loop-count.source c.next.new.self (machine_of c.loop-count.judge) _ e.place inv.2 (c.in-Ok-None.ensures.gives inv.0) there) c.end.ensures.there
+
+pub returns-in-Err-Malformed-clause-asked : goal.returns-in-Err-Malformed-clause-asked
+returns-in-Err-Malformed-clause-asked g c = λ fresh.
+    let inv = c.loop-count.invariant.0 fresh in
+    heard_asks_there g.S.NodeSource.gives g.S.NodeSource.number (g.S.NodeSource.size c.args.source.now) c.args.problem.now c.args.source.now c.loop-count.source c.next.new.self (machine_of c.loop-count.judge) _ c.malformed.result.place inv.2 (c.in-Err-Malformed.ensures.gives inv.0) c.malformed.ensures.there
+
+pub returns-in-Err-Memory-clause-asked : goal.returns-in-Err-Memory-clause-asked
+returns-in-Err-Memory-clause-asked g c = λ fresh.
+    let inv = c.loop-count.invariant.0 fresh in
+    heard_asks_there g.S.NodeSource.gives g.S.NodeSource.number (g.S.NodeSource.size c.args.source.now) c.args.problem.now c.args.source.now c.loop-count.source c.next.new.self (machine_of c.loop-count.judge) _ c.reject.result.place inv.2 (c.in-Err-Memory.ensures.gives inv.0) c.reject.ensures.place
+
+pub returns-in-Err-Read-clause-asked : goal.returns-in-Err-Read-clause-asked
+returns-in-Err-Read-clause-asked g c = λ fresh.
+    let inv = c.loop-count.invariant.0 fresh in
+    heard_asks_there g.S.NodeSource.gives g.S.NodeSource.number (g.S.NodeSource.size c.args.source.now) c.args.problem.now c.args.source.now c.loop-count.source c.next.new.self (machine_of c.loop-count.judge) _ c.reject-in-Err-Read.result.place inv.2 (c.in-Err-Read.ensures.gives inv.0) c.reject-in-Err-Read.ensures.place
+
+pub returns-clause-asked : goal.returns-clause-asked
+returns-clause-asked g c = λ fresh.
+    heard_asks g.S.NodeSource.gives g.S.NodeSource.number (g.S.NodeSource.size c.args.source.now) c.args.problem.now c.args.source.now c.loop-count.source (machine_of c.loop-count.judge) c.reject-2.result.place
+    (c.loop-count.invariant.0 fresh).2 c.reject-2.ensures.place

@@ -4,7 +4,7 @@ use Rattle.std.specs.Io.KnownBytes.{prepend_known}
 use Rattle.gtp_core.specs.declared.input.Ending.{Ending}
 use Rattle.gtp_core.specs.Session.{GtpSession}
 use Rattle.gtp_core.specs.Private.Taking.{IsRawLine, IsServed, IsPartServed, IsUnderWay, bounded}
-use Rattle.gtp_core.proofs.Running.{begins, goes_on, ends_with_input, ends_with_line, read_failed, write_failed}
+use Rattle.gtp_core.proofs.Running.{begins, goes_on, asks_for_line, asks_to_stop, ends_with_input, ends_with_line, read_failed, write_failed}
 use Rattle.gtp_core.proofs.run.serve_lines.Goals as goal
 
 pub loop-ending-init : goal.loop-ending-init
@@ -28,7 +28,7 @@ loop-ending-preserved g c =
     let on : c.in-Ok-serve.goes_on ≡ true = search rules in
     let whole = subst (λ (l : List ℕ). IsServed c.loop-ending.session l c.in-Ok-serve.goes_on now new c.serve.new.session) c.as_slice.ensures.value c.in-Ok-serve.ensures.ok in
     let served = subst (λ (b : Bool). IsServed c.loop-ending.session front b now new c.serve.new.session) on whole in
-    goes_on told left mid old now c.loop-ending.session c.loop-ending.invariant front new c.serve.new.session raw served
+    goes_on told left c.next_line.new.self (g.R.Read.remaining c.next_line.new.reader) old now c.loop-ending.session c.loop-ending.invariant front new c.serve.new.session raw served
 
 pub returns-in-Err-clause-err : goal.returns-in-Err-clause-err
 returns-in-Err-clause-err g c =
@@ -36,7 +36,7 @@ returns-in-Err-clause-err g c =
     let left = bounded c.loop-ending.input (g.R.Read.remaining c.loop-ending.reader) in
     let old = g.W.Write.contents c.args.writer.now in
     let now = g.W.Write.contents c.loop-ending.writer in
-    read_failed told left left old now c.loop-ending.session c.loop-ending.invariant (g.A.ReadFrom.read_failed c.next_line.new.reader) (g.B.WriteTo.write_failed c.loop-ending.writer) c.in-Err.ensures.failed
+    read_failed told left c.next_line.new.self (g.R.Read.remaining c.next_line.new.reader) old now c.loop-ending.session c.loop-ending.invariant (g.A.ReadFrom.read_failed c.next_line.new.reader) (g.B.WriteTo.write_failed c.loop-ending.writer) c.in-Err.ensures.failed
 
 pub returns-in-Err-serve-clause-err : goal.returns-in-Err-serve-clause-err
 returns-in-Err-serve-clause-err g c =
@@ -48,7 +48,7 @@ returns-in-Err-serve-clause-err g c =
     let front = c.next_line.new.line.items in
     let new = g.W.Write.contents c.serve.new.writer in
     let part = subst (λ (l : List ℕ). IsPartServed c.loop-ending.session l now new) c.as_slice.ensures.value c.in-Err-serve.ensures.cut in
-    write_failed told left mid old now c.loop-ending.session c.loop-ending.invariant (g.A.ReadFrom.read_failed c.next_line.new.reader) (g.B.WriteTo.write_failed c.serve.new.writer) front c.in-Ok.ending new c.in-Ok.ensures.line part
+    write_failed told left c.next_line.new.self (g.R.Read.remaining c.next_line.new.reader) old now c.loop-ending.session c.loop-ending.invariant (g.A.ReadFrom.read_failed c.next_line.new.reader) (g.B.WriteTo.write_failed c.serve.new.writer) front c.in-Ok.ending new c.in-Ok.ensures.line part
     c.in-Err-serve.ensures.failed
 
 pub returns-then-not-goes_on-clause-ok : goal.returns-then-not-goes_on-clause-ok
@@ -63,7 +63,7 @@ returns-then-not-goes_on-clause-ok g c =
     let off : c.in-Ok-serve.goes_on ≡ false = search rules in
     let whole = subst (λ (l : List ℕ). IsServed c.loop-ending.session l c.in-Ok-serve.goes_on now new c.serve.new.session) c.as_slice.ensures.value c.in-Ok-serve.ensures.ok in
     let served = subst (λ (b : Bool). IsServed c.loop-ending.session front b now new c.serve.new.session) off whole in
-    ends_with_line told left mid old now c.loop-ending.session c.loop-ending.invariant front c.in-Ok.ending new c.serve.new.session c.in-Ok.ensures.line served
+    ends_with_line told left c.next_line.new.self (g.R.Read.remaining c.next_line.new.reader) old now c.loop-ending.session c.loop-ending.invariant front c.in-Ok.ending new c.serve.new.session c.in-Ok.ensures.line served c.in-Ok.ensures.few
 
 pub returns-in-End-clause-ok : goal.returns-in-End-clause-ok
 returns-in-End-clause-ok g c =
@@ -78,4 +78,32 @@ returns-in-End-clause-ok g c =
     let on : c.in-Ok-serve.goes_on ≡ true = search rules in
     let whole = subst (λ (l : List ℕ). IsServed c.loop-ending.session l c.in-Ok-serve.goes_on now new c.serve.new.session) c.as_slice.ensures.value c.in-Ok-serve.ensures.ok in
     let served = subst (λ (b : Bool). IsServed c.loop-ending.session front b now new c.serve.new.session) on whole in
-    ends_with_input told left mid old now c.loop-ending.session c.loop-ending.invariant front new c.serve.new.session raw served
+    ends_with_input told left c.next_line.new.self (g.R.Read.remaining c.next_line.new.reader) old now c.loop-ending.session c.loop-ending.invariant front new c.serve.new.session raw served
+
+pub returns-in-Err-clause-asked : goal.returns-in-Err-clause-asked
+returns-in-Err-clause-asked g c =
+    let told = g.R.Read.remaining c.args.reader.now in
+    let left = bounded c.loop-ending.input (g.R.Read.remaining c.loop-ending.reader) in
+    asks_to_stop told left c.next_line.new.self (g.R.Read.remaining c.next_line.new.reader) (g.W.Write.contents c.args.writer.now) (g.W.Write.contents c.loop-ending.writer) c.loop-ending.session c.loop-ending.invariant
+    (g.A.ReadFrom.read_failed c.next_line.new.reader) c.in-Err.ensures.failed c.in-Err.ensures.few
+
+pub returns-in-Err-serve-clause-asked : goal.returns-in-Err-serve-clause-asked
+returns-in-Err-serve-clause-asked g c =
+    let told = g.R.Read.remaining c.args.reader.now in
+    let left = bounded c.loop-ending.input (g.R.Read.remaining c.loop-ending.reader) in
+    asks_for_line told left c.next_line.new.self (g.R.Read.remaining c.next_line.new.reader) (g.W.Write.contents c.args.writer.now) (g.W.Write.contents c.loop-ending.writer) c.loop-ending.session c.loop-ending.invariant
+    c.next_line.new.line.items c.in-Ok.ending c.in-Ok.ensures.line c.in-Ok.ensures.few
+
+pub returns-then-not-goes_on-clause-asked : goal.returns-then-not-goes_on-clause-asked
+returns-then-not-goes_on-clause-asked g c =
+    let told = g.R.Read.remaining c.args.reader.now in
+    let left = bounded c.loop-ending.input (g.R.Read.remaining c.loop-ending.reader) in
+    asks_for_line told left c.next_line.new.self (g.R.Read.remaining c.next_line.new.reader) (g.W.Write.contents c.args.writer.now) (g.W.Write.contents c.loop-ending.writer) c.loop-ending.session c.loop-ending.invariant
+    c.next_line.new.line.items c.in-Ok.ending c.in-Ok.ensures.line c.in-Ok.ensures.few
+
+pub returns-in-End-clause-asked : goal.returns-in-End-clause-asked
+returns-in-End-clause-asked g c =
+    let told = g.R.Read.remaining c.args.reader.now in
+    let left = bounded c.loop-ending.input (g.R.Read.remaining c.loop-ending.reader) in
+    asks_for_line told left c.next_line.new.self (g.R.Read.remaining c.next_line.new.reader) (g.W.Write.contents c.args.writer.now) (g.W.Write.contents c.loop-ending.writer) c.loop-ending.session c.loop-ending.invariant
+    c.next_line.new.line.items c.in-Ok.ending c.in-Ok.ensures.line c.in-Ok.ensures.few

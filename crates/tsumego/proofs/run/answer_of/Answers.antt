@@ -3,7 +3,7 @@ use Rattle.std.specs.Prelude.{IfOk}
 use Rattle.std.specs.Io.KnownBytes.{Consumes}
 use Rattle.tsumego_replies.specs.Replies.{IsReplyAfter}
 use Rattle.tsumego_replies.proofs.Saying.{all_told}
-use Rattle.tsumego_replies.proofs.Judged.{may_ask, replied_to_all, replied_to_whole}
+use Rattle.tsumego_replies.proofs.Judged.{may_ask, may_ask_on, replied_to_all, replied_to_whole}
 use Rattle.tsumego.proofs.run.answer_of.Goals as goal
 
 pub returns-in-Ok-Whole-clause-reply : goal.returns-in-Ok-Whole-clause-reply
@@ -28,3 +28,13 @@ returns-in-Ok-Whole-clause-asked g c =
     let none = ap length c.new-front.ensures.items in
     let few = asked.2 in
     may_ask c.args.command (g.R.Read.remaining c.args.reader.now) (g.R.Read.remaining c.read_to_limit.new.reader) asked.0 asked.1 (omega (arith, none, few))
+
+pub returns-in-Ok-Full-clause-asked : goal.returns-in-Ok-Full-clause-asked
+returns-in-Ok-Full-clause-asked g c =
+    let read = c.in-Ok-Full.ensures.bytes in
+    let old = g.R.Read.remaining c.args.reader.now in let told = g.R.Read.remaining c.read_to_limit.new.reader in
+    let held : c.as_slice-in-Ok-Full.result.now ≡ read.0 = c.as_slice-in-Ok-Full.ensures.value ∙ read.1 ∙ ap (λ xs. xs ++ read.0) c.new-front.ensures.items in
+    let full = c.in-Ok-Full.ensures.full c.in-Ok-Full.field-0-is in
+    let long = ap length c.as_slice-in-Ok-Full.ensures.value in
+    may_ask_on c.args.command old told (g.R.Read.remaining c.reply_to-in-Ok-Full.new.reader) c.as_slice-in-Ok-Full.result.now (subst (λ l. Consumes old told l) (sym held) read.2) (omega (arith, full, long))
+    c.reply_to-in-Ok-Full.ensures.asked

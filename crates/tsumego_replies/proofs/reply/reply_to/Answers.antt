@@ -7,10 +7,10 @@ use Rattle.tsumego_problem.specs.Walk.{history_limit}
 use Rattle.tsumego_replies.specs.Answers.{Says, audit_answer, within_answer}
 use Rattle.tsumego_problem.proofs.Records.{has_problem_node}
 use Rattle.tsumego_replies.proofs.Recording.{all_behind}
-use Rattle.tsumego_replies.specs.Replies.{IsJudged, IsReply, IsSaidAfter}
+use Rattle.tsumego_replies.specs.Replies.{AsksOn, IsJudged, IsReply, IsSaidAfter}
 use Rattle.tsumego_replies.proofs.Saying.{said_of_record, some_bytes}
 use Rattle.tsumego_replies.proofs.Searching.{searched_for}
-use Rattle.tsumego_replies.proofs.Judged.{record_more, none_after, said_after, replied_after, judged_after}
+use Rattle.tsumego_replies.proofs.Judged.{asks_behind, asks_no_more, record_more, none_after, said_after, replied_after, judged_after}
 use Rattle.tsumego_replies.proofs.reply.reply_to.Goals as goal
 
 pub returns-in-Err-clause-reply : goal.returns-in-Err-clause-reply
@@ -60,3 +60,11 @@ returns-in-Solve-clause-reply g c =
     replied_after c.args.command front rest.0 told c.searched.result rest.1
     (subst (λ k. IfOk c.searched.result (λ r. IsReply k (front ++ rest.0) r)) (sym asked.is)
     (searched_for asked.steps asked.table asked.proof asked.lift (front ++ rest.0) found.tree found.end found.problem c.searched.result read c.searched.ensures))
+
+pub returns-in-Err-clause-asked : goal.returns-in-Err-clause-asked
+returns-in-Err-clause-asked g c = asks_no_more c.args.command c.args.front.now (g.R.Read.remaining c.args.reader.now)
+
+pub returns-in-Check-clause-asked : goal.returns-in-Check-clause-asked
+returns-in-Check-clause-asked g c =
+    let found = c.in-Ok.record in let front = c.args.front.now in let told = g.R.Read.remaining c.args.reader.now in let new = g.R.Read.remaining c.judge.new.reader in
+    subst (λ k. AsksOn k front told new) (sym c.in-Check.is) (asks_behind c.fronts_decide.ensures front told new found.tree found.end found.problem c.in-Ok.ensures.ok)

@@ -1,6 +1,6 @@
 use Rattle.std.proofs.Common.{rules, ◌≡◌, ◌∷◌, [], Option, ℕ, false, nat_eq, subst}
 use Rattle.gtp_core.specs.Private.Taking.{Gives, IsByte, bounded}
-use Rattle.gtp_core.proofs.Pieces.{line_more, line_fed, no_further}
+use Rattle.gtp_core.proofs.Pieces.{line_more, line_fed, stops_after}
 use Rattle.gtp_core.proofs.input.Input.next_line.Goals as goal
 
 pub returns-in-Ok-Some-eq10-clause-line : goal.returns-in-Ok-Some-eq10-clause-line
@@ -27,5 +27,6 @@ pub returns-in-Err-clause-failed : goal.returns-in-Err-clause-failed
 returns-in-Err-clause-failed g c =
     let old = bounded c.args.self.now (g.R.Read.remaining c.args.reader.now) in
     let now = bounded c.loop-byte.self (g.R.Read.remaining c.loop-byte.reader) in
-    let taken = c.loop-byte.invariant in
-    no_further (g.A.ReadFrom.read_failed c.next.new.reader) old now taken.0 taken.3 c.in-Err.ensures.failed
+    let new = bounded c.next.new.self (g.R.Read.remaining c.next.new.reader) in
+    let (line, none, kept, given) = c.loop-byte.invariant in
+    (line, none, stops_after (g.A.ReadFrom.read_failed c.next.new.reader) c.next.new.self.held old now new line given c.in-Err.ensures.failed)

@@ -246,6 +246,22 @@ def each_call(program, words, text, fault, fits=fits, told=lambda got: None):
         call += 1
 
 
+def each_stopped_search(program, words, text, fault):
+    """`each_call`; and the searches that refused memory stopped say how many steps they had made: never fewer where it was refused
+    later, and some where it was refused last."""
+    steps = []
+
+    def note(got):
+        told = re.fullmatch(rb"unknown: memory, (\d+) steps\n", got[1])
+        if told:
+            steps.append(int(told[1]))
+
+    count, findings = each_call(program, words, text, fault, told=note)
+    if steps and (steps != sorted(steps) or steps[-1] == 0):
+        findings.append((fault, (1, f"steps that were told: {steps}".encode())))
+    return count, findings
+
+
 def often(program, words, text, fault):
     got, met = program.run(words, text, fault)
     bad = not met or not fits(program, words, text, fault, program.answer(words, text), got)
@@ -271,7 +287,10 @@ def programs():
 def jobs_of(program):
     runs = RUNS if program.name == "tsumego" else HELPER_RUNS[program.name]
     for name, words, text in runs:
-        for fault in MEMORY + DEVICES:
+        is_search = program.name == "tsumego" and words[0] == "solve"
+        for fault in MEMORY:
+            yield each_stopped_search if is_search else each_call, program, name, words, text.encode(), fault
+        for fault in DEVICES:
             yield each_call, program, name, words, text.encode(), fault
         for fault in OFTEN if text else []:
             yield often, program, name, words, text.encode(), fault

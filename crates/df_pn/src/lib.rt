@@ -7,6 +7,7 @@ mod asked;
 mod frame;
 mod kept;
 mod numbers;
+mod recent;
 mod search;
 mod settled;
 mod shared;

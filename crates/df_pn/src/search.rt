@@ -11,8 +11,9 @@ ghost use Rattle.std.specs.Prelude.{◌≡◌, ◌≤◌, ◌<◌, ◌+◌, IfEr
 ghost use Rattle.state_proofs.specs.declared.stop.Stop.TheVariants.{Steps};
 
 use crate::frame::{Child, Frame, Outcome, Standing, standing_of};
-use crate::kept::{KeptChildren, KeptState};
+use crate::kept::{KeptChild, KeptChildren, KeptState};
 use crate::numbers::{Count, MoverNumbers, Thresholds};
+use crate::recent::RecentMarks;
 use go_points::{Colour, Turn};
 use pn_table::{Key, Table};
 use state_proofs::{Below, Branch, Form, Line, MAX_LINE, Move, Proofs, Refusal, Stop, key_after};
@@ -30,6 +31,8 @@ pub struct Search {
     pub(crate) line: Line,
     pub proofs: Proofs,
     table: Table,
+    /// The positions of its states.
+    recent: RecentMarks,
     attacker: Colour,
     frames: Vec<Frame>,
     pub(crate) children: Vec<Child>,
@@ -64,6 +67,7 @@ impl Search {
             line: Line::of(alloc, problem)?,
             proofs: Proofs::new(alloc),
             table: Table::with_capacity(alloc, capacity)?,
+            recent: RecentMarks::of(alloc, capacity.get())?,
             attacker: problem.defender().opponent(),
             frames: Vec::new(alloc),
             children: Vec::new(alloc),
@@ -114,26 +118,17 @@ impl Search {
         Err(Stop::Steps)
     }
 
-    /// Adds the frame of the state at the end of the line.
-    fn expand(&mut self, thresholds: Thresholds) -> Result<(), AllocError> {
+    /// Adds the frame of the state at the end of the line. `kept` has what is known of its children since it was left.
+    fn expand(
+        &mut self,
+        thresholds: Thresholds,
+        kept: Option<KeptState>,
+    ) -> Result<(), AllocError> {
         let first = self.children.len();
         self.line.list_moves(&mut self.moves)?;
-        let mut is_barred = false;
-        for place in 0..self.moves.len() {
-            if let Some(found) = self.moves.get(place).copied() {
-                if found.is_barred {
-                    is_barred = true;
-                } else {
-                    let child = self.child_by(Turn::At(found.point), found.position, found.wins);
-                    self.children.push(child)?;
-                }
-            }
-        }
-        let end = self.line.end();
-        let child = self.child_by(Turn::Pass, end.position, false);
-        self.children.push(child)?;
+        let is_barred = self.add_children(kept)?;
         self.frames.push(Frame {
-            key: end,
+            key: self.line.end(),
             thresholds,
             first,
             current: first,
@@ -142,27 +137,89 @@ impl Search {
         Ok(())
     }
 
-    /// The child after this turn, which leads to this position. `attacker_wins` says whether the attacker has won there.
-    fn child_by(&mut self, turn: Turn, position: u64, attacker_wins: bool) -> Child {
-        let end = self.line.end();
-        let made = turn;
-        let key = key_after(end, made, position);
-        let is_attacker = end.mover == self.attacker;
-        let outcome = if attacker_wins {
-            outcome_by(is_attacker, Below::Won)
-        } else if key.passes >= 2 {
-            outcome_by(!is_attacker, Below::Won)
-        } else {
-            match self.known(key) {
-                Some(outcome) => outcome,
-                None => Outcome::Open(MoverNumbers::unknown()),
+    /// Adds the children by the moves and by pass. Returns whether the past bars a move.
+    fn add_children(&mut self, kept: Option<KeptState>) -> Result<bool, AllocError> {
+        let mut is_barred = false;
+        let mut place: u32 = 0;
+        let mut used: u32 = 0;
+        for number in 0..self.moves.len() {
+            let Some(found) = self.moves.get(number).copied() else {
+                return Ok(is_barred);
+            };
+            if found.is_barred {
+                is_barred = true;
+                continue;
             }
+            let was = self.kept_child(kept, used, place);
+            if was.is_some() {
+                used = used.saturating_add(1);
+            }
+            place = place.saturating_add(1);
+            self.add_move(found, was)?;
+        }
+        let position = self.line.end().position;
+        let was = self.kept_child(kept, used, place);
+        self.add_child(Turn::Pass, position, false, was)?;
+        Ok(is_barred)
+    }
+
+    fn kept_child(&self, kept: Option<KeptState>, used: u32, place: u32) -> Option<KeptChild> {
+        self.kept.child(kept?, used, place)
+    }
+
+    /// Adds the child after a move that is not barred, of which this was kept.
+    fn add_move(&mut self, found: Move, was: Option<KeptChild>) -> Result<(), AllocError> {
+        let position = found.position;
+        let turn = Turn::At(found.point);
+        if was.is_some() || found.wins || self.may_know(position) {
+            return self.add_child(turn, position, found.wins, was);
+        }
+        // So it is nearly always, on a wide board.
+        self.children.push(Child::unknown(turn, position))?;
+        Ok(())
+    }
+
+    /// Whether anything may be known of a state with this position.
+    fn may_know(&self, position: u64) -> bool {
+        self.proofs.may_have(position) || self.recent.may_have(position)
+    }
+
+    /// Adds the child after this turn, which leads to this position, of which this was kept. `attacker_wins` says whether the
+    /// attacker has won there.
+    fn add_child(
+        &mut self,
+        turn: Turn,
+        position: u64,
+        attacker_wins: bool,
+        was: Option<KeptChild>,
+    ) -> Result<(), AllocError> {
+        let made = turn;
+        let key = key_after(self.line.end(), made, position);
+        let (outcome, kept) = match was {
+            Some(was) => (self.outcome_now(key, was.outcome), was.kept),
+            None => (self.first_outcome(key, attacker_wins), None),
         };
-        Child {
+        self.children.push(Child {
             turn,
-            key,
+            position,
             outcome,
-            kept: None,
+            kept,
+        })?;
+        Ok(())
+    }
+
+    /// The outcome of a state one turn further at the first look.
+    fn first_outcome(&mut self, key: Key, attacker_wins: bool) -> Outcome {
+        let is_attacker = key.mover != self.attacker;
+        if attacker_wins {
+            return outcome_by(is_attacker, Below::Won);
+        }
+        if key.passes >= 2 {
+            return outcome_by(!is_attacker, Below::Won);
+        }
+        match self.known(key) {
+            Some(outcome) => outcome,
+            None => Outcome::Open(MoverNumbers::unknown()),
         }
     }
 
@@ -172,11 +229,13 @@ impl Search {
         if let Some((winner, number)) = self.proved(key) {
             return Some(outcome_by(winner == mover, Below::Proof(number)));
         }
-        let is_attacker = mover == self.attacker;
-        match self.table.look(key) {
-            Some(numbers) => Some(Outcome::Open(MoverNumbers::from_table(numbers, is_attacker))),
-            None => None,
+        if !self.recent.may_have(key.position) {
+            return None;
         }
+        let numbers = self.table.look(key)?;
+        self.recent.mark(key.position);
+        let is_attacker = mover == self.attacker;
+        Some(Outcome::Open(MoverNumbers::from_table(numbers, is_attacker)))
     }
 
     /// The proof of a state one turn further that holds there, and who wins by it.
@@ -189,7 +248,7 @@ impl Search {
 
     /// Expands the state at the end of the line, and goes on until another state has to be expanded or the first is settled.
     fn step(&mut self, thresholds: Thresholds) -> Result<Round, Refusal> {
-        self.expand(thresholds)?;
+        self.expand(thresholds, None)?;
         for _ in 0..MAX_ROUNDS {
             let round = self.round()?;
             if !matches!(round, Round::Again) {
@@ -260,6 +319,7 @@ impl Search {
         let is_attacker = frame.key.mover == self.attacker;
         // If memory is refused, the table does without.
         let _stored = self.table.store(frame.key, numbers.for_table(is_attacker));
+        self.recent.mark(frame.key.position);
         let kept = self.keep_children(frame);
         self.leave(frame);
         if let Some(above) = self.frames.last().copied() {
@@ -267,13 +327,18 @@ impl Search {
         }
     }
 
-    /// Keeps the children of the last frame.
+    /// Keeps what is known of the children of the last frame.
     fn keep_children(&mut self, frame: Frame) -> Option<KeptState> {
-        let mut state = self.kept.begin(frame.is_barred);
-        for place in frame.first..self.children.len() {
-            if let Some(child) = self.children.get(place).copied() {
-                state = self.kept.add(state, child)?;
+        let count = self.children.len().saturating_sub(frame.first);
+        let mut state = self.kept.begin(count);
+        let mut place: u32 = 0;
+        for number in frame.first..self.children.len() {
+            if let Some(child) = self.children.get(number).copied() {
+                if child.is_known() {
+                    state = self.kept.add(state, place, child)?;
+                }
             }
+            place = place.saturating_add(1);
         }
         Some(state)
     }
@@ -291,7 +356,9 @@ impl Search {
         let Some(child) = self.children.get(place).copied() else {
             return Err(Refusal::Fault);
         };
-        if let Some((winner, number)) = self.proved(child.key) {
+        let turn = child.turn;
+        let key = key_after(frame.key, turn, child.position);
+        if let Some((winner, number)) = self.proved(key) {
             let outcome = outcome_by(winner == frame.key.mover, Below::Proof(number));
             self.set_outcome(place, outcome, None);
             return Ok(Round::Again);
@@ -306,54 +373,18 @@ impl Search {
         if last < self.frames.len() {
             self.frames[last].current = place;
         }
-        self.line.go(child.turn, child.key)?;
+        self.line.go(child.turn, key)?;
         let thresholds = frame
             .thresholds
             .below(count.numbers(), numbers, count.second);
         if let Some(kept) = child.kept {
-            if self.open_again(kept, thresholds)? {
+            if self.kept.has(kept) {
+                // It is not a step, since nothing is expanded for the first time.
+                self.expand(thresholds, Some(kept))?;
                 return Ok(Round::Again);
             }
         }
         Ok(Round::Expand(thresholds))
-    }
-
-    /// Adds the frame of the state at the end of the line with its kept children, and with what has become known of them. Returns
-    /// whether they are all still kept. It is not a step, since nothing is expanded.
-    fn open_again(&mut self, kept: KeptState, thresholds: Thresholds) -> Result<bool, AllocError> {
-        let first = self.children.len();
-        for place in 0..kept.count {
-            if !self.add_kept(kept, place)? {
-                self.children.truncate(first);
-                return Ok(false);
-            }
-        }
-        self.frames.push(Frame {
-            key: self.line.end(),
-            thresholds,
-            first,
-            current: first,
-            is_barred: kept.is_barred,
-        })?;
-        Ok(true)
-    }
-
-    /// Adds the child at this place with what is known of it now, if it is still kept.
-    fn add_kept(&mut self, kept: KeptState, place: usize) -> Result<bool, AllocError> {
-        let Some(child) = self.kept.get(kept, place) else {
-            return Ok(false);
-        };
-        let turn = child.turn;
-        let key = child.key;
-        let kept = child.kept;
-        let outcome = self.outcome_now(key, child.outcome);
-        self.children.push(Child {
-            turn,
-            key,
-            outcome,
-            kept,
-        })?;
-        Ok(true)
     }
 
     /// What is now known of a child that had this outcome.

@@ -49,18 +49,22 @@ impl KeptChildren {
         }
     }
 
-    /// A state with this many children; what is known of them is still to be added.
-    pub(crate) fn begin(&mut self, children: usize) -> KeptState {
+    /// A state with this many children; what is known of them is still to be added. `None` if a list has more than there are
+    /// numbers for.
+    pub(crate) fn begin(&mut self, children: usize) -> Option<KeptState> {
         if self.children >= ROOM {
             self.older = mem::replace(&mut self.newer, Vec::new(self.alloc));
             self.list = self.list.wrapping_add(1);
             self.children = 0;
         }
         self.children = self.children.saturating_add(children);
-        KeptState {
-            list: self.list,
-            first: self.newer.len() as u32,
-            count: 0,
+        match u32::try_from(self.newer.len()) {
+            Ok(first) => Some(KeptState {
+                list: self.list,
+                first,
+                count: 0,
+            }),
+            Err(_) => None,
         }
     }
 

@@ -4,6 +4,7 @@
 #![tactic(auto)]
 
 mod asked;
+mod children;
 mod frame;
 mod kept;
 mod numbers;

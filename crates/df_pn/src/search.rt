@@ -11,7 +11,7 @@ ghost use Rattle.std.specs.Prelude.{◌≡◌, ◌≤◌, ◌<◌, ◌+◌, IfEr
 ghost use Rattle.state_proofs.specs.declared.stop.Stop.TheVariants.{Steps};
 
 use crate::frame::{Child, Frame, Outcome, Standing, standing_of};
-use crate::kept::{KeptChild, KeptChildren, KeptState};
+use crate::kept::{KeptChildren, KeptState};
 use crate::numbers::{Count, MoverNumbers, Thresholds};
 use crate::recent::RecentMarks;
 use go_points::{Colour, Turn};
@@ -30,13 +30,13 @@ const MAX_ROUNDS: u32 = 1_000_000;
 pub struct Search {
     pub(crate) line: Line,
     pub proofs: Proofs,
-    table: Table,
+    pub(crate) table: Table,
     /// The positions of its states.
-    recent: RecentMarks,
-    attacker: Colour,
-    frames: Vec<Frame>,
+    pub(crate) recent: RecentMarks,
+    pub(crate) attacker: Colour,
+    pub(crate) frames: Vec<Frame>,
     pub(crate) children: Vec<Child>,
-    kept: KeptChildren,
+    pub(crate) kept: KeptChildren,
     /// The moves of one state.
     pub(crate) moves: Vec<Move>,
     /// The branches of one proof.
@@ -116,126 +116,6 @@ impl Search {
             }
         }
         Err(Stop::Steps)
-    }
-
-    /// Adds the frame of the state at the end of the line. `kept` has what is known of its children since it was left.
-    fn expand(
-        &mut self,
-        thresholds: Thresholds,
-        kept: Option<KeptState>,
-    ) -> Result<(), AllocError> {
-        let first = self.children.len();
-        self.line.list_moves(&mut self.moves)?;
-        let is_barred = self.add_children(kept)?;
-        self.frames.push(Frame {
-            key: self.line.end(),
-            thresholds,
-            first,
-            current: first,
-            is_barred,
-        })?;
-        Ok(())
-    }
-
-    /// Adds the children by the moves and by pass. Returns whether the past bars a move.
-    fn add_children(&mut self, kept: Option<KeptState>) -> Result<bool, AllocError> {
-        let mut is_barred = false;
-        let mut place: u32 = 0;
-        let mut used: u32 = 0;
-        for number in 0..self.moves.len() {
-            let Some(found) = self.moves.get(number).copied() else {
-                return Ok(is_barred);
-            };
-            if found.is_barred {
-                is_barred = true;
-                continue;
-            }
-            let was = self.kept_child(kept, used, place);
-            if was.is_some() {
-                used = used.saturating_add(1);
-            }
-            place = place.saturating_add(1);
-            self.add_move(found, was)?;
-        }
-        let position = self.line.end().position;
-        let was = self.kept_child(kept, used, place);
-        self.add_child(Turn::Pass, position, false, was)?;
-        Ok(is_barred)
-    }
-
-    fn kept_child(&self, kept: Option<KeptState>, used: u32, place: u32) -> Option<KeptChild> {
-        self.kept.child(kept?, used, place)
-    }
-
-    /// Adds the child after a move that is not barred, of which this was kept.
-    fn add_move(&mut self, found: Move, was: Option<KeptChild>) -> Result<(), AllocError> {
-        let position = found.position;
-        let turn = Turn::At(found.point);
-        if was.is_some() || found.wins || self.may_know(position) {
-            return self.add_child(turn, position, found.wins, was);
-        }
-        // So it is nearly always, on a wide board.
-        self.children.push(Child::unknown(turn, position))?;
-        Ok(())
-    }
-
-    /// Whether anything may be known of a state with this position.
-    fn may_know(&self, position: u64) -> bool {
-        self.proofs.may_have(position) || self.recent.may_have(position)
-    }
-
-    /// Adds the child after this turn, which leads to this position, of which this was kept. `attacker_wins` says whether the
-    /// attacker has won there.
-    fn add_child(
-        &mut self,
-        turn: Turn,
-        position: u64,
-        attacker_wins: bool,
-        was: Option<KeptChild>,
-    ) -> Result<(), AllocError> {
-        let made = turn;
-        let key = key_after(self.line.end(), made, position);
-        let (outcome, kept) = match was {
-            Some(was) => (self.outcome_now(key, was.outcome), was.kept),
-            None => (self.first_outcome(key, attacker_wins), None),
-        };
-        self.children.push(Child {
-            turn,
-            position,
-            outcome,
-            kept,
-        })?;
-        Ok(())
-    }
-
-    /// The outcome of a state one turn further at the first look.
-    fn first_outcome(&mut self, key: Key, attacker_wins: bool) -> Outcome {
-        let is_attacker = key.mover != self.attacker;
-        if attacker_wins {
-            return outcome_by(is_attacker, Below::Won);
-        }
-        if key.passes >= 2 {
-            return outcome_by(!is_attacker, Below::Won);
-        }
-        match self.known(key) {
-            Some(outcome) => outcome,
-            None => Outcome::Open(MoverNumbers::unknown()),
-        }
-    }
-
-    /// What is known of a state one turn further, as the mover before it sees it: a proof that holds there, or its numbers.
-    fn known(&mut self, key: Key) -> Option<Outcome> {
-        let mover = key.mover.opponent();
-        if let Some((winner, number)) = self.proved(key) {
-            return Some(outcome_by(winner == mover, Below::Proof(number)));
-        }
-        if !self.recent.may_have(key.position) {
-            return None;
-        }
-        let numbers = self.table.look(key)?;
-        self.recent.mark(key.position);
-        let is_attacker = mover == self.attacker;
-        Some(Outcome::Open(MoverNumbers::from_table(numbers, is_attacker)))
     }
 
     /// The proof of a state one turn further that holds there, and who wins by it.
@@ -330,7 +210,7 @@ impl Search {
     /// Keeps what is known of the children of the last frame.
     fn keep_children(&mut self, frame: Frame) -> Option<KeptState> {
         let count = self.children.len().saturating_sub(frame.first);
-        let mut state = self.kept.begin(count);
+        let mut state = self.kept.begin(count)?;
         let mut place: u32 = 0;
         for number in frame.first..self.children.len() {
             if let Some(child) = self.children.get(number).copied() {
@@ -386,21 +266,10 @@ impl Search {
         }
         Ok(Round::Expand(thresholds))
     }
-
-    /// What is now known of a child that had this outcome.
-    fn outcome_now(&mut self, key: Key, outcome: Outcome) -> Outcome {
-        if !matches!(outcome, Outcome::Open(_)) {
-            return outcome;
-        }
-        match self.known(key) {
-            Some(known) => known,
-            None => outcome,
-        }
-    }
 }
 
 /// The outcome of a settled child.
-fn outcome_by(mover_wins: bool, below: Below) -> Outcome {
+pub(crate) fn outcome_by(mover_wins: bool, below: Below) -> Outcome {
     if mover_wins {
         Outcome::Wins(below)
     } else {

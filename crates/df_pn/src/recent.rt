@@ -4,16 +4,16 @@ use state_proofs::Marks;
 use std::alloc::{AllocError, Global};
 use std::mem;
 
-/// Marks of the positions that were stored or found in a table of limited size.
+/// Marks of the positions of states that were stored or found in a table of limited size.
 ///
-/// They are in two parts: when as many are new in the newer part as the table has room for, it becomes the older, whose marks are
-/// removed. A state of the table was stored or found later than all but the latest of that many others, so it has its mark in one
-/// of the parts.
+/// They are in two parts: when the newer part has marks of as many positions as the table has room for states, it becomes the older,
+/// whose marks are removed. By the time that a state's mark is removed, that many others were stored or found after it, so the
+/// table has dropped it.
 #[derive(Drop)]
 pub(crate) struct RecentMarks {
     newer: Marks,
     older: Marks,
-    /// How many are in the newer part, and how many there may be.
+    /// How many marks the newer part has, and how many it may have.
     count: usize,
     most: usize,
 }

@@ -1,9 +1,9 @@
 //! Depth-first proof-number search.
 //!
 //! The line of play that is searched is a stack of frames, with the children of all of them in one list. The work goes down to the
-//! child with the least number for the mover, and comes back when the child is settled or its numbers reach their thresholds. Its
-//! own children are kept, so it need not be expanded again when the work comes back to it. A settled state becomes a proof, which
-//! is used again wherever its conditions on the past hold.
+//! child with the least number for the mover, and comes back when the child is settled or its numbers reach their thresholds. What
+//! is known of its own children is kept, so it is no step when the work comes back to it. A settled state becomes a proof, which is
+//! used again wherever its conditions on the past hold.
 //!
 //! Nothing is promised about the numbers: what is found is given to the checker.
 

@@ -5,7 +5,7 @@ use std::alloc::{AllocError, Global};
 /// For how many positions there is room in a word.
 const IN_A_WORD: usize = 8;
 
-/// A bit for each position that was marked, found by the last bits of its key. Positions may share one.
+/// Two bits of a word for each position that was marked, found by its key. Positions may share them.
 #[derive(Drop)]
 pub struct Marks {
     words: Vec<u64>,
@@ -19,7 +19,7 @@ impl Marks {
         }
     }
 
-    /// For how many positions there is room: of those that are not marked, at most one in eight shares a bit with one that is.
+    /// For how many positions there is room: then some four of a hundred that are not marked share the bits of those that are.
     pub fn room(&self) -> usize {
         self.words.len().saturating_mul(IN_A_WORD)
     }
@@ -39,25 +39,30 @@ impl Marks {
     /// Whether the position may be marked.
     pub fn may_have(&self, position: u64) -> bool {
         match self.words.get(self.place(position)) {
-            Some(word) => *word >> (position % 64) & 1 == 1,
+            Some(word) => *word & bits_of(position) == bits_of(position),
             None => true,
         }
     }
 
-    /// Marks the position, and returns whether no position that shares its bit was marked.
+    /// Marks the position, and returns whether a bit was set for it: then it had not been marked.
     pub fn mark(&mut self, position: u64) -> bool {
         let place = self.place(position);
         if place >= self.words.len() {
             return false;
         }
-        let word = self.words[place];
-        let bit = 1 << (position % 64);
-        self.words[place] = word | bit;
-        word & bit == 0
+        let before = self.words[place];
+        let after = before | bits_of(position);
+        self.words[place] = after;
+        after != before
     }
 
-    // The place of the word with the position's bit. The number of words is a power of two.
+    // The place of the word with the position's bits. The number of words is a power of two.
     fn place(&self, position: u64) -> usize {
         (position / 64) as usize & self.words.len().saturating_sub(1)
     }
+}
+
+// The bits of the position in its word.
+fn bits_of(position: u64) -> u64 {
+    1 << (position % 64) | 1 << ((position >> 32) % 64)
 }

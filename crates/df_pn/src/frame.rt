@@ -18,10 +18,30 @@ pub(crate) enum Outcome {
 #[derive(Clone, Copy)]
 pub(crate) struct Child {
     pub(crate) turn: Turn,
-    pub(crate) key: Key,
+    pub(crate) position: u64,
     pub(crate) outcome: Outcome,
-    /// Its own children, if it was left unsettled.
+    /// What is known of its own children, if it was left unsettled.
     pub(crate) kept: Option<KeptState>,
+}
+
+impl Child {
+    /// A child of which nothing is known.
+    pub(crate) fn unknown(turn: Turn, position: u64) -> Child {
+        Child {
+            turn,
+            position,
+            outcome: Outcome::Open(MoverNumbers::unknown()),
+            kept: None,
+        }
+    }
+
+    /// Whether anything is known of it.
+    pub(crate) fn is_known(&self) -> bool {
+        match self.outcome {
+            Outcome::Open(numbers) => numbers != MoverNumbers::unknown() || self.kept.is_some(),
+            _ => true,
+        }
+    }
 }
 
 /// A state of the line. Its children come after those of the states above it, in one list for all.

@@ -4,9 +4,11 @@
 #![tactic(auto)]
 
 mod asked;
+mod children;
 mod frame;
 mod kept;
 mod numbers;
+mod recent;
 mod search;
 mod settled;
 mod shared;

@@ -1,9 +1,9 @@
 //! Depth-first proof-number search.
 //!
 //! The line of play that is searched is a stack of frames, with the children of all of them in one list. The work goes down to the
-//! child with the least number for the mover, and comes back when the child is settled or its numbers reach their thresholds. Its
-//! own children are kept, so it need not be expanded again when the work comes back to it. A settled state becomes a proof, which
-//! is used again wherever its conditions on the past hold.
+//! child with the least number for the mover, and comes back when the child is settled or its numbers reach their thresholds. What
+//! is known of its own children is kept, so it is no step when the work comes back to it. A settled state becomes a proof, which is
+//! used again wherever its conditions on the past hold.
 //!
 //! Nothing is promised about the numbers: what is found is given to the checker.
 
@@ -13,6 +13,7 @@ ghost use Rattle.state_proofs.specs.declared.stop.Stop.TheVariants.{Steps};
 use crate::frame::{Child, Frame, Outcome, Standing, standing_of};
 use crate::kept::{KeptChildren, KeptState};
 use crate::numbers::{Count, MoverNumbers, Thresholds};
+use crate::recent::RecentMarks;
 use go_points::{Colour, Turn};
 use pn_table::{Key, Table};
 use state_proofs::{Below, Branch, Form, Line, MAX_LINE, Move, Proofs, Refusal, Stop, key_after};
@@ -29,11 +30,13 @@ const MAX_ROUNDS: u32 = 1_000_000;
 pub struct Search {
     pub(crate) line: Line,
     pub proofs: Proofs,
-    table: Table,
-    attacker: Colour,
-    frames: Vec<Frame>,
+    pub(crate) table: Table,
+    /// The positions of its states.
+    pub(crate) recent: RecentMarks,
+    pub(crate) attacker: Colour,
+    pub(crate) frames: Vec<Frame>,
     pub(crate) children: Vec<Child>,
-    kept: KeptChildren,
+    pub(crate) kept: KeptChildren,
     /// The moves of one state.
     pub(crate) moves: Vec<Move>,
     /// The branches of one proof.
@@ -64,6 +67,7 @@ impl Search {
             line: Line::of(alloc, problem)?,
             proofs: Proofs::new(alloc),
             table: Table::with_capacity(alloc, capacity)?,
+            recent: RecentMarks::of(alloc, capacity.get())?,
             attacker: problem.defender().opponent(),
             frames: Vec::new(alloc),
             children: Vec::new(alloc),
@@ -114,71 +118,6 @@ impl Search {
         Err(Stop::Steps)
     }
 
-    /// Adds the frame of the state at the end of the line.
-    fn expand(&mut self, thresholds: Thresholds) -> Result<(), AllocError> {
-        let first = self.children.len();
-        self.line.list_moves(&mut self.moves)?;
-        let mut is_barred = false;
-        for place in 0..self.moves.len() {
-            if let Some(found) = self.moves.get(place).copied() {
-                if found.is_barred {
-                    is_barred = true;
-                } else {
-                    let child = self.child_by(Turn::At(found.point), found.position, found.wins);
-                    self.children.push(child)?;
-                }
-            }
-        }
-        let end = self.line.end();
-        let child = self.child_by(Turn::Pass, end.position, false);
-        self.children.push(child)?;
-        self.frames.push(Frame {
-            key: end,
-            thresholds,
-            first,
-            current: first,
-            is_barred,
-        })?;
-        Ok(())
-    }
-
-    /// The child after this turn, which leads to this position. `attacker_wins` says whether the attacker has won there.
-    fn child_by(&mut self, turn: Turn, position: u64, attacker_wins: bool) -> Child {
-        let end = self.line.end();
-        let made = turn;
-        let key = key_after(end, made, position);
-        let is_attacker = end.mover == self.attacker;
-        let outcome = if attacker_wins {
-            outcome_by(is_attacker, Below::Won)
-        } else if key.passes >= 2 {
-            outcome_by(!is_attacker, Below::Won)
-        } else {
-            match self.known(key) {
-                Some(outcome) => outcome,
-                None => Outcome::Open(MoverNumbers::unknown()),
-            }
-        };
-        Child {
-            turn,
-            key,
-            outcome,
-            kept: None,
-        }
-    }
-
-    /// What is known of a state one turn further, as the mover before it sees it: a proof that holds there, or its numbers.
-    fn known(&mut self, key: Key) -> Option<Outcome> {
-        let mover = key.mover.opponent();
-        if let Some((winner, number)) = self.proved(key) {
-            return Some(outcome_by(winner == mover, Below::Proof(number)));
-        }
-        let is_attacker = mover == self.attacker;
-        match self.table.look(key) {
-            Some(numbers) => Some(Outcome::Open(MoverNumbers::from_table(numbers, is_attacker))),
-            None => None,
-        }
-    }
-
     /// The proof of a state one turn further that holds there, and who wins by it.
     pub(crate) fn proved(&self, key: Key) -> Option<(Colour, u32)> {
         let line = self.line.len().saturating_add(1);
@@ -189,7 +128,7 @@ impl Search {
 
     /// Expands the state at the end of the line, and goes on until another state has to be expanded or the first is settled.
     fn step(&mut self, thresholds: Thresholds) -> Result<Round, Refusal> {
-        self.expand(thresholds)?;
+        self.expand(thresholds, None)?;
         for _ in 0..MAX_ROUNDS {
             let round = self.round()?;
             if !matches!(round, Round::Again) {
@@ -260,6 +199,7 @@ impl Search {
         let is_attacker = frame.key.mover == self.attacker;
         // If memory is refused, the table does without.
         let _stored = self.table.store(frame.key, numbers.for_table(is_attacker));
+        self.recent.mark(frame.key.position);
         let kept = self.keep_children(frame);
         self.leave(frame);
         if let Some(above) = self.frames.last().copied() {
@@ -267,13 +207,18 @@ impl Search {
         }
     }
 
-    /// Keeps the children of the last frame.
+    /// Keeps what is known of the children of the last frame.
     fn keep_children(&mut self, frame: Frame) -> Option<KeptState> {
-        let mut state = self.kept.begin(frame.is_barred);
-        for place in frame.first..self.children.len() {
-            if let Some(child) = self.children.get(place).copied() {
-                state = self.kept.add(state, child)?;
+        let count = self.children.len().saturating_sub(frame.first);
+        let mut state = self.kept.begin(count)?;
+        let mut place: u32 = 0;
+        for number in frame.first..self.children.len() {
+            if let Some(child) = self.children.get(number).copied() {
+                if child.is_known() {
+                    state = self.kept.add(state, place, child)?;
+                }
             }
+            place = place.saturating_add(1);
         }
         Some(state)
     }
@@ -291,7 +236,9 @@ impl Search {
         let Some(child) = self.children.get(place).copied() else {
             return Err(Refusal::Fault);
         };
-        if let Some((winner, number)) = self.proved(child.key) {
+        let turn = child.turn;
+        let key = key_after(frame.key, turn, child.position);
+        if let Some((winner, number)) = self.proved(key) {
             let outcome = outcome_by(winner == frame.key.mover, Below::Proof(number));
             self.set_outcome(place, outcome, None);
             return Ok(Round::Again);
@@ -306,70 +253,23 @@ impl Search {
         if last < self.frames.len() {
             self.frames[last].current = place;
         }
-        self.line.go(child.turn, child.key)?;
+        self.line.go(child.turn, key)?;
         let thresholds = frame
             .thresholds
             .below(count.numbers(), numbers, count.second);
         if let Some(kept) = child.kept {
-            if self.open_again(kept, thresholds)? {
+            if self.kept.has(kept) {
+                // It is not a step, since nothing is expanded for the first time.
+                self.expand(thresholds, Some(kept))?;
                 return Ok(Round::Again);
             }
         }
         Ok(Round::Expand(thresholds))
     }
-
-    /// Adds the frame of the state at the end of the line with its kept children, and with what has become known of them. Returns
-    /// whether they are all still kept. It is not a step, since nothing is expanded.
-    fn open_again(&mut self, kept: KeptState, thresholds: Thresholds) -> Result<bool, AllocError> {
-        let first = self.children.len();
-        for place in 0..kept.count {
-            if !self.add_kept(kept, place)? {
-                self.children.truncate(first);
-                return Ok(false);
-            }
-        }
-        self.frames.push(Frame {
-            key: self.line.end(),
-            thresholds,
-            first,
-            current: first,
-            is_barred: kept.is_barred,
-        })?;
-        Ok(true)
-    }
-
-    /// Adds the child at this place with what is known of it now, if it is still kept.
-    fn add_kept(&mut self, kept: KeptState, place: usize) -> Result<bool, AllocError> {
-        let Some(child) = self.kept.get(kept, place) else {
-            return Ok(false);
-        };
-        let turn = child.turn;
-        let key = child.key;
-        let kept = child.kept;
-        let outcome = self.outcome_now(key, child.outcome);
-        self.children.push(Child {
-            turn,
-            key,
-            outcome,
-            kept,
-        })?;
-        Ok(true)
-    }
-
-    /// What is now known of a child that had this outcome.
-    fn outcome_now(&mut self, key: Key, outcome: Outcome) -> Outcome {
-        if !matches!(outcome, Outcome::Open(_)) {
-            return outcome;
-        }
-        match self.known(key) {
-            Some(known) => known,
-            None => outcome,
-        }
-    }
 }
 
 /// The outcome of a settled child.
-fn outcome_by(mover_wins: bool, below: Below) -> Outcome {
+pub(crate) fn outcome_by(mover_wins: bool, below: Below) -> Outcome {
     if mover_wins {
         Outcome::Wins(below)
     } else {

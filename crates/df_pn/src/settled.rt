@@ -21,7 +21,7 @@ impl Search {
             Form::Turn => {
                 if let Some(child) = winning_child(self.children_of(frame), &self.proofs) {
                     if child.turn != Turn::Pass {
-                        result = Some(child.key.position);
+                        result = Some(child.position);
                     }
                     self.add_branch(child)?;
                 }

@@ -9,6 +9,8 @@ mod few_turns;
 #[cfg(test)]
 mod known_lemmas;
 #[cfg(test)]
+mod listed_moves;
+#[cfg(test)]
 mod play;
 #[cfg(test)]
 mod positions;

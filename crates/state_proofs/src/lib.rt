@@ -5,10 +5,13 @@
 
 mod answers;
 mod line;
+mod marks;
 mod past;
 mod play;
 mod proofs;
+mod quiet;
 mod refusal;
+mod rows;
 mod shared;
 mod sharing;
 mod stop;
@@ -16,6 +19,7 @@ mod used;
 
 pub use answers::{Answers, steps_for_smaller};
 pub use line::{Line, key_after};
+pub use marks::Marks;
 pub use past::Past;
 pub use play::{Move, Play, move_of};
 pub use proofs::{Below, Branch, Form, MAX_LINE, Proof, Proofs, Settled};

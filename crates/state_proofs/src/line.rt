@@ -105,7 +105,7 @@ impl Line {
 
     /// The moves at its end, points ascending, including barred ones.
     pub fn list_moves(&self, moves: &mut Vec<Move>) -> Result<(), AllocError> {
-        self.play.list_moves(moves)
+        self.play.list_moves(&self.past, moves)
     }
 
     pub fn play(&self) -> &Play {

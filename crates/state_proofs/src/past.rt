@@ -3,16 +3,27 @@
 use indexmap::IndexSet;
 use std::alloc::{AllocError, Global};
 
+/// How many groups of positions are counted.
+const GROUPS: usize = 1024;
+
 /// The keys of the colourings that have occurred, in order of first occurrence.
 #[derive(Drop)]
 pub struct Past {
     positions: IndexSet<u64>,
+    /// How many of them are in each group: most questions are about a position whose group is empty.
+    counts: [u16; GROUPS],
+}
+
+// The group of the position.
+fn group_of(position: u64) -> usize {
+    position as usize % GROUPS
 }
 
 impl Past {
     pub fn new(alloc: Global) -> Past {
         Past {
             positions: IndexSet::new(alloc),
+            counts: [0; GROUPS],
         }
     }
 
@@ -27,17 +38,32 @@ impl Past {
     }
 
     pub fn has(&self, position: u64) -> bool {
-        self.positions.contains(&position)
+        match self.counts.get(group_of(position)) {
+            Some(0) => false,
+            _ => self.positions.contains(&position),
+        }
     }
 
     /// Adds the position, and returns whether it is new.
     pub fn add(&mut self, position: u64) -> Result<bool, AllocError> {
-        Ok(self.positions.insert(position)?)
+        let is_new = self.positions.insert(position)?;
+        if is_new {
+            let group = group_of(position);
+            if group < self.counts.len() {
+                self.counts[group] = self.counts[group].saturating_add(1);
+            }
+        }
+        Ok(is_new)
     }
 
     /// Takes the latest position off.
     pub fn take_last(&mut self) {
-        self.positions.pop();
+        if let Some(position) = self.positions.pop() {
+            let group = group_of(position);
+            if group < self.counts.len() {
+                self.counts[group] = self.counts[group].saturating_sub(1);
+            }
+        }
     }
 
     /// Whether one of the positions, which ascend, has occurred.

@@ -5,10 +5,13 @@ ghost use Rattle.go_points.specs.Grid.{cell_at, same_cell};
 ghost use Rattle.go_points.specs.Place.{IsOn, number_of};
 ghost use Rattle.go_points.specs.declared.Cell.TheVariants.{Empty};
 
-use go_points::{Colour, Colouring, Point, Size, Turn};
+use crate::past::Past;
+use crate::quiet::QuietMoves;
+use crate::rows::Rows;
+use go_points::{Colour, Colouring, MAX_POINTS, Point, Turn};
 use pn_table::Key;
 use std::alloc::{AllocError, Global};
-use stone_key::key_of;
+use stone_key::{key_of, stone_word};
 use target_game::{PlayState, Problem, State};
 
 /// A move of the mover at an open point that changes the colouring.
@@ -29,6 +32,8 @@ pub struct Play {
     state: PlayState,
     /// How many turns may be taken back.
     made: usize,
+    /// The points at which either side may move.
+    region: Rows,
     ghost within: { made ≤ length state.before },
 }
 
@@ -36,7 +41,11 @@ impl Play {
     /// The start of the problem.
     pub fn of(alloc: Global, problem: &Problem) -> Result<Play, AllocError> {
         let state = State::of(alloc, problem)?;
-        Ok(Play { state, made: 0 })
+        Ok(Play {
+            state,
+            made: 0,
+            region: Rows::of(problem.region(), problem.size()),
+        })
     }
 
     /// The state with only this colouring in its history. `None` if there is no such state.
@@ -51,7 +60,11 @@ impl Play {
             return None;
         }
         match State::at(alloc, problem, colouring, mover, passes as u64) {
-            Ok(state) => Some(Play { state, made: 0 }),
+            Ok(state) => Some(Play {
+                state,
+                made: 0,
+                region: Rows::of(problem.region(), problem.size()),
+            }),
             Err(_) => None,
         }
     }
@@ -89,32 +102,69 @@ impl Play {
         self.state.colouring()
     }
 
-    /// Lists the mover's moves, points ascending, including barred ones. There are none if somebody has won.
-    pub fn list_moves(&self, moves: &mut Vec<Move>) -> Result<(), AllocError> {
+    /// Lists the mover's moves, points ascending, including barred ones. There are none if somebody has won. `past` has the
+    /// positions that have occurred in this play.
+    pub fn list_moves(&self, past: &Past, moves: &mut Vec<Move>) -> Result<(), AllocError> {
         moves.clear();
         if self.state.over().is_some() {
             return Ok(());
         }
-        add_moves(&self.state, moves)
-    }
-}
-
-/// Adds the mover's moves.
-fn add_moves(state: &PlayState, moves: &mut Vec<Move>) -> Result<(), AllocError> {
-    let size = state.size();
-    let present = state.key();
-    let mut number = 0;
-    while number < size.area() {
-        let Some(point) = state.next_open(number) else {
-            return Ok(());
-        };
-        let found = move_at(state, point);
-        if found.position != present {
-            moves.push(found)?;
+        let quiet = QuietMoves::of(&self.state.colouring(), self.state.mover());
+        for row in 0..self.state.size().rows() {
+            self.add_row(&quiet, row, past, moves)?;
         }
-        number = point.number(size) + 1;
+        Ok(())
     }
-    Ok(())
+
+    /// Adds the mover's moves in the row.
+    fn add_row(
+        &self,
+        quiet: &QuietMoves,
+        row: u8,
+        past: &Past,
+        moves: &mut Vec<Move>,
+    ) -> Result<(), AllocError> {
+        let size = self.state.size();
+        let open = quiet.empty(row) & self.region.at(row);
+        let surely = quiet.quiet(row);
+        for column in 0..size.rows() {
+            if open >> column & 1 == 1 {
+                let is_quiet = surely >> column & 1 == 1;
+                if let Some(found) = self.move_in(column, row, is_quiet, past) {
+                    moves.push(found)?;
+                }
+            }
+        }
+        Ok(())
+    }
+
+    /// The move at an open point. `None` if it changes nothing. If a quiet move makes a position whose key has not occurred, that
+    /// position has not, and the targets stand as before.
+    fn move_in(&self, column: u8, row: u8, is_quiet: bool, past: &Past) -> Option<Move> {
+        let size = self.state.size();
+        let point = size.point(column, row)?;
+        let present = self.state.key();
+        if is_quiet {
+            prove!(size.area() <= MAX_POINTS);
+            let position = present ^ stone_word(point.number(size), self.state.mover());
+            if !past.has(position) {
+                return Some(Move {
+                    point,
+                    position,
+                    is_barred: false,
+                    wins: false,
+                });
+            }
+        }
+        if !self.state.is_open(point) {
+            return None;
+        }
+        let found = move_at(&self.state, point);
+        if found.position == present {
+            return None;
+        }
+        Some(found)
+    }
 }
 
 /// The move at the open point.

@@ -3,6 +3,7 @@
 //! A proof is never changed, and uses only lower ones. A wrong number in it could at worst lead to a claim that the checker
 //! refuses, so numbers are tested where they are used, and nothing is promised about them.
 
+use crate::marks::Marks;
 use crate::past::Past;
 use go_points::{Colour, Turn};
 use indexmap::IndexMap;
@@ -11,6 +12,9 @@ use std::alloc::{AllocError, Global};
 
 /// The greatest number of turns of a line of play together with a proof at its end.
 pub const MAX_LINE: usize = 1_900;
+
+/// For how many proofs there is room among the marks at first.
+const FEW: usize = 512;
 
 /// How a state is won.
 #[derive(Clone, Copy, Debug, PartialEq, Eq)]
@@ -112,6 +116,8 @@ pub struct Proofs {
     proofs: Vec<Proof>,
     /// The latest proof of a state.
     latest: IndexMap<Key, u32>,
+    /// The positions of the states that have a proof.
+    marks: Marks,
     branches: Vec<Branch>,
     positions: Vec<u64>,
     /// The positions of a list that is being made.
@@ -123,6 +129,7 @@ impl Proofs {
         Proofs {
             proofs: Vec::new(alloc),
             latest: IndexMap::new(alloc),
+            marks: Marks::new(alloc),
             branches: Vec::new(alloc),
             positions: Vec::new(alloc),
             gathered: Vec::new(alloc),
@@ -191,8 +198,16 @@ impl Proofs {
         }
     }
 
+    /// Whether there may be a proof of a state with this position. It looks at one word, and nothing else is found of most others.
+    pub fn may_have(&self, position: u64) -> bool {
+        !self.latest.is_empty() && self.marks.may_have(position)
+    }
+
     /// The proof with the fewest turns among those of the state that hold with this past at the end of a line of `line` turns.
     pub fn find(&self, key: Key, past: &Past, line: usize) -> Option<u32> {
+        if !self.may_have(key.position) {
+            return None;
+        }
         let mut next = self.latest.get(&key).copied();
         let mut found = None;
         let mut least = u64::MAX;
@@ -250,6 +265,7 @@ impl Proofs {
         size: TreeSize,
     ) -> Result<u32, AllocError> {
         let number = number_of(self.proofs.len())?;
+        self.mark(settled.key.position)?;
         let from = number_of(self.branches.len())?;
         self.branches.extend_from_slice(branches)?;
         let to = number_of(self.branches.len())?;
@@ -268,6 +284,21 @@ impl Proofs {
         self.proofs.push(proof)?;
         self.latest.insert(settled.key, number)?;
         Ok(number)
+    }
+
+    /// Marks the position, with room for twice as many if there is none.
+    fn mark(&mut self, position: u64) -> Result<(), AllocError> {
+        let count = self.proofs.len();
+        if count >= self.marks.room() {
+            self.marks.make_room(count.saturating_mul(2).max(FEW))?;
+            for place in 0..count {
+                if let Some(proof) = self.at(place) {
+                    self.marks.mark(proof.key.position);
+                }
+            }
+        }
+        self.marks.mark(position);
+        Ok(())
     }
 
     /// Adds a copy of a proof of another list, with these branches, and returns its number.

@@ -166,7 +166,7 @@ may_live_more n region c a stones more x into (inr two) = inr (record {
 
 -- near the set of a chain's stones is beside the chain
 module _ (n : ℕ) (c : List Cell) (x : ℕ) (chain : List Place) (is : IsChainOf n c x chain) where
-  near_beside : (q : ℕ) → IsNear n (these n chain) q → IsBeside n c x q
+  pub near_beside : (q : ℕ) → IsNear n (these n chain) q → IsBeside n c x q
   near_beside q near = (near.0, near.1, (chain_member n c x near.0 chain is near.2).1)
 
   beside_near : (q : ℕ) → IsBeside n c x q → IsNear n (these n chain) q

@@ -6,11 +6,12 @@ ghost use Rattle.go_points.specs.declared.Cell.TheVariants.{Empty, Stone};
 ghost use Rattle.go_points.specs.Grid.{same_cell, cell_at, side_of};
 ghost use Rattle.go_points.specs.Place.{IsOn, number_of};
 ghost use Rattle.go_chains.specs.Joined.{HoldsThose};
-ghost use Rattle.pass_alive.specs.Life.{Lasting, PassAlive};
+ghost use Rattle.pass_alive.specs.Life.{IsBeside, Lasting, PassAlive};
 ghost use Rattle.pass_alive.specs.Sets.{these, number_on, game_of, AreLiving};
-ghost use Rattle.pass_alive.specs.Private.Areas.{HasAreas, MayLive, IsSafe, IsJudged, IsDropped};
+ghost use Rattle.pass_alive.specs.Private.Areas.{HasAreas, HasEyes, MayLive, IsSafe, IsJudged, IsDropped};
 
 use crate::areas::areas_of;
+use crate::candidates::eye_points;
 use crate::eyes::has_two_eyes;
 use crate::sets::{are_members, is_within, put_in, take_out};
 use go_chains::ChainBoard;
@@ -34,11 +35,15 @@ fn is_lasting(board: &ChainBoard, region: &PointSet, point: Point) -> bool
 fn is_safe(
     board: &ChainBoard,
     areas: &ChainBoard,
+    eyes: &PointSet,
     region: &PointSet,
     stones: &PointSet,
     point: Point,
 ) -> bool
     requires areas { HasAreas board.now areas.now }
+    requires eyes { HasEyes (side_of board.now) board.now areas.now
+        (these (side_of board.now) eyes.now)
+        (IsBeside (side_of board.now) board.now (number_of (side_of board.now) point)) }
     requires on { IsOn (side_of board.now) point }
     requires stone { cell_at board.now (number_of (side_of board.now) point) ≢ Empty }
     ensures sound { IsTrue result → IsSafe (side_of board.now)
@@ -52,7 +57,7 @@ fn is_safe(
     let Some(chain) = board.chain_of(point) else {
         return false;
     };
-    is_lasting(board, region, point) || has_two_eyes(board, areas, stones, &chain)
+    is_lasting(board, region, point) || has_two_eyes(board, areas, eyes, stones, &chain)
 }
 
 /// Judges the chain at the point, if its stones are left and not yet marked: marks them as safe, or takes them away. Returns whether
@@ -60,6 +65,7 @@ fn is_safe(
 fn drop_chain(
     board: &ChainBoard,
     areas: &ChainBoard,
+    eyes: &PointSet,
     region: &PointSet,
     stones: &mut PointSet,
     marked: &mut PointSet,
@@ -69,6 +75,9 @@ fn drop_chain(
     requires on { IsOn (side_of board.now) point }
     requires own { (q : ℕ) → q < side_of board.now * side_of board.now
         → IsTrue (these (side_of board.now) stones.old q) → cell_at board.now q ≢ Empty }
+    requires eyes { (x : ℕ) → IsTrue (these (side_of board.now) stones.old x)
+        → HasEyes (side_of board.now) board.now areas.now (these (side_of board.now) eyes.now)
+        (IsBeside (side_of board.now) board.now x) }
     ensures { IsJudged (side_of board.now) (map (number_on (side_of board.now)) region.now)
         board.now areas.now (number_of (side_of board.now) point)
         stones.old marked.old stones.new marked.new result }
@@ -80,7 +89,7 @@ fn drop_chain(
     let Some(chain) = board.chain_of(point) else {
         return false;
     };
-    if is_safe(board, areas, region, stones, point) {
+    if is_safe(board, areas, eyes, region, stones, point) {
         put_in(size, marked, &chain);
         return false;
     }
@@ -92,12 +101,16 @@ fn drop_chain(
 fn drop_unsafe(
     board: &ChainBoard,
     areas: &ChainBoard,
+    eyes: &PointSet,
     region: &PointSet,
     stones: &mut PointSet,
 ) -> bool
     requires areas { HasAreas board.now areas.now }
     requires own { (q : ℕ) → q < side_of board.now * side_of board.now
         → IsTrue (these (side_of board.now) stones.old q) → cell_at board.now q ≢ Empty }
+    requires eyes { (x : ℕ) → IsTrue (these (side_of board.now) stones.old x)
+        → HasEyes (side_of board.now) board.now areas.now (these (side_of board.now) eyes.now)
+        (IsBeside (side_of board.now) board.now x) }
     ensures { IsDropped (side_of board.now) (map (number_on (side_of board.now)) region.now)
         board.now areas.now stones.old stones.new result }
 {
@@ -106,7 +119,7 @@ fn drop_unsafe(
     let mut has_changed = false;
     for number in 0..size.area() {
         let point = size.point_at(number);
-        if drop_chain(board, areas, region, stones, &mut marked, point) {
+        if drop_chain(board, areas, eyes, region, stones, &mut marked, point) {
             has_changed = true;
         }
     }
@@ -141,7 +154,8 @@ pub fn living_stones(board: &ChainBoard, colour: Colour, region: &PointSet) -> P
         return PointSet::new();
     };
     let mut stones = stones_of(board, colour);
-    while drop_unsafe(board, &areas, region, &mut stones) {}
+    let eyes = eye_points(board, &areas, &stones);
+    while drop_unsafe(board, &areas, &eyes, region, &mut stones) {}
     stones
 }
 

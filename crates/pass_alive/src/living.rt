@@ -6,29 +6,31 @@ ghost use Rattle.go_points.specs.declared.Cell.TheVariants.{Empty, Stone};
 ghost use Rattle.go_points.specs.Grid.{same_cell, cell_at, side_of};
 ghost use Rattle.go_points.specs.Place.{IsOn, number_of};
 ghost use Rattle.go_chains.specs.Joined.{HoldsThose};
-ghost use Rattle.pass_alive.specs.Life.{IsBeside, Lasting, PassAlive};
+ghost use Rattle.pass_alive.specs.Life.{IsBeside, Fixed, PassAlive};
 ghost use Rattle.pass_alive.specs.Sets.{these, number_on, game_of, AreLiving};
-ghost use Rattle.pass_alive.specs.Private.Areas.{HasAreas, HasEyes, MayLive, IsSafe, IsJudged, IsDropped};
+ghost use Rattle.pass_alive.specs.Private.Areas.{HasAreas, HasEyes, IsNear, MayLive, IsSafe, IsJudged, IsDropped};
 
 use crate::areas::areas_of;
 use crate::candidates::eye_points;
 use crate::eyes::has_two_eyes;
-use crate::sets::{are_members, is_within, put_in, take_out};
+use crate::sets::{are_members, is_near, put_in, take_out};
 use go_chains::ChainBoard;
 use go_points::{Colour, Point, PointSet};
 
-/// Whether the chain at the point has a liberty outside the region, which nobody can fill.
-fn is_lasting(board: &ChainBoard, region: &PointSet, point: Point) -> bool
-    requires on { IsOn (side_of board.now) point }
-    requires stone { cell_at board.now (number_of (side_of board.now) point) ≢ Empty }
-    ensures { IsTrue result ↔ Lasting (side_of board.now)
-        (map (number_on (side_of board.now)) region.now) board.now
-        (number_of (side_of board.now) point) }
+/// Whether the chain has a liberty outside the region, which nobody can fill.
+fn is_lasting(board: &ChainBoard, region: &PointSet, chain: &PointSet) -> bool
+    ensures { IsTrue result ↔ ((q : ℕ) × Fixed
+        (map (number_on (side_of board.now)) region.now) board.now q
+        × IsNear (side_of board.now) (these (side_of board.now) chain.now) q) }
 {
-    let Some(liberties) = board.liberties(point) else {
-        return false;
-    };
-    !is_within(board.size(), &liberties, region)
+    let size = board.size();
+    for number in 0..size.area() {
+        let point = size.point_at(number);
+        if board.cell(point).is_empty() && !region.has(point) && is_near(size, point, chain) {
+            return true;
+        }
+    }
+    false
 }
 
 /// Whether the chain at the point has such a liberty, or two eyes that these stones enclose.
@@ -57,7 +59,7 @@ fn is_safe(
     let Some(chain) = board.chain_of(point) else {
         return false;
     };
-    is_lasting(board, region, point) || has_two_eyes(board, areas, eyes, stones, &chain)
+    is_lasting(board, region, &chain) || has_two_eyes(board, areas, eyes, stones, &chain)
 }
 
 /// Judges the chain at the point, if its stones are left and not yet marked: marks them as safe, or takes them away. Returns whether

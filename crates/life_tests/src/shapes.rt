@@ -63,3 +63,78 @@ fn a_lasting_liberty_lives(rt: HostRuntime) {
     assert!(&rt; lives(&rt, 3, "XXX......", "x........", "xxx......"));
     assert!(&rt; !lives(&rt, 3, "XXX......", "x........", "xxxxxx..."));
 }
+
+#[test]
+fn one_eye_is_not_two(rt: HostRuntime) {
+    assert!(&rt; !lives(&rt, 3, "..XXXXXXX", "....x....", "xxxxxxxxx"));
+}
+
+#[test]
+fn an_eye_beside_a_stone_that_lasts_is_none(rt: HostRuntime) {
+    let text = ".XX.XXXOOOO.....";
+    assert!(&rt; !lives(&rt, 4, text, ".x..............", "x..x............"));
+    // Without that liberty outside, White's stones in the eye could be taken; but the eye is then the whole lower side.
+    let text = ".XX.XXXOOOOOOOO.";
+    assert!(&rt; !lives(&rt, 4, text, ".x..............", "x..x...........x"));
+}
+
+#[test]
+fn a_stone_in_an_eye_is_part_of_it(rt: HostRuntime) {
+    let text = ".XO.XXXXXXXXXXX.";
+    assert!(&rt; lives(&rt, 4, text, ".x..............", "xxxxxxxxxxxxxxxx"));
+}
+
+#[test]
+fn chains_live_together_by_the_eyes_that_they_share(rt: HostRuntime) {
+    let text = ".XX.X..XX..X.XX.";
+    assert!(&rt; lives(&rt, 4, text, ".x..............", "xxxxxxxxxxxxxxxx"));
+    // Without one stone a chain has one eye, then its neighbours have one, and so on.
+    let text = ".XX.X..XX..X.X..";
+    assert!(&rt; !lives(&rt, 4, text, ".x..............", "xxxxxxxxxxxxxxxx"));
+}
+
+#[test]
+fn a_target_off_the_board_or_without_a_stone_does_not_live(rt: HostRuntime) {
+    let board = board(&rt, 3, ".XXXXXXX.");
+    let region = marked(&rt, 3, "xxxxxxxxx");
+    assert!(&rt;
+        !is_pass_alive(
+            &board,
+            &marked(&rt, 4, "...x............"),
+            Colour::Black,
+            &region
+        )
+    );
+    assert!(&rt;
+        !is_pass_alive(
+            &board,
+            &marked(&rt, 4, "............x..."),
+            Colour::Black,
+            &region
+        )
+    );
+    assert!(&rt;
+        !is_pass_alive(
+            &board,
+            &marked(&rt, 3, "x..............."),
+            Colour::Black,
+            &region
+        )
+    );
+    assert!(&rt;
+        !is_pass_alive(
+            &board,
+            &marked(&rt, 3, "....x..........."),
+            Colour::White,
+            &region
+        )
+    );
+    assert!(&rt;
+        is_pass_alive(
+            &board,
+            &marked(&rt, 3, ".........."),
+            Colour::White,
+            &region
+        )
+    );
+}

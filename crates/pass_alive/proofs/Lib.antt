@@ -7,3 +7,4 @@ pub mod Sweeps
 pub mod Filling
 pub mod Tests
 pub mod Examples
+pub mod Gathered

@@ -1,15 +1,15 @@
 -- The attacker wins no state whose targets live by their shape.
-use Rattle.std.proofs.Common.{◌≡◌, ℕ, zero, suc, ◌*◌, ◌≤◌, Bool, true, false, ◌&&◌, nat_eq, nat_lt, if◌then◌else◌, ◌⊎◌, inl, inr, IsTrue, IsFalse, List, [], ◌∷◌, Some, None, refl, sym, ◌∙◌, subst, arith}
+use Rattle.std.proofs.Common.{◌≡◌, ℕ, zero, suc, ◌*◌, ◌<◌, ◌≤◌, Bool, true, false, ◌&&◌, nat_eq, nat_lt, eq-eqb, if◌then◌else◌, ◌⊎◌, inl, inr, IsTrue, IsFalse, List, [], ◌∷◌, Some, None, refl, sym, ◌∙◌, subst, arith}
 use Rattle.std.specs.List.{list_all}
 use Rattle.go_points.specs.declared.Colour.{Colour}
 use Rattle.go_points.specs.declared.Colour.TheVariants.{Black, White}
 use Rattle.go_points.specs.declared.Cell.{Cell}
 use Rattle.go_points.specs.declared.Cell.TheVariants.{Empty, Stone}
-use Rattle.go_points.specs.Grid.{opponent_of, same_colour, same_cell, cell_at}
+use Rattle.go_points.specs.Grid.{opponent_of, same_colour, same_cell, points, cell_at}
 use Rattle.go_points.specs.Move.{after_move}
 use Rattle.go_points.specs.Ply.{Ply, pass, move}
-use Rattle.go_points.proofs.Lists.{and_left, and_right, any_from, all_at, all_from}
-use Rattle.go_points.proofs.Cells.{same_cell_eq, eq_same_cell, same_colour_eq}
+use Rattle.go_points.proofs.Lists.{and_left, and_right, any_from, any_to, all_at, all_from}
+use Rattle.go_points.proofs.Cells.{same_cell_eq, eq_same_cell, same_colour_eq, points_member}
 use Rattle.go_chains.proofs.Joins.{joined_self}
 use Rattle.target_game.specs.State.{Game, GameState}
 use Rattle.target_game.specs.Legal.{holds_point, legal, legal_turns}
@@ -20,7 +20,7 @@ use Rattle.target_game.specs.Status.{moving, IsAlive}
 use Rattle.target_game.proofs.Winning.{wins_over, wins_none, wins_next, member_legal, legal_member}
 use Rattle.target_game.proofs.Ending.{winner_exists}
 use Rattle.pass_alive.specs.Life.{Points, Fixed, Live, PassAlive}
-use Rattle.pass_alive.specs.Laws.{Stands, MayMove, after_moves, AreMoves}
+use Rattle.pass_alive.specs.Laws.{Stands, MayMove, after_moves, AreMoves, whole_board, AreAnywhere}
 use Rattle.pass_alive.proofs.Standing.{pass_alive_stands, pass_alive_stays}
 
 -- the targets stand
@@ -135,3 +135,14 @@ stands_through g c stones live (p ∷ ps) d st are = stands_through g c stones l
 
 pub never_taken : (g : Game) (c : List Cell) (stones : Points) → Live g c stones → (ps : List ℕ) → AreMoves g c ps → (p : ℕ) → IsTrue (stones p) → cell_at (after_moves g c ps) p ≡ Stone g.defender
 never_taken g c stones live ps are p is = (stands_through g c stones live ps c (pass_alive_stands g c stones live) are).chains p p is (joined_self g.size c p)
+
+-- on the whole board
+point_held : (n p : ℕ) → p < n * n → holds_point (points n) p ≡ true
+point_held n p on = any_to (nat_eq p) p (points n) (points_member n p on) (eq-eqb p p refl)
+
+anywhere : (n : ℕ) (k : Colour) (ps : List ℕ) (c : List Cell) → AreAnywhere n k c ps → AreMoves (whole_board n k) c ps
+anywhere n k [] c are = tt
+anywhere n k (p ∷ ps) c are = (record { inside = point_held n p are.0; empty = are.1 }, anywhere n k ps (after_move n c (opponent_of k) p) are.2)
+
+pub never_taken_anywhere : (n : ℕ) (k : Colour) (c : List Cell) (stones : Points) → Live (whole_board n k) c stones → (ps : List ℕ) → AreAnywhere n k c ps → (p : ℕ) → IsTrue (stones p) → cell_at (after_moves (whole_board n k) c ps) p ≡ Stone k
+never_taken_anywhere n k c stones live ps are p is = never_taken (whole_board n k) c stones live ps (anywhere n k ps c are) p is

@@ -1,14 +1,16 @@
 -- Sets of places, as lists of the numbers of points.
-use Rattle.std.proofs.Common.{◌≡◌, ℕ, ◌+◌, ◌*◌, ◌/◌, ◌<◌, Bool, true, false, cond, ◌&&◌, ◌||◌, IsTrue, nat_eq, nat_lt, eqb-true, ltb-true, lt-ltb, List, [], ◌∷◌, map, refl, sym, ◌∙◌, ap, ap₂, subst, arith}
-use Rattle.std.specs.List.{list_all}
+use Rattle.std.proofs.Common.{◌≡◌, ℕ, suc, ◌+◌, ◌*◌, ◌/◌, ◌<◌, Bool, true, false, cond, ◌&&◌, ◌||◌, IsTrue, nat_eq, nat_lt, eqb-true, ltb-true, lt-ltb, List, [], ◌∷◌, map, refl, sym, ◌∙◌, ap, ap₂, subst, arith}
+use Rattle.std.specs.List.{All, list_all}
+use Rattle.go_points.specs.declared.Colour.{Colour}
 use Rattle.std.proofs.lemmas.Nat.{div-mul-add, mod-mul-add, mul-add-lt}
 use Rattle.go_points.specs.Place.{Place, IsOn, on_board, number_of, place_of}
 use Rattle.go_points.specs.Points.{same_place, holds_place}
 use Rattle.go_points.specs.Equal.{same_place_decides}
 use Rattle.go_points.specs.Private.Inverses.{same_numbers}
 use Rattle.go_points.proofs.Lists.{and_both, and_left, and_right}
+use Rattle.target_game.specs.Kept.{kept_game}
 use Rattle.target_game.specs.Legal.{holds_point}
-use Rattle.pass_alive.specs.Sets.{these, number_on}
+use Rattle.pass_alive.specs.Sets.{these, number_on, game_of}
 
 pub place_back : (n : ℕ) (p : Place) → IsOn n p → place_of n (number_of n p) ≡ p
 place_back n p on = λ i. record { row = div-mul-add p.row n p.column on.column_within i; column = mod-mul-add p.row n p.column on.column_within i }
@@ -80,3 +82,11 @@ module _ (n : ℕ) (s : List Place) (inside : (p : Place) → IsTrue (holds_plac
   pub targets_hold : (ps : List Place) → list_all (these n s) (map (number_on n) ps) ≡ list_all (holds_place s) ps
   targets_hold [] = refl
   targets_hold (p ∷ ps) = ap₂ (λ a b. a && b) (one_target p (on_board n p) refl) (targets_hold ps)
+
+-- on the board the numbers are those of the points
+numbers_on : (n : ℕ) (ps : List Place) → All (IsOn n) ps → map (number_on n) ps ≡ map (number_of n) ps
+numbers_on n [] on = refl
+numbers_on n (p ∷ ps) on = ap₂ (λ q qs. q ∷ qs) (number_is n p (on 0 p (omega arith))) (numbers_on n ps (λ j d low. on (suc j) d (omega (arith, low))))
+
+pub games_agree : (n : ℕ) (targets : List Place) (k : Colour) (region : List Place) → All (IsOn n) targets → All (IsOn n) region → game_of n targets k region ≡ kept_game n targets k region
+games_agree n targets k region on_targets on_region = λ i. record { size = n; targets = numbers_on n targets on_targets i; defender = k; region = numbers_on n region on_region i }

@@ -166,10 +166,10 @@ may_live_more n region c a stones more x into (inr two) = inr (record {
 
 -- near the set of a chain's stones is beside the chain
 module _ (n : ℕ) (c : List Cell) (x : ℕ) (chain : List Place) (is : IsChainOf n c x chain) where
-  near_beside : (q : ℕ) → IsNear n (these n chain) q → IsBeside n c x q
+  pub near_beside : (q : ℕ) → IsNear n (these n chain) q → IsBeside n c x q
   near_beside q near = (near.0, near.1, (chain_member n c x near.0 chain is near.2).1)
 
-  beside_near : (q : ℕ) → IsBeside n c x q → IsNear n (these n chain) q
+  pub beside_near : (q : ℕ) → IsBeside n c x q → IsNear n (these n chain) q
   beside_near q beside = (beside.0, beside.1, (is.joined beside.0 (adjacent_on_board n q beside.0 beside.1).1).1 beside.2)
 
 near_eye : (n : ℕ) (a : List Cell) (stones : Points) (near other : ℕ → Type 0) (p : ℕ) → ((q : ℕ) → near q → other q) → IsEyeArea n a stones near p → IsEyeArea n a stones other p

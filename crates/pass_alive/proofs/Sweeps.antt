@@ -1,5 +1,5 @@
 -- Sweeps over the stones: what is left after some points of one, and after some sweeps.
-use Rattle.std.proofs.Common.{◌≡◌, ◌≢◌, ℕ, ◌+◌, ◌*◌, ◌<◌, ◌≤◌, Bool, true, false, cond, not, ◌||◌, ◌⊎◌, inl, inr, IsTrue, IsFalse, ◌↔◌, nat_eq, eqb-true, List, [], ◌∷◌, map, length, refl, sym, ◌∙◌, ap, subst, arith}
+use Rattle.std.proofs.Common.{◌≡◌, ◌≢◌, ℕ, ◌+◌, ◌*◌, ◌<◌, ◌≤◌, Bool, true, false, cond, not, ◌||◌, ◌⊎◌, inl, inr, IsTrue, IsFalse, ◌↔◌, nat_eq, eqb-true, eq-eqb, List, [], ◌∷◌, map, length, refl, sym, ◌∙◌, ap, subst, arith}
 use Rattle.std.specs.List.{list_all}
 use Rattle.go_points.specs.declared.Colour.{Colour}
 use Rattle.go_points.specs.declared.Cell.{Cell}
@@ -9,14 +9,14 @@ use Rattle.go_points.specs.Place.{Place, IsOn, place_of}
 use Rattle.go_points.specs.Points.{same_place, holds_place, with_place, without_place}
 use Rattle.go_points.specs.Private.Inverses.{same_numbers}
 use Rattle.go_points.proofs.Membership.{sets_gain, sets_lose}
-use Rattle.go_points.proofs.Lists.{and_right, and_both, or_cases, all_at, all_from}
+use Rattle.go_points.proofs.Lists.{and_right, and_both, or_cases, or_left, or_right, all_at, all_from}
 use Rattle.go_points.proofs.Cells.{same_cell_eq, eq_same_cell, adjacent_on_board}
 use Rattle.go_chains.specs.Joined.{IsWay, Joined, IsChainOf, HoldsThose}
 use Rattle.go_chains.proofs.Joins.{joined_self, joined_back, joined_on}
 use Rattle.target_game.specs.State.{Game}
 use Rattle.pass_alive.specs.Life.{Points, IsBeside, Live, PassAlive}
 use Rattle.pass_alive.specs.Sets.{these, number_on, game_of, AreLiving}
-use Rattle.pass_alive.specs.Private.Areas.{area_cell, MayLive, IsSafe, IsDropped, IsWithout, HasAtMost, IsJudged}
+use Rattle.pass_alive.specs.Private.Areas.{area_cell, MayLive, IsSafe, IsDropped, IsWithout, IsWith, IsJudged}
 use Rattle.pass_alive.proofs.Regions.{targets_hold}
 use Rattle.pass_alive.proofs.Spaces.{two_eyes, two_areas, near_areas, near_sets, may_live_more, place_on}
 
@@ -98,11 +98,50 @@ module _ (n : ℕ) (other old : List Place) where
   pub taken_all : (now : List Place) (i : ℕ) → n * n ≤ i → TakenSoFar now i → IsWithout n other old now
   taken_all now i all h = record { within = h.within; kept = h.kept; fewer = λ q on. h.fewer q (omega (arith, on, all)) }
 
-  pub put_yes : (now : List Place) (i : ℕ) → IsTrue (these n other i) → HasAtMost n other old now → HasAtMost n other old (with_place now (place_of n i))
-  put_yes now i there h q on held = elim (or_cases (same_place (place_of n q) (place_of n i)) (these n now q) (sym (sets_gain now (place_of n i) (place_of n q)) ∙ held)) [
-    | inl same ↦ inr (subst (λ z. IsTrue (these n other z)) (sym (eqb-true q i (sym (same_numbers n q i) ∙ same))) there)
-    | inr had ↦ h q on had
-  ]
+  pub record PutSoFar (now : List Place) (i : ℕ) : Type 0 where
+    pub kept : (q : ℕ) → q < n * n → IsTrue (these n old q) → IsTrue (these n now q)
+    pub added : (q : ℕ) → q < i → IsTrue (these n other q) → IsTrue (these n now q)
+    pub most : (q : ℕ) → q < n * n → IsTrue (these n now q) → IsTrue (these n old q) ⊎ IsTrue (these n other q)
+
+  pub put_first : PutSoFar old 0
+  put_first = record {
+    kept = λ q on held. held;
+    added = λ q low. absurd (omega (arith, low));
+    most = λ q on held. inl held;
+  }
+
+  pub put_no : (now : List Place) (i : ℕ) → IsFalse (these n other i) → PutSoFar now i → PutSoFar now (i + 1)
+  put_no now i not_other h = record {
+    kept = h.kept;
+    added = λ q low is.
+        let split : (q < i) ⊎ (q ≡ i) = grind (arith, low) in
+        elim split [
+          | inl less ↦ h.added q less is
+          | inr here ↦ absurd (cc (is, not_other, ap (these n other) here))
+        ];
+    most = h.most;
+  }
+
+  pub put_yes : (now : List Place) (i : ℕ) → IsTrue (these n other i) → PutSoFar now i → PutSoFar (with_place now (place_of n i)) (i + 1)
+  put_yes now i there h = record {
+    kept = λ q on held. had q (h.kept q on held);
+    added = λ q low is.
+        let split : (q < i) ⊎ (q ≡ i) = grind (arith, low) in
+        elim split [
+          | inl less ↦ had q (h.added q less is)
+          | inr here ↦ sets_gain now (place_of n i) (place_of n q) ∙ or_left (same_place (place_of n q) (place_of n i)) (these n now q) (same_numbers n q i ∙ eq-eqb q i here)
+        ];
+    most = λ q on held. elim (or_cases (same_place (place_of n q) (place_of n i)) (these n now q) (sym (sets_gain now (place_of n i) (place_of n q)) ∙ held)) [
+      | inl same ↦ inr (subst (λ z. IsTrue (these n other z)) (sym (eqb-true q i (sym (same_numbers n q i) ∙ same))) there)
+      | inr before ↦ h.most q on before
+    ];
+  }
+    where
+      had : (q : ℕ) → IsTrue (these n now q) → IsTrue (these n (with_place now (place_of n i)) q)
+      had q held = sets_gain now (place_of n i) (place_of n q) ∙ or_right (same_place (place_of n q) (place_of n i)) (these n now q) held
+
+  pub put_all : (now : List Place) (i : ℕ) → n * n ≤ i → PutSoFar now i → IsWith n other old now
+  put_all now i all h = record { kept = h.kept; added = λ q on. h.added q (omega (arith, on, all)); most = h.most }
 
 module _ (n : ℕ) (region : List ℕ) (c a : List Cell) where
   -- the stones of a chain are safe together, and may live together
@@ -130,10 +169,10 @@ module _ (n : ℕ) (region : List ℕ) (c a : List Cell) where
     }
 
     module _ (chain : List Place) (is : IsChainOf n c i chain) where
-      pub judged_safe : (more : List Place) → HasAtMost n chain marked more → IsSafe n region c a (these n old) i → IsJudged n region c a i old marked old more false
-      judged_safe more most safe = record {
+      pub judged_safe : (more : List Place) → IsWith n chain marked more → IsSafe n region c a (these n old) i → IsJudged n region c a i old marked old more false
+      judged_safe more with safe = record {
         same = λ e. refl;
-        marked = λ e q on held. elim (most q on held) [
+        marked = λ e q on held. elim (with.most q on held) [
           | inl had ↦ inl had
           | inr new ↦ inr (safe_joined (these n old) i q (joined_back n c i q ((is.joined q on).0 new)) safe)
         ];

@@ -1,15 +1,16 @@
 -- What loops over the points of a board find out.
-use Rattle.std.proofs.Common.{◌≡◌, ℕ, suc, ◌+◌, ◌*◌, ◌<◌, Bool, true, false, ◌⊎◌, inl, inr, IsTrue, IsFalse, ◌↔◌, not, Option, Some, None, is_some, IfSome, IfNone, List, [], ◌∷◌, map, refl, sym, ◌∙◌, ap, subst, arith}
+use Rattle.std.proofs.Common.{◌≡◌, ℕ, suc, ◌+◌, ◌*◌, ◌<◌, Bool, true, false, ◌⊎◌, inl, inr, IsTrue, ◌↔◌, not, Option, Some, None, is_some, IfSome, IfNone, List, [], ◌∷◌, map, refl, sym, ◌∙◌, ap, subst, arith}
 use Rattle.std.specs.List.{All, list_any}
 use Rattle.go_points.specs.declared.Cell.{Cell}
-use Rattle.go_points.specs.Grid.{adjacent, neighbours}
+use Rattle.go_points.specs.declared.Cell.TheVariants.{Empty}
+use Rattle.go_points.specs.Grid.{adjacent, neighbours, cell_at}
 use Rattle.go_points.specs.Place.{Place, IsOn, number_of, place_of}
 use Rattle.go_points.specs.Points.{holds_place}
 use Rattle.go_points.proofs.Lists.{Member, any_to, member_map}
-use Rattle.go_points.proofs.Cells.{neighbours_member, adjacent_on_board}
+use Rattle.go_points.proofs.Cells.{neighbours_member}
 use Rattle.go_chains.specs.Joined.{IsChainOf, AreLibertiesOf}
 use Rattle.go_chains.proofs.Joins.{joined_self, joined_back, joined_on}
-use Rattle.pass_alive.specs.Life.{Points, Lasting}
+use Rattle.pass_alive.specs.Life.{Points, Fixed}
 use Rattle.pass_alive.specs.Sets.{these, number_on}
 use Rattle.pass_alive.specs.Private.Areas.{IsNear, IsEyeArea, IsEyeOutside, NoEyeBelow, TwoEyeAreas, TwoEyeSets}
 use Rattle.pass_alive.proofs.Regions.{place_back, region_holds}
@@ -93,18 +94,13 @@ module _ (n : ℕ) (c a : List Cell) (stones chain : Points) where
       go true true first second =
           two.apart (joined_on n a two.first one.at two.second (joined_back n a one.at two.first ((one.area.joined two.first two.first_on).0 first)) ((one.area.joined two.second two.second_on).0 second))
 
--- a liberty outside the region
-module _ (n : ℕ) (c : List Cell) (p : ℕ) (liberties region : List Place) (lib : AreLibertiesOf n c p liberties) where
-  pub one_outside : (q : ℕ) × (q < n * n) × IsTrue (these n liberties q) × IsFalse (these n region q) → Lasting n (map (number_on n) region) c p
-  one_outside found =
-      let free = (lib.liberties found.0 found.1).0 found.2 in
-      (found.0, record { empty = free.0; outside = region_holds n found.0 region found.1 (lib.on_board (place_of n found.0) found.2) ∙ found.3 }, free.1)
+-- a liberty outside the region, found or not among the points below a number
+module _ (n : ℕ) (c : List Cell) (region : List Place) (near : ℕ → Type 0) where
+  pub lasting_yes : (q : ℕ) → q < n * n → IsOn n (place_of n q) → cell_at c q ≡ Empty → these n region q ≡ false → near q → (b : Bool) → b ≡ true → IsTrue b ↔ ((r : ℕ) × Fixed (map (number_on n) region) c r × near r)
+  lasting_yes q on place free outside here b e = (λ _. (q, record { empty = free; outside = region_holds n q region on place ∙ outside }, here), λ _. e)
 
-  pub none_outside : ((q : ℕ) → q < n * n → IsTrue (these n liberties q) → IsTrue (these n region q)) → Lasting n (map (number_on n) region) c p → ⊥
-  none_outside within lasting =
-      let on : lasting.0 < n * n = (adjacent_on_board n lasting.0 lasting.2.0 lasting.2.1).0 in
-      let held : IsTrue (these n liberties lasting.0) = (lib.liberties lasting.0 on).1 (lasting.1.empty, lasting.2) in
-      cc (lasting.1.outside, region_holds n lasting.0 region on (lib.on_board (place_of n lasting.0) held), within lasting.0 on held)
+  pub lasting_not_here : (q : ℕ) → q < n * n → IsOn n (place_of n q) → these n region q ≡ true → Fixed (map (number_on n) region) c q → ⊥
+  lasting_not_here q on place inside fixed = cc (region_holds n q region on place, inside, fixed.outside)
 
 -- what is said of an option that holds something, or nothing
 pub if_some : {A : Type 0} (P : A → Type 0) (o : Option A) → IfSome o P → is_some o ≡ true → (x : A) × P x

@@ -1,15 +1,20 @@
 -- What the definitions of life by shape imply. Each is proved; the calls of the module `laws` name them.
-use Rattle.std.specs.Prelude.{◌≡◌, ℕ, ◌≤◌, IsTrue, IsFalse, List, [], ◌∷◌}
+use Rattle.std.specs.Prelude.{◌≡◌, ℕ, ◌*◌, ◌<◌, ◌≤◌, IsTrue, IsFalse, List, [], ◌∷◌}
+use Rattle.std.specs.List.{All}
+use Rattle.go_points.specs.declared.Colour.{Colour}
 use Rattle.go_points.specs.declared.Cell.{Cell}
 use Rattle.go_points.specs.declared.Cell.TheVariants.{Empty, Stone}
-use Rattle.go_points.specs.Grid.{opponent_of, cell_at}
+use Rattle.go_points.specs.Grid.{opponent_of, points, cell_at}
+use Rattle.go_points.specs.Place.{Place, IsOn}
 use Rattle.go_points.specs.Move.{after_move}
 use Rattle.go_chains.specs.Joined.{Joined}
 use Rattle.target_game.specs.State.{Game, GameState}
+use Rattle.target_game.specs.Kept.{kept_game}
 use Rattle.target_game.specs.Legal.{holds_point}
 use Rattle.target_game.specs.Wins.{wins, Wins}
 use Rattle.target_game.specs.Status.{IsAlive}
 use Rattle.pass_alive.specs.Life.{Points, Fixed, EyeSpace, Live, PassAlive}
+use Rattle.pass_alive.specs.Sets.{game_of}
 
 -- What holds of each later colouring d, where the stones live in the colouring c and their owner has passed since: their chains
 -- stand; no stone of theirs has come; no eye is full of the attacker's stones; and what was fixed is empty.
@@ -60,3 +65,18 @@ AreMoves g c (p ∷ ps) = MayMove g c p × AreMoves g (after_move g.size c (oppo
 -- No moves of the attacker, however many and whatever has occurred, ever take a stone that lives by its shape.
 abbrev pub NeverTaken : Type 0
 NeverTaken = (g : Game) (c : List Cell) (stones : Points) → Live g c stones → (ps : List ℕ) → AreMoves g c ps → (p : ℕ) → IsTrue (stones p) → cell_at (after_moves g c ps) p ≡ Stone g.defender
+
+-- The same on the whole board, without targets: the moves are at any empty points.
+abbrev pub whole_board : ℕ → Colour → Game
+whole_board n k = record { size = n; targets = []; defender = k; region = points n }
+
+abbrev pub AreAnywhere : ℕ → Colour → List Cell → List ℕ → Type 0
+AreAnywhere n k c [] = Unit {0}
+AreAnywhere n k c (p ∷ ps) = (p < n * n) × (cell_at c p ≡ Empty) × AreAnywhere n k (after_move n c (opponent_of k) p) ps
+
+abbrev pub NeverTakenAnywhere : Type 0
+NeverTakenAnywhere = (n : ℕ) (k : Colour) (c : List Cell) (stones : Points) → Live (whole_board n k) c stones → (ps : List ℕ) → AreAnywhere n k c ps → (p : ℕ) → IsTrue (stones p) → cell_at (after_moves (whole_board n k) c ps) p ≡ Stone k
+
+-- Where all targets and the region are on the board, as in every problem, the game of the decision is the problem's.
+abbrev pub GamesAgree : Type 0
+GamesAgree = (n : ℕ) (targets : List Place) (k : Colour) (region : List Place) → All (IsOn n) targets → All (IsOn n) region → game_of n targets k region ≡ kept_game n targets k region

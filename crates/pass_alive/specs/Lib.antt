@@ -1,4 +1,4 @@
 pub mod Life
-pub mod Laws
 pub mod Sets
+pub mod Laws
 pub mod Private

@@ -6,9 +6,9 @@ ghost use Rattle.go_points.specs.Grid.{cell_at, side_of};
 ghost use Rattle.go_points.specs.Place.{IsOn, number_of};
 ghost use Rattle.go_chains.specs.Joined.{IsChainOf};
 ghost use Rattle.pass_alive.specs.Sets.{these};
-ghost use Rattle.pass_alive.specs.Private.Areas.{HasAreas, IsEyeArea, IsNear, IsEyeOutside, NoEyeBelow, TwoEyeAreas, TwoEyeSets};
+ghost use Rattle.pass_alive.specs.Private.Areas.{HasAreas, HasEyes, IsEyeArea, IsNear, IsEyeOutside, NoEyeBelow, TwoEyeAreas, TwoEyeSets};
 
-use crate::sets::{are_near, is_near, is_within};
+use crate::sets::{are_near, is_within};
 use go_chains::ChainBoard;
 use go_points::{Point, PointSet};
 
@@ -39,15 +39,19 @@ fn eye_at(areas: &ChainBoard, stones: &PointSet, chain: &PointSet, point: Point)
     }
 }
 
-/// An eye of the chain with an empty point that is not in this set.
+/// An eye of the chain with an empty point that is not in the last of these sets. Eyes are looked for among these points.
 fn eye_outside(
     board: &ChainBoard,
     areas: &ChainBoard,
+    eyes: &PointSet,
     stones: &PointSet,
     chain: &PointSet,
     known: &PointSet,
 ) -> Option<PointSet>
-    requires { HasAreas board.now areas.now }
+    requires areas { HasAreas board.now areas.now }
+    requires eyes { HasEyes (side_of board.now) board.now areas.now
+        (these (side_of board.now) eyes.now)
+        (IsNear (side_of board.now) (these (side_of board.now) chain.now)) }
     ensures some { IfSome result
         (λ s. IsEyeOutside (side_of board.now) board.now areas.now
         (these (side_of board.now) stones.now) (these (side_of board.now) chain.now)
@@ -60,7 +64,7 @@ fn eye_outside(
     let size = board.size();
     for number in 0..size.area() {
         let point = size.point_at(number);
-        if board.cell(point).is_empty() && !known.has(point) && is_near(size, point, chain) {
+        if eyes.has(point) && !known.has(point) && board.cell(point).is_empty() {
             if let Some(eye) = eye_at(areas, stones, chain, point) {
                 return Some(eye);
             }
@@ -69,14 +73,18 @@ fn eye_outside(
     None
 }
 
-/// Whether the chain has two eyes that these stones enclose.
+/// Whether the chain has two eyes that these stones enclose. They are looked for among these points.
 pub(crate) fn has_two_eyes(
     board: &ChainBoard,
     areas: &ChainBoard,
+    eyes: &PointSet,
     stones: &PointSet,
     chain: &PointSet,
 ) -> bool
-    requires { HasAreas board.now areas.now }
+    requires areas { HasAreas board.now areas.now }
+    requires eyes { HasEyes (side_of board.now) board.now areas.now
+        (these (side_of board.now) eyes.now)
+        (IsNear (side_of board.now) (these (side_of board.now) chain.now)) }
     ensures sound { IsTrue result → TwoEyeSets (side_of board.now) board.now areas.now
         (these (side_of board.now) stones.now)
         (IsNear (side_of board.now) (these (side_of board.now) chain.now)) }
@@ -84,8 +92,8 @@ pub(crate) fn has_two_eyes(
         (these (side_of board.now) stones.now)
         (IsNear (side_of board.now) (these (side_of board.now) chain.now)) → IsTrue result }
 {
-    let Some(first) = eye_outside(board, areas, stones, chain, &PointSet::new()) else {
+    let Some(first) = eye_outside(board, areas, eyes, stones, chain, &PointSet::new()) else {
         return false;
     };
-    eye_outside(board, areas, stones, chain, &first).is_some()
+    eye_outside(board, areas, eyes, stones, chain, &first).is_some()
 }

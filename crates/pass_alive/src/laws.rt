@@ -1,6 +1,6 @@
 //! What life by shape implies, stated over the definitions alone.
 
-ghost use Rattle.pass_alive.specs.Laws.{PassAliveStands, PassAliveStays, AttackerNeverWins, DefenderWins, PassAliveIsAlive, LivesInLess, NeverTaken};
+ghost use Rattle.pass_alive.specs.Laws.{PassAliveStands, PassAliveStays, AttackerNeverWins, DefenderWins, PassAliveIsAlive, LivesInLess, NeverTaken, NeverTakenAnywhere, GamesAgree};
 
 /// Where some stones live by their shape, their chains stand, no eye of theirs is full of the attacker's stones, and each point that
 /// is fixed is empty.
@@ -36,4 +36,14 @@ pub fn lives_in_less()
 /// No moves of the attacker ever take a stone that lives by its shape.
 pub fn never_taken()
     ensures { NeverTaken }
+{}
+
+/// The same on the whole board, without targets.
+pub fn never_taken_anywhere()
+    ensures { NeverTakenAnywhere }
+{}
+
+/// Where all targets and the region are on the board, as in every problem, what `is_pass_alive` decides is about the problem's game.
+pub fn games_agree()
+    ensures { GamesAgree }
 {}

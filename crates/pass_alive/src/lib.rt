@@ -2,6 +2,7 @@
 #![tactic(auto)]
 
 mod areas;
+mod candidates;
 mod eyes;
 pub mod laws;
 mod living;

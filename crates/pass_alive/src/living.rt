@@ -6,39 +6,46 @@ ghost use Rattle.go_points.specs.declared.Cell.TheVariants.{Empty, Stone};
 ghost use Rattle.go_points.specs.Grid.{same_cell, cell_at, side_of};
 ghost use Rattle.go_points.specs.Place.{IsOn, number_of};
 ghost use Rattle.go_chains.specs.Joined.{HoldsThose};
-ghost use Rattle.pass_alive.specs.Life.{Lasting, PassAlive};
+ghost use Rattle.pass_alive.specs.Life.{IsBeside, Fixed, PassAlive};
 ghost use Rattle.pass_alive.specs.Sets.{these, number_on, game_of, AreLiving};
-ghost use Rattle.pass_alive.specs.Private.Areas.{HasAreas, MayLive, IsSafe, IsJudged, IsDropped};
+ghost use Rattle.pass_alive.specs.Private.Areas.{HasAreas, HasEyes, IsNear, MayLive, IsSafe, IsJudged, IsDropped};
 
 use crate::areas::areas_of;
+use crate::candidates::eye_points;
 use crate::eyes::has_two_eyes;
-use crate::sets::{are_members, is_within, put_in, take_out};
+use crate::sets::{are_members, is_near, put_in, take_out};
 use go_chains::ChainBoard;
 use go_points::{Colour, Point, PointSet};
 
-/// Whether the chain at the point has a liberty outside the region, which nobody can fill.
-fn is_lasting(board: &ChainBoard, region: &PointSet, point: Point) -> bool
-    requires on { IsOn (side_of board.now) point }
-    requires stone { cell_at board.now (number_of (side_of board.now) point) ≢ Empty }
-    ensures { IsTrue result ↔ Lasting (side_of board.now)
-        (map (number_on (side_of board.now)) region.now) board.now
-        (number_of (side_of board.now) point) }
+/// Whether the chain has a liberty outside the region, which nobody can fill.
+fn is_lasting(board: &ChainBoard, region: &PointSet, chain: &PointSet) -> bool
+    ensures { IsTrue result ↔ ((q : ℕ) × Fixed
+        (map (number_on (side_of board.now)) region.now) board.now q
+        × IsNear (side_of board.now) (these (side_of board.now) chain.now) q) }
 {
-    let Some(liberties) = board.liberties(point) else {
-        return false;
-    };
-    !is_within(board.size(), &liberties, region)
+    let size = board.size();
+    for number in 0..size.area() {
+        let point = size.point_at(number);
+        if board.cell(point).is_empty() && !region.has(point) && is_near(size, point, chain) {
+            return true;
+        }
+    }
+    false
 }
 
 /// Whether the chain at the point has such a liberty, or two eyes that these stones enclose.
 fn is_safe(
     board: &ChainBoard,
     areas: &ChainBoard,
+    eyes: &PointSet,
     region: &PointSet,
     stones: &PointSet,
     point: Point,
 ) -> bool
     requires areas { HasAreas board.now areas.now }
+    requires eyes { HasEyes (side_of board.now) board.now areas.now
+        (these (side_of board.now) eyes.now)
+        (IsBeside (side_of board.now) board.now (number_of (side_of board.now) point)) }
     requires on { IsOn (side_of board.now) point }
     requires stone { cell_at board.now (number_of (side_of board.now) point) ≢ Empty }
     ensures sound { IsTrue result → IsSafe (side_of board.now)
@@ -52,7 +59,7 @@ fn is_safe(
     let Some(chain) = board.chain_of(point) else {
         return false;
     };
-    is_lasting(board, region, point) || has_two_eyes(board, areas, stones, &chain)
+    is_lasting(board, region, &chain) || has_two_eyes(board, areas, eyes, stones, &chain)
 }
 
 /// Judges the chain at the point, if its stones are left and not yet marked: marks them as safe, or takes them away. Returns whether
@@ -60,6 +67,7 @@ fn is_safe(
 fn drop_chain(
     board: &ChainBoard,
     areas: &ChainBoard,
+    eyes: &PointSet,
     region: &PointSet,
     stones: &mut PointSet,
     marked: &mut PointSet,
@@ -69,6 +77,9 @@ fn drop_chain(
     requires on { IsOn (side_of board.now) point }
     requires own { (q : ℕ) → q < side_of board.now * side_of board.now
         → IsTrue (these (side_of board.now) stones.old q) → cell_at board.now q ≢ Empty }
+    requires eyes { (x : ℕ) → IsTrue (these (side_of board.now) stones.old x)
+        → HasEyes (side_of board.now) board.now areas.now (these (side_of board.now) eyes.now)
+        (IsBeside (side_of board.now) board.now x) }
     ensures { IsJudged (side_of board.now) (map (number_on (side_of board.now)) region.now)
         board.now areas.now (number_of (side_of board.now) point)
         stones.old marked.old stones.new marked.new result }
@@ -80,7 +91,7 @@ fn drop_chain(
     let Some(chain) = board.chain_of(point) else {
         return false;
     };
-    if is_safe(board, areas, region, stones, point) {
+    if is_safe(board, areas, eyes, region, stones, point) {
         put_in(size, marked, &chain);
         return false;
     }
@@ -92,12 +103,16 @@ fn drop_chain(
 fn drop_unsafe(
     board: &ChainBoard,
     areas: &ChainBoard,
+    eyes: &PointSet,
     region: &PointSet,
     stones: &mut PointSet,
 ) -> bool
     requires areas { HasAreas board.now areas.now }
     requires own { (q : ℕ) → q < side_of board.now * side_of board.now
         → IsTrue (these (side_of board.now) stones.old q) → cell_at board.now q ≢ Empty }
+    requires eyes { (x : ℕ) → IsTrue (these (side_of board.now) stones.old x)
+        → HasEyes (side_of board.now) board.now areas.now (these (side_of board.now) eyes.now)
+        (IsBeside (side_of board.now) board.now x) }
     ensures { IsDropped (side_of board.now) (map (number_on (side_of board.now)) region.now)
         board.now areas.now stones.old stones.new result }
 {
@@ -106,7 +121,7 @@ fn drop_unsafe(
     let mut has_changed = false;
     for number in 0..size.area() {
         let point = size.point_at(number);
-        if drop_chain(board, areas, region, stones, &mut marked, point) {
+        if drop_chain(board, areas, eyes, region, stones, &mut marked, point) {
             has_changed = true;
         }
     }
@@ -131,9 +146,9 @@ fn stones_of(board: &ChainBoard, colour: Colour) -> PointSet
 
 /// All stones of this colour that live by their shape, if moves are made only in this region.
 ///
-/// Each sweep looks at each chain of the colour once, and goes over the board a few times for it; there are as many sweeps as chains
-/// drop out one after the other, mostly two or three. On boards of 19 rows that took 0.3 to 0.7 ms, on one of 25 rows with 300
-/// stones 2 ms.
+/// Each sweep looks at each chain of the colour once, and goes over the points of the board a few times for it. There are as many
+/// sweeps as chains drop out one after the other, mostly two or three. Measured: 0.1 to 0.3 ms on boards of 19 rows, at most 0.8 ms
+/// on boards of 25 rows with 300 stones or 140 eyes.
 pub fn living_stones(board: &ChainBoard, colour: Colour, region: &PointSet) -> PointSet
     ensures { AreLiving (side_of board.now) colour region.now board.now result }
 {
@@ -141,7 +156,8 @@ pub fn living_stones(board: &ChainBoard, colour: Colour, region: &PointSet) -> P
         return PointSet::new();
     };
     let mut stones = stones_of(board, colour);
-    while drop_unsafe(board, &areas, region, &mut stones) {}
+    let eyes = eye_points(board, &areas, &stones);
+    while drop_unsafe(board, &areas, &eyes, region, &mut stones) {}
     stones
 }
 

@@ -5,7 +5,7 @@ ghost use Rattle.std.specs.List.{list_all};
 ghost use Rattle.go_points.specs.Place.{IsOn, number_of};
 ghost use Rattle.go_points.specs.Points.{holds_place};
 ghost use Rattle.pass_alive.specs.Sets.{these};
-ghost use Rattle.pass_alive.specs.Private.Areas.{IsNear, IsWithout, HasAtMost};
+ghost use Rattle.pass_alive.specs.Private.Areas.{IsNear, IsWithout, IsWith};
 
 use go_points::{Point, PointSet, Size};
 
@@ -79,7 +79,7 @@ pub(crate) fn take_out(size: Size, set: &mut PointSet, other: &PointSet)
 
 /// Puts all points of this board that are in the second set into the first.
 pub(crate) fn put_in(size: Size, set: &mut PointSet, other: &PointSet)
-    ensures { HasAtMost size other.now set.old set.new }
+    ensures { IsWith size other.now set.old set.new }
 {
     for number in 0..size.area() {
         let point = size.point_at(number);

@@ -86,9 +86,22 @@ pub record IsWithout (n : ℕ) (other old new : List Place) : Type 0 where
   pub kept : (q : ℕ) → q < n * n → IsFalse (these n other q) → IsTrue (these n old q) → IsTrue (these n new q)
   pub fewer : (q : ℕ) → q < n * n → IsTrue (these n other q) → IsTrue (these n old q) → length new < length old
 
--- The set with no more than another set.
-abbrev pub HasAtMost : ℕ → List Place → List Place → List Place → Type 0
-HasAtMost n other old new = (q : ℕ) → q < n * n → IsTrue (these n new q) → IsTrue (these n old q) ⊎ IsTrue (these n other q)
+-- The set with another set of points of the board, and no more of them.
+pub record IsWith (n : ℕ) (other old new : List Place) : Type 0 where
+  pub kept : (q : ℕ) → q < n * n → IsTrue (these n old q) → IsTrue (these n new q)
+  pub added : (q : ℕ) → q < n * n → IsTrue (these n other q) → IsTrue (these n new q)
+  pub most : (q : ℕ) → q < n * n → IsTrue (these n new q) → IsTrue (these n old q) ⊎ IsTrue (these n other q)
+
+-- Each empty point whose area is near, all of it, is among these points.
+abbrev pub HasEyes : ℕ → List Cell → List Cell → Points → (ℕ → Type 0) → Type 0
+HasEyes n c a eyes near = (p : ℕ) → p < n * n → cell_at c p ≡ Empty → ((q : ℕ) → q < n * n → Joined n a p q → near q) → IsTrue (eyes p)
+
+-- The area of the point i is looked at: its points have been seen, and are among the eyes if all of them are near.
+pub record IsGathered (n : ℕ) (c a : List Cell) (near : ℕ → Type 0) (i : ℕ) (old_seen old_eyes seen eyes : List Place) : Type 0 where
+  pub seen_kept : (q : ℕ) → q < n * n → IsTrue (these n old_seen q) → IsTrue (these n seen q)
+  pub eyes_kept : (q : ℕ) → q < n * n → IsTrue (these n old_eyes q) → IsTrue (these n eyes q)
+  pub here : cell_at c i ≡ Empty → IsTrue (these n seen i)
+  pub right : (p : ℕ) → p < n * n → IsTrue (these n seen p) → ((q : ℕ) → q < n * n → Joined n a p q → near q) → IsTrue (these n old_seen p) ⊎ IsTrue (these n eyes p)
 
 -- One chain is judged, that of the stone i: it is marked as safe, or its stones are taken away.
 pub record IsJudged (n : ℕ) (region : List ℕ) (c a : List Cell) (i : ℕ) (old old_marked new new_marked : List Place) (has_dropped : Bool) : Type 0 where

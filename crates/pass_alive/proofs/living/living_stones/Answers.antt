@@ -1,7 +1,9 @@
 use Rattle.std.proofs.Common.{Bool, map, sym, subst}
 use Rattle.go_points.specs.Grid.{side_of}
-use Rattle.pass_alive.specs.Sets.{number_on, AreLiving}
-use Rattle.pass_alive.specs.Private.Areas.{IsDropped}
+use Rattle.pass_alive.specs.Life.{IsBeside}
+use Rattle.pass_alive.specs.Sets.{these, number_on, AreLiving}
+use Rattle.pass_alive.specs.Private.Areas.{IsDropped, IsNear}
+use Rattle.pass_alive.proofs.Gathered.{has_eyes_by, beside_stones}
 use Rattle.pass_alive.proofs.Sweeps.{none_living, living_first, living_more, living_all}
 use Rattle.pass_alive.proofs.living.living_stones.Goals as goal
 
@@ -32,3 +34,10 @@ returns c =
     living_all n c.args.colour region cells areas c.in-Some.ensures.some.cells old new
     (subst (λ (b : Bool). IsDropped n (map (number_on n) region) cells areas old new b) c.loop-areas-test.false c.drop_unsafe.ensures)
     (living_more n c.args.colour region cells areas c.in-Some.ensures.some.cells old new c.drop_unsafe.result c.drop_unsafe.ensures c.loop-areas.invariant)
+
+pub drop_unsafe-requires-clause-eyes : goal.drop_unsafe-requires-clause-eyes
+drop_unsafe-requires-clause-eyes c x held =
+    let cells = c.args.board.now in
+    let n = side_of cells in
+    let all = c.stones_of-stones.result in
+    has_eyes_by n cells c.in-Some.areas (these n c.eye_points-eyes.result) (IsBeside n cells x) (IsNear n (these n all)) (beside_stones n c.args.colour cells all x c.stones_of-stones.ensures (c.loop-areas.invariant.own x held)) c.eye_points-eyes.ensures

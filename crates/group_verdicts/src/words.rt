@@ -12,6 +12,12 @@ use tsumego_version::VERSION;
 /// The greatest number of steps that may be asked for.
 const MOST_STEPS: u64 = 10_000_000;
 
+/// The numbers of steps that are taken if none is asked for: about one group, and about all groups of a position, of which a board
+/// of 19 rows has some sixty.
+const STEPS: u64 = 100_000;
+
+const STEPS_FOR_ALL: u64 = 20_000;
+
 /// The greatest number of a node: more than a record may have.
 const MOST: u64 = 1_000_000;
 
@@ -72,7 +78,7 @@ fn chosen(alloc: Global, given: &ArgMatches<'_>) -> Result<Request, NoRequest> {
         node: number(given, "node"),
         target,
         first,
-        steps: given.get_one::<u64>("steps").unwrap_or(1),
+        steps: steps(given),
         is_quick: flag(given, "quick"),
         is_all: flag(given, "all"),
         form: chosen_form(given),
@@ -132,6 +138,18 @@ fn number(given: &ArgMatches<'_>, id: &str) -> Option<usize> {
     match given.get_one::<u64>(id) {
         Some(number) if number <= MOST => Some(number as usize),
         _ => None,
+    }
+}
+
+/// The greatest number of steps for each question: what is asked for, otherwise fewer for all groups of a position than for one.
+fn steps(given: &ArgMatches<'_>) -> u64 {
+    if let Some(steps) = given.get_one::<u64>("steps") {
+        return steps;
+    }
+    if flag(given, "all") {
+        STEPS_FOR_ALL
+    } else {
+        STEPS
     }
 }
 
@@ -199,11 +217,12 @@ fn first_argument<'a>(alloc: Global) -> Arg<'a> {
 
 fn steps_argument<'a>(alloc: Global) -> Arg<'a> {
     Arg::new(alloc, "steps")
-        .help("The most steps of the search for each question, 1 to 10000000")
+        .help(
+            "The most steps of the search for each question, 1 to 10000000 [default: 100000, with --all 20000]",
+        )
         .long("steps")
         .value_name("N")
         .value_parser(ValueParser::unsigned(1, MOST_STEPS))
-        .default_value("100000")
 }
 
 fn quick_argument<'a>(alloc: Global) -> Arg<'a> {

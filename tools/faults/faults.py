@@ -212,7 +212,7 @@ def fits_device(words, kind, times, own, got):
     if kind.endswith("-short") or (kind.endswith("-interrupt") and times <= 1000):
         return got == own
     if kind.startswith("read"):
-        if words[0] != "gtp":
+        if words[:1] != ["gtp"]:
             return got == NO_READ
         said = got[1][: -len(NO_READ[1])]
         return got[0] == 4 and got[1].endswith(NO_READ[1]) and own[1].startswith(said) and (not said or said.endswith(b"\n\n"))

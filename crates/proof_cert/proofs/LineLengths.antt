@@ -17,10 +17,10 @@ use Rattle.proof_cert.proofs.Texts.{line_of-is}
 small_number : (k : ℕ) → k < 100000000 → length (decimal k) ≤ 8
 small_number k low = length-decimal-le 8 k (omega arith) low (omega arith)
 
-few_digits : (k : ℕ) → IsTrue (is_spelled_number k) → length (decimal k) ≤ 8
+pub few_digits : (k : ℕ) → IsTrue (is_spelled_number k) → length (decimal k) ≤ 8
 few_digits k h = small_number k (ltb-true k 100000000 (and_second (nat_le 1 k) (nat_lt k 100000000) h))
 
-one_letter : (x : Colour) → length (colour_letter x) ≡ 1
+pub one_letter : (x : Colour) → length (colour_letter x) ≡ 1
 one_letter Black = refl
 one_letter White = refl
 

@@ -1,12 +1,12 @@
 -- What the reader of lines does, against the definitions, over plain bytes.
-use Rattle.std.proofs.Common.{◌≡◌, ℕ, suc, ◌+◌, ◌<◌, ◌≤◌, ◌^◌, ◌⊎◌, inl, inr, Bool, true, false, cond, not, ◌&&◌, nat_eq, nat_le, List, [], ◌∷◌, length, take, drop, eq-eqb, eqb-true, le-leb, ltb-true, ltb-false, nat_lt, Option, Some, None, position, MatchOption, option_map, Bor, refl, sym, ◌∙◌, ap, ap₂, arith}
+use Rattle.std.proofs.Common.{◌≡◌, ℕ, suc, ◌+◌, ◌<◌, ◌≤◌, ◌^◌, ◌⊎◌, inl, inr, Bool, true, false, cond, not, ◌&&◌, nat_eq, nat_le, List, [], ◌∷◌, length, take, drop, get_or, ◌-◌, ◌||◌, IsTrue, eq-eqb, eqb-true, le-leb, ltb-true, ltb-false, nat_lt, Option, Some, None, position, MatchOption, option_map, Bor, refl, sym, subst, ◌∙◌, ap, ap₂, arith}
 use Rattle.std.proofs.Math.Nat.{pow-le-pow_right}
 use Rattle.std.specs.Str.{all_ascii_digits}
 use Rattle.std.specs.List.{position_or_len}
 use Rattle.std.specs.Char.{is_ascii_digit}
 use Rattle.std.proofs.lemmas.Bool.{lt-leb}
 use lib.Pointwise.{pointwise}
-use Rattle.proof_cert.specs.Text.{after_word, at_space, value_from}
+use Rattle.proof_cert.specs.Text.{after_word, at_space, header_rest, header_tail, value_from}
 
 -- a word at the front
 front_yes : (w b : List ℕ) → pointwise nat_eq (take (length w) b) w ≡ true → after_word w b ≡ Some (drop (length w) b)
@@ -99,3 +99,12 @@ space_missing b e = go (nat_lt (place b) (length b)) refl e
 pub none_there : (r : Option (Bor (List ℕ))) (w : Option (List ℕ)) → ((x : Bor (List ℕ)) → r ≡ Some x → ⊥) → option_map (λ (rest : Bor (List ℕ)). rest.now) r ≡ w → w ≡ None
 none_there None w h e = sym e
 none_there (Some x) w h e = absurd (h x refl)
+
+-- the version's digit at the front of a header, and a space
+pub header_by : (b : List ℕ) (d w : ℕ) → 2 ≤ length b → get_or b 0 0 ≡ d → get_or b 1 0 ≡ 32 → IsTrue (nat_eq d 49 || nat_eq d 50) → d - 48 ≡ w → header_rest w (drop 2 b) ≡ header_tail b
+header_by [] d w long first second is number = absurd (omega arith)
+header_by (v ∷ []) d w long first second is number = absurd (omega arith)
+header_by (v ∷ s ∷ b) d w long first second is number =
+    subst (λ x. header_rest w b ≡ header_tail (x ∷ s ∷ b)) (sym first)
+    (subst (λ y. header_rest w b ≡ header_tail (d ∷ y ∷ b)) (sym second)
+    (ap (λ y. header_rest y b) (sym number) ∙ sym (ap (λ a. elim a [ true ↦ header_rest (d - 48) b | false ↦ None ]) is)))

@@ -7,12 +7,12 @@ use Rattle.go_points.specs.declared.TheConstants.{MAX_SIZE}
 use Rattle.proof_cert.proofs.Pieces.{place}
 use Rattle.std.proofs.KnownBytes.{Consumes-nil, Consumes-trans}
 use Rattle.proof_cert.specs.Lines.{Line}
-use Rattle.proof_cert.specs.Text.{pieces, with_byte, line_of, line_of_piece, line_feed, max_line}
-use Rattle.proof_cert.specs.Text.{lines}
+use Rattle.proof_cert.specs.Text.{pieces, with_byte, line_by, piece_by, lines_by, line_feed, max_line}
+use Rattle.proof_cert.specs.declared.spelling.Spelling.{Spelling}
 use Rattle.proof_cert.specs.declared.source.SourceFault.TheVariants.{Malformed}
 use Rattle.proof_cert.specs.Given.{Gave}
-use Rattle.proof_cert.specs.Streamed.{Unread, Streamed, IsRead, streamed_of, Tells, told_bytes, bytes_left, Uses, HasEnded, HasNoFeed, reader_gives, LinesGivenOfReader}
-use Rattle.proof_cert.proofs.LineLengths.{long_none}
+use Rattle.proof_cert.specs.Streamed.{Unread, Streamed, IsRead, streamed_by, Tells, told_bytes, bytes_left, Uses, HasEnded, HasNoFeed, reader_gives, LinesGivenBy}
+use Rattle.proof_cert.proofs.ShortLines.{long_by}
 
 -- PIECES
 
@@ -43,21 +43,21 @@ no_feed_more (y ∷ b) x h e = (h.0, no_feed_more b x h.1 e)
 
 -- LINES
 
-pub line_fed : (n : ℕ) (b more : List ℕ) → HasNoFeed b → lines n ((b ++ line_feed ∷ []) ++ more) ≡ line_of n b ∷ lines n more
-line_fed n b more h = ap (lines n) (append_assoc b (line_feed ∷ []) more) ∙ ap (λ ps. map (line_of_piece n) ps) (pieces_fed b more h)
+pub line_fed : (y : Spelling) (n : ℕ) (b more : List ℕ) → HasNoFeed b → lines_by y n ((b ++ line_feed ∷ []) ++ more) ≡ line_by y n b ∷ lines_by y n more
+line_fed y n b more h = ap (lines_by y n) (append_assoc b (line_feed ∷ []) more) ∙ ap (λ ps. map (piece_by y n) ps) (pieces_fed b more h)
 
-pub line_cut : (n : ℕ) (b : List ℕ) → 0 < length b → HasNoFeed b → lines n (b ++ []) ≡ None ∷ []
-line_cut n [] some h = absurd (omega arith)
-line_cut n (x ∷ b) some h = ap (lines n) (append-nil (x ∷ b)) ∙ ap (λ ps. map (line_of_piece n) ps) (pieces_cut x b h)
+pub line_cut : (y : Spelling) (n : ℕ) (b : List ℕ) → 0 < length b → HasNoFeed b → lines_by y n (b ++ []) ≡ None ∷ []
+line_cut y n [] some h = absurd (omega arith)
+line_cut y n (x ∷ b) some h = ap (lines_by y n) (append-nil (x ∷ b)) ∙ ap (λ ps. map (piece_by y n) ps) (pieces_cut x b h)
 
-pub line_long : (n : ℕ) → n ≤ MAX_SIZE → (b more : List ℕ) → max_line < length b → HasNoFeed b → (rest : List (Option Line)) × (lines n (b ++ more) ≡ None ∷ rest)
-line_long n small [] more long h = absurd (omega arith)
-line_long n small (x ∷ b) more long h =
+pub line_long : (y : Spelling) (n : ℕ) → n ≤ MAX_SIZE → (b more : List ℕ) → max_line < length b → HasNoFeed b → (rest : List (Option Line)) × (lines_by y n (b ++ more) ≡ None ∷ rest)
+line_long y n small [] more long h = absurd (omega arith)
+line_long y n small (x ∷ b) more long h =
     let first = pieces_long x b more h in
-    (map (line_of_piece n) first.2, ap (λ ps. map (line_of_piece n) ps) first.3 ∙ ap (λ l. l ∷ map (line_of_piece n) first.2) (none first.0 first.1))
+    (map (piece_by y n) first.2, ap (λ ps. map (piece_by y n) ps) first.3 ∙ ap (λ l. l ∷ map (piece_by y n) first.2) (none first.0 first.1))
   where
-    none : (tail : List ℕ) (fed : Bool) → line_of_piece n (x ∷ b ++ tail, fed) ≡ None
-    none tail true = let whole = length-append (x ∷ b) tail in long_none n small (x ∷ b ++ tail) (omega (arith, long, whole))
+    none : (tail : List ℕ) (fed : Bool) → piece_by y n (x ∷ b ++ tail, fed) ≡ None
+    none tail true = let whole = length-append (x ∷ b) tail in long_by y n small (x ∷ b ++ tail) (omega (arith, long, whole))
     none tail false = refl
 
 -- WHAT WAS USED
@@ -99,31 +99,31 @@ none_left b (none, end) = ap (λ l. l ++ told_bytes b.told) none ∙ end_told b.
 pub record GaveOf (s : Streamed) (ls : List (Option Line)) (t : Streamed) : Type 0 where
   pub used : List ℕ
   pub taken : Uses s.left t.left used
-  pub whole : t.fault ≡ None → (more : List ℕ) → lines s.size (used ++ more) ≡ ls ++ lines s.size more
+  pub whole : t.fault ≡ None → (more : List ℕ) → lines_by s.spelling s.size (used ++ more) ≡ ls ++ lines_by s.spelling s.size more
   pub rest : List (Option Line)
-  pub front : lines s.size (used ++ bytes_left t.left) ≡ ls ++ rest
+  pub front : lines_by s.spelling s.size (used ++ bytes_left t.left) ≡ ls ++ rest
 
 gave_of : (s : Streamed) (ls : List (Option Line)) (t : Streamed) → Gave reader_gives s ls t → GaveOf s ls t
 gave_of s [] t e = record {
   used = [];
   taken = subst (λ (x : Streamed). Uses s.left x.left []) e (uses_none s.left);
   whole = λ free more. refl;
-  rest = lines s.size (bytes_left t.left);
+  rest = lines_by s.spelling s.size (bytes_left t.left);
   front = refl;
 }
 gave_of s (Some l ∷ ls) t (u, g, more) =
     let one = g.3 in
     let below = gave_of u ls t more in
-    let size : u.size ≡ s.size = g.1 in record {
+    let same : (x : List ℕ) → lines_by u.spelling u.size x ≡ lines_by s.spelling s.size x = λ x. ap (λ (y : Spelling). lines_by y u.size x) g.1.spelling ∙ ap (λ (m : ℕ). lines_by s.spelling m x) g.1.size in record {
       used = one.0 ++ below.used;
       taken = uses_then s.left u.left t.left one.0 below.used one.1 below.taken;
       whole = λ free behind.
-          ap (lines s.size) (append_assoc one.0 below.used behind) ∙ one.2 (below.used ++ behind)
-          ∙ ap (λ k. Some l ∷ k) (subst (λ (m : ℕ). lines m (below.used ++ behind) ≡ ls ++ lines m behind) size (below.whole free behind));
+          ap (lines_by s.spelling s.size) (append_assoc one.0 below.used behind) ∙ one.2 (below.used ++ behind)
+          ∙ ap (λ k. Some l ∷ k) (sym (same (below.used ++ behind)) ∙ below.whole free behind ∙ ap (λ k. ls ++ k) (same behind));
       rest = below.rest;
       front =
-          ap (lines s.size) (append_assoc one.0 below.used (bytes_left t.left)) ∙ one.2 (below.used ++ bytes_left t.left)
-          ∙ ap (λ k. Some l ∷ k) (subst (λ (m : ℕ). lines m (below.used ++ bytes_left t.left) ≡ ls ++ below.rest) size below.front);
+          ap (lines_by s.spelling s.size) (append_assoc one.0 below.used (bytes_left t.left)) ∙ one.2 (below.used ++ bytes_left t.left)
+          ∙ ap (λ k. Some l ∷ k) (sym (same (below.used ++ bytes_left t.left)) ∙ below.front);
     }
 gave_of s (None ∷ []) t (u, g, e) =
     let one = g.3 in record {
@@ -131,19 +131,19 @@ gave_of s (None ∷ []) t (u, g, e) =
       taken = subst (λ (x : Streamed). Uses s.left x.left one.0) e one.1;
       whole = λ free. absurd (cc (sym free ∙ ap (λ (x : Streamed). x.fault) (sym e) ∙ g.2));
       rest = one.2;
-      front = subst (λ (x : Streamed). lines s.size (one.0 ++ bytes_left x.left) ≡ None ∷ one.2) e one.3;
+      front = subst (λ (x : Streamed). lines_by s.spelling s.size (one.0 ++ bytes_left x.left) ≡ None ∷ one.2) e one.3;
     }
 gave_of s (None ∷ (k ∷ ls)) t (u, g, (v, f, more)) = absurd (cc (sym f.0 ∙ g.2))
 
-pub lines_given_of_reader : LinesGivenOfReader
-lines_given_of_reader n held told ls t h =
-    let s = streamed_of n held told in
+pub lines_given_by : (y : Spelling) → LinesGivenBy y
+lines_given_by y n held told ls t h =
+    let s = streamed_by y n held told in
     let all = gave_of s ls t h in
     let one = used_whole s.left t.left all.used all.taken in record {
-      front = (one.0, one.1, all.rest, ap (lines n) one.2 ∙ all.front);
+      front = (one.0, one.1, all.rest, ap (lines_by y n) one.2 ∙ all.front);
       all = λ u g.
           let end = used_whole s.left u.left (all.used ++ []) (uses_then s.left t.left u.left all.used [] all.taken g.3.0) in
-          (end.0, end.1, ap (lines n) (end.2 ∙ append_assoc all.used [] (bytes_left u.left) ∙ ap (λ l. all.used ++ l) (none_left u.left g.3.1)) ∙ all.whole g.0 [] ∙ append-nil ls);
+          (end.0, end.1, ap (lines_by y n) (end.2 ∙ append_assoc all.used [] (bytes_left u.left) ∙ ap (λ l. all.used ++ l) (none_left u.left g.3.1)) ∙ all.whole g.0 [] ∙ append-nil ls);
     }
 
 -- THE BLOCK
@@ -223,19 +223,19 @@ module _ (told : Option (List ℕ)) (front : List ℕ) (s e k : ℕ) (block : Li
   line_used = record { read = []; told = Consumes-nil told; bytes = append-nil (drop s (take e block) ++ front) ∙ block_line }
 
   -- a line that is spelled, and one that is not
-  module _ (n : ℕ) (line : Option Line) (spelled : line ≡ line_of n (take (s + k - s) (drop s block))) where
-    is_line : (more : List ℕ) → lines n ((take k piece ++ line_feed ∷ []) ++ more) ≡ line ∷ lines n more
-    is_line more = line_fed n (take k piece) more line_clean ∙ ap (λ (l : Option Line). l ∷ lines n more) (sym (spelled ∙ ap (λ b. line_of n b) line_there))
+  module _ (y : Spelling) (n : ℕ) (line : Option Line) (spelled : line ≡ line_by y n (take (s + k - s) (drop s block))) where
+    is_line : (more : List ℕ) → lines_by y n ((take k piece ++ line_feed ∷ []) ++ more) ≡ line ∷ lines_by y n more
+    is_line more = line_fed y n (take k piece) more line_clean ∙ ap (λ (l : Option Line). l ∷ lines_by y n more) (sym (spelled ∙ ap (λ b. line_by y n b) line_there))
 
-    pub line_read : (l : Line) → line ≡ Some l → IsRead n (record { held = drop s (take e block) ++ front; told = told }) (record { held = drop (s + k + 1) (take e block) ++ front; told = told }) (Ok (Some l))
-    line_read l is = (take k piece ++ line_feed ∷ [], line_used, λ more. is_line more ∙ ap (λ (l : Option Line). l ∷ lines n more) is)
+    pub line_read : (l : Line) → line ≡ Some l → IsRead y n (record { held = drop s (take e block) ++ front; told = told }) (record { held = drop (s + k + 1) (take e block) ++ front; told = told }) (Ok (Some l))
+    line_read l is = (take k piece ++ line_feed ∷ [], line_used, λ more. is_line more ∙ ap (λ (l : Option Line). l ∷ lines_by y n more) is)
 
-    pub line_unread : line ≡ None → IsRead n (record { held = drop s (take e block) ++ front; told = told }) (record { held = drop s (take e block) ++ front; told = told }) (Err Malformed)
+    pub line_unread : line ≡ None → IsRead y n (record { held = drop s (take e block) ++ front; told = told }) (record { held = drop s (take e block) ++ front; told = told }) (Err Malformed)
     line_unread is =
         let more = (drop (s + k + 1) (take e block) ++ front) ++ told_bytes told in (
           [],
           uses_none (record { held = drop s (take e block) ++ front; told = told }),
-          lines n more,
-          ap (lines n) (ap (λ l. l ++ told_bytes told) block_line ∙ append_assoc (take k piece ++ line_feed ∷ []) (drop (s + k + 1) (take e block) ++ front) (told_bytes told))
-              ∙ is_line more ∙ ap (λ (l : Option Line). l ∷ lines n more) is,
+          lines_by y n more,
+          ap (lines_by y n) (ap (λ l. l ++ told_bytes told) block_line ∙ append_assoc (take k piece ++ line_feed ∷ []) (drop (s + k + 1) (take e block) ++ front) (told_bytes told))
+              ∙ is_line more ∙ ap (λ (l : Option Line). l ∷ lines_by y n more) is,
         )

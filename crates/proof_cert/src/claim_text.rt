@@ -1,20 +1,21 @@
 //! The text of a claim.
 
-ghost use Rattle.std.specs.Prelude.{◌≡◌, ◌++◌, ◌↔◌, IsTrue, IsSomeAnd, OnOk, OnErr, Err, None, Some, map};
+ghost use Rattle.std.specs.Prelude.{◌≡◌, ◌++◌, ℕ, ◌↔◌, IsTrue, IsSomeAnd, OnOk, OnErr, Err, None, Some, map};
 ghost use Rattle.std.specs.List.{list_all};
 ghost use Rattle.std.specs.Io.KnownBytes.{Appends};
-ghost use Rattle.proof_cert.specs.Lines.{node_lines, branch_lines, lemma_lines, lemmas_lines, lines_of, had_spelled, not_line};
+ghost use Rattle.proof_cert.specs.Lines.{node_lines, branch_lines, lemma_lines, lemmas_lines, lines_of, had_spelled, not_line, use_line};
 ghost use Rattle.proof_cert.specs.Stage.{version_number};
-ghost use Rattle.proof_cert.specs.Text.{is_spelled, text};
+ghost use Rattle.proof_cert.specs.Text.{is_spelled, is_spelled_number, text};
 ghost use Rattle.proof_cert.specs.Certificate.{node_of, replies_of, lemma_of, claim_of};
 ghost use Rattle.byte_writer.specs.Taken.{HasPut, TakesPart};
-ghost use Rattle.proof_cert.specs.Private.Taken.{lines_text};
+ghost use Rattle.proof_cert.specs.Private.Taken.{line_text, lines_text};
 
 use crate::certificate::{Certificate, Lemma, Node};
 use crate::line_text::{
     put_had, put_header, put_lemma_line, put_not, put_number, put_turn, put_word,
 };
 use crate::spelled::is_spelled_claim;
+use crate::spelling::Spelling;
 use crate::version::Version;
 use crate::write::CertWrite;
 use byte_writer::{PendingBytes, WriteFault};
@@ -78,7 +79,7 @@ fn put_claim<W: Write>(certificate: &Certificate, pending: &mut PendingBytes, wr
         writer,
     );
     put_word(b"main", pending, writer);
-    put_node(size, &certificate.main, pending, writer);
+    put_node(Spelling::Ordinary, size, &certificate.main, pending, writer);
     put_word(b"end", pending, writer);
 }
 
@@ -114,11 +115,11 @@ fn put_lemma<W: Write>(
     put_lemma_line(size, lemma, pending, writer);
     put_all_had(version, size, lemma.had.as_slice(), pending, writer);
     put_listed(size, lemma.absent.as_slice(), pending, writer);
-    put_node(size, &lemma.body, pending, writer);
+    put_node(Spelling::Ordinary, size, &lemma.body, pending, writer);
     put_word(b"end", pending, writer);
 }
 
-fn put_all_had<W: Write>(
+pub(crate) fn put_all_had<W: Write>(
     version: Version,
     size: Size,
     had: &[Colouring],
@@ -133,7 +134,7 @@ fn put_all_had<W: Write>(
     }
 }
 
-fn put_listed<W: Write>(
+pub(crate) fn put_listed<W: Write>(
     size: Size,
     listed: &[Colouring],
     pending: &mut PendingBytes,
@@ -147,28 +148,48 @@ fn put_listed<W: Write>(
     }
 }
 
+/// Puts the line that uses the lemma of this number; that of number 0 is the theorem, which a short claim may use.
+fn put_use<W: Write>(spelling: Spelling, lemma: u32, pending: &mut PendingBytes, writer: &mut W)
+    ensures { (n : ℕ) → IsTrue (is_spelled_number lemma)
+        → HasPut (W.contents writer.old) (W.contents writer.new) pending.old pending.new
+        (line_text n (Some (use_line lemma))) }
+{
+    if spelling == Spelling::Short && lemma == 0 {
+        put_word(b"alive", pending, writer);
+    } else {
+        put_number(b"use ", lemma as usize, pending, writer);
+    }
+}
+
 #[cycle(put)]
-fn put_node<W: Write>(size: Size, node: &Node, pending: &mut PendingBytes, writer: &mut W)
+pub(crate) fn put_node<W: Write>(
+    spelling: Spelling,
+    size: Size,
+    node: &Node,
+    pending: &mut PendingBytes,
+    writer: &mut W,
+)
     ensures { IsTrue (list_all (is_spelled size) (node_lines (node_of size node.now)))
         → HasPut (W.contents writer.old) (W.contents writer.new) pending.old pending.new
         (lines_text size (node_lines (node_of size node.now))) }
 {
     match node {
         Node::Won => put_word(b"won", pending, writer),
-        Node::Use(lemma) => put_number(b"use ", *lemma as usize, pending, writer),
+        Node::Use(lemma) => put_use(spelling, *lemma, pending, writer),
         Node::Play(turn, below) => {
             put_turn(b"play ", size, *turn, pending, writer);
-            put_node(size, below, pending, writer);
+            put_node(spelling, size, below, pending, writer);
         }
         Node::All(replies) => {
             put_number(b"all ", replies.len(), pending, writer);
-            put_replies(size, replies.as_slice(), pending, writer);
+            put_replies(spelling, size, replies.as_slice(), pending, writer);
         }
     }
 }
 
 #[cycle(put)]
 fn put_replies<W: Write>(
+    spelling: Spelling,
     size: Size,
     replies: &[(Turn, Node)],
     pending: &mut PendingBytes,
@@ -180,6 +201,6 @@ fn put_replies<W: Write>(
 {
     for (turn, below) in replies {
         put_turn(b"reply ", size, *turn, pending, writer);
-        put_node(size, below, pending, writer);
+        put_node(spelling, size, below, pending, writer);
     }
 }

@@ -2,11 +2,12 @@
 
 ghost use Rattle.std.specs.Prelude.{◌≡◌, ◌<◌, ℕ, true, codes, option_map, is_some, nat_eq, position};
 ghost use Rattle.go_points.specs.Ply.{ply_of};
-ghost use Rattle.proof_cert.specs.Text.{after_word, at_end, at_space, number_of, colour_of, vertex_of, header_tail, lemma_tail, or_else, line_of};
-ghost use Rattle.proof_cert.specs.Lines.{main_line, won_line, end_line};
-ghost use Rattle.proof_cert.specs.Stage.{line_value};
+ghost use Rattle.proof_cert.specs.Text.{after_word, at_end, at_space, behind, number_of, colour_of, vertex_of, header_rest, header_tail, lemma_tail, no_header, or_else, line_by, line_of, short_line_of};
+ghost use Rattle.proof_cert.specs.Lines.{main_line, won_line, use_line, end_line};
+ghost use Rattle.proof_cert.specs.Stage.{line_value, version_number};
 
 use crate::cells::read_cells;
+use crate::spelling::Spelling;
 use crate::version::Version;
 use go_points::{Colour, Colouring, Size, Turn, sgf_point};
 
@@ -117,12 +118,19 @@ fn read_header(text: &[u8]) -> Option<Line>
     if text.len() < 2 || text[1] != b' ' {
         return None;
     }
-    let version = match text[0] {
-        b'1' => Version::One,
-        b'2' => Version::Two,
-        _ => return None,
-    };
-    let (size, winner) = parts_at_space(&text[2..])?;
+    match text[0] {
+        b'1' => read_header_rest(Version::One, &text[2..]),
+        b'2' => read_header_rest(Version::Two, &text[2..]),
+        _ => None,
+    }
+}
+
+/// A claim's first line after its version: the size and the winner.
+fn read_header_rest(version: Version, text: &[u8]) -> Option<Line>
+    ensures { (n : ℕ) → option_map (line_value n) result
+        ≡ header_rest (version_number version) text.now }
+{
+    let (size, winner) = parts_at_space(text)?;
     let size = read_number(size)?;
     let winner = read_colour(winner)?;
     Some(Line::Header {
@@ -130,6 +138,40 @@ fn read_header(text: &[u8]) -> Option<Line>
         size,
         winner,
     })
+}
+
+/// A short claim's first line. Like a claim of version 2, it may say which colourings must have occurred.
+fn read_short_header(text: &[u8]) -> Option<Line>
+    ensures { (n : ℕ) → option_map (line_value n) result
+        ≡ behind (codes "tsushort 1 ") (header_rest 2) text.now }
+{
+    match behind_word(b"tsushort 1 ", text) {
+        Some(rest) => read_header_rest(Version::Two, rest),
+        None => None,
+    }
+}
+
+/// A line of a claim that is not its first one.
+fn without_header(line: Option<Line>) -> Option<Line>
+    ensures { (n : ℕ) → option_map (line_value n) result
+        ≡ no_header (option_map (line_value n) line) }
+{
+    match line {
+        Some(Line::Header { .. }) => None,
+        _ => line,
+    }
+}
+
+/// The use of the theorem in a short claim.
+fn read_alive(text: &[u8]) -> Option<Line>
+    ensures { (n : ℕ) → option_map (line_value n) result
+        ≡ at_end (use_line 0) (after_word (codes "alive") text.now) }
+{
+    if is_word(b"alive", text) {
+        Some(Line::Use(0))
+    } else {
+        None
+    }
 }
 
 /// A lemma's first line after its word: the mover, the passes and the root.
@@ -183,6 +225,38 @@ impl Line {
             return Some(Line::Reply(read_vertex(size, rest)?));
         }
         plain_word(text)
+    }
+
+    /// The line that these bytes spell in a short claim. `None` if they spell none there.
+    pub fn from_short_text(size: Size, text: &[u8]) -> Option<Line>
+        ensures { option_map (line_value size) result ≡ short_line_of size text.now }
+    {
+        match read_short_header(text) {
+            Some(line) => Some(line),
+            None => read_behind_header(size, text),
+        }
+    }
+
+    /// The line that these bytes spell in a claim of this kind.
+    pub(crate) fn read(spelling: Spelling, size: Size, text: &[u8]) -> Option<Line>
+        ensures { option_map (line_value size) result ≡ line_by spelling size text.now }
+    {
+        match spelling {
+            Spelling::Ordinary => Line::from_text(size, text),
+            Spelling::Short => Line::from_short_text(size, text),
+        }
+    }
+}
+
+/// A line of a short claim that is not its first one.
+fn read_behind_header(size: Size, text: &[u8]) -> Option<Line>
+    ensures { option_map (line_value size) result
+        ≡ or_else (at_end (use_line 0) (after_word (codes "alive") text.now))
+        (no_header (line_of size text.now)) }
+{
+    match read_alive(text) {
+        Some(line) => Some(line),
+        None => without_header(Line::from_text(size, text)),
     }
 }
 

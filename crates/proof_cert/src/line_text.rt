@@ -204,3 +204,17 @@ pub(crate) fn put_header<W: Write>(
     put_letter(winner, pending, writer);
     pending.put(b"\n", writer);
 }
+
+/// Puts the first line of a short claim.
+pub(crate) fn put_short_header<W: Write>(
+    size: Size,
+    winner: Colour,
+    pending: &mut PendingBytes,
+    writer: &mut W,
+) {
+    pending.put(b"tsushort 1 ", writer);
+    put_decimal(size.rows() as usize, pending, writer);
+    pending.put(b" ", writer);
+    put_letter(winner, pending, writer);
+    pending.put(b"\n", writer);
+}

@@ -3,11 +3,12 @@
 ghost use Rattle.std.specs.Prelude.{◌≡◌, ◌<◌, ◌^◌, [], None, IfOk};
 ghost use Rattle.std.specs.Io.KnownBytes.{Consumes};
 ghost use Rattle.proof_cert.specs.Private.Source.{answer_value};
-ghost use Rattle.proof_cert.specs.Streamed.{IsPiece, IsRead, streamed_of};
+ghost use Rattle.proof_cert.specs.Streamed.{IsPiece, IsRead, streamed_of, short_streamed_of};
 
 use crate::line::Line;
 use crate::node_source::NodeSource;
 use crate::source::SourceFault;
+use crate::spelling::Spelling;
 use crate::told_bytes::{ReadFailed, ToldBytes};
 use arrayvec::ArrayVec;
 use go_points::{MAX_POINTS, MAX_SIZE, Size};
@@ -32,6 +33,7 @@ pub(crate) enum Ending {
 /// the bytes and one line.
 #[derive(Drop)]
 pub struct ReaderSource<'a, R: Read + Drop> {
+    spelling: Spelling,
     size: Size,
     bytes: ToldBytes<'a, R>,
     number: u64,
@@ -44,7 +46,13 @@ impl<'a, R: Read + Drop> Model for ReaderSource<'a, R> {
 
     ghost Value = { Streamed };
 
-    ghost view = { λ a. record { size = a.size; left = a.bytes; number = a.number; fault = a.fault } };
+    ghost view = { λ a. record {
+      spelling = a.spelling;
+      size = a.size;
+      left = a.bytes;
+      number = a.number;
+      fault = a.fault;
+    } };
 
     ghost invariant = { λ a. a.fault ≡ None → a.number < 2 ^ 64 - 1 };
 }
@@ -79,15 +87,16 @@ fn read_piece<R: Read + Drop>(
 
 /// The next line of the bytes, byte by byte.
 fn cut_line<R: Read + Drop>(
+    spelling: Spelling,
     size: Size,
     bytes: &mut ToldBytes<'_, R>,
 ) -> Result<Option<Line>, SourceFault>
-    ensures { IsRead size bytes.old bytes.new (answer_value size result) }
+    ensures { IsRead spelling size bytes.old bytes.new (answer_value size result) }
 {
     prove!(size.rows() <= MAX_SIZE);
     let mut line = ArrayVec::new();
     match read_piece(bytes, &mut line) {
-        Ok(Ending::LineFeed) => match Line::from_text(size, line.as_slice()) {
+        Ok(Ending::LineFeed) => match Line::read(spelling, size, line.as_slice()) {
             Some(line) => Ok(Some(line)),
             None => Err(SourceFault::Malformed),
         },
@@ -105,15 +114,16 @@ fn cut_line<R: Read + Drop>(
 
 /// The next line of the bytes, for a board of this size: at once if the block has the whole of it.
 fn read_line<R: Read + Drop>(
+    spelling: Spelling,
     size: Size,
     bytes: &mut ToldBytes<'_, R>,
 ) -> Result<Option<Line>, SourceFault>
-    ensures { IsRead size bytes.old bytes.new (answer_value size result) }
+    ensures { IsRead spelling size bytes.old bytes.new (answer_value size result) }
 {
-    match bytes.whole_line(size) {
+    match bytes.whole_line(spelling, size) {
         Some(Some(line)) => Ok(Some(line)),
         Some(None) => Err(SourceFault::Malformed),
-        None => cut_line(size, bytes),
+        None => cut_line(spelling, size, bytes),
     }
 }
 
@@ -123,6 +133,20 @@ impl<'a, R: Read + Drop> ReaderSource<'a, R> {
         ensures { result ≡ streamed_of size front.now (R.remaining reader) }
     {
         ReaderSource {
+            spelling: Spelling::Ordinary,
+            size,
+            bytes: ToldBytes::new(front, reader),
+            number: 0,
+            fault: None,
+        }
+    }
+
+    /// The lines of a short claim in the front and in what the reader gives after it, for a board of this size.
+    pub fn of_short(size: Size, front: &'a [u8], reader: R) -> ReaderSource<'a, R>
+        ensures { result ≡ short_streamed_of size front.now (R.remaining reader) }
+    {
+        ReaderSource {
+            spelling: Spelling::Short,
             size,
             bytes: ToldBytes::new(front, reader),
             number: 0,
@@ -149,7 +173,7 @@ impl<'a, R: Read + Drop> NodeSource for ReaderSource<'a, R> {
         let answer = if self.number >= TOO_MANY {
             Err(SourceFault::Read)
         } else {
-            read_line(self.size, &mut self.bytes)
+            read_line(self.spelling, self.size, &mut self.bytes)
         };
         match answer {
             Ok(Some(_)) => self.number += 1,

@@ -6,6 +6,7 @@ ghost use Rattle.proof_cert.specs.Given.{line_answer};
 ghost use Rattle.proof_cert.specs.Streamed.{HasEnded, IsByte, IsRead, Uses};
 
 use crate::line::{Line, place_of_byte};
+use crate::spelling::Spelling;
 use go_points::Size;
 use std::io::Read;
 use std::marker::Model;
@@ -109,14 +110,15 @@ impl<'a, R: Read + Drop> ToldBytes<'a, R> {
     }
 
     /// The next line, if the block has it with its line feed. If its bytes spell a line, they are used.
-    pub(crate) fn whole_line(&mut self, size: Size) -> Option<Option<Line>>
+    pub(crate) fn whole_line(&mut self, spelling: Spelling, size: Size) -> Option<Option<Line>>
         ensures some { IfSome result
-            (λ l. IsRead size self.old self.new (line_answer (option_map (line_value size) l))) }
+            (λ l. IsRead spelling size self.old self.new
+            (line_answer (option_map (line_value size) l))) }
         ensures none { result ≡ None → self.new ≡ self.old }
     {
         let length = place_of_byte(&self.block[self.start..self.end], b'\n')?;
         let feed = self.start + length;
-        match Line::from_text(size, &self.block[self.start..feed]) {
+        match Line::read(spelling, size, &self.block[self.start..feed]) {
             Some(line) => {
                 self.start = feed + 1;
                 Some(Some(line))

@@ -17,7 +17,8 @@ pub put_node-returns-in-Use : goal.put_node-returns-in-Use
 put_node-returns-in-Use g t c = λ spelled.
     let n = c.args.size in
     let j = c.in-Use.lemma in
-    put_as (lines_text n (node_lines (node_of n c.args.node.now))) (ap (lines_text n) (use_lines n c.args.node.now j c.in-Use.is) ∙ append-nil (line_text n (Some (use_line j)))) c.put_number.ensures
+    let lines = use_lines n c.args.node.now j c.in-Use.is in
+    put_as (lines_text n (node_lines (node_of n c.args.node.now))) (ap (lines_text n) lines ∙ append-nil (line_text n (Some (use_line j)))) (c.put_use.ensures n (first_is_spelled n _ (use_line j) _ lines spelled))
 
 pub put_node-returns-in-Play : goal.put_node-returns-in-Play
 put_node-returns-in-Play g t c = λ spelled.
@@ -34,7 +35,7 @@ put_node-returns-in-All g t c = λ spelled.
     let lines = all_lines n c.args.node.now c.in-All.replies c.in-All.is in
     let below : AreSpelled n (branch_lines (replies_of n rs)) = rest_is_spelled n _ (all_line (length rs)) _ lines spelled in
     let count : c.len.result ≡ length rs = search rules in
-    put_as (lines_text n (node_lines (node_of n c.args.node.now))) (ap (lines_text n) lines) (then_put (rw count at c.put_number-in-All.ensures) ((rw c.as_slice.ensures.value at c.put_replies.ensures) below))
+    put_as (lines_text n (node_lines (node_of n c.args.node.now))) (ap (lines_text n) lines) (then_put (rw count at c.put_number.ensures) ((rw c.as_slice.ensures.value at c.put_replies.ensures) below))
 
 pub put_replies-loop-turn-preserved : goal.put_replies-loop-turn-preserved
 put_replies-loop-turn-preserved g t c = λ spelled.

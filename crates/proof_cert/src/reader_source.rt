@@ -38,6 +38,7 @@ pub struct ReaderSource<'a, R: Read + Drop> {
     bytes: ToldBytes<'a, R>,
     number: u64,
     fault: Option<SourceFault>,
+    is_alive: bool,
 }
 
 impl<'a, R: Read + Drop> Model for ReaderSource<'a, R> {
@@ -138,6 +139,7 @@ impl<'a, R: Read + Drop> ReaderSource<'a, R> {
             bytes: ToldBytes::new(front, reader),
             number: 0,
             fault: None,
+            is_alive: false,
         }
     }
 
@@ -151,7 +153,13 @@ impl<'a, R: Read + Drop> ReaderSource<'a, R> {
             bytes: ToldBytes::new(front, reader),
             number: 0,
             fault: None,
+            is_alive: false,
         }
+    }
+
+    /// Whether the line that was given last was `alive`, the use of lemma 0. It is for texts: nothing is promised of it.
+    pub fn is_alive(&self) -> bool {
+        self.is_alive
     }
 }
 
@@ -175,6 +183,7 @@ impl<'a, R: Read + Drop> NodeSource for ReaderSource<'a, R> {
         } else {
             read_line(self.spelling, self.size, &mut self.bytes)
         };
+        self.is_alive = matches!(answer, Ok(Some(Line::Use(0))));
         match answer {
             Ok(Some(_)) => self.number += 1,
             Ok(None) => {}

@@ -1,0 +1,116 @@
+//! A run of the program: from its words and its input to its answer.
+
+use crate::judged::judged;
+use crate::proof::{Proved, prove};
+use crate::words::{Request, read_request};
+use pn_search::{Budget, Cause};
+use sgf_text::{Tree, WriteFault, read_tree, write_bytes, write_tree};
+use std::alloc::{AllocError, Global};
+use std::convert::AsStr;
+use std::io::{Read, Write};
+use std::num::NonZeroUsize;
+use target_game::Problem;
+use tool_parts::{
+    Output, Status, refused_problem, refused_tree, without_input, without_request, write_output,
+};
+use tsumego_problem::{problem_tree, read_problem};
+use tsumego_replies::{InputEnd, read_to_limit, unknown_text};
+
+/// The greatest number of entries of the search's table.
+const TABLE: usize = 65_536;
+
+/// How much of the input is read before the record is: more than a record may have.
+const MAX_FRONT: usize = 1_048_577;
+
+/// Runs the program on its words, the first of which is its name.
+pub fn run<S: AsStr, R: Read, W: Write>(
+    alloc: Global,
+    words: &[S],
+    reader: &mut R,
+    writer: &mut W,
+) -> Status {
+    write_output(writer, output(alloc, words, reader))
+}
+
+/// What is written for the words and the input.
+fn output<S: AsStr, R: Read>(
+    alloc: Global,
+    words: &[S],
+    reader: &mut R,
+) -> Result<Output, AllocError> {
+    let request = match read_request(alloc, words) {
+        Ok(request) => request,
+        Err(none) => return without_request(none),
+    };
+    let mut front = Vec::new(alloc);
+    if read_to_limit(reader, &mut front, MAX_FRONT)? == InputEnd::Failed {
+        return without_input(alloc);
+    }
+    let (tree, end) = match read_tree(alloc, front.as_slice()) {
+        Ok(read) => read,
+        Err(fault) => return refused_tree(alloc, fault),
+    };
+    let behind = front.as_slice().get(end..).unwrap_or(b"");
+    output_of(alloc, request, &tree, behind, reader)
+}
+
+/// What is written for what is asked for, this record, and the bytes after it.
+fn output_of<R: Read>(
+    alloc: Global,
+    request: Request,
+    tree: &Tree,
+    behind: &[u8],
+    reader: &mut R,
+) -> Result<Output, AllocError> {
+    let problem = match read_problem(alloc, tree) {
+        Ok(problem) => problem,
+        Err(fault) => return refused_problem(alloc, fault),
+    };
+    match request {
+        Request::Check => judged(alloc, &problem, behind, reader),
+        Request::Prove { steps } => proved(alloc, &problem, steps),
+    }
+}
+
+/// The record of the problem and a short claim, or why there is none.
+fn proved(alloc: Global, problem: &Problem, steps: u64) -> Result<Output, AllocError> {
+    let Some(table) = NonZeroUsize::new(TABLE) else {
+        return Err(AllocError);
+    };
+    match prove(alloc, problem, Budget { steps, table })? {
+        Proved::Wins { text, .. } => with_record(alloc, problem, text.as_slice()),
+        Proved::Unknown { cause, steps } => unknown(alloc, cause, steps),
+    }
+}
+
+/// The record of the problem, and the claim.
+fn with_record(alloc: Global, problem: &Problem, claim: &[u8]) -> Result<Output, AllocError> {
+    let tree = problem_tree(alloc, problem)?;
+    let mut bytes = Vec::new(alloc);
+    written(write_tree(&tree, &mut bytes))?;
+    written(write_bytes(b"\n", &mut bytes))?;
+    bytes.extend_from_slice(claim)?;
+    match String::from_utf8(bytes) {
+        Ok(text) => Ok(Output::Text(text, Status::Answered)),
+        Err(_) => Err(AllocError),
+    }
+}
+
+/// A write into memory fails only if memory is refused.
+fn written(outcome: Result<(), WriteFault>) -> Result<(), AllocError> {
+    match outcome {
+        Ok(()) => Ok(()),
+        Err(WriteFault::Write) => Err(AllocError),
+    }
+}
+
+/// Why there is no claim.
+fn unknown(alloc: Global, cause: Cause, steps: u64) -> Result<Output, AllocError> {
+    match cause {
+        Cause::Memory => Err(AllocError),
+        _ => Ok(Output::Text(
+            unknown_text(alloc, cause, steps)?,
+            Status::Rejected,
+        )),
+    }
+}

@@ -1,0 +1,89 @@
+//! A short claim that is found and accepted.
+
+ghost use Rattle.std.specs.Prelude.{IfOk};
+ghost use Rattle.target_game.specs.State.{start};
+ghost use Rattle.target_game.specs.Wins.{Wins};
+ghost use Rattle.short_proofs.specs.Proved.{HasWinner};
+
+use crate::first_turn::first_turn;
+use cert_check::{Why, check_short};
+use go_points::{Colour, Turn};
+use pn_search::{Budget, Cause, find_short};
+use proof_cert::{Certificate, ReaderSource, write_short};
+use std::alloc::{AllocError, Global};
+use target_game::Problem;
+
+/// What a search for a short claim found.
+#[derive(Drop)]
+pub enum Proved {
+    /// This side wins: the short claim of this text is accepted. `turn` is the winner's first turn, if the winner moves first.
+    Wins {
+        winner: Colour,
+        turn: Option<Turn>,
+        text: Vec<u8>,
+    },
+    /// Nothing is known, for this cause, after so many steps.
+    Unknown {
+        cause: Cause,
+        steps: u64,
+    },
+}
+
+/// Searches for a short claim of either side that its judge accepts. It fails only if memory is refused. The same problem and
+/// budget give the same answer.
+pub fn prove(alloc: Global, problem: &Problem, budget: Budget) -> Result<Proved, AllocError>
+    ensures { IfOk result (HasWinner (start problem.now)) }
+{
+    let mut left = budget.steps;
+    match find_short(alloc, problem, budget, &mut left) {
+        Ok(certificate) => judged(alloc, problem, &certificate, budget.steps - left),
+        Err(Cause::Memory) => Err(AllocError),
+        Err(cause) => Ok(Proved::Unknown {
+            cause,
+            steps: budget.steps - left,
+        }),
+    }
+}
+
+/// What the judge says of the certificate's text.
+fn judged(
+    alloc: Global,
+    problem: &Problem,
+    certificate: &Certificate,
+    steps: u64,
+) -> Result<Proved, AllocError>
+    ensures { IfOk result (HasWinner (start problem.now)) }
+{
+    let mut text = Vec::new(alloc);
+    if write_short(certificate, &mut text).is_err() {
+        return Err(AllocError);
+    }
+    match winner_of(alloc, problem, text.as_slice()) {
+        Ok(winner) => Ok(Proved::Wins {
+            winner,
+            turn: first_turn(certificate),
+            text,
+        }),
+        Err(Why::Memory) => Err(AllocError),
+        Err(Why::Limit) => Ok(Proved::Unknown {
+            cause: Cause::Limit,
+            steps,
+        }),
+        Err(_) => Ok(Proved::Unknown {
+            cause: Cause::NotConfirmed,
+            steps,
+        }),
+    }
+}
+
+/// Who wins according to the short claim of this text, or why it is not accepted.
+fn winner_of(alloc: Global, problem: &Problem, text: &[u8]) -> Result<Colour, Why>
+    ensures { IfOk result (λ x. Wins x (start problem.now)) }
+{
+    let mut nothing = b"".as_slice();
+    let mut source = ReaderSource::of_short(problem.size(), text, &mut nothing);
+    match check_short(alloc, problem, &mut source) {
+        Ok(winner) => Ok(winner),
+        Err(reject) => Err(reject.why),
+    }
+}

@@ -1,0 +1,74 @@
+//! The command line, read by `clap`.
+
+use clap::builder::ValueParser;
+use clap::{Arg, ArgMatches};
+use std::alloc::{AllocError, Global};
+use std::convert::AsStr;
+use tool_parts::{NoRequest, no_request};
+use tsumego_version::VERSION;
+
+/// The greatest number of steps that may be asked for.
+const MOST_STEPS: u64 = 10_000_000;
+
+/// What the words ask for.
+#[derive(Clone, Copy, Debug, PartialEq, Eq)]
+pub(crate) enum Request {
+    /// Judge the short claim after a record.
+    Check,
+    /// Search for a short claim with at most this many steps.
+    Prove {
+        steps: u64,
+    },
+}
+
+/// What the words ask for. The first word is the program's name.
+pub(crate) fn read_request<'a, S: AsStr>(
+    alloc: Global,
+    words: &'a [S],
+) -> Result<Request, NoRequest> {
+    let program = program(alloc)?;
+    match program.try_get_matches_from(words) {
+        Ok(matches) => Ok(chosen(&matches)),
+        Err(error) => Err(no_request(alloc, &error)),
+    }
+}
+
+/// What a parse found.
+fn chosen(matches: &ArgMatches<'_>) -> Request {
+    match matches.subcommand() {
+        Some((name, given)) if name == "prove" => Request::Prove {
+            steps: given.get_one::<u64>("steps").unwrap_or(1),
+        },
+        _ => Request::Check,
+    }
+}
+
+fn program<'a>(alloc: Global) -> Result<clap::Command<'a>, AllocError> {
+    let program = clap::Command::new(alloc, "short_claims")
+        .about(
+            "Finds and judges short claims, in which a group that lives by its shape is not played out.",
+        )
+        .version(VERSION)
+        .subcommand_required(true);
+    let program = program.subcommand(check_command(alloc))?;
+    program.subcommand(prove_command(alloc)?)
+}
+
+fn check_command<'a>(alloc: Global) -> clap::Command<'a> {
+    clap::Command::new(alloc, "check").about("Judges the short claim after a record.")
+}
+
+fn prove_command<'a>(alloc: Global) -> Result<clap::Command<'a>, AllocError> {
+    clap::Command::new(alloc, "prove")
+        .about("Searches for a short claim, and writes the record and the claim.")
+        .arg(steps_argument(alloc))
+}
+
+fn steps_argument<'a>(alloc: Global) -> Arg<'a> {
+    Arg::new(alloc, "steps")
+        .help("The most steps of the search, 1 to 10000000")
+        .long("steps")
+        .value_name("N")
+        .value_parser(ValueParser::unsigned(1, MOST_STEPS))
+        .default_value("100000")
+}

@@ -17,4 +17,6 @@ mod readers;
 #[cfg(test)]
 mod sgf;
 #[cfg(test)]
+mod short_claims;
+#[cfg(test)]
 mod words;

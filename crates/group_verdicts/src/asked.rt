@@ -4,18 +4,18 @@ ghost use Rattle.std.specs.Prelude.{◌≡◌, IfOk, IfSome};
 ghost use Rattle.target_game.specs.State.{start};
 ghost use Rattle.target_game.specs.Wins.{Wins};
 
-use cert_check::Checked;
 use go_points::{Colour, Turn};
-use pn_search::{Budget, Cause, Verdict, solve};
+use pn_search::{Budget, Cause};
+use short_proofs::{Proved, prove};
 use std::alloc::{AllocError, Global};
 use target_game::Problem;
 
-/// A problem that was given to the search, and who wins it by a claim that the checker accepted, if one was found.
+/// A problem that was given to the search, and who wins it by a short claim that its judge accepted, if one was found.
 #[derive(Drop)]
 pub(crate) struct Asked {
     pub(crate) problem: Problem,
     pub(crate) winner: Option<Colour>,
-    /// The winner's first turn, if the winner moves first.
+    /// The first turn of that claim, if the winner moves first.
     pub(crate) turn: Option<Turn>,
     /// Why none was found, and after how many steps.
     pub(crate) cause: Option<Cause>,
@@ -27,28 +27,16 @@ pub(crate) struct Asked {
 pub(crate) fn ask(alloc: Global, problem: Problem, budget: Budget) -> Result<Asked, AllocError>
     ensures { IfOk result (λ a. a.problem ≡ problem) }
 {
-    match solve(alloc, problem, budget) {
-        Verdict::Wins(checked) => won(alloc, &checked),
-        Verdict::Unknown {
+    match prove(alloc, &problem, budget)? {
+        Proved::Wins { winner, turn, .. } => Ok(Asked {
             problem,
-            cause,
-            steps,
-        } => unknown(problem, cause, steps),
+            winner: Some(winner),
+            turn,
+            cause: None,
+            steps: 0,
+        }),
+        Proved::Unknown { cause, steps } => unknown(problem, cause, steps),
     }
-}
-
-/// The problem of the claim, and its winner.
-fn won(alloc: Global, checked: &Checked) -> Result<Asked, AllocError>
-    ensures { IfOk result (λ a. a.problem ≡ checked.now.problem) }
-{
-    let winner = checked.winner();
-    Ok(Asked {
-        problem: checked.problem().copy(alloc)?,
-        winner: Some(winner),
-        turn: checked.first_turn(),
-        cause: None,
-        steps: 0,
-    })
 }
 
 /// The problem without a winner.

@@ -4,21 +4,33 @@ use crate::asked::Asked;
 use crate::group::Group;
 use crate::lines::{colour_name, push_point};
 use crate::table::Table;
-use cert_check::Checked;
 use go_points::Colour;
 use pn_search::{Verdict, solve};
 use proof_cert::{CertWrite, write_cert};
 use sgf_text::{WriteFault, write_bytes, write_tree};
+use short_proofs::{Proved, prove};
 use std::alloc::{AllocError, Global};
+use target_game::Problem;
 use tsumego_problem::problem_tree;
 
-/// The lines, and after them each question that was decided: a line that says which, its record, and its claim.
+/// Which claims are written.
+#[derive(Clone, Copy, Debug, PartialEq, Eq)]
+pub(crate) enum Length {
+    /// Short claims, by which the questions were decided.
+    Short,
+    /// Claims that play everything out, as `tsumego check` reads them.
+    Full,
+}
+
+/// The lines, and after them each question that was decided: a line that says which, its record, and its claim. A question for
+/// which the steps find no full claim is left out if those are asked for.
 ///
-/// The questions are asked again for their claims, which were not kept. The same steps find the same claims.
+/// The questions are asked again for their claims, which were not kept. The same steps find the same short claims.
 pub(crate) fn claims(
     alloc: Global,
     group: &Group,
     table: &Table,
+    length: Length,
     lines: &str,
 ) -> Result<String, AllocError> {
     let mut bytes = Vec::new(alloc);
@@ -27,8 +39,7 @@ pub(crate) fn claims(
     for i in 0..asked.len() {
         if let Some(winner) = asked[i].winner {
             let head = head_of(alloc, group, table, i, &asked[i], winner)?;
-            bytes.extend_from_slice(head.as_bytes())?;
-            push_claim(alloc, table, &asked[i], &mut bytes)?;
+            push_claim(alloc, table, &asked[i], length, head.as_str(), &mut bytes)?;
         }
     }
     match String::from_utf8(bytes) {
@@ -81,30 +92,68 @@ fn push_rows(text: &mut String, table: &Table, place: usize) -> Result<(), Alloc
     text.push_str(", a way out")
 }
 
-/// Appends the record of the question and its claim.
+/// Appends the head, the record of the question, and its claim; nothing if there is no claim of this kind.
 fn push_claim(
     alloc: Global,
     table: &Table,
     asked: &Asked,
+    length: Length,
+    head: &str,
     bytes: &mut Vec<u8>,
 ) -> Result<(), AllocError> {
-    let problem = asked.problem.copy(alloc)?;
-    match solve(alloc, problem, table.budget) {
-        Verdict::Wins(checked) => push_checked(alloc, &checked, bytes),
-        Verdict::Unknown { .. } => Err(AllocError),
+    match length {
+        Length::Short => push_short_claim(alloc, table, &asked.problem, head, bytes),
+        Length::Full => push_full_claim(alloc, table, &asked.problem, head, bytes),
     }
 }
 
-/// Appends the record of the claim's problem, and the claim.
-fn push_checked(alloc: Global, checked: &Checked, bytes: &mut Vec<u8>) -> Result<(), AllocError> {
-    let tree = problem_tree(alloc, checked.problem())?;
-    written(write_tree(&tree, bytes))?;
-    written(write_bytes(b"\n", bytes))?;
-    match write_cert(checked.certificate(), bytes) {
-        Ok(()) => Ok(()),
-        Err(CertWrite::Write) => Err(AllocError),
-        Err(CertWrite::NoSpelling) => Err(AllocError),
+fn push_short_claim(
+    alloc: Global,
+    table: &Table,
+    problem: &Problem,
+    head: &str,
+    bytes: &mut Vec<u8>,
+) -> Result<(), AllocError> {
+    match prove(alloc, problem, table.budget)? {
+        Proved::Wins { text, .. } => {
+            push_question(alloc, problem, head, bytes)?;
+            bytes.extend_from_slice(text.as_slice())
+        }
+        Proved::Unknown { .. } => Ok(()),
     }
+}
+
+fn push_full_claim(
+    alloc: Global,
+    table: &Table,
+    problem: &Problem,
+    head: &str,
+    bytes: &mut Vec<u8>,
+) -> Result<(), AllocError> {
+    match solve(alloc, problem.copy(alloc)?, table.budget) {
+        Verdict::Wins(checked) => {
+            push_question(alloc, problem, head, bytes)?;
+            match write_cert(checked.certificate(), bytes) {
+                Ok(()) => Ok(()),
+                Err(CertWrite::Write) => Err(AllocError),
+                Err(CertWrite::NoSpelling) => Err(AllocError),
+            }
+        }
+        Verdict::Unknown { .. } => Ok(()),
+    }
+}
+
+/// Appends the head and the canonical record of the question.
+fn push_question(
+    alloc: Global,
+    problem: &Problem,
+    head: &str,
+    bytes: &mut Vec<u8>,
+) -> Result<(), AllocError> {
+    bytes.extend_from_slice(head.as_bytes())?;
+    let tree = problem_tree(alloc, problem)?;
+    written(write_tree(&tree, bytes))?;
+    written(write_bytes(b"\n", bytes))
 }
 
 /// A write into memory fails only if memory is refused.

@@ -2,7 +2,7 @@
 
 use crate::all_groups::all_groups;
 use crate::by_shape::{by_shape_lines, by_shape_object, lives_anywhere};
-use crate::claims::claims;
+use crate::claims::{Length, claims};
 use crate::group::Group;
 use crate::json::{found_object, judged_object};
 use crate::lines::{found_lines, judged_lines};
@@ -305,7 +305,7 @@ fn in_form(
 ) -> Result<Output, AllocError> {
     match form {
         Form::Record => Ok(Output::Record(solutions(alloc, group, table, told, lines.as_str())?)),
-        Form::Claims => text_of(claims(alloc, group, table, lines.as_str())?),
+        Form::Claims(length) => text_of(claims(alloc, group, table, length, lines.as_str())?),
         _ => text_of(lines),
     }
 }

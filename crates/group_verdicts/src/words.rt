@@ -1,5 +1,6 @@
 //! The command line, read by `clap`.
 
+use crate::claims::Length;
 use crate::side::Side;
 use clap::builder::ValueParser;
 use clap::{Arg, ArgAction, ArgMatches};
@@ -31,7 +32,7 @@ pub(crate) enum Form {
     /// One SGF record with the solutions as variations.
     Record,
     /// The lines, and after them each question that was decided, as a record with its claim.
-    Claims,
+    Claims(Length),
 }
 
 /// What the words ask for.
@@ -93,18 +94,22 @@ fn fault_of(given: &ArgMatches<'_>) -> Option<&'static str> {
         flag(given, "json"),
         flag(given, "sgf"),
         flag(given, "claims"),
+        flag(given, "full-claims"),
     ];
     if forms.iter().filter(|is_named| **is_named).count() > 1 {
-        return Some("'--json', '--sgf' and '--claims' are forms of one answer; name one of them");
+        return Some(
+            "'--json', '--sgf', '--claims' and '--full-claims' are forms of one answer; name one of them",
+        );
     }
     let has_target = given.get_str("target").is_some();
     if flag(given, "all") {
         if has_target {
             return Some("'--all' asks about every group, '--target' about one; name one of them");
         }
-        if flag(given, "sgf") || flag(given, "claims") || given.get_str("first").is_some() {
+        let has_claims = flag(given, "claims") || flag(given, "full-claims");
+        if flag(given, "sgf") || has_claims || given.get_str("first").is_some() {
             return Some(
-                "'--first', '--sgf' and '--claims' are for one target, and not for '--all'",
+                "'--first', '--sgf' and claims are for one target, and not for '--all'",
             );
         }
         return None;
@@ -124,7 +129,10 @@ fn chosen_form(given: &ArgMatches<'_>) -> Form {
         return Form::Record;
     }
     if flag(given, "claims") {
-        return Form::Claims;
+        return Form::Claims(Length::Short);
+    }
+    if flag(given, "full-claims") {
+        return Form::Claims(Length::Full);
     }
     Form::Lines
 }
@@ -189,6 +197,7 @@ fn program<'a>(alloc: Global) -> Result<clap::Command<'a>, AllocError> {
     let program = with_argument(program, json_argument(alloc))?;
     let program = with_argument(program, sgf_argument(alloc))?;
     let program = with_argument(program, claims_argument(alloc))?;
+    let program = with_argument(program, full_claims_argument(alloc))?;
     let program = with_argument(program, position_argument(alloc))?;
     with_argument(program, progress_argument(alloc))
 }
@@ -264,8 +273,15 @@ fn sgf_argument<'a>(alloc: Global) -> Arg<'a> {
 
 fn claims_argument<'a>(alloc: Global) -> Arg<'a> {
     Arg::new(alloc, "claims")
-        .help("Writes after the lines each question that was decided, as a record with its claim")
+        .help("Writes after the lines each question that was decided, as a record with its short claim")
         .long("claims")
+        .action(ArgAction::SetTrue)
+}
+
+fn full_claims_argument<'a>(alloc: Global) -> Arg<'a> {
+    Arg::new(alloc, "full-claims")
+        .help("The same with claims for 'tsumego check', as far as the steps find them")
+        .long("full-claims")
         .action(ArgAction::SetTrue)
 }
 

@@ -12,5 +12,6 @@ complete -c group_status -l steps -x -d 'The most steps of the search for each q
 complete -c group_status -l position-only -d 'Forget what was played before'
 complete -c group_status -l json -d 'Write JSON with every question, an object a line'
 complete -c group_status -l sgf -d 'Write one record with the solutions'
-complete -c group_status -l claims -d 'Write each question with its claim after the lines'
+complete -c group_status -l claims -d 'Write each question with its short claim after the lines'
+complete -c group_status -l full-claims -d 'The same with claims for tsumego check'
 complete -c group_status -l progress -d 'Tell each question on standard error'

@@ -7,5 +7,5 @@ use Rattle.short_proofs.specs.declared.proof.Proved.TheVariants as answers
 
 -- Who is said to win wins.
 abbrev pub HasWinner : GameState → code.Proved → Type 0
-HasWinner s (answers.Wins winner turn text) = Wins winner s
+HasWinner s (answers.Wins winner turn certificate text) = Wins winner s
 HasWinner s (answers.Unknown cause steps) = Unit {0}

@@ -2,10 +2,13 @@
 //! time.
 #![tactic(auto)]
 
+mod eyes;
 mod first_turn;
 mod judged;
 mod program;
 mod proof;
+mod texts;
+mod tree;
 mod words;
 
 pub use program::run;

@@ -18,10 +18,12 @@ use target_game::Problem;
 /// What a search for a short claim found.
 #[derive(Drop)]
 pub enum Proved {
-    /// This side wins: the short claim of this text is accepted. `turn` is the winner's first turn, if the winner moves first.
+    /// This side wins: the short claim of this text is accepted. It is the text of the certificate, and `turn` is the winner's
+    /// first turn in it, if the winner moves first.
     Wins {
         winner: Colour,
         turn: Option<Turn>,
+        certificate: Certificate,
         text: Vec<u8>,
     },
     /// Nothing is known, for this cause, after so many steps.
@@ -37,11 +39,11 @@ pub fn prove(alloc: Global, problem: &Problem, budget: Budget) -> Result<Proved,
     ensures { IfOk result (HasWinner (start problem.now)) }
 {
     if lives_by_shape(problem) {
-        return judged(alloc, problem, &living(alloc, problem), 0);
+        return judged(alloc, problem, living(alloc, problem), 0);
     }
     let mut left = budget.steps;
     match find_short(alloc, problem, budget, &mut left) {
-        Ok(certificate) => judged(alloc, problem, &certificate, budget.steps - left),
+        Ok(certificate) => judged(alloc, problem, certificate, budget.steps - left),
         Err(Cause::Memory) => Err(AllocError),
         Err(cause) => Ok(Proved::Unknown {
             cause,
@@ -78,19 +80,20 @@ fn living(alloc: Global, problem: &Problem) -> Certificate {
 fn judged(
     alloc: Global,
     problem: &Problem,
-    certificate: &Certificate,
+    certificate: Certificate,
     steps: u64,
 ) -> Result<Proved, AllocError>
     ensures { IfOk result (HasWinner (start problem.now)) }
 {
     let mut text = Vec::new(alloc);
-    if write_short(certificate, &mut text).is_err() {
+    if write_short(&certificate, &mut text).is_err() {
         return Err(AllocError);
     }
     match winner_of(alloc, problem, text.as_slice()) {
         Ok(winner) => Ok(Proved::Wins {
             winner,
-            turn: first_turn(certificate),
+            turn: first_turn(&certificate),
+            certificate,
             text,
         }),
         Err(Why::Memory) => Err(AllocError),

@@ -19,6 +19,10 @@ pub(crate) enum Request {
     Prove {
         steps: u64,
     },
+    /// The same, written as a record for readers.
+    Tree {
+        steps: u64,
+    },
 }
 
 /// What the words ask for. The first word is the program's name.
@@ -37,10 +41,17 @@ pub(crate) fn read_request<'a, S: AsStr>(
 fn chosen(matches: &ArgMatches<'_>) -> Request {
     match matches.subcommand() {
         Some((name, given)) if name == "prove" => Request::Prove {
-            steps: given.get_one::<u64>("steps").unwrap_or(1),
+            steps: steps(given),
+        },
+        Some((name, given)) if name == "tree" => Request::Tree {
+            steps: steps(given),
         },
         _ => Request::Check,
     }
+}
+
+fn steps(given: &ArgMatches<'_>) -> u64 {
+    given.get_one::<u64>("steps").unwrap_or(1)
 }
 
 fn program<'a>(alloc: Global) -> Result<clap::Command<'a>, AllocError> {
@@ -51,7 +62,8 @@ fn program<'a>(alloc: Global) -> Result<clap::Command<'a>, AllocError> {
         .version(VERSION)
         .subcommand_required(true);
     let program = program.subcommand(check_command(alloc))?;
-    program.subcommand(prove_command(alloc)?)
+    let program = program.subcommand(prove_command(alloc)?)?;
+    program.subcommand(tree_command(alloc)?)
 }
 
 fn check_command<'a>(alloc: Global) -> clap::Command<'a> {
@@ -61,6 +73,12 @@ fn check_command<'a>(alloc: Global) -> clap::Command<'a> {
 fn prove_command<'a>(alloc: Global) -> Result<clap::Command<'a>, AllocError> {
     clap::Command::new(alloc, "prove")
         .about("Searches for a short claim, and writes the record and the claim.")
+        .arg(steps_argument(alloc))
+}
+
+fn tree_command<'a>(alloc: Global) -> Result<clap::Command<'a>, AllocError> {
+    clap::Command::new(alloc, "tree")
+        .about("Searches for a short claim, and writes it as a record for readers.")
         .arg(steps_argument(alloc))
 }
 

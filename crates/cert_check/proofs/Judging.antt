@@ -25,7 +25,7 @@ use Rattle.cert_check.specs.Verdict.{had_of, not_of, is_after}
 use Rattle.cert_check.specs.Private.Machine.{Machine, Heading, Phase, goes_on, stops, goes_if, last_of, listed_taken, listing_had, listing_not, had_taken, not_taken, phase_taken, taken, body_of, node_taken}
 use Rattle.cert_check.specs.Private.Inside.{Inside, phase_of, owed_by, node_fault, node_next}
 use Rattle.cert_check.specs.Parts.{head_of, had_line_of, listed_line, node_line, node_value}
-use Rattle.cert_check.specs.Private.Judging.{GoesOn, IsBehind, machine_of, heading_of, lemma_of, within_of, inside_now, phase_held, IsBehindFor, AwaitsHad, AwaitsList, AwaitsNode, had_here, list_here, node_here, body_here, had_more, listed_more}
+use Rattle.cert_check.specs.Private.Judging.{GoesOn, IsBehind, machine_of, heading_of, lemma_of, within_of, inside_now, phase_held, IsBehindFor, AwaitsHad, AwaitsList, AwaitsNode, answering, had_here, list_here, node_here, body_here, had_more, listed_more}
 use Rattle.cert_check.specs.Private.Ascending.{Ascends}
 use Rattle.cert_check.proofs.Ascending.{ascends_more}
 use Rattle.cert_check.proofs.Lists.{before_is}
@@ -53,11 +53,11 @@ listed_none (reply_line t) e = refl
 listed_none end_line e = refl
 
 -- a line that is no colouring begins the body
-pub first_line : (j : Judge) (l : Line) → AwaitsList j → listed_line l ≡ None → list_here j l ≡ node_here j Lemma l
-first_line j l h none =
-    ap (λ o. not_taken j.problem.now (machine_of j) (heading_of j) (lemma_of j) (Some l) o) (listed_none l none)
-    ∙ ap (λ ns. node_taken (machine_of j) (heading_of j) (Some (lemma_of j)) 1 (lemma_start j.problem.now.game (lemma_of j)) (owed_by [] (reverse ns)) l) (sym h.closed)
-    ∙ ap (λ (st : State.Line). node_taken (machine_of j) (heading_of j) (Some (lemma_of j)) (suc (length st.before)) st.state (owed_by st.before (reverse j.open_nodes.items)) l) (sym h.state)
+pub first_line : (alive : Bool) (j : Judge) (l : Line) → AwaitsList j → listed_line l ≡ None → list_here alive j l ≡ node_here alive j Lemma l
+first_line alive j l h none =
+    ap (λ o. not_taken (answering alive) j.problem.now (machine_of j) (heading_of j) (lemma_of j) (Some l) o) (listed_none l none)
+    ∙ ap (λ ns. node_taken (answering alive) (machine_of j) (heading_of j) (Some (lemma_of j)) 1 (lemma_start j.problem.now.game (lemma_of j)) (owed_by [] (reverse ns)) l) (sym h.closed)
+    ∙ ap (λ (st : State.Line). node_taken (answering alive) (machine_of j) (heading_of j) (Some (lemma_of j)) (suc (length st.before)) st.state (owed_by st.before (reverse j.open_nodes.items)) l) (sym h.state)
 
 had_none : (l : Line) → had_line_of l ≡ None → had_of (Some l) ≡ None
 had_none (had_line c) e = absurd (cc)
@@ -73,14 +73,14 @@ had_none (reply_line t) e = refl
 had_none end_line e = refl
 
 -- what a line makes of the machine does not depend on which list was due
-module _ (q : GameProblem) (f : Heading) (h : Head) (p r : Phase) (place nodes listed : ℕ) where
+module _ (shape : List Cell → Bool) (q : GameProblem) (f : Heading) (h : Head) (p r : Phase) (place nodes listed : ℕ) where
   abbrev m : Machine
   m = record { phase = p; place = place; nodes = nodes; listed = listed }
 
   abbrev n : Machine
   n = record { phase = r; place = place; nodes = nodes; listed = listed }
 
-  node_same : (l : Line) → node_taken m f (Some h) 1 (lemma_start q.game h) [] l ≡ node_taken n f (Some h) 1 (lemma_start q.game h) [] l
+  node_same : (l : Line) → node_taken shape m f (Some h) 1 (lemma_start q.game h) [] l ≡ node_taken shape n f (Some h) 1 (lemma_start q.game h) [] l
   node_same won_line = refl
   node_same (use_line j) = refl
   node_same (play_line t) = refl
@@ -93,16 +93,16 @@ module _ (q : GameProblem) (f : Heading) (h : Head) (p r : Phase) (place nodes l
   node_same (reply_line t) = refl
   node_same end_line = refl
 
-  not_same : (l : Line) (o : Option (List Cell)) → not_taken q m f h (Some l) o ≡ not_taken q n f h (Some l) o
+  not_same : (l : Line) (o : Option (List Cell)) → not_taken shape q m f h (Some l) o ≡ not_taken shape q n f h (Some l) o
   not_same l None = node_same l
   not_same l (Some c) = refl
 
 -- a line that is no colouring that must have occurred is one of the other list, or begins the body
-pub behind_had : (j v : Judge) (l : Line) → had_line_of l ≡ None → v ≡ record j { state = v.state; phase = v.phase } → had_here j l ≡ list_here v l
-behind_had j v l none rest =
-    ap (λ o. had_taken j.problem.now (machine_of j) (heading_of j) (lemma_of j) (Some l) o) (had_none l none)
-    ∙ not_same j.problem.now (heading_of j) (lemma_of j) (phase_held j j.phase) (phase_held (record j { state = v.state; phase = v.phase }) v.phase) j.place j.node_count j.listed_count l (not_of (Some l))
-    ∙ sym (ap (λ (x : Judge). list_here x l) rest)
+pub behind_had : (alive : Bool) (j v : Judge) (l : Line) → had_line_of l ≡ None → v ≡ record j { state = v.state; phase = v.phase } → had_here alive j l ≡ list_here alive v l
+behind_had alive j v l none rest =
+    ap (λ o. had_taken (answering alive) j.problem.now (machine_of j) (heading_of j) (lemma_of j) (Some l) o) (had_none l none)
+    ∙ not_same (answering alive) j.problem.now (heading_of j) (lemma_of j) (phase_held j j.phase) (phase_held (record j { state = v.state; phase = v.phase }) v.phase) j.place j.node_count j.listed_count l (not_of (Some l))
+    ∙ sym (ap (λ (x : Judge). list_here alive x l) rest)
 
 -- a line of a list, by its questions
 module _ (m : Machine) (last : Option (List Cell)) (c : List Cell) (p : Phase) (few : nat_lt m.listed max_listed ≡ true) where
@@ -131,29 +131,29 @@ node_line_is main_line k e = absurd (cc)
 node_line_is (reply_line t) k e = absurd (cc)
 node_line_is end_line k e = absurd (cc)
 
-module _ (j : Judge) (within : Within) (l : Line) (k : NodeLine) (ready : AwaitsNode j Node) (is : l ≡ node_value j.state.state.game.size k) where
+module _ (alive : Bool) (j : Judge) (within : Within) (l : Line) (k : NodeLine) (ready : AwaitsNode j Node) (is : l ≡ node_value j.state.state.game.size k) where
   room_here : (b : Bool) → b ≡ (nat_lt j.node_count max_nodes && nat_le (length j.open_nodes.items + 1) max_depth) → (nat_lt j.node_count max_nodes && nat_le (suc (length j.state.before)) max_depth) ≡ b
   room_here b room = room_is j.problem.now.game j.state.before j.open_nodes.items (length j.open_nodes.items) j.node_count (machine_of j) b ready.follows refl refl room
 
-  pub node_full : (b : Bool) → b ≡ (nat_lt j.node_count max_nodes && nat_le (length j.open_nodes.items + 1) max_depth) → b ≡ false → node_here j within l ≡ stops j.place limit
+  pub node_full : (b : Bool) → b ≡ (nat_lt j.node_count max_nodes && nat_le (length j.open_nodes.items + 1) max_depth) → b ≡ false → node_here alive j within l ≡ stops j.place limit
   node_full b room full =
-      ap (node_here j within) is
-      ∙ line_full (machine_of j) (heading_of j) (within_of j within) (suc (length j.state.before)) j.state.state (owed_by j.state.before (reverse j.open_nodes.items)) j.state.state.game.size k (body_of (heading_of j) (within_of j within)) refl (room_here b room ∙ full)
+      ap (node_here alive j within) is
+      ∙ line_full (answering alive) (machine_of j) (heading_of j) (within_of j within) (suc (length j.state.before)) j.state.state (owed_by j.state.before (reverse j.open_nodes.items)) j.state.state.game.size k (body_of (answering alive) (heading_of j) (within_of j within)) refl (room_here b room ∙ full)
 
   pub node_off : (b : Bool) (w : Why) → b ≡ (nat_lt j.node_count max_nodes && nat_le (length j.open_nodes.items + 1) max_depth) → b ≡ true
-      → node_fault (body_of (heading_of j) (within_of j within)) j.state.state (node_value j.state.state.game.size k) ≡ Some w → node_here j within l ≡ stops j.place w
+      → node_fault (body_of (answering alive) (heading_of j) (within_of j within)) j.state.state (node_value j.state.state.game.size k) ≡ Some w → node_here alive j within l ≡ stops j.place w
   node_off b w room free some =
-      ap (node_here j within) is
-      ∙ line_off (machine_of j) (heading_of j) (within_of j within) (suc (length j.state.before)) j.state.state (owed_by j.state.before (reverse j.open_nodes.items)) j.state.state.game.size k (body_of (heading_of j) (within_of j within)) refl w (room_here b room ∙ free) some
+      ap (node_here alive j within) is
+      ∙ line_off (answering alive) (machine_of j) (heading_of j) (within_of j within) (suc (length j.state.before)) j.state.state (owed_by j.state.before (reverse j.open_nodes.items)) j.state.state.game.size k (body_of (answering alive) (heading_of j) (within_of j within)) refl w (room_here b room ∙ free) some
 
   pub node_on : (b : Bool) (due : Due) (j' : Judge) (count : ℕ) → b ≡ (nat_lt j.node_count max_nodes && nat_le (length j.open_nodes.items + 1) max_depth) → b ≡ true
-      → node_fault (body_of (heading_of j) (within_of j within)) j.state.state (node_value j.state.state.game.size k) ≡ None
+      → node_fault (body_of (answering alive) (heading_of j) (within_of j within)) j.state.state (node_value j.state.state.game.size k) ≡ None
       → inside_now j' due ≡ node_next (suc (length j.state.before)) j.state.state (owed_by j.state.before (reverse j.open_nodes.items)) (node_value j.state.state.game.size k)
       → j' ≡ record j { state = j'.state; open_nodes = j'.open_nodes; passed = j'.passed } → count ≡ suc j.node_count
-      → GoesOn j (record j' { phase = Body within due; node_count = count }) (node_here j within l)
+      → GoesOn j (record j' { phase = Body within due; node_count = count }) (node_here alive j within l)
   node_on b due j' count room free none next rest counted =
-      ap (node_here j within) is
-      ∙ line_on (machine_of j) (heading_of j) (within_of j within) (suc (length j.state.before)) j.state.state (owed_by j.state.before (reverse j.open_nodes.items)) j.state.state.game.size k (body_of (heading_of j) (within_of j within)) refl (inside_now j' due) (room_here b room ∙ free) none next
+      ap (node_here alive j within) is
+      ∙ line_on (answering alive) (machine_of j) (heading_of j) (within_of j within) (suc (length j.state.before)) j.state.state (owed_by j.state.before (reverse j.open_nodes.items)) j.state.state.game.size k (body_of (answering alive) (heading_of j) (within_of j within)) refl (inside_now j' due) (room_here b room ∙ free) none next
       ∙ sym (ap (λ x. goes_on (record { phase = phase_of (heading_of x) (within_of x within) (inside_now j' due); place = suc j.place; nodes = count; listed = x.listed_count })) rest ∙ at within)
     where
       i : Inside
@@ -164,13 +164,13 @@ module _ (j : Judge) (within : Within) (l : Line) (k : NodeLine) (ready : Awaits
       at Main = ap (λ n. goes_on (record { phase = phase_of (heading_of j) None i; place = suc j.place; nodes = n; listed = j.listed_count })) counted
 
 -- a line of a body
-pub body_line : (j : Judge) (w : Within) (due : Due) (l : Line) → j.phase ≡ Body w due → AwaitsNode j due → line_fits j.problem.now.game.size l ≡ true → taken j.problem.now (machine_of j) (Some l) ≡ body_here j w due l
-body_line j w due l is ready fits =
-    ap (λ b. phase_taken j.problem.now (machine_of j) (phase_held j j.phase) (if b then Some l else None)) fits
-    ∙ ap (λ p. phase_taken j.problem.now (machine_of j) (phase_held j p) (Some l)) is
+pub body_line : (alive : Bool) (j : Judge) (w : Within) (due : Due) (l : Line) → j.phase ≡ Body w due → AwaitsNode j due → line_fits j.problem.now.game.size l ≡ true → taken (answering alive) j.problem.now (machine_of j) (Some l) ≡ body_here alive j w due l
+body_line alive j w due l is ready fits =
+    ap (λ b. phase_taken (answering alive) j.problem.now (machine_of j) (phase_held j j.phase) (if b then Some l else None)) fits
+    ∙ ap (λ p. phase_taken (answering alive) j.problem.now (machine_of j) (phase_held j p) (Some l)) is
     ∙ at due
   where
-    at : (due : Due) → phase_taken j.problem.now (machine_of j) (phase_held j (Body w due)) (Some l) ≡ body_here j w due l
+    at : (due : Due) → phase_taken (answering alive) j.problem.now (machine_of j) (phase_held j (Body w due)) (Some l) ≡ body_here alive j w due l
     at Node = refl
     at (Reply t left) = refl
     at End = refl

@@ -5,7 +5,7 @@ use Rattle.go_points.specs.declared.Cell.{Cell}
 use Rattle.target_game.specs.State.{Game}
 use Rattle.proof_cert.specs.Claim.{Head, max_listed}
 use Rattle.proof_cert.specs.Lines.{Line, header_line, lemma_line, had_line, not_line, main_line, won_line, use_line, play_line, all_line, reply_line, end_line}
-use Rattle.cert_check.specs.Body.{Why, limit, list_order, ask, lemma_body, lemma_start}
+use Rattle.cert_check.specs.Body.{Why, limit, list_order, ask, lemma_body_by, lemma_start}
 use Rattle.cert_check.specs.Verdict.{Cursor, Judged, fine, faulty, then_judge, asked, judge_node, judge_end, judge_end_line, had_of, not_of, is_after, with_first, judge_list, judge_had, judge_not, judge_lemma, lemma_fault, judge_opening, judge_lemmas}
 use Rattle.cert_check.proofs.Bounds.{reading, Leaves, Leaves-more, Leaves-then, Leaves-node}
 
@@ -57,29 +57,29 @@ Leaves-end r = at r.rest r.place r.nodes r.listed
     at (None ∷ ls) p k i = tt
     at (Some l ∷ ls) p k i = line l ls p k i
 
-pub Leaves-lemma : (m : ℕ) (g : Game) (v : ℕ) (x : Colour) (heads : List Head) (mover : Colour) (passes : ℕ) (root : List Cell) (r : Cursor) → Leaves (judge_lemma m g v x heads mover passes root r) (length r.rest)
-Leaves-lemma m g v x heads mover passes root r =
+pub Leaves-lemma : (shape : List Cell → Bool) (m : ℕ) (g : Game) (v : ℕ) (x : Colour) (heads : List Head) (mover : Colour) (passes : ℕ) (root : List Cell) (r : Cursor) → Leaves (judge_lemma shape m g v x heads mover passes root r) (length r.rest)
+Leaves-lemma shape m g v x heads mover passes root r =
     Leaves-then (judge_had v r) _ (length r.rest) (length r.rest) (Leaves-had v r)
     (λ had r1 le1. Leaves-then (judge_not r1) _ (length r1.rest) (length r.rest) (Leaves-not r1)
     (λ absent r2 le2.
     let hd : Head = record { mover = mover; passes = passes; root = root; had = had; absent = absent } in
-    Leaves-then (judge_node m (lemma_body x heads hd) 1 (lemma_start g hd) r2) _ (length r2.rest) (length r.rest) (Leaves-node m (lemma_body x heads hd) 1 (lemma_start g hd) r2)
+    Leaves-then (judge_node m (lemma_body_by shape x heads hd) 1 (lemma_start g hd) r2) _ (length r2.rest) (length r.rest) (Leaves-node m (lemma_body_by shape x heads hd) 1 (lemma_start g hd) r2)
     (λ _ r3 le3. Leaves-then (judge_end r3) (λ _ r4. fine hd r4) (length r3.rest) (length r.rest) (Leaves-end r3) (λ _ r4 le4. omega arith))))
 
-pub Leaves-lemmas_at : (m : ℕ) (g : Game) (v : ℕ) (x : Colour) (heads : List Head) (ls : List (Option Line)) (p k i : ℕ) → Leaves (judge_lemmas m g v x heads (reading ls p k i)) (length ls)
-Leaves-lemmas_at zero g v x heads ls p k i = tt
-Leaves-lemmas_at (suc m) g v x heads [] p k i = tt
-Leaves-lemmas_at (suc m) g v x heads (None ∷ ls) p k i = tt
-Leaves-lemmas_at (suc m) g v x heads (Some l ∷ ls) p k i = at l (λ hd r2. Leaves-lemmas_at m g v x (heads ++ hd ∷ []) r2.rest r2.place r2.nodes r2.listed)
+pub Leaves-lemmas_at : (shape : List Cell → Bool) (m : ℕ) (g : Game) (v : ℕ) (x : Colour) (heads : List Head) (ls : List (Option Line)) (p k i : ℕ) → Leaves (judge_lemmas shape m g v x heads (reading ls p k i)) (length ls)
+Leaves-lemmas_at shape zero g v x heads ls p k i = tt
+Leaves-lemmas_at shape (suc m) g v x heads [] p k i = tt
+Leaves-lemmas_at shape (suc m) g v x heads (None ∷ ls) p k i = tt
+Leaves-lemmas_at shape (suc m) g v x heads (Some l ∷ ls) p k i = at l (λ hd r2. Leaves-lemmas_at shape m g v x (heads ++ hd ∷ []) r2.rest r2.place r2.nodes r2.listed)
   where
-    at : (y : Line) → ((hd : Head) (r2 : Cursor) → Leaves (judge_lemmas m g v x (heads ++ hd ∷ []) r2) (length r2.rest)) → Leaves (judge_opening g heads (reading (Some l ∷ ls) p k i) (λ mover passes root r1. then_judge (judge_lemma m g v x heads mover passes root r1) (λ hd r2. judge_lemmas m g v x (heads ++ hd ∷ []) r2)) y (reading ls (suc p) k i)) (suc (length ls))
+    at : (y : Line) → ((hd : Head) (r2 : Cursor) → Leaves (judge_lemmas shape m g v x (heads ++ hd ∷ []) r2) (length r2.rest)) → Leaves (judge_opening g heads (reading (Some l ∷ ls) p k i) (λ mover passes root r1. then_judge (judge_lemma shape m g v x heads mover passes root r1) (λ hd r2. judge_lemmas shape m g v x (heads ++ hd ∷ []) r2)) y (reading ls (suc p) k i)) (suc (length ls))
     at main_line below = omega arith
     at (lemma_line mover passes root) below = after (lemma_fault g heads root)
       where
-        after : (o : Option Why) → Leaves (then_judge (asked p o (reading ls (suc p) k i)) (λ _ r'. then_judge (judge_lemma m g v x heads mover passes root r') (λ hd r2. judge_lemmas m g v x (heads ++ hd ∷ []) r2))) (suc (length ls))
+        after : (o : Option Why) → Leaves (then_judge (asked p o (reading ls (suc p) k i)) (λ _ r'. then_judge (judge_lemma shape m g v x heads mover passes root r') (λ hd r2. judge_lemmas shape m g v x (heads ++ hd ∷ []) r2))) (suc (length ls))
         after None =
-            Leaves-then (judge_lemma m g v x heads mover passes root (reading ls (suc p) k i)) (λ hd r2. judge_lemmas m g v x (heads ++ hd ∷ []) r2) (length ls) (suc (length ls)) (Leaves-lemma m g v x heads mover passes root (reading ls (suc p) k i))
-            (λ hd r2 le2. Leaves-more (judge_lemmas m g v x (heads ++ hd ∷ []) r2) (length r2.rest) (suc (length ls)) (omega arith) (below hd r2))
+            Leaves-then (judge_lemma shape m g v x heads mover passes root (reading ls (suc p) k i)) (λ hd r2. judge_lemmas shape m g v x (heads ++ hd ∷ []) r2) (length ls) (suc (length ls)) (Leaves-lemma shape m g v x heads mover passes root (reading ls (suc p) k i))
+            (λ hd r2 le2. Leaves-more (judge_lemmas shape m g v x (heads ++ hd ∷ []) r2) (length r2.rest) (suc (length ls)) (omega arith) (below hd r2))
         after (Some w) = tt
     at (header_line w n y) below = tt
     at (had_line c) below = tt

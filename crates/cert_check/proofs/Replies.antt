@@ -3,6 +3,7 @@ use Rattle.std.proofs.Common.{◌≡◌, ℕ, suc, ◌+◌, Bool, true, false, L
 use Rattle.std.specs.Prelude.{reverse}
 use Rattle.std.proofs.lemmas.List.{length-reverse}
 use Rattle.go_points.specs.Ply.{ply_of}
+use Rattle.go_points.specs.declared.Cell.{Cell}
 use Rattle.go_points.specs.declared.Turn.{Turn}
 use Rattle.target_game.specs.State.{Game, GameState}
 use Rattle.target_game.specs.Legal.{legal}
@@ -37,12 +38,12 @@ fault_said n f why o same is p said = at o (sym same ∙ ap (option_map (why_val
         unwrapped (Some x) = x
 
 -- a node's line, by its questions and what is due after it
-pub node_taken_is : (m : Machine) (f : Heading) (inside : Option Head) (d : ℕ) (s : GameState) (os : List Owed) (n : ℕ) (k : NodeLine)
-    → node_taken m f inside d s os (node_value n k) ≡ counted m d (node_fault (body_of f inside) s (node_value n k)) (phase_of f inside (node_next d s os (node_value n k)))
-node_taken_is m f inside d s os n Won = refl
-node_taken_is m f inside d s os n (Use j) = refl
-node_taken_is m f inside d s os n (Play t) = refl
-node_taken_is m f inside d s os n (All k) = refl
+pub node_taken_is : (shape : List Cell → Bool) (m : Machine) (f : Heading) (inside : Option Head) (d : ℕ) (s : GameState) (os : List Owed) (n : ℕ) (k : NodeLine)
+    → node_taken shape m f inside d s os (node_value n k) ≡ counted m d (node_fault (body_of shape f inside) s (node_value n k)) (phase_of f inside (node_next d s os (node_value n k)))
+node_taken_is shape m f inside d s os n Won = refl
+node_taken_is shape m f inside d s os n (Use j) = refl
+node_taken_is shape m f inside d s os n (Play t) = refl
+node_taken_is shape m f inside d s os n (All k) = refl
 
 -- there are as many open nodes as turns that were made
 pub follows_length : (g : Game) (before : List GameState) (ns : List TurnsLeft) → Follows g before ns → length before ≡ length ns
@@ -62,23 +63,23 @@ pub counted_full : (m : Machine) (d : ℕ) (o : Option Why) (p : Phase) → (nat
 counted_full m d o p full = ap (λ b. goes_if m.place (ask b limit o) (record m { phase = p; place = suc m.place; nodes = suc m.nodes })) full
 
 -- a node's line, as the machine takes it, by what the program found
-module _ (m : Machine) (f : Heading) (inside : Option Head) (d : ℕ) (s : GameState) (os : List Owed) (n : ℕ) (k : NodeLine) (b : Body) (is : body_of f inside ≡ b) where
+module _ (shape : List Cell → Bool) (m : Machine) (f : Heading) (inside : Option Head) (d : ℕ) (s : GameState) (os : List Owed) (n : ℕ) (k : NodeLine) (b : Body) (is : body_of shape f inside ≡ b) where
   pub line_on : (i : Inside) → (nat_lt m.nodes max_nodes && nat_le d max_depth) ≡ true → node_fault b s (node_value n k) ≡ None → i ≡ node_next d s os (node_value n k)
-      → node_taken m f inside d s os (node_value n k) ≡ goes_on (record m { phase = phase_of f inside i; place = suc m.place; nodes = suc m.nodes })
+      → node_taken shape m f inside d s os (node_value n k) ≡ goes_on (record m { phase = phase_of f inside i; place = suc m.place; nodes = suc m.nodes })
   line_on i room none next_is =
-      node_taken_is m f inside d s os n k
-      ∙ counted_on m d (node_fault (body_of f inside) s (node_value n k)) (phase_of f inside (node_next d s os (node_value n k))) room (ap (λ c. node_fault c s (node_value n k)) is ∙ none)
+      node_taken_is shape m f inside d s os n k
+      ∙ counted_on m d (node_fault (body_of shape f inside) s (node_value n k)) (phase_of f inside (node_next d s os (node_value n k))) room (ap (λ c. node_fault c s (node_value n k)) is ∙ none)
       ∙ ap (λ j. goes_on (record m { phase = phase_of f inside j; place = suc m.place; nodes = suc m.nodes })) (sym next_is)
 
-  pub line_off : (w : Why) → (nat_lt m.nodes max_nodes && nat_le d max_depth) ≡ true → node_fault b s (node_value n k) ≡ Some w → node_taken m f inside d s os (node_value n k) ≡ stops m.place w
+  pub line_off : (w : Why) → (nat_lt m.nodes max_nodes && nat_le d max_depth) ≡ true → node_fault b s (node_value n k) ≡ Some w → node_taken shape m f inside d s os (node_value n k) ≡ stops m.place w
   line_off w room some =
-      node_taken_is m f inside d s os n k
-      ∙ counted_off m d (node_fault (body_of f inside) s (node_value n k)) w (phase_of f inside (node_next d s os (node_value n k))) room (ap (λ c. node_fault c s (node_value n k)) is ∙ some)
+      node_taken_is shape m f inside d s os n k
+      ∙ counted_off m d (node_fault (body_of shape f inside) s (node_value n k)) w (phase_of f inside (node_next d s os (node_value n k))) room (ap (λ c. node_fault c s (node_value n k)) is ∙ some)
 
-  pub line_full : (nat_lt m.nodes max_nodes && nat_le d max_depth) ≡ false → node_taken m f inside d s os (node_value n k) ≡ stops m.place limit
+  pub line_full : (nat_lt m.nodes max_nodes && nat_le d max_depth) ≡ false → node_taken shape m f inside d s os (node_value n k) ≡ stops m.place limit
   line_full full =
-      node_taken_is m f inside d s os n k
-      ∙ counted_full m d (node_fault (body_of f inside) s (node_value n k)) (phase_of f inside (node_next d s os (node_value n k))) full
+      node_taken_is shape m f inside d s os n k
+      ∙ counted_full m d (node_fault (body_of shape f inside) s (node_value n k)) (phase_of f inside (node_next d s os (node_value n k))) full
 
 -- the program's test of the limits is the machine's
 pub room_is : (g : Game) (before : List GameState) (ns : List TurnsLeft) (n count : ℕ) (m : Machine) (b : Bool) → Follows g before (reverse ns) → n ≡ length ns → m.nodes ≡ count → b ≡ (nat_lt count max_nodes && nat_le (n + 1) max_depth)

@@ -1,5 +1,6 @@
 -- The parts of a claim as the program judges them.
 --     head_of      what a lemma says before its tree
+--     BodyParts, ordinary      what the program holds of a body, and the body that it is if shape is judged elsewhere
 --     PassesOn b j      if the body b may use the lemma with number j, it may make the colourings on that lemma's list
 --     line_values      what lines of the program say
 --     header_line_of, opening_line, had_line_of, listed_line, node_line, reply_line_of, end_line_of      the line, if it is of one
@@ -23,7 +24,7 @@ use Rattle.cert_check.specs.declared.lines.NodeLine.{NodeLine}
 use Rattle.cert_check.specs.declared.lines.NodeLine.TheVariants.{Won, Use, Play, All}
 use Rattle.cert_check.specs.declared.lines.Opening.{Opening}
 use Rattle.cert_check.specs.declared.lines.Opening.TheVariants.{Lemma, Main}
-use Rattle.cert_check.specs.Body.{Body, Why, turn_barred, repeats_known, not_listed, ask, is_open, is_known, is_listed, lemma_at, result_of}
+use Rattle.cert_check.specs.Body.{Body, nowhere, Why, turn_barred, repeats_known, not_listed, ask, is_open, is_known, is_listed, lemma_at, result_of}
 
 -- what is judged is never refused because of a failed read
 abbrev pub IsJudged : code_why.Why → Type 0
@@ -33,6 +34,14 @@ IsJudged _ = Unit {0}
 -- what a lemma says before its tree
 abbrev pub head_of : Colour → ℕ → List Cell → List (List Cell) → List (List Cell) → Head
 head_of mover passes root had absent = record { mover = mover; passes = passes; root = root; had = had; absent = absent }
+
+pub record BodyParts : Type 0 where
+  pub winner : Colour
+  pub earlier : List Head
+  pub listed : Option (List (List Cell))
+
+abbrev pub ordinary : BodyParts → Body
+ordinary a = record { winner = a.winner; earlier = a.earlier; listed = a.listed; shape = nowhere }
 
 -- the body may make each colouring on the list of the lemma that it knows by this number
 abbrev pub PassesOn : Body → ℕ → Type 0

@@ -1,9 +1,9 @@
 //! What is fixed in a body of a claim: who wins there, the lemmas that it may use, and the results that it may make.
 
-ghost use Rattle.std.specs.Prelude.{◌≡◌, Some, is_some, option_map};
+ghost use Rattle.std.specs.Prelude.{◌≡◌, Some, None, is_some, option_map};
 ghost use Rattle.std.specs.List.{list_all};
 ghost use Rattle.cert_check.specs.Private.Ascending.{Ascends};
-ghost use Rattle.cert_check.specs.Body.{is_listed, lemma_at, main_body, same_state};
+ghost use Rattle.cert_check.specs.Body.{is_listed, lemma_at, same_state};
 ghost use Rattle.cert_check.specs.Parts.{head_of};
 
 use crate::listed::{all_stand_on, stands_on};
@@ -89,9 +89,9 @@ pub(crate) struct Body<'a> {
 
 impl<'a> Model for Body<'a> {
     ghost use Rattle.std.specs.Prelude.{option_map};
-    ghost use Rattle.cert_check.specs.Body.{Body as SpecBody};
+    ghost use Rattle.cert_check.specs.Parts.{BodyParts};
 
-    ghost Value = { SpecBody };
+    ghost Value = { BodyParts };
 
     ghost view = { λ a. record
         { winner = a.winner; earlier = a.earlier.now; listed = option_map (λ l. l.now) a.listed } };
@@ -122,7 +122,7 @@ impl<'a> Body<'a> {
 
     /// Main, after these lemmas.
     pub(crate) fn of_main(winner: Colour, lemmas: &'a [Head]) -> Body<'a>
-        ensures { result ≡ main_body winner lemmas.now }
+        ensures { result ≡ record { winner = winner; earlier = lemmas.now; listed = None } }
     {
         Body {
             winner,

@@ -1,10 +1,11 @@
 //! The judge of a claim, which takes a line at a time and holds none of them. `judge_heading` has the calls for the lines before a
 //! tree, and `judge_body` those for the lines of a tree.
 
-ghost use Rattle.std.specs.Prelude.{◌≡◌, ◌<◌, ◌^◌, suc, None, Some, IfOk, IfErr, OnOk};
+ghost use Rattle.std.specs.Prelude.{◌≡◌, ◌<◌, ◌^◌, Bool, List, suc, None, Some, IfOk, IfErr, OnOk};
+ghost use Rattle.go_points.specs.declared.Cell.{Cell as SpecCell};
 ghost use Rattle.proof_cert.specs.Stage.{line_value};
 ghost use Rattle.cert_check.specs.Body.{Why as SpecWhy};
-ghost use Rattle.cert_check.specs.Private.Judging.{GoesOn, IsBehind, IsReady, StopsFor, bad_line, machine_of};
+ghost use Rattle.cert_check.specs.Private.Judging.{GoesOn, IsBehind, IsReady, IsToldBy, StopsFor, answering, bad_line, machine_of};
 ghost use Rattle.cert_check.specs.Private.Machine.{begun, ended, goes_on, stops, taken};
 ghost use Rattle.cert_check.specs.Parts.{IsJudged};
 ghost use Rattle.cert_check.specs.Stage.{why_value};
@@ -13,10 +14,12 @@ ghost use Rattle.cert_check.specs.declared.reject.Why.TheVariants.{Memory};
 
 use crate::body::Head;
 use crate::body_state::BodyState;
+use crate::kind::Kind;
 use crate::lemma_set::LemmaSet;
-use crate::lines::line_fits;
+use crate::lines::{line_fits, node_of, rests_on_shape};
 use crate::open_nodes::{Due, MOST_OPEN};
 use crate::reject::{Reject, Why};
+use crate::shape::lives_at;
 use arrayvec::ArrayVec;
 use go_points::{Colour, Colouring, ColouringList};
 use proof_cert::{Line, Version};
@@ -119,19 +122,19 @@ impl<'p> Judge<'p> {
         }
     }
 
-    /// Judges the next line, which has not been counted yet.
-    fn step(&mut self, line: &Line) -> Result<(), Why>
+    /// Judges the next line, which has not been counted yet. If it rests on the shape of the targets, `alive` is whether it may.
+    fn step(&mut self, line: &Line, alive: bool) -> Result<(), Why>
         requires ready { IsReady self.old }
         ensures place { self.new.place ≡ self.old.place }
         ensures problem { self.new.problem ≡ self.old.problem }
         ensures ready { OnOk result (IsBehind self.new) }
         ensures ok { OnOk result
             (GoesOn self.old self.new
-            (taken self.old.problem.now (machine_of self.old)
+            (taken (answering alive) self.old.problem.now (machine_of self.old)
             (Some (line_value self.old.problem.now.game.size line.now)))) }
         ensures err { IfErr result
             (λ why. StopsFor self.old
-            (taken self.old.problem.now (machine_of self.old)
+            (taken (answering alive) self.old.problem.now (machine_of self.old)
             (Some (line_value self.old.problem.now.game.size line.now))) why) }
     {
         if !line_fits(self.problem.size(), line) {
@@ -140,32 +143,60 @@ impl<'p> Judge<'p> {
         match self.phase {
             Phase::Header => self.header(line),
             Phase::Opening => self.opening(line),
-            Phase::ListingHad => self.listing_had(line),
-            Phase::Listing => self.listing(line),
-            Phase::Body { within, due } => self.within(within, due, line),
+            Phase::ListingHad => self.listing_had(line, alive),
+            Phase::Listing => self.listing(line, alive),
+            Phase::Body { within, due } => self.within(within, due, line, alive),
             Phase::Done => Err(Why::TextAfterEnd),
         }
     }
 
-    /// Takes the next line.
-    pub(crate) fn take(&mut self, line: &Line) -> Result<(), Reject>
+    /// Whether the line, in a claim of this kind, may rest on the shape of the targets: what every shape that tells where the targets
+    /// live would answer, as far as the line asks it.
+    fn is_alive(&self, kind: Kind, line: &Line) -> bool
+        requires ready { IsReady self.now }
+        ensures { (shape : List SpecCell → Bool)
+            → IsToldBy kind self.now.problem.now.game shape
+            → taken shape self.now.problem.now (machine_of self.now)
+            (Some (line_value self.now.problem.now.game.size line.now))
+            ≡ taken (answering result) self.now.problem.now (machine_of self.now)
+            (Some (line_value self.now.problem.now.game.size line.now)) }
+    {
+        if kind == Kind::Ordinary {
+            return false;
+        }
+        let Some(node) = node_of(line) else {
+            return false;
+        };
+        if !rests_on_shape(&node) {
+            return false;
+        }
+        lives_at(self.problem, &self.state.play().colouring())
+    }
+
+    /// Takes the next line of a claim of this kind.
+    pub(crate) fn take(&mut self, kind: Kind, line: &Line) -> Result<(), Reject>
         requires ready { IsReady self.old }
         requires few { self.old.place < 2 ^ 63 }
         ensures problem { self.new.problem.now ≡ self.old.problem.now }
         ensures ready { OnOk result (IsReady self.new) }
-        ensures ok { OnOk result
-            (taken self.old.problem.now (machine_of self.old)
+        ensures ok { (shape : List SpecCell → Bool)
+            → IsToldBy kind self.old.problem.now.game shape
+            → OnOk result
+            (taken shape self.old.problem.now (machine_of self.old)
             (Some (line_value self.old.problem.now.game.size line.now))
             ≡ goes_on (machine_of self.new)) }
         ensures place { OnOk result (self.new.place ≡ suc self.old.place) }
-        ensures err { IfErr result (λ e. (why : SpecWhy)
+        ensures err { (shape : List SpecCell → Bool)
+            → IsToldBy kind self.old.problem.now.game shape
+            → IfErr result (λ e. (why : SpecWhy)
             → why_value self.old.problem.now.game.size e.why ≡ Some why
-            → taken self.old.problem.now (machine_of self.old)
+            → taken shape self.old.problem.now (machine_of self.old)
             (Some (line_value self.old.problem.now.game.size line.now)) ≡ stops e.place why) }
         ensures there { IfErr result (λ e. e.place ≡ self.old.place) }
         ensures judged { IfErr result (λ e. IsJudged e.why) }
     {
-        match self.step(line) {
+        let alive = self.is_alive(kind, line);
+        match self.step(line, alive) {
             Ok(()) => {
                 self.place += 1;
                 Ok(())
@@ -176,9 +207,10 @@ impl<'p> Judge<'p> {
 
     /// Why a malformed line is refused.
     pub(crate) fn malformed(&self) -> Reject
-        ensures err { (why : SpecWhy)
+        ensures err { (shape : List SpecCell → Bool) (why : SpecWhy)
             → why_value self.now.problem.now.game.size result.why ≡ Some why
-            → taken self.now.problem.now (machine_of self.now) None ≡ stops result.place why }
+            → taken shape self.now.problem.now (machine_of self.now) None
+            ≡ stops result.place why }
         ensures there { result.place ≡ self.now.place }
         ensures judged { IsJudged result.why }
         ensures heard { result.why ≡ Memory → ⊥ }

@@ -2,14 +2,16 @@
 
 ghost use Rattle.std.specs.Prelude.{◌≡◌, ◌<◌, [], suc, nat_lt, nat_le, ◌&&◌, ◌+◌, ◌++◌, ◌∷◌, length, reverse, None, Some, IsTrue, IfOk, IfErr, OnOk};
 ghost use Rattle.proof_cert.specs.Claim.{max_nodes, max_depth};
+ghost use Rattle.proof_cert.specs.Lines.{use_line};
 ghost use Rattle.proof_cert.specs.Stage.{line_value};
 ghost use Rattle.cert_check.specs.Private.Ascending.{Ascends};
-ghost use Rattle.cert_check.specs.Body.{Why as SpecWhy};
+ghost use Rattle.cert_check.specs.Body.{Why as SpecWhy, lives, nowhere};
 ghost use Rattle.cert_check.specs.Private.Inside.{node_fault, node_next, owed_by};
-ghost use Rattle.cert_check.specs.Private.Judging.{AwaitsNode, GoesOn, IsBehind, StopsFor, body_here, heading_of, inside_now, lemma_of, machine_of, node_here, reply_here, within_of};
+ghost use Rattle.cert_check.specs.Private.Judging.{AwaitsNode, GoesOn, IsBehind, StopsFor, answering, body_here, heading_of, inside_now, lemma_of, machine_of, node_here, reply_here, within_of};
 ghost use Rattle.cert_check.specs.Private.Machine.{body_of, end_taken, goes_on, moved, opening};
 ghost use Rattle.cert_check.specs.Parts.{IsJudged, node_value};
 ghost use Rattle.cert_check.specs.Stage.{why_value};
+ghost use Rattle.cert_check.specs.declared.judge.Within.{Within as SpecWithin};
 ghost use Rattle.cert_check.specs.declared.judge.Within.TheVariants.{Lemma, Main};
 ghost use Rattle.cert_check.specs.declared.open_nodes.Due.TheVariants.{Node, Reply};
 ghost use Rattle.cert_check.specs.declared.reject.Why.TheVariants.{Memory};
@@ -17,8 +19,8 @@ ghost use Rattle.cert_check.specs.declared.reject.Why.TheVariants.{Memory};
 use crate::body::{Body, Head};
 use crate::judge::{Judge, Phase, Within};
 use crate::lemma_set::LemmaSet;
-use crate::lines::{NodeLine, is_end, node_of, reply_of};
-use crate::open_nodes::{Due, MOST_OPEN, take_node, take_reply};
+use crate::lines::{NodeLine, is_end, node_of, reply_of, rests_on_shape};
+use crate::open_nodes::{Due, MOST_OPEN, take_node, take_reply, unwind};
 use crate::reject::Why;
 use go_points::{ColouringList, Turn};
 use proof_cert::{Line, MAX_NODES};
@@ -27,39 +29,45 @@ use target_game::TurnsLeft;
 
 impl<'p> Judge<'p> {
     /// A line of a body.
-    pub(crate) fn within(&mut self, within: Within, due: Due, line: &Line) -> Result<(), Why>
+    pub(crate) fn within(
+        &mut self,
+        within: Within,
+        due: Due,
+        line: &Line,
+        alive: bool,
+    ) -> Result<(), Why>
         requires ready { AwaitsNode self.old due }
         ensures place { self.new.place ≡ self.old.place }
         ensures problem { self.new.problem ≡ self.old.problem }
         ensures ready { OnOk result (IsBehind self.new) }
         ensures ok { OnOk result
             (GoesOn self.old self.new
-            (body_here self.old within due
+            (body_here alive self.old within due
             (line_value self.old.problem.now.game.size line.now))) }
         ensures err { IfErr result
             (λ why. StopsFor self.old
-            (body_here self.old within due (line_value self.old.problem.now.game.size line.now))
+            (body_here alive self.old within due (line_value self.old.problem.now.game.size line.now))
             why) }
     {
         match due {
-            Due::Node => self.node(within, line),
+            Due::Node => self.node(within, line, alive),
             Due::Reply { due, left } => self.reply(within, due, left, line),
             Due::End => self.close(within, line),
         }
     }
 
     /// The line of a node.
-    pub(crate) fn node(&mut self, within: Within, line: &Line) -> Result<(), Why>
+    pub(crate) fn node(&mut self, within: Within, line: &Line, alive: bool) -> Result<(), Why>
         requires ready { AwaitsNode self.old Node }
         ensures place { self.new.place ≡ self.old.place }
         ensures problem { self.new.problem ≡ self.old.problem }
         ensures ready { OnOk result (IsBehind self.new) }
         ensures ok { OnOk result
             (GoesOn self.old self.new
-            (node_here self.old within (line_value self.old.problem.now.game.size line.now))) }
+            (node_here alive self.old within (line_value self.old.problem.now.game.size line.now))) }
         ensures err { IfErr result
             (λ why. StopsFor self.old
-            (node_here self.old within (line_value self.old.problem.now.game.size line.now))
+            (node_here alive self.old within (line_value self.old.problem.now.game.size line.now))
             why) }
     {
         let Some(node) = node_of(line) else {
@@ -68,7 +76,7 @@ impl<'p> Judge<'p> {
         if !self.has_room() {
             return Err(Why::Limit);
         }
-        match self.node_within(within, node) {
+        match self.node_within(within, node, alive) {
             Ok(due) => {
                 self.node_count += 1;
                 self.phase = Phase::Body { within, due };
@@ -79,7 +87,7 @@ impl<'p> Judge<'p> {
     }
 
     /// A node, and what is due after it.
-    fn node_within(&mut self, within: Within, node: NodeLine) -> Result<Due, Why>
+    fn node_within(&mut self, within: Within, node: NodeLine, alive: bool) -> Result<Due, Why>
         requires ready { AwaitsNode self.old Node }
         requires room { length self.old.open_nodes.items < 2000 }
         ensures rest { self.new
@@ -90,7 +98,7 @@ impl<'p> Judge<'p> {
             } }
         ensures ready { IfOk result (λ due. AwaitsNode self.new due) }
         ensures none { OnOk result
-            (node_fault (body_of (heading_of self.old) (within_of self.old within))
+            (node_fault (body_of (answering alive) (heading_of self.old) (within_of self.old within))
             self.old.state.state (node_value self.old.state.state.game.size node) ≡ None) }
         ensures due { IfOk result
             (λ due. inside_now self.new due
@@ -99,14 +107,57 @@ impl<'p> Judge<'p> {
             (node_value self.old.state.state.game.size node)) }
         ensures err { IfErr result (λ why. (p : SpecWhy)
             → why_value self.old.state.state.game.size why ≡ Some p
-            → node_fault (body_of (heading_of self.old) (within_of self.old within))
+            → node_fault (body_of (answering alive) (heading_of self.old) (within_of self.old within))
             self.old.state.state (node_value self.old.state.state.game.size node) ≡ Some p) }
         ensures judged { IfErr result (λ why. IsJudged why) }
     {
+        if rests_on_shape(&node) {
+            return self.by_shape(alive);
+        }
         match within {
             Within::Lemma => self.node_of_lemma(node),
             Within::Main => self.node_of_main(node),
         }
+    }
+
+    /// A node that rests on the shape of the targets, if it may.
+    fn by_shape(&mut self, alive: bool) -> Result<Due, Why>
+        requires ready { AwaitsNode self.old Node }
+        requires room { length self.old.open_nodes.items < 2000 }
+        ensures rest { self.new
+            ≡ record self.old { state = self.new.state; open_nodes = self.new.open_nodes } }
+        ensures ready { IfOk result (λ due. AwaitsNode self.new due) }
+        ensures none { (within : SpecWithin) → OnOk result
+            (node_fault (body_of (answering alive) (heading_of self.old)
+            (within_of self.old within)) self.old.state.state (use_line 0) ≡ None) }
+        ensures due { IfOk result
+            (λ due. inside_now self.new due
+            ≡ node_next (suc (length self.old.state.before)) self.old.state.state
+            (owed_by self.old.state.before (reverse self.old.open_nodes.items)) (use_line 0)) }
+        ensures err { (within : SpecWithin) → IfErr result (λ why. (p : SpecWhy)
+            → why_value self.old.state.state.game.size why ≡ Some p
+            → node_fault (body_of (answering alive) (heading_of self.old)
+            (within_of self.old within)) self.old.state.state (use_line 0) ≡ Some p) }
+        ensures judged { IfErr result (λ why. IsJudged why) }
+    {
+        if !self.may_rest(alive) {
+            return Err(Why::LemmaNotLower);
+        }
+        Ok(unwind(&mut self.state, &mut self.open_nodes))
+    }
+
+    /// Whether a short claim may end at the present state, if the targets live by their shape there or not.
+    fn may_rest(&self, alive: bool) -> bool
+        requires { self.now.state.state.game ≡ self.now.problem.now.game }
+        ensures { (within : SpecWithin) → result
+            ≡ lives (body_of (answering alive) (heading_of self.now)
+            (within_of self.now within)) self.now.state.state }
+    {
+        let state = self.state.play();
+        state.over().is_none()
+            && state.passes() < 2
+            && self.problem.defender() == self.winner
+            && alive
     }
 
     /// A node of a lemma, and what is due after it.
@@ -121,7 +172,7 @@ impl<'p> Judge<'p> {
             } }
         ensures ready { IfOk result (λ due. AwaitsNode self.new due) }
         ensures none { OnOk result
-            (node_fault (body_of (heading_of self.old) (within_of self.old Lemma))
+            (node_fault (body_of nowhere (heading_of self.old) (within_of self.old Lemma))
             self.old.state.state (node_value self.old.state.state.game.size node) ≡ None) }
         ensures due { IfOk result
             (λ due. inside_now self.new due
@@ -130,7 +181,7 @@ impl<'p> Judge<'p> {
             (node_value self.old.state.state.game.size node)) }
         ensures err { IfErr result (λ why. (p : SpecWhy)
             → why_value self.old.state.state.game.size why ≡ Some p
-            → node_fault (body_of (heading_of self.old) (within_of self.old Lemma))
+            → node_fault (body_of nowhere (heading_of self.old) (within_of self.old Lemma))
             self.old.state.state (node_value self.old.state.state.game.size node) ≡ Some p) }
         ensures judged { IfErr result (λ why. IsJudged why) }
     {
@@ -156,7 +207,7 @@ impl<'p> Judge<'p> {
             } }
         ensures ready { IfOk result (λ due. AwaitsNode self.new due) }
         ensures none { OnOk result
-            (node_fault (body_of (heading_of self.old) (within_of self.old Main))
+            (node_fault (body_of nowhere (heading_of self.old) (within_of self.old Main))
             self.old.state.state (node_value self.old.state.state.game.size node) ≡ None) }
         ensures due { IfOk result
             (λ due. inside_now self.new due
@@ -165,7 +216,7 @@ impl<'p> Judge<'p> {
             (node_value self.old.state.state.game.size node)) }
         ensures err { IfErr result (λ why. (p : SpecWhy)
             → why_value self.old.state.state.game.size why ≡ Some p
-            → node_fault (body_of (heading_of self.old) (within_of self.old Main))
+            → node_fault (body_of nowhere (heading_of self.old) (within_of self.old Main))
             self.old.state.state (node_value self.old.state.state.game.size node) ≡ Some p) }
         ensures judged { IfErr result (λ why. IsJudged why) }
     {

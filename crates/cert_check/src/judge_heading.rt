@@ -155,7 +155,7 @@ impl<'p> Judge<'p> {
     }
 
     /// A line after a lemma's first one, or among the colourings that must have occurred.
-    pub(crate) fn listing_had(&mut self, line: &Line) -> Result<(), Why>
+    pub(crate) fn listing_had(&mut self, line: &Line, alive: bool) -> Result<(), Why>
         requires ready { AwaitsHad self.old }
         requires phase { self.old.phase ≡ phases.ListingHad }
         requires fits { IsTrue
@@ -166,16 +166,16 @@ impl<'p> Judge<'p> {
         ensures ready { OnOk result (IsBehind self.new) }
         ensures ok { OnOk result
             (GoesOn self.old self.new
-            (had_here self.old (line_value self.old.problem.now.game.size line.now))) }
+            (had_here alive self.old (line_value self.old.problem.now.game.size line.now))) }
         ensures err { IfErr result
             (λ why. StopsFor self.old
-            (had_here self.old (line_value self.old.problem.now.game.size line.now)) why) }
+            (had_here alive self.old (line_value self.old.problem.now.game.size line.now)) why) }
     {
         if let Some(colouring) = had_of(line) {
             return self.had(colouring);
         }
         match self.remember() {
-            Ok(()) => self.listing(line),
+            Ok(()) => self.listing(line, alive),
             Err(why) => Err(why),
         }
     }
@@ -240,7 +240,7 @@ impl<'p> Judge<'p> {
     }
 
     /// A line after the colourings that must have occurred.
-    pub(crate) fn listing(&mut self, line: &Line) -> Result<(), Why>
+    pub(crate) fn listing(&mut self, line: &Line, alive: bool) -> Result<(), Why>
         requires ready { AwaitsList self.old }
         requires phase { self.old.phase ≡ phases.Listing }
         requires fits { IsTrue
@@ -251,14 +251,14 @@ impl<'p> Judge<'p> {
         ensures ready { OnOk result (IsBehind self.new) }
         ensures ok { OnOk result
             (GoesOn self.old self.new
-            (list_here self.old (line_value self.old.problem.now.game.size line.now))) }
+            (list_here alive self.old (line_value self.old.problem.now.game.size line.now))) }
         ensures err { IfErr result
             (λ why. StopsFor self.old
-            (list_here self.old (line_value self.old.problem.now.game.size line.now)) why) }
+            (list_here alive self.old (line_value self.old.problem.now.game.size line.now)) why) }
     {
         match listed_of(line) {
             Some(colouring) => self.listed(colouring),
-            None => self.node(Within::Lemma, line),
+            None => self.node(Within::Lemma, line, alive),
         }
     }
 

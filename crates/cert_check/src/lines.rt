@@ -1,8 +1,8 @@
 //! The checks that depend only on the kind of a line.
 
-ghost use Rattle.std.specs.Prelude.{◌≡◌, ◌*◌, ℕ, nat_eq, length, Some, IfSome, option_map};
+ghost use Rattle.std.specs.Prelude.{◌≡◌, ◌*◌, ◌↔◌, ℕ, nat_eq, length, Some, IfSome, IsTrue, option_map};
 ghost use Rattle.go_points.specs.Ply.{ply_of};
-ghost use Rattle.proof_cert.specs.Lines.{turn_fits, line_fits};
+ghost use Rattle.proof_cert.specs.Lines.{turn_fits, line_fits, use_line};
 ghost use Rattle.proof_cert.specs.Stage.{line_value};
 ghost use Rattle.cert_check.specs.Verdict.{is_after};
 ghost use Rattle.cert_check.specs.Parts.{header_value, header_line_of, had_value, had_line_of, opening_value, opening_line, listed_value, listed_line, node_value, node_line, reply_value, reply_line_of, end_value, end_line_of};
@@ -105,6 +105,16 @@ pub(crate) fn node_of(line: &Line) -> Option<NodeLine>
         Line::Play(turn) => Some(NodeLine::Play(turn)),
         Line::All(replies) => Some(NodeLine::All(replies)),
         _ => None,
+    }
+}
+
+/// Whether the node rests on the shape of the targets: lemmas are counted from 1.
+pub(crate) fn rests_on_shape(node: &NodeLine) -> bool
+    ensures { (n : ℕ) → IsTrue result ↔ (node_value n node.now ≡ use_line 0) }
+{
+    match *node {
+        NodeLine::Use(lemma) => lemma == 0,
+        _ => false,
     }
 }
 

@@ -9,7 +9,7 @@ ghost use Rattle.proof_cert.specs.Lines.{won_line, use_line, play_line, all_line
 ghost use Rattle.cert_check.specs.Body.{Why as SpecWhy, reply_fault};
 ghost use Rattle.cert_check.specs.Private.Inside.{Follows, MayBeMade, inside_of, node_fault, node_next, owed_by, reply_at};
 ghost use Rattle.cert_check.specs.Private.Machine.{owing};
-ghost use Rattle.cert_check.specs.Parts.{IsJudged, PassesOn, node_value};
+ghost use Rattle.cert_check.specs.Parts.{IsJudged, PassesOn, node_value, ordinary};
 ghost use Rattle.cert_check.specs.Stage.{why_value};
 ghost use Rattle.cert_check.specs.declared.open_nodes.Due.TheVariants.{Reply};
 
@@ -114,14 +114,14 @@ fn take_won(
         (Follows state.old.state.game state.new.before (reverse open_nodes.new.items)) }
     ensures made { IfOk result
         (λ due. MayBeMade due state.new.state (length open_nodes.new.items)) }
-    ensures none { OnOk result (node_fault body.now state.old.state (won_line) ≡ None) }
+    ensures none { OnOk result (node_fault (ordinary body.now) state.old.state (won_line) ≡ None) }
     ensures due { IfOk result
         (λ due. inside_of due state.new.state state.new.before (reverse open_nodes.new.items)
         ≡ node_next (suc (length state.old.before)) state.old.state
         (owed_by state.old.before (reverse open_nodes.old.items)) (won_line)) }
     ensures err { IfErr result (λ why. (p : SpecWhy)
         → why_value state.old.state.game.size why ≡ Some p
-        → node_fault body.now state.old.state (won_line) ≡ Some p) }
+        → node_fault (ordinary body.now) state.old.state (won_line) ≡ Some p) }
     ensures judged { IfErr result (λ why. IsJudged why) }
 {
     if let Some(why) = won_fault(body, state.play()) {
@@ -141,21 +141,21 @@ fn take_use(
     requires follows { Follows state.old.state.game state.old.before
         (reverse open_nodes.old.items) }
     requires room { length open_nodes.old.items < 2000 }
-    requires passed { All (PassesOn body.now) passed.old }
-    ensures passed { All (PassesOn body.now) passed.new }
+    requires passed { All (PassesOn (ordinary body.now)) passed.old }
+    ensures passed { All (PassesOn (ordinary body.now)) passed.new }
     ensures game { OnOk result (state.new.state.game ≡ state.old.state.game) }
     ensures follows { OnOk result
         (Follows state.old.state.game state.new.before (reverse open_nodes.new.items)) }
     ensures made { IfOk result
         (λ due. MayBeMade due state.new.state (length open_nodes.new.items)) }
-    ensures none { OnOk result (node_fault body.now state.old.state (use_line lemma) ≡ None) }
+    ensures none { OnOk result (node_fault (ordinary body.now) state.old.state (use_line lemma) ≡ None) }
     ensures due { IfOk result
         (λ due. inside_of due state.new.state state.new.before (reverse open_nodes.new.items)
         ≡ node_next (suc (length state.old.before)) state.old.state
         (owed_by state.old.before (reverse open_nodes.old.items)) (use_line lemma)) }
     ensures err { IfErr result (λ why. (p : SpecWhy)
         → why_value state.old.state.game.size why ≡ Some p
-        → node_fault body.now state.old.state (use_line lemma) ≡ Some p) }
+        → node_fault (ordinary body.now) state.old.state (use_line lemma) ≡ Some p) }
     ensures judged { IfErr result (λ why. IsJudged why) }
 {
     let Ok(fault) = use_fault(body, passed, state, lemma) else {
@@ -183,7 +183,7 @@ fn take_play(
     ensures made { IfOk result
         (λ due. MayBeMade due state.new.state (length open_nodes.new.items)) }
     ensures none { OnOk result
-        (node_fault body.now state.old.state (play_line (ply_of state.old.state.game.size turn))
+        (node_fault (ordinary body.now) state.old.state (play_line (ply_of state.old.state.game.size turn))
         ≡ None) }
     ensures due { IfOk result
         (λ due. inside_of due state.new.state state.new.before (reverse open_nodes.new.items)
@@ -192,7 +192,7 @@ fn take_play(
         (play_line (ply_of state.old.state.game.size turn))) }
     ensures err { IfErr result (λ why. (p : SpecWhy)
         → why_value state.old.state.game.size why ≡ Some p
-        → node_fault body.now state.old.state (play_line (ply_of state.old.state.game.size turn))
+        → node_fault (ordinary body.now) state.old.state (play_line (ply_of state.old.state.game.size turn))
         ≡ Some p) }
     ensures judged { IfErr result (λ why. IsJudged why) }
 {
@@ -221,14 +221,14 @@ fn take_all(
         (Follows state.old.state.game state.new.before (reverse open_nodes.new.items)) }
     ensures made { IfOk result
         (λ due. MayBeMade due state.new.state (length open_nodes.new.items)) }
-    ensures none { OnOk result (node_fault body.now state.old.state (all_line replies) ≡ None) }
+    ensures none { OnOk result (node_fault (ordinary body.now) state.old.state (all_line replies) ≡ None) }
     ensures due { IfOk result
         (λ due. inside_of due state.new.state state.new.before (reverse open_nodes.new.items)
         ≡ node_next (suc (length state.old.before)) state.old.state
         (owed_by state.old.before (reverse open_nodes.old.items)) (all_line replies)) }
     ensures err { IfErr result (λ why. (p : SpecWhy)
         → why_value state.old.state.game.size why ≡ Some p
-        → node_fault body.now state.old.state (all_line replies) ≡ Some p) }
+        → node_fault (ordinary body.now) state.old.state (all_line replies) ≡ Some p) }
     ensures judged { IfErr result (λ why. IsJudged why) }
 {
     if let Some(why) = all_fault(body, state.play(), replies) {
@@ -252,15 +252,15 @@ pub(crate) fn take_node(
     requires follows { Follows state.old.state.game state.old.before
         (reverse open_nodes.old.items) }
     requires room { length open_nodes.old.items < 2000 }
-    requires passed { All (PassesOn body.now) passed.old }
-    ensures passed { All (PassesOn body.now) passed.new }
+    requires passed { All (PassesOn (ordinary body.now)) passed.old }
+    ensures passed { All (PassesOn (ordinary body.now)) passed.new }
     ensures game { OnOk result (state.new.state.game ≡ state.old.state.game) }
     ensures follows { OnOk result
         (Follows state.old.state.game state.new.before (reverse open_nodes.new.items)) }
     ensures made { IfOk result
         (λ due. MayBeMade due state.new.state (length open_nodes.new.items)) }
     ensures none { OnOk result
-        (node_fault body.now state.old.state (node_value state.old.state.game.size node) ≡ None) }
+        (node_fault (ordinary body.now) state.old.state (node_value state.old.state.game.size node) ≡ None) }
     ensures due { IfOk result
         (λ due. inside_of due state.new.state state.new.before (reverse open_nodes.new.items)
         ≡ node_next (suc (length state.old.before)) state.old.state
@@ -268,7 +268,7 @@ pub(crate) fn take_node(
         (node_value state.old.state.game.size node)) }
     ensures err { IfErr result (λ why. (p : SpecWhy)
         → why_value state.old.state.game.size why ≡ Some p
-        → node_fault body.now state.old.state (node_value state.old.state.game.size node)
+        → node_fault (ordinary body.now) state.old.state (node_value state.old.state.game.size node)
         ≡ Some p) }
     ensures judged { IfErr result (λ why. IsJudged why) }
 {

@@ -8,7 +8,7 @@ ghost use Rattle.target_game.specs.Over.{over};
 ghost use Rattle.cert_check.specs.Body.{is_to_move, won_fault, play_fault, head_fault, use_fault, all_fault, due_replies, is_listed, lemma_at};
 ghost use Rattle.go_points.specs.declared.Turn.TheVariants.{At};
 ghost use Rattle.cert_check.specs.Stage.{why_value};
-ghost use Rattle.cert_check.specs.Parts.{PassesOn, move_fault};
+ghost use Rattle.cert_check.specs.Parts.{PassesOn, move_fault, ordinary};
 
 use crate::body::{Body, Head};
 use crate::body_state::BodyState;
@@ -21,7 +21,7 @@ use target_game::{PlayState, TurnsLeft};
 /// Checks that the winner has won here.
 pub(crate) fn won_fault(body: &Body<'_>, state: &PlayState) -> Option<Why>
     ensures { option_map (why_value state.now.state.game.size) result
-        ≡ option_map Some (won_fault body.now state.now.state) }
+        ≡ option_map Some (won_fault (ordinary body.now) state.now.state) }
 {
     if state.over() == Some(body.winner()) {
         None
@@ -73,7 +73,7 @@ pub(crate) fn make_turn(
 ) -> Result<Option<Why>, AllocError>
     ensures fault { IfOk result
         (λ f. option_map (why_value state.old.state.game.size) f
-        ≡ option_map Some (play_fault body.now state.old.state
+        ≡ option_map Some (play_fault (ordinary body.now) state.old.state
         (ply_of state.old.state.game.size turn))) }
     ensures made { IfOk result (λ f. f ≡ None
         → state.new ≡ line_after state.old (ply_of state.old.state.game.size turn)) }
@@ -100,8 +100,8 @@ fn is_passed_on(
     head: &Head,
 ) -> Result<bool, AllocError>
     requires head { lemma_at body.now.earlier number ≡ Some head.now }
-    requires passed { All (PassesOn body.now) passed.old }
-    ensures passed { All (PassesOn body.now) passed.new }
+    requires passed { All (PassesOn (ordinary body.now)) passed.old }
+    ensures passed { All (PassesOn (ordinary body.now)) passed.new }
     ensures value { IfOk result (λ b. b ≡ list_all (is_listed body.now.listed) head.now.absent) }
 {
     // If there is nothing to compare, the answer is known.
@@ -128,11 +128,11 @@ fn head_fault(
     head: &Head,
 ) -> Result<Option<Why>, AllocError>
     requires head { lemma_at body.now.earlier number ≡ Some head.now }
-    requires passed { All (PassesOn body.now) passed.old }
-    ensures passed { All (PassesOn body.now) passed.new }
+    requires passed { All (PassesOn (ordinary body.now)) passed.old }
+    ensures passed { All (PassesOn (ordinary body.now)) passed.new }
     ensures fault { IfOk result
         (λ f. option_map (why_value state.now.state.game.size) f
-        ≡ option_map Some (head_fault body.now state.now.state (Some head.now))) }
+        ≡ option_map Some (head_fault (ordinary body.now) state.now.state (Some head.now))) }
 {
     if !head.is_at(state.play()) {
         return Ok(Some(Why::StateDiffers));
@@ -156,11 +156,11 @@ pub(crate) fn use_fault(
     state: &BodyState,
     number: u32,
 ) -> Result<Option<Why>, AllocError>
-    requires passed { All (PassesOn body.now) passed.old }
-    ensures passed { All (PassesOn body.now) passed.new }
+    requires passed { All (PassesOn (ordinary body.now)) passed.old }
+    ensures passed { All (PassesOn (ordinary body.now)) passed.new }
     ensures fault { IfOk result
         (λ f. option_map (why_value state.now.state.game.size) f
-        ≡ option_map Some (use_fault body.now state.now.state number)) }
+        ≡ option_map Some (use_fault (ordinary body.now) state.now.state number)) }
 {
     match body.lemma(number) {
         Some(head) => head_fault(body, passed, state, number, head),
@@ -184,7 +184,7 @@ fn has_turns(state: &PlayState, count: u32) -> bool
 /// Checks that the other side is to move, and that this many replies are due.
 pub(crate) fn all_fault(body: &Body<'_>, state: &PlayState, replies: u32) -> Option<Why>
     ensures { option_map (why_value state.now.state.game.size) result
-        ≡ option_map Some (all_fault body.now state.now.state replies) }
+        ≡ option_map Some (all_fault (ordinary body.now) state.now.state replies) }
 {
     if !is_to_move(state, body.winner().opponent()) {
         return Some(Why::WrongSide);

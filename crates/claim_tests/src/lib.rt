@@ -27,6 +27,8 @@ mod pasts;
 #[cfg(test)]
 mod problems;
 #[cfg(test)]
+mod short_claims;
+#[cfg(test)]
 mod small_claims;
 #[cfg(test)]
 mod solutions;

@@ -14,7 +14,7 @@ pub(crate) fn point(rt: &impl Abort, rows: u8, column: u8, row: u8) -> Point {
         .expect(rt, "a point")
 }
 
-fn points(rt: &impl Abort, rows: u8, places: &[(u8, u8)]) -> PointSet {
+pub(crate) fn points(rt: &impl Abort, rows: u8, places: &[(u8, u8)]) -> PointSet {
     let mut set = PointSet::new();
     for (column, row) in places {
         set.insert(point(rt, rows, *column, *row));

@@ -1,5 +1,6 @@
 pub mod Standing
 pub mod Never
+pub mod Telling
 pub mod Spaces
 pub mod Regions
 pub mod Connected

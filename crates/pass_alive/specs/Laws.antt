@@ -1,5 +1,5 @@
 -- What the definitions of life by shape imply. Each is proved; the calls of the module `laws` name them.
-use Rattle.std.specs.Prelude.{◌≡◌, ℕ, ◌*◌, ◌<◌, ◌≤◌, IsTrue, IsFalse, List, [], ◌∷◌}
+use Rattle.std.specs.Prelude.{◌≡◌, ℕ, ◌*◌, ◌<◌, ◌≤◌, Bool, IsTrue, IsFalse, List, [], ◌∷◌}
 use Rattle.std.specs.List.{All}
 use Rattle.go_points.specs.declared.Colour.{Colour}
 use Rattle.go_points.specs.declared.Cell.{Cell}
@@ -15,6 +15,7 @@ use Rattle.target_game.specs.Wins.{wins, Wins}
 use Rattle.target_game.specs.Status.{IsAlive}
 use Rattle.pass_alive.specs.Life.{Points, Fixed, EyeSpace, Live, PassAlive}
 use Rattle.pass_alive.specs.Sets.{game_of}
+use Rattle.pass_alive.specs.Told.{play_bound, Tells}
 
 -- What holds of each later colouring d, where the stones live in the colouring c and their owner has passed since: their chains
 -- stand; no stone of theirs has come; no eye is full of the attacker's stones; and what was fixed is empty.
@@ -43,6 +44,10 @@ AttackerNeverWins = (s : GameState) (k : ℕ) → PassAlive s.game s.colouring �
 -- So the defender wins it.
 abbrev pub DefenderWins : Type 0
 DefenderWins = (s : GameState) → s.passes ≤ 2 → PassAlive s.game s.colouring → Wins s.game.defender s
+
+-- So many turns are enough for it, whatever has occurred.
+abbrev pub DefenderWinsWithin : Type 0
+DefenderWinsWithin = (s : GameState) → s.passes ≤ 2 → PassAlive s.game s.colouring → IsTrue (wins s.game.defender s (play_bound s.game.size))
 
 -- So the group is alive.
 abbrev pub PassAliveIsAlive : Type 0
@@ -80,3 +85,7 @@ NeverTakenAnywhere = (n : ℕ) (k : Colour) (c : List Cell) (stones : Points) �
 -- Where all targets and the region are on the board, as in every problem, the game of the decision is the problem's.
 abbrev pub GamesAgree : Type 0
 GamesAgree = (n : ℕ) (targets : List Place) (k : Colour) (region : List Place) → All (IsOn n) targets → All (IsOn n) region → game_of n targets k region ≡ kept_game n targets k region
+
+-- Some test tells which colourings live by their shape: it cannot be that none does. (The definitions name none.)
+abbrev pub ShapesCanBeTold : Type 0
+ShapesCanBeTold = (g : Game) → ((shape : List Cell → Bool) × Tells g shape → ⊥) → ⊥

@@ -1,4 +1,5 @@
 pub mod Life
 pub mod Sets
+pub mod Told
 pub mod Laws
 pub mod Private

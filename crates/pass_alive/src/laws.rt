@@ -1,6 +1,6 @@
 //! What life by shape implies, stated over the definitions alone.
 
-ghost use Rattle.pass_alive.specs.Laws.{PassAliveStands, PassAliveStays, AttackerNeverWins, DefenderWins, PassAliveIsAlive, LivesInLess, NeverTaken, NeverTakenAnywhere, GamesAgree};
+ghost use Rattle.pass_alive.specs.Laws.{PassAliveStands, PassAliveStays, AttackerNeverWins, DefenderWins, DefenderWinsWithin, PassAliveIsAlive, LivesInLess, NeverTaken, NeverTakenAnywhere, GamesAgree, ShapesCanBeTold};
 
 /// Where some stones live by their shape, their chains stand, no eye of theirs is full of the attacker's stones, and each point that
 /// is fixed is empty.
@@ -21,6 +21,11 @@ pub fn attacker_never_wins()
 /// The defender wins each state whose targets live by their shape.
 pub fn defender_wins()
     ensures { DefenderWins }
+{}
+
+/// It does so within a number of turns that depends only on the size of the board.
+pub fn defender_wins_within()
+    ensures { DefenderWinsWithin }
 {}
 
 /// A group that lives by its shape is alive.
@@ -46,4 +51,9 @@ pub fn never_taken_anywhere()
 /// Where all targets and the region are on the board, as in every problem, what `is_pass_alive` decides is about the problem's game.
 pub fn games_agree()
     ensures { GamesAgree }
+{}
+
+/// It cannot be that no test tells which colourings live by their shape.
+pub fn shapes_can_be_told()
+    ensures { ShapesCanBeTold }
 {}

@@ -9,7 +9,7 @@ use Rattle.go_points.specs.declared.Cell.TheVariants.{Empty, Stone}
 use Rattle.go_points.specs.Grid.{opponent_of, same_colour, same_cells}
 use Rattle.go_points.specs.Move.{after_move}
 use Rattle.go_points.specs.Ply.{Ply, pass, move}
-use Rattle.go_points.proofs.Lists.{Member, count, and_right, not_true, true_or_false, any_to, map_member, same_or_more}
+use Rattle.go_points.proofs.Lists.{Member, count, count_length, and_right, not_true, true_or_false, any_to, map_member, same_or_more}
 use Rattle.go_points.proofs.Cells.{same_colour_refl}
 use Rattle.go_turns.specs.History.{has_occurred}
 use Rattle.target_game.specs.State.{GameState}
@@ -37,7 +37,7 @@ with_one (Stone White) c cs m =
     append_member (Stone White ∷ c) (map (λ d. Empty ∷ d) cs) (map (λ d. Stone Black ∷ d) cs ++ map (λ d. Stone White ∷ d) cs)
     (inr (append_member (Stone White ∷ c) (map (λ d. Stone Black ∷ d) cs) (map (λ d. Stone White ∷ d) cs) (inr (map_member (λ d. Stone White ∷ d) c cs m))))
 
-each_is_one : (c : List Cell) → Member c (colourings (length c))
+pub each_is_one : (c : List Cell) → Member c (colourings (length c))
 each_is_one [] = inl refl
 each_is_one (x ∷ c) = with_one x c (colourings (length c)) (each_is_one c)
 
@@ -47,6 +47,10 @@ is_new h d = not (has_occurred h d)
 -- how many of m points have not occurred
 pub unseen : ℕ → List (List Cell) → ℕ
 unseen m h = count (is_new h) (colourings m)
+
+pub unseen_most : (m : ℕ) (h : List (List Cell)) → unseen m h ≤ length (colourings m)
+unfolding unseen
+unseen_most m h = count_length (is_new h) (colourings m)
 
 new_before : (h : List (List Cell)) (c d : List Cell) → is_new (h ++ c ∷ []) d ≡ true → is_new h d ≡ true
 new_before h c d is = go (has_occurred h d) refl

@@ -2,19 +2,24 @@
 --     machine_of j      the machine
 --     IsReady j      what the judge keeps from line to line
 --     GoesOn, StopsFor      a call did what the machine does with a line, and a refusal is the machine's
-use Rattle.std.specs.Prelude.{◌≡◌, ◌≤◌, suc, ◌*◌, List, [], ◌∷◌, ◌++◌, length, reverse, Option, Some, None, IfSome}
+--     IsToldBy kind g shape      where a claim of this kind may say that the targets live by their shape
+--     answering b      the shape that gives this answer everywhere; a line asks at one colouring at most
+use Rattle.std.specs.Prelude.{◌≡◌, ◌≤◌, suc, ◌*◌, Bool, false, List, [], ◌∷◌, ◌++◌, length, reverse, Option, Some, None, IfSome}
 use Rattle.std.specs.List.{All}
 use Rattle.go_points.specs.declared.Cell.{Cell}
 use Rattle.go_points.specs.Grid.{side_of}
 use Rattle.go_points.specs.Ply.{ply_of}
 use Rattle.go_points.specs.declared.Turn.{Turn}
 use Rattle.target_game.specs.Left.{turns_due}
-use Rattle.target_game.specs.State.{state_alone}
+use Rattle.target_game.specs.State.{Game, state_alone}
 use Rattle.target_game.specs.declared.turns_left.TurnsLeft.{TurnsLeft}
+use Rattle.pass_alive.specs.Told.{Tells}
 use Rattle.proof_cert.specs.Lines as Read
 use Rattle.proof_cert.specs.Claim.{Head}
 use Rattle.proof_cert.specs.Stage.{version_number}
 use Rattle.cert_check.specs.declared.reject.Why as stop
+use Rattle.cert_check.specs.declared.kind.Kind.{Kind}
+use Rattle.cert_check.specs.declared.kind.Kind.TheVariants.{Ordinary, Short}
 use Rattle.cert_check.specs.declared.judge.Judge.{Judge}
 use Rattle.cert_check.specs.declared.judge.Phase.{Phase}
 use Rattle.cert_check.specs.declared.judge.Phase.TheVariants.{Header, Opening, ListingHad, Listing, Body, Done}
@@ -129,16 +134,23 @@ GoesOn old new step = step ≡ goes_on (record (machine_of new) { place = suc ol
 abbrev pub StopsFor : Judge → AfterLine → stop.Why → Type 0
 StopsFor j step why = ((p : Why) → why_value j.problem.now.game.size why ≡ Some p → step ≡ stops j.place p) × IsJudged why
 
+abbrev pub IsToldBy : Kind → Game → (List Cell → Bool) → Type 0
+IsToldBy Ordinary g shape = (c : List Cell) → shape c ≡ false
+IsToldBy Short g shape = Tells g shape
+
+abbrev pub answering : Bool → List Cell → Bool
+answering b c = b
+
 -- What the machine does with a line that fits the board: a line of one of the lists or after it, of a body's node, of a reply, and
 -- of a body.
-abbrev pub had_here : Judge → Read.Line → AfterLine
-had_here j l = had_taken j.problem.now (machine_of j) (heading_of j) (lemma_of j) (Some l) (had_of (Some l))
+abbrev pub had_here : Bool → Judge → Read.Line → AfterLine
+had_here b j l = had_taken (answering b) j.problem.now (machine_of j) (heading_of j) (lemma_of j) (Some l) (had_of (Some l))
 
-abbrev pub list_here : Judge → Read.Line → AfterLine
-list_here j l = not_taken j.problem.now (machine_of j) (heading_of j) (lemma_of j) (Some l) (not_of (Some l))
+abbrev pub list_here : Bool → Judge → Read.Line → AfterLine
+list_here b j l = not_taken (answering b) j.problem.now (machine_of j) (heading_of j) (lemma_of j) (Some l) (not_of (Some l))
 
-abbrev pub node_here : Judge → Within → Read.Line → AfterLine
-node_here j within l = node_taken (machine_of j) (heading_of j) (within_of j within) (suc (length j.state.before)) j.state.state (owed_by j.state.before (reverse j.open_nodes.items)) l
+abbrev pub node_here : Bool → Judge → Within → Read.Line → AfterLine
+node_here b j within l = node_taken (answering b) (machine_of j) (heading_of j) (within_of j within) (suc (length j.state.before)) j.state.state (owed_by j.state.before (reverse j.open_nodes.items)) l
 
 abbrev pub reply_here : Judge → Within → Turn → TurnsLeft → Read.Line → AfterLine
 reply_here j within due left l =
@@ -146,10 +158,10 @@ reply_here j within due left l =
     (record { depth = suc (length j.state.before); state = j.state.state; due = ply_of j.state.state.game.size due; others = turns_due j.state.state left.next })
     (owed_by j.state.before (reverse j.open_nodes.items)) l
 
-abbrev pub body_here : Judge → Within → Due → Read.Line → AfterLine
-body_here j within Node l = node_here j within l
-body_here j within (Reply due left) l = reply_here j within due left l
-body_here j within End l = end_taken (machine_of j) (heading_of j) (within_of j within) l
+abbrev pub body_here : Bool → Judge → Within → Due → Read.Line → AfterLine
+body_here b j within Node l = node_here b j within l
+body_here b j within (Reply due left) l = reply_here j within due left l
+body_here b j within End l = end_taken (machine_of j) (heading_of j) (within_of j within) l
 
 abbrev pub had_more : Head → List Cell → Head
 had_more h c = record h { had = h.had ++ c ∷ [] }

@@ -1,9 +1,9 @@
 -- Judging a claim a line at a time: what is kept between two lines, and what a line makes of it.
 --     Machine      what is kept: the line that is due, its number, and the counts
---     taken q m l      what the line l makes of m: it goes on, or the line is faulty
+--     taken shape q m l      what the line l makes of m: it goes on, or the line is faulty
 --     ended m      what is said if no line follows
---     verdict_from q m ls      the lines ls, one after another
-use Rattle.std.specs.Prelude.{◌≡◌, ℕ, suc, ◌&&◌, ◌||◌, nat_eq, nat_lt, nat_le, List, [], ◌∷◌, ◌++◌, Option, Some, None, if◌then◌else◌}
+--     verdict_from shape q m ls      the lines ls, one after another
+use Rattle.std.specs.Prelude.{◌≡◌, ℕ, suc, Bool, ◌&&◌, ◌||◌, nat_eq, nat_lt, nat_le, List, [], ◌∷◌, ◌++◌, Option, Some, None, if◌then◌else◌}
 use Rattle.go_points.specs.declared.Colour.{Colour}
 use Rattle.go_points.specs.declared.Cell.{Cell}
 use Rattle.go_points.specs.Ply.{Ply}
@@ -11,8 +11,8 @@ use Rattle.target_game.specs.State.{GameState, GameProblem, start}
 use Rattle.target_game.specs.Next.{next}
 use Rattle.proof_cert.specs.Claim.{Head, max_nodes, max_depth, max_listed}
 use Rattle.proof_cert.specs.Lines.{Line, header_line, lemma_line, main_line, won_line, use_line, play_line, all_line, reply_line, end_line, fitting}
-use Rattle.cert_check.specs.Body.{Body, Why, malformed, size_differs, list_order, limit, text_after_end, ask, won_fault, play_fault, use_fault, all_fault, due_replies, reply_fault, lemma_body, lemma_start, main_body}
-use Rattle.cert_check.specs.Verdict.{Verdict, accepted, rejected, verdict, had_of, not_of, is_after, lemma_fault}
+use Rattle.cert_check.specs.Body.{Body, Why, malformed, size_differs, list_order, limit, text_after_end, ask, won_fault, play_fault, use_fault, all_fault, due_replies, reply_fault, lemma_body_by, lemma_start, main_body_by}
+use Rattle.cert_check.specs.Verdict.{Verdict, accepted, rejected, verdict_by, had_of, not_of, is_after, lemma_fault}
 
 -- WHAT IS KEPT
 
@@ -66,9 +66,9 @@ goes_if place (Some why) m = stops place why
 
 -- BODIES
 
-abbrev pub body_of : Heading → Option Head → Body
-body_of f None = main_body f.winner f.heads
-body_of f (Some h) = lemma_body f.winner f.heads h
+abbrev pub body_of : (List Cell → Bool) → Heading → Option Head → Body
+body_of shape f None = main_body_by shape f.winner f.heads
+body_of shape f (Some h) = lemma_body_by shape f.winner f.heads h
 
 -- a node is open as long as a reply is due
 abbrev pub owing : ℕ → GameState → List Ply → List Owed → List Owed
@@ -80,12 +80,12 @@ abbrev pub counted : Machine → ℕ → Option Why → Phase → AfterLine
 counted m depth fault p =
     goes_if m.place (ask (nat_lt m.nodes max_nodes && nat_le depth max_depth) limit fault) (record m { phase = p; place = suc m.place; nodes = suc m.nodes })
 
-abbrev pub node_taken : Machine → Heading → Option Head → ℕ → GameState → List Owed → Line → AfterLine
-node_taken m f inside depth s os won_line = counted m depth (won_fault (body_of f inside) s) (reply_due f inside os)
-node_taken m f inside depth s os (use_line j) = counted m depth (use_fault (body_of f inside) s j) (reply_due f inside os)
-node_taken m f inside depth s os (play_line t) = counted m depth (play_fault (body_of f inside) s t) (node_due f inside (suc depth) (next s t) os)
-node_taken m f inside depth s os (all_line k) = counted m depth (all_fault (body_of f inside) s k) (reply_due f inside (owing depth s (due_replies s) os))
-node_taken m f inside depth s os _ = stops m.place malformed
+abbrev pub node_taken : (List Cell → Bool) → Machine → Heading → Option Head → ℕ → GameState → List Owed → Line → AfterLine
+node_taken shape m f inside depth s os won_line = counted m depth (won_fault (body_of shape f inside) s) (reply_due f inside os)
+node_taken shape m f inside depth s os (use_line j) = counted m depth (use_fault (body_of shape f inside) s j) (reply_due f inside os)
+node_taken shape m f inside depth s os (play_line t) = counted m depth (play_fault (body_of shape f inside) s t) (node_due f inside (suc depth) (next s t) os)
+node_taken shape m f inside depth s os (all_line k) = counted m depth (all_fault (body_of shape f inside) s k) (reply_due f inside (owing depth s (due_replies s) os))
+node_taken shape m f inside depth s os _ = stops m.place malformed
 
 abbrev pub reply_taken : Machine → Heading → Option Head → Owed → List Owed → Line → AfterLine
 reply_taken m f inside o os (reply_line t) =
@@ -139,30 +139,30 @@ there m None take = stops m.place malformed
 there m (Some l) take = take l
 
 -- when a lemma's lists end, its body begins with the same line
-abbrev pub first_taken : GameProblem → Machine → Heading → Head → Option Line → AfterLine
-first_taken q m f h l = there m l (node_taken m f (Some h) 1 (lemma_start q.game h) [])
+abbrev pub first_taken : (List Cell → Bool) → GameProblem → Machine → Heading → Head → Option Line → AfterLine
+first_taken shape q m f h l = there m l (node_taken shape m f (Some h) 1 (lemma_start q.game h) [])
 
-abbrev pub not_taken : GameProblem → Machine → Heading → Head → Option Line → Option (List Cell) → AfterLine
-not_taken q m f h l None = first_taken q m f h l
-not_taken q m f h l (Some c) = listed_taken m (last_of h.absent) c (listing_not f (record h { absent = h.absent ++ c ∷ [] }))
+abbrev pub not_taken : (List Cell → Bool) → GameProblem → Machine → Heading → Head → Option Line → Option (List Cell) → AfterLine
+not_taken shape q m f h l None = first_taken shape q m f h l
+not_taken shape q m f h l (Some c) = listed_taken m (last_of h.absent) c (listing_not f (record h { absent = h.absent ++ c ∷ [] }))
 
-abbrev pub had_taken : GameProblem → Machine → Heading → Head → Option Line → Option (List Cell) → AfterLine
-had_taken q m f h l None = not_taken q m f h l (not_of l)
-had_taken q m f h l (Some c) = listed_taken m (last_of h.had) c (listing_had f (record h { had = h.had ++ c ∷ [] }))
+abbrev pub had_taken : (List Cell → Bool) → GameProblem → Machine → Heading → Head → Option Line → Option (List Cell) → AfterLine
+had_taken shape q m f h l None = not_taken shape q m f h l (not_of l)
+had_taken shape q m f h l (Some c) = listed_taken m (last_of h.had) c (listing_had f (record h { had = h.had ++ c ∷ [] }))
 
-abbrev pub phase_taken : GameProblem → Machine → Phase → Option Line → AfterLine
-phase_taken q m header l = there m l (header_taken q m)
-phase_taken q m (opening f) l = there m l (opening_taken q m f)
-phase_taken q m (listing_had f h) l = had_taken q m f h l (had_of l)
-phase_taken q m (listing_not f h) l = not_taken q m f h l (not_of l)
-phase_taken q m (node_due f inside depth s os) l = there m l (node_taken m f inside depth s os)
-phase_taken q m (reply_due f inside []) l = there m l (end_taken m f inside)
-phase_taken q m (reply_due f inside (o ∷ os)) l = there m l (reply_taken m f inside o os)
-phase_taken q m (done x) l = stops m.place text_after_end
+abbrev pub phase_taken : (List Cell → Bool) → GameProblem → Machine → Phase → Option Line → AfterLine
+phase_taken shape q m header l = there m l (header_taken q m)
+phase_taken shape q m (opening f) l = there m l (opening_taken q m f)
+phase_taken shape q m (listing_had f h) l = had_taken shape q m f h l (had_of l)
+phase_taken shape q m (listing_not f h) l = not_taken shape q m f h l (not_of l)
+phase_taken shape q m (node_due f inside depth s os) l = there m l (node_taken shape m f inside depth s os)
+phase_taken shape q m (reply_due f inside []) l = there m l (end_taken m f inside)
+phase_taken shape q m (reply_due f inside (o ∷ os)) l = there m l (reply_taken m f inside o os)
+phase_taken shape q m (done x) l = stops m.place text_after_end
 
 -- A line that does not fit the problem's board is malformed.
-abbrev pub taken : GameProblem → Machine → Option Line → AfterLine
-taken q m l = phase_taken q m m.phase (fitting q.game.size l)
+abbrev pub taken : (List Cell → Bool) → GameProblem → Machine → Option Line → AfterLine
+taken shape q m l = phase_taken shape q m m.phase (fitting q.game.size l)
 
 -- a missing line is malformed, at the number that it would have
 abbrev pub ended_at : ℕ → Phase → Verdict
@@ -176,10 +176,10 @@ abbrev pub after_step : AfterLine → (Machine → Verdict) → Verdict
 after_step (goes_on m) go = go m
 after_step (stops place why) go = rejected place why
 
-abbrev pub verdict_from : GameProblem → Machine → List (Option Line) → Verdict
-verdict_from q m [] = ended m
-verdict_from q m (l ∷ ls) = after_step (taken q m l) (λ m'. verdict_from q m' ls)
+abbrev pub verdict_from : (List Cell → Bool) → GameProblem → Machine → List (Option Line) → Verdict
+verdict_from shape q m [] = ended m
+verdict_from shape q m (l ∷ ls) = after_step (taken shape q m l) (λ m'. verdict_from shape q m' ls)
 
 -- Judging a claim a line at a time gives its verdict.
 abbrev pub LinesJudged : Type 0
-LinesJudged = (q : GameProblem) (ls : List (Option Line)) → verdict q ls ≡ verdict_from q begun ls
+LinesJudged = (shape : List Cell → Bool) (q : GameProblem) (ls : List (Option Line)) → verdict_by shape q ls ≡ verdict_from shape q begun ls

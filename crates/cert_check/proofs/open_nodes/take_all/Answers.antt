@@ -5,6 +5,7 @@ use Rattle.target_game.specs.State.{Line}
 use Rattle.target_game.specs.Left.{Takes, turns_due}
 use Rattle.target_game.proofs.Due.{turns_begun}
 use Rattle.cert_check.specs.Body.{all_fault, due_replies}
+use Rattle.cert_check.specs.Parts.{ordinary}
 use Rattle.cert_check.specs.Stage.{why_value}
 use Rattle.cert_check.specs.Private.Machine.{owing}
 use Rattle.cert_check.specs.Private.Inside.{reply_at, owed_by}
@@ -13,8 +14,8 @@ use Rattle.cert_check.proofs.open_nodes.take_all.Goals as goal
 
 pub returns-in-Some-clause-err : goal.returns-in-Some-clause-err
 returns-in-Some-clause-err c =
-    let asked = subst (λ (l : Line). option_map (why_value l.state.game.size) c.all_fault.result ≡ option_map Some (all_fault c.args.body.now l.state c.args.replies)) c.play.ensures c.all_fault.ensures in
-    fault_said c.args.state.now.state.game.size c.all_fault.result c.in-Some.why (all_fault c.args.body.now c.args.state.now.state c.args.replies) asked c.in-Some.is
+    let asked = subst (λ (l : Line). option_map (why_value l.state.game.size) c.all_fault.result ≡ option_map Some (all_fault (ordinary c.args.body.now) l.state c.args.replies)) c.play.ensures c.all_fault.ensures in
+    fault_said c.args.state.now.state.game.size c.all_fault.result c.in-Some.why (all_fault (ordinary c.args.body.now) c.args.state.now.state c.args.replies) asked c.in-Some.is
 
 pub returns-clause-due : goal.returns-clause-due
 returns-clause-due c =

@@ -17,7 +17,7 @@ returns-then-not-has_room-clause-err c =
     let l = line_value m c.args.line.now in
     let k = c.in-Some.node in
     let is = node_line_is l (node_value m k) (sym (c.node_of.ensures m) ∙ ap (option_map (node_value m)) c.in-Some.is) ∙ ap (λ (g : Game). node_value g.size k) (sym c.requires.ready.game) in
-    (λ p said. node_full j c.args.within l k c.requires.ready is c.has_room.result c.has_room.ensures.value c.if-not-has_room.true ∙ stops_said j.place limit p said, tt)
+    (λ p said. node_full c.args.alive j c.args.within l k c.requires.ready is c.has_room.result c.has_room.ensures.value c.if-not-has_room.true ∙ stops_said j.place limit p said, tt)
 
 pub returns-in-Ok-clause-ok : goal.returns-in-Ok-clause-ok
 returns-in-Ok-clause-ok c =
@@ -29,7 +29,7 @@ returns-in-Ok-clause-ok c =
     let is = node_line_is l (node_value m k) (sym (c.node_of.ensures m) ∙ ap (option_map (node_value m)) c.in-Some.is) ∙ ap (λ (g : Game). node_value g.size k) (sym c.requires.ready.game) in
     let same : j'.node_count ≡ j.node_count = ap (λ (x : Judge). x.node_count) c.node_within.ensures.rest in
     let counted : j'.node_count + 1 ≡ suc j.node_count = omega (arith, same) in
-    node_on j c.args.within l k c.requires.ready is c.has_room.result c.in-Ok.due j' (j'.node_count + 1) c.has_room.ensures.value c.if-not-has_room.false c.in-Ok.ensures.none c.in-Ok.ensures.due c.node_within.ensures.rest counted
+    node_on c.args.alive j c.args.within l k c.requires.ready is c.has_room.result c.in-Ok.due j' (j'.node_count + 1) c.has_room.ensures.value c.if-not-has_room.false c.in-Ok.ensures.none c.in-Ok.ensures.due c.node_within.ensures.rest counted
 
 pub returns-in-Err-clause-err : goal.returns-in-Err-clause-err
 returns-in-Err-clause-err c =
@@ -38,4 +38,4 @@ returns-in-Err-clause-err c =
     let l = line_value m c.args.line.now in
     let k = c.in-Some.node in
     let is = node_line_is l (node_value m k) (sym (c.node_of.ensures m) ∙ ap (option_map (node_value m)) c.in-Some.is) ∙ ap (λ (g : Game). node_value g.size k) (sym c.requires.ready.game) in
-    (λ p said. node_off j c.args.within l k c.requires.ready is c.has_room.result p c.has_room.ensures.value c.if-not-has_room.false (c.in-Err.ensures.err p (ap (λ (g : Game). why_value g.size c.in-Err.why) c.requires.ready.game ∙ said)), c.in-Err.ensures.judged)
+    (λ p said. node_off c.args.alive j c.args.within l k c.requires.ready is c.has_room.result p c.has_room.ensures.value c.if-not-has_room.false (c.in-Err.ensures.err p (ap (λ (g : Game). why_value g.size c.in-Err.why) c.requires.ready.game ∙ said)), c.in-Err.ensures.judged)

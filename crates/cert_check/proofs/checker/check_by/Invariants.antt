@@ -1,13 +1,13 @@
 use Rattle.std.proofs.Common.{◌≡◌, suc, None, OnSome}
 use Rattle.cert_check.specs.Private.Heard.{Heard}
 use Rattle.cert_check.specs.Private.Judging.{machine_of, IsReady}
-use Rattle.cert_check.proofs.checker.check.Given as goal
+use Rattle.cert_check.proofs.checker.check_by.Given as goal
 
 abbrev pub invariant-loop-count : goal.invariant-loop-count
 invariant-loop-count g l =
     (g.S.NodeSource.fault l.initial.source ≡ None
     → (g.S.NodeSource.fault l.source ≡ None) × (g.S.NodeSource.size l.source ≡ g.S.NodeSource.size l.initial.source)
-    × Heard g.S.NodeSource.gives g.S.NodeSource.number (g.S.NodeSource.size l.initial.source) l.problem l.initial.source l.source (machine_of l.judge))
+    × Heard l.kind g.S.NodeSource.gives g.S.NodeSource.number (g.S.NodeSource.size l.initial.source) l.problem l.initial.source l.source (machine_of l.judge))
     × OnSome (g.S.NodeSource.fault l.initial.source) (g.S.NodeSource.fault l.source ≡ g.S.NodeSource.fault l.initial.source)
     × (l.judge.problem.now ≡ l.problem)
     × (l.judge.place ≡ suc l.count)

@@ -304,7 +304,7 @@ def main():
     with tempfile.TemporaryDirectory() as folder:
         library = build(folder)
         jobs = [job for path in paths for job in jobs_of(Program(path, library))]
-        with ThreadPoolExecutor(2) as pool:
+        with ThreadPoolExecutor(len(os.sched_getaffinity(0))) as pool:
             done = list(pool.map(lambda job: job[0](job[1], *job[3:]), jobs))
     total, bad, by_run = 0, 0, {}
     for (_, program, name, words, _, fault), (count, findings) in zip(jobs, done):

@@ -2,35 +2,17 @@
 #![tactic(auto)]
 
 use first_turns::run;
-use std::alloc::AllocError;
-use std::convert::AsStr;
-use std::env;
-use std::io::ErrorKind;
 use std::process::ExitCode;
-use tool_parts::{Status, write_output, write_text};
-
-/// What is said if a word is not valid text, which no option can be.
-const NO_TEXT: &[u8] = b"error: the words of the command line are no UTF-8 text\n";
+use tool_parts::exit_code;
 
 fn main(rt: HostRuntime) -> ExitCode {
     let alloc = rt.alloc();
-    let mut writer = rt.stdout();
-    let words = match env::args(&rt) {
-        Ok(words) => words.collect::<Vec<String>>(alloc),
-        Err(error) if error.kind() == ErrorKind::OutOfMemory => Err(AllocError),
-        Err(_) => {
-            return ExitCode::from(write_text(&mut writer, NO_TEXT, Status::BadWords).code());
-        }
-    };
-    let status = match words {
-        Ok(words) => run(
-            alloc,
-            words.as_slice(),
-            &mut rt.stdin(),
-            &mut writer,
-            &mut rt.stderr(),
-        ),
-        Err(_) => write_output(&mut writer, Err(AllocError)),
-    };
-    ExitCode::from(status.code())
+    let code = exit_code(
+        &rt,
+        rt.stdin(),
+        rt.stdout(),
+        rt.stderr(),
+        |words, reader, writer, notes| run(alloc, words, reader, writer, notes),
+    );
+    ExitCode::from(code)
 }

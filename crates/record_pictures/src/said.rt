@@ -38,41 +38,24 @@ fn push_wrapped(
     width: usize,
     lines: &mut Vec<String>,
 ) -> Result<(), AllocError> {
-    let mut line = String::new(alloc);
-    let mut word = String::new(alloc);
-    let mut line_length: usize = 0;
-    let mut word_length: usize = 0;
-    for one in text.chars() {
-        if one != ' ' && one != '\n' {
-            word.push(one)?;
-            word_length = word_length.saturating_add(1);
-            continue;
-        }
-        add_word(
-            alloc,
-            &mut line,
-            &mut line_length,
-            &word,
-            word_length,
-            width,
-            lines,
-        )?;
-        word = String::new(alloc);
-        word_length = 0;
-        if one == '\n' {
-            push_line(alloc, &mut line, lines)?;
-            line_length = 0;
-        }
+    for part in text.split('\n') {
+        push_words(alloc, part, width, lines)?;
     }
-    add_word(
-        alloc,
-        &mut line,
-        &mut line_length,
-        &word,
-        word_length,
-        width,
-        lines,
-    )?;
+    Ok(())
+}
+
+/// Appends the words of a text without line ends.
+fn push_words(
+    alloc: Global,
+    text: &str,
+    width: usize,
+    lines: &mut Vec<String>,
+) -> Result<(), AllocError> {
+    let mut line = String::new(alloc);
+    let mut length: usize = 0;
+    for word in text.split(' ') {
+        add_word(alloc, &mut line, &mut length, word, width, lines)?;
+    }
     push_line(alloc, &mut line, lines)
 }
 
@@ -81,14 +64,14 @@ fn add_word(
     alloc: Global,
     line: &mut String,
     length: &mut usize,
-    word: &String,
-    word_length: usize,
+    word: &str,
     width: usize,
     lines: &mut Vec<String>,
 ) -> Result<(), AllocError> {
     if word.is_empty() {
         return Ok(());
     }
+    let word_length = word.chars().count();
     let more = length.saturating_add(word_length).saturating_add(1);
     if more > width {
         push_line(alloc, line, lines)?;
@@ -99,7 +82,7 @@ fn add_word(
     if !line.is_empty() {
         line.push(' ')?;
     }
-    line.push_str(word.as_str())
+    line.push_str(word)
 }
 
 /// Appends the line, if it is not empty, and begins another.

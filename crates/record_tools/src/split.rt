@@ -1,6 +1,7 @@
 //! Writes all game trees of a file, each into a file of its own.
 
 use crate::parts::{first_tree, next_line_of_tree, part_length, text_after};
+use counted_devices::Counting;
 use sgf_text::{SgfFault, read_tree, write_bytes};
 use std::alloc::{AllocError, Global};
 use std::fs;
@@ -107,10 +108,10 @@ fn split_part<F: Files, N: Write>(
 
 /// Writes the tree to a new file, and returns whether it is there now. A file that was only begun is removed again.
 fn write_file<F: Files>(files: &F, path: &str, tree: &sgf_text::Tree) -> bool {
-    let Ok(mut file) = File::create_new(files, path) else {
+    let Ok(file) = File::create_new(files, path) else {
         return false;
     };
-    if write_record(&mut file, tree) == Status::Failed {
+    if write_record(&mut Counting::new(file), tree) == Status::Failed {
         let _ = fs::remove_file(files, path);
         return false;
     }

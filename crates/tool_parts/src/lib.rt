@@ -4,6 +4,7 @@
 mod copies;
 mod input;
 mod output;
+mod program;
 mod refusals;
 mod status;
 mod texts;
@@ -15,6 +16,7 @@ pub use copies::{
 };
 pub use input::read_whole;
 pub use output::{Output, without_input, without_request, write_output};
+pub use program::exit_code;
 pub use refusals::{refused_problem, refused_tree};
 pub use status::{Status, write_record, write_text};
 pub use texts::text_of;

@@ -6,6 +6,8 @@ mod expect;
 #[cfg(test)]
 mod first_moves;
 #[cfg(test)]
+mod interrupts;
+#[cfg(test)]
 mod lines;
 #[cfg(test)]
 mod pages;

@@ -8,13 +8,13 @@ ghost use Rattle.tsumego_replies.specs.Texts.{line};
 ghost use Rattle.proof_cert.specs.Certificate.{claim_of};
 ghost use Rattle.cert_check.specs.Checked.{IsChecked};
 ghost use Rattle.tsumego_replies.specs.Solutions.{IsWritten, MayAnswer};
-ghost use Rattle.tsumego.specs.Devices.{HasFailed};
+ghost use Rattle.counted_devices.specs.Devices.{HasFailed};
 ghost use Rattle.tsumego.specs.Outcome.{HasLeftOn};
 ghost use Rattle.tsumego.specs.Private.Written.{IsSolutionOf, Writes};
 
-use crate::counting::Counting;
 use cert_check::laws::{accepts_valid_texts, valid_claims_answer};
 use cert_check::{Checked, Lift, lift};
+use counted_devices::Counting;
 use proof_cert::laws::one_claim_of_text;
 use proof_cert::{Certificate, write_cert};
 use sgf_text::laws::written_reads;

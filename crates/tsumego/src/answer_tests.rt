@@ -1,9 +1,9 @@
 //! What is written of a claim whose answer tree is large.
 
 use crate::answer::answer;
-use crate::counting::Counting;
 use crate::expect::{expect_status, expect_text, expect_that};
 use cert_check::{Checked, check_held};
+use counted_devices::Counting;
 use proof_cert::read_cert;
 use sgf_text::read_tree;
 use std::alloc::{AllocError, Global};

@@ -1,10 +1,10 @@
 //! What is counted of devices that fail, and how often an interrupted one is asked again.
 
 use crate::answer::write_text;
-use crate::counting::Counting;
 use crate::devices::Faulty;
 use crate::expect::{expect_number, expect_status, expect_text, expect_that};
 use crate::run::run;
+use counted_devices::Counting;
 use std::alloc::{AllocError, Global};
 use std::io::{ErrorKind, Read};
 use std::process::Abort;

@@ -1,12 +1,13 @@
 //! A session that serves GTP commands.
 
 ghost use Rattle.std.specs.Prelude.{Some};
-ghost use Rattle.tsumego.specs.Devices.{HasFailed, ReadFails};
+ghost use Rattle.counted_devices.specs.Devices.{HasFailed};
+ghost use Rattle.tsumego.specs.Devices.{ReadFails};
 ghost use Rattle.tsumego.specs.Outcome.{EndsOn, RanOn};
 ghost use Rattle.tsumego_replies.specs.Asking.{MayAsk};
 
 use crate::answer::{write_all, write_text};
-use crate::counting::Counting;
+use counted_devices::Counting;
 use gtp_core::{GtpEnd, ReadFrom, WriteTo, run_over};
 use sgf_text::WriteFault;
 use std::alloc::Global;

@@ -1,10 +1,10 @@
 //! The program over GTP commands.
 
-use crate::counting::Counting;
 use crate::devices::{Faulty, Flushable};
 use crate::expect::{expect_number, expect_status, expect_text, expect_that};
 use crate::run::run;
 use crate::tests::answers;
+use counted_devices::Counting;
 use std::alloc::Global;
 use std::io::ErrorKind;
 use std::process::Abort;

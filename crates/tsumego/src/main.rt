@@ -8,7 +8,6 @@ mod answer_tests;
 mod audit_tests;
 #[cfg(test)]
 mod check_tests;
-pub mod counting;
 #[cfg(test)]
 mod counting_tests;
 pub mod devices;
@@ -37,7 +36,7 @@ mod widest_tests;
 mod within_tests;
 
 use answer::write_text;
-use counting::Counting;
+use counted_devices::Counting;
 use run::run;
 use std::alloc::AllocError;
 use std::convert::AsStr;

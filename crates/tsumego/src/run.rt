@@ -3,14 +3,15 @@
 ghost use Rattle.std.specs.Prelude.{◌≡◌, ℕ, List, map, Some, IfOk, IsFalse};
 ghost use Rattle.tsumego_words.specs.CommandLine.{command_of, is_session, FitsRanges};
 ghost use Rattle.tsumego_replies.specs.Asking.{MayAsk};
-ghost use Rattle.tsumego.specs.Devices.{HasFailed, ReadFails};
+ghost use Rattle.counted_devices.specs.Devices.{HasFailed};
+ghost use Rattle.tsumego.specs.Devices.{ReadFails};
 ghost use Rattle.tsumego.specs.Outcome.{EndsOn, RanOn};
 ghost use Rattle.proof_cert.specs.Streamed.{Tells};
 ghost use Rattle.tsumego_replies.specs.Replies.{IsReply};
 
 use crate::answer::{answer, write_text};
-use crate::counting::Counting;
 use crate::gtp::serve_gtp;
+use counted_devices::Counting;
 use std::alloc::Global;
 use std::convert::AsStr;
 use std::io::{Read, Write};

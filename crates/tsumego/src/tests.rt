@@ -1,9 +1,9 @@
 //! Runs over memory and over devices that fail.
 
-use crate::counting::Counting;
 use crate::devices::{Endless, Faulty, Pieces};
 use crate::expect::{expect_status, expect_text, expect_that};
 use crate::run::run;
+use counted_devices::Counting;
 use std::alloc::Global;
 use std::io::ErrorKind;
 use std::process::Abort;

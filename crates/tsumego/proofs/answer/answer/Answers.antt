@@ -1,5 +1,5 @@
 use Rattle.std.proofs.Common.{refl, subst}
-use Rattle.tsumego.specs.Devices.{HasFailed}
+use Rattle.counted_devices.specs.Devices.{HasFailed}
 use Rattle.tsumego_replies.specs.Solutions.{MayAnswer}
 use Rattle.tsumego.specs.Private.Written.{Writes}
 use Rattle.tsumego_replies.specs.Texts.{no_memory_text}

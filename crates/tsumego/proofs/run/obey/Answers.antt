@@ -2,7 +2,8 @@ use Rattle.std.proofs.Common.{◌≡◌, subst, refl, inl, inr, sym, ◌∙◌, 
 use Rattle.tsumego_words.specs.declared.command_line.Command.{Command}
 use Rattle.tsumego_words.specs.declared.command_line.Command.TheVariants.{Gtp}
 use Rattle.tsumego_replies.specs.Asking.{MayAsk}
-use Rattle.tsumego.specs.Devices.{HasFailed, ReadFails}
+use Rattle.counted_devices.specs.Devices.{HasFailed}
+use Rattle.tsumego.specs.Devices.{ReadFails}
 use Rattle.tsumego.specs.Outcome.{EndsOn, RanOn}
 use Rattle.tsumego.proofs.Sessions.{ends_other, is_gtp}
 use Rattle.std.specs.Prelude.{string_bytes}

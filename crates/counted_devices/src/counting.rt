@@ -5,7 +5,7 @@
 ghost use Rattle.std.specs.Prelude.{◌≡◌, ◌<◌, ◌≤◌, ◌+◌, min, true, false, length, IfOk, OnErr};
 ghost use Rattle.std.specs.Io.{ReadsAtMost, WritesAtMost};
 ghost use Rattle.std.specs.Io.KnownBytes.{Keeps, ReadConsumes, WriteAppends};
-ghost use Rattle.tsumego.specs.Devices.{Counts, HasFailed, interrupt_limit, most_faults};
+ghost use Rattle.counted_devices.specs.Devices.{Counts, HasFailed, interrupt_limit, most_faults};
 
 use std::io;
 use std::io::{ErrorKind, Read, Write};

@@ -1,6 +1,6 @@
 use Rattle.std.proofs.Common.{◌-◌, ◌≡◌, ◌≤◌}
 use Rattle.std.specs.Io.KnownBytes.{Keeps}
-use Rattle.tsumego.proofs.counting.Counting.put.Given as goal
+use Rattle.counted_devices.proofs.counting.Counting.put.Given as goal
 
 -- no interrupted write has taken anything
 abbrev pub invariant-loop-self : goal.invariant-loop-self

@@ -1,6 +1,6 @@
 use Rattle.std.proofs.Common.{◌-◌, ◌≡◌, ◌≤◌}
 use Rattle.std.specs.Io.KnownBytes.{Keeps}
-use Rattle.tsumego.proofs.counting.Counting.flush_device.Given as goal
+use Rattle.counted_devices.proofs.counting.Counting.flush_device.Given as goal
 
 -- no interrupted flush has changed what was taken
 abbrev pub invariant-loop-self : goal.invariant-loop-self

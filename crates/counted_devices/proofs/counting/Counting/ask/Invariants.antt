@@ -1,6 +1,6 @@
 use Rattle.std.proofs.Common.{◌-◌, ◌≡◌, ◌≤◌}
 use Rattle.std.specs.Io.KnownBytes.{Keeps}
-use Rattle.tsumego.proofs.counting.Counting.ask.Given as goal
+use Rattle.counted_devices.proofs.counting.Counting.ask.Given as goal
 
 -- no interrupted read has given anything
 abbrev pub invariant-loop-self : goal.invariant-loop-self

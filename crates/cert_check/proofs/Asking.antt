@@ -18,7 +18,7 @@ use Rattle.cert_check.specs.declared.lines.NodeLine.TheVariants.{Won, Use, Play,
 use Rattle.cert_check.specs.Body.{Body, lemma_not_lower, ask, nowhere, lemma_start, lives, use_fault, head_fault, lemma_at}
 use Rattle.cert_check.specs.Verdict.{had_of, not_of}
 use Rattle.cert_check.specs.Parts.{node_value}
-use Rattle.cert_check.specs.Private.Machine.{Machine, Heading, AfterLine, Owed, reply_due, body_of, counted, node_taken, not_taken, had_taken, phase_taken, taken}
+use Rattle.cert_check.specs.Private.Machine.{Machine, Heading, Owed, reply_due, body_of, counted, node_taken, not_taken, had_taken, phase_taken, taken}
 use Rattle.cert_check.specs.Private.Inside.{node_fault}
 use Rattle.cert_check.specs.Private.Judging.{IsReady, IsReadyFor, machine_of, heading_of, lemma_of, phase_held, answering}
 use Rattle.cert_check.proofs.ShortTrees.{lives_nowhere}

@@ -1,5 +1,5 @@
 -- Whether the targets live by their shape at a colouring, as the program finds it.
-use Rattle.std.proofs.Common.{◌≡◌, ◌*◌, ℕ, ◌↔◌, Bool, false, List, length, map, Option, Some, None, IsTrue, sym, ap, ◌∙◌, subst}
+use Rattle.std.proofs.Common.{◌≡◌, ◌*◌, ℕ, ◌↔◌, Bool, false, List, length, map, Some, None, IsTrue, sym, ap, ◌∙◌, subst}
 use Rattle.std.specs.Prelude.{is_none}
 use Rattle.std.specs.List.{All}
 use Rattle.go_points.specs.declared.Colour.{Colour}

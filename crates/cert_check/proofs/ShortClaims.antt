@@ -1,5 +1,5 @@
 -- The side that a short claim names wins, if the targets live where it may rest on their shape.
-use Rattle.std.proofs.Common.{◌≡◌, ℕ, ◌<◌, ◌≤◌, ◌&&◌, Bool, List, [], ◌⊎◌, inl, inr, IsTrue, IfOk, Result, Ok, Err, arith, sym, subst}
+use Rattle.std.proofs.Common.{ℕ, ◌<◌, ◌≤◌, ◌&&◌, Bool, List, [], ◌⊎◌, inl, inr, IsTrue, IfOk, Result, Ok, Err, arith, sym, subst}
 use Rattle.std.specs.Prelude.{is_none, nat_lt}
 use Rattle.std.proofs.Common.{ltb-true}
 use Rattle.go_points.specs.declared.Colour.{Colour}
@@ -13,7 +13,6 @@ use Rattle.target_game.specs.Laws.{WinnerExists, NotBothWin}
 use Rattle.pass_alive.specs.Life.{PassAlive}
 use Rattle.pass_alive.specs.Told.{play_bound, Tells}
 use Rattle.pass_alive.specs.Laws.{DefenderWinsWithin, ShapesCanBeTold}
-use Rattle.cert_check.specs.Body.{main_body_by, lives}
 use Rattle.cert_check.specs.Meaning.{heights_behind, height_by}
 use Rattle.cert_check.specs.Laws.{AcceptedShortSidesWin}
 use Rattle.cert_check.proofs.Members.{and_first, and_second}

@@ -1,5 +1,5 @@
 -- Trees of short claims: what is right at a state, as `Validity` says it of ordinary claims, where lemma 0 rests on shape.
-use Rattle.std.proofs.Common.{◌≡◌, ℕ, zero, suc, ◌&&◌, Bool, true, false, List, [], ◌∷◌, ◌++◌, Some, None, IsTrue, refl}
+use Rattle.std.proofs.Common.{◌≡◌, ℕ, zero, suc, ◌&&◌, Bool, false, List, [], ◌∷◌, ◌++◌, Some, IsTrue, refl}
 use Rattle.std.specs.Prelude.{is_none, nat_lt, slice_get}
 use Rattle.go_points.specs.Liberty.{all_reach_empty}
 use Rattle.go_points.specs.declared.Colour.{Colour}
@@ -10,7 +10,7 @@ use Rattle.target_game.specs.Next.{next}
 use Rattle.target_game.specs.Over.{over}
 use Rattle.proof_cert.specs.Claim.{Node, won, by_lemma, play, all, Branches, no_branch, branch, branch_turns, Head, Lemma, is_ascending}
 use Rattle.cert_check.specs.Body.{Body, nowhere, lemma_body_by, lemma_body, lemma_start, is_to_move, due_replies, lives}
-use Rattle.cert_check.specs.Validity.{MayPlay, Serves, FitsNode, FitsBranches, IsValidLemma, AreValidLemmas}
+use Rattle.cert_check.specs.Validity.{MayPlay, Serves, FitsNode, FitsBranches, AreValidLemmas}
 use Rattle.cert_check.proofs.Members.{and_second}
 
 abbrev pub FitsLemma : Body → GameState → ℕ → Type 0

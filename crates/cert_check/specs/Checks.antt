@@ -61,6 +61,7 @@ pub record IsReachedBy {S : Type 0} (shape : List Cell → Bool) (gives : S → 
   pub behind : place ≡ suc (length taken)
   pub faultless : (p : ℕ) (w : Why) → verdict_by shape q (line_values q.game.size taken) ≡ rejected p w → length taken < p
 
+-- An ordinary claim may rest on shape nowhere.
 abbrev pub Accepts : {S : Type 0} → (S → Result (Option Line) SourceFault → S → Type 0) → ℕ → GameProblem → S → Colour → Type 0
 Accepts gives n q s x = AcceptsBy nowhere gives n q s x
 

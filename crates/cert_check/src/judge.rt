@@ -150,8 +150,8 @@ impl<'p> Judge<'p> {
         }
     }
 
-    /// Whether the line, in a claim of this kind, may rest on the shape of the targets: what every shape that tells where the targets
-    /// live would answer, as far as the line asks it.
+    /// Whether the line may rest on the shape of the targets, in a claim of this kind: what every shape that tells where
+    /// they live answers, as far as the line asks.
     fn is_alive(&self, kind: Kind, line: &Line) -> bool
         requires ready { IsReady self.now }
         ensures { (shape : List SpecCell → Bool)

@@ -46,8 +46,8 @@ impl<'p> Judge<'p> {
             (line_value self.old.problem.now.game.size line.now))) }
         ensures err { IfErr result
             (λ why. StopsFor self.old
-            (body_here alive self.old within due (line_value self.old.problem.now.game.size line.now))
-            why) }
+            (body_here alive self.old within due
+            (line_value self.old.problem.now.game.size line.now)) why) }
     {
         match due {
             Due::Node => self.node(within, line, alive),
@@ -64,7 +64,8 @@ impl<'p> Judge<'p> {
         ensures ready { OnOk result (IsBehind self.new) }
         ensures ok { OnOk result
             (GoesOn self.old self.new
-            (node_here alive self.old within (line_value self.old.problem.now.game.size line.now))) }
+            (node_here alive self.old within
+            (line_value self.old.problem.now.game.size line.now))) }
         ensures err { IfErr result
             (λ why. StopsFor self.old
             (node_here alive self.old within (line_value self.old.problem.now.game.size line.now))
@@ -98,8 +99,8 @@ impl<'p> Judge<'p> {
             } }
         ensures ready { IfOk result (λ due. AwaitsNode self.new due) }
         ensures none { OnOk result
-            (node_fault (body_of (answering alive) (heading_of self.old) (within_of self.old within))
-            self.old.state.state (node_value self.old.state.state.game.size node) ≡ None) }
+            (node_fault (body_of (answering alive) (heading_of self.old)
+            (within_of self.old within)) self.old.state.state (node_value self.old.state.state.game.size node) ≡ None) }
         ensures due { IfOk result
             (λ due. inside_now self.new due
             ≡ node_next (suc (length self.old.state.before)) self.old.state.state
@@ -107,8 +108,8 @@ impl<'p> Judge<'p> {
             (node_value self.old.state.state.game.size node)) }
         ensures err { IfErr result (λ why. (p : SpecWhy)
             → why_value self.old.state.state.game.size why ≡ Some p
-            → node_fault (body_of (answering alive) (heading_of self.old) (within_of self.old within))
-            self.old.state.state (node_value self.old.state.state.game.size node) ≡ Some p) }
+            → node_fault (body_of (answering alive) (heading_of self.old)
+            (within_of self.old within)) self.old.state.state (node_value self.old.state.state.game.size node) ≡ Some p) }
         ensures judged { IfErr result (λ why. IsJudged why) }
     {
         if rests_on_shape(&node) {

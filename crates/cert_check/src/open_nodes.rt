@@ -148,7 +148,8 @@ fn take_use(
         (Follows state.old.state.game state.new.before (reverse open_nodes.new.items)) }
     ensures made { IfOk result
         (λ due. MayBeMade due state.new.state (length open_nodes.new.items)) }
-    ensures none { OnOk result (node_fault (ordinary body.now) state.old.state (use_line lemma) ≡ None) }
+    ensures none { OnOk result
+        (node_fault (ordinary body.now) state.old.state (use_line lemma) ≡ None) }
     ensures due { IfOk result
         (λ due. inside_of due state.new.state state.new.before (reverse open_nodes.new.items)
         ≡ node_next (suc (length state.old.before)) state.old.state
@@ -183,8 +184,8 @@ fn take_play(
     ensures made { IfOk result
         (λ due. MayBeMade due state.new.state (length open_nodes.new.items)) }
     ensures none { OnOk result
-        (node_fault (ordinary body.now) state.old.state (play_line (ply_of state.old.state.game.size turn))
-        ≡ None) }
+        (node_fault (ordinary body.now) state.old.state
+        (play_line (ply_of state.old.state.game.size turn)) ≡ None) }
     ensures due { IfOk result
         (λ due. inside_of due state.new.state state.new.before (reverse open_nodes.new.items)
         ≡ node_next (suc (length state.old.before)) state.old.state
@@ -192,8 +193,8 @@ fn take_play(
         (play_line (ply_of state.old.state.game.size turn))) }
     ensures err { IfErr result (λ why. (p : SpecWhy)
         → why_value state.old.state.game.size why ≡ Some p
-        → node_fault (ordinary body.now) state.old.state (play_line (ply_of state.old.state.game.size turn))
-        ≡ Some p) }
+        → node_fault (ordinary body.now) state.old.state
+        (play_line (ply_of state.old.state.game.size turn)) ≡ Some p) }
     ensures judged { IfErr result (λ why. IsJudged why) }
 {
     let Ok(fault) = make_turn(body, state, turn) else {
@@ -221,7 +222,8 @@ fn take_all(
         (Follows state.old.state.game state.new.before (reverse open_nodes.new.items)) }
     ensures made { IfOk result
         (λ due. MayBeMade due state.new.state (length open_nodes.new.items)) }
-    ensures none { OnOk result (node_fault (ordinary body.now) state.old.state (all_line replies) ≡ None) }
+    ensures none { OnOk result
+        (node_fault (ordinary body.now) state.old.state (all_line replies) ≡ None) }
     ensures due { IfOk result
         (λ due. inside_of due state.new.state state.new.before (reverse open_nodes.new.items)
         ≡ node_next (suc (length state.old.before)) state.old.state
@@ -260,7 +262,8 @@ pub(crate) fn take_node(
     ensures made { IfOk result
         (λ due. MayBeMade due state.new.state (length open_nodes.new.items)) }
     ensures none { OnOk result
-        (node_fault (ordinary body.now) state.old.state (node_value state.old.state.game.size node) ≡ None) }
+        (node_fault (ordinary body.now) state.old.state
+        (node_value state.old.state.game.size node) ≡ None) }
     ensures due { IfOk result
         (λ due. inside_of due state.new.state state.new.before (reverse open_nodes.new.items)
         ≡ node_next (suc (length state.old.before)) state.old.state
@@ -268,8 +271,8 @@ pub(crate) fn take_node(
         (node_value state.old.state.game.size node)) }
     ensures err { IfErr result (λ why. (p : SpecWhy)
         → why_value state.old.state.game.size why ≡ Some p
-        → node_fault (ordinary body.now) state.old.state (node_value state.old.state.game.size node)
-        ≡ Some p) }
+        → node_fault (ordinary body.now) state.old.state
+        (node_value state.old.state.game.size node) ≡ Some p) }
     ensures judged { IfErr result (λ why. IsJudged why) }
 {
     match node {

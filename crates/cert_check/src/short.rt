@@ -21,9 +21,9 @@ use std::alloc::Global;
 use target_game::Problem;
 use target_game::laws::{not_both_win, winner_exists};
 
-/// As `check`, of a short claim. In it `Line::Use(0)` is the line `alive`: nobody has won, fewer than two passes have just been made,
-/// the claim's winner is the defender, and the targets live by their shape. If it is refused, the reason is `LemmaNotLower`. Each such
-/// line takes the time of `is_pass_alive` as well.
+/// As `check`, of a short claim. In it, `Line::Use(0)` says that the targets live by their shape: nobody has won, fewer than two
+/// passes have just been made, the claim's winner is the defender, and no play of the other side ever takes the targets. It is
+/// refused as `LemmaNotLower`. Each such line takes the time of `is_pass_alive`.
 pub fn check_short<S: NodeSource>(
     alloc: Global,
     problem: &Problem,

@@ -8,7 +8,6 @@ use Rattle.cert_check.specs.Body.{Why}
 use Rattle.go_points.specs.declared.Cell.{Cell}
 use Rattle.go_points.specs.declared.Colour.{Colour}
 use Rattle.cert_check.specs.Verdict.{accepted}
-use Rattle.cert_check.specs.Parts.{line_values}
 use Rattle.cert_check.specs.Checks.{AcceptsBy}
 use Rattle.cert_check.specs.Private.Machine.{taken, goes_on, stops, ended}
 use Rattle.cert_check.specs.Private.Judging.{machine_of, IsToldBy}

@@ -1,7 +1,3 @@
-use Rattle.std.specs.Prelude.{◌≡◌, IsTrue, Bool, List}
-use Rattle.go_points.specs.declared.Cell.{Cell}
-use Rattle.go_points.specs.declared.Colour.{Colour}
-use Rattle.pass_alive.specs.Told.{Tells}
 use Rattle.cert_check.specs.Parts.{line_values}
 use Rattle.cert_check.specs.Checks.{AcceptsBy}
 use Rattle.cert_check.proofs.ShortClaims.{told_wins}

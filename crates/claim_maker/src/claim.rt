@@ -5,7 +5,7 @@ use go_points::{Colour, Colouring};
 use indexmap::IndexMap;
 use pn_table::Key;
 use proof_cert::{Certificate, Lemma, MAX_LEMMAS, MAX_LISTED, Version};
-use state_proofs::{Below, Branch, Line, Play, Proof, Proofs, Refusal, Shared};
+use state_proofs::{Below, Branch, Form, Line, Play, Proof, Proofs, Refusal, Shared};
 use std::alloc::{AllocError, Global};
 use target_game::Problem;
 
@@ -224,9 +224,11 @@ impl Walk {
         self.enter(proofs, number)
     }
 
-    /// Whether the proof is to be a lemma: its state occurs at several places, and it is one of those that are chosen.
+    /// Whether the proof is to be a lemma: its state occurs at several places, and it is one of those that are chosen. A leaf is
+    /// none.
     fn is_lemma(&self, proofs: &Proofs, proof: Proof) -> bool {
-        proof.turns >= self.choice.least
+        proof.form != Form::Alive
+            && proof.turns >= self.choice.least
             && (self.choice.pasts == Pasts::Needed || !proofs.needs_a_past(proof))
             && matches!(self.places.get(&proof.key), Some(Places::Several))
     }

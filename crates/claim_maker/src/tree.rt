@@ -6,6 +6,10 @@ use proof_cert::{MAX_NODES, Node};
 use state_proofs::{Below, Branch, Form, Play, Proof, Proofs, Refusal};
 use std::alloc::Global;
 
+/// The number of a leaf in the place of that of a lemma, which are counted from 1: the defender lives there by the shape of his
+/// stones.
+const LEAF: u32 = 0;
+
 /// A proof of the line of play whose node is written.
 #[derive(Clone, Copy)]
 struct Visit {
@@ -232,7 +236,8 @@ impl Writer {
                 Some((turn, below)) => Ok(Node::Play(turn, Box::new(alloc, below)?)),
                 None => Ok(Node::Won),
             },
-            Form::Alive | Form::Dead => Err(Refusal::Fault),
+            Form::Alive => Ok(Node::Use(LEAF)),
+            Form::Dead => Err(Refusal::Fault),
         }
     }
 }

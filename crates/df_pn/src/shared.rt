@@ -30,7 +30,7 @@ pub fn prove(
     let used = before - *left;
     let mut smaller = Smaller::of(alloc, search);
     let root = match answers {
-        Answers::First => found,
+        Answers::First | Answers::Short => found,
         Answers::Small => {
             let mut own = steps_for_smaller(used).min(*left);
             let rest = *left - own;

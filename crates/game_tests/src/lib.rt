@@ -21,6 +21,8 @@ mod proof_numbers;
 #[cfg(test)]
 mod shapes;
 #[cfg(test)]
+mod short;
+#[cfg(test)]
 mod table;
 #[cfg(test)]
 mod within;

@@ -230,7 +230,7 @@ fn three_points_are_decided_by_their_middle(rt: HostRuntime) {
 }
 
 // White's eye space in the corner has three points by two, and all other liberties are taken.
-fn six_points(rt: &impl Abort, alloc: Global, mover: Colour) -> Problem {
+pub fn six_points(rt: &impl Abort, alloc: Global, mover: Colour) -> Problem {
     let texts = ["...OX.....OX..OOOOX..XXXXX......................."];
     problem(rt, alloc, 7, &texts, mover, "ac", "aabacaabbbcb")
 }

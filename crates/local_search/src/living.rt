@@ -1,6 +1,6 @@
 //! Playing out a state where the defender lives by his shape: he takes away the attacker's room, then passes.
 
-ghost use Rattle.std.specs.Prelude.{◌≡◌, ◌+◌, IfOk};
+ghost use Rattle.std.specs.Prelude.{◌≡◌, ◌+◌, true, IfOk};
 ghost use Rattle.local_search.specs.declared.finish.Entered.TheVariants.{Begun};
 
 use crate::expanding::step_at;
@@ -13,13 +13,18 @@ use state_proofs::{Form, Stop};
 use std::alloc::AllocError;
 
 impl Finish {
-    /// Begins with a state where the defender lives. Each such state is a step, if it has no proof yet.
+    /// Begins with a state where the defender lives. Each such state is a step, if it has no proof yet and is no leaf.
     pub(crate) fn enter_life(&mut self, state: State) -> Result<Entered, Stop>
         ensures step { IfOk result (λ e. e ≡ Begun
             → self.new.search.steps.left + 1 ≡ self.old.search.steps.left) }
+        ensures leaf { self.old.search.has_leaves ≡ true
+            → self.new.search.steps ≡ self.old.search.steps }
     {
         if let Some(known) = self.search.proof_here(state.key) {
             return Ok(Entered::Done(known));
+        }
+        if self.search.has_leaves {
+            return Ok(Entered::Done(self.search.proof_by_shape(state, Side::Defender)?));
         }
         self.search.steps.take()?;
         if self.search.side(state.key.mover) == Side::Attacker {

@@ -7,7 +7,7 @@ use crate::finish::{Finish, Goal};
 use crate::frame::State;
 use crate::search::Search;
 use crate::smaller::Smaller;
-use local_board::Step;
+use local_board::{Side, Step};
 use state_proofs::{Answers, Below, Refusal, Shared, Stop, steps_for_smaller, used_by};
 use std::alloc::{AllocError, Global};
 use std::num::NonZeroUsize;
@@ -69,10 +69,11 @@ struct Proving {
 impl Proving {
     /// The proofs that are found.
     fn prove(&mut self, alloc: Global, answers: Answers) -> Result<Shared, Stop> {
+        self.finish.search.has_leaves = answers == Answers::Short;
         let before = self.finish.search.steps.left;
         let first = self.first()?;
         let best = match answers {
-            Answers::First => first,
+            Answers::First | Answers::Short => first,
             Answers::Small => {
                 let used = before.saturating_sub(self.finish.search.steps.left);
                 let floor = self.finish.search.steps.begin(steps_for_smaller(used));
@@ -107,12 +108,22 @@ impl Proving {
 
     /// Searches, and makes what is found whole. `None` if that fails.
     fn find(&mut self) -> Result<Option<u32>, Stop> {
-        let found = self.finish.search.settle(self.start, Step::Pass)?;
+        let found = self.settle()?;
         self.finish.search.proofs.hide_all();
         let from = self.finish.search.proofs.len();
         let made = self.finish.make(self.start, Goal::Whole(found))?;
         self.whole.push((from, self.finish.search.proofs.len()))?;
         Ok(made)
+    }
+
+    /// A proof of the first state, which has yet to be made whole. If that state is a leaf, nothing is searched.
+    fn settle(&mut self) -> Result<u32, Stop> {
+        let start = self.start;
+        let search = &mut self.finish.search;
+        if search.has_leaves && search.shapes.is_alive(start.position) {
+            return Ok(search.proof_by_shape(start, Side::Defender)?);
+        }
+        search.settle(start, Step::Pass)
     }
 
     fn turns_of(&self, number: u32) -> u64 {

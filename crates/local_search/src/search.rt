@@ -38,6 +38,8 @@ pub(crate) struct Search {
     pub(crate) asks_life: bool,
     pub(crate) asks_death: bool,
     pub(crate) room: u32,
+    /// Whether a state where the defender lives by his shape is a leaf of the proof, and is not played out.
+    pub(crate) has_leaves: bool,
     pub(crate) table: Table,
     pub(crate) kept: KeptMoves,
     pub(crate) results: TurnResults,
@@ -69,6 +71,7 @@ impl Search {
             asks_life: true,
             asks_death: true,
             room: 0,
+            has_leaves: false,
             table: Table::with_capacity(alloc, capacity)?,
             kept: KeptMoves::new(alloc),
             results: TurnResults::of(alloc, places)?,

@@ -28,7 +28,8 @@ impl Search {
         self.barred.clear();
         let mut reached = None;
         if form == Form::Turn {
-            if let Some(child) = winning_child(self.children_of(frame), &self.proofs) {
+            let children = self.children_of(frame);
+            if let Some(child) = winning_child(children, &self.proofs, self.has_leaves) {
                 if child.step != Step::Pass {
                     reached = Some(child.key.position);
                 }
@@ -195,8 +196,11 @@ impl Search {
         Ok(self.proofs.add(settled, &[branch], after, &[])?)
     }
 
-    /// The proof of a state that the side has won by shape. It still has to be played out.
-    fn proof_by_shape(&mut self, state: State, winner: Side) -> Result<u32, AllocError> {
+    /// The proof of a state that the side has won by shape. It is a leaf if the defender has won and living states are leaves;
+    /// otherwise it still has to be played out.
+    pub(crate) fn proof_by_shape(&mut self, state: State, winner: Side) -> Result<u32, AllocError>
+        ensures steps { self.new.steps ≡ self.old.steps }
+    {
         let empty = self.shapes.board.empty(state.position);
         let playable = empty.and(self.shapes.board.region()).len();
         let form = match winner {
@@ -209,16 +213,20 @@ impl Search {
             form,
             is_expanded: false,
         };
+        if self.has_leaves && form == Form::Alive {
+            return self.proofs.add_leaf(settled);
+        }
         let turns = 3u64 << playable.min(MOST_DOUBLINGS);
         self.proofs.add_by_shape(settled, turns, DEPTH_BY_SHAPE)
     }
 }
 
-/// How good a winning child is: an end of the game by pass is best, then any end, then the fewest turns.
-fn cost(child: Child, reason: Reason, proofs: &Proofs) -> u64 {
+/// How good a winning child is: an end of the game by pass is best, then any end, then a leaf, then the fewest turns.
+fn cost(child: Child, reason: Reason, proofs: &Proofs, has_leaves: bool) -> u64 {
     match reason {
         Reason::Over if child.step == Step::Pass => 0,
         Reason::Over => 1,
+        Reason::Alive if has_leaves => 2,
         Reason::Passes | Reason::Takes => 3,
         Reason::Proof(number) => proofs.turns_below(Below::Proof(number)).saturating_add(2),
         _ => 1_000,
@@ -226,12 +234,12 @@ fn cost(child: Child, reason: Reason, proofs: &Proofs) -> u64 {
 }
 
 /// The best of the children by which the mover wins.
-pub(crate) fn winning_child(children: &[Child], proofs: &Proofs) -> Option<Child> {
+fn winning_child(children: &[Child], proofs: &Proofs, has_leaves: bool) -> Option<Child> {
     let mut best = None;
     let mut least = u64::MAX;
     for child in children {
         if let Outcome::Wins(reason) = child.outcome {
-            let cost = cost(*child, reason, proofs);
+            let cost = cost(*child, reason, proofs, has_leaves);
             if best.is_none() || cost < least {
                 best = Some(*child);
                 least = cost;

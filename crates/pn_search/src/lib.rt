@@ -2,8 +2,10 @@
 #![tactic(auto)]
 
 mod search;
+mod short;
 mod verdict;
 
 pub use search::{solve, solve_for};
+pub use short::find_short;
 pub use state_proofs::Answers;
 pub use verdict::{Budget, Cause, Verdict};

@@ -21,7 +21,7 @@ use target_game::Problem;
 const MAX_FULL_STEPS: u64 = 10_000_000;
 
 /// The greatest number of states of an answer from which a claim is made: the claim of a larger one passes a limit.
-const MAX_STATES: usize = 130_000;
+pub(crate) const MAX_STATES: usize = 130_000;
 
 /// How many sizes of lemmas are tried, from the least on.
 const LEMMA_SIZES: u32 = 4;
@@ -45,7 +45,8 @@ pub fn solve(alloc: Global, problem: Problem, budget: Budget) -> Verdict
     solve_for(alloc, problem, budget, Answers::Small)
 }
 
-/// Like `solve`, for an answer of this kind. The first answer comes sooner, which is enough if nobody reads its tree.
+/// Like `solve`, for an answer of this kind. The first answer comes sooner, which is enough if nobody reads its tree. The answer for
+/// a short claim is here the first one: `find_short` makes short claims.
 pub fn solve_for(alloc: Global, problem: Problem, budget: Budget, answers: Answers) -> Verdict
     ensures problem { IfWins result (λ c. c.problem ≡ problem) }
     ensures kept { IfUnknown result (λ rest cause steps. rest ≡ problem) }
@@ -66,7 +67,7 @@ pub fn solve_for(alloc: Global, problem: Problem, budget: Budget, answers: Answe
 }
 
 /// The steps that full search has.
-fn steps_of_full_search(steps: u64) -> u64
+pub(crate) fn steps_of_full_search(steps: u64) -> u64
     ensures { result ≡ full_steps steps }
 {
     (steps / 10).min(MAX_FULL_STEPS)
@@ -112,7 +113,7 @@ fn searched_by_numbers(
     match claimed(alloc, problem, budget, answers, left) {
         Ok(checked) => Ok(checked),
         Err((problem, Cause::Limit)) => match answers {
-            Answers::First => claimed_smaller(alloc, problem, budget, left),
+            Answers::First | Answers::Short => claimed_smaller(alloc, problem, budget, left),
             Answers::Small => Err((problem, Cause::Limit)),
         },
         Err((problem, cause)) => Err((problem, cause)),
@@ -146,15 +147,23 @@ fn claimed(
     ensures fewer { left.new ≤ left.old }
     ensures all { IfErr result (λ r. r.1 ≡ Steps → left.new ≡ 0) }
 {
-    match proofs_of(alloc, &problem, budget, answers, left) {
+    match proofs_of(alloc, &problem, budget, without_leaves(answers), left) {
         Ok(shared) => confirmed_in_turn(alloc, problem, shared),
         Err(stop) => Err((problem, cause_of_stop(stop))),
     }
 }
 
+/// The kind of answer from which the checker takes claims: it knows no leaves.
+fn without_leaves(answers: Answers) -> Answers {
+    match answers {
+        Answers::First | Answers::Short => Answers::First,
+        Answers::Small => Answers::Small,
+    }
+}
+
 /// The proofs that a search finds. If few points can change, it is the search that recognizes living and hopeless groups by their
 /// shape.
-fn proofs_of(
+pub(crate) fn proofs_of(
     alloc: Global,
     problem: &Problem,
     budget: Budget,
@@ -321,7 +330,7 @@ fn cause_of(why: Why) -> Cause
 }
 
 /// Why there is no verdict, if the search by proof numbers stopped for this reason.
-fn cause_of_stop(stop: Stop) -> Cause
+pub(crate) fn cause_of_stop(stop: Stop) -> Cause
     ensures { result ≡ Steps → stop ≡ stops.Steps }
 {
     match stop {
@@ -331,7 +340,7 @@ fn cause_of_stop(stop: Stop) -> Cause
 }
 
 /// Why there is no verdict, if a claim could not be written for this reason.
-fn cause_of_refusal(refusal: Refusal) -> Cause
+pub(crate) fn cause_of_refusal(refusal: Refusal) -> Cause
     ensures { result ≢ Steps }
 {
     match refusal {

@@ -12,6 +12,8 @@ pub enum Answers {
     First,
     /// A small answer, for which some more steps are made.
     Small,
+    /// The first answer for a short claim: a state where the defender lives by the shape of his stones is a leaf.
+    Short,
 }
 
 /// The most steps that are made for a smaller answer if the first one took `first` steps: twice as many and some more.

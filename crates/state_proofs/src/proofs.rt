@@ -13,6 +13,11 @@ use std::alloc::{AllocError, Global};
 /// The greatest number of turns of a line of play together with a proof at its end.
 pub const MAX_LINE: usize = 1_900;
 
+/// What a leaf counts for: it is one node of a claim.
+const LEAF_TURNS: u64 = 1;
+
+const LEAF_DEPTH: u32 = 1;
+
 /// For how many proofs there is room among the marks at first.
 const FEW: usize = 512;
 
@@ -23,9 +28,10 @@ pub enum Form {
     Turn,
     /// The mover loses by every turn.
     Replies,
-    /// The defender lives by the shape of his stones, or cannot have two eyes. Such a proof has no branches yet, and no claim
-    /// can be made of it.
+    /// The defender lives by the shape of his stones. Such a proof has no branches: it is a leaf of a short claim, and no other
+    /// claim can be made of it.
     Alive,
+    /// The defender cannot have two eyes. Such a proof has no branches yet, and no claim can be made of it.
     Dead,
 }
 
@@ -253,6 +259,11 @@ impl Proofs {
         let none = Span { from: 0, to: 0 };
         let size = TreeSize { turns, depth };
         self.add_with(settled, &[], Results::none(), none, size)
+    }
+
+    /// Adds the proof of a state that is a leaf of short claims, and returns its number. It holds with any past.
+    pub fn add_leaf(&mut self, settled: Settled) -> Result<u32, AllocError> {
+        self.add_by_shape(settled, LEAF_TURNS, LEAF_DEPTH)
     }
 
     /// Adds the proof with these lists.

@@ -125,7 +125,8 @@ impl Sharing {
                 self.list_barred()?;
                 None
             }
-            Form::Alive | Form::Dead => return Err(Refusal::Fault),
+            Form::Alive => None,
+            Form::Dead => return Err(Refusal::Fault),
         };
         self.visits.push(Visit { reached, ..visit })?;
         Ok(())
@@ -224,6 +225,9 @@ impl Sharing {
     fn add(&mut self, visit: Visit) -> Result<u32, AllocError> {
         if visit.made > self.made.len() || visit.barred > self.barred.len() {
             return Err(AllocError);
+        }
+        if visit.settled.form == Form::Alive {
+            return self.shared.add_leaf(visit.settled);
         }
         self.shared.add(
             visit.settled,

@@ -108,9 +108,7 @@ fn fault_of(given: &ArgMatches<'_>) -> Option<&'static str> {
         }
         let has_claims = flag(given, "claims") || flag(given, "full-claims");
         if flag(given, "sgf") || has_claims || given.get_str("first").is_some() {
-            return Some(
-                "'--first', '--sgf' and claims are for one target, and not for '--all'",
-            );
+            return Some("'--first', '--sgf' and claims are for one target, and not for '--all'");
         }
         return None;
     }
@@ -273,7 +271,9 @@ fn sgf_argument<'a>(alloc: Global) -> Arg<'a> {
 
 fn claims_argument<'a>(alloc: Global) -> Arg<'a> {
     Arg::new(alloc, "claims")
-        .help("Writes after the lines each question that was decided, as a record with its short claim")
+        .help(
+            "Writes after the lines each question that was decided, as a record with its short claim",
+        )
         .long("claims")
         .action(ArgAction::SetTrue)
 }

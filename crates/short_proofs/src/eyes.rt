@@ -8,10 +8,7 @@ use pass_alive::living_stones;
 #[derive(Debug)]
 pub(crate) enum Life {
     /// By these two eyes.
-    Eyes {
-        first: PointSet,
-        second: PointSet,
-    },
+    Eyes { first: PointSet, second: PointSet },
     /// By a liberty that nobody may fill.
     Liberty,
 }

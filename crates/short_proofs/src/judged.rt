@@ -1,7 +1,7 @@
 //! What is said of a short claim that comes after a record.
 
-use go_points::{Colour, Size};
 use cert_check::{Reject, Why, check_short};
+use go_points::{Colour, Size};
 use proof_cert::ReaderSource;
 use std::alloc::{AllocError, Global};
 use std::io::Read;
@@ -52,10 +52,7 @@ fn judged_lines<R: Read>(
 }
 
 fn accepted(alloc: Global, winner: Colour) -> Result<Output, AllocError> {
-    Ok(Output::Text(
-        wins_text(winner).to_string(alloc)?,
-        Status::Answered,
-    ))
+    Ok(Output::Text(wins_text(winner).to_string(alloc)?, Status::Answered))
 }
 
 /// Why the claim is rejected; or why it was not judged. A line `alive` that is refused has a fault of its own, since it names no

@@ -130,9 +130,6 @@ fn written(outcome: Result<(), WriteFault>) -> Result<(), AllocError> {
 fn unknown(alloc: Global, cause: Cause, steps: u64) -> Result<Output, AllocError> {
     match cause {
         Cause::Memory => Err(AllocError),
-        _ => Ok(Output::Text(
-            unknown_text(alloc, cause, steps)?,
-            Status::Rejected,
-        )),
+        _ => Ok(Output::Text(unknown_text(alloc, cause, steps)?, Status::Rejected)),
     }
 }

@@ -54,12 +54,7 @@ pub(crate) fn as_after(
 }
 
 /// Appends a space, the letter of the colour, and the turn, as in diagrams.
-fn push_turn(
-    text: &mut String,
-    size: Size,
-    mover: Colour,
-    turn: Turn,
-) -> Result<(), AllocError> {
+fn push_turn(text: &mut String, size: Size, mover: Colour, turn: Turn) -> Result<(), AllocError> {
     match mover {
         Colour::Black => text.push_str(" B ")?,
         Colour::White => text.push_str(" W ")?,

@@ -16,13 +16,9 @@ pub(crate) enum Request {
     /// Judge the short claim after a record.
     Check,
     /// Search for a short claim with at most this many steps.
-    Prove {
-        steps: u64,
-    },
+    Prove { steps: u64 },
     /// The same, written as a record for readers.
-    Tree {
-        steps: u64,
-    },
+    Tree { steps: u64 },
 }
 
 /// What the words ask for. The first word is the program's name.

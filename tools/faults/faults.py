@@ -4,7 +4,7 @@ turn, until a run meets none of them. Each outcome is compared with what a run m
 
     tools/faults/faults.py [PATH OF A PROGRAM..]
 
-The name of a path says which program it is: `tsumego`, `first_moves`, `problem_tools` or `group_status`. Without a path
+The name of a path says which program it is: `tsumego`, `first_moves`, `problem_tools`, `short_claims` or `group_status`. Without a path
 those are run that stand where `rt run` and the gate leave them. It builds `faults.c` with `cc` into a temporary folder and
 lays it in front of the C library. It prints a table of runs by input and fault, and each finding; the exit code is 1 where
 there is one, and 3 where there is no program.
@@ -72,6 +72,7 @@ RUNS = [
 
 PROVED = ("(;FF[4]GM[1]SZ[3]AB[ab]AW[aa]PL[B]TR[aa]SQ[ba]C[Black wins];B[ba];W[])")
 GAMES = "(;FF[4]SZ[5]C[one];B[aa])(;FF[4]SZ[5];B[bb];W[cc])(;SZ[5]"
+EYES = "(;FF[4]GM[1]SZ[9]AB[ba][da][ab][bb][cb][db]AW[ea][eb][ac][bc][cc][dc]PL[W]TR[ba][da][ab][bb][cb][db]SQ[aa][ca])"
 POSITION = "(;FF[4]GM[1]SZ[5]AB[ab][bb][ca]AW[aa][ba];C[a comment];B[cc])"
 
 # The same for the programs beside it.
@@ -97,13 +98,22 @@ HELPER_RUNS = {
         ("help", ["help", "mark"], ""),
         ("wrong words", ["mark"], ""),
     ],
+    "short_claims": [
+        ("two eyes", ["prove"], EYES),
+        ("two eyes", ["tree"], EYES),
+        ("short claim", ["check"], EYES + "\ntsushort 1 9 B\nmain\nalive\nend\n"),
+        ("the same, rejected", ["check"], EYES + "\ntsushort 1 9 W\nmain\nalive\nend\n"),
+        ("capture", ["prove"], CAPTURE),
+        ("cut off", ["check"], "(;FF[4]SZ[3]AB[aa)"),
+        ("help", ["--help"], ""),
+    ],
     "group_status": [
         ("capture", [], CAPTURE),
         ("cut off", [], "(;FF[4]SZ[3]AB[aa)"),
         ("help", ["--help"], ""),
     ],
 }
-SEARCHES = ["first_moves", "group_status"]
+SEARCHES = ["first_moves", "group_status", "short_claims"]
 
 # Each fault; N is the number of the call.
 MEMORY = ["memory:N:1", "memory:N:0"]

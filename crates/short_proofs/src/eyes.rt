@@ -48,7 +48,7 @@ fn is_lasting(board: &ChainBoard, size: Size, region: &PointSet, chain: &PointSe
 
 /// Whether the point is adjacent to one of the set.
 fn is_near(size: Size, point: Point, set: &PointSet) -> bool {
-    point.neighbours(size).iter().any(|other| set.has(*other))
+    size.holds(point) && point.neighbours(size).iter().any(|other| set.has(*other))
 }
 
 /// The first eye of the chain whose empty points are not in the set, points ascending.

@@ -95,6 +95,15 @@ enum Next<'a> {
     Replies(&'a [(Turn, Node)]),
 }
 
+/// The only reply, or all of them.
+fn next_of_replies<'a>(replies: &'a [(Turn, Node)]) -> Next<'a> {
+    if replies.len() == 1 {
+        let (turn, below) = &replies[0];
+        return Next::Turn(*turn, below);
+    }
+    Next::Replies(replies)
+}
+
 /// The walk over the claim, at the end of a line of play.
 #[derive(Drop)]
 struct Writer<'a> {
@@ -185,16 +194,15 @@ impl<'a> Writer<'a> {
     fn next_of(&mut self, last: &mut Vec<Property>, node: &'a Node) -> Result<Next<'a>, NoTree> {
         match node {
             Node::Won => Ok(Next::End),
-            Node::Use(0) => {
-                self.push_life(last)?;
-                Ok(Next::End)
-            }
-            Node::Use(number) => self.used(last, *number as usize - 1),
-            Node::Play(turn, below) => Ok(Next::Turn(*turn, below)),
-            Node::All(replies) => match replies.as_slice() {
-                [(turn, below)] => Ok(Next::Turn(*turn, below)),
-                several => Ok(Next::Replies(several)),
+            Node::Use(number) => match (*number as usize).checked_sub(1) {
+                Some(place) => self.used(last, place),
+                None => {
+                    self.push_life(last)?;
+                    Ok(Next::End)
+                }
             },
+            Node::Play(turn, below) => Ok(Next::Turn(*turn, below)),
+            Node::All(replies) => Ok(next_of_replies(replies.as_slice())),
         }
     }
 
@@ -204,17 +212,15 @@ impl<'a> Writer<'a> {
             return Err(NoTree::Memory);
         };
         let path = self.path.as_slice().to_vec(self.alloc)?;
-        match &self.written[place] {
-            Some(turns) => {
-                let text = as_after(self.alloc, self.problem, turns.as_slice())?;
-                last.push(single(self.alloc, b"C", text.as_bytes())?)?;
-                Ok(Next::End)
-            }
-            None => {
-                self.written[place] = Some(path);
-                Ok(Next::Node(&lemma.body))
-            }
+        if let Some(Some(turns)) = self.written.get(place) {
+            let text = as_after(self.alloc, self.problem, turns.as_slice())?;
+            last.push(single(self.alloc, b"C", text.as_bytes())?)?;
+            return Ok(Next::End);
         }
+        if place < self.written.len() {
+            self.written[place] = Some(path);
+        }
+        Ok(Next::Node(&lemma.body))
     }
 
     /// Makes the turn, and returns the properties of its node.
@@ -282,8 +288,8 @@ fn push_labels(
     values: &mut Vec<Bytes>,
 ) -> Result<(), AllocError> {
     for point in eye.iter() {
-        let [column, row] = to_sgf(point);
-        let label = [column, row, b':', letter];
+        let letters = to_sgf(point);
+        let label = [letters[0], letters[1], b':', letter];
         values.push(Bytes::from_vec(label.as_slice().to_vec(alloc)?))?;
     }
     Ok(())

@@ -106,14 +106,3 @@ class Run:
 def ask(program, calls, seconds=600, tell=lambda number, status: None):
     """Compiles a program and returns its answer to each call."""
     return Run(program, calls, seconds).answers(tell)
-
-
-def ends_without_memory(program, words, stdin):
-    """Compiles a program and returns the status with which a run ends whose first request for memory is refused, if it ends."""
-    done = subprocess.run(
-        ["rt", "try", "--fail-alloc", "1", "--", *words],
-        cwd=TOP / "crates" / program, input=stdin, stdout=subprocess.DEVNULL, stderr=subprocess.PIPE,
-    )
-    # The status of `rt try` is the program's, or 4 where it stopped the program.
-    ended = re.search(rb"^run=ended status=(\d+) ", done.stderr, re.MULTILINE)
-    return int(ended[1]) if ended else None

@@ -6,6 +6,7 @@ who had read nothing else of the project, so that the two checkers do not share 
 changes keep that rule: whoever changes this file reads those documents, and not the program.
 
     check.py check                  who wins by the claim behind the record
+    check.py short                  who wins by the short claim behind the record
     check.py audit                  who wins by the tree below the problem node
     check.py within K [--nodes N]   who can force a win within K turns
 
@@ -78,9 +79,13 @@ class Board:
 
 class Problem(namedtuple("Problem", "board targets region start history")):
     """The target game; targets, region and history are sets."""
+    @property
+    def defender(self):
+        return self.start.cells[min(self.targets)]
+
     def winner(self, state):
         """The side that has won, or None."""
-        defender = self.start.cells[min(self.targets)]
+        defender = self.defender
         if any(state.cells[target] != defender for target in self.targets):
             return OTHER[defender]
         return defender if state.passes >= 2 else None
@@ -93,6 +98,46 @@ class Problem(namedtuple("Problem", "board targets region start history")):
         moves = {point: self.board.after(state, point) for point in empty}
         legal = {point: after for point, after in moves.items() if after.cells not in known}
         return {**legal, PASS: self.board.after(state, PASS)}
+
+# --- Life by shape
+def connected_parts(board, points):
+    """The parts of a set of points that paths of adjacent points join."""
+    parts, unvisited = [], set(points)
+    while unvisited:
+        part, ends = set(), {unvisited.pop()}
+        while ends:
+            part |= ends
+            ends = points_beside(board, ends) & unvisited
+            unvisited -= ends
+        parts.append(part)
+    return parts
+
+def points_beside(board, points):
+    """The points adjacent to a set of points, and not in it."""
+    return {other for point in points for other in board.neighbours[point]} - points
+
+def lives_by_shape(problem, cells):
+    """Whether the targets live by their shape in a colouring where the defender holds them."""
+    board = problem.board
+    stones = {point for point in board.points if cells[point] == problem.defender}
+    empty = {point for point in board.points if cells[point] == EMPTY}
+
+    def is_safe(chain, eyes):
+        beside = points_beside(board, chain)
+        return beside & (empty - problem.region) or sum(eye <= beside for eye in eyes) >= 2
+
+    # All that is beside an eye is the defender's, so it is made of whole parts of what is not.  One
+    # part that has an empty point is enough, and eyes that share no point are different parts.
+    parts = [part for part in connected_parts(board, set(board.points) - stones) if part & empty]
+    # What several sets of safe chains have each, they have together: so there is a greatest one,
+    # and a chain that is not safe among more chains is not in it.
+    chains, unsafe = connected_parts(board, stones), True
+    while unsafe:
+        held = set().union(*chains)
+        eyes = [part for part in parts if points_beside(board, part) <= held]
+        unsafe = [chain for chain in chains if not is_safe(chain, eyes)]
+        chains = [chain for chain in chains if chain not in unsafe]
+    return problem.targets <= held
 
 # --- The SGF text
 LETTERS = re.compile("[A-Za-z]+")
@@ -332,16 +377,21 @@ def audit(problem, problem_node):
 
 # --- Claims
 NUMBER = re.compile("[1-9][0-9]{0,7}")
+# For each command the first words of its claims, with the kinds of lines that not all claims have.
+KINDS = {
+    "check": {"tsucert 1": [], "tsucert 2": ["had"]},
+    "short": {"tsushort 1": ["had", "alive"]},
+}
 Lemma = namedtuple("Lemma", "root had barred")  # a state, and the sets of the `had` and `not` lines
 
 class Claim:
     """A claim, read and judged line by line."""
-    def __init__(self, problem, text):
-        self.problem, self.board = problem, problem.board
+    def __init__(self, problem, text, kinds):
+        self.problem, self.board, self.kinds = problem, problem.board, kinds
         self.lines = text.decode("latin-1").split("\n")  # the last one is not ended
         self.line = self.nodes = self.listed = 0
         self.colouring = re.compile(f"[.XO]{{{len(self.board.points)}}}")
-        self.version = self.winner = self.known = None
+        self.more_kinds = self.winner = self.known = None
         self.lemmas = []  # those whose bodies have been judged
         self.lemma = None  # the one whose body is read; in main there is none
 
@@ -356,10 +406,10 @@ class Claim:
     def judge(self):
         """The side that wins by this claim."""
         words = self.next_words()
-        self.demand(len(words) == 4 and words[0] == "tsucert" and words[1] in ("1", "2"))
+        self.demand(len(words) == 4 and " ".join(words[:2]) in self.kinds)
         self.demand(NUMBER.fullmatch(words[2]) and words[3] in COLOUR)
         self.demand(int(words[2]) == self.board.size, "C02 size differs")
-        self.version, self.winner = words[1], COLOUR[words[3]]
+        self.more_kinds, self.winner = self.kinds[" ".join(words[:2])], COLOUR[words[3]]
         while (words := self.next_words())[0] == "lemma":
             self.judge_lemma(words)
         self.demand(words == ["main"])
@@ -375,7 +425,7 @@ class Claim:
         self.demand(self.board.all_have_liberties(words[3]), "C03 root without liberty")
         root = State(words[3], COLOUR[words[1]], int(words[2]))
         words = self.next_words()
-        had, words = self.read_list("had", words) if self.version == "2" else (set(), words)
+        had, words = self.read_list("had", words) if "had" in self.more_kinds else (set(), words)
         barred, words = self.read_list("not", words)
         self.lemma = Lemma(root, had, barred)
         self.judge_body(words, root, had | {root.cells})
@@ -402,7 +452,8 @@ class Claim:
     def judge_node(self, words, state, depth):
         """Judge a node whose first line has these words, and all below it."""
         kind, last = words[0], words[-1]
-        self.demand(words == ["won"] or (len(words) == 2 and kind in ("play", "all", "use")))
+        is_leaf = words == ["won"] or (words == ["alive"] and kind in self.more_kinds)
+        self.demand(is_leaf or (len(words) == 2 and kind in ("play", "all", "use")))
         self.demand(kind != "play" or last in self.board.turn_named)
         self.demand(kind not in ("all", "use") or NUMBER.fullmatch(last))
         self.nodes += 1
@@ -418,6 +469,10 @@ class Claim:
             self.judge_all(int(last), state, depth)
         if kind == "use":
             self.judge_use(int(last), state)
+        if kind == "alive":
+            may_live = won_by is None and self.winner == self.problem.defender
+            lives = may_live and lives_by_shape(self.problem, state.cells)
+            self.demand(lives, "C20 not alive by shape")
 
     def judge_play(self, turn, state, depth):
         self.demand(turn == PASS or turn in self.problem.region and state.cells[turn] == EMPTY, "C06 turn barred")
@@ -466,8 +521,8 @@ def numbers_of_within(words):
 def find_winner(words, stream):
     """The winner that the command asks for, or None."""
     numbers = numbers_of_within(words)
-    usage = "usage: check.py check | audit | within K [--nodes N]"
-    demand(numbers or words in (["check"], ["audit"]), usage, BAD_ARGUMENTS)
+    usage = "usage: check.py check | short | audit | within K [--nodes N]"
+    demand(numbers or words in (["check"], ["short"], ["audit"]), usage, BAD_ARGUMENTS)
     data = stream.read(RECORD_BYTES + 1)
     reader = RecordReader(data)
     problem, problem_node = read_problem(reader.read())
@@ -478,7 +533,7 @@ def find_winner(words, stream):
     rest = data[reader.position :] + stream.read()
     claim = rest.lstrip(SPACE.encode())
     demand(len(rest) - len(claim) <= RECORD_BYTES, "failed: read", FAILED)
-    return Claim(problem, claim).judge()
+    return Claim(problem, claim, KINDS[words[0]]).judge()
 
 def answer(words, stream):
     """The text and the status for these arguments and this input."""

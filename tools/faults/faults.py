@@ -100,7 +100,6 @@ HELPER_RUNS = {
     ],
     "short_claims": [
         ("two eyes", ["prove"], EYES),
-        ("two eyes", ["tree"], EYES),
         ("short claim", ["check"], EYES + "\ntsushort 1 9 B\nmain\nalive\nend\n"),
         ("the same, rejected", ["check"], EYES + "\ntsushort 1 9 W\nmain\nalive\nend\n"),
         ("capture", ["prove"], CAPTURE),

@@ -1,5 +1,4 @@
 -- What a search for a short claim may say (this project's own).
-use Rattle.std.specs.Prelude.{Unit}
 use Rattle.target_game.specs.State.{GameState}
 use Rattle.target_game.specs.Wins.{Wins}
 use Rattle.short_proofs.specs.declared.proof.Proved as code
@@ -7,5 +6,5 @@ use Rattle.short_proofs.specs.declared.proof.Proved.TheVariants as answers
 
 -- Who is said to win wins.
 abbrev pub HasWinner : GameState → code.Proved → Type 0
-HasWinner s (answers.Wins winner turn certificate text) = Wins winner s
+HasWinner s (answers.Wins winner turn text) = Wins winner s
 HasWinner s (answers.Unknown cause steps) = Unit {0}

@@ -2,13 +2,10 @@
 //! time.
 #![tactic(auto)]
 
-mod eyes;
 mod first_turn;
 mod judged;
 mod program;
 mod proof;
-mod texts;
-mod tree;
 mod words;
 
 pub use program::run;

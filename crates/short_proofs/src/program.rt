@@ -2,7 +2,6 @@
 
 use crate::judged::judged;
 use crate::proof::{Proved, prove};
-use crate::tree::{NoTree, record_of};
 use crate::words::{Request, read_request};
 use pn_search::{Budget, Cause};
 use sgf_text::{Tree, WriteFault, read_tree, write_bytes, write_tree};
@@ -70,7 +69,6 @@ fn output_of<R: Read>(
     match request {
         Request::Check => judged(alloc, &problem, behind, reader),
         Request::Prove { steps } => proved(alloc, &problem, steps),
-        Request::Tree { steps } => shown(alloc, &problem, steps),
     }
 }
 
@@ -86,21 +84,6 @@ fn searched(alloc: Global, problem: &Problem, steps: u64) -> Result<Proved, Allo
 fn proved(alloc: Global, problem: &Problem, steps: u64) -> Result<Output, AllocError> {
     match searched(alloc, problem, steps)? {
         Proved::Wins { text, .. } => with_record(alloc, problem, text.as_slice()),
-        Proved::Unknown { cause, steps } => unknown(alloc, cause, steps),
-    }
-}
-
-/// The claim as a record for readers, or why there is none.
-fn shown(alloc: Global, problem: &Problem, steps: u64) -> Result<Output, AllocError> {
-    match searched(alloc, problem, steps)? {
-        Proved::Wins { certificate, .. } => match record_of(alloc, problem, &certificate) {
-            Ok(tree) => Ok(Output::Record(tree)),
-            Err(NoTree::TooLarge) => Ok(Output::Text(
-                format!(in alloc; "unknown: tree too large\n")?,
-                Status::Rejected,
-            )),
-            Err(NoTree::Memory) => Err(AllocError),
-        },
         Proved::Unknown { cause, steps } => unknown(alloc, cause, steps),
     }
 }

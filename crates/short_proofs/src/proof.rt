@@ -18,12 +18,10 @@ use target_game::Problem;
 /// What a search for a short claim found.
 #[derive(Drop)]
 pub enum Proved {
-    /// This side wins: the short claim of this text is accepted. It is the text of the certificate, and `turn` is the winner's
-    /// first turn in it, if the winner moves first.
+    /// This side wins: the short claim of this text is accepted. `turn` is the winner's first turn in it, if the winner moves first.
     Wins {
         winner: Colour,
         turn: Option<Turn>,
-        certificate: Certificate,
         text: Vec<u8>,
     },
     /// Nothing is known, for this cause, after so many steps.
@@ -93,7 +91,6 @@ fn judged(
         Ok(winner) => Ok(Proved::Wins {
             winner,
             turn: first_turn(&certificate),
-            certificate,
             text,
         }),
         Err(Why::Memory) => Err(AllocError),

@@ -17,8 +17,6 @@ pub(crate) enum Request {
     Check,
     /// Search for a short claim with at most this many steps.
     Prove { steps: u64 },
-    /// The same, written as a record for readers.
-    Tree { steps: u64 },
 }
 
 /// What the words ask for. The first word is the program's name.
@@ -39,9 +37,6 @@ fn chosen(matches: &ArgMatches<'_>) -> Request {
         Some((name, given)) if name == "prove" => Request::Prove {
             steps: steps(given),
         },
-        Some((name, given)) if name == "tree" => Request::Tree {
-            steps: steps(given),
-        },
         _ => Request::Check,
     }
 }
@@ -58,8 +53,7 @@ fn program<'a>(alloc: Global) -> Result<clap::Command<'a>, AllocError> {
         .version(VERSION)
         .subcommand_required(true);
     let program = program.subcommand(check_command(alloc))?;
-    let program = program.subcommand(prove_command(alloc)?)?;
-    program.subcommand(tree_command(alloc)?)
+    program.subcommand(prove_command(alloc)?)
 }
 
 fn check_command<'a>(alloc: Global) -> clap::Command<'a> {
@@ -69,12 +63,6 @@ fn check_command<'a>(alloc: Global) -> clap::Command<'a> {
 fn prove_command<'a>(alloc: Global) -> Result<clap::Command<'a>, AllocError> {
     clap::Command::new(alloc, "prove")
         .about("Searches for a short claim, and writes the record and the claim.")
-        .arg(steps_argument(alloc))
-}
-
-fn tree_command<'a>(alloc: Global) -> Result<clap::Command<'a>, AllocError> {
-    clap::Command::new(alloc, "tree")
-        .about("Searches for a short claim, and writes it as a record for readers.")
         .arg(steps_argument(alloc))
 }
 

@@ -1,5 +1,7 @@
 //! Devices that are interrupted. A helper program asks each again, a thousand times in all.
 
+ghost use Rattle.std.specs.Prelude.{◌≡◌};
+
 use crate::expect::expect_written;
 use std::alloc::{AllocGlobal, Global};
 use std::io;

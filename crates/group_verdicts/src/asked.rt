@@ -28,14 +28,22 @@ pub(crate) fn ask(alloc: Global, problem: Problem, budget: Budget) -> Result<Ask
     ensures { IfOk result (λ a. a.problem ≡ problem) }
 {
     match prove(alloc, &problem, budget)? {
-        Proved::Wins { winner, turn, .. } => Ok(Asked {
-            problem,
-            winner: Some(winner),
-            turn,
-            cause: None,
-            steps: 0,
-        }),
+        Proved::Wins { winner, turn, text } => Ok(won(problem, winner, turn, text.as_slice())),
         Proved::Unknown { cause, steps } => unknown(problem, cause, steps),
+    }
+}
+
+/// The problem, and the winner that the short claim of this text names. The text is not kept.
+fn won(problem: Problem, winner: Colour, turn: Option<Turn>, _text: &[u8]) -> Asked
+    requires { Wins winner (start problem) }
+    ensures { result.problem ≡ problem }
+{
+    Asked {
+        problem,
+        winner: Some(winner),
+        turn,
+        cause: None,
+        steps: 0,
     }
 }
 

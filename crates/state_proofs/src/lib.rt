@@ -4,10 +4,12 @@
 #![tactic(auto)]
 
 mod answers;
+mod conditions;
 mod line;
 mod marks;
 mod past;
 mod play;
+mod proof;
 mod proofs;
 mod quiet;
 mod refusal;
@@ -22,7 +24,8 @@ pub use line::{Line, key_after};
 pub use marks::Marks;
 pub use past::Past;
 pub use play::{Move, Play, move_of};
-pub use proofs::{Below, Branch, Form, MAX_LINE, Proof, Proofs, Settled};
+pub use proof::{Below, Branch, Form, Proof, Settled};
+pub use proofs::{MAX_LINE, Proofs};
 pub use refusal::Refusal;
 pub use shared::Shared;
 pub use sharing::share;

@@ -5,7 +5,7 @@
 
 use crate::marks::Marks;
 use crate::past::Past;
-use go_points::{Colour, Turn};
+use crate::proof::{Below, Branch, Proof, Results, Settled, Span, TreeSize};
 use indexmap::IndexMap;
 use pn_table::Key;
 use std::alloc::{AllocError, Global};
@@ -21,101 +21,6 @@ const LEAF_DEPTH: u32 = 1;
 /// For how many proofs there is room among the marks at first.
 const FEW: usize = 512;
 
-/// How a state is won.
-#[derive(Clone, Copy, Debug, PartialEq, Eq)]
-pub enum Form {
-    /// The mover wins by one turn.
-    Turn,
-    /// The mover loses by every turn.
-    Replies,
-    /// The defender lives by the shape of his stones. Such a proof has no branches: it is a leaf of a short claim, and no other
-    /// claim can be made of it.
-    Alive,
-    /// The defender cannot have two eyes. Such a proof has no branches yet, and no claim can be made of it.
-    Dead,
-}
-
-/// What is below a turn.
-#[derive(Clone, Copy, Debug, PartialEq, Eq)]
-pub enum Below {
-    /// The winner has won.
-    Won,
-    /// The state of the proof with this number.
-    Proof(u32),
-}
-
-/// A turn of a proof, and what is below it.
-#[derive(Clone, Copy)]
-pub struct Branch {
-    pub turn: Turn,
-    pub below: Below,
-}
-
-/// A part of a list that is shared with other parts.
-#[derive(Clone, Copy, PartialEq, Eq)]
-struct Span {
-    from: u32,
-    to: u32,
-}
-
-/// Results of moves, ascending, and one more. If all except that one are those of one proof below, they are not listed again.
-#[derive(Clone, Copy)]
-struct Results {
-    listed: Span,
-    another: Option<u64>,
-}
-
-impl Results {
-    fn none() -> Results {
-        Results {
-            listed: Span { from: 0, to: 0 },
-            another: None,
-        }
-    }
-
-    fn is_empty(self) -> bool {
-        self.listed.from >= self.listed.to && self.another.is_none()
-    }
-}
-
-/// A settled state.
-#[derive(Clone, Copy)]
-pub struct Proof {
-    pub key: Key,
-    pub winner: Colour,
-    pub form: Form,
-    branches: Span,
-    /// The results of the winner's moves: none of them may have occurred.
-    not: Results,
-    /// The results of moves that the proof leaves out, ascending: all of them must have occurred.
-    had: Span,
-    /// The turns of the answer tree; the greatest number also stands for more.
-    pub turns: u64,
-    /// The number of turns of the longest line of play below.
-    pub depth: u32,
-    /// Whether its state was expanded, rather than only settled by a question.
-    pub is_expanded: bool,
-    /// An earlier proof of the same state.
-    next: Option<u32>,
-}
-
-/// What a proof is made of, besides its branches.
-#[derive(Clone, Copy)]
-pub struct Settled {
-    pub key: Key,
-    pub winner: Colour,
-    pub form: Form,
-    /// Whether the state was expanded.
-    pub is_expanded: bool,
-}
-
-/// How large the tree of a proof is.
-#[derive(Clone, Copy)]
-struct TreeSize {
-    turns: u64,
-    depth: u32,
-}
-
 /// All proofs, lower ones first.
 #[derive(Drop)]
 pub struct Proofs {
@@ -125,9 +30,9 @@ pub struct Proofs {
     /// The positions of the states that have a proof.
     marks: Marks,
     branches: Vec<Branch>,
-    positions: Vec<u64>,
+    pub(crate) positions: Vec<u64>,
     /// The positions of a list that is being made.
-    gathered: Vec<u64>,
+    pub(crate) gathered: Vec<u64>,
 }
 
 impl Proofs {
@@ -423,118 +328,10 @@ impl Proofs {
             depth: depth.saturating_add(1),
         }
     }
-
-    /// Gathers the lists of what is below the branches.
-    fn gather(&mut self, branches: &[Branch], is_had: bool) -> Result<(), AllocError> {
-        self.gathered.clear();
-        for branch in branches {
-            if let Below::Proof(number) = branch.below {
-                if let Some(proof) = self.get(number) {
-                    if is_had {
-                        self.gather_span(proof.had)?;
-                    } else {
-                        self.gather_results(proof.not)?;
-                    }
-                }
-            }
-        }
-        Ok(())
-    }
-
-    /// Adds the positions of this part to those that are gathered.
-    fn gather_span(&mut self, span: Span) -> Result<(), AllocError> {
-        for place in span.from..span.to {
-            if let Some(position) = self.positions.get(place as usize).copied() {
-                self.gathered.push(position)?;
-            }
-        }
-        Ok(())
-    }
-
-    fn gather_results(&mut self, results: Results) -> Result<(), AllocError> {
-        self.gather_span(results.listed)?;
-        if let Some(position) = results.another {
-            self.gathered.push(position)?;
-        }
-        Ok(())
-    }
-
-    /// The results of the proofs below the branches, and this one.
-    fn add_not(
-        &mut self,
-        branches: &[Branch],
-        reached: Option<u64>,
-    ) -> Result<Results, AllocError> {
-        if let Some(not) = self.shared_results(branches, reached) {
-            return Ok(not);
-        }
-        self.gather(branches, false)?;
-        if let Some(position) = reached {
-            self.gathered.push(position)?;
-        }
-        Ok(Results {
-            listed: self.add_gathered()?,
-            another: None,
-        })
-    }
-
-    /// The results that the branches have, and another, if no list has to be made of them.
-    fn shared_results(&self, branches: &[Branch], another: Option<u64>) -> Option<Results> {
-        let below = self.results_of_one(branches)?;
-        if below.another.is_none() {
-            return Some(Results {
-                listed: below.listed,
-                another,
-            });
-        }
-        if another.is_none() || another == below.another {
-            return Some(below);
-        }
-        None
-    }
-
-    /// The results below the branches, if at most one of the branches has any.
-    fn results_of_one(&self, branches: &[Branch]) -> Option<Results> {
-        let mut found = Results::none();
-        for branch in branches {
-            if let Below::Proof(number) = branch.below {
-                let not = self.get(number)?.not;
-                if !not.is_empty() {
-                    if !found.is_empty() {
-                        return None;
-                    }
-                    found = not;
-                }
-            }
-        }
-        Some(found)
-    }
-
-    fn add_had(
-        &mut self,
-        present: u64,
-        branches: &[Branch],
-        barred: &[u64],
-    ) -> Result<Span, AllocError> {
-        self.gather(branches, true)?;
-        self.gathered.extend_from_slice(barred)?;
-        self.gathered.retain(|position| *position != present);
-        self.add_gathered()
-    }
-
-    /// Adds the gathered positions, ascending and each once.
-    fn add_gathered(&mut self) -> Result<Span, AllocError> {
-        self.gathered.sort_unstable();
-        self.gathered.dedup();
-        let from = number_of(self.positions.len())?;
-        self.positions.extend_from_slice(self.gathered.as_slice())?;
-        let to = number_of(self.positions.len())?;
-        Ok(Span { from, to })
-    }
 }
 
 /// A place in a list as a number; memory for longer lists is refused.
-fn number_of(place: usize) -> Result<u32, AllocError> {
+pub(crate) fn number_of(place: usize) -> Result<u32, AllocError> {
     match u32::try_from(place) {
         Ok(number) => Ok(number),
         Err(_) => Err(AllocError),

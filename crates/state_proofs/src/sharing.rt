@@ -5,7 +5,8 @@
 
 use crate::line::Line;
 use crate::play::{Move, move_of};
-use crate::proofs::{Below, Branch, Form, Proof, Proofs, Settled};
+use crate::proof::{Below, Branch, Form, Proof, Settled};
+use crate::proofs::Proofs;
 use crate::refusal::Refusal;
 use crate::shared::Shared;
 use go_points::Turn;

@@ -1,6 +1,7 @@
 //! The proofs that a proof uses.
 
-use crate::proofs::{Below, Branch, Proof, Proofs};
+use crate::proof::{Below, Branch, Proof};
+use crate::proofs::Proofs;
 use crate::refusal::Refusal;
 use std::alloc::{AllocError, Global};
 

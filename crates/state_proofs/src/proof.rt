@@ -1,0 +1,99 @@
+//! A settled state: who wins it, and the conditions on the past under which its proof holds.
+
+use go_points::{Colour, Turn};
+use pn_table::Key;
+
+/// How a state is won.
+#[derive(Clone, Copy, Debug, PartialEq, Eq)]
+pub enum Form {
+    /// The mover wins by one turn.
+    Turn,
+    /// The mover loses by every turn.
+    Replies,
+    /// The defender lives by the shape of his stones. Such a proof has no branches: it is a leaf of a short claim, and no other
+    /// claim can be made of it.
+    Alive,
+    /// The defender cannot have two eyes. Such a proof has no branches yet, and no claim can be made of it.
+    Dead,
+}
+
+/// What is below a turn.
+#[derive(Clone, Copy, Debug, PartialEq, Eq)]
+pub enum Below {
+    /// The winner has won.
+    Won,
+    /// The state of the proof with this number.
+    Proof(u32),
+}
+
+/// A turn of a proof, and what is below it.
+#[derive(Clone, Copy)]
+pub struct Branch {
+    pub turn: Turn,
+    pub below: Below,
+}
+
+/// A part of a list that is shared with other parts.
+#[derive(Clone, Copy, PartialEq, Eq)]
+pub(crate) struct Span {
+    pub(crate) from: u32,
+    pub(crate) to: u32,
+}
+
+/// Results of moves, ascending, and one more. If all except that one are those of one proof below, they are not listed again.
+#[derive(Clone, Copy)]
+pub(crate) struct Results {
+    pub(crate) listed: Span,
+    pub(crate) another: Option<u64>,
+}
+
+impl Results {
+    pub(crate) fn none() -> Results {
+        Results {
+            listed: Span { from: 0, to: 0 },
+            another: None,
+        }
+    }
+
+    pub(crate) fn is_empty(self) -> bool {
+        self.listed.from >= self.listed.to && self.another.is_none()
+    }
+}
+
+/// A settled state.
+#[derive(Clone, Copy)]
+pub struct Proof {
+    pub key: Key,
+    pub winner: Colour,
+    pub form: Form,
+    pub(crate) branches: Span,
+    /// The results of the winner's moves: none of them may have occurred.
+    pub(crate) not: Results,
+    /// The results of moves that the proof leaves out, ascending: all of them must have occurred.
+    pub(crate) had: Span,
+    /// The turns of the answer tree; the greatest number also stands for more.
+    pub turns: u64,
+    /// The number of turns of the longest line of play below.
+    pub depth: u32,
+    /// Whether its state was expanded, rather than only settled by a question.
+    pub is_expanded: bool,
+    /// An earlier proof of the same state.
+    pub(crate) next: Option<u32>,
+}
+
+/// What a proof is made of, besides its branches.
+#[derive(Clone, Copy)]
+pub struct Settled {
+    pub key: Key,
+    pub winner: Colour,
+    pub form: Form,
+    /// Whether the state was expanded.
+    pub is_expanded: bool,
+}
+
+/// How large the tree of a proof is.
+#[derive(Clone, Copy)]
+pub(crate) struct TreeSize {
+    pub(crate) turns: u64,
+    pub(crate) depth: u32,
+}

@@ -5,11 +5,10 @@
 
 use crate::frame::{Child, Frame, Outcome};
 use crate::kept::{KeptChild, KeptState};
-use crate::numbers::{MoverNumbers, Thresholds};
 use crate::search::{Search, outcome_by};
 use go_points::Turn;
 use pn_table::Key;
-use state_proofs::{Below, Move, key_after};
+use state_proofs::{Below, Move, MoverNumbers, Thresholds, key_after};
 use std::alloc::AllocError;
 
 impl Search {

@@ -1,10 +1,10 @@
 //! One state of the line of play that is searched, with its children.
 
 use crate::kept::KeptState;
-use crate::numbers::{Count, MoverNumbers, Thresholds};
+use crate::numbers::Count;
 use go_points::Turn;
 use pn_table::Key;
-use state_proofs::{Below, Proofs};
+use state_proofs::{Below, MoverNumbers, Proofs, Thresholds};
 
 /// What is known of a child, as the mover of the state above sees it.
 #[derive(Clone, Copy)]

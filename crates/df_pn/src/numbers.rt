@@ -1,102 +1,7 @@
-//! The numbers of a state as its mover sees them.
+//! The numbers of a state, gathered from its children.
 
-use pn_table::{INFINITY, Numbers};
-
-/// The least that is left to do for the mover to win, and for the other side to win.
-#[derive(Clone, Copy, Debug, PartialEq, Eq)]
-pub(crate) struct MoverNumbers {
-    pub(crate) own: u32,
-    pub(crate) other: u32,
-}
-
-/// The numbers at which the work at a state ends.
-#[derive(Clone, Copy, Debug, PartialEq, Eq)]
-pub(crate) struct Thresholds {
-    pub(crate) own: u64,
-    pub(crate) other: u64,
-}
-
-impl MoverNumbers {
-    /// The numbers of a state of which nothing is known.
-    pub(crate) fn unknown() -> MoverNumbers {
-        MoverNumbers { own: 1, other: 1 }
-    }
-
-    /// The numbers as the table has them, for the attacker as prover.
-    pub(crate) fn from_table(numbers: Numbers, is_attacker: bool) -> MoverNumbers {
-        if is_attacker {
-            MoverNumbers {
-                own: numbers.proof,
-                other: numbers.disproof,
-            }
-        } else {
-            MoverNumbers {
-                own: numbers.disproof,
-                other: numbers.proof,
-            }
-        }
-    }
-
-    /// The numbers as they are stored in the table.
-    pub(crate) fn for_table(self, is_attacker: bool) -> Numbers {
-        if is_attacker {
-            Numbers {
-                proof: self.own,
-                disproof: self.other,
-            }
-        } else {
-            Numbers {
-                proof: self.other,
-                disproof: self.own,
-            }
-        }
-    }
-
-    /// The numbers as the other side sees them.
-    pub(crate) fn turned(self) -> MoverNumbers {
-        MoverNumbers {
-            own: self.other,
-            other: self.own,
-        }
-    }
-}
-
-impl Thresholds {
-    /// Thresholds that no numbers reach.
-    pub(crate) fn none() -> Thresholds {
-        Thresholds {
-            own: u64::MAX,
-            other: u64::MAX,
-        }
-    }
-
-    /// Whether the work ends at these numbers.
-    pub(crate) fn are_reached(self, numbers: MoverNumbers) -> bool {
-        numbers.own as u64 >= self.own || numbers.other as u64 >= self.other
-    }
-
-    /// The thresholds of the child with the least number, as the child's mover sees them. `second` is the least number of the other
-    /// children, if there are others. Work stays at the child until its number is one and a half times that.
-    pub(crate) fn below(
-        self,
-        numbers: MoverNumbers,
-        child: MoverNumbers,
-        second: Option<u32>,
-    ) -> Thresholds {
-        let own = match second {
-            None => self.own,
-            Some(second) => {
-                let second = second as u64;
-                self.own.min(second + 1 + second / 2)
-            }
-        };
-        let others = (numbers.other as u64).saturating_sub(child.other as u64);
-        Thresholds {
-            own: self.other.saturating_sub(others),
-            other: own,
-        }
-    }
-}
+use pn_table::INFINITY;
+use state_proofs::{MoverNumbers, Thresholds};
 
 /// The numbers of a state, gathered while its children are looked at one by one.
 #[derive(Clone, Copy)]
@@ -148,6 +53,27 @@ impl Count {
         MoverNumbers {
             own: self.least.min(INFINITY),
             other: self.sum,
+        }
+    }
+
+    /// The thresholds of the child with the least number, whose numbers these are, as the child's mover sees them, from those of the
+    /// state. Work stays at the child until its number is one and a half times the least one of the others.
+    pub(crate) fn thresholds_below(
+        self,
+        thresholds: Thresholds,
+        child: MoverNumbers,
+    ) -> Thresholds {
+        let own = match self.second {
+            None => thresholds.own,
+            Some(second) => {
+                let second = second as u64;
+                thresholds.own.min(second + 1 + second / 2)
+            }
+        };
+        let others = (self.numbers().other as u64).saturating_sub(child.other as u64);
+        Thresholds {
+            own: thresholds.other.saturating_sub(others),
+            other: own,
         }
     }
 }

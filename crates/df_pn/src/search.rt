@@ -12,11 +12,14 @@ ghost use Rattle.state_proofs.specs.declared.stop.Stop.TheVariants.{Steps};
 
 use crate::frame::{Child, Frame, Outcome, Standing, standing_of};
 use crate::kept::{KeptChildren, KeptState};
-use crate::numbers::{Count, MoverNumbers, Thresholds};
+use crate::numbers::Count;
 use crate::recent::RecentMarks;
 use go_points::{Colour, Turn};
 use pn_table::{Key, Table};
-use state_proofs::{Below, Branch, Form, Line, MAX_LINE, Move, Proofs, Refusal, Stop, key_after};
+use state_proofs::{
+    Below, Branch, Form, Line, MAX_LINE, Move, MoverNumbers, Proofs, Refusal, Stop, Thresholds,
+    key_after,
+};
 use std::alloc::{AllocError, Global};
 use std::num::NonZeroUsize;
 use target_game::Problem;
@@ -254,9 +257,7 @@ impl Search {
             self.frames[last].current = place;
         }
         self.line.go(child.turn, key)?;
-        let thresholds = frame
-            .thresholds
-            .below(count.numbers(), numbers, count.second);
+        let thresholds = count.thresholds_below(frame.thresholds, numbers);
         if let Some(kept) = child.kept {
             if self.kept.has(kept) {
                 // It is not a step, since nothing is expanded for the first time.

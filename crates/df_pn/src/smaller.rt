@@ -9,7 +9,7 @@ use crate::asked::{Asked, Question};
 use crate::search::Search;
 use go_points::{Colour, Turn};
 use indexmap::IndexMap;
-use state_proofs::{Below, Branch, Form, Proof, Refusal, Settled, Stop};
+use state_proofs::{Below, Branch, Form, Proof, Refusal, Stop};
 use std::alloc::{AllocError, Global};
 
 /// A proof of at most this many turns is left as it is.
@@ -317,7 +317,7 @@ impl Smaller {
 
     fn with_turn(&mut self, visit: Visit) -> Result<u32, AllocError> {
         let number = visit.number;
-        let settled = settled_as(visit.proof);
+        let settled = visit.proof.settled();
         let Some((branch, position)) = visit.best else {
             return Ok(number);
         };
@@ -331,34 +331,11 @@ impl Smaller {
             return Err(AllocError);
         }
         let made = &self.made[visit.made..];
-        if is_same(made, self.search.proofs.branches(visit.proof)) {
+        if self.search.proofs.has_same_below(visit.proof, made) {
             return Ok(visit.number);
         }
-        let settled = settled_as(visit.proof);
+        let settled = visit.proof.settled();
         let barred = &self.barred[visit.barred..];
         self.search.proofs.add(settled, made, None, barred)
     }
-}
-
-/// What the proof settles.
-fn settled_as(proof: Proof) -> Settled {
-    Settled {
-        key: proof.key,
-        winner: proof.winner,
-        form: proof.form,
-        is_expanded: true,
-    }
-}
-
-/// Whether the same proofs are below the branches.
-fn is_same(made: &[Branch], branches: &[Branch]) -> bool {
-    if made.len() != branches.len() {
-        return false;
-    }
-    for place in 0..made.len() {
-        if place < branches.len() && made[place].below != branches[place].below {
-            return false;
-        }
-    }
-    true
 }

@@ -1,9 +1,10 @@
 //! One state of the line of play that is searched, with its children.
 
-use crate::numbers::{Count, MoverNumbers, Thresholds};
+use crate::numbers::Count;
 use go_points::Colour;
 use local_board::{Position, Step};
 use pn_table::Key;
+use state_proofs::{MoverNumbers, Thresholds};
 
 /// A state: the places of its stones, and its key.
 #[derive(Clone, Copy)]

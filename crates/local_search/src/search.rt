@@ -11,13 +11,13 @@ use crate::frame::{
     Child, Frame, Outcome, Reason, Standing, State, after_step, outcome_by, standing_of,
 };
 use crate::kept::KeptMoves;
-use crate::numbers::{Count, MoverNumbers, Thresholds};
+use crate::numbers::Count;
 use crate::results::TurnResults;
 use crate::steps::Steps;
 use go_points::Colour;
 use local_board::{Board, Position, Shapes, Side, Step};
 use pn_table::{Key, Table};
-use state_proofs::{Branch, Form, MAX_LINE, Past, Proofs, Refusal, Stop};
+use state_proofs::{Branch, Form, MAX_LINE, MoverNumbers, Past, Proofs, Refusal, Stop, Thresholds};
 use std::alloc::{AllocError, Global};
 use std::num::NonZeroUsize;
 use stone_key::key_of;
@@ -296,7 +296,7 @@ impl Search {
         let step = child.step;
         let below = self.after(frame.state, step);
         self.go(step, child.key.position)?;
-        self.expand(below, step, frame.thresholds.below(count))
+        self.expand(below, step, count.thresholds_below(frame.thresholds))
     }
 }
 

@@ -12,7 +12,7 @@ use crate::frame::State;
 use go_points::{Colour, Turn};
 use indexmap::IndexMap;
 use local_board::Step;
-use state_proofs::{Below, Branch, Form, Proof, Refusal, Settled, Stop};
+use state_proofs::{Below, Branch, Form, Proof, Refusal, Stop};
 use std::alloc::{AllocError, Global};
 
 /// A proof of at most this many turns is left as it is.
@@ -336,7 +336,7 @@ impl Smaller {
 
     fn with_turn(&mut self, finish: &mut Finish, visit: Visit) -> Result<u32, AllocError> {
         let number = visit.number;
-        let settled = settled_as(visit.proof);
+        let settled = visit.proof.settled();
         let Some((branch, position)) = visit.best else {
             return Ok(number);
         };
@@ -350,7 +350,7 @@ impl Smaller {
             return Err(Refusal::Fault);
         }
         let made = &self.made[visit.made..];
-        if is_same(made, finish.search.proofs.branches(visit.proof)) {
+        if finish.search.proofs.has_same_below(visit.proof, made) {
             return Ok(visit.number);
         }
         finish.search.barred.clear();
@@ -358,7 +358,7 @@ impl Smaller {
         self.barred.clear();
         self.barred
             .extend_from_slice(finish.search.barred.as_slice())?;
-        let settled = settled_as(visit.proof);
+        let settled = visit.proof.settled();
         let barred = self.barred.as_slice();
         Ok(finish.search.proofs.add(settled, made, None, barred)?)
     }
@@ -383,27 +383,4 @@ fn try_turn(finish: &mut Finish, turns: u64, asked: Asked) -> Result<Option<u32>
         Ok(number) => Ok(Some(number)),
         Err(stop) => Err(stop),
     }
-}
-
-/// What the proof settles.
-fn settled_as(proof: Proof) -> Settled {
-    Settled {
-        key: proof.key,
-        winner: proof.winner,
-        form: proof.form,
-        is_expanded: true,
-    }
-}
-
-/// Whether the same proofs are below the branches.
-fn is_same(made: &[Branch], branches: &[Branch]) -> bool {
-    if made.len() != branches.len() {
-        return false;
-    }
-    for place in 0..made.len() {
-        if place < branches.len() && made[place].below != branches[place].below {
-            return false;
-        }
-    }
-    true
 }

@@ -81,6 +81,18 @@ pub struct Proof {
     pub(crate) next: Option<u32>,
 }
 
+impl Proof {
+    /// What it settles, for another proof of the same state, which was expanded.
+    pub fn settled(self) -> Settled {
+        Settled {
+            key: self.key,
+            winner: self.winner,
+            form: self.form,
+            is_expanded: true,
+        }
+    }
+}
+
 /// What a proof is made of, besides its branches.
 #[derive(Clone, Copy)]
 pub struct Settled {

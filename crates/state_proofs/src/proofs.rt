@@ -75,6 +75,20 @@ impl Proofs {
         part(self.branches.as_slice(), proof.branches)
     }
 
+    /// Whether the same proofs are below these branches as below those of the proof.
+    pub fn has_same_below(&self, proof: Proof, made: &[Branch]) -> bool {
+        let branches = self.branches(proof);
+        if made.len() != branches.len() {
+            return false;
+        }
+        for place in 0..made.len() {
+            if place < branches.len() && made[place].below != branches[place].below {
+                return false;
+            }
+        }
+        true
+    }
+
     /// The branch at this place.
     pub fn branch(&self, proof: Proof, place: usize) -> Option<Branch> {
         self.branches(proof).get(place).copied()

@@ -1,0 +1,194 @@
+#!/usr/bin/env python3
+"""Measures tsumego beside plain C++ programs that do the same work, in the same run.
+
+    tools/measure_peers.py [--instructions] [--problems FOLDER] PROGRAM [ROW..]
+
+PROGRAM is a built tsumego. The peers are tools/peers/*.cpp, which are compiled with `g++ -O2` first. Without rows, all of them:
+
+    claims   `check`, on claims of 100 kB and more that `solve --proof` writes for the examples and the records of FOLDER
+    nodes    `check`, on claims without lemmas: a wide tree, cut at 1, 4 and 16 MB
+    within   `within`, on four fights and a larger one, with more than 10,000 states
+    audit    `audit`, on answers of `solve` with 3,000 turns or more
+    sgf      reading two records of a megabyte, of long nodes and of short ones
+
+It prints a table: for each row the inputs, the processor seconds of both (the least of nine alternating runs each, all inputs together),
+and the median and the greatest ratio, ours to the peer's; with --instructions also those of the instructions that valgrind counts in
+one run. For `sgf` the seconds of a small record are taken off, and megabytes a second are printed too. Both have to give the same
+answer for each input; the status is 1 where one differs.
+"""
+import argparse
+import os
+import pathlib
+import re
+import shutil
+import statistics
+import subprocess
+import sys
+import tempfile
+
+from measure_check import Wide
+from measure_sizes import SIZES, record as fight
+from script_words import refuse
+
+TOP = pathlib.Path(__file__).resolve().parent.parent
+ROWS = ("claims", "nodes", "within", "audit", "sgf")
+TURNS = 9
+MOST_INPUTS = 12
+STATES = "4294967295"
+
+
+def run(words, given):
+    """What is written, and the processor seconds."""
+    with tempfile.TemporaryFile() as out, tempfile.TemporaryFile() as stdin:
+        stdin.write(given)
+        stdin.seek(0)
+        process = subprocess.Popen(words, stdin=stdin, stdout=out, stderr=subprocess.DEVNULL)
+        _, _, used = os.wait4(process.pid, 0)
+        process.returncode = 0
+        out.seek(0)
+        return out.read(), used.ru_utime + used.ru_stime
+
+
+def instructions(words, given):
+    """How many instructions valgrind counts."""
+    with tempfile.NamedTemporaryFile() as found:
+        count = ["valgrind", "--tool=callgrind", f"--callgrind-out-file={found.name}"]
+        done = subprocess.run([*count, *words], input=given, stdout=subprocess.DEVNULL, stderr=subprocess.PIPE)
+        return int(re.search(rb"Collected : (\d+)", done.stderr)[1])
+
+
+class Row:
+    """The inputs of one row, each with the words of both programs and what both have to agree on."""
+
+    def __init__(self, name, ours, peer, inputs, part=rb".*", small=None):
+        self.name, self.ours, self.peer, self.inputs, self.part, self.small = name, ours, peer, inputs, part, small
+        self.seconds, self.counted, self.differ = [], [], 0
+
+    def measure(self, counts):
+        for given in self.inputs:
+            theirs = [run(words, given) for _ in range(TURNS) for words in (self.ours, self.peer)]
+            ours, peer = theirs[::2], theirs[1::2]
+            if re.match(self.part, ours[0][0])[0] != re.match(self.part, peer[0][0])[0]:
+                self.differ += 1
+                print(f"{self.name}: ours {ours[0][0][:80]!r}, the peer {peer[0][0][:80]!r}", file=sys.stderr)
+            self.seconds.append([min(used for _, used in each) - self.start(words) for each, words in ((ours, self.ours), (peer, self.peer))])
+            if counts:
+                self.counted.append([instructions(words, given) for words in (self.ours, self.peer)])
+
+    def start(self, words):
+        """The seconds of the small input, if there is one."""
+        return min(run(words, self.small)[1] for _ in range(TURNS)) if self.small else 0
+
+    def print(self):
+        ours, peer = (sum(each) for each in zip(*self.seconds))
+        cells = [f"`{self.name}`", len(self.inputs), f"{ours:.3f}, {peer:.3f}", *ratios(self.seconds)]
+        cells += ratios(self.counted) if self.counted else []
+        if self.small:
+            cells.append(", ".join(f"{len(given) / 1e6 / one:.1f} and {len(given) / 1e6 / other:.1f} MB/s" for given, (one, other) in zip(self.inputs, self.seconds)))
+        print("| " + " | ".join(map(str, cells)) + " |", flush=True)
+
+
+def ratios(pairs):
+    """The median and the greatest ratio of pairs; times under a hundredth of a second say nothing."""
+    each = [one / max(other, 0.001) for one, other in pairs]
+    return [f"{statistics.median(each):.2f}", f"{max(each):.2f}"]
+
+
+def records(folder):
+    paths = sorted((TOP / "examples").glob("*.sgf")) + (sorted(pathlib.Path(folder).glob("**/*.sgf")) if folder else [])
+    return [path.read_bytes() for path in paths]
+
+
+def solved(program, problems, words, is_wanted):
+    """Answers of `solve` with these words, the largest ones first."""
+    found = []
+    for record in problems:
+        answer = run([program, "solve", "--steps", "100000", *words], record)[0]
+        if is_wanted(answer):
+            found.append(answer)
+    return sorted(found, key=len, reverse=True)[:MOST_INPUTS]
+
+
+def wide_claims():
+    """A record and the front of a wide claim, of three lengths; both checkers reject it where it is cut."""
+    wide, parts, length = Wide(), [], 0
+    for part in wide.claim():
+        parts.append(part)
+        length += len(part)
+        if length > 16_000_000:
+            break
+    text = "".join(parts)
+    return [(wide.record() + text[: text.rindex("\n", 0, size) + 1]).encode() for size in (1_000_000, 4_000_000, 16_000_000)]
+
+
+def wide_fight():
+    """Seven points apart, at which Black plays in any order while White passes."""
+    return b"(;SZ[9]AW[aa]PL[B]TR[aa]SQ[bg][dg][fg][hg][ai][ci][ei])"
+
+
+def long_nodes():
+    node = ";B[aa]C[" + "a comment of some words, as records of games have them, " * 4 + "]"
+    return ("(;SZ[9]AW[aa]PL[B]TR[aa]" + ("(" + node + ";W[bb])") * 3_800 + ")").encode()
+
+
+def short_nodes():
+    return ("(;SZ[9]AW[aa]PL[B]TR[aa]" + "(;B[ba];W[ca];B[da];W[ea];B[fa];W[ga];B[ha];W[ia])" * 9_000 + ")").encode()
+
+
+def row_of(name, program, peers, problems):
+    if name == "claims":
+        claims = solved(program, problems, ["--proof"], lambda answer: len(answer) > 100_000 and b"\nlemma " in answer)
+        return Row(name, [program, "check"], [peers["checker"]], claims)
+    if name == "nodes":
+        return Row(name, [program, "check"], [peers["checker"]], wide_claims(), rb"rejected line \d+")
+    if name == "within":
+        inputs = [fight(rows).encode() for rows in SIZES] + [wide_fight()]
+        return Row(name, [program, "within", "9", "--nodes", STATES], [peers["within"], "9", STATES], inputs)
+    if name == "audit":
+        trees = solved(program, problems, [], lambda answer: answer.count(b";") > 3_000)
+        return Row(name, [program, "audit"], [peers["audit"]], trees)
+    small = b"(;SZ[9]AW[aa]PL[B]TR[aa])"
+    return Row(name, [program, "within", "0"], [peers["sgf_reader"]], [long_nodes(), short_nodes()], rb"", small)
+
+
+def compiled(folder):
+    """The peers, compiled into this folder."""
+    if not shutil.which("g++"):
+        sys.exit("tools/measure_peers.py: there is no g++, which compiles the peers (Debian: apt-get install g++)")
+    peers = {}
+    for source in sorted((TOP / "tools/peers").glob("*.cpp")):
+        peers[source.stem] = os.path.join(folder, source.stem)
+        subprocess.run(["g++", "-std=c++17", "-O2", "-pthread", "-o", peers[source.stem], source], check=True)
+    return peers
+
+
+def main():
+    parser = argparse.ArgumentParser(description=__doc__, formatter_class=argparse.RawDescriptionHelpFormatter)
+    parser.add_argument("--instructions", action="store_true")
+    parser.add_argument("--problems", metavar="FOLDER")
+    parser.add_argument("program")
+    parser.add_argument("rows", nargs="*", metavar="ROW")
+    asked = parser.parse_args()
+    unknown = [name for name in asked.rows if name not in ROWS]
+    if unknown or not os.path.isfile(asked.program) or (asked.problems and not os.path.isdir(asked.problems)):
+        refuse("tools/measure_peers.py", f"there is no row {unknown[0]}" if unknown else "there is no such program or folder")
+    if asked.instructions and not shutil.which("valgrind"):
+        sys.exit("tools/measure_peers.py: there is no valgrind, which counts instructions (Debian: apt-get install valgrind)")
+    program, differ = os.path.abspath(asked.program), 0
+    counted = " | Instructions: median | Greatest" if asked.instructions else ""
+    print(f"| Row | Inputs | Seconds: ours, the peer | Ratio: median | Greatest{counted} | |\n|---|---|---|---|---|{'---|---|' if asked.instructions else ''}---|")
+    with tempfile.TemporaryDirectory() as folder:
+        peers, problems = compiled(folder), records(asked.problems)
+        for name in asked.rows or ROWS:
+            row = row_of(name, program, peers, problems)
+            if not row.inputs:
+                print(f"| `{name}` | no input: give --problems FOLDER |", flush=True)
+                continue
+            row.measure(asked.instructions)
+            row.print()
+            differ += row.differ
+    return 1 if differ else 0
+
+
+if __name__ == "__main__":
+    sys.exit(main())

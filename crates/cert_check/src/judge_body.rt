@@ -147,7 +147,7 @@ impl<'p> Judge<'p> {
         Ok(unwind(&mut self.state, &mut self.open_nodes))
     }
 
-    /// Whether a short claim may end at the present state, if the targets live by their shape there or not.
+    /// Whether a short claim may end at the present state. `alive` says whether the targets live by their shape there.
     fn may_rest(&self, alive: bool) -> bool
         requires { self.now.state.state.game ≡ self.now.problem.now.game }
         ensures { (within : SpecWithin) → result

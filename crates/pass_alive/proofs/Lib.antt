@@ -3,9 +3,11 @@ pub mod Never
 pub mod Telling
 pub mod Spaces
 pub mod Regions
+pub mod Members
 pub mod Connected
 pub mod Sweeps
 pub mod Filling
 pub mod Tests
 pub mod Examples
 pub mod Gathered
+pub mod Shapes

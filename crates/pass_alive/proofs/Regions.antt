@@ -2,7 +2,7 @@
 use Rattle.std.proofs.Common.{◌≡◌, ℕ, suc, ◌+◌, ◌*◌, ◌/◌, ◌<◌, Bool, true, false, cond, ◌&&◌, ◌||◌, IsTrue, nat_eq, nat_lt, eqb-true, ltb-true, lt-ltb, List, [], ◌∷◌, map, refl, sym, ◌∙◌, ap, ap₂, subst, arith}
 use Rattle.std.specs.List.{All, list_all}
 use Rattle.go_points.specs.declared.Colour.{Colour}
-use Rattle.std.proofs.lemmas.Nat.{div-mul-add, mod-mul-add, mul-add-lt}
+use Rattle.std.proofs.lemmas.Nat.{div-mul-add, mod-mul-add, mul-add-lt, div-add-mod', div_below, mod_below}
 use Rattle.go_points.specs.Place.{Place, IsOn, on_board, number_of, place_of}
 use Rattle.go_points.specs.Points.{same_place, holds_place}
 use Rattle.go_points.specs.Equal.{same_place_decides}
@@ -17,6 +17,14 @@ place_back n p on = λ i. record { row = div-mul-add p.row n p.column on.column_
 
 pub number_low : (n : ℕ) (p : Place) → IsOn n p → number_of n p < n * n
 number_low n p on = mul-add-lt p.row n p.column n on.row_within on.column_within
+
+pub number_back : (n q : ℕ) → number_of n (place_of n q) ≡ q
+number_back n q = div-add-mod' q n
+
+pub on_place : (n q : ℕ) → q < n * n → IsOn n (place_of n q)
+on_place n q low =
+    let some : 0 < n = grind (arith, low) in
+    record { row_within = div_below q n n some low; column_within = mod_below q n some }
 
 pub on_from : (n : ℕ) (p : Place) → on_board n p ≡ true → IsOn n p
 on_from n p h = record { row_within = ltb-true p.row n (and_left _ _ h); column_within = ltb-true p.column n (and_right (nat_lt p.row n) _ h) }

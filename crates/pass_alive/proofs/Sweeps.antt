@@ -1,5 +1,5 @@
 -- Sweeps over the stones: what is left after some points of one, and after some sweeps.
-use Rattle.std.proofs.Common.{◌≡◌, ◌≢◌, ℕ, ◌+◌, ◌*◌, ◌<◌, ◌≤◌, Bool, true, false, cond, not, ◌||◌, ◌⊎◌, inl, inr, IsTrue, IsFalse, ◌↔◌, nat_eq, eqb-true, eq-eqb, List, [], ◌∷◌, map, length, refl, sym, ◌∙◌, ap, subst, arith}
+use Rattle.std.proofs.Common.{◌≡◌, ◌≢◌, ℕ, ◌+◌, ◌*◌, ◌<◌, ◌≤◌, Bool, true, false, cond, not, ◌||◌, ◌⊎◌, inl, inr, IsTrue, IsFalse, ◌↔◌, List, [], ◌∷◌, map, length, refl, sym, ◌∙◌, ap, subst, arith}
 use Rattle.std.specs.List.{list_all}
 use Rattle.go_points.specs.declared.Colour.{Colour}
 use Rattle.go_points.specs.declared.Cell.{Cell}
@@ -7,7 +7,7 @@ use Rattle.go_points.specs.declared.Cell.TheVariants.{Stone}
 use Rattle.go_points.specs.Grid.{same_cell, cell_at}
 use Rattle.go_points.specs.Place.{Place, IsOn, place_of}
 use Rattle.go_points.specs.Points.{same_place, holds_place, with_place, without_place}
-use Rattle.go_points.specs.Private.Inverses.{same_numbers}
+use Rattle.go_points.specs.Equal.{same_place_decides}
 use Rattle.go_points.proofs.Membership.{sets_gain, sets_lose}
 use Rattle.go_points.proofs.Lists.{and_right, and_both, or_cases, or_left, or_right, all_at, all_from}
 use Rattle.go_points.proofs.Cells.{same_cell_eq, eq_same_cell, adjacent_on_board}
@@ -18,6 +18,7 @@ use Rattle.pass_alive.specs.Life.{Points, IsBeside, Live, PassAlive}
 use Rattle.pass_alive.specs.Sets.{these, number_on, game_of, AreLiving}
 use Rattle.pass_alive.specs.Private.Areas.{area_cell, MayLive, IsSafe, IsDropped, IsWithout, IsWith, IsJudged}
 use Rattle.pass_alive.proofs.Regions.{targets_hold}
+use Rattle.pass_alive.proofs.Members.{left_first, left_later, left_either}
 use Rattle.pass_alive.proofs.Spaces.{two_eyes, two_areas, near_areas, near_sets, may_live_more, place_on}
 
 -- a set that loses a place that it held is smaller
@@ -37,111 +38,115 @@ without_less (q ∷ qs) p h = go (same_place p q) refl h (without_less qs p)
     go true e held rest = grind (arith, without_fewer qs p)
     go false e held rest = grind (arith, rest held)
 
--- points are taken out of a set, or put in, one by one
-module _ (n : ℕ) (other old : List Place) where
-  pub record TakenSoFar (now : List Place) (i : ℕ) : Type 0 where
+-- the points of another set are taken out of a set, or put in, one by one
+module _ (other old : List Place) where
+  pub record TakenSoFar (now left : List Place) : Type 0 where
     pub within : (p : Place) → IsTrue (holds_place now p) → IsTrue (holds_place old p)
-    pub kept : (q : ℕ) → q < n * n → IsFalse (these n other q) → IsTrue (these n old q) → IsTrue (these n now q)
-    pub rest : (q : ℕ) → i ≤ q → IsTrue (these n old q) → IsTrue (these n now q)
+    pub kept : (p : Place) → IsFalse (holds_place other p) → IsTrue (holds_place old p) → IsTrue (holds_place now p)
+    pub among : (p : Place) → IsTrue (holds_place left p) → IsTrue (holds_place other p)
+    pub gone : (p : Place) → IsTrue (holds_place old p) → IsTrue (holds_place now p) ⊎ (length now < length old)
     pub shorter : length now ≤ length old
-    pub fewer : (q : ℕ) → q < i → IsTrue (these n other q) → IsTrue (these n old q) → length now < length old
+    pub fewer : (p : Place) → IsTrue (holds_place other p) → IsTrue (holds_place old p) → IsTrue (holds_place left p) ⊎ (length now < length old)
 
-  pub taken_first : TakenSoFar old 0
-  taken_first = record {
-    within = λ p h. h;
-    kept = λ q on not_other held. held;
-    rest = λ q from held. held;
+  pub taken_first : (left : List Place) → left ≡ other → TakenSoFar old left
+  taken_first left e = record {
+    within = λ p held. held;
+    kept = λ p not_other held. held;
+    among = λ p held. sym (ap (λ s. holds_place s p) e) ∙ held;
+    gone = λ p held. inl held;
     shorter = omega arith;
-    fewer = λ q low. absurd (omega (arith, low));
+    fewer = λ p is held. inl (ap (λ s. holds_place s p) e ∙ is);
   }
 
-  pub taken_no : (now : List Place) (i : ℕ) → IsFalse (these n other i) → TakenSoFar now i → TakenSoFar now (i + 1)
-  taken_no now i not_other h = record {
-    within = h.within;
-    kept = h.kept;
-    rest = λ q from held. h.rest q (omega (arith, from)) held;
-    shorter = h.shorter;
-    fewer = λ q low is held.
-        let split : (q < i) ⊎ (q ≡ i) = grind (arith, low) in
-        elim split [
-          | inl less ↦ h.fewer q less is held
-          | inr here ↦ absurd (cc (is, not_other, ap (these n other) here))
-        ];
-  }
-
-  pub taken_yes : (now : List Place) (i : ℕ) → IsTrue (these n other i) → TakenSoFar now i → TakenSoFar (without_place now (place_of n i)) (i + 1)
-  taken_yes now i there h = record {
-    within = λ p held. h.within p (and_right (not (same_place p (place_of n i))) _ (sym (sets_lose now (place_of n i) p) ∙ held));
-    kept = λ q on not_other held. stays q (λ e. cc (there, not_other, ap (these n other) e)) (h.kept q on not_other held);
-    rest = λ q from held. stays q (λ e. absurd (omega (arith, from, e))) (h.rest q (omega (arith, from)) held);
-    shorter = le (without_fewer now (place_of n i)) h.shorter;
-    fewer = λ q low is held.
-        let split : (q < i) ⊎ (q ≡ i) = grind (arith, low) in
-        elim split [
-          | inl less ↦ (let before : length now < length old = h.fewer q less is held in omega (arith, before, without_fewer now (place_of n i)))
-          | inr here ↦
-              (let now_there : IsTrue (these n now i) = h.rest i (omega arith) (subst (λ z. IsTrue (these n old z)) here held) in
-              omega (arith, without_less now (place_of n i) now_there, h.shorter))
-        ];
-  }
-    where
-      le : length (without_place now (place_of n i)) ≤ length now → length now ≤ length old → length (without_place now (place_of n i)) ≤ length old
-      le one two = omega (arith, one, two)
-
-      stays : (q : ℕ) → (q ≡ i → ⊥) → IsTrue (these n now q) → IsTrue (these n (without_place now (place_of n i)) q)
-      stays q ne held = sets_lose now (place_of n i) (place_of n q) ∙ and_both _ _ (apart (nat_eq q i) refl) held
-        where
-          apart : (b : Bool) → nat_eq q i ≡ b → not (same_place (place_of n q) (place_of n i)) ≡ true
-          apart true e = absurd (ne (eqb-true q i e))
-          apart false e = ap not (same_numbers n q i ∙ e)
-
-  pub taken_all : (now : List Place) (i : ℕ) → n * n ≤ i → TakenSoFar now i → IsWithout n other old now
-  taken_all now i all h = record { within = h.within; kept = h.kept; fewer = λ q on. h.fewer q (omega (arith, on, all)) }
-
-  pub record PutSoFar (now : List Place) (i : ℕ) : Type 0 where
-    pub kept : (q : ℕ) → q < n * n → IsTrue (these n old q) → IsTrue (these n now q)
-    pub added : (q : ℕ) → q < i → IsTrue (these n other q) → IsTrue (these n now q)
-    pub most : (q : ℕ) → q < n * n → IsTrue (these n now q) → IsTrue (these n old q) ⊎ IsTrue (these n other q)
-
-  pub put_first : PutSoFar old 0
-  put_first = record {
-    kept = λ q on held. held;
-    added = λ q low. absurd (omega (arith, low));
-    most = λ q on held. inl held;
-  }
-
-  pub put_no : (now : List Place) (i : ℕ) → IsFalse (these n other i) → PutSoFar now i → PutSoFar now (i + 1)
-  put_no now i not_other h = record {
-    kept = h.kept;
-    added = λ q low is.
-        let split : (q < i) ⊎ (q ≡ i) = grind (arith, low) in
-        elim split [
-          | inl less ↦ h.added q less is
-          | inr here ↦ absurd (cc (is, not_other, ap (these n other) here))
-        ];
-    most = h.most;
-  }
-
-  pub put_yes : (now : List Place) (i : ℕ) → IsTrue (these n other i) → PutSoFar now i → PutSoFar (with_place now (place_of n i)) (i + 1)
-  put_yes now i there h = record {
-    kept = λ q on held. had q (h.kept q on held);
-    added = λ q low is.
-        let split : (q < i) ⊎ (q ≡ i) = grind (arith, low) in
-        elim split [
-          | inl less ↦ had q (h.added q less is)
-          | inr here ↦ sets_gain now (place_of n i) (place_of n q) ∙ or_left (same_place (place_of n q) (place_of n i)) (these n now q) (same_numbers n q i ∙ eq-eqb q i here)
-        ];
-    most = λ q on held. elim (or_cases (same_place (place_of n q) (place_of n i)) (these n now q) (sym (sets_gain now (place_of n i) (place_of n q)) ∙ held)) [
-      | inl same ↦ inr (subst (λ z. IsTrue (these n other z)) (sym (eqb-true q i (sym (same_numbers n q i) ∙ same))) there)
-      | inr before ↦ h.most q on before
+  pub taken_more : (now left rest : List Place) (x : Place) → left ≡ x ∷ rest → TakenSoFar now left → TakenSoFar (without_place now x) rest
+  taken_more now left rest x e h = record {
+    within = λ p held. h.within p (and_right (not (same_place p x)) _ (sym (sets_lose now x p) ∙ held));
+    kept = λ p not_other held. stays p (λ same. cc (h.among x (left_first left rest x e), not_other, ap (holds_place other) same)) (h.kept p not_other held);
+    among = λ p held. h.among p (left_later left rest x e p held);
+    gone = gone;
+    shorter = omega (arith, without_fewer now x, h.shorter);
+    fewer = λ p is held. elim (h.fewer p is held) [
+      | inl still ↦ elim (left_either left rest x e p still) [ inl same ↦ inr (here p same held) | inr later ↦ inl later ]
+      | inr less ↦ inr (lower less)
     ];
   }
     where
-      had : (q : ℕ) → IsTrue (these n now q) → IsTrue (these n (with_place now (place_of n i)) q)
-      had q held = sets_gain now (place_of n i) (place_of n q) ∙ or_right (same_place (place_of n q) (place_of n i)) (these n now q) held
+      lower : length now < length old → length (without_place now x) < length old
+      lower less = omega (arith, less, without_fewer now x)
 
-  pub put_all : (now : List Place) (i : ℕ) → n * n ≤ i → PutSoFar now i → IsWith n other old now
-  put_all now i all h = record { kept = h.kept; added = λ q on. h.added q (omega (arith, on, all)); most = h.most }
+      stays : (p : Place) → (p ≡ x → ⊥) → IsTrue (holds_place now p) → IsTrue (holds_place (without_place now x) p)
+      stays p ne held = sets_lose now x p ∙ and_both _ _ (apart (same_place p x) refl) held
+        where
+          apart : (b : Bool) → same_place p x ≡ b → not (same_place p x) ≡ true
+          apart true same = absurd (ne ((same_place_decides p x).0 same))
+          apart false other_place = ap not other_place
+
+      took : holds_place now x ≡ true → length (without_place now x) < length old
+      took there = omega (arith, without_less now x there, h.shorter)
+
+      here : (p : Place) → p ≡ x → IsTrue (holds_place old p) → length (without_place now x) < length old
+      here p same held = elim (h.gone p held) [
+        | inl there ↦ took (sym (ap (holds_place now) same) ∙ there)
+        | inr less ↦ lower less
+      ]
+
+      gone : (p : Place) → IsTrue (holds_place old p) → IsTrue (holds_place (without_place now x) p) ⊎ (length (without_place now x) < length old)
+      gone p held = go (holds_place now x) refl
+        where
+          go : (b : Bool) → holds_place now x ≡ b → IsTrue (holds_place (without_place now x) p) ⊎ (length (without_place now x) < length old)
+          go true there = inr (took there)
+          go false not_there = elim (h.gone p held) [
+            | inl still ↦ inl (stays p (λ same. cc (still, not_there, ap (holds_place now) same)) still)
+            | inr less ↦ inr (lower less)
+          ]
+
+  pub taken_all : (now left : List Place) → left ≡ [] → TakenSoFar now left → IsWithout other old now
+  taken_all now left e h = record {
+    within = h.within;
+    kept = h.kept;
+    fewer = λ p is held. elim (h.fewer p is held) [ inl still ↦ absurd (cc (still, e)) | inr less ↦ less ];
+  }
+
+  pub record PutSoFar (now left : List Place) : Type 0 where
+    pub kept : (p : Place) → IsTrue (holds_place old p) → IsTrue (holds_place now p)
+    pub among : (p : Place) → IsTrue (holds_place left p) → IsTrue (holds_place other p)
+    pub added : (p : Place) → IsTrue (holds_place other p) → IsTrue (holds_place left p) ⊎ IsTrue (holds_place now p)
+    pub most : (p : Place) → IsTrue (holds_place now p) → IsTrue (holds_place old p) ⊎ IsTrue (holds_place other p)
+
+  pub put_first : (left : List Place) → left ≡ other → PutSoFar old left
+  put_first left e = record {
+    kept = λ p held. held;
+    among = λ p held. sym (ap (λ s. holds_place s p) e) ∙ held;
+    added = λ p is. inl (ap (λ s. holds_place s p) e ∙ is);
+    most = λ p held. inl held;
+  }
+
+  pub put_more : (now left rest : List Place) (x : Place) → left ≡ x ∷ rest → PutSoFar now left → PutSoFar (with_place now x) rest
+  put_more now left rest x e h = record {
+    kept = λ p held. had p (h.kept p held);
+    among = λ p held. h.among p (left_later left rest x e p held);
+    added = λ p is. elim (h.added p is) [
+      | inl still ↦ elim (left_either left rest x e p still) [
+        | inl same ↦ inr (sets_gain now x p ∙ or_left (same_place p x) (holds_place now p) ((same_place_decides p x).1 same))
+        | inr later ↦ inl later
+      ]
+      | inr there ↦ inr (had p there)
+    ];
+    most = λ p held. elim (or_cases (same_place p x) (holds_place now p) (sym (sets_gain now x p) ∙ held)) [
+      | inl same ↦ inr (subst (λ z. IsTrue (holds_place other z)) (sym ((same_place_decides p x).0 same)) (h.among x (left_first left rest x e)))
+      | inr before ↦ h.most p before
+    ];
+  }
+    where
+      had : (p : Place) → IsTrue (holds_place now p) → IsTrue (holds_place (with_place now x) p)
+      had p held = sets_gain now x p ∙ or_right (same_place p x) (holds_place now p) held
+
+  pub put_all : (now left : List Place) → left ≡ [] → PutSoFar now left → IsWith other old now
+  put_all now left e h = record {
+    kept = h.kept;
+    added = λ p is. elim (h.added p is) [ inl still ↦ absurd (cc (still, e)) | inr there ↦ there ];
+    most = h.most;
+  }
 
 module _ (n : ℕ) (region : List ℕ) (c a : List Cell) where
   -- the stones of a chain are safe together, and may live together
@@ -169,10 +174,10 @@ module _ (n : ℕ) (region : List ℕ) (c a : List Cell) where
     }
 
     module _ (chain : List Place) (is : IsChainOf n c i chain) where
-      pub judged_safe : (more : List Place) → IsWith n chain marked more → IsSafe n region c a (these n old) i → IsJudged n region c a i old marked old more false
+      pub judged_safe : (more : List Place) → IsWith chain marked more → IsSafe n region c a (these n old) i → IsJudged n region c a i old marked old more false
       judged_safe more with safe = record {
         same = λ e. refl;
-        marked = λ e q on held. elim (with.most q on held) [
+        marked = λ e q on held. elim (with.most (place_of n q) held) [
           | inl had ↦ inl had
           | inr new ↦ inr (safe_joined (these n old) i q (joined_back n c i q ((is.joined q on).0 new)) safe)
         ];
@@ -182,14 +187,14 @@ module _ (n : ℕ) (region : List ℕ) (c a : List Cell) where
         kept = λ e. absurd (cc e);
       }
 
-      pub judged_unsafe : (left : List Place) → IsWithout n chain old left → i < n * n → IsTrue (these n old i) → (MayLive n region c a (these n old) i → ⊥) → IsJudged n region c a i old marked left marked true
+      pub judged_unsafe : (left : List Place) → IsWithout chain old left → i < n * n → IsTrue (these n old i) → (MayLive n region c a (these n old) i → ⊥) → IsJudged n region c a i old marked left marked true
       judged_unsafe left without on there dead = record {
         same = λ e. absurd (cc e);
         marked = λ e. absurd (cc e);
         safe = λ e. absurd (cc e);
         within = without.within;
-        fewer = λ e. without.fewer i on ((is.joined i on).1 (joined_self n c i)) there;
-        kept = λ e q q_on held may. without.kept q q_on (other q q_on may (these n chain q) refl) held;
+        fewer = λ e. without.fewer (place_of n i) ((is.joined i on).1 (joined_self n c i)) there;
+        kept = λ e q q_on held may. without.kept (place_of n q) (other q q_on may (these n chain q) refl) held;
       }
         where
           other : (q : ℕ) → q < n * n → MayLive n region c a (these n old) q → (b : Bool) → these n chain q ≡ b → b ≡ false

@@ -1,5 +1,5 @@
 -- How many turns the defender's win takes at most, and that some test tells which colourings live by their shape.
-use Rattle.std.proofs.Common.{◌≡◌, ℕ, zero, suc, ◌+◌, ◌*◌, ◌^◌, ◌≤◌, ◌↔◌, Bool, true, false, ◌&&◌, nat_eq, eqb-true, eq-eqb, if◌then◌else◌, ◌⊎◌, inl, inr, IsTrue, List, [], ◌∷◌, ◌++◌, map, length, refl, sym, ap, ◌∙◌, subst, arith}
+use Rattle.std.proofs.Common.{◌≡◌, ℕ, zero, suc, ◌*◌, ◌^◌, ◌≤◌, ◌↔◌, Bool, true, false, ◌&&◌, nat_eq, eqb-true, eq-eqb, if◌then◌else◌, ◌⊎◌, inl, inr, IsTrue, List, [], ◌∷◌, ◌++◌, map, length, refl, sym, ap, ◌∙◌, subst, arith}
 use Rattle.std.proofs.lemmas.List.{length-append, length-map}
 use Rattle.std.proofs.Math.Nat.{pow-suc}
 use Rattle.go_points.specs.declared.Colour.{Colour}

@@ -1,31 +1,19 @@
 -- What loops over the points of a board find out.
-use Rattle.std.proofs.Common.{◌≡◌, ℕ, suc, ◌+◌, ◌*◌, ◌<◌, Bool, true, false, ◌⊎◌, inl, inr, IsTrue, ◌↔◌, not, Option, Some, None, is_some, IfSome, IfNone, List, [], ◌∷◌, map, refl, sym, ◌∙◌, ap, subst, arith}
+use Rattle.std.proofs.Common.{◌≡◌, ℕ, suc, ◌*◌, ◌<◌, Bool, true, false, inl, inr, IsTrue, ◌↔◌, not, Option, Some, None, is_some, IfSome, IfNone, List, [], ◌∷◌, map, refl, sym, ◌∙◌, ap, subst, arith}
 use Rattle.std.specs.List.{All, list_any}
 use Rattle.go_points.specs.declared.Cell.{Cell}
-use Rattle.go_points.specs.declared.Cell.TheVariants.{Empty}
-use Rattle.go_points.specs.Grid.{adjacent, neighbours, cell_at}
+use Rattle.go_points.specs.Grid.{adjacent, neighbours}
 use Rattle.go_points.specs.Place.{Place, IsOn, number_of, place_of}
 use Rattle.go_points.specs.Points.{holds_place}
 use Rattle.go_points.proofs.Lists.{Member, any_to, member_map}
-use Rattle.go_points.proofs.Cells.{neighbours_member}
-use Rattle.go_chains.specs.Joined.{IsChainOf, AreLibertiesOf}
+use Rattle.go_points.proofs.Cells.{neighbours_member, adjacent_on_board, adjacent_back}
+use Rattle.go_chains.specs.Joined.{IsChainOf, IsLibertyOf}
 use Rattle.go_chains.proofs.Joins.{joined_self, joined_back, joined_on}
 use Rattle.pass_alive.specs.Life.{Points, Fixed}
 use Rattle.pass_alive.specs.Sets.{these, number_on}
-use Rattle.pass_alive.specs.Private.Areas.{IsNear, IsEyeArea, IsEyeOutside, NoEyeBelow, TwoEyeAreas, TwoEyeSets}
-use Rattle.pass_alive.proofs.Regions.{place_back, region_holds}
-
--- whether a test that no point failed, or that one failed, is passed
-pub all_yes : (m : ℕ) (P : ℕ → Type 0) → ((q : ℕ) → q < m → P q) → (b : Bool) → b ≡ true → IsTrue b ↔ ((q : ℕ) → q < m → P q)
-all_yes m P all b e = (λ _. all, λ _. e)
-
-pub all_no : (m : ℕ) (P : ℕ → Type 0) (i : ℕ) → i < m → (P i → ⊥) → (b : Bool) → b ≡ false → IsTrue b ↔ ((q : ℕ) → q < m → P q)
-all_no m P i low fails b e = (λ h. absurd (cc (h, e)), λ all. absurd (fails (all i low)))
-
-pub all_more : (P : ℕ → Type 0) (i : ℕ) → ((q : ℕ) → q < i → P q) → P i → (q : ℕ) → q < i + 1 → P q
-all_more P i all here q low =
-    let split : (q < i) ⊎ (q ≡ i) = grind (arith, low) in
-    elim split [ inl less ↦ all q less | inr same ↦ subst P (sym same) here ]
+use Rattle.pass_alive.specs.Private.Areas.{HasEyes, AreSides, IsBesideFree, IsNear, IsNoEye, IsEyeArea, IsEyeOutside, NoEyeOutside, TwoEyeAreas, TwoEyeSets}
+use Rattle.target_game.specs.Legal.{holds_point}
+use Rattle.pass_alive.proofs.Regions.{place_back, number_back, number_low, on_place, region_holds}
 
 -- a point beside another
 pub near_yes : (n : ℕ) (test : Points) (p r : ℕ) → adjacent n p r ≡ true → test r ≡ true → (b : Bool) → b ≡ true → IsTrue b ↔ IsNear n test p
@@ -47,12 +35,30 @@ near_no n set items p those on none b e = (λ h. absurd (cc (h, e)), λ near. ab
         cc (any_to (holds_place set) found.0 items found.1 (sym (ap (holds_place set) back) ∙ near.2), none)
 
 -- the area of a point is an eye, or is none
-module _ (n : ℕ) (a : List Cell) (p : ℕ) (stones : Points) (chain walls area : List Place) (lib : AreLibertiesOf n a p walls) (is : IsChainOf n a p area) where
-  pub eye_yes : ((r : ℕ) → r < n * n → IsTrue (these n walls r) → IsTrue (stones r)) → ((q : ℕ) → q < n * n → IsTrue (these n area q) → IsNear n (these n chain) q) → IsEyeArea n a stones (IsNear n (these n chain)) p
-  eye_yes within near = record { walls = λ r on free. within r on ((lib.liberties r on).1 free); beside = λ q on j. near q on ((is.joined q on).1 j) }
+module _ (n : ℕ) (a : List Cell) (p : ℕ) (stones : Points) (chain area : List Place) (is : IsChainOf n a p area) where
+  pub eye_yes : ((x : Place) × IsTrue (holds_place area x) × IsBesideFree n a stones (number_of n x) → ⊥) → ((q : ℕ) → q < n * n → IsTrue (these n area q) → IsNear n (these n chain) q) → IsEyeArea n a stones (IsNear n (these n chain)) p
+  eye_yes closed near = record {
+    walls = λ r on lib. held r lib (stones r) refl;
+    beside = λ q on j. near q on ((is.joined q on).1 j);
+  }
+    where
+      held : (r : ℕ) → IsLibertyOf n a p r → (b : Bool) → stones r ≡ b → b ≡ true
+      held r lib true e = refl
+      held r lib false e =
+          let q = lib.1.0 in
+          let q_on : q < n * n = (adjacent_on_board n r q lib.1.1).1 in
+          let there : IsTrue (these n area q) = (is.joined q q_on).1 lib.1.2 in
+          absurd (closed (place_of n q, there, (r, subst (λ z. IsTrue (adjacent n z r)) (sym (number_back n q)) (adjacent_back n r q lib.1.1), lib.0, e)))
 
-  pub eye_within : IsEyeArea n a stones (IsNear n (these n chain)) p → (r : ℕ) → r < n * n → IsTrue (these n walls r) → IsTrue (stones r)
-  eye_within eye r on held = eye.walls r on ((lib.liberties r on).0 held)
+  pub eye_walls : IsEyeArea n a stones (IsNear n (these n chain)) p → (x : Place) × IsTrue (holds_place area x) × IsBesideFree n a stones (number_of n x) → ⊥
+  eye_walls eye found =
+      let x = found.0 in
+      let x_on : IsOn n x = is.on_board x found.1 in
+      let low : number_of n x < n * n = number_low n x x_on in
+      let j = (is.joined (number_of n x) low).0 (ap (holds_place area) (place_back n x x_on) ∙ found.1) in
+      let r = found.2.0 in
+      let r_on : r < n * n = (adjacent_on_board n (number_of n x) r found.2.1).1 in
+      cc (eye.walls r r_on (found.2.2, (number_of n x, adjacent_back n (number_of n x) r found.2.1, j)), found.2.3)
 
 pub eye_near : (n : ℕ) (a : List Cell) (p : ℕ) (stones chain : Points) (area : List Place) → IsChainOf n a p area → IsEyeArea n a stones (IsNear n chain) p → (q : ℕ) → q < n * n → IsTrue (these n area q) → IsNear n chain q
 eye_near n a p stones chain area is eye q on held = eye.beside q on ((is.joined q on).0 held)
@@ -82,10 +88,10 @@ module _ (n : ℕ) (c a : List Cell) (stones chain : Points) where
     is_second = other.area;
   }
 
-  pub none_found : NoEyeBelow n c a stones chain (these n []) (n * n) → TwoEyeAreas n c a stones (IsNear n chain) → ⊥
+  pub none_found : NoEyeOutside n c a stones chain (these n []) → TwoEyeAreas n c a stones (IsNear n chain) → ⊥
   none_found fails two = fails two.first two.first_on two.first_empty refl two.first_eye
 
-  pub one_found : (s : List Place) (none : Points) → IsEyeOutside n c a stones chain none s → NoEyeBelow n c a stones chain (these n s) (n * n) → TwoEyeAreas n c a stones (IsNear n chain) → ⊥
+  pub one_found : (s : List Place) (none : Points) → IsEyeOutside n c a stones chain none s → NoEyeOutside n c a stones chain (these n s) → TwoEyeAreas n c a stones (IsNear n chain) → ⊥
   one_found s none one fails two = go (these n s two.first) (these n s two.second) refl refl
     where
       go : (x y : Bool) → these n s two.first ≡ x → these n s two.second ≡ y → ⊥
@@ -94,13 +100,40 @@ module _ (n : ℕ) (c a : List Cell) (stones chain : Points) where
       go true true first second =
           two.apart (joined_on n a two.first one.at two.second (joined_back n a one.at two.first ((one.area.joined two.first two.first_on).0 first)) ((one.area.joined two.second two.second_on).0 second))
 
--- a liberty outside the region, found or not among the points below a number
-module _ (n : ℕ) (c : List Cell) (region : List Place) (near : ℕ → Type 0) where
-  pub lasting_yes : (q : ℕ) → q < n * n → IsOn n (place_of n q) → cell_at c q ≡ Empty → these n region q ≡ false → near q → (b : Bool) → b ≡ true → IsTrue b ↔ ((r : ℕ) × Fixed (map (number_on n) region) c r × near r)
-  lasting_yes q on place free outside here b e = (λ _. (q, record { empty = free; outside = region_holds n q region on place ∙ outside }, here), λ _. e)
+-- no eye beside the chain is none at all: an eye is beside it
+pub no_eye_outside : (n : ℕ) (c a : List Cell) (eyes stones : Points) (chain sides : List Place) (known : Points) → HasEyes n c a eyes (IsNear n (these n chain)) → AreSides n c eyes chain sides
+    → ((x : Place) → IsTrue (holds_place sides x) → IsNoEye n a stones (these n chain) known (number_of n x)) → NoEyeOutside n c a stones (these n chain) known
+no_eye_outside n c a eyes stones chain sides known has are none p on free unknown eye =
+    let here = eye_here n a stones (these n chain) p on eye in
+    let there : IsTrue (these n sides p) = are.all p free (has p on free eye.beside) here in
+    let back : number_of n (place_of n p) ≡ p = number_back n p in
+    none (place_of n p) there (ap known back ∙ unknown) (subst (IsEyeArea n a stones (IsNear n (these n chain))) (sym back) eye)
 
-  pub lasting_not_here : (q : ℕ) → q < n * n → IsOn n (place_of n q) → these n region q ≡ true → Fixed (map (number_on n) region) c q → ⊥
-  lasting_not_here q on place inside fixed = cc (region_holds n q region on place, inside, fixed.outside)
+-- a liberty outside the region
+pub lasting_by : (n : ℕ) (c : List Cell) (region chain : List Place) → ((x : Place) → IsTrue (holds_place chain x) → IsOn n x) → (b : Bool)
+    → IsTrue b ↔ ((x : Place) × IsTrue (holds_place chain x) × IsBesideFree n c (these n region) (number_of n x))
+    → IsTrue b ↔ ((q : ℕ) × Fixed (map (number_on n) region) c q × IsNear n (these n chain) q)
+lasting_by n c region chain chain_on b found = (λ h. there (found.0 h), λ lasting. found.1 (back lasting))
+  where
+    in_region : (p q : ℕ) → IsTrue (adjacent n p q) → holds_point (map (number_on n) region) q ≡ these n region q
+    in_region p q adj = let on : q < n * n = (adjacent_on_board n p q adj).1 in region_holds n q region on (on_place n q on)
+
+    there : (x : Place) × IsTrue (holds_place chain x) × IsBesideFree n c (these n region) (number_of n x) → (q : ℕ) × Fixed (map (number_on n) region) c q × IsNear n (these n chain) q
+    there side =
+        let x = side.0 in
+        let q = side.2.0 in
+        let adj = side.2.1 in (
+          q,
+          record { empty = side.2.2; outside = in_region (number_of n x) q adj ∙ side.2.3 },
+          (number_of n x, adjacent_back n (number_of n x) q adj, ap (holds_place chain) (place_back n x (chain_on x side.1)) ∙ side.1),
+        )
+
+    back : (q : ℕ) × Fixed (map (number_on n) region) c q × IsNear n (these n chain) q → (x : Place) × IsTrue (holds_place chain x) × IsBesideFree n c (these n region) (number_of n x)
+    back lasting =
+        let q = lasting.0 in
+        let r = lasting.2.0 in
+        let adj = adjacent_back n q r lasting.2.1 in
+        (place_of n r, lasting.2.2, (q, subst (λ z. IsTrue (adjacent n z q)) (sym (number_back n r)) adj, lasting.1.empty, sym (in_region r q adj) ∙ lasting.1.outside))
 
 -- what is said of an option that holds something, or nothing
 pub if_some : {A : Type 0} (P : A → Type 0) (o : Option A) → IfSome o P → is_some o ≡ true → (x : A) × P x

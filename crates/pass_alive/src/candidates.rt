@@ -5,6 +5,7 @@ ghost use Rattle.go_points.specs.Place.{IsOn, number_of};
 ghost use Rattle.pass_alive.specs.Sets.{these};
 ghost use Rattle.pass_alive.specs.Private.Areas.{HasAreas, HasEyes, IsGathered, IsNear};
 
+use crate::chains::chain_at;
 use crate::sets::{are_near, put_in};
 use go_chains::ChainBoard;
 use go_points::{Point, PointSet};
@@ -28,14 +29,14 @@ fn add_area(
     if seen.has(point) || !board.cell(point).is_empty() {
         return;
     }
-    let Some(area) = areas.chain_of(point) else {
+    let Some(area) = chain_at(areas, point) else {
         return;
     };
-    put_in(size, seen, &area);
+    put_in(seen, &area);
     if !are_near(size, &area, stones) {
         return;
     }
-    put_in(size, eyes, &area);
+    put_in(eyes, &area);
 }
 
 /// The points of all areas that can be eyes.

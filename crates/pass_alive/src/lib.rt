@@ -3,9 +3,13 @@
 
 mod areas;
 mod candidates;
+mod chains;
 mod eyes;
 pub mod laws;
 mod living;
+mod problems;
 mod sets;
+mod sides;
 
 pub use living::{is_pass_alive, living_stones};
+pub use problems::lives_at;

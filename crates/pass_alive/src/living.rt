@@ -4,50 +4,48 @@
 ghost use Rattle.std.specs.Prelude.{◌≡◌, ◌≢◌, ◌*◌, ◌<◌, ◌↔◌, ℕ, IsTrue, map};
 ghost use Rattle.go_points.specs.declared.Cell.TheVariants.{Empty, Stone};
 ghost use Rattle.go_points.specs.Grid.{same_cell, cell_at, side_of};
-ghost use Rattle.go_points.specs.Place.{IsOn, number_of};
-ghost use Rattle.go_chains.specs.Joined.{HoldsThose};
+ghost use Rattle.go_points.specs.Place.{Place, IsOn, number_of};
+ghost use Rattle.go_points.specs.Points.{holds_place};
+ghost use Rattle.go_chains.specs.Joined.{IsChainOf, HoldsThose};
 ghost use Rattle.pass_alive.specs.Life.{IsBeside, Fixed, PassAlive};
 ghost use Rattle.pass_alive.specs.Sets.{these, number_on, game_of, AreLiving};
 ghost use Rattle.pass_alive.specs.Private.Areas.{HasAreas, HasEyes, IsNear, MayLive, IsSafe, IsJudged, IsDropped};
 
 use crate::areas::areas_of;
 use crate::candidates::eye_points;
+use crate::chains::chain_at;
 use crate::eyes::has_two_eyes;
-use crate::sets::{are_members, is_near, put_in, take_out};
+use crate::sets::{are_members, put_in, take_out};
+use crate::sides::are_beside_free;
 use go_chains::ChainBoard;
 use go_points::{Colour, Point, PointSet};
 
 /// Whether the chain has a liberty outside the region, which nobody can fill.
 fn is_lasting(board: &ChainBoard, region: &PointSet, chain: &PointSet) -> bool
+    requires { (p : Place) → IsTrue (holds_place chain.now p) → IsOn (side_of board.now) p }
     ensures { IsTrue result ↔ ((q : ℕ) × Fixed
         (map (number_on (side_of board.now)) region.now) board.now q
         × IsNear (side_of board.now) (these (side_of board.now) chain.now) q) }
 {
-    let size = board.size();
-    for number in 0..size.area() {
-        let point = size.point_at(number);
-        if board.cell(point).is_empty() && !region.has(point) && is_near(size, point, chain) {
-            return true;
-        }
-    }
-    false
+    are_beside_free(board, region, chain)
 }
 
-/// Whether the chain at the point has such a liberty, or two eyes that these stones enclose.
+/// Whether the chain of the point has such a liberty, or two eyes that these stones enclose.
 fn is_safe(
     board: &ChainBoard,
     areas: &ChainBoard,
     eyes: &PointSet,
     region: &PointSet,
     stones: &PointSet,
+    chain: &PointSet,
     point: Point,
 ) -> bool
     requires areas { HasAreas board.now areas.now }
     requires eyes { HasEyes (side_of board.now) board.now areas.now
         (these (side_of board.now) eyes.now)
         (IsBeside (side_of board.now) board.now (number_of (side_of board.now) point)) }
-    requires on { IsOn (side_of board.now) point }
-    requires stone { cell_at board.now (number_of (side_of board.now) point) ≢ Empty }
+    requires chain { IsChainOf (side_of board.now) board.now
+        (number_of (side_of board.now) point) chain.now }
     ensures sound { IsTrue result → IsSafe (side_of board.now)
         (map (number_on (side_of board.now)) region.now) board.now areas.now
         (these (side_of board.now) stones.now) (number_of (side_of board.now) point) }
@@ -56,10 +54,7 @@ fn is_safe(
         (these (side_of board.now) stones.now) (number_of (side_of board.now) point)
         → IsTrue result }
 {
-    let Some(chain) = board.chain_of(point) else {
-        return false;
-    };
-    is_lasting(board, region, &chain) || has_two_eyes(board, areas, eyes, stones, &chain)
+    is_lasting(board, region, chain) || has_two_eyes(board, areas, eyes, stones, chain)
 }
 
 /// Judges the chain at the point, if its stones are left and not yet marked: marks them as safe, or takes them away. Returns whether
@@ -84,18 +79,17 @@ fn drop_chain(
         board.now areas.now (number_of (side_of board.now) point)
         stones.old marked.old stones.new marked.new result }
 {
-    let size = board.size();
     if !stones.has(point) || marked.has(point) {
         return false;
     }
-    let Some(chain) = board.chain_of(point) else {
+    let Some(chain) = chain_at(board, point) else {
         return false;
     };
-    if is_safe(board, areas, eyes, region, stones, point) {
-        put_in(size, marked, &chain);
+    if is_safe(board, areas, eyes, region, stones, &chain, point) {
+        put_in(marked, &chain);
         return false;
     }
-    take_out(size, stones, &chain);
+    take_out(stones, &chain);
     true
 }
 

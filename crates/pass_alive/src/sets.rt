@@ -1,8 +1,8 @@
-//! Sets of points of which one is within the other, or beside it.
+//! Sets of points of which one is within the other, or beside it. Only the points that a set holds are looked at.
 
-ghost use Rattle.std.specs.Prelude.{◌≡◌, ◌*◌, ◌<◌, ◌↔◌, ℕ, IsTrue, IsFalse};
+ghost use Rattle.std.specs.Prelude.{◌≡◌, ◌*◌, ◌<◌, ◌↔◌, ℕ, IsTrue};
 ghost use Rattle.std.specs.List.{list_all};
-ghost use Rattle.go_points.specs.Place.{IsOn, number_of};
+ghost use Rattle.go_points.specs.Place.{Place, IsOn, number_of};
 ghost use Rattle.go_points.specs.Points.{holds_place};
 ghost use Rattle.pass_alive.specs.Sets.{these};
 ghost use Rattle.pass_alive.specs.Private.Areas.{IsNear, IsWithout, IsWith};
@@ -15,22 +15,6 @@ pub(crate) fn are_members(points: &PointSet, set: &PointSet) -> bool
 {
     for point in points.iter() {
         if !set.has(point) {
-            return false;
-        }
-    }
-    true
-}
-
-/// Whether all points of this board that are in the first set are in the second.
-pub(crate) fn is_within(size: Size, set: &PointSet, other: &PointSet) -> bool
-    ensures within { IsTrue result → (q : ℕ) → q < size * size
-        → IsTrue (these size set.now q) → IsTrue (these size other.now q) }
-    ensures outside { IsFalse result → (q : ℕ) × (q < size * size)
-        × IsTrue (these size set.now q) × IsFalse (these size other.now q) }
-{
-    for number in 0..size.area() {
-        let point = size.point_at(number);
-        if set.has(point) && !other.has(point) {
             return false;
         }
     }
@@ -51,40 +35,34 @@ pub(crate) fn is_near(size: Size, point: Point, set: &PointSet) -> bool
     false
 }
 
-/// Whether each point of this board that is in the first set is adjacent to one of the second.
+/// Whether each point of the first set is adjacent to one of the second.
 pub(crate) fn are_near(size: Size, set: &PointSet, other: &PointSet) -> bool
+    requires { (p : Place) → IsTrue (holds_place set.now p) → IsOn size p }
     ensures { IsTrue result ↔ ((q : ℕ) → q < size * size
         → IsTrue (these size set.now q) → IsNear size (these size other.now) q) }
 {
-    for number in 0..size.area() {
-        let point = size.point_at(number);
-        if set.has(point) && !is_near(size, point, other) {
+    for point in set.iter() {
+        if !is_near(size, point, other) {
             return false;
         }
     }
     true
 }
 
-/// Takes all points of this board that are in the second set out of the first.
-pub(crate) fn take_out(size: Size, set: &mut PointSet, other: &PointSet)
-    ensures { IsWithout size other.now set.old set.new }
+/// Takes the points of the second set out of the first.
+pub(crate) fn take_out(set: &mut PointSet, other: &PointSet)
+    ensures { IsWithout other.now set.old set.new }
 {
-    for number in 0..size.area() {
-        let point = size.point_at(number);
-        if other.has(point) {
-            set.remove(point);
-        }
+    for point in other.iter() {
+        set.remove(point);
     }
 }
 
-/// Puts all points of this board that are in the second set into the first.
-pub(crate) fn put_in(size: Size, set: &mut PointSet, other: &PointSet)
-    ensures { IsWith size other.now set.old set.new }
+/// Puts the points of the second set into the first.
+pub(crate) fn put_in(set: &mut PointSet, other: &PointSet)
+    ensures { IsWith other.now set.old set.new }
 {
-    for number in 0..size.area() {
-        let point = size.point_at(number);
-        if other.has(point) {
-            set.insert(point);
-        }
+    for point in other.iter() {
+        set.insert(point);
     }
 }

@@ -7,9 +7,8 @@ ghost use Rattle.short_proofs.specs.Proved.{HasWinner};
 
 use crate::first_turn::first_turn;
 use cert_check::{Why, check_short};
-use go_chains::ChainBoard;
 use go_points::{Colour, Turn};
-use pass_alive::is_pass_alive;
+use pass_alive::lives_at;
 use pn_search::{Budget, Cause, find_short};
 use proof_cert::{Certificate, Node, ReaderSource, Version, write_short};
 use std::alloc::{AllocError, Global};
@@ -36,7 +35,7 @@ pub enum Proved {
 pub fn prove(alloc: Global, problem: &Problem, budget: Budget) -> Result<Proved, AllocError>
     ensures { IfOk result (HasWinner (start problem.now)) }
 {
-    if lives_by_shape(problem) {
+    if lives_at(problem, problem.colouring()) {
         return judged(alloc, problem, living(alloc, problem), 0);
     }
     let mut left = budget.steps;
@@ -47,19 +46,6 @@ pub fn prove(alloc: Global, problem: &Problem, budget: Budget) -> Result<Proved,
             cause,
             steps: budget.steps - left,
         }),
-    }
-}
-
-/// Whether the targets live by their shape at the start, so that nothing need be searched.
-fn lives_by_shape(problem: &Problem) -> bool {
-    match ChainBoard::from_colouring(problem.colouring()) {
-        Ok(board) => is_pass_alive(
-            &board,
-            problem.targets(),
-            problem.defender(),
-            problem.region(),
-        ),
-        Err(_) => false,
     }
 }
 

@@ -4,7 +4,7 @@ use Rattle.go_points.specs.declared.Colour.{Colour}
 use Rattle.go_points.specs.declared.Cell.{Cell}
 use Rattle.go_points.specs.declared.Cell.TheVariants.{Empty, Stone}
 use Rattle.go_points.specs.Grid.{opponent_of, same_cell, adjacent, cell_at, side_of}
-use Rattle.go_points.specs.Place.{Place}
+use Rattle.go_points.specs.Place.{Place, IsOn, number_of}
 use Rattle.go_points.specs.Points.{holds_place}
 use Rattle.go_chains.specs.Joined.{Joined, IsChainOf, IsLibertyOf}
 use Rattle.pass_alive.specs.Life.{Points, IsBeside, Lasting}
@@ -41,9 +41,13 @@ pub record IsEyeOutside (n : ℕ) (c a : List Cell) (stones chain known : Points
   pub area : IsChainOf n a at s
   pub eye : IsEyeArea n a stones (IsNear n chain) at
 
--- There is none below i.
-abbrev pub NoEyeBelow : ℕ → List Cell → List Cell → Points → Points → Points → ℕ → Type 0
-NoEyeBelow n c a stones chain known i = (p : ℕ) → p < i → cell_at c p ≡ Empty → IsFalse (known p) → IsEyeArea n a stones (IsNear n chain) p → ⊥
+-- The point p is in one of the known ones, or its area is none.
+abbrev pub IsNoEye : ℕ → List Cell → Points → Points → Points → ℕ → Type 0
+IsNoEye n a stones chain known p = IsFalse (known p) → IsEyeArea n a stones (IsNear n chain) p → ⊥
+
+-- There is none on the board.
+abbrev pub NoEyeOutside : ℕ → List Cell → List Cell → Points → Points → Points → Type 0
+NoEyeOutside n c a stones chain known = (p : ℕ) → p < n * n → cell_at c p ≡ Empty → IsNoEye n a stones chain known p
 
 -- Two empty points of different areas, each of which is an eye.
 pub record TwoEyeAreas (n : ℕ) (c a : List Cell) (stones : Points) (near : ℕ → Type 0) : Type 0 where
@@ -80,17 +84,36 @@ pub record IsDropped (n : ℕ) (region : List ℕ) (c a : List Cell) (old new : 
       → ((q : ℕ) → IsTrue (stones q) → IsTrue (these n old q)) → (q : ℕ) → IsTrue (stones q) → IsTrue (these n new q)
   pub safe : IsFalse has_changed → (q : ℕ) → q < n * n → IsTrue (these n new q) → IsSafe n region c a (these n new) q
 
--- The set without another set of points of the board.
-pub record IsWithout (n : ℕ) (other old new : List Place) : Type 0 where
+-- The set without another set of points.
+pub record IsWithout (other old new : List Place) : Type 0 where
   pub within : (p : Place) → IsTrue (holds_place new p) → IsTrue (holds_place old p)
-  pub kept : (q : ℕ) → q < n * n → IsFalse (these n other q) → IsTrue (these n old q) → IsTrue (these n new q)
-  pub fewer : (q : ℕ) → q < n * n → IsTrue (these n other q) → IsTrue (these n old q) → length new < length old
+  pub kept : (p : Place) → IsFalse (holds_place other p) → IsTrue (holds_place old p) → IsTrue (holds_place new p)
+  pub fewer : (p : Place) → IsTrue (holds_place other p) → IsTrue (holds_place old p) → length new < length old
 
--- The set with another set of points of the board, and no more of them.
-pub record IsWith (n : ℕ) (other old new : List Place) : Type 0 where
-  pub kept : (q : ℕ) → q < n * n → IsTrue (these n old q) → IsTrue (these n new q)
-  pub added : (q : ℕ) → q < n * n → IsTrue (these n other q) → IsTrue (these n new q)
-  pub most : (q : ℕ) → q < n * n → IsTrue (these n new q) → IsTrue (these n old q) ⊎ IsTrue (these n other q)
+-- The set with another set of points, and no more of them.
+pub record IsWith (other old new : List Place) : Type 0 where
+  pub kept : (p : Place) → IsTrue (holds_place old p) → IsTrue (holds_place new p)
+  pub added : (p : Place) → IsTrue (holds_place other p) → IsTrue (holds_place new p)
+  pub most : (p : Place) → IsTrue (holds_place new p) → IsTrue (holds_place old p) ⊎ IsTrue (holds_place other p)
+
+-- Adjacent to an empty point that is not in the set.
+abbrev pub IsBesideFree : ℕ → List Cell → Points → ℕ → Type 0
+IsBesideFree n c set p = (q : ℕ) × IsTrue (adjacent n p q) × (cell_at c q ≡ Empty) × IsFalse (set q)
+
+-- The place of an empty point of the board.
+abbrev pub IsFreePlace : ℕ → List Cell → Place → Type 0
+IsFreePlace n c p = IsOn n p × (cell_at c (number_of n p) ≡ Empty)
+
+-- The set with the empty points of the eyes that are adjacent to the point p, and no more of them.
+pub record HasSides (n : ℕ) (c : List Cell) (eyes : Points) (p : ℕ) (old new : List Place) : Type 0 where
+  pub kept : (x : Place) → IsTrue (holds_place old x) → IsTrue (holds_place new x)
+  pub free : (x : Place) → IsTrue (holds_place new x) → IsTrue (holds_place old x) ⊎ IsFreePlace n c x
+  pub added : (q : ℕ) → IsTrue (adjacent n p q) → cell_at c q ≡ Empty → IsTrue (eyes q) → IsTrue (these n new q)
+
+-- The set of the empty points of the eyes that are adjacent to the chain.
+pub record AreSides (n : ℕ) (c : List Cell) (eyes : Points) (chain sides : List Place) : Type 0 where
+  pub free : (x : Place) → IsTrue (holds_place sides x) → IsFreePlace n c x
+  pub all : (q : ℕ) → cell_at c q ≡ Empty → IsTrue (eyes q) → IsNear n (these n chain) q → IsTrue (these n sides q)
 
 -- Each empty point whose area is near, all of it, is among these points.
 abbrev pub HasEyes : ℕ → List Cell → List Cell → Points → (ℕ → Type 0) → Type 0

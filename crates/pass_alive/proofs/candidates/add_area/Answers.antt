@@ -6,7 +6,7 @@ use Rattle.go_points.specs.Points.{holds_place}
 use Rattle.go_points.proofs.Cells.{eq_same_cell}
 use Rattle.go_chains.specs.Joined.{IsChainOf}
 use Rattle.pass_alive.specs.Sets.{these}
-use Rattle.pass_alive.specs.Private.Areas.{IsNear, IsWith}
+use Rattle.pass_alive.specs.Private.Areas.{IsNear}
 use Rattle.pass_alive.proofs.Regions.{place_back, number_low}
 use Rattle.pass_alive.proofs.Gathered.{gathered_before, gathered_no}
 use Rattle.pass_alive.proofs.candidates.add_area.Goals as goal
@@ -36,6 +36,6 @@ returns-then-not-are_near c =
     let area = c.in-Some.area in
     let same : c.size-size.result ≡ n = c.size-size.ensures in
     gathered_no n cells areas (IsNear n (these n stones)) i (number_low n c.args.point c.requires.on) seen c.args.eyes.now area c.put_in.new.set
-    (subst (λ (m : ℕ). IsChainOf m areas (number_of m c.args.point) area) c.requires.areas.size c.in-Some.ensures.chain)
-    (subst (λ (m : ℕ). IsWith m area seen c.put_in.new.set) same c.put_in.ensures)
+    (subst (λ (m : ℕ). IsChainOf m areas (number_of m c.args.point) area) c.requires.areas.size c.in-Some.ensures.some)
+    c.put_in.ensures
     (λ all. cc (c.are_near.ensures.1 (subst (λ (m : ℕ). (q : ℕ) → q < m * m → IsTrue (these m area q) → IsNear m (these m stones) q) (sym same) all), c.if-not-are_near.true))

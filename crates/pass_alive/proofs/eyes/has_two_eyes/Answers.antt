@@ -1,8 +1,10 @@
-use Rattle.std.proofs.Common.{◌*◌, sym, ◌∙◌}
+use Rattle.std.proofs.Common.{IsTrue, List, [], sym, ◌∙◌, subst}
+use Rattle.go_points.specs.Place.{Place, number_of}
+use Rattle.go_points.specs.Points.{holds_place}
 use Rattle.go_points.specs.Grid.{side_of}
 use Rattle.pass_alive.specs.Sets.{these}
-use Rattle.pass_alive.specs.Private.Areas.{IsEyeOutside, NoEyeBelow}
-use Rattle.pass_alive.proofs.Tests.{two_found, one_found, if_some, or_none}
+use Rattle.pass_alive.specs.Private.Areas.{IsEyeOutside, IsNoEye}
+use Rattle.pass_alive.proofs.Tests.{two_found, none_found, one_found, no_eye_outside, if_some, or_none}
 use Rattle.pass_alive.proofs.eyes.has_two_eyes.Goals as goal
 
 pub returns-clause-sound : goal.returns-clause-sound
@@ -16,9 +18,25 @@ returns-clause-sound c held =
 
 pub returns-clause-complete : goal.returns-clause-complete
 returns-clause-complete c two =
-    let n = side_of c.args.board.now in
+    let cells = c.args.board.now in
+    let areas = c.args.areas.now in
+    let n = side_of cells in
     let stones = these n c.args.stones.now in
-    let chain = these n c.args.chain.now in
+    let chain = c.args.chain.now in
+    let sides = c.sides_of-sides.result in
     let first = c.in-Some.first in
-    c.is_some.ensures ∙ or_none (NoEyeBelow n c.args.board.now c.args.areas.now stones chain (these n first) (n * n)) c.eye_outside-2.result c.eye_outside-2.ensures.none
-    (λ none. one_found n c.args.board.now c.args.areas.now stones chain first (these n c.new.result) c.in-Some.ensures.some none two)
+    c.is_some.ensures ∙ or_none ((p : Place) → IsTrue (holds_place sides p) → IsNoEye n areas stones (these n chain) (these n first) (number_of n p)) c.eye_outside-2.result c.eye_outside-2.ensures.none
+    (λ none.
+    one_found n cells areas stones (these n chain) first (these n c.new.result) c.in-Some.ensures.some
+    (no_eye_outside n cells areas (these n c.args.eyes.now) stones chain sides (these n first) c.requires.eyes c.sides_of-sides.ensures none) two)
+
+pub returns-in_default-clause-complete : goal.returns-in_default-clause-complete
+returns-in_default-clause-complete c two =
+    let cells = c.args.board.now in
+    let areas = c.args.areas.now in
+    let n = side_of cells in
+    let stones = these n c.args.stones.now in
+    let chain = c.args.chain.now in
+    let sides = c.sides_of-sides.result in
+    let none = subst (λ (s : List Place). (p : Place) → IsTrue (holds_place sides p) → IsNoEye n areas stones (these n chain) (these n s) (number_of n p)) c.new.ensures c.in_default.ensures.none in
+    absurd (none_found n cells areas stones (these n chain) (no_eye_outside n cells areas (these n c.args.eyes.now) stones chain sides (these n []) c.requires.eyes c.sides_of-sides.ensures none) two)

@@ -1,9 +1,8 @@
-use Rattle.std.proofs.Common.{◌≡◌, ℕ, IsTrue, map, sym, ◌∙◌, ap, subst}
+use Rattle.std.proofs.Common.{◌≡◌, IsTrue, map, sym, ◌∙◌, ap}
 use Rattle.go_points.specs.Grid.{side_of}
 use Rattle.go_points.specs.Place.{number_of, place_of}
 use Rattle.go_points.specs.Points.{holds_place}
 use Rattle.pass_alive.specs.Sets.{these, number_on}
-use Rattle.pass_alive.specs.Private.Areas.{IsWithout, IsWith}
 use Rattle.pass_alive.proofs.Regions.{place_back, number_low}
 use Rattle.pass_alive.proofs.Sweeps.{judged_before, judged_safe, judged_unsafe}
 use Rattle.pass_alive.proofs.living.drop_chain.Goals as goal
@@ -29,8 +28,8 @@ returns-then-is_safe c =
     let n = side_of cells in
     let chain = c.in-Some.chain in
     let marked = c.args.marked.now in
-    judged_safe n (map (number_on n) c.args.region.now) cells c.args.areas.now (number_of n c.args.point) c.args.stones.now marked chain c.in-Some.ensures.chain c.put_in.new.set
-    (subst (λ (m : ℕ). IsWith m chain marked c.put_in.new.set) c.size-size.ensures c.put_in.ensures) (c.is_safe.ensures.sound c.if-is_safe.true)
+    judged_safe n (map (number_on n) c.args.region.now) cells c.args.areas.now (number_of n c.args.point) c.args.stones.now marked chain c.in-Some.ensures.some c.put_in.new.set
+    c.put_in.ensures (c.is_safe.ensures.sound c.if-is_safe.true)
 
 pub returns : goal.returns
 returns c =
@@ -41,8 +40,8 @@ returns c =
     let stones = c.args.stones.now in
     let back : place_of n i ≡ c.args.point = place_back n c.args.point c.requires.on in
     let there : IsTrue (these n stones i) = ap (holds_place stones) back ∙ sym c.has.ensures ∙ c.if-not-has.false in
-    judged_unsafe n (map (number_on n) c.args.region.now) cells c.args.areas.now i stones c.args.marked.now chain c.in-Some.ensures.chain c.take_out.new.set
-    (subst (λ (m : ℕ). IsWithout m chain stones c.take_out.new.set) c.size-size.ensures c.take_out.ensures) (number_low n c.args.point c.requires.on) there
+    judged_unsafe n (map (number_on n) c.args.region.now) cells c.args.areas.now i stones c.args.marked.now chain c.in-Some.ensures.some c.take_out.new.set
+    c.take_out.ensures (number_low n c.args.point c.requires.on) there
     (λ may. cc (c.is_safe.ensures.complete may, c.if-is_safe.false))
 
 pub is_safe-requires-clause-eyes : goal.is_safe-requires-clause-eyes

@@ -12,15 +12,15 @@ pub returns-else-is_lasting-clause-sound : goal.returns-else-is_lasting-clause-s
 returns-else-is_lasting-clause-sound c held =
     let cells = c.args.board.now in
     let n = side_of cells in
-    inr (safe_by_sets n cells c.args.areas.now (these n c.args.stones.now) (number_of n c.args.point) c.in-Some.chain c.in-Some.ensures.chain (c.has_two_eyes.ensures.sound held))
+    inr (safe_by_sets n cells c.args.areas.now (these n c.args.stones.now) (number_of n c.args.point) c.args.chain.now c.requires.chain (c.has_two_eyes.ensures.sound held))
 
 pub returns-else-is_lasting-clause-complete : goal.returns-else-is_lasting-clause-complete
 returns-else-is_lasting-clause-complete c may =
     let cells = c.args.board.now in
     let n = side_of cells in
     elim may [
-      | inl lasting ↦ absurd (cc (c.is_lasting.ensures.1 (lasting.0, lasting.1, beside_near n cells (number_of n c.args.point) c.in-Some.chain c.in-Some.ensures.chain lasting.0 lasting.2), c.if-is_lasting.false))
-      | inr two ↦ c.has_two_eyes.ensures.complete (areas_by_chain n cells c.args.areas.now (these n c.args.stones.now) (number_of n c.args.point) c.in-Some.chain c.in-Some.ensures.chain two)
+      | inl lasting ↦ absurd (cc (c.is_lasting.ensures.1 (lasting.0, lasting.1, beside_near n cells (number_of n c.args.point) c.args.chain.now c.requires.chain lasting.0 lasting.2), c.if-is_lasting.false))
+      | inr two ↦ c.has_two_eyes.ensures.complete (areas_by_chain n cells c.args.areas.now (these n c.args.stones.now) (number_of n c.args.point) c.args.chain.now c.requires.chain two)
     ]
 
 pub has_two_eyes-requires-clause-eyes : goal.has_two_eyes-requires-clause-eyes
@@ -28,12 +28,12 @@ has_two_eyes-requires-clause-eyes c =
     let cells = c.args.board.now in
     let n = side_of cells in
     let x = number_of n c.args.point in
-    let chain = c.in-Some.chain in
-    has_eyes_by n cells c.args.areas.now (these n c.args.eyes.now) (IsNear n (these n chain)) (IsBeside n cells x) (near_beside n cells x chain c.in-Some.ensures.chain) c.requires.eyes
+    let chain = c.args.chain.now in
+    has_eyes_by n cells c.args.areas.now (these n c.args.eyes.now) (IsNear n (these n chain)) (IsBeside n cells x) (near_beside n cells x chain c.requires.chain) c.requires.eyes
 
 pub returns-then-is_lasting-clause-sound : goal.returns-then-is_lasting-clause-sound
 returns-then-is_lasting-clause-sound c held =
     let cells = c.args.board.now in
     let n = side_of cells in
     let found = c.is_lasting.ensures.0 c.if-is_lasting.true in
-    inl (found.0, found.1, near_beside n cells (number_of n c.args.point) c.in-Some.chain c.in-Some.ensures.chain found.0 found.2)
+    inl (found.0, found.1, near_beside n cells (number_of n c.args.point) c.args.chain.now c.requires.chain found.0 found.2)

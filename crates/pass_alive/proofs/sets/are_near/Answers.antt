@@ -1,19 +1,23 @@
-use Rattle.std.proofs.Common.{ℕ, IsTrue, ap, subst}
+use Rattle.std.proofs.Common.{◌∙◌, ap}
+use Rattle.go_points.specs.Place.{Place, number_of}
 use Rattle.go_points.specs.Points.{holds_place}
 use Rattle.pass_alive.specs.Sets.{these}
 use Rattle.pass_alive.specs.Private.Areas.{IsNear}
-use Rattle.pass_alive.proofs.Tests.{all_more}
+use Rattle.pass_alive.proofs.Regions.{place_back, number_low}
+use Rattle.pass_alive.proofs.Members.{but_item}
 use Rattle.pass_alive.proofs.sets.are_near.Goals as goal
-use Rattle.pass_alive.proofs.sets.are_near.Goals.{else-has-via-then-has+else-not-is_near, else-has-via-else-has}
 
-pub loop-number-preserved : goal.loop-number-preserved
-loop-number-preserved c =
+pub is_near-requires : goal.is_near-requires
+is_near-requires c =
+    let n = c.args.size in
+    c.requires c.in-Some.point
+    (but_item (λ (p : Place). IsNear n (these n c.args.other.now) (number_of n p)) c.args.set.now c.loop-point.point-iterator c.next.new.self c.in-Some.point c.in-Some.ensures.steps c.loop-point.invariant.2)
+
+pub returns-then-not-is_near : goal.returns-then-not-is_near
+returns-then-not-is_near c =
     let n = c.args.size in
     let set = c.args.set.now in
-    let other = c.args.other.now in
-    let i = c.loop-number.number in
-    all_more (λ (q : ℕ). IsTrue (these n set q) → IsNear n (these n other) q) i c.loop-number.invariant
-    (elim c.else-has.branch [
-      | else-has-via-then-has+else-not-is_near w ↦ λ held. subst (IsNear n (these n other)) c.point_at-point.ensures.number_back (w.is_near.ensures.0 w.if-not-is_near.false)
-      | else-has-via-else-has w ↦ λ held. absurd (cc (w.if-has.false, c.has.ensures, ap (holds_place set) c.point_at-point.ensures.place, held))
-    ])
+    let x = c.in-Some.point in
+    let held = but_item (λ (p : Place). IsNear n (these n c.args.other.now) (number_of n p)) set c.loop-point.point-iterator c.next.new.self x c.in-Some.ensures.steps c.loop-point.invariant.2 in
+    let on = c.requires x held in
+    (λ h. absurd (cc h), λ all. absurd (cc (c.is_near.ensures.1 (all (number_of n x) (number_low n x on) (ap (holds_place set) (place_back n x on) ∙ held)), c.if-not-is_near.true)))

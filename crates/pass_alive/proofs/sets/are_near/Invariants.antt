@@ -1,7 +1,11 @@
-use Rattle.std.proofs.Common.{◌<◌, ℕ, IsTrue}
+use Rattle.go_points.specs.Place.{Place, number_of}
 use Rattle.pass_alive.specs.Sets.{these}
 use Rattle.pass_alive.specs.Private.Areas.{IsNear}
+use Rattle.pass_alive.proofs.Members.{AllBut}
 use Rattle.pass_alive.proofs.sets.are_near.Given as goal
 
-abbrev pub invariant-loop-number : goal.invariant-loop-number
-invariant-loop-number l = (q : ℕ) → q < l.number → IsTrue (these l.size l.set q) → IsNear l.size (these l.size l.other) q
+abbrev pub invariant-loop-point : goal.invariant-loop-point
+invariant-loop-point l =
+    (goal.iterator-loop-point).can_next l.point-iterator
+    × (goal.iterator-loop-point).is_finite l.point-iterator
+    × AllBut (λ (p : Place). IsNear l.size (these l.size l.other) (number_of l.size p)) l.set l.point-iterator

@@ -3,8 +3,8 @@ use Rattle.go_points.specs.declared.Cell.{Cell}
 use Rattle.go_points.specs.Grid.{side_of}
 use Rattle.pass_alive.specs.Life.{PassAlive}
 use Rattle.pass_alive.specs.Sets.{game_of}
-use Rattle.cert_check.proofs.Shapes.{found_alive}
-use Rattle.cert_check.proofs.shape.lives_at.Goals as goal
+use Rattle.pass_alive.proofs.Shapes.{found_alive}
+use Rattle.pass_alive.proofs.problems.lives_at.Goals as goal
 
 pub returns : goal.returns
 returns c =

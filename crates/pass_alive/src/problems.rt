@@ -1,16 +1,16 @@
-//! What a short claim may say without showing it: that the targets live by their shape.
+//! Problems whose targets live by their shape.
 
 ghost use Rattle.std.specs.Prelude.{◌↔◌, IsTrue};
 ghost use Rattle.pass_alive.specs.Told.{LivesAt};
 
+use crate::laws::games_agree;
+use crate::living::is_pass_alive;
 use go_chains::ChainBoard;
 use go_points::Colouring;
-use pass_alive::is_pass_alive;
-use pass_alive::laws::games_agree;
 use target_game::Problem;
 
 /// Whether the targets of the problem live by their shape at the colouring. The cost is that of `is_pass_alive`.
-pub(crate) fn lives_at(problem: &Problem, colouring: &Colouring) -> bool
+pub fn lives_at(problem: &Problem, colouring: &Colouring) -> bool
     ensures { IsTrue result ↔ LivesAt problem.now.game colouring.now }
 {
     games_agree();

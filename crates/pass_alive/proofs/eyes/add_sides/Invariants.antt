@@ -1,0 +1,7 @@
+use Rattle.go_points.specs.Grid.{side_of}
+use Rattle.pass_alive.specs.Sets.{these}
+use Rattle.pass_alive.proofs.Gathered.{SidesSoFar}
+use Rattle.pass_alive.proofs.eyes.add_sides.Given as goal
+
+abbrev pub invariant-loop-neighbour : goal.invariant-loop-neighbour
+invariant-loop-neighbour l = SidesSoFar (side_of l.board) l.board (these (side_of l.board) l.eyes) l.initial.sides l.neighbour-items l.neighbour-index l.sides

@@ -1,0 +1,13 @@
+use Rattle.go_points.specs.Grid.{side_of}
+use Rattle.go_points.specs.Place.{Place, number_of}
+use Rattle.pass_alive.specs.Sets.{these}
+use Rattle.pass_alive.specs.Private.Areas.{IsBesideFree}
+use Rattle.pass_alive.proofs.Members.{but_item}
+use Rattle.pass_alive.proofs.sides.are_beside_free.Goals as goal
+
+pub is_beside_free-requires : goal.is_beside_free-requires
+is_beside_free-requires c =
+    let cells = c.args.board.now in
+    let n = side_of cells in
+    c.requires c.in-Some.point
+    (but_item (λ (p : Place). IsBesideFree n cells (these n c.args.set.now) (number_of n p) → ⊥) c.args.points.now c.loop-point.point-iterator c.next.new.self c.in-Some.point c.in-Some.ensures.steps c.loop-point.invariant.2)

@@ -309,3 +309,32 @@ def deep_line():
 
 def won(points, count):
     return Filled(4, points).passed_on(count), (0, "wins White\n")
+
+
+# ---- short claims, for `short_claims check`
+
+def living(size, few=False):
+    """A record on 25 rows and a short claim of about so many bytes: the attacker makes each move in the left half, the defender
+    answers, and after each second move the target lives by its shape. The right half has 150 black stones, each alone, around as many
+    eyes; with `few` it has one chain of two eyes, in a corner."""
+    rows = LETTERS[: max(1, round((size / 15) ** 0.5 / 12))]
+    points = [column + row for row in rows for column in LETTERS[:12]]
+    right = [column + row for row in LETTERS for column in LETTERS[13:]]
+    if few:
+        eyes, target = ["va", "xa"], "ua"
+        black = [column + row for row in "ab" for column in "uvwxy" if column + row not in eyes]
+        white = [*(f"t{row}" for row in "abc"), *(f"{column}c" for column in "uvwxy")]
+    else:
+        eyes, target = [it for it in right if (ord(it[0]) + ord(it[1])) % 2], "ma"
+        black, white = [it for it in right if it not in eyes] + [f"m{row}" for row in LETTERS], []
+        black += [column + row for row in LETTERS[len(rows) :] for column in LETTERS[:12]]
+    setup = "".join(name + "".join(f"[{it}]" for it in held) for name, held in (("AB", black), ("AW", white)) if held)
+    text = [f"(;SZ[25]{setup}PL[W]TR[{target}]SQ{''.join(f'[{it}]' for it in sorted(points + eyes))})", "tsushort 1 25 B", "main"]
+    text.append(f"all {len(points) + 1}")
+    for reply in [*points, "pass"]:
+        answer = next(it for it in reversed(points) if it != reply)
+        due = [it for it in points if it not in (reply, answer)]
+        text += [f"reply {reply}", f"play {answer}", f"all {len(due) + 1}"]
+        for last in [*due, "pass"]:
+            text += [f"reply {last}", "alive"]
+    return "\n".join([*text, "end", ""])

@@ -140,9 +140,10 @@ fn stones_of(board: &ChainBoard, colour: Colour) -> PointSet
 
 /// All stones of this colour that live by their shape, if moves are made only in this region.
 ///
-/// Each sweep looks at each chain of the colour once: at its stones, at the points beside them, and at the areas there. There are as many
-/// sweeps as chains drop out one after the other, mostly two or three. Measured: 20 to 70 microseconds on boards of 19 rows with a region
-/// of 20 points; on boards of 25 rows 30 to 75 with one large chain or few stones, and up to 0.6 ms with 300 stones that stand apart.
+/// Each sweep looks at each chain of the colour once: at its stones, at the points beside them, and at the areas there. There are
+/// as many sweeps as chains drop out one after the other, mostly two or three. Measured: 20 to 70 microseconds on boards of 19 rows
+/// with a region of 20 points; on boards of 25 rows 30 to 75 with one large chain or few stones, and up to 0.6 milliseconds with 300
+/// stones that stand apart.
 pub fn living_stones(board: &ChainBoard, colour: Colour, region: &PointSet) -> PointSet
     ensures { AreLiving (side_of board.now) colour region.now board.now result }
 {

@@ -1,21 +1,54 @@
 //! Points by their names.
 
+ghost use Rattle.std.specs.Prelude.{◌≡◌, Some};
+ghost use Rattle.std.specs.Str.{str_to_ascii_lowercase};
+ghost use Rattle.go_points.specs.Gtp.{vertex_named};
+ghost use Rattle.go_points.specs.Sgf.{sgf_place};
+ghost use Rattle.go_points.specs.declared.vertex.Vertex.TheVariants.{At as AtVertex};
+ghost use Rattle.regions.specs.Named.{place_at, place_named};
+
 use go_points::{Point, PointSet, Size, Vertex, gtp_vertex, sgf_point};
 
 /// The point that the text names: two letters as in SGF (`dc`), or a letter and a number as on diagrams (`D17`), in any case.
-pub fn named_point(size: Size, text: &[u8]) -> Option<Point> {
-    if let [column, row] = text {
-        let letters = [column.to_ascii_lowercase(), row.to_ascii_lowercase()];
-        if let Some(point) = sgf_point(size, &letters) {
-            return Some(point);
-        }
+pub fn named_point(size: Size, text: &[u8]) -> Option<Point>
+    ensures { result ≡ place_named size text.now }
+{
+    match by_letters(size, text) {
+        Some(point) => Some(point),
+        None => by_coordinates(size, text),
     }
+}
+
+/// The point with these two letters.
+fn by_letters(size: Size, text: &[u8]) -> Option<Point>
+    ensures { result ≡ sgf_place size (str_to_ascii_lowercase text.now) }
+{
+    let [column, row] = text else {
+        return None;
+    };
+    let letters = [column.to_ascii_lowercase(), row.to_ascii_lowercase()];
+    sgf_point(size, &letters)
+}
+
+/// The point with this letter and this number.
+fn by_coordinates(size: Size, text: &[u8]) -> Option<Point>
+    ensures { result ≡ place_at size (vertex_named text.now) }
+{
     match gtp_vertex(text) {
-        Some(Vertex::At { column, row }) => {
-            let last = size.rows().checked_sub(1)?;
-            size.point(column, last.checked_sub(row)?)
-        }
-        _ => None,
+        Some(Vertex::At { column, row }) => point_from_below(size, column, row),
+        Some(Vertex::Pass) => None,
+        None => None,
+    }
+}
+
+/// The point in this column and in this row from the bottom, if the board has it.
+fn point_from_below(size: Size, column: u8, row: u8) -> Option<Point>
+    ensures { result ≡ place_at size (Some (AtVertex column row)) }
+{
+    if row < size.rows() {
+        size.point(column, size.rows() - 1 - row)
+    } else {
+        None
     }
 }
 

@@ -1,2 +1,3 @@
 pub mod Codes
+pub mod Input
 pub mod Written

@@ -2,6 +2,7 @@
 
 ghost use Rattle.std.specs.Prelude.{◌≡◌, ◌++◌, ℕ, List, IsTrue, OnOk, IfOk};
 ghost use Rattle.std.specs.Io.KnownBytes.{Consumes, IsAtEnd};
+ghost use Rattle.tool_parts.specs.Input.{Tells};
 
 use std::alloc::AllocError;
 use std::io::Read;
@@ -18,6 +19,8 @@ pub fn read_whole<R: Read>(reader: &mut R, into: &mut Vec<u8>) -> Result<bool, A
     ensures bytes { OnOk result ((bytes : List ℕ) × (into.new.items ≡ into.old.items ++ bytes)
         × Consumes (R.remaining reader.old) (R.remaining reader.new) bytes) }
     ensures end { IfOk result (λ whole. IsTrue whole → IsAtEnd (R.remaining reader.new)) }
+    ensures whole { IfOk result (λ whole. IsTrue whole → (bytes : List ℕ)
+        × (into.new.items ≡ into.old.items ++ bytes) × Tells (R.remaining reader.old) bytes) }
 {
     let mut block = [0u8; BLOCK];
     while into.len() < MAX_INPUT {

@@ -36,7 +36,8 @@ pub fn write_output<W: Write>(writer: &mut W, output: Result<Output, AllocError>
 
 /// What is written if the words ask for nothing.
 pub fn without_request(none: NoRequest) -> Result<Output, AllocError>
-    ensures { (text : _) → none ≡ Words text → result ≡ Ok (Text text BadWords) }
+    ensures text { (text : _) → none ≡ Words text → result ≡ Ok (Text text BadWords) }
+    ensures status { IfOk result (λ o. end_of o ≡ BadWords) }
 {
     match none {
         NoRequest::Words(text) => Ok(Output::Text(text, Status::BadWords)),

@@ -1,5 +1,9 @@
 //! Why nothing is made from a record, in the words and with the numbers that `tsumego` uses.
 
+ghost use Rattle.std.specs.Prelude.{◌≡◌, IfOk};
+ghost use Rattle.tool_parts.specs.Written.{end_of};
+ghost use Rattle.tool_parts.specs.declared.status.Status.TheVariants.{Refused};
+
 use crate::output::Output;
 use crate::status::Status;
 use sgf_text::SgfFault;
@@ -7,12 +11,16 @@ use std::alloc::{AllocError, Global};
 use tsumego_problem::{ProblemFault, TurnFaultCause};
 
 /// A refusal with this text.
-fn refused(text: String) -> Result<Output, AllocError> {
+fn refused(text: String) -> Result<Output, AllocError>
+    ensures { IfOk result (λ o. end_of o ≡ Refused) }
+{
     Ok(Output::Text(text, Status::Refused))
 }
 
 /// Why no tree was read.
-pub fn refused_tree(alloc: Global, fault: SgfFault) -> Result<Output, AllocError> {
+pub fn refused_tree(alloc: Global, fault: SgfFault) -> Result<Output, AllocError>
+    ensures { IfOk result (λ o. end_of o ≡ Refused) }
+{
     let number = match fault {
         SgfFault::NoTree => 1,
         SgfFault::Syntax { .. } => 2,
@@ -61,7 +69,9 @@ fn cause_of(alloc: Global, fault: ProblemFault) -> Result<String, AllocError> {
 }
 
 /// Why a tree gives no problem.
-pub fn refused_problem(alloc: Global, fault: ProblemFault) -> Result<Output, AllocError> {
+pub fn refused_problem(alloc: Global, fault: ProblemFault) -> Result<Output, AllocError>
+    ensures { IfOk result (λ o. end_of o ≡ Refused) }
+{
     let Some((number, node)) = place_of(fault) else {
         return Err(AllocError);
     };

@@ -1,7 +1,7 @@
 #!/usr/bin/env python3
 """Measures tsumego beside plain C++ programs that do the same work, in the same run.
 
-    tools/measure_peers.py [--instructions] [--problems FOLDER] PROGRAM [ROW..]
+    tools/measure_peers.py [--instructions] [--problems FOLDER] [--search PEER] PROGRAM [ROW..]
 
 PROGRAM is a built tsumego. The peers are tools/peers/*.cpp, which are compiled with `g++ -O2` first. Without rows, all of them:
 
@@ -10,13 +10,17 @@ PROGRAM is a built tsumego. The peers are tools/peers/*.cpp, which are compiled 
     within   `within`, on four fights and a larger one, with more than 10,000 states
     audit    `audit`, on answers of `solve` with 3,000 turns or more
     sgf      reading two records of a megabyte, of long nodes and of short ones
+    search   10,000 steps on records of FOLDER that both leave unknown; PEER is a built program, called as
+             `PEER run steps=10000 shrink=0 claim=0 FILE`
+    gtp      a session of 20,000 commands, beside GNU Go where it is installed
 
-It prints a table: for each row the inputs, the processor seconds of both (the least of nine alternating runs each, all inputs together),
-and the median and the greatest ratio, ours to the peer's; with --instructions also those of the instructions that valgrind counts in
-one run. For `sgf` the seconds of a small record are taken off, and megabytes a second are printed too. Both have to give the same
-answer for each input; the status is 1 where one differs.
+It prints a table: for each row the inputs, the processor seconds of both (the least of nine alternating runs each, all inputs
+together), and the median and the greatest ratio, ours to the peer's; with --instructions also those of the instructions that
+valgrind counts in one run. For `sgf` the seconds of a small record are taken off, and megabytes a second are printed too. Both have to give the same
+answer for each input, except to `gtp`; the status is 1 where one differs.
 """
 import argparse
+import itertools
 import os
 import pathlib
 import re
@@ -27,14 +31,16 @@ import sys
 import tempfile
 
 from measure_check import Wide
+from measure_gtp import commands
 from measure_sizes import SIZES, record as fight
 from script_words import refuse
 
 TOP = pathlib.Path(__file__).resolve().parent.parent
-ROWS = ("claims", "nodes", "within", "audit", "sgf")
+ROWS = ("claims", "nodes", "within", "audit", "sgf", "search", "gtp")
 TURNS = 9
 MOST_INPUTS = 12
 STATES = "4294967295"
+STEPS = "10000"
 
 
 def run(words, given):
@@ -68,10 +74,11 @@ class Row:
         for given in self.inputs:
             theirs = [run(words, given) for _ in range(TURNS) for words in (self.ours, self.peer)]
             ours, peer = theirs[::2], theirs[1::2]
-            if re.match(self.part, ours[0][0])[0] != re.match(self.part, peer[0][0])[0]:
+            if re.search(self.part, ours[0][0])[0] != re.search(self.part, peer[0][0])[0]:
                 self.differ += 1
                 print(f"{self.name}: ours {ours[0][0][:80]!r}, the peer {peer[0][0][:80]!r}", file=sys.stderr)
-            self.seconds.append([min(used for _, used in each) - self.start(words) for each, words in ((ours, self.ours), (peer, self.peer))])
+            both = ((ours, self.ours), (peer, self.peer))
+            self.seconds.append([min(used for _, used in runs) - self.start(words) for runs, words in both])
             if counts:
                 self.counted.append([instructions(words, given) for words in (self.ours, self.peer)])
 
@@ -84,7 +91,8 @@ class Row:
         cells = [f"`{self.name}`", len(self.inputs), f"{ours:.3f}, {peer:.3f}", *ratios(self.seconds)]
         cells += ratios(self.counted) if self.counted else []
         if self.small:
-            cells.append(", ".join(f"{len(given) / 1e6 / one:.1f} and {len(given) / 1e6 / other:.1f} MB/s" for given, (one, other) in zip(self.inputs, self.seconds)))
+            sizes = [len(given) / 1e6 for given in self.inputs]
+            cells.append(", ".join(f"{size / one:.1f} and {size / other:.1f} MB/s" for size, (one, other) in zip(sizes, self.seconds)))
         print("| " + " | ".join(map(str, cells)) + " |", flush=True)
 
 
@@ -135,7 +143,20 @@ def short_nodes():
     return ("(;SZ[9]AW[aa]PL[B]TR[aa]" + "(;B[ba];W[ca];B[da];W[ea];B[fa];W[ga];B[ha];W[ia])" * 9_000 + ")").encode()
 
 
+def unsolved(ours, peer, problems):
+    """Records that both leave unknown."""
+    left = (record for record in problems if all(b"unknown" in run(words, record)[0] for words in (ours, peer)))
+    return list(itertools.islice(left, MOST_INPUTS))
+
+
 def row_of(name, program, peers, problems):
+    if name == "search":
+        ours = [program, "solve", "--proof", "--steps", STEPS]
+        peer = [peers["search"], "run", f"steps={STEPS}", "shrink=0", "claim=0", "/dev/stdin"]
+        return Row(name, ours, peer, unsolved(ours, peer, problems) if peers["search"] else [], rb"unknown")
+    if name == "gtp":
+        peer = ["gnugo", "--mode", "gtp"]
+        return Row(name, [program, "gtp"], peer, [commands(19, 1).encode()] if shutil.which("gnugo") else [], rb"")
     if name == "claims":
         claims = solved(program, problems, ["--proof"], lambda answer: len(answer) > 100_000 and b"\nlemma " in answer)
         return Row(name, [program, "check"], [peers["checker"]], claims)
@@ -166,6 +187,7 @@ def main():
     parser = argparse.ArgumentParser(description=__doc__, formatter_class=argparse.RawDescriptionHelpFormatter)
     parser.add_argument("--instructions", action="store_true")
     parser.add_argument("--problems", metavar="FOLDER")
+    parser.add_argument("--search", metavar="PEER")
     parser.add_argument("program")
     parser.add_argument("rows", nargs="*", metavar="ROW")
     asked = parser.parse_args()
@@ -175,14 +197,16 @@ def main():
     if asked.instructions and not shutil.which("valgrind"):
         sys.exit("tools/measure_peers.py: there is no valgrind, which counts instructions (Debian: apt-get install valgrind)")
     program, differ = os.path.abspath(asked.program), 0
-    counted = " | Instructions: median | Greatest" if asked.instructions else ""
-    print(f"| Row | Inputs | Seconds: ours, the peer | Ratio: median | Greatest{counted} | |\n|---|---|---|---|---|{'---|---|' if asked.instructions else ''}---|")
+    columns = ["Row", "Inputs", "Seconds: ours, the peer", "Ratio: median", "Greatest"]
+    columns += ["Instructions: median", "Greatest"] if asked.instructions else []
+    print("| " + " | ".join([*columns, ""]) + " |\n|" + "---|" * (len(columns) + 1))
     with tempfile.TemporaryDirectory() as folder:
         peers, problems = compiled(folder), records(asked.problems)
+        peers["search"] = asked.search and os.path.abspath(asked.search)
         for name in asked.rows or ROWS:
             row = row_of(name, program, peers, problems)
             if not row.inputs:
-                print(f"| `{name}` | no input: give --problems FOLDER |", flush=True)
+                print(f"| `{name}` | nothing to measure with: --help says what it takes |", flush=True)
                 continue
             row.measure(asked.instructions)
             row.print()

@@ -16,8 +16,8 @@ PROGRAM is a built tsumego. The peers are tools/peers/*.cpp, which are compiled 
 
 It prints a table: for each row the inputs, the processor seconds of both (the least of nine alternating runs each, all inputs
 together), and the median and the greatest ratio, ours to the peer's; with --instructions also those of the instructions that
-valgrind counts in one run. For `sgf` the seconds of a small record are taken off, and megabytes a second are printed too. Both have to give the same
-answer for each input, except to `gtp`; the status is 1 where one differs.
+valgrind counts in one run. For `sgf` the seconds of a small record are taken off, and megabytes a second are printed too. Both have
+to give the same answer for each input, except to `gtp`; the status is 1 where one differs.
 """
 import argparse
 import itertools
@@ -92,7 +92,8 @@ class Row:
         cells += ratios(self.counted) if self.counted else []
         if self.small:
             sizes = [len(given) / 1e6 for given in self.inputs]
-            cells.append(", ".join(f"{size / one:.1f} and {size / other:.1f} MB/s" for size, (one, other) in zip(sizes, self.seconds)))
+            speeds = [(size / one, size / other) for size, (one, other) in zip(sizes, self.seconds)]
+            cells.append(", ".join(f"{one:.1f} and {other:.1f} MB/s" for one, other in speeds))
         print("| " + " | ".join(map(str, cells)) + " |", flush=True)
 
 

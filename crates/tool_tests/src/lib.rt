@@ -16,8 +16,6 @@ mod parts;
 #[cfg(test)]
 mod pictures;
 #[cfg(test)]
-mod readings;
-#[cfg(test)]
 mod records;
 #[cfg(test)]
 mod suppositions;

@@ -2,10 +2,10 @@
 
 _short_claims() {
     local word=${COMP_WORDS[COMP_CWORD]} before=${COMP_WORDS[COMP_CWORD - 1]} command='' options='' i
-    local commands='prove check help'
+    local commands='prove tree check help'
     for ((i = 1; i < COMP_CWORD; i++)); do
         case ${COMP_WORDS[i]} in
-        prove | check | help)
+        prove | tree | check | help)
             command=${COMP_WORDS[i]}
             break
             ;;
@@ -23,7 +23,7 @@ _short_claims() {
     esac
     case $command in
     '') options="$commands --help -h --version -V" ;;
-    prove) options='--steps --help -h' ;;
+    prove | tree) options='--steps --help -h' ;;
     help) options=$commands ;;
     *) options='--help -h' ;;
     esac

@@ -103,6 +103,8 @@ HELPER_RUNS = {
         ("short claim", ["check"], EYES + "\ntsushort 1 9 B\nmain\nalive\nend\n"),
         ("the same, rejected", ["check"], EYES + "\ntsushort 1 9 W\nmain\nalive\nend\n"),
         ("capture", ["prove"], CAPTURE),
+        ("two eyes for readers", ["tree"], EYES),
+        ("capture for readers", ["tree"], CAPTURE),
         ("cut off", ["check"], "(;FF[4]SZ[3]AB[aa)"),
         ("help", ["--help"], ""),
     ],

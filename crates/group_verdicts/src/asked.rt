@@ -6,6 +6,7 @@ ghost use Rattle.target_game.specs.Wins.{Wins};
 
 use go_points::{Colour, Turn};
 use pn_search::{Budget, Cause};
+use proof_cert::Certificate;
 use short_proofs::{Proved, prove};
 use std::alloc::{AllocError, Global};
 use target_game::Problem;
@@ -28,13 +29,17 @@ pub(crate) fn ask(alloc: Global, problem: Problem, budget: Budget) -> Result<Ask
     ensures { IfOk result (λ a. a.problem ≡ problem) }
 {
     match prove(alloc, &problem, budget)? {
-        Proved::Wins { winner, turn, text } => Ok(won(problem, winner, turn, text.as_slice())),
+        Proved::Wins {
+            winner,
+            turn,
+            certificate,
+        } => Ok(won(problem, winner, turn, &certificate)),
         Proved::Unknown { cause, steps } => unknown(problem, cause, steps),
     }
 }
 
-/// The problem, and the winner that the short claim of this text names. The text is not kept.
-fn won(problem: Problem, winner: Colour, turn: Option<Turn>, _text: &[u8]) -> Asked
+/// The problem, and the winner that this short claim names. The claim is not kept.
+fn won(problem: Problem, winner: Colour, turn: Option<Turn>, _certificate: &Certificate) -> Asked
     requires { Wins winner (start problem) }
     ensures { result.problem ≡ problem }
 {

@@ -6,7 +6,7 @@ use crate::lines::{colour_name, push_point};
 use crate::table::Table;
 use go_points::Colour;
 use pn_search::{Verdict, solve};
-use proof_cert::{CertWrite, write_cert};
+use proof_cert::{CertWrite, write_cert, write_short};
 use sgf_text::{WriteFault, write_bytes, write_tree};
 use short_proofs::{Proved, prove};
 use std::alloc::{AllocError, Global};
@@ -115,9 +115,13 @@ fn push_short_claim(
     bytes: &mut Vec<u8>,
 ) -> Result<(), AllocError> {
     match prove(alloc, problem, table.budget)? {
-        Proved::Wins { text, .. } => {
+        Proved::Wins {
+            winner: _,
+            turn: _,
+            certificate,
+        } => {
             push_question(alloc, problem, head, bytes)?;
-            bytes.extend_from_slice(text.as_slice())
+            written(write_short(&certificate, bytes))
         }
         Proved::Unknown { .. } => Ok(()),
     }

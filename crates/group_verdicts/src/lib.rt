@@ -19,6 +19,7 @@ mod second_procedure;
 mod side;
 mod solutions;
 mod table;
+mod variation;
 mod verdict;
 mod words;
 

@@ -2,11 +2,19 @@
 //! time.
 #![tactic(auto)]
 
+mod eyes;
 mod first_turn;
 mod judged;
+mod line;
+mod notes;
 mod program;
 mod proof;
+mod reading;
+mod reading_record;
+mod shown;
+mod walk;
 mod words;
 
 pub use program::run;
 pub use proof::{Proved, prove};
+pub use reading::{Reading, find_reading};

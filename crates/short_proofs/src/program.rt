@@ -2,8 +2,10 @@
 
 use crate::judged::judged;
 use crate::proof::{Proved, prove};
+use crate::reading::{Reading, find_reading};
 use crate::words::{Request, read_request};
 use pn_search::{Budget, Cause};
+use proof_cert::{Certificate, write_short};
 use sgf_text::{Tree, WriteFault, read_tree, write_bytes, write_tree};
 use std::alloc::{AllocError, Global};
 use std::convert::AsStr;
@@ -11,13 +13,17 @@ use std::io::{Read, Write};
 use std::num::NonZeroUsize;
 use target_game::Problem;
 use tool_parts::{
-    Output, Status, refused_problem, refused_tree, without_input, without_request, write_output,
+    Output, Status, refused_problem, refused_tree, text_of, without_input, without_request,
+    write_output,
 };
 use tsumego_problem::{problem_tree, read_problem};
-use tsumego_replies::{InputEnd, read_to_limit, unknown_text};
+use tsumego_replies::{InputEnd, TOO_LARGE, read_to_limit, unknown_text};
 
 /// The greatest number of entries of the search's table.
 const TABLE: usize = 65_536;
+
+/// The greatest number of turns of a record for readers, as in an answer tree of `tsumego solve`.
+const MOST_TURNS: usize = 90_000;
 
 /// How much of the input is read before the record is: more than a record may have.
 const MAX_FRONT: usize = 1_048_577;
@@ -68,33 +74,61 @@ fn output_of<R: Read>(
     };
     match request {
         Request::Check => judged(alloc, &problem, behind, reader),
-        Request::Prove { steps } => proved(alloc, &problem, steps),
+        Request::Prove { steps } => proved(alloc, &problem, budget_of(steps)?),
+        Request::Tree { steps } => read_out(alloc, &problem, budget_of(steps)?),
     }
 }
 
-/// What a search with at most this many steps finds.
-fn searched(alloc: Global, problem: &Problem, steps: u64) -> Result<Proved, AllocError> {
-    let Some(table) = NonZeroUsize::new(TABLE) else {
-        return Err(AllocError);
-    };
-    prove(alloc, problem, Budget { steps, table })
+/// The budget of a search with at most this many steps.
+fn budget_of(steps: u64) -> Result<Budget, AllocError> {
+    match NonZeroUsize::new(TABLE) {
+        Some(table) => Ok(Budget { steps, table }),
+        None => Err(AllocError),
+    }
 }
 
 /// The record of the problem and a short claim, or why there is none.
-fn proved(alloc: Global, problem: &Problem, steps: u64) -> Result<Output, AllocError> {
-    match searched(alloc, problem, steps)? {
-        Proved::Wins { text, .. } => with_record(alloc, problem, text.as_slice()),
+fn proved(alloc: Global, problem: &Problem, budget: Budget) -> Result<Output, AllocError> {
+    match prove(alloc, problem, budget)? {
+        Proved::Wins {
+            winner: _,
+            turn: _,
+            certificate,
+        } => with_record(alloc, problem, &certificate),
         Proved::Unknown { cause, steps } => unknown(alloc, cause, steps),
     }
 }
 
+/// The record for readers, or why there is none.
+fn read_out(alloc: Global, problem: &Problem, budget: Budget) -> Result<Output, AllocError> {
+    match find_reading(alloc, problem, budget, MOST_TURNS)? {
+        Reading::Wins {
+            winner: _,
+            turns: _,
+            tree,
+        } => Ok(Output::Record(tree)),
+        Reading::TooLarge { winner: _, turn: _ } => too_large(alloc),
+        Reading::Unknown { cause, steps } => unknown(alloc, cause, steps),
+    }
+}
+
+fn too_large(alloc: Global) -> Result<Output, AllocError> {
+    Ok(Output::Text(text_of(alloc, TOO_LARGE)?, Status::Rejected))
+}
+
 /// The record of the problem, and the claim.
-fn with_record(alloc: Global, problem: &Problem, claim: &[u8]) -> Result<Output, AllocError> {
+fn with_record(
+    alloc: Global,
+    problem: &Problem,
+    certificate: &Certificate,
+) -> Result<Output, AllocError> {
     let tree = problem_tree(alloc, problem)?;
     let mut bytes = Vec::new(alloc);
     written(write_tree(&tree, &mut bytes))?;
     written(write_bytes(b"\n", &mut bytes))?;
-    bytes.extend_from_slice(claim)?;
+    if write_short(certificate, &mut bytes).is_err() {
+        return Err(AllocError);
+    }
     match String::from_utf8(bytes) {
         Ok(text) => Ok(Output::Text(text, Status::Answered)),
         Err(_) => Err(AllocError),

@@ -17,11 +17,12 @@ use target_game::Problem;
 /// What a search for a short claim found.
 #[derive(Drop)]
 pub enum Proved {
-    /// This side wins: the short claim of this text is accepted. `turn` is the winner's first turn in it, if the winner moves first.
+    /// This side wins: the short claim of this certificate's text is accepted. `turn` is the winner's first turn in it, if the
+    /// winner moves first.
     Wins {
         winner: Colour,
         turn: Option<Turn>,
-        text: Vec<u8>,
+        certificate: Certificate,
     },
     /// Nothing is known, for this cause, after so many steps.
     Unknown {
@@ -77,7 +78,7 @@ fn judged(
         Ok(winner) => Ok(Proved::Wins {
             winner,
             turn: first_turn(&certificate),
-            text,
+            certificate,
         }),
         Err(Why::Memory) => Err(AllocError),
         Err(Why::Limit) => Ok(Proved::Unknown {

@@ -17,6 +17,8 @@ pub(crate) enum Request {
     Check,
     /// Search for a short claim with at most this many steps.
     Prove { steps: u64 },
+    /// Search as for `Prove`, and write a record for readers.
+    Tree { steps: u64 },
 }
 
 /// What the words ask for. The first word is the program's name.
@@ -37,6 +39,9 @@ fn chosen(matches: &ArgMatches<'_>) -> Request {
         Some((name, given)) if name == "prove" => Request::Prove {
             steps: steps(given),
         },
+        Some((name, given)) if name == "tree" => Request::Tree {
+            steps: steps(given),
+        },
         _ => Request::Check,
     }
 }
@@ -53,7 +58,16 @@ fn program<'a>(alloc: Global) -> Result<clap::Command<'a>, AllocError> {
         .version(VERSION)
         .subcommand_required(true);
     let program = program.subcommand(check_command(alloc))?;
-    program.subcommand(prove_command(alloc)?)
+    let program = with_command(program, prove_command(alloc))?;
+    with_command(program, tree_command(alloc))
+}
+
+/// The program with one more command.
+fn with_command<'a>(
+    program: clap::Command<'a>,
+    command: Result<clap::Command<'a>, AllocError>,
+) -> Result<clap::Command<'a>, AllocError> {
+    program.subcommand(command?)
 }
 
 fn check_command<'a>(alloc: Global) -> clap::Command<'a> {
@@ -63,6 +77,12 @@ fn check_command<'a>(alloc: Global) -> clap::Command<'a> {
 fn prove_command<'a>(alloc: Global) -> Result<clap::Command<'a>, AllocError> {
     clap::Command::new(alloc, "prove")
         .about("Searches for a short claim, and writes the record and the claim.")
+        .arg(steps_argument(alloc))
+}
+
+fn tree_command<'a>(alloc: Global) -> Result<clap::Command<'a>, AllocError> {
+    clap::Command::new(alloc, "tree")
+        .about("Searches for a short claim, and writes a record for readers.")
         .arg(steps_argument(alloc))
 }
 

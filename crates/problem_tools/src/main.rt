@@ -12,7 +12,14 @@ fn main(rt: HostRuntime) -> ExitCode {
         rt.stdin(),
         rt.stdout(),
         rt.stderr(),
-        |words, reader, writer, notes| run(alloc, &rt, read_request(alloc, words), reader, writer, notes),
+        |words, reader, writer, notes| run(
+            alloc,
+            &rt,
+            read_request(alloc, words),
+            reader,
+            writer,
+            notes,
+        ),
     );
     ExitCode::from(code)
 }

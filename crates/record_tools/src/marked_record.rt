@@ -111,11 +111,7 @@ fn asked_node(alloc: Global, size: Size, wanted: Marks<'_>) -> Result<SgfNode, R
 }
 
 /// The properties of the marks as they are asked for.
-fn asked_properties(
-    alloc: Global,
-    size: Size,
-    wanted: Marks<'_>,
-) -> Result<Vec<Property>, Refusal>
+fn asked_properties(alloc: Global, size: Size, wanted: Marks<'_>) -> Result<Vec<Property>, Refusal>
     ensures { IfOk result (λ properties. marks_named size wanted.entry ≡ Some properties.items) }
 {
     let targets = named_property(alloc, size, b"TR", wanted.targets, Refusal::BadTarget)?;

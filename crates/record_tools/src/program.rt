@@ -24,7 +24,8 @@ use std::io::{Read, Write};
 use std::rt::Files;
 use target_game::Problem;
 use tool_parts::{
-    NoRequest, Output, Status, read_whole, refused_tree, without_input, without_request, write_output,
+    NoRequest, Output, Status, read_whole, refused_tree, without_input, without_request,
+    write_output,
 };
 
 /// Runs the program for what its words ask for, if they ask for something. What is said besides the answer goes to `notes`, and the

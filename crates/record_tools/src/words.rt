@@ -72,10 +72,7 @@ pub enum Request {
 }
 
 /// What the words ask for. The first word is the program's name.
-pub fn read_request<'a, S: AsStr>(
-    alloc: Global,
-    words: &'a [S],
-) -> Result<Request, NoRequest> {
+pub fn read_request<'a, S: AsStr>(alloc: Global, words: &'a [S]) -> Result<Request, NoRequest> {
     let program = program(alloc)?;
     match program.try_get_matches_from(words) {
         Ok(matches) => chosen(alloc, &matches),

@@ -1,7 +1,7 @@
 //! first_moves: says of each first turn of a problem who wins after it.
 #![tactic(auto)]
 
-use first_turns::run;
+use first_turns::{read_request, run};
 use std::process::ExitCode;
 use tool_parts::exit_code;
 
@@ -12,7 +12,13 @@ fn main(rt: HostRuntime) -> ExitCode {
         rt.stdin(),
         rt.stdout(),
         rt.stderr(),
-        |words, reader, writer, notes| run(alloc, words, reader, writer, notes),
+        |words, reader, writer, notes| run(
+            alloc,
+            read_request(alloc, words),
+            reader,
+            writer,
+            notes,
+        ),
     );
     ExitCode::from(code)
 }

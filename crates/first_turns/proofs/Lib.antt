@@ -1,2 +1,4 @@
 pub mod Judging
+pub mod Listing
+pub mod Outputs
 pub mod Reaching

@@ -9,6 +9,7 @@ use Rattle.target_game.specs.State.{GameProblem, start}
 use Rattle.target_game.specs.Problem.{problem_of}
 use Rattle.target_game.specs.Next.{next}
 use Rattle.target_game.specs.Over.{over}
+use Rattle.target_game.specs.Wins.{Wins}
 use Rattle.proof_cert.specs.Certificate.{claim_of}
 use Rattle.cert_check.specs.Expand.{first_turn}
 use Rattle.first_turns.specs.declared.judged.Judged.{Judged}
@@ -30,14 +31,16 @@ IsProblemAfter q pass later = IsProblemWith q q.history q.place (q.passes + 1) l
 IsProblemAfter q (move p) later =
     IsProblemWith q (q.history ++ after_move q.game.size (start q).colouring q.mover p ∷ []) (length q.history) 0 later
 
--- A turn by which the mover wins has a checked claim for the problem itself that begins with it. A turn that is refuted has a
--- checked claim of the other side for the problem after it; a turn that ends the game has lost it at once. Nothing is said about a
--- turn that is unknown.
+-- The mover wins after a turn that is right, and there is a claim for the problem itself that begins with it. After a turn that is
+-- refuted the other side wins the problem after it, and there is a claim for that problem; a turn that ends the game has lost it at
+-- once. Nothing is said about a turn that is unknown.
 abbrev pub IsJudged : GameProblem → Ply → Judged → Type 0
 IsJudged q t (judged.Right checked) =
     (checked.problem ≡ q) × ((claim_of checked.certificate).winner ≡ q.mover) × (first_turn (claim_of checked.certificate) (start q) ≡ Some t)
+    × Wins q.mover (next (start q) t)
 IsJudged q t (judged.Refuted checked) =
     IsProblemAfter q t checked.problem × ((claim_of checked.certificate).winner ≡ opponent_of q.mover)
+    × Wins (opponent_of q.mover) (start checked.problem)
 IsJudged q t judged.Ends = over (next (start q) t) ≡ Some (opponent_of q.mover)
 IsJudged q t judged.Unknown = Unit
 

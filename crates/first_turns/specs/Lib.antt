@@ -1,2 +1,4 @@
 pub mod Judged
 pub mod Line
+pub mod Outputs
+pub mod Text

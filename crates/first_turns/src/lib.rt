@@ -15,3 +15,4 @@ mod record;
 mod words;
 
 pub use program::run;
+pub use words::{Form, Request, read_request};

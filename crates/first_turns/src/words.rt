@@ -15,7 +15,7 @@ const MOST_DEPTH: u64 = 50;
 
 /// The form in which the answer is written.
 #[derive(Clone, Copy, Debug, PartialEq, Eq)]
-pub(crate) enum Form {
+pub enum Form {
     /// One SGF record with a branch for each turn.
     Record,
     /// A line for each turn.
@@ -26,23 +26,20 @@ pub(crate) enum Form {
 
 /// What the words ask for.
 #[derive(Clone, Copy, Debug, PartialEq, Eq)]
-pub(crate) struct Request {
+pub struct Request {
     /// The greatest number of steps of the search after each turn.
-    pub(crate) steps: u64,
-    pub(crate) form: Form,
+    pub steps: u64,
+    pub form: Form,
     /// How many of the mover's turns on the line are judged; with 1 it is the first turns alone.
-    pub(crate) depth: u64,
+    pub depth: u64,
     /// Whether points are named as at the edge of the board.
-    pub(crate) coordinates: bool,
+    pub coordinates: bool,
     /// Whether each turn is reported on standard error when it has been judged.
-    pub(crate) progress: bool,
+    pub progress: bool,
 }
 
 /// What the words ask for. The first word is the program's name.
-pub(crate) fn read_request<'a, S: AsStr>(
-    alloc: Global,
-    words: &'a [S],
-) -> Result<Request, NoRequest> {
+pub fn read_request<'a, S: AsStr>(alloc: Global, words: &'a [S]) -> Result<Request, NoRequest> {
     let program = program(alloc)?;
     match program.try_get_matches_from(words) {
         Ok(matches) => Ok(chosen(&matches)),

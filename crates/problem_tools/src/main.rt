@@ -1,7 +1,7 @@
 //! problem_tools: takes the games of a file apart, marks the problem of a record, draws it, and makes a page of its answer.
 #![tactic(auto)]
 
-use record_tools::run;
+use record_tools::{read_request, run};
 use std::process::ExitCode;
 use tool_parts::exit_code;
 
@@ -12,7 +12,14 @@ fn main(rt: HostRuntime) -> ExitCode {
         rt.stdin(),
         rt.stdout(),
         rt.stderr(),
-        |words, reader, writer, notes| run(alloc, &rt, words, reader, writer, notes),
+        |words, reader, writer, notes| run(
+            alloc,
+            &rt,
+            read_request(alloc, words),
+            reader,
+            writer,
+            notes,
+        ),
     );
     ExitCode::from(code)
 }

@@ -17,4 +17,5 @@ pub use json::page_json;
 pub use lines::{Cut, descending};
 pub use page::{NoPage, Page, page_of};
 pub use returning::may_return;
+pub use same::are_same;
 pub use titles::push_titles;

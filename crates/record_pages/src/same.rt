@@ -6,7 +6,7 @@ use go_points::{Colouring, PointSet};
 use target_game::Problem;
 
 /// Whether the problems are the same in every part, including the order of their histories.
-pub(crate) fn are_same(first: &Problem, second: &Problem) -> bool
+pub fn are_same(first: &Problem, second: &Problem) -> bool
     ensures { IsTrue result → second.now ≡ first.now }
 {
     if first.size() != second.size() || first.defender() != second.defender() {

@@ -1,2 +1,5 @@
+pub mod Chains
 pub mod Collection
 pub mod Letters
+pub mod Names
+pub mod Outputs

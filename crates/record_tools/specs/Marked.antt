@@ -1,9 +1,7 @@
 -- A record with the marks of a problem: no node of the main line before them has TR or SQ.
-use Rattle.std.specs.Prelude.{◌≡◌, ◌||◌, ℕ, ◌-◌, List, [], ◌∷◌, ◌++◌, length, map, take, drop, codes, nat_lt, if◌then◌else◌}
+use Rattle.std.specs.Prelude.{◌||◌, ℕ, ◌-◌, List, [], ◌∷◌, ◌++◌, length, map, take, drop, codes, nat_lt, if◌then◌else◌}
 use Rattle.sgf_text.specs.Trees.{Node, Forest, no_tree, tree_then, GameTree}
 use Rattle.sgf_text.specs.Nodes.{without}
-use Rattle.target_game.specs.State.{GameProblem}
-use Rattle.tsumego_problem.specs.Canonical.{marks as problem_marks}
 use Rattle.tsumego_problem.specs.Walk.{has, has_turn, has_setup}
 
 -- the node without TR and SQ
@@ -41,7 +39,3 @@ abbrev pub marked : ℕ → Node → GameTree → GameTree
 marked k marks tree =
     if nat_lt k (length tree.nodes) then record { nodes = marked_nodes k marks tree.nodes; children = tree.children }
     else record { nodes = map unmarked tree.nodes; children = marked_forest (k - length tree.nodes) marks tree.children }
-
--- the new tree is the other one with the marks of a problem at this node of its main line
-abbrev pub IsMarkedRecord : ℕ → GameTree → GameTree → Type 0
-IsMarkedRecord k tree made = (q : GameProblem) × (made ≡ marked k (problem_marks q) tree)

@@ -1,10 +1,11 @@
 //! A record of the present position alone, without what was played before.
 
 ghost use Rattle.std.specs.Prelude.{◌≡◌, IfOk, Ok, Some};
+ghost use Rattle.record_pages.specs.Bare.{IsBare};
 ghost use Rattle.tsumego_problem.specs.Walk.{problem_within, history_limit};
 
 use crate::marked_record::{Refusal, problem_of};
-use record_pages::{may_return, push_titles, without_past};
+use record_pages::{are_same, may_return, push_titles, without_past};
 use sgf_text::{Property, SgfNode, Tree};
 use std::alloc::{AllocError, Global};
 use target_game::Problem;
@@ -60,13 +61,14 @@ fn push_node(properties: Vec<Property>, into: &mut Vec<SgfNode>) -> Result<(), R
 }
 
 /// The record of the problem's present position alone, with the titles of the record that it is taken from. The new record is read
-/// again: it has a problem.
+/// again: it has that problem.
 pub(crate) fn bare_record(
     alloc: Global,
     problem: &Problem,
     titled: &Tree,
 ) -> Result<BareRecord, Refusal>
-    ensures { IfOk result (λ r. problem_within (Some history_limit) r.tree ≡ Ok r.problem) }
+    ensures problem { IfOk result (λ r. problem_within (Some history_limit) r.tree ≡ Ok r.problem) }
+    ensures alone { IfOk result (λ r. IsBare problem.now r.problem) }
 {
     let is_another = !may_return(alloc, problem)?.is_empty();
     let Some(bare) = without_past(alloc, problem)? else {
@@ -76,6 +78,9 @@ pub(crate) fn bare_record(
         return Err(Refusal::BadMarks);
     };
     let read = problem_of(alloc, &tree)?;
+    if !are_same(&bare, &read) {
+        return Err(Refusal::BadMarks);
+    }
     Ok(BareRecord {
         tree,
         problem: read,

@@ -23,3 +23,4 @@ mod words;
 pub use asked_node::{default_node, last_node, node_argument};
 pub use program::run;
 pub use stone_problem_of::{NoStone, marked_problem, stone_problem};
+pub use words::{PageForm, Request, Zone, read_request};

@@ -1,15 +1,17 @@
 //! The record with the problem at the node that is asked for.
 
-ghost use Rattle.std.specs.Prelude.{◌≡◌, IfOk, Ok, Some};
+ghost use Rattle.std.specs.Prelude.{◌≡◌, ◌++◌, ◌∷◌, [], IfOk, OnOk, Ok, Some};
 ghost use Rattle.tsumego_problem.specs.Walk.{problem_within, history_limit};
-ghost use Rattle.record_tools.specs.Marked.{IsMarkedRecord, marked};
+ghost use Rattle.record_tools.specs.Asked.{IsAsked, IsChosen, IsCompleted, IsMarkedFor, IsRegion, marks_named, mover_marks, region_marks};
+ghost use Rattle.record_tools.specs.Marked.{marked};
+ghost use Rattle.record_tools.specs.Named.{values_named};
 
 use crate::asked_node::default_node;
 use crate::mark::{NoMark, mark_tree};
 use crate::named_points::named_values;
 use crate::region::{proposed_region, whole_chains};
 use go_chains::ChainBoard;
-use go_points::Colour;
+use go_points::{Colour, PointSet, Size};
 use sgf_text::{Bytes, Property, SgfNode, Tree, Values};
 use std::alloc::{AllocError, Global};
 use target_game::Problem;
@@ -74,7 +76,9 @@ pub(crate) struct MarkedRecord {
 }
 
 /// The property of this name.
-fn property(alloc: Global, name: &[u8], values: Vec<Bytes>) -> Result<Property, AllocError> {
+fn property(alloc: Global, name: &[u8], values: Vec<Bytes>) -> Result<Property, AllocError>
+    ensures { IfOk result (λ p. (p.ident ≡ name.now) × (p.values ≡ values.items)) }
+{
     Ok(Property {
         ident: Bytes::from_vec(name.to_vec(alloc)?),
         values: Values::from_vec(values),
@@ -86,59 +90,93 @@ fn push_mover(
     alloc: Global,
     mover: Option<Colour>,
     into: &mut Vec<Property>,
-) -> Result<(), AllocError> {
-    let name = match mover {
-        None => return Ok(()),
-        Some(Colour::Black) => b"B",
-        Some(Colour::White) => b"W",
-    };
-    into.push(single(alloc, b"PL", name)?)?;
-    Ok(())
+) -> Result<(), AllocError>
+    ensures { OnOk result (into.new.items ≡ into.old.items ++ mover_marks mover) }
+{
+    match mover {
+        None => Ok(()),
+        Some(Colour::Black) => push_property(single(alloc, b"PL", b"B")?, into),
+        Some(Colour::White) => push_property(single(alloc, b"PL", b"W")?, into),
+    }
 }
 
 /// The node of the marks as they are asked for.
-fn asked_node(alloc: Global, tree: &Tree, wanted: Marks<'_>) -> Result<SgfNode, Refusal> {
-    match SgfNode::new(asked_properties(alloc, tree, wanted)?) {
+fn asked_node(alloc: Global, size: Size, wanted: Marks<'_>) -> Result<SgfNode, Refusal>
+    ensures { IfOk result (λ node. marks_named size wanted.entry ≡ Some node) }
+{
+    match SgfNode::new(asked_properties(alloc, size, wanted)?) {
         Some(node) => Ok(node),
         None => Err(Refusal::BadMarks),
     }
 }
 
 /// The properties of the marks as they are asked for.
-fn asked_properties(
+fn asked_properties(alloc: Global, size: Size, wanted: Marks<'_>) -> Result<Vec<Property>, Refusal>
+    ensures { IfOk result (λ properties. marks_named size wanted.entry ≡ Some properties.items) }
+{
+    let targets = named_property(alloc, size, b"TR", wanted.targets, Refusal::BadTarget)?;
+    let squares = region_properties(alloc, size, wanted.region)?;
+    Ok(joined_marks(alloc, wanted.mover, targets, squares)?)
+}
+
+/// PL, if the mover is asked for, then the targets, and then the region.
+fn joined_marks(
     alloc: Global,
-    tree: &Tree,
-    wanted: Marks<'_>,
-) -> Result<Vec<Property>, Refusal> {
-    let Some(size) = board_size(&tree.nodes()[0]) else {
-        return Err(Refusal::NoProblem(ProblemFault::Size));
-    };
+    mover: Option<Colour>,
+    targets: Property,
+    squares: Vec<Property>,
+) -> Result<Vec<Property>, AllocError>
+    ensures { IfOk result
+        (λ all. all.items ≡ mover_marks mover ++ targets ∷ squares.items) }
+{
+    let mut squares = squares;
     let mut properties = Vec::new(alloc);
-    push_mover(alloc, wanted.mover, &mut properties)?;
-    let targets = named_values(alloc, size, wanted.targets)?;
-    push_points(alloc, b"TR", targets, Refusal::BadTarget, &mut properties)?;
-    if let Region::Points(points) = wanted.region {
-        let region = named_values(alloc, size, points)?;
-        push_points(alloc, b"SQ", region, Refusal::BadRegion, &mut properties)?;
-    }
+    push_mover(alloc, mover, &mut properties)?;
+    push_property(targets, &mut properties)?;
+    properties.append(&mut squares)?;
     Ok(properties)
 }
 
-/// Appends the property of this name with these points. If there are no points, it fails with this refusal.
-fn push_points(
+/// SQ, if the region is asked for by its points.
+fn region_properties(
     alloc: Global,
-    name: &[u8],
-    points: Option<Vec<Bytes>>,
-    refusal: Refusal,
-    into: &mut Vec<Property>,
-) -> Result<(), Refusal> {
-    let Some(values) = points else {
-        return Err(refusal);
-    };
-    Ok(push_property(property(alloc, name, values)?, into)?)
+    size: Size,
+    region: Region<'_>,
+) -> Result<Vec<Property>, Refusal>
+    ensures { IfOk result (λ squares. region_marks size region.entry ≡ Some squares.items) }
+{
+    match region {
+        Region::Proposed => Ok(Vec::new(alloc)),
+        Region::Board => Ok(Vec::new(alloc)),
+        Region::Points(points) => {
+            let named = named_property(alloc, size, b"SQ", points, Refusal::BadRegion)?;
+            let mut squares = Vec::new(alloc);
+            push_property(named, &mut squares)?;
+            Ok(squares)
+        }
+    }
 }
 
-fn push_property(property: Property, into: &mut Vec<Property>) -> Result<(), AllocError> {
+/// The property of this name with the points that the text names. If a name is none, it fails with this refusal.
+fn named_property(
+    alloc: Global,
+    size: Size,
+    name: &[u8],
+    text: &[u8],
+    refusal: Refusal,
+) -> Result<Property, Refusal>
+    ensures { IfOk result
+        (λ p. (p.ident ≡ name.now) × (values_named size text.now ≡ Some p.values)) }
+{
+    match named_values(alloc, size, text)? {
+        Some(values) => Ok(property(alloc, name, values)?),
+        None => Err(refusal),
+    }
+}
+
+fn push_property(property: Property, into: &mut Vec<Property>) -> Result<(), AllocError>
+    ensures { OnOk result (into.new.items ≡ into.old.items ++ property ∷ []) }
+{
     into.push(property)?;
     Ok(())
 }
@@ -172,47 +210,62 @@ pub(crate) fn problem_of(alloc: Global, tree: &Tree) -> Result<Problem, Refusal>
 }
 
 /// The number of the node that is marked.
-pub(crate) fn chosen_place(tree: &Tree, node: Option<usize>) -> usize {
+pub(crate) fn chosen_place(tree: &Tree, node: Option<usize>) -> usize
+    ensures { IsChosen node result }
+{
     match node {
         Some(place) => place,
         None => default_node(tree),
     }
 }
 
-/// The problem of the targets that are asked for at this node, with the whole board as its region.
+/// The problem of the marks that are asked for at this node.
 pub(crate) fn asked_problem(
     alloc: Global,
     tree: &Tree,
     place: usize,
     wanted: Marks<'_>,
-) -> Result<Problem, Refusal> {
-    let asked = with_marks(alloc, tree, place, &asked_node(alloc, tree, wanted)?)?;
+) -> Result<Problem, Refusal>
+    ensures { IfOk result (λ q. IsAsked place wanted.entry tree.now q) }
+{
+    let Some(size) = board_size(&tree.nodes()[0]) else {
+        return Err(Refusal::NoProblem(ProblemFault::Size));
+    };
+    let asked = with_marks(alloc, tree, place, &asked_node(alloc, size, wanted)?)?;
     problem_of(alloc, &asked)
 }
 
 /// The problem with the targets' whole chains, and with the region that is asked for.
-fn completed(alloc: Global, problem: &Problem, region: Region<'_>) -> Result<Problem, Refusal> {
+fn completed(alloc: Global, problem: &Problem, region: Region<'_>) -> Result<Problem, Refusal>
+    ensures { IfOk result (λ made. IsCompleted region.entry problem.now made) }
+{
     let Ok(board) = ChainBoard::from_colouring(problem.colouring()) else {
         return Err(Refusal::BadMarks);
     };
     let targets = whole_chains(&board, problem.targets());
-    let points = match region {
-        Region::Proposed => proposed_region(&board, problem.defender(), &targets),
-        Region::Board => all_points(problem.size()),
-        Region::Points(_) => *problem.region(),
-    };
+    let points = region_of(&board, problem, &targets, region);
     let history = problem.history().to_vec(alloc)?;
     let place = problem.place();
-    match Problem::new(
-        history,
-        place,
-        problem.mover(),
-        problem.passes(),
-        targets,
-        points,
-    ) {
+    let mover = problem.mover();
+    match Problem::new(history, place, mover, problem.passes(), targets, points) {
         Ok(made) => Ok(made),
         Err(_) => Err(Refusal::EmptyRegion),
+    }
+}
+
+/// The region that is asked for.
+fn region_of(
+    board: &ChainBoard,
+    problem: &Problem,
+    targets: &PointSet,
+    region: Region<'_>,
+) -> PointSet
+    ensures { IsRegion region.entry problem.now result }
+{
+    match region {
+        Region::Proposed => proposed_region(board, problem.defender(), targets),
+        Region::Board => all_points(problem.size()),
+        Region::Points(_) => *problem.region(),
     }
 }
 
@@ -224,12 +277,13 @@ pub(crate) fn marked_record(
     tree: &Tree,
     wanted: Marks<'_>,
 ) -> Result<MarkedRecord, Refusal>
-    ensures marked { IfOk result (λ r. IsMarkedRecord r.place tree.now r.tree) }
+    ensures marked { IfOk result (λ r. IsMarkedFor wanted.entry r.place tree.now r.tree) }
+    ensures place { IfOk result (λ r. IsChosen wanted.entry.node r.place) }
     ensures problem { IfOk result (λ r. problem_within (Some history_limit) r.tree ≡ Ok r.problem) }
 {
     let place = chosen_place(tree, wanted.node);
-    let asked = with_marks(alloc, tree, place, &asked_node(alloc, tree, wanted)?)?;
-    let complete = completed(alloc, &problem_of(alloc, &asked)?, wanted.region)?;
+    let asked = asked_problem(alloc, tree, place, wanted)?;
+    let complete = completed(alloc, &asked, wanted.region)?;
     let marks = marks_node(alloc, &complete)?;
     let made = with_marks(alloc, tree, place, &marks)?;
     let problem = problem_of(alloc, &made)?;

@@ -1,6 +1,11 @@
 //! Points and rectangles as people name them, as the values of a property.
 
-use go_points::{Size, to_sgf};
+ghost use Rattle.std.specs.Prelude.{◌≡◌, ◌≤◌, IfOk, Some, option_map, position, length, take};
+ghost use Rattle.go_points.specs.Sgf.{sgf_text};
+ghost use Rattle.record_tools.specs.Named.{corners, greater, is_colon, is_comma, lesser, value_named, values_named};
+
+use crate::parts::text_after;
+use go_points::{Point, Size, to_sgf};
 use regions::named_point;
 use sgf_text::Bytes;
 use std::alloc::{AllocError, Global};
@@ -10,65 +15,88 @@ pub(crate) fn named_values(
     alloc: Global,
     size: Size,
     text: &[u8],
-) -> Result<Option<Vec<Bytes>>, AllocError> {
+) -> Result<Option<Vec<Bytes>>, AllocError>
+    ensures { IfOk result (λ named. option_map (λ v. v.items) named ≡ values_named size text.now) }
+{
     let mut values = Vec::new(alloc);
-    let mut from: usize = 0;
-    for at in 0..text.len() {
-        if text[at] == b',' {
-            let Some(value) = named_value(alloc, size, part(text, from, at))? else {
-                return Ok(None);
-            };
-            values.push(value)?;
-            from = at + 1;
-        }
+    let mut rest = text;
+    while let Some(at) = comma_in(rest) {
+        let Some(value) = named_value(alloc, size, &rest[..at])? else {
+            return Ok(None);
+        };
+        values.push(value)?;
+        rest = text_after(rest, at + 1);
     }
-    let Some(last) = named_value(alloc, size, part(text, from, text.len()))? else {
+    let Some(last) = named_value(alloc, size, rest)? else {
         return Ok(None);
     };
     values.push(last)?;
     Ok(Some(values))
 }
 
-/// The part of the text from one place to another; empty if there is no such part.
-fn part<'a>(text: &'a [u8], from: usize, end: usize) -> &'a [u8] {
-    text.get(from..end).unwrap_or(b"")
+/// The first comma.
+fn comma_in(text: &[u8]) -> Option<usize>
+    ensures { result ≡ position is_comma text.now }
+{
+    text.iter().position(|byte| *byte == b',')
+}
+
+/// The first colon.
+fn colon_in(name: &[u8]) -> Option<usize>
+    ensures { result ≡ position is_colon name.now }
+{
+    name.iter().position(|byte| *byte == b':')
 }
 
 /// The point or the rectangle of this name, in letters.
-fn named_value(alloc: Global, size: Size, name: &[u8]) -> Result<Option<Bytes>, AllocError> {
-    for at in 0..name.len() {
-        if name[at] == b':' {
-            return rectangle(
-                alloc,
-                size,
-                part(name, 0, at),
-                part(name, at + 1, name.len()),
-            );
-        }
+fn named_value(alloc: Global, size: Size, name: &[u8]) -> Result<Option<Bytes>, AllocError>
+    ensures { IfOk result (λ value. value ≡ value_named size name.now) }
+{
+    if let Some(at) = colon_in(name) {
+        let first = named_point(size, &name[..at]);
+        let second = named_point(size, text_after(name, at + 1));
+        let (Some(first), Some(second)) = (first, second) else {
+            return Ok(None);
+        };
+        return Ok(Some(rectangle(alloc, first, second)?));
     }
-    let Some(point) = named_point(size, name) else {
-        return Ok(None);
-    };
-    Ok(Some(Bytes::from_vec(to_sgf(point).as_slice().to_vec(alloc)?)))
+    match named_point(size, name) {
+        Some(point) => Ok(Some(letters(alloc, point)?)),
+        None => Ok(None),
+    }
+}
+
+/// The letters of the point.
+fn letters(alloc: Global, point: Point) -> Result<Bytes, AllocError>
+    ensures { IfOk result (λ value. value ≡ sgf_text point) }
+{
+    Ok(Bytes::from_vec(to_sgf(point).as_slice().to_vec(alloc)?))
 }
 
 /// The rectangle of two opposite corners.
-fn rectangle(
-    alloc: Global,
-    size: Size,
-    first: &[u8],
-    second: &[u8],
-) -> Result<Option<Bytes>, AllocError> {
-    let (Some(one), Some(other)) = (named_point(size, first), named_point(size, second)) else {
-        return Ok(None);
-    };
-    let one = to_sgf(one);
-    let other = to_sgf(other);
-    let mut text = Vec::new(alloc);
-    text.push(one[0].min(other[0]))?;
-    text.push(one[1].min(other[1]))?;
-    text.push(b':')?;
-    text.push(one[0].max(other[0]))?;
-    text.push(one[1].max(other[1]))?;
-    Ok(Some(Bytes::from_vec(text)))
+fn rectangle(alloc: Global, first: Point, second: Point) -> Result<Bytes, AllocError>
+    ensures { IfOk result (λ value. value ≡ corners (sgf_text first) (sgf_text second)) }
+{
+    let one = to_sgf(first);
+    let other = to_sgf(second);
+    let text = [
+        lesser(one[0], other[0]),
+        lesser(one[1], other[1]),
+        b':',
+        greater(one[0], other[0]),
+        greater(one[1], other[1]),
+    ];
+    Ok(Bytes::from_vec(text.as_slice().to_vec(alloc)?))
+}
+
+fn lesser(first: u8, second: u8) -> u8
+    ensures { result ≡ lesser first second }
+{
+    if first <= second { first } else { second }
+}
+
+fn greater(first: u8, second: u8) -> u8
+    ensures { result ≡ greater first second }
+{
+    if first <= second { second } else { first }
 }

@@ -1,5 +1,13 @@
 //! A run of the program: from its words and its input to its answer.
 
+ghost use Rattle.std.specs.Prelude.{◌≡◌, ◌-◌, ℕ, List, IfOk};
+ghost use Rattle.record_tools.specs.Games.{IsGame};
+ghost use Rattle.record_tools.specs.Asked.{IsMarkedFor};
+ghost use Rattle.record_tools.specs.Supposed.{IsMarkedBy};
+ghost use Rattle.record_tools.specs.Outputs.{AnswersRecord, HasAnswered, IsAlone, IsAnswered, IsMarkedIn, IsOutput, IsWritten, IsZone};
+ghost use Rattle.tool_parts.specs.Written.{end_of};
+ghost use Rattle.tool_parts.specs.declared.status.Status.TheVariants.{Answered};
+
 use crate::bare::bare_record;
 use crate::games::game;
 use crate::marked_record::{Marks, Region, marked_record};
@@ -7,41 +15,50 @@ use crate::refusals::{no_mark, no_page, no_picture};
 use crate::split::split_into;
 use crate::supposed_record::{Supposition, supposed_record};
 use crate::told::{tell_past, tell_region, tell_stones};
-use crate::words::{PageForm, Request, empty_points, read_request};
+use crate::words::{PageForm, Request, Zone};
 use record_pages::{Cut, page_json, page_of};
 use record_pictures::{Look, View, ascii, drawing_of, svg};
 use sgf_text::{SgfFault, Tree, read_tree};
 use std::alloc::{AllocError, Global};
-use std::convert::AsStr;
 use std::io::{Read, Write};
 use std::rt::Files;
 use target_game::Problem;
 use tool_parts::{
-    Output, Status, read_whole, refused_tree, without_input, without_request, write_output,
+    NoRequest, Output, Status, read_whole, refused_tree, without_input, without_request,
+    write_output,
 };
 
-/// Runs the program on its words, the first of which is its name. What is said besides the answer goes to `notes`, and the trees of
-/// a file that is split go to `files`.
-pub fn run<S: AsStr, F: Files, R: Read, W: Write, N: Write>(
+/// Runs the program for what its words ask for, if they ask for something. What is said besides the answer goes to `notes`, and the
+/// trees of a file that is split go to `files`.
+///
+/// If the run is answered, the writer has taken the whole output for this request and for the bytes that the reader tells.
+pub fn run<F: Files, R: Read, W: Write, N: Write>(
     alloc: Global,
     files: &F,
-    words: &[S],
+    request: Result<Request, NoRequest>,
     reader: &mut R,
     writer: &mut W,
     notes: &mut N,
-) -> Status {
-    write_output(writer, output(alloc, files, words, reader, notes))
+) -> Status
+    ensures { result ≡ Answered → HasAnswered request (R.remaining reader.old)
+        (W.contents writer.old) (W.contents writer.new) }
+{
+    write_output(writer, output(alloc, files, request, reader, notes))
 }
 
-/// What is written for the words and the input.
-fn output<S: AsStr, F: Files, R: Read, N: Write>(
+/// What is written for the request and the input.
+#[tactic(auto, using(crate::proofs::Outputs::all_read, crate::proofs::Outputs::not_answered, crate::proofs::Outputs::output_answered))]
+fn output<F: Files, R: Read, N: Write>(
     alloc: Global,
     files: &F,
-    words: &[S],
+    request: Result<Request, NoRequest>,
     reader: &mut R,
     notes: &mut N,
-) -> Result<Output, AllocError> {
-    let request = match read_request(alloc, words) {
+) -> Result<Output, AllocError>
+    ensures { IfOk result (λ o. end_of o ≡ Answered
+        → IsAnswered request (R.remaining reader.old) o) }
+{
+    let request = match request {
         Ok(request) => request,
         Err(none) => return without_request(none),
     };
@@ -53,45 +70,33 @@ fn output<S: AsStr, F: Files, R: Read, N: Write>(
 }
 
 /// What is written for what is asked for and these bytes.
+#[tactic(auto, using(crate::proofs::Outputs::asked_for, crate::proofs::Outputs::unsaid))]
 fn output_of<F: Files, N: Write>(
     alloc: Global,
     files: &F,
     request: &Request,
     bytes: &[u8],
     notes: &mut N,
-) -> Result<Output, AllocError> {
+) -> Result<Output, AllocError>
+    ensures { IfOk result (λ o. IsOutput request.now bytes.now o) }
+{
     match request {
-        Request::Split { number } => match game(alloc, bytes, number.saturating_sub(1)) {
-            Ok(tree) => Ok(Output::Record(tree)),
-            Err(fault) => refused_tree(alloc, fault),
-        },
+        Request::Split { number } => output_game(alloc, *number, bytes),
         Request::SplitInto { folder } => split_into(alloc, files, folder.as_str(), bytes, notes),
         Request::Mark {
             node,
             targets,
-            region,
-            walls,
-            shut,
+            zone,
             mover,
             is_bare,
         } => {
             let wanted = Marks {
                 node: *node,
                 targets: targets.as_bytes(),
-                region: region_named(region.as_str()),
+                region: region_of(zone),
                 mover: *mover,
             };
-            match empty_points(region.as_str()) {
-                None => output_marked(alloc, wanted, *is_bare, bytes, notes),
-                Some(count) => {
-                    let supposition = Supposition {
-                        count,
-                        walls: *walls,
-                        shut: shut.as_bytes(),
-                    };
-                    output_supposed(alloc, wanted, supposition, *is_bare, bytes, notes)
-                }
-            }
+            output_mark(alloc, wanted, zone, *is_bare, bytes, notes)
         }
         Request::Page { cut, form } => output_page(alloc, *cut, *form, bytes),
         Request::Picture {
@@ -110,13 +115,52 @@ fn output_of<F: Files, N: Write>(
     }
 }
 
-/// The region that a word names.
-fn region_named<'a>(word: &'a str) -> Region<'a> {
-    match word {
-        "auto" => Region::Proposed,
-        "board" => Region::Board,
-        _ if empty_points(word).is_some() => Region::Board,
-        _ => Region::Points(word.as_bytes()),
+/// The tree with this number, from 1, or why there is none.
+fn output_game(alloc: Global, number: usize, bytes: &[u8]) -> Result<Output, AllocError>
+    ensures { IfOk result (AnswersRecord (IsGame (number - 1) bytes.now)) }
+{
+    match game(alloc, bytes, number.saturating_sub(1)) {
+        Ok(tree) => Ok(Output::Record(tree)),
+        Err(fault) => refused_tree(alloc, fault),
+    }
+}
+
+/// The record of these bytes with the marks, or why there is none.
+fn output_mark<N: Write>(
+    alloc: Global,
+    wanted: Marks<'_>,
+    zone: &Zone,
+    is_bare: bool,
+    bytes: &[u8],
+    notes: &mut N,
+) -> Result<Output, AllocError>
+    ensures { IfOk result (AnswersRecord (IsWritten (IsMarkedIn zone.now wanted.entry) wanted.entry.node is_bare
+        bytes.now)) }
+{
+    match zone {
+        Zone::Proposed => output_marked(alloc, wanted, is_bare, bytes, notes),
+        Zone::Board => output_marked(alloc, wanted, is_bare, bytes, notes),
+        Zone::Points(_) => output_marked(alloc, wanted, is_bare, bytes, notes),
+        Zone::Count(count, walls, shut) => {
+            let supposition = Supposition {
+                count: *count,
+                walls: *walls,
+                shut: shut.as_bytes(),
+            };
+            output_supposed(alloc, wanted, supposition, is_bare, bytes, notes)
+        }
+    }
+}
+
+/// The region of the marks as they are named. With a number of empty points it is found later.
+fn region_of<'a>(zone: &'a Zone) -> Region<'a>
+    ensures { IsZone zone.now result }
+{
+    match zone {
+        Zone::Proposed => Region::Proposed,
+        Zone::Board => Region::Board,
+        Zone::Points(text) => Region::Points(text.as_bytes()),
+        Zone::Count(_, _, _) => Region::Board,
     }
 }
 
@@ -127,7 +171,9 @@ fn output_marked<N: Write>(
     is_bare: bool,
     bytes: &[u8],
     notes: &mut N,
-) -> Result<Output, AllocError> {
+) -> Result<Output, AllocError>
+    ensures { IfOk result (AnswersRecord (IsWritten (IsMarkedFor wanted.entry) wanted.entry.node is_bare bytes.now)) }
+{
     let tree = match read_tree(alloc, bytes) {
         Ok((tree, _end)) => tree,
         Err(fault) => return refused_tree(alloc, fault),
@@ -150,7 +196,9 @@ fn output_bare<N: Write>(
     problem: &Problem,
     titled: &Tree,
     notes: &mut N,
-) -> Result<Output, AllocError> {
+) -> Result<Output, AllocError>
+    ensures { IfOk result (AnswersRecord (IsAlone problem.now)) }
+{
     match bare_record(alloc, problem, titled) {
         Ok(bare) => {
             if bare.is_another {
@@ -170,7 +218,9 @@ fn output_supposed<N: Write>(
     is_bare: bool,
     bytes: &[u8],
     notes: &mut N,
-) -> Result<Output, AllocError> {
+) -> Result<Output, AllocError>
+    ensures { IfOk result (AnswersRecord (IsWritten (IsMarkedBy wanted.entry) wanted.entry.node is_bare bytes.now)) }
+{
     let tree = match read_tree(alloc, bytes) {
         Ok((tree, _end)) => tree,
         Err(fault) => return refused_tree(alloc, fault),

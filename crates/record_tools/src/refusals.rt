@@ -1,5 +1,9 @@
 //! Why nothing is made, in words.
 
+ghost use Rattle.std.specs.Prelude.{◌≡◌, IfOk};
+ghost use Rattle.tool_parts.specs.Written.{end_of};
+ghost use Rattle.tool_parts.specs.declared.status.Status.TheVariants.{Refused};
+
 use crate::marked_record::Refusal;
 use go_points::{Turn, to_sgf};
 use record_pages::NoPage;
@@ -9,12 +13,16 @@ use std::alloc::{AllocError, Global};
 use tool_parts::{Output, Status, refused_problem, text_of};
 
 /// A refusal with this text.
-fn refused(text: String) -> Result<Output, AllocError> {
+fn refused(text: String) -> Result<Output, AllocError>
+    ensures { IfOk result (λ o. end_of o ≡ Refused) }
+{
     Ok(Output::Text(text, Status::Refused))
 }
 
 /// Why no record was made.
-pub(crate) fn no_mark(alloc: Global, refusal: Refusal) -> Result<Output, AllocError> {
+pub(crate) fn no_mark(alloc: Global, refusal: Refusal) -> Result<Output, AllocError>
+    ensures { IfOk result (λ o. end_of o ≡ Refused) }
+{
     match refusal {
         Refusal::Memory => Err(AllocError),
         Refusal::OffTheLine => off_the_line(alloc),
@@ -35,7 +43,9 @@ pub(crate) fn no_mark(alloc: Global, refusal: Refusal) -> Result<Output, AllocEr
     }
 }
 
-fn off_the_line(alloc: Global) -> Result<Output, AllocError> {
+fn off_the_line(alloc: Global) -> Result<Output, AllocError>
+    ensures { IfOk result (λ o. end_of o ≡ Refused) }
+{
     refused(format!(in alloc; "refused: the main line has no such node\n")?)
 }
 

@@ -2,14 +2,18 @@
 
 ghost use Rattle.go_points.specs.Grid.{side_of};
 ghost use Rattle.go_points.specs.Place.{IsOn};
+ghost use Rattle.record_tools.specs.Asked.{AreWhole};
+ghost use Rattle.record_tools.specs.Private.Sets.{HoldsBoth};
 
 use go_chains::ChainBoard;
 use go_points::{Cell, Colour, Point, PointSet, Size};
 
 /// The targets with all stones of their chains.
-pub(crate) fn whole_chains(board: &ChainBoard, targets: &PointSet) -> PointSet {
+pub(crate) fn whole_chains(board: &ChainBoard, targets: &PointSet) -> PointSet
+    ensures { AreWhole board.now targets.now result }
+{
     let size = board.size();
-    let mut whole = *targets;
+    let mut whole = PointSet::new();
     for number in 0..size.area() {
         let point = size.point_at(number);
         if targets.has(point) {
@@ -22,7 +26,9 @@ pub(crate) fn whole_chains(board: &ChainBoard, targets: &PointSet) -> PointSet {
 }
 
 /// The points of both sets.
-fn joined(size: Size, first: &PointSet, second: &PointSet) -> PointSet {
+fn joined(size: Size, first: &PointSet, second: &PointSet) -> PointSet
+    ensures { HoldsBoth size first.now second.now result }
+{
     let mut all = *first;
     for number in 0..size.area() {
         let point = size.point_at(number);

@@ -1,8 +1,9 @@
 //! A record with the marks of a problem in which something is supposed about what is outside the region, by placing stones there.
 
-ghost use Rattle.std.specs.Prelude.{◌≡◌, ◌++◌, IfOk, Ok, Some};
+ghost use Rattle.std.specs.Prelude.{◌≡◌, ◌++◌, [], IfOk, IsTrue, Ok, Some, slice_index_or};
 ghost use Rattle.tsumego_problem.specs.Walk.{problem_within, history_limit};
-ghost use Rattle.record_tools.specs.Supposed.{IsRecordWith, stones};
+ghost use Rattle.record_tools.specs.Asked.{IsChosen, IsSupposed};
+ghost use Rattle.record_tools.specs.Supposed.{IsMarkedWith, stones};
 
 use crate::mark::push_properties;
 use crate::marked_record::{Marks, Refusal, asked_problem, chosen_place, problem_of, with_marks};
@@ -58,28 +59,60 @@ fn supposed_of(
     Ok(supposed)
 }
 
-/// Appends the colouring.
-fn push_colouring(history: &mut Vec<Colouring>, colouring: Colouring) -> Result<(), AllocError> {
-    history.push(colouring)?;
-    Ok(())
+/// Whether the colourings are the same.
+fn are_same(first: &Colouring, second: &Colouring) -> bool
+    ensures { IsTrue result → second.now ≡ first.now }
+{
+    first == second
+}
+
+/// A history, the place of the present position in it, and the passes in a row.
+#[derive(Drop)]
+struct Past {
+    history: Vec<Colouring>,
+    place: usize,
+    passes: u64,
+}
+
+/// The history of the problem, which goes on with this position, if that is another one.
+fn past_with(alloc: Global, problem: &Problem, colouring: &Colouring) -> Result<Past, AllocError>
+    ensures { IfOk result (λ p. slice_index_or p.history.items p.place [] ≡ colouring.now) }
+{
+    let mut history = problem.history().to_vec(alloc)?;
+    if are_same(problem.colouring(), colouring) {
+        return Ok(Past {
+            history,
+            place: problem.place(),
+            passes: problem.passes(),
+        });
+    }
+    let place = history.len();
+    history.push(*colouring)?;
+    Ok(Past {
+        history,
+        place,
+        passes: 0,
+    })
 }
 
 /// The problem after the stones were placed: its history goes on with the new position, if there is one.
-fn problem_with(alloc: Global, problem: &Problem, supposed: &Supposed) -> Result<Problem, Refusal> {
+fn problem_with(alloc: Global, problem: &Problem, supposed: &Supposed) -> Result<Problem, Refusal>
+    ensures { IfOk result (λ made. IsSupposed problem.now made) }
+{
     let Ok(board) = ChainBoard::from_colouring(&supposed.colouring) else {
         return Err(Refusal::BadMarks);
     };
     let targets = whole_chains(&board, problem.targets());
-    let mut history = problem.history().to_vec(alloc)?;
-    let mut place = problem.place();
-    let mut passes = problem.passes();
-    if *problem.colouring() != supposed.colouring {
-        place = history.len();
-        passes = 0;
-        push_colouring(&mut history, supposed.colouring)?;
-    }
+    let past = past_with(alloc, problem, &supposed.colouring)?;
     let mover = problem.mover();
-    match Problem::new(history, place, mover, passes, targets, supposed.region) {
+    match Problem::new(
+        past.history,
+        past.place,
+        mover,
+        past.passes,
+        targets,
+        supposed.region,
+    ) {
         Ok(made) => Ok(made),
         Err(_) => Err(Refusal::EmptyRegion),
     }
@@ -121,7 +154,9 @@ pub(crate) fn supposed_record(
     wanted: Marks<'_>,
     supposition: Supposition<'_>,
 ) -> Result<SupposedRecord, Refusal>
-    ensures marked { IfOk result (λ r. IsRecordWith r.place r.black r.white tree.now r.tree) }
+    ensures marked { IfOk result (λ r. IsMarkedWith wanted.entry r.place r.black r.white
+        tree.now r.tree) }
+    ensures place { IfOk result (λ r. IsChosen wanted.entry.node r.place) }
     ensures problem { IfOk result (λ r. problem_within (Some history_limit) r.tree ≡ Ok r.problem) }
 {
     let place = chosen_place(tree, wanted.node);

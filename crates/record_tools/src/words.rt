@@ -15,16 +15,29 @@ pub(crate) const MOST: u64 = 1_000_000;
 
 /// What is written for a page.
 #[derive(Clone, Copy, Debug, PartialEq, Eq)]
-pub(crate) enum PageForm {
+pub enum PageForm {
     /// The data of an interactive page.
     Json,
     /// A record, which may keep the game before the problem.
     Record { keeps_past: bool },
 }
 
+/// Where both sides are to play.
+#[derive(Drop)]
+pub enum Zone {
+    /// The region that is proposed for the targets.
+    Proposed,
+    /// The whole board.
+    Board,
+    /// Points and rectangles, separated by commas.
+    Points(String),
+    /// This many empty points, with what is supposed outside them, and points outside that are shut.
+    Count(usize, Walls, String),
+}
+
 /// What the words ask for.
 #[derive(Drop)]
-pub(crate) enum Request {
+pub enum Request {
     /// The game tree with this number, from 1.
     Split {
         number: usize,
@@ -36,11 +49,9 @@ pub(crate) enum Request {
     /// The record with marks.
     Mark {
         node: Option<usize>,
+        /// Points of the targets' chains, separated by commas.
         targets: String,
-        region: String,
-        /// What is supposed outside a region of this many empty points.
-        walls: Walls,
-        shut: String,
+        zone: Zone,
         mover: Option<Colour>,
         /// Whether only the present position is written.
         is_bare: bool,
@@ -61,10 +72,7 @@ pub(crate) enum Request {
 }
 
 /// What the words ask for. The first word is the program's name.
-pub(crate) fn read_request<'a, S: AsStr>(
-    alloc: Global,
-    words: &'a [S],
-) -> Result<Request, NoRequest> {
+pub fn read_request<'a, S: AsStr>(alloc: Global, words: &'a [S]) -> Result<Request, NoRequest> {
     let program = program(alloc)?;
     match program.try_get_matches_from(words) {
         Ok(matches) => chosen(alloc, &matches),
@@ -113,12 +121,24 @@ fn chosen_marks(alloc: Global, given: &ArgMatches<'_>) -> Result<Request, NoRequ
     Ok(Request::Mark {
         node,
         targets,
-        region,
-        walls,
-        shut,
+        zone: zone_named(region, walls, shut),
         mover,
         is_bare: given.get_one::<bool>("bare").unwrap_or(false),
     })
+}
+
+/// Where both sides are to play, by the word for the region.
+fn zone_named(region: String, walls: Walls, shut: String) -> Zone {
+    if let Some(count) = empty_points(region.as_str()) {
+        return Zone::Count(count, walls, shut);
+    }
+    if region.as_str() == "auto" {
+        return Zone::Proposed;
+    }
+    if region.as_str() == "board" {
+        return Zone::Board;
+    }
+    Zone::Points(region)
 }
 
 /// The page that is asked for.
@@ -203,7 +223,7 @@ fn text(
 }
 
 /// How many empty points the region is to have, if the word is a number.
-pub(crate) fn empty_points(region: &str) -> Option<usize> {
+fn empty_points(region: &str) -> Option<usize> {
     match region.parse::<u16>() {
         Ok(count) if count > 0 => Some(count as usize),
         _ => None,

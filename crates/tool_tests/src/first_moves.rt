@@ -4,7 +4,7 @@
 //! written for problems so small that it was worked out by hand.
 
 use crate::expect::expect_written;
-use first_turns::run;
+use first_turns::{read_request, run};
 use std::alloc::Global;
 use std::process::Abort;
 use tool_parts::Status;
@@ -34,7 +34,13 @@ pub(crate) fn gives_with_notes(
     let mut reader = input.as_bytes();
     let mut written = Vec::new(alloc);
     let mut noted = Vec::new(alloc);
-    let ended = run(alloc, words, &mut reader, &mut written, &mut noted);
+    let ended = run(
+        alloc,
+        read_request(alloc, words),
+        &mut reader,
+        &mut written,
+        &mut noted,
+    );
     expect_written(rt, written, text);
     expect_written(rt, noted, notes);
     assert_eq!(rt; ended, status);

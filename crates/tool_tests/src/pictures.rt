@@ -1,7 +1,7 @@
 //! Pictures of small records, drawn by hand.
 
 use crate::records::gives;
-use record_tools::run;
+use record_tools::{read_request, run};
 use std::alloc::Global;
 use std::process::Abort;
 use std::rt::Files;
@@ -63,7 +63,14 @@ fn draws(rt: &(impl Abort + Files), alloc: Global, words: &[&str], input: &str, 
     let mut reader = input.as_bytes();
     let mut writer = Vec::new(alloc);
     let mut notes = Vec::new(alloc);
-    let ended = run(alloc, rt, words, &mut reader, &mut writer, &mut notes);
+    let ended = run(
+        alloc,
+        rt,
+        read_request(alloc, words),
+        &mut reader,
+        &mut writer,
+        &mut notes,
+    );
     assert_eq!(rt; ended, Status::Answered);
     let said = String::from_utf8(writer).ok().expect(rt, "a text");
     for piece in pieces {

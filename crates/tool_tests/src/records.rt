@@ -2,7 +2,7 @@
 //! the rules of the formats.
 
 use crate::expect::expect_written;
-use record_tools::run;
+use record_tools::{read_request, run};
 use std::alloc::Global;
 use std::process::Abort;
 use std::rt::Files;
@@ -33,7 +33,14 @@ pub(crate) fn gives_with_notes(
     let mut reader = input.as_bytes();
     let mut written = Vec::new(alloc);
     let mut noted = Vec::new(alloc);
-    let ended = run(alloc, rt, words, &mut reader, &mut written, &mut noted);
+    let ended = run(
+        alloc,
+        rt,
+        read_request(alloc, words),
+        &mut reader,
+        &mut written,
+        &mut noted,
+    );
     expect_written(rt, written, text);
     expect_written(rt, noted, notes);
     assert_eq!(rt; ended, status);

@@ -1,0 +1,5 @@
+use Rattle.first_turns.proofs.Outputs.{answered}
+use Rattle.first_turns.proofs.program.run.Goals as goal
+
+pub returns : goal.returns
+returns g c = answered c.args.request c.output.result c.write_output.result _ _ _ c.output.ensures c.write_output.ensures.written c.write_output.ensures.status c.write_output.ensures.memory

@@ -16,6 +16,8 @@ mod parts;
 #[cfg(test)]
 mod pictures;
 #[cfg(test)]
+mod readings;
+#[cfg(test)]
 mod records;
 #[cfg(test)]
 mod suppositions;

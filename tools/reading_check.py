@@ -14,6 +14,8 @@ import pathlib
 import re
 import sys
 
+import script_words
+
 CHECKER = pathlib.Path(__file__).resolve().parent.parent / "contrib/second-checker/check.py"
 NAMES = {"X": "Black", "O": "White"}
 COLUMNS = "ABCDEFGHJKLMNOPQRSTUVWXYZ"
@@ -147,7 +149,7 @@ class Reading:
 
 def main(names):
     sys.setrecursionlimit(1_000_000)
-    is_good = bool(names)
+    is_good = True
     for name in names:
         try:
             reading = Reading(pathlib.Path(name).read_bytes())
@@ -160,7 +162,4 @@ def main(names):
 
 
 if __name__ == "__main__":
-    if "--help" in sys.argv:
-        print(__doc__)
-        sys.exit(0)
-    sys.exit(main(sys.argv[1:]))
+    sys.exit(main(script_words.given(__doc__, 1, None)))

@@ -156,8 +156,8 @@ def row_of(name, program, peers, problems):
         peer = [peers["search"], "run", f"steps={STEPS}", "shrink=0", "claim=0", "/dev/stdin"]
         return Row(name, ours, peer, unsolved(ours, peer, problems) if peers["search"] else [], rb"unknown")
     if name == "gtp":
-        peer = ["gnugo", "--mode", "gtp"]
-        return Row(name, [program, "gtp"], peer, [commands(19, 1).encode()] if shutil.which("gnugo") else [], rb"")
+        gnugo = shutil.which("gnugo", path=os.environ["PATH"] + ":/usr/games")
+        return Row(name, [program, "gtp"], [gnugo, "--mode", "gtp"], [commands(19, 1).encode()] if gnugo else [], rb"")
     if name == "claims":
         claims = solved(program, problems, ["--proof"], lambda answer: len(answer) > 100_000 and b"\nlemma " in answer)
         return Row(name, [program, "check"], [peers["checker"]], claims)

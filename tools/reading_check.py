@@ -157,7 +157,7 @@ def main(names):
             print(f"{name}: wins {NAMES[reading.winner]}, {counts}")
         except (Wrong, rules.Ending) as fault:
             is_good = False
-            print(f"{name}: WRONG: {fault}")
+            print(f"{name}: WRONG: {fault.args[0]}")
     return 0 if is_good else 1
 
 

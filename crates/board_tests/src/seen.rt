@@ -60,3 +60,66 @@ fn each_colouring_joins_once(rt: HostRuntime) {
         Some(true),
     );
 }
+
+// Whether a list of two colourings says of the key of each that it may be there, also when the second has been taken off.
+fn may_be_there<S: Seen>(
+    alloc: Global,
+    first: Colouring,
+    second: Colouring,
+) -> Result<bool, AllocError> {
+    let mut seen = S::new(alloc);
+    seen.add(first)?;
+    let was_one_there = seen.may_hold(key_of(&first));
+    if seen.holds(&second).is_some() {
+        return Ok(false);
+    }
+    seen.add(second)?;
+    let were_two_there = seen.may_hold(key_of(&first)) && seen.may_hold(key_of(&second));
+    seen.take_last();
+    Ok(was_one_there && were_two_there && seen.may_hold(key_of(&first)))
+}
+
+// Of the words of the stones on nine points, those of a white one at point 5 and of a black one at point 6 alone agree in their last
+// nine bits.
+#[test]
+fn a_key_that_is_there_may_be_there(rt: HostRuntime) {
+    let size = board(&rt, 3);
+    let first = painted(size, ".....O...");
+    let second = painted(size, "......X..");
+    expect_same(&rt, key_of(&first) % 512, key_of(&second) % 512);
+    expect_same(
+        &rt,
+        may_be_there::<PlaySeen>(rt.alloc(), first, second).ok(),
+        Some(true),
+    );
+    expect_same(
+        &rt,
+        may_be_there::<ListSeen>(rt.alloc(), first, second).ok(),
+        Some(true),
+    );
+}
+
+// What a list says of a key before the first colouring, after it, and when it has been taken off again.
+fn said_of_key(
+    alloc: Global,
+    first: Colouring,
+    key: u64,
+) -> Result<(bool, bool, bool), AllocError> {
+    let mut seen = PlaySeen::new(alloc);
+    let before = seen.may_hold(key);
+    seen.add(first)?;
+    let after = seen.may_hold(key);
+    seen.take_last();
+    Ok((before, after, seen.may_hold(key)))
+}
+
+#[test]
+fn keys_of_an_empty_bucket_are_ruled_out(rt: HostRuntime) {
+    let size = board(&rt, 3);
+    let first = painted(size, ".....O...");
+    let own = said_of_key(rt.alloc(), first, key_of(&first));
+    expect_same(&rt, own.ok(), Some((false, true, false)));
+    let other = painted(size, "O........");
+    let others = said_of_key(rt.alloc(), first, key_of(&other));
+    expect_same(&rt, others.ok(), Some((false, false, false)));
+}

@@ -1,5 +1,5 @@
 -- A set of colourings that keeps their order, as a history without repeats.
-use Rattle.std.proofs.Common.{◌≡◌, ℕ, ◌+◌, ◌-◌, true, false, inl, inr, subst, List, [], ◌∷◌, ◌++◌, take, length, length-append, Option, Some, None, if◌then◌else◌, sym, ◌∙◌, ap, ap₂, arith}
+use Rattle.std.proofs.Common.{◌≡◌, ℕ, ◌+◌, ◌-◌, ◌<◌, true, false, inl, inr, subst, List, [], ◌∷◌, ◌++◌, take, length, length-append, Option, Some, None, if◌then◌else◌, sym, ◌∙◌, ap, ap₂, arith}
 use Rattle.std.specs.List.{list_any, position_or_len}
 use Rattle.std.specs.Option.{IsSome, option_to_list}
 use Rattle.std.proofs.Math.Seq.{take-append_seam}
@@ -14,12 +14,21 @@ pub goes_last : (h : List (List Cell)) (c : List Cell) → place_in h c ≡ None
 goes_last h c fresh = ap (λ b. if b then h else h ++ c ∷ []) (no_element (same_cells c) h fresh)
 
 -- what the last colouring leaves
-pub left_over : (r : Option (List Cell)) (old new : List (List Cell)) → old ≡ new ++ option_to_list r → IsSome r → new ≡ take (length old - 1) old
+left_over : (r : Option (List Cell)) (old new : List (List Cell)) → old ≡ new ++ option_to_list r → IsSome r → new ≡ take (length old - 1) old
 left_over None old new whole none = absurd (cc none)
 left_over (Some c) old new whole some =
     let long : length old ≡ length new + 1 = ap length whole ∙ length-append new (c ∷ []) in
     let short : length old - 1 ≡ length new = omega (arith, long) in
     sym (take-append_seam new (c ∷ [])) ∙ ap₂ take (sym short) (sym whole)
+
+pub popped : (r : Option (List Cell)) (old new h : List (List Cell)) → old ≡ h → 0 < length h → (0 < length old → IsSome r) → old ≡ new ++ option_to_list r → new ≡ take (length old - 1) old
+popped r old new h same some found whole =
+    let long : length old ≡ length h = ap length same in
+    left_over r old new whole (found (omega (arith, some, long)))
+
+pub not_popped : (r : Option (List Cell)) → r ≡ None → IsSome r → ⊥
+not_popped None none some = absurd (cc some)
+not_popped (Some c) none some = absurd (cc none)
 
 pub rest_is_once : (old new : List (List Cell)) (k : ℕ) → new ≡ take k old → repeats old ≡ false → repeats new ≡ false
 rest_is_once old new k front once = ap repeats front ∙ once_in_front old k once

@@ -56,6 +56,11 @@ module _ {X : Type 0} (test : X → Bool) where
   none_in_front (x ∷ xs) (suc k) h =
       or_from (test x) (list_any test (take k xs)) (or_no_left (test x) (list_any test xs) h) (none_in_front xs k (or_no_right (test x) (list_any test xs) h))
 
+-- none passes where none does at any place
+pub any_none : (f : List Cell → Bool) (xs : List (List Cell)) → ((k : ℕ) → k < length xs → f (get_or xs k []) ≡ false) → list_any f xs ≡ false
+any_none f [] failed = refl
+any_none f (x ∷ xs) failed = ap (λ b. b || list_any f xs) (failed 0 (omega arith)) ∙ any_none f xs (λ k low. failed (suc k) (omega (arith, low)))
+
 -- one colouring more repeats nothing where it has not occurred, and only there
 repeats_push : (h : List (List Cell)) (c : List Cell) → repeats h ≡ false → has_occurred h c ≡ false → repeats (h ++ c ∷ []) ≡ false
 repeats_push [] c once new = refl

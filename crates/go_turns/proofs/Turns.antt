@@ -1,10 +1,12 @@
 -- What the definitions of records give where a move is made and where a step is taken back.
-use Rattle.std.proofs.Common.{◌≡◌, ℕ, ◌*◌, ◌<◌, Bool, true, false, cond, nat_lt, List, [], ◌∷◌, ◌++◌, length, Option, Some, None, Result, Ok, Err, OnOk, IfErr, is_err, is_ok, sym, ◌∙◌, ap, subst}
+use Rattle.std.proofs.Common.{◌≡◌, ℕ, ◌*◌, ◌<◌, Bool, true, false, cond, nat_lt, List, [], ◌∷◌, ◌++◌, length, slice_get, Option, Some, None, Result, Ok, Err, OnOk, IfErr, is_err, is_ok, sym, ◌∙◌, ap, subst}
 use Rattle.std.proofs.lemmas.Bool.{lt-ltb, ltb-true, and_from, and_parts}
+use Rattle.std.proofs.lemmas.Option.{get_or_from_slice_get}
 use Rattle.go_points.specs.declared.Colour.{Colour}
 use Rattle.go_points.specs.declared.Cell.{Cell}
 use Rattle.go_points.specs.declared.Cell.TheVariants.{Empty}
-use Rattle.go_points.specs.Grid.{same_cell, cell_at}
+use Rattle.go_points.specs.Grid.{same_cell, cell_at, side_of}
+use Rattle.go_points.specs.Liberty.{first_without_liberty}
 use Rattle.go_points.specs.Place.{Place, IsOn, on_board}
 use Rattle.go_points.specs.Move.{after_move}
 use Rattle.go_points.specs.Ply.{move}
@@ -12,6 +14,7 @@ use Rattle.go_turns.specs.declared.fault.TurnFault.{TurnFault}
 use Rattle.go_turns.specs.declared.fault.TurnFault.TheVariants.{OffBoard, Occupied}
 use Rattle.go_turns.specs.History.{place_in}
 use Rattle.go_turns.specs.Record.{GameRecord, colouring_of, moved, stepped, play_of, without_last, undo_of, Did, DidWithoutMemory}
+use Rattle.go_turns.specs.Private.Steps.{IsAt, IsNotAdded}
 
 pub on_from : (n : ℕ) (p : Place) → IsOn n p → on_board n p ≡ true
 on_from n p on = and_from (nat_lt p.row n) (nat_lt p.column n) (lt-ltb p.row n on.row_within) (lt-ltb p.column n on.column_within)
@@ -41,6 +44,15 @@ module _ (r : GameRecord) (k : Colour) where
       let c = after_move r.size (colouring_of r.present) k p in
       subst (λ d. Did d r (Ok u) new) (sym (due_moved p on free ∙ ap (λ at. stepped r (moved r.present k c at)) fresh)) is
 
+  pub did_not_move : (p : ℕ) (new : GameRecord) (fault : TurnFault) → p < r.size * r.size → same_cell (cell_at (colouring_of r.present) p) Empty ≡ true
+      → IsNotAdded (place_in r.present.history (after_move r.size (colouring_of r.present) k p)) fault → new ≡ r → Did (play_of r k (move p)) r (Err fault) new
+  did_not_move p new fault on free why is =
+      subst (λ d. Did d r (Err fault) new) (sym (due_moved p on free)) (refused (after_move r.size (colouring_of r.present) k p) (place_in r.present.history (after_move r.size (colouring_of r.present) k p)) why)
+    where
+      refused : (c : List Cell) (at : Option ℕ) → IsNotAdded at fault → Did (stepped r (moved r.present k c at)) r (Err fault) new
+      refused c (Some earlier) why = (why, is)
+      refused c None why = (why, is)
+
 -- a step taken back
 pub did_undo : (old new : GameRecord) → old.size ≡ new.size → old.earlier ≡ new.present ∷ new.earlier → (u : Unit {0}) → DidWithoutMemory (undo_of old) old (Ok u) new
 did_undo old new size split u =
@@ -59,3 +71,11 @@ was_moved n before old new after k p (Err x) same ok made is = absurd (cc)
 pub was_made : {T E : Type 0} {P : Type 0} (r : Result T E) (found : Option ℕ) (named : E → ℕ) → OnOk r P → IfErr r (λ e. found ≡ Some (named e)) → found ≡ None → P
 was_made (Ok x) found named made why none = made
 was_made (Err x) found named made why none = absurd (cc (why, none))
+
+-- the board takes over its own colouring from the history
+pub put_back : {T E : Type 0} (h : List (List Cell)) (place : ℕ) (old at new : List Cell) (r : Result T E) (named : E → ℕ) → IsAt h place old → first_without_liberty (side_of old) old ≡ None → slice_get h place ≡ Some at
+    → OnOk r (new ≡ at) → IfErr r (λ e. first_without_liberty (side_of at) at ≡ Some (named e)) → new ≡ old
+put_back h place old at new r named is free found made why =
+    let same : old ≡ at = sym is.same ∙ get_or_from_slice_get h place at [] found in
+    let none : first_without_liberty (side_of at) at ≡ None = subst (λ c. first_without_liberty (side_of c) c ≡ None) same free in
+    was_made r (first_without_liberty (side_of at) at) named made why none ∙ sym same

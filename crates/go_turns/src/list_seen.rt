@@ -43,6 +43,10 @@ impl Seen for ListSeen {
         self.holds(colouring)
     }
 
+    fn may_hold(&self, _key: u64) -> bool {
+        true
+    }
+
     fn at(&self, place: usize) -> &Colouring {
         &self.colourings[place]
     }

@@ -16,9 +16,10 @@ ghost use Rattle.go_turns.specs.Private.Steps.{IsNotAdded, Joins};
 use crate::board::Board;
 use crate::fault::TurnFault;
 use crate::seen::Seen;
-use go_points::{Cell, Colour, Colouring, Point, Size, Turn};
+use go_points::{Cell, Colour, Colouring, MAX_POINTS, Point, Size, Turn};
 use std::alloc::{AllocError, Global};
 use std::marker::Model;
+use stone_key::stone_word;
 
 // What was there before a step: the place of the colouring, how many colourings had occurred, the passes in a row, and the colour
 // of the last play.
@@ -311,7 +312,6 @@ impl<B: Board, S: Seen> Record<B, S> {
         ensures { Did (play_of self.old colour (a_move (number_of self.old.size point))) self.old
             result self.new }
     {
-        let before = self.board.colouring();
         let step = Step {
             place: self.place,
             occurred: self.seen.len(),
@@ -324,7 +324,7 @@ impl<B: Board, S: Seen> Record<B, S> {
         let after = self.board.colouring();
         let key = self.board.key();
         if let Err(fault) = add_step(&mut self.seen, &mut self.steps, step, after, key) {
-            let _back = self.board.assign(&before);
+            let _back = self.board.assign(self.seen.at(self.place));
             return Err(fault);
         }
         self.place = step.occurred;
@@ -444,6 +444,20 @@ impl<B: Board, S: Seen> Record<B, S> {
         ensures { result ≡ key_of (colouring_of self.now.present) }
     {
         self.board.key()
+    }
+
+    /// The key of the colouring with a stone put down at the empty point: that of the next colouring, if the move is quiet.
+    pub fn key_with_stone(&self, colour: Colour, point: Point) -> u64
+        requires on_board { IsOn self.now.size point }
+        requires empty { cell_at (colouring_of self.now.present) (number_of self.now.size point)
+            ≡ Empty }
+        ensures { result
+            ≡ key_of (slice_set (colouring_of self.now.present) (number_of self.now.size point)
+            (Stone colour)) }
+    {
+        let size = self.seen.at(self.place).size();
+        prove!(size.area() <= MAX_POINTS);
+        self.board.key() ^ stone_word(point.number(size), colour)
     }
 
     /// The colourings that have occurred.

@@ -2,7 +2,7 @@
 
 ghost use Rattle.std.specs.Prelude.{◌≡◌, ◌<◌, ◌-◌, ◌++◌, ◌∷◌, [], List, Some, None, IsFalse, IfOk, OnOk, OnErr, length, slice_get, take};
 ghost use Rattle.go_points.specs.declared.Cell.{Cell};
-ghost use Rattle.go_turns.specs.History.{place_in, repeats, IsJoined};
+ghost use Rattle.go_turns.specs.History.{place_in, repeats, IsJoined, HasNoneOf};
 ghost use Rattle.stone_key.specs.Key.{key_of};
 
 use go_points::Colouring;
@@ -25,6 +25,11 @@ pub trait Seen: Drop {
     fn holds_with(&self, colouring: &Colouring, key: u64) -> Option<usize>
         requires { key ≡ key_of colouring.now }
         ensures { result ≡ place_in (content self.now) colouring.now };
+
+    /// Whether a colouring with this key may be there. `false` means that there is none; `true` says nothing. It takes no look-up and
+    /// needs no colouring, so it is cheaper than `holds_with`.
+    fn may_hold(&self, key: u64) -> bool
+        ensures { IsFalse result → HasNoneOf (content self.now) key };
 
     /// The colouring at this place.
     fn at(&self, place: usize) -> &Colouring

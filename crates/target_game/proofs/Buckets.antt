@@ -8,7 +8,7 @@ use Rattle.go_points.specs.Grid.{same_cells}
 use Rattle.go_points.specs.Equal.{same_cells_eq}
 use Rattle.go_points.proofs.Lists.{true_or_false}
 use Rattle.go_turns.specs.History.{place_in, repeats}
-use Rattle.go_turns.proofs.Repeats.{no_position, no_element, once_more, next_is_new}
+use Rattle.go_turns.proofs.Repeats.{any_none, no_position, no_element, once_more, next_is_new}
 use Rattle.stone_key.specs.Key.{key_of}
 use Rattle.target_game.specs.Private.Buckets.{bucket_at, bucket_count, AreChained}
 
@@ -103,10 +103,6 @@ any_at f (x ∷ xs) (suc k) low passed = go (f x) (any_at f xs k (omega (arith, 
     go : (b : Bool) → list_any f xs ≡ true → (b || list_any f xs) ≡ true
     go true e = refl
     go false e = e
-
-any_none : (f : List Cell → Bool) (xs : List (List Cell)) → ((k : ℕ) → k < length xs → f (get_or xs k []) ≡ false) → list_any f xs ≡ false
-any_none f [] failed = refl
-any_none f (x ∷ xs) failed = ap (λ b. b || list_any f xs) (failed 0 (omega arith)) ∙ any_none f xs (λ k low. failed (suc k) (omega (arith, low)))
 
 -- a colouring that stands before a place where it stands
 pub stands_twice : (h : List (List Cell)) (i k : ℕ) (c : List Cell) → c ≡ get_or h i [] → i < length h → k < i → same_cells c (get_or h k []) ≡ true → repeats h ≡ true

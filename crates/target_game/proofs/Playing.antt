@@ -15,9 +15,10 @@ use Rattle.go_points.specs.Points.{same_place, holds_place}
 use Rattle.go_points.specs.declared.Turn.TheVariants.{At}
 use Rattle.go_points.specs.Ply.{pass, move, ply_of}
 use Rattle.go_points.proofs.Lists.{and_left, and_right, and_both, not_true}
-use Rattle.go_turns.specs.History.{has_occurred, place_in}
+use Rattle.go_turns.specs.History.{has_occurred, place_in, HasNoneOf}
 use Rattle.go_turns.specs.Record.{Moment, colouring_of, after_play}
 use Rattle.go_turns.proofs.Repeats.{no_position, no_element}
+use Rattle.stone_key.specs.Key.{key_of}
 use Rattle.target_game.specs.State.{Game, GameState}
 use Rattle.target_game.specs.Legal.{holds_point, legal}
 use Rattle.target_game.specs.Next.{next}
@@ -46,6 +47,11 @@ occurred_is h c = go (has_occurred h c) (place_in h c) (occurred_place h c)
 
 pub new_place : (h : List (List Cell)) (c : List Cell) → not (has_occurred h c) ≡ true → place_in h c ≡ None
 new_place h c e = no_position (same_cells c) h (not_true (has_occurred h c) e)
+
+-- a colouring whose key none has
+pub new_by_key : (h : List (List Cell)) (c after : List Cell) (key : ℕ) (may : Bool) → key ≡ key_of c → after ≡ c → (may ≡ false → HasNoneOf h key) → not may ≡ true → has_occurred h after ≡ false
+new_by_key h c after key false keyed same none ruled_out = no_element (same_cells after) h (none refl after (ap key_of same ∙ sym keyed))
+new_by_key h c after key true keyed same none ruled_out = absurd (cc ruled_out)
 
 -- the moment that a legal turn leaves, and its state
 module _ (g : Game) (k : Colour) (m : Moment) where

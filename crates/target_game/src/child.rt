@@ -4,7 +4,6 @@ ghost use Rattle.std.specs.Prelude.{◌≡◌, Some};
 ghost use Rattle.go_points.specs.Place.{IsOn, number_of};
 ghost use Rattle.go_points.specs.Ply.{ply_of, move, pass};
 ghost use Rattle.target_game.specs.Child.{child_of};
-ghost use Rattle.target_game.specs.Legal.{legal};
 
 use crate::state::State;
 use go_points::{Colour, Point, Turn};
@@ -34,14 +33,6 @@ impl<B: Board, S: Seen> State<B, S> {
                 self.move_child(point)
             }
         }
-    }
-
-    /// Whether the turn is legal, if nobody has won. It may be any turn, even at a point off the board. The cost is that of
-    /// `child`.
-    pub fn is_legal(&self, turn: Turn) -> bool
-        ensures { result ≡ legal self.now.state (ply_of self.now.state.game.size turn) }
-    {
-        self.child(turn).is_some()
     }
 
     /// What a pass leads to.

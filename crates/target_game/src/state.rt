@@ -4,11 +4,10 @@ ghost use Rattle.std.specs.Prelude.{◌≡◌, ◌⊎◌, ◌≤◌, ◌<◌, �
 ghost use Rattle.std.specs.List.{All};
 ghost use Rattle.go_points.specs.Grid.{cell_at, same_cell, side_of};
 ghost use Rattle.go_points.specs.Liberty.{first_without_liberty};
-ghost use Rattle.go_points.specs.Move.{after_move};
 ghost use Rattle.go_points.specs.Place.{IsOn, number_of};
 ghost use Rattle.go_points.specs.Ply.{ply_of, move, pass};
 ghost use Rattle.go_points.specs.declared.Cell.TheVariants.{Empty};
-ghost use Rattle.go_turns.specs.History.{place_in, has_occurred, repeats};
+ghost use Rattle.go_turns.specs.History.{place_in, repeats};
 ghost use Rattle.stone_key.specs.Key.{key_of};
 ghost use Rattle.target_game.specs.State.{Game, GameState, GameProblem, Line, start, state_alone, state_with};
 ghost use Rattle.target_game.specs.Legal.{legal, holds_point};
@@ -24,7 +23,6 @@ use go_points::{Cell, Colour, Colouring, Point, PointSet, Size, Turn};
 use go_turns::{Board, Record, Seen, TurnFault};
 use std::alloc::{AllocError, Global};
 use std::marker::Model;
-use stone_key::KeyedColouring;
 use thiserror::Error;
 
 /// Why there is no state with only this colouring in its history.
@@ -40,8 +38,8 @@ pub enum AtFault {
 /// A state of the game, with the turns that led to it since it was made.
 #[derive(Drop)]
 pub struct State<B: Board, S: Seen> {
-    played: Record<B, S>,
-    mover: Colour,
+    pub(crate) played: Record<B, S>,
+    pub(crate) mover: Colour,
     targets: PointSet,
     defender: Colour,
     region: PointSet,
@@ -269,38 +267,6 @@ impl<B: Board, S: Seen> State<B, S> {
         None
     }
 
-    /// The position after the mover's move at an empty point.
-    pub(crate) fn position_after(&self, point: Point) -> KeyedColouring
-        requires on_board { IsOn self.now.state.game.size point }
-        requires empty { same_cell
-            (cell_at self.now.state.colouring (number_of self.now.state.game.size point)) Empty
-            ≡ true }
-        ensures value { result
-            ≡ after_move self.now.state.game.size self.now.state.colouring self.now.state.mover
-            (number_of self.now.state.game.size point) }
-        ensures size { side_of result ≡ self.now.state.game.size }
-    {
-        let board = self.played.board();
-        if board.quiet(self.mover, point) {
-            let mut position = KeyedColouring::with_key(board.colouring(), board.key());
-            position.set(point, Cell::Stone(self.mover));
-            return position;
-        }
-        let mut after = board.copy();
-        let _removed = after.play(self.mover, point);
-        KeyedColouring::with_key(after.colouring(), after.key())
-    }
-
-    /// Whether the colouring has occurred.
-    pub(crate) fn has_occurred(&self, position: &KeyedColouring) -> bool
-        ensures { result ≡ has_occurred self.now.state.history position.now }
-    {
-        self.played
-            .seen()
-            .holds_with(position.colouring(), position.key())
-            .is_some()
-    }
-
     /// Who has won if this colouring is on the board after a move.
     pub(crate) fn winner_at(&self, colouring: &Colouring) -> Option<Colour>
         requires { side_of colouring.now ≡ self.now.state.game.size }
@@ -325,27 +291,6 @@ impl<B: Board, S: Seen> State<B, S> {
         } else {
             None
         }
-    }
-
-    /// The colouring after the mover's move at an empty point.
-    pub fn result(&self, point: Point) -> Colouring
-        requires on_board { IsOn self.now.state.game.size point }
-        requires empty { same_cell
-            (cell_at self.now.state.colouring (number_of self.now.state.game.size point)) Empty
-            ≡ true }
-        ensures { result
-            ≡ after_move self.now.state.game.size self.now.state.colouring self.now.state.mover
-            (number_of self.now.state.game.size point) }
-    {
-        *self.position_after(point).colouring()
-    }
-
-    /// Whether the mover may move at the point, if nobody has won.
-    pub fn may_move(&self, point: Point) -> bool
-        requires { IsOn self.now.state.game.size point }
-        ensures { result ≡ legal self.now.state (move (number_of self.now.state.game.size point)) }
-    {
-        self.is_open(point) && !self.has_occurred(&self.position_after(point))
     }
 
     /// Makes the turn. If memory is refused, nothing changes.

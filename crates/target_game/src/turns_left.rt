@@ -58,12 +58,32 @@ impl<B: Board, S: Seen> State<B, S> {
         None
     }
 
+    /// The first legal move at a point whose number is at least this one.
+    fn next_legal(&self, from: usize) -> Option<Point>
+        ensures some { IfSome result (λ p. IsNextMove self.now.state from p) }
+        ensures none { IfNone result
+            (NoneLegal self.now.state from (self.now.state.game.size * self.now.state.game.size)) }
+    {
+        let size = self.size();
+        let mut number = from;
+        while number < size.area() {
+            let Some(point) = self.next_open(number) else {
+                return None;
+            };
+            if self.may_move(point) {
+                return Some(point);
+            }
+            number = point.number(size) + 1;
+        }
+        None
+    }
+
     /// The first legal turn at a point with this number or a greater one; the pass if there is none.
     pub fn next_turn(&self, from: usize) -> Turn
         ensures { ply_of self.now.state.game.size result ≡ turn_from self.now.state from }
     {
-        match self.next_move(from) {
-            Some(found) => Turn::At(found.0),
+        match self.next_legal(from) {
+            Some(point) => Turn::At(point),
             None => Turn::Pass,
         }
     }
@@ -88,16 +108,21 @@ impl<B: Board, S: Seen> State<B, S> {
         Some((Turn::At(found.0), found.1))
     }
 
-    /// Takes the next of the legal turns that are left, without making it. `None` if no turn is left. The cost is that of
+    /// Takes the next of the legal turns that are left, without making it. `None` if no turn is left. The cost is at most that of
     /// `next_child`.
     pub fn next_left(&self, left: &mut TurnsLeft) -> Option<Turn>
         ensures { Takes self.now.state left.old.next
             (option_map (ply_of self.now.state.game.size) result) left.new.next }
     {
-        match self.next_child(left) {
-            Some((turn, _child)) => Some(turn),
-            None => None,
-        }
+        let Some(first) = left.next else {
+            return None;
+        };
+        let Some(point) = self.next_legal(first as usize) else {
+            left.next = None;
+            return Some(Turn::Pass);
+        };
+        left.next = Some(point.number(self.size()) as u16 + 1);
+        Some(Turn::At(point))
     }
 
     /// The legal turns, points ascending and then the pass. There are none if somebody has won.

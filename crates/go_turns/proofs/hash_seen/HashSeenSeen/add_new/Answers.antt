@@ -3,6 +3,7 @@ use Rattle.std.specs.List.{list_any}
 use Rattle.go_points.specs.Grid.{same_cells}
 use Rattle.go_points.proofs.Lists.{not_true}
 use Rattle.go_turns.specs.History.{place_in}
+use Rattle.go_turns.proofs.Buckets.{low_here, lowered, one_joined}
 use Rattle.go_turns.proofs.Repeats.{no_position}
 use Rattle.go_turns.proofs.Keyed.{joins_last, still_once}
 use Rattle.go_turns.proofs.hash_seen.HashSeenSeen.add_new.Goals as goal
@@ -12,7 +13,14 @@ returns-in_default-clause-new c =
     sym (ap₂ place_in c.self.view_is c.with_key-entry.ensures) ∙ no_position (same_cells c.with_key-entry.result) c.self.inside.entries.keys c.in_default.ensures.absent
 
 pub invariant_of-self-2 : goal.invariant_of-self-2
-invariant_of-self-2 c = still_once c.self.inside.entries.keys c.insert_full.new.self.keys c.with_key-entry.result c.self.invariant c.in-Ok.ensures.keys
+invariant_of-self-2 c =
+    let old = c.self.inside.entries.keys in
+    let places = c.lower_place.new.places in
+    let here = low_here old c.args.colouring c.with_key-entry.result places c.bucket_of.result c.len-place.result c.args.key c.lower_place.ensures.own c.bucket_of.ensures.value c.len-place.ensures.len c.requires c.with_key-entry.ensures in
+    record {
+      once = still_once old c.insert_full.new.self.keys c.with_key-entry.result c.self.invariant.once c.in-Ok.ensures.keys;
+      places = one_joined old c.insert_full.new.self.keys c.with_key-entry.result places c.in-Ok.ensures.keys here (lowered old c.self.inside.least_places places c.lower_place.ensures.full c.lower_place.ensures.lower c.self.invariant.places);
+    }
 
 pub returns-clause-held : goal.returns-clause-held
 returns-clause-held c =

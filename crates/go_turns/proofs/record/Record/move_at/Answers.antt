@@ -1,5 +1,5 @@
 -- The step that is kept, and the colouring that joins the history.
-use Rattle.std.proofs.Common.{◌≡◌, ◌*◌, ◌<◌, ◌++◌, [], ◌∷◌, List, map, reverse, take, true, Some, None, Ok, sym, ◌∙◌, ap, subst, arith}
+use Rattle.std.proofs.Common.{◌≡◌, ◌*◌, ◌<◌, ◌++◌, [], ◌∷◌, List, map, reverse, take, true, Some, None, Ok, Err, sym, ◌∙◌, ap, subst, arith}
 use Rattle.std.proofs.lemmas.List.{take_at}
 use Rattle.go_points.specs.declared.Cell.{Cell}
 use Rattle.go_points.specs.declared.Cell.TheVariants.{Empty}
@@ -8,12 +8,13 @@ use Rattle.go_points.specs.Place.{IsOn, number_of}
 use Rattle.go_points.specs.Move.{after_move}
 use Rattle.go_points.specs.Ply.{move}
 use Rattle.go_points.proofs.Sides.{number_below}
+use Rattle.go_chains.specs.declared.NoLiberty.{NoLiberty}
 use Rattle.go_turns.specs.declared.record.Step.{Step}
 use Rattle.go_turns.specs.History.{place_in}
 use Rattle.go_turns.specs.Record.{Moment, GameRecord, colouring_of, play_of, Did}
-use Rattle.go_turns.specs.Private.Steps.{CanStand}
+use Rattle.go_turns.specs.Private.Steps.{CanStand, IsAt, IsNotAdded}
 use Rattle.go_turns.proofs.Steps.{can_stand, at_end, fit_longer, fit_push, earlier_split}
-use Rattle.go_turns.proofs.Turns.{did_move, was_empty, was_moved}
+use Rattle.go_turns.proofs.Turns.{did_move, did_not_move, put_back, was_empty, was_moved}
 use Rattle.go_turns.proofs.record.Record.move_at.Goals as goal
 
 pub invariant_of-self-2 : goal.invariant_of-self-2
@@ -34,6 +35,49 @@ invariant_of-self-2 g c =
       liberties = c.colouring-after.ensures.liberties;
       few = omega arith;
     }
+
+pub invariant_of-self-in-Err : goal.invariant_of-self-in-Err
+invariant_of-self-in-Err g c =
+    let old = g.B.Board.content c.self.inside.board in
+    let at = c.at.result.now in
+    let here : IsAt (g.S.Seen.content c.add_step.new.seen) c.self.inside.place old = rw (c.in-Err.ensures.history_kept) c.self.invariant.here in
+    let back = put_back (g.S.Seen.content c.add_step.new.seen) c.self.inside.place old at (g.B.Board.content c.assign-back.new.self) c.assign-back.result (λ (e : NoLiberty). number_of (side_of at) e.point) here c.self.invariant.liberties c.at.ensures c.assign-back.ensures.ok c.assign-back.ensures.fault in
+    record {
+      steps = rw (back, c.in-Err.ensures.history_kept, c.in-Err.ensures.steps_kept) c.self.invariant.steps;
+      here = rw (back) here;
+      liberties = rw (back) c.self.invariant.liberties;
+      few = rw (c.in-Err.ensures.steps_kept) c.self.invariant.few;
+    }
+
+pub returns-in-Err : goal.returns-in-Err
+returns-in-Err g c =
+    let whole = g.S.Seen.content c.self.inside.seen in
+    let left = g.S.Seen.content c.add_step.new.seen in
+    let old = g.B.Board.content c.self.inside.board in
+    let at = c.at.result.now in
+    let n = side_of old in
+    let k = c.args.colour in
+    let p = number_of n c.args.point in
+    let after = c.colouring-after.result in
+    let moment : List (List Cell) → Step → Moment = λ h s. record { history = h; place = s.place; passes = s.passes; last_colour = s.last_colour } in
+    let step : Step = record { place = c.self.inside.place; occurred = c.len.result; passes = c.self.inside.passes; last_colour = c.self.inside.last_colour } in
+    let was : GameRecord = record { size = n; present = moment whole step; earlier = reverse (map (λ s. moment (take s.occurred whole) s) c.self.inside.steps.items) } in
+    let is : GameRecord = record { size = side_of (g.B.Board.content c.assign-back.new.self); present = moment left step; earlier = reverse (map (λ s. moment (take s.occurred left) s) c.add_step.new.steps.items) } in
+    let here : IsAt left c.self.inside.place old = rw (c.in-Err.ensures.history_kept) c.self.invariant.here in
+    let back = put_back left c.self.inside.place old at (g.B.Board.content c.assign-back.new.self) c.assign-back.result (λ (e : NoLiberty). number_of (side_of at) e.point) here c.self.invariant.liberties c.at.ensures c.assign-back.ensures.ok c.assign-back.ensures.fault in
+    let same : is ≡ was = λ i. record {
+      size = side_of (back i);
+      present = moment (c.in-Err.ensures.history_kept i) step;
+      earlier = reverse (map (λ s. moment (take s.occurred (c.in-Err.ensures.history_kept i)) s) (c.in-Err.ensures.steps_kept i));
+    } in
+    let here_old : colouring_of was.present ≡ old = c.self.invariant.here.same in
+    let on : p < n * n = number_below n c.args.point (subst (λ (r : GameRecord). IsOn r.size c.args.point) (sym c.self.view_is) c.requires) in
+    let free : same_cell (cell_at (colouring_of was.present) p) Empty ≡ true =
+    was_empty (colouring_of was.present) old p c.play.result here_old (sym c.is_err.ensures.value ∙ c.if-is_err.false) c.play.ensures.variant in
+    let made : after ≡ after_move n (colouring_of was.present) k p =
+    was_moved n (colouring_of was.present) old (g.B.Board.content c.play.new.self) after k p c.play.result here_old (sym c.is_err.ensures.value ∙ c.if-is_err.false) c.play.ensures.ok c.colouring-after.ensures.value in
+    let why = subst (λ d. IsNotAdded (place_in whole d) c.in-Err.fault) made c.in-Err.ensures.fault in
+    subst (λ (r : GameRecord). Did (play_of r k (move (number_of r.size c.args.point))) r (Err c.in-Err.fault) is) c.self.view_is (did_not_move was k p is c.in-Err.fault on free why same)
 
 pub returns : goal.returns
 returns g c =

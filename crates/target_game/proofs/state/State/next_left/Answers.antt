@@ -1,0 +1,20 @@
+use Rattle.std.proofs.Common.{◌+◌, ℕ, Some, None, sym, ap, subst, ◌∙◌}
+use Rattle.go_points.specs.declared.Turn.TheVariants.{At}
+use Rattle.go_points.specs.Place.{number_of}
+use Rattle.go_points.specs.Ply.{pass, ply_of}
+use Rattle.target_game.specs.Left.{Takes}
+use Rattle.target_game.proofs.Due.{taken_move, taken_pass}
+use Rattle.target_game.proofs.state.State.next_left.Goals as goal
+
+pub returns-in_default-next_legal : goal.returns-in_default-next_legal
+returns-in_default-next_legal g c =
+    let s = c.args.self.now.state in
+    subst (λ o. Takes s o (Some pass) None) (sym c.in-Some.is) (taken_pass s c.in-Some.first c.in_default-next_legal.ensures.none)
+
+pub returns : goal.returns
+returns g c =
+    let s = c.args.self.now.state in
+    let p = c.in-Some-next_legal.point in
+    let number = c.number.ensures.value ∙ ap (λ (m : ℕ). number_of m p) c.size.ensures in
+    subst (λ o. Takes s o (Some (ply_of s.game.size (At p))) (Some (c.number.result + 1))) (sym c.in-Some.is)
+    (subst (λ k. Takes s (Some c.in-Some.first) (Some (ply_of s.game.size (At p))) (Some (k + 1))) (sym number) (taken_move s c.in-Some.first p c.in-Some-next_legal.ensures.some))

@@ -27,13 +27,28 @@ impl<B: Board, S: Seen> State<B, S> {
             (number_of self.now.state.game.size point) }
         ensures size { side_of result ≡ self.now.state.game.size }
     {
-        let board = self.played.board();
-        if board.quiet(self.mover, point) {
-            let mut position = KeyedColouring::with_key(board.colouring(), board.key());
-            position.set(point, Cell::Stone(self.mover));
-            return position;
+        if !self.played.quiet(self.mover, point) {
+            return self.position_by_play(point);
         }
-        let mut after = board.copy();
+        let board = self.played.board();
+        let mut position = KeyedColouring::with_key(board.colouring(), board.key());
+        position.set(point, Cell::Stone(self.mover));
+        position
+    }
+
+    // The same by a move on a copy of the board, which is filled with zeros first: a function of its own, so that only moves that
+    // change other points pay for it.
+    fn position_by_play(&self, point: Point) -> KeyedColouring
+        requires on_board { IsOn self.now.state.game.size point }
+        requires empty { same_cell
+            (cell_at self.now.state.colouring (number_of self.now.state.game.size point)) Empty
+            ≡ true }
+        ensures value { result
+            ≡ after_move self.now.state.game.size self.now.state.colouring self.now.state.mover
+            (number_of self.now.state.game.size point) }
+        ensures size { side_of result ≡ self.now.state.game.size }
+    {
+        let mut after = self.played.board().copy();
         let _removed = after.play(self.mover, point);
         KeyedColouring::with_key(after.colouring(), after.key())
     }

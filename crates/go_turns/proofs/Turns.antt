@@ -54,8 +54,3 @@ was_empty before old p (Err x) same ok variant = absurd (cc)
 pub was_moved : {T E : Type 0} (n : ℕ) (before old new after : List Cell) (k : Colour) (p : ℕ) (r : Result T E) → before ≡ old → is_err r ≡ false → OnOk r (new ≡ after_move n old k p) → after ≡ new → after ≡ after_move n before k p
 was_moved n before old new after k p (Ok x) same ok made is = is ∙ made ∙ ap (λ d. after_move n d k p) (sym same)
 was_moved n before old new after k p (Err x) same ok made is = absurd (cc)
-
--- an assignment that names no stone without liberty was made
-pub was_made : {T E : Type 0} {P : Type 0} (r : Result T E) (found : Option ℕ) (named : E → ℕ) → OnOk r P → IfErr r (λ e. found ≡ Some (named e)) → found ≡ None → P
-was_made (Ok x) found named made why none = made
-was_made (Err x) found named made why none = absurd (cc (why, none))

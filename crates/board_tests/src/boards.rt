@@ -39,6 +39,17 @@ fn move_on<B: Board>(board: &mut B, colour: Colour, number: usize) -> Answer {
     }
 }
 
+// What a board says of a move. If the move is made twice, it is taken back in between.
+fn turn_on<B: Board>(board: &mut B, colour: Colour, number: usize, is_made_twice: bool) -> Answer {
+    if is_made_twice {
+        let before = board.colouring();
+        let size = board.size();
+        let _taken = board.play(colour, size.point_at(number % size.area()));
+        board.restore(&before);
+    }
+    move_on(board, colour, number)
+}
+
 // What a board says of another colouring, which is its own with another cell at one point.
 fn change_on<B: Board>(board: &mut B, cell: Cell, number: usize) -> Option<Point> {
     let mut wanted = board.colouring();
@@ -50,8 +61,8 @@ fn change_on<B: Board>(board: &mut B, cell: Cell, number: usize) -> Option<Point
     }
 }
 
-// Whether both boards give the same answers for this many turns. Most turns are moves of random colours; now and then a point is
-// changed.
+// Whether both boards give the same answers for this many turns. Most turns are moves of random colours, some of which one board or
+// the other takes back and makes again; now and then a point is changed.
 fn agree(rows: u8, turns: u32, start: u64) -> bool {
     let Some(size) = Size::new(rows) else {
         return false;
@@ -67,7 +78,8 @@ fn agree(rows: u8, turns: u32, start: u64) -> bool {
         } else {
             Colour::White
         };
-        if move_on(&mut plain, colour, number) != move_on(&mut chained, colour, number) {
+        let of_plain = turn_on(&mut plain, colour, number, turn % 5 == 0);
+        if turn_on(&mut chained, colour, number, turn % 3 == 0) != of_plain {
             return false;
         }
         if turn % 8 == 7 {

@@ -316,3 +316,21 @@ pub(crate) fn take_over(
         }
     }
 }
+
+/// Takes over a colouring in which every chain has a liberty. Nothing is asked about liberties.
+pub(crate) fn restore(
+    colouring: &mut KeyedColouring,
+    heads: &mut [u16],
+    next: &mut [u16],
+    counts: &mut [u32],
+    wanted: &Colouring,
+)
+    requires board { IsBoard (side_of colouring.old) colouring.old heads.old next.old counts.old }
+    requires same_size { side_of wanted.now ≡ side_of colouring.old }
+    requires liberties { first_without_liberty (side_of wanted.now) wanted.now ≡ None }
+    ensures board { IsBoard (side_of colouring.old) colouring.new heads.new next.new counts.new }
+    ensures value { colouring.new ≡ wanted.now }
+{
+    prove!(colouring.size().area() <= MAX_POINTS);
+    change_to(colouring, heads, next, counts, wanted);
+}

@@ -1,12 +1,11 @@
 -- What the definitions of records give where a move is made and where a step is taken back.
-use Rattle.std.proofs.Common.{◌≡◌, ℕ, ◌*◌, ◌<◌, Bool, true, false, cond, nat_lt, List, [], ◌∷◌, ◌++◌, length, slice_get, Option, Some, None, Result, Ok, Err, OnOk, IfErr, is_err, is_ok, sym, ◌∙◌, ap, subst}
+use Rattle.std.proofs.Common.{◌≡◌, ℕ, ◌*◌, ◌<◌, Bool, true, false, cond, nat_lt, List, [], ◌∷◌, ◌++◌, length, slice_get, Option, Some, None, Result, Ok, Err, OnOk, is_err, is_ok, sym, ◌∙◌, ap, subst}
 use Rattle.std.proofs.lemmas.Bool.{lt-ltb, ltb-true, and_from, and_parts}
 use Rattle.std.proofs.lemmas.Option.{get_or_from_slice_get}
 use Rattle.go_points.specs.declared.Colour.{Colour}
 use Rattle.go_points.specs.declared.Cell.{Cell}
 use Rattle.go_points.specs.declared.Cell.TheVariants.{Empty}
-use Rattle.go_points.specs.Grid.{same_cell, cell_at, side_of}
-use Rattle.go_points.specs.Liberty.{first_without_liberty}
+use Rattle.go_points.specs.Grid.{same_cell, cell_at}
 use Rattle.go_points.specs.Place.{Place, IsOn, on_board}
 use Rattle.go_points.specs.Move.{after_move}
 use Rattle.go_points.specs.Ply.{move}
@@ -67,15 +66,6 @@ pub was_moved : {T E : Type 0} (n : ℕ) (before old new after : List Cell) (k :
 was_moved n before old new after k p (Ok x) same ok made is = is ∙ made ∙ ap (λ d. after_move n d k p) (sym same)
 was_moved n before old new after k p (Err x) same ok made is = absurd (cc)
 
--- an assignment that names no stone without liberty was made
-pub was_made : {T E : Type 0} {P : Type 0} (r : Result T E) (found : Option ℕ) (named : E → ℕ) → OnOk r P → IfErr r (λ e. found ≡ Some (named e)) → found ≡ None → P
-was_made (Ok x) found named made why none = made
-was_made (Err x) found named made why none = absurd (cc (why, none))
-
--- the board takes over its own colouring from the history
-pub put_back : {T E : Type 0} (h : List (List Cell)) (place : ℕ) (old at new : List Cell) (r : Result T E) (named : E → ℕ) → IsAt h place old → first_without_liberty (side_of old) old ≡ None → slice_get h place ≡ Some at
-    → OnOk r (new ≡ at) → IfErr r (λ e. first_without_liberty (side_of at) at ≡ Some (named e)) → new ≡ old
-put_back h place old at new r named is free found made why =
-    let same : old ≡ at = sym is.same ∙ get_or_from_slice_get h place at [] found in
-    let none : first_without_liberty (side_of at) at ≡ None = subst (λ c. first_without_liberty (side_of c) c ≡ None) same free in
-    was_made r (first_without_liberty (side_of at) at) named made why none ∙ sym same
+-- the board's own colouring, as the history has it
+pub found_at : (h : List (List Cell)) (place : ℕ) (old at : List Cell) → IsAt h place old → slice_get h place ≡ Some at → at ≡ old
+found_at h place old at is found = sym (get_or_from_slice_get h place at [] found) ∙ is.same

@@ -85,4 +85,10 @@ pub trait Board: Drop {
             ≡ Some (number_of (side_of colouring.now) e.point)) }
         ensures fault_on_board { IfErr result (λ e. IsOn (side_of colouring.now) e.point) }
         ensures err { OnErr result (content self.new ≡ content self.old) };
+
+    /// Takes over a colouring in which every stone reaches empty, as in one that play has been through.
+    fn restore(&mut self, colouring: &Colouring)
+        requires size { side_of colouring.now ≡ side_of (content self.old) }
+        requires liberties { first_without_liberty (side_of colouring.now) colouring.now ≡ None }
+        ensures { content self.new ≡ colouring.now };
 }

@@ -42,4 +42,8 @@ impl Board for ChainBoard {
     fn assign(&mut self, colouring: &Colouring) -> Result<(), NoLiberty> {
         self.assign(colouring)
     }
+
+    fn restore(&mut self, colouring: &Colouring) {
+        self.restore(colouring);
+    }
 }

@@ -86,4 +86,8 @@ impl Board for PlainBoard {
             }
         }
     }
+
+    fn restore(&mut self, colouring: &Colouring) {
+        self.colouring = *colouring;
+    }
 }

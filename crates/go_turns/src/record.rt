@@ -248,7 +248,7 @@ impl<B: Board, S: Seen> Record<B, S> {
             });
         }
         let Ok(seen) = seen_alone(alloc, colouring, self.board.key()) else {
-            let _restored = self.board.assign(&before);
+            self.board.restore(&before);
             return Err(TurnFault::Memory);
         };
         self.seen = seen;
@@ -324,7 +324,7 @@ impl<B: Board, S: Seen> Record<B, S> {
         let after = self.board.colouring();
         let key = self.board.key();
         if let Err(fault) = add_step(&mut self.seen, &mut self.steps, step, after, key) {
-            let _back = self.board.assign(self.seen.at(self.place));
+            self.board.restore(self.seen.at(self.place));
             return Err(fault);
         }
         self.place = step.occurred;
@@ -366,7 +366,7 @@ impl<B: Board, S: Seen> Record<B, S> {
         }
         let key = self.board.key();
         let Ok(place) = add_setup(&mut self.seen, &mut self.steps, step, *colouring, key) else {
-            let _as_before = self.board.assign(&before);
+            self.board.restore(&before);
             return Err(TurnFault::Memory);
         };
         self.place = place;
@@ -384,7 +384,7 @@ impl<B: Board, S: Seen> Record<B, S> {
         while self.seen.len() > step.occurred {
             self.seen.take_last();
         }
-        let _back = self.board.assign(self.seen.at(step.place));
+        self.board.restore(self.seen.at(step.place));
         self.place = step.place;
         self.passes = step.passes;
         self.last_colour = step.last_colour;

@@ -1,8 +1,8 @@
 -- Playing a legal turn on a record, and the legal turns one by one.
-use Rattle.std.proofs.Common.{◌≡◌, ℕ, suc, ◌+◌, ◌-◌, ◌*◌, ◌/◌, ◌%◌, ◌<◌, ◌≤◌, Bool, true, false, cond, not, ◌&&◌, ◌||◌, nat_eq, nat_lt, eqb-true, eq-eqb, lt-ltb, find, List, [], ◌∷◌, ◌++◌, map, filter, length, Option, Some, None, Ok, is_some, is_none, refl, sym, ◌∙◌, ap, ap₂, subst, arith, if◌then◌else◌}
+use Rattle.std.proofs.Common.{◌≡◌, ◌≢◌, ℕ, suc, ◌+◌, ◌-◌, ◌*◌, ◌/◌, ◌%◌, ◌<◌, ◌≤◌, Bool, true, false, cond, not, set, ◌&&◌, ◌||◌, nat_eq, nat_lt, eqb-true, eq-eqb, lt-ltb, find, List, [], ◌∷◌, ◌++◌, map, filter, length, Option, Some, None, Ok, is_some, is_none, refl, sym, ◌∙◌, ap, ap₂, subst, arith, if◌then◌else◌}
 use Rattle.std.specs.List.{All, list_all, range_with_len}
 use Rattle.std.proofs.lemmas.Nat.{div-mul-add, mod-mul-add}
-use Rattle.std.proofs.lemmas.List.{map-id}
+use Rattle.std.proofs.lemmas.List.{map-id, get_or-set_other}
 use Rattle.std.proofs.lemmas.List.FromFn.{filter_of_map_range_with_len_more}
 use Rattle.std.proofs.Math.Seq.{get_or-append_seam}
 use Rattle.go_points.specs.declared.Colour.{Colour}
@@ -49,9 +49,23 @@ pub new_place : (h : List (List Cell)) (c : List Cell) → not (has_occurred h c
 new_place h c e = no_position (same_cells c) h (not_true (has_occurred h c) e)
 
 -- a colouring whose key none has
-pub new_by_key : (h : List (List Cell)) (c after : List Cell) (key : ℕ) (may : Bool) → key ≡ key_of c → after ≡ c → (may ≡ false → HasNoneOf h key) → not may ≡ true → has_occurred h after ≡ false
-new_by_key h c after key false keyed same none ruled_out = no_element (same_cells after) h (none refl after (ap key_of same ∙ sym keyed))
-new_by_key h c after key true keyed same none ruled_out = absurd (cc ruled_out)
+pub new_by_key : (h : List (List Cell)) (c after : List Cell) (key : ℕ) → key ≡ key_of c → after ≡ c → HasNoneOf h key → has_occurred h after ≡ false
+new_by_key h c after key keyed same none = no_element (same_cells after) h (none after (ap key_of same ∙ sym keyed))
+
+-- a stone at an empty point is at no target that stands
+empty_apart : (a : Cell) (k : Colour) → same_cell a Empty ≡ true → same_cell a (Stone k) ≡ false
+empty_apart Empty k free = refl
+empty_apart (Stone j) k free = absurd (cc free)
+
+pub still_stand : (ts : List ℕ) (c : List Cell) (k m : Colour) (p : ℕ) → same_cell (cell_at c p) Empty ≡ true
+    → list_all (λ q. same_cell (cell_at c q) (Stone k)) ts ≡ true → list_all (λ q. same_cell (cell_at (set c p (Stone m)) q) (Stone k)) ts ≡ true
+still_stand [] c k m p free stand = refl
+still_stand (q ∷ qs) c k m p free stand =
+    let here = and_left (same_cell (cell_at c q) (Stone k)) (list_all (λ r. same_cell (cell_at c r) (Stone k)) qs) stand in
+    let rest = and_right (same_cell (cell_at c q) (Stone k)) (list_all (λ r. same_cell (cell_at c r) (Stone k)) qs) stand in
+    let apart : q ≢ p = λ e. absurd (cc (here, ap (λ r. same_cell (cell_at c r) (Stone k)) e, empty_apart (cell_at c p) k free)) in
+    and_both (same_cell (cell_at (set c p (Stone m)) q) (Stone k)) (list_all (λ r. same_cell (cell_at (set c p (Stone m)) r) (Stone k)) qs)
+    (ap (λ a. same_cell a (Stone k)) (get_or-set_other c p q (Stone m) Empty apart) ∙ here) (still_stand qs c k m p free rest)
 
 -- the moment that a legal turn leaves, and its state
 module _ (g : Game) (k : Colour) (m : Moment) where

@@ -1,7 +1,7 @@
 //! What a move makes and whether it is legal, without making it. Most moves change no other point, and no colouring with the new
 //! key has occurred: those are known to be legal by the key alone, and no board is copied.
 
-ghost use Rattle.std.specs.Prelude.{◌≡◌, true, false, IsTrue};
+ghost use Rattle.std.specs.Prelude.{◌≡◌, true, IfSome};
 ghost use Rattle.go_points.specs.Grid.{cell_at, same_cell, side_of};
 ghost use Rattle.go_points.specs.Move.{after_move};
 ghost use Rattle.go_points.specs.Place.{IsOn, number_of};
@@ -9,6 +9,7 @@ ghost use Rattle.go_points.specs.Ply.{ply_of, move};
 ghost use Rattle.go_points.specs.declared.Cell.TheVariants.{Empty};
 ghost use Rattle.go_turns.specs.History.{has_occurred};
 ghost use Rattle.target_game.specs.Legal.{legal};
+ghost use Rattle.target_game.specs.Private.NewKey.{IsNewKey};
 
 use crate::state::State;
 use go_points::{Cell, Colouring, Point, Turn};
@@ -76,23 +77,23 @@ impl<B: Board, S: Seen> State<B, S> {
         *self.position_after(point).colouring()
     }
 
-    // Whether the move at an empty point changes no other point and gives a key that no colouring has.
-    fn has_new_key(&self, point: Point) -> bool
+    /// The key after the move at an empty point, if the move changes no other point and no colouring that has occurred has that key.
+    pub(crate) fn new_key(&self, point: Point) -> Option<u64>
         requires on_board { IsOn self.now.state.game.size point }
         requires empty { same_cell
             (cell_at self.now.state.colouring (number_of self.now.state.game.size point)) Empty
             ≡ true }
-        ensures { IsTrue result
-            → has_occurred self.now.state.history
-            (after_move self.now.state.game.size self.now.state.colouring self.now.state.mover
-            (number_of self.now.state.game.size point))
-            ≡ false }
+        ensures { IfSome result
+            (IsNewKey self.now.state (number_of self.now.state.game.size point)) }
     {
         if !self.played.quiet(self.mover, point) {
-            return false;
+            return None;
         }
         let key = self.played.key_with_stone(self.mover, point);
-        !self.played.seen().may_hold(key)
+        if self.played.seen().may_hold(key) {
+            return None;
+        }
+        Some(key)
     }
 
     /// Whether the mover may move at the point, if nobody has won.
@@ -103,7 +104,7 @@ impl<B: Board, S: Seen> State<B, S> {
         if !self.is_open(point) {
             return false;
         }
-        if self.has_new_key(point) {
+        if let Some(_key) = self.new_key(point) {
             return true;
         }
         !self.has_occurred(&self.position_after(point))

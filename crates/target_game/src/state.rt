@@ -219,7 +219,7 @@ impl<B: Board, S: Seen> State<B, S> {
     }
 
     /// Whether each target point holds the defender's colour.
-    fn targets_stand(&self) -> bool
+    pub(crate) fn targets_stand(&self) -> bool
         ensures { result ≡ targets_stand self.now.state }
     {
         for point in self.targets.iter() {

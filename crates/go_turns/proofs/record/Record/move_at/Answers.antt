@@ -4,17 +4,18 @@ use Rattle.std.proofs.lemmas.List.{take_at}
 use Rattle.go_points.specs.declared.Cell.{Cell}
 use Rattle.go_points.specs.declared.Cell.TheVariants.{Empty}
 use Rattle.go_points.specs.Grid.{side_of, same_cell, cell_at}
+use Rattle.go_points.specs.Liberty.{first_without_liberty}
 use Rattle.go_points.specs.Place.{IsOn, number_of}
 use Rattle.go_points.specs.Move.{after_move}
 use Rattle.go_points.specs.Ply.{move}
 use Rattle.go_points.proofs.Sides.{number_below}
-use Rattle.go_chains.specs.declared.NoLiberty.{NoLiberty}
 use Rattle.go_turns.specs.declared.record.Step.{Step}
 use Rattle.go_turns.specs.History.{place_in}
 use Rattle.go_turns.specs.Record.{Moment, GameRecord, colouring_of, play_of, Did}
 use Rattle.go_turns.specs.Private.Steps.{CanStand, IsAt, IsNotAdded}
 use Rattle.go_turns.proofs.Steps.{can_stand, at_end, fit_longer, fit_push, earlier_split}
-use Rattle.go_turns.proofs.Turns.{did_move, did_not_move, put_back, was_empty, was_moved}
+use Rattle.go_turns.proofs.Turns.{did_move, did_not_move, found_at, was_empty, was_moved}
+use Rattle.go_turns.proofs.record.Record.move_at.Given.{Over}
 use Rattle.go_turns.proofs.record.Record.move_at.Goals as goal
 
 pub invariant_of-self-2 : goal.invariant_of-self-2
@@ -36,12 +37,24 @@ invariant_of-self-2 g c =
       few = omega arith;
     }
 
+-- the colouring that is taken over again is that of the board before the move
+is_old : (g : Over) (c : goal.After-at g) → c.at.result.now ≡ g.B.Board.content c.self.inside.board
+is_old g c =
+    let here : IsAt (g.S.Seen.content c.add_step.new.seen) c.self.inside.place (g.B.Board.content c.self.inside.board) = rw (c.in-Err.ensures.history_kept) c.self.invariant.here in
+    found_at (g.S.Seen.content c.add_step.new.seen) c.self.inside.place (g.B.Board.content c.self.inside.board) c.at.result.now here c.at.ensures
+
+pub restore-requires-clause-size : goal.restore-requires-clause-size
+restore-requires-clause-size g c = ap side_of (is_old g c) ∙ sym c.play.ensures.size
+
+pub restore-requires-clause-liberties : goal.restore-requires-clause-liberties
+restore-requires-clause-liberties g c = subst (λ d. first_without_liberty (side_of d) d ≡ None) (sym (is_old g c)) c.self.invariant.liberties
+
 pub invariant_of-self-in-Err : goal.invariant_of-self-in-Err
 invariant_of-self-in-Err g c =
     let old = g.B.Board.content c.self.inside.board in
     let at = c.at.result.now in
     let here : IsAt (g.S.Seen.content c.add_step.new.seen) c.self.inside.place old = rw (c.in-Err.ensures.history_kept) c.self.invariant.here in
-    let back = put_back (g.S.Seen.content c.add_step.new.seen) c.self.inside.place old at (g.B.Board.content c.assign-back.new.self) c.assign-back.result (λ (e : NoLiberty). number_of (side_of at) e.point) here c.self.invariant.liberties c.at.ensures c.assign-back.ensures.ok c.assign-back.ensures.fault in
+    let back = c.restore.ensures ∙ found_at (g.S.Seen.content c.add_step.new.seen) c.self.inside.place old at here c.at.ensures in
     record {
       steps = rw (back, c.in-Err.ensures.history_kept, c.in-Err.ensures.steps_kept) c.self.invariant.steps;
       here = rw (back) here;
@@ -62,9 +75,9 @@ returns-in-Err g c =
     let moment : List (List Cell) → Step → Moment = λ h s. record { history = h; place = s.place; passes = s.passes; last_colour = s.last_colour } in
     let step : Step = record { place = c.self.inside.place; occurred = c.len.result; passes = c.self.inside.passes; last_colour = c.self.inside.last_colour } in
     let was : GameRecord = record { size = n; present = moment whole step; earlier = reverse (map (λ s. moment (take s.occurred whole) s) c.self.inside.steps.items) } in
-    let is : GameRecord = record { size = side_of (g.B.Board.content c.assign-back.new.self); present = moment left step; earlier = reverse (map (λ s. moment (take s.occurred left) s) c.add_step.new.steps.items) } in
+    let is : GameRecord = record { size = side_of (g.B.Board.content c.restore.new.self); present = moment left step; earlier = reverse (map (λ s. moment (take s.occurred left) s) c.add_step.new.steps.items) } in
     let here : IsAt left c.self.inside.place old = rw (c.in-Err.ensures.history_kept) c.self.invariant.here in
-    let back = put_back left c.self.inside.place old at (g.B.Board.content c.assign-back.new.self) c.assign-back.result (λ (e : NoLiberty). number_of (side_of at) e.point) here c.self.invariant.liberties c.at.ensures c.assign-back.ensures.ok c.assign-back.ensures.fault in
+    let back = c.restore.ensures ∙ found_at left c.self.inside.place old at here c.at.ensures in
     let same : is ≡ was = λ i. record {
       size = side_of (back i);
       present = moment (c.in-Err.ensures.history_kept i) step;

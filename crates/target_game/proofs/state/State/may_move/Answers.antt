@@ -5,12 +5,12 @@ use Rattle.go_turns.specs.History.{has_occurred}
 use Rattle.target_game.proofs.Playing.{legal_open}
 use Rattle.target_game.proofs.state.State.may_move.Goals as goal
 
-pub returns-then-has_new_key : goal.returns-then-has_new_key
-returns-then-has_new_key g c =
+pub returns-in-Some : goal.returns-in-Some
+returns-in-Some g c =
     let s = c.args.self.now.state in
     let p = number_of s.game.size c.args.point in
     let on : p < s.game.size * s.game.size = mul-add-lt c.args.point.row s.game.size c.args.point.column s.game.size c.requires.row_within c.requires.column_within in
-    ap not (sym (c.has_new_key.ensures c.if-has_new_key.true)) ∙ sym (legal_open s p on (sym c.is_open.ensures ∙ c.if-not-is_open.false))
+    ap not (sym c.in-Some.ensures.fresh) ∙ sym (legal_open s p on (sym c.is_open.ensures ∙ c.if-not-is_open.false))
 
 pub returns : goal.returns
 returns g c =

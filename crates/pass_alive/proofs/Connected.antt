@@ -16,7 +16,7 @@ use Rattle.go_points.proofs.Cells.{member_points, adjacent_on_board}
 use Rattle.go_points.proofs.Paths.{reaches_path}
 use Rattle.go_chains.specs.Joined.{IsWay, Joined}
 use Rattle.go_chains.proofs.Joins.{joined_self, joined_back, joined_on, joined_beside}
-use Rattle.pass_alive.specs.Private.Areas.{area_cell}
+use Rattle.pass_alive.specs.Areas.{area_cell}
 use Rattle.pass_alive.proofs.Spaces.{area_either, not_in_area, in_area}
 
 adjacent_by : (n p q : ℕ) → p < n * n → q < n * n → IsBeside n p q → adjacent n p q ≡ true

@@ -6,7 +6,7 @@ use Rattle.go_points.specs.declared.Cell.{Cell}
 use Rattle.go_points.specs.declared.Cell.TheVariants.{Empty, Stone}
 use Rattle.go_points.specs.Grid.{opponent_of, same_cell, cell_at, side_of}
 use Rattle.go_chains.proofs.Boards.{all_empty}
-use Rattle.pass_alive.specs.Private.Areas.{area_cell, AreAreas}
+use Rattle.pass_alive.specs.Areas.{area_cell, AreAreas}
 
 module _ (k : Colour) (c : List Cell) where
   pub record FilledSoFar (f : List Cell) (i : ℕ) : Type 0 where

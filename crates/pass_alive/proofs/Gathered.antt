@@ -13,8 +13,8 @@ use Rattle.go_points.proofs.Cells.{eq_same_cell, adjacent_on_board, adjacent_bac
 use Rattle.go_chains.specs.Joined.{IsWay, Joined, IsChainOf, HoldsThose}
 use Rattle.go_chains.proofs.Joins.{joined_holds, joined_self, joined_back, joined_on}
 use Rattle.pass_alive.specs.Life.{Points, IsBeside}
-use Rattle.pass_alive.specs.Sets.{these}
-use Rattle.pass_alive.specs.Private.Areas.{IsNear, IsWith, HasEyes, IsGathered, IsFreePlace, HasSides, AreSides}
+use Rattle.pass_alive.specs.Sets.{these, IsNear, IsWith}
+use Rattle.pass_alive.specs.Private.Areas.{HasEyes, IsGathered, IsFreePlace, HasSides, AreSides}
 use Rattle.pass_alive.proofs.Regions.{place_back, number_back}
 use Rattle.pass_alive.proofs.Members.{AllBut, AllBeside, but_first, but_item, but_more, but_none, beside_more, beside_all}
 

@@ -1,5 +1,5 @@
 -- Loops over what a set holds, and over the points beside a point.
-use Rattle.std.proofs.Common.{◌≡◌, ℕ, ◌+◌, ◌<◌, ◌≤◌, ◌⊎◌, inl, inr, IsTrue, List, [], ◌∷◌, length, map, take, get_or, refl, sym, ◌∙◌, ap, subst}
+use Rattle.std.proofs.Common.{◌≡◌, ℕ, ◌+◌, ◌<◌, ◌≤◌, ◌⊎◌, inl, inr, true, IsTrue, List, [], ◌∷◌, length, map, take, get_or, refl, sym, ◌∙◌, ap, subst}
 use Rattle.std.specs.List.{All}
 use Rattle.std.proofs.lemmas.List.{take_all}
 use Rattle.go_points.specs.Grid.{adjacent, neighbours}
@@ -9,7 +9,7 @@ use Rattle.go_points.specs.Equal.{same_place_decides}
 use Rattle.go_points.proofs.Lists.{or_cases, or_left, or_right}
 use Rattle.go_points.proofs.Cells.{neighbours_member}
 use Rattle.go_chains.specs.Private.Chains.{IsIn}
-use Rattle.go_chains.proofs.Beside.{in_more}
+use Rattle.go_chains.proofs.Beside.{in_more, item_beside}
 use Rattle.go_chains.proofs.Counts.{member_in}
 
 -- the first of what is left, and the rest
@@ -40,6 +40,9 @@ module _ (P : Place → Type 0) (set : List Place) where
 
   pub but_item : (left rest : List Place) (x : Place) → left ≡ x ∷ rest → AllBut P set left → IsTrue (holds_place set x)
   but_item left rest x e h = h.among x (left_first left rest x e)
+
+  pub but_fact : (F : Place → Type 0) → ((p : Place) → IsTrue (holds_place set p) → F p) → (left rest : List Place) (x : Place) → left ≡ x ∷ rest → AllBut P set left → F x
+  but_fact F all left rest x e h = all x (but_item left rest x e h)
 
   pub but_more : (left rest : List Place) (x : Place) → left ≡ x ∷ rest → P x → AllBut P set left → AllBut P set rest
   but_more left rest x e here h = record {
@@ -84,3 +87,8 @@ module _ (n m : ℕ) (same : m ≡ n) (point : Place) (found items : List Place)
   beside_on on i x low is =
       let inside : All (IsOn n) items = subst (λ (l : List Place). All (IsOn n) l) (sym value) (subst (λ (k : ℕ). All (IsOn k) found) same on) in
       subst (IsOn n) (sym is) (inside i x low)
+
+  -- a point beside it is on the board, and adjacent
+  pub beside_item : map (number_of m) found ≡ neighbours m (number_of m point) → All (IsOn m) found → (i : ℕ) (x : Place) → i < length items → x ≡ get_or items i x
+      → IsOn n x × (adjacent n (number_of n point) (number_of n x) ≡ true)
+  beside_item exact on i x low is = (beside_on on i x low is, item_beside (number_of n) items i x low is n (number_of n point) (beside_those exact))

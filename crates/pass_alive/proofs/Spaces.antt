@@ -10,9 +10,10 @@ use Rattle.go_points.specs.Place.{Place, IsOn, place_of}
 use Rattle.go_points.proofs.Cells.{same_cell_eq, eq_same_cell, adjacent_on_board, adjacent_back}
 use Rattle.go_chains.specs.Joined.{IsWay, Joined, IsChainOf, IsLibertyOf}
 use Rattle.go_chains.proofs.Joins.{joined_holds, joined_self, joined_back, joined_on, joined_beside}
+use Rattle.pass_alive.specs.Areas.{area_cell}
 use Rattle.pass_alive.specs.Life.{Points, IsBeside, EyeOf, TwoEyes}
-use Rattle.pass_alive.specs.Sets.{these}
-use Rattle.pass_alive.specs.Private.Areas.{area_cell, IsEyeArea, IsNear, TwoEyeAreas, TwoEyeSets, MayLive}
+use Rattle.pass_alive.specs.Sets.{these, IsNear}
+use Rattle.pass_alive.specs.Private.Areas.{IsEyeArea, TwoEyeAreas, TwoEyeSets, MayLive}
 
 -- what the board of the areas holds
 area_own : (k : Colour) → area_cell k (Stone k) ≡ Empty

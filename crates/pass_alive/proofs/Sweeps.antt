@@ -14,9 +14,10 @@ use Rattle.go_points.proofs.Cells.{same_cell_eq, eq_same_cell, adjacent_on_board
 use Rattle.go_chains.specs.Joined.{IsWay, Joined, IsChainOf, HoldsThose}
 use Rattle.go_chains.proofs.Joins.{joined_self, joined_back, joined_on}
 use Rattle.target_game.specs.State.{Game}
+use Rattle.pass_alive.specs.Areas.{area_cell}
 use Rattle.pass_alive.specs.Life.{Points, IsBeside, Live, PassAlive}
-use Rattle.pass_alive.specs.Sets.{these, number_on, game_of, AreLiving}
-use Rattle.pass_alive.specs.Private.Areas.{area_cell, MayLive, IsSafe, IsDropped, IsWithout, IsWith, IsJudged}
+use Rattle.pass_alive.specs.Sets.{these, number_on, game_of, AreLiving, IsWith}
+use Rattle.pass_alive.specs.Private.Areas.{MayLive, IsSafe, IsDropped, IsWithout, IsJudged}
 use Rattle.pass_alive.proofs.Regions.{targets_hold}
 use Rattle.pass_alive.proofs.Members.{left_first, left_later, left_either}
 use Rattle.pass_alive.proofs.Spaces.{two_eyes, two_areas, near_areas, near_sets, may_live_more, place_on}

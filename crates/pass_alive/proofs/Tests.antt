@@ -1,8 +1,9 @@
 -- What loops over the points of a board find out.
-use Rattle.std.proofs.Common.{◌≡◌, ℕ, suc, ◌*◌, ◌<◌, Bool, true, false, inl, inr, IsTrue, ◌↔◌, not, Option, Some, None, is_some, IfSome, IfNone, List, [], ◌∷◌, map, refl, sym, ◌∙◌, ap, subst, arith}
+use Rattle.std.proofs.Common.{◌≡◌, ℕ, suc, ◌*◌, ◌<◌, Bool, true, false, inl, inr, IsTrue, ◌↔◌, IsFalse, not, Option, Some, None, is_some, IfSome, IfNone, List, [], ◌∷◌, map, refl, sym, ◌∙◌, ap, subst, arith}
 use Rattle.std.specs.List.{All, list_any}
 use Rattle.go_points.specs.declared.Cell.{Cell}
-use Rattle.go_points.specs.Grid.{adjacent, neighbours}
+use Rattle.go_points.specs.declared.Cell.TheVariants.{Empty}
+use Rattle.go_points.specs.Grid.{same_cell, adjacent, cell_at, neighbours}
 use Rattle.go_points.specs.Place.{Place, IsOn, number_of, place_of}
 use Rattle.go_points.specs.Points.{holds_place}
 use Rattle.go_points.proofs.Lists.{Member, any_to, member_map}
@@ -10,8 +11,8 @@ use Rattle.go_points.proofs.Cells.{neighbours_member, adjacent_on_board, adjacen
 use Rattle.go_chains.specs.Joined.{IsChainOf, IsLibertyOf}
 use Rattle.go_chains.proofs.Joins.{joined_self, joined_back, joined_on}
 use Rattle.pass_alive.specs.Life.{Points, Fixed}
-use Rattle.pass_alive.specs.Sets.{these, number_on}
-use Rattle.pass_alive.specs.Private.Areas.{HasEyes, AreSides, IsBesideFree, IsNear, IsNoEye, IsEyeArea, IsEyeOutside, NoEyeOutside, TwoEyeAreas, TwoEyeSets}
+use Rattle.pass_alive.specs.Sets.{these, number_on, IsNear}
+use Rattle.pass_alive.specs.Private.Areas.{HasEyes, AreSides, IsBesideFree, IsFreePlace, IsNoEye, IsEyeArea, IsEyeOutside, NoEyeOutside, TwoEyeAreas, TwoEyeSets}
 use Rattle.target_game.specs.Legal.{holds_point}
 use Rattle.pass_alive.proofs.Regions.{place_back, number_back, number_low, on_place, region_holds}
 
@@ -66,6 +67,23 @@ eye_near n a p stones chain area is eye q on held = eye.beside q on ((is.joined 
 -- what an eye asks of its own point
 pub eye_here : (n : ℕ) (a : List Cell) (stones chain : Points) (p : ℕ) → p < n * n → IsEyeArea n a stones (IsNear n chain) p → IsNear n chain p
 eye_here n a stones chain p on eye = eye.beside p on (joined_self n a p)
+
+-- whether the point is empty, as a cell that was read says
+pub empty_as : (cells : List Cell) (q : ℕ) (x : Cell) (b : Bool) → b ≡ same_cell x Empty → x ≡ cell_at cells q → same_cell (cell_at cells q) Empty ≡ b
+empty_as cells q x b e is = sym (e ∙ ap (λ (a : Cell). same_cell a Empty) is)
+
+-- the area of an empty point, which another board has
+pub eye_found : (n m : ℕ) (c a : List Cell) (stones chain known : List Place) (x : Place) (area : List Place) → m ≡ n → IsFreePlace n c x → IsFalse (holds_place known x)
+    → IsChainOf m a (number_of m x) area × IsEyeArea m a (these m stones) (IsNear m (these m chain)) (number_of m x)
+    → IsEyeOutside n c a (these n stones) (these n chain) (these n known) area
+eye_found n m c a stones chain known x area same place unknown found = record {
+  at = number_of n x;
+  on = number_low n x place.0;
+  empty = place.1;
+  unknown = ap (holds_place known) (place_back n x place.0) ∙ unknown;
+  area = subst (λ (k : ℕ). IsChainOf k a (number_of k x) area) same found.0;
+  eye = subst (λ (k : ℕ). IsEyeArea k a (these k stones) (IsNear k (these k chain)) (number_of k x)) same found.1;
+}
 
 -- two eyes, from the two that were looked for
 module _ (n : ℕ) (c a : List Cell) (stones chain : Points) where

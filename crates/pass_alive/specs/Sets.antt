@@ -1,7 +1,8 @@
 -- Sets of places, as sets of the points of a board.
-use Rattle.std.specs.Prelude.{ℕ, ◌*◌, IsTrue, List, [], map, if◌then◌else◌}
+use Rattle.std.specs.Prelude.{ℕ, ◌*◌, ◌⊎◌, IsTrue, List, [], map, if◌then◌else◌}
 use Rattle.go_points.specs.declared.Colour.{Colour}
 use Rattle.go_points.specs.declared.Cell.{Cell}
+use Rattle.go_points.specs.Grid.{adjacent}
 use Rattle.go_points.specs.Place.{Place, IsOn, on_board, number_of, place_of}
 use Rattle.go_points.specs.Points.{holds_place}
 use Rattle.target_game.specs.State.{Game}
@@ -10,6 +11,16 @@ use Rattle.pass_alive.specs.Life.{Points, Live}
 -- The points of a board of n rows whose places are in the set.
 abbrev pub these : ℕ → List Place → Points
 these n s q = holds_place s (place_of n q)
+
+-- Adjacent to a point of the set.
+abbrev pub IsNear : ℕ → Points → ℕ → Type 0
+IsNear n chain q = (r : ℕ) × IsTrue (adjacent n q r) × IsTrue (chain r)
+
+-- The set with another set of points, and no more of them.
+pub record IsWith (other old new : List Place) : Type 0 where
+  pub kept : (p : Place) → IsTrue (holds_place old p) → IsTrue (holds_place new p)
+  pub added : (p : Place) → IsTrue (holds_place other p) → IsTrue (holds_place new p)
+  pub most : (p : Place) → IsTrue (holds_place new p) → IsTrue (holds_place old p) ⊎ IsTrue (holds_place other p)
 
 -- The number of a place on that board. A place off the board gets a number that no point has.
 abbrev pub number_on : ℕ → Place → ℕ

@@ -3,10 +3,10 @@
 //! They are kept as the chains of another board, on which each such point holds a stone of the other colour, and all others are
 //! empty. The liberties of a chain there are the stones around the area.
 
-ghost use Rattle.std.specs.Prelude.{◌≡◌, ◌≢◌, ◌*◌, ◌<◌, ℕ, IfSome, IfNone};
+ghost use Rattle.std.specs.Prelude.{◌≢◌, ◌*◌, ◌<◌, ℕ, IfSome, IfNone};
 ghost use Rattle.go_points.specs.declared.Cell.TheVariants.{Stone};
 ghost use Rattle.go_points.specs.Grid.{cell_at, side_of};
-ghost use Rattle.pass_alive.specs.Private.Areas.{AreAreas};
+ghost use Rattle.pass_alive.specs.Areas.{AreAreas};
 
 use go_chains::ChainBoard;
 use go_points::{Cell, Colour, Colouring};
@@ -27,7 +27,7 @@ fn filled_around(board: &ChainBoard, colour: Colour) -> Colouring
 }
 
 /// The areas. `None` only if there is no stone of the colour.
-pub(crate) fn areas_of(board: &ChainBoard, colour: Colour) -> Option<ChainBoard>
+pub fn areas_of(board: &ChainBoard, colour: Colour) -> Option<ChainBoard>
     ensures some { IfSome result (λ a. AreAreas colour board.now a) }
     ensures none { IfNone result ((q : ℕ) → q < side_of board.now * side_of board.now
         → cell_at board.now q ≢ Stone colour) }

@@ -2,8 +2,8 @@
 
 ghost use Rattle.go_points.specs.Grid.{side_of};
 ghost use Rattle.go_points.specs.Place.{IsOn, number_of};
-ghost use Rattle.pass_alive.specs.Sets.{these};
-ghost use Rattle.pass_alive.specs.Private.Areas.{HasAreas, HasEyes, IsGathered, IsNear};
+ghost use Rattle.pass_alive.specs.Sets.{these, IsNear};
+ghost use Rattle.pass_alive.specs.Private.Areas.{HasAreas, HasEyes, IsGathered};
 
 use crate::chains::chain_at;
 use crate::sets::{are_near, put_in};

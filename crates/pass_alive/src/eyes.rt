@@ -6,8 +6,8 @@ ghost use Rattle.go_points.specs.Grid.{cell_at, side_of};
 ghost use Rattle.go_points.specs.Place.{Place, IsOn, number_of};
 ghost use Rattle.go_points.specs.Points.{holds_place};
 ghost use Rattle.go_chains.specs.Joined.{IsChainOf};
-ghost use Rattle.pass_alive.specs.Sets.{these};
-ghost use Rattle.pass_alive.specs.Private.Areas.{HasAreas, HasEyes, HasSides, AreSides, IsEyeArea, IsFreePlace, IsNear, IsEyeOutside, IsNoEye, TwoEyeAreas, TwoEyeSets};
+ghost use Rattle.pass_alive.specs.Sets.{these, IsNear};
+ghost use Rattle.pass_alive.specs.Private.Areas.{HasAreas, HasEyes, HasSides, AreSides, IsEyeArea, IsFreePlace, IsEyeOutside, IsNoEye, TwoEyeAreas, TwoEyeSets};
 
 use crate::chains::chain_at;
 use crate::sets::are_near;

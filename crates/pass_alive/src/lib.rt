@@ -11,5 +11,7 @@ mod problems;
 mod sets;
 mod sides;
 
+pub use areas::areas_of;
 pub use living::{is_pass_alive, living_stones};
 pub use problems::lives_at;
+pub use sets::{are_members, is_near, put_in};

@@ -1,15 +1,15 @@
 //! The stones that live by their shape: those that are left when chains without two eyes and without a lasting liberty are taken
 //! away, again and again.
 
-ghost use Rattle.std.specs.Prelude.{◌≡◌, ◌≢◌, ◌*◌, ◌<◌, ◌↔◌, ℕ, IsTrue, map};
+ghost use Rattle.std.specs.Prelude.{◌≢◌, ◌*◌, ◌<◌, ◌↔◌, ℕ, IsTrue, map};
 ghost use Rattle.go_points.specs.declared.Cell.TheVariants.{Empty, Stone};
 ghost use Rattle.go_points.specs.Grid.{same_cell, cell_at, side_of};
 ghost use Rattle.go_points.specs.Place.{Place, IsOn, number_of};
 ghost use Rattle.go_points.specs.Points.{holds_place};
 ghost use Rattle.go_chains.specs.Joined.{IsChainOf, HoldsThose};
 ghost use Rattle.pass_alive.specs.Life.{IsBeside, Fixed, PassAlive};
-ghost use Rattle.pass_alive.specs.Sets.{these, number_on, game_of, AreLiving};
-ghost use Rattle.pass_alive.specs.Private.Areas.{HasAreas, HasEyes, IsNear, MayLive, IsSafe, IsJudged, IsDropped};
+ghost use Rattle.pass_alive.specs.Sets.{these, number_on, game_of, AreLiving, IsNear};
+ghost use Rattle.pass_alive.specs.Private.Areas.{HasAreas, HasEyes, MayLive, IsSafe, IsJudged, IsDropped};
 
 use crate::areas::areas_of;
 use crate::candidates::eye_points;

@@ -4,13 +4,13 @@ ghost use Rattle.std.specs.Prelude.{◌≡◌, ◌*◌, ◌<◌, ◌↔◌, ℕ,
 ghost use Rattle.std.specs.List.{list_all};
 ghost use Rattle.go_points.specs.Place.{Place, IsOn, number_of};
 ghost use Rattle.go_points.specs.Points.{holds_place};
-ghost use Rattle.pass_alive.specs.Sets.{these};
-ghost use Rattle.pass_alive.specs.Private.Areas.{IsNear, IsWithout, IsWith};
+ghost use Rattle.pass_alive.specs.Sets.{these, IsNear, IsWith};
+ghost use Rattle.pass_alive.specs.Private.Areas.{IsWithout};
 
 use go_points::{Point, PointSet, Size};
 
 /// Whether all points of the first set are in the second.
-pub(crate) fn are_members(points: &PointSet, set: &PointSet) -> bool
+pub fn are_members(points: &PointSet, set: &PointSet) -> bool
     ensures { result ≡ list_all (holds_place set.now) points.now }
 {
     for point in points.iter() {
@@ -22,7 +22,7 @@ pub(crate) fn are_members(points: &PointSet, set: &PointSet) -> bool
 }
 
 /// Whether the point is adjacent to one of the set.
-pub(crate) fn is_near(size: Size, point: Point, set: &PointSet) -> bool
+pub fn is_near(size: Size, point: Point, set: &PointSet) -> bool
     requires { IsOn size point }
     ensures { IsTrue result ↔ IsNear size (these size set.now) (number_of size point) }
 {
@@ -59,7 +59,7 @@ pub(crate) fn take_out(set: &mut PointSet, other: &PointSet)
 }
 
 /// Puts the points of the second set into the first.
-pub(crate) fn put_in(set: &mut PointSet, other: &PointSet)
+pub fn put_in(set: &mut PointSet, other: &PointSet)
     ensures { IsWith other.now set.old set.new }
 {
     for point in other.iter() {

@@ -17,7 +17,7 @@ pub use copies::{
 pub use input::read_whole;
 pub use output::{Output, without_input, without_request, write_output};
 pub use program::exit_code;
-pub use refusals::{refused_problem, refused_tree};
+pub use refusals::{refused, refused_problem, refused_tree};
 pub use status::{Status, write_record, write_text};
 pub use texts::text_of;
 pub use words::{NoRequest, no_request};

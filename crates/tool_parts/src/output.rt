@@ -1,6 +1,6 @@
 //! What a run writes.
 
-ghost use Rattle.std.specs.Prelude.{◌≡◌, ◌≢◌, codes, IfOk, IsErr, IsTrue, Ok, is_err};
+ghost use Rattle.std.specs.Prelude.{◌≡◌, ◌≢◌, codes, IfOk, IsTrue, Ok, is_err};
 ghost use Rattle.std.specs.Io.KnownBytes.{Appends};
 ghost use Rattle.tool_parts.specs.Written.{bytes_of, end_of};
 ghost use Rattle.tool_parts.specs.declared.output.Output.TheVariants.{Text};

@@ -1,7 +1,8 @@
 //! Why nothing is made from a record, in the words and with the numbers that `tsumego` uses.
 
-ghost use Rattle.std.specs.Prelude.{◌≡◌, IfOk};
+ghost use Rattle.std.specs.Prelude.{◌≡◌, IfOk, Ok};
 ghost use Rattle.tool_parts.specs.Written.{end_of};
+ghost use Rattle.tool_parts.specs.declared.output.Output.TheVariants.{Text};
 ghost use Rattle.tool_parts.specs.declared.status.Status.TheVariants.{Refused};
 
 use crate::output::Output;
@@ -10,9 +11,9 @@ use sgf_text::SgfFault;
 use std::alloc::{AllocError, Global};
 use tsumego_problem::{ProblemFault, TurnFaultCause};
 
-/// A refusal with this text.
-fn refused(text: String) -> Result<Output, AllocError>
-    ensures { IfOk result (λ o. end_of o ≡ Refused) }
+/// A refusal with this text. It never fails.
+pub fn refused(text: String) -> Result<Output, AllocError>
+    ensures { result ≡ Ok (Text text Refused) }
 {
     Ok(Output::Text(text, Status::Refused))
 }

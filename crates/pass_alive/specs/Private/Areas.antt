@@ -1,24 +1,15 @@
--- The areas between the stones of one colour, as the chains of another board.
-use Rattle.std.specs.Prelude.{◌≡◌, ◌≢◌, ℕ, ◌*◌, ◌<◌, ◌⊎◌, Bool, IsTrue, IsFalse, List, length, if◌then◌else◌}
-use Rattle.go_points.specs.declared.Colour.{Colour}
+-- Areas that are eyes, and what the loops over them do.
+use Rattle.std.specs.Prelude.{◌≡◌, ◌≢◌, ℕ, ◌*◌, ◌<◌, ◌⊎◌, Bool, IsTrue, IsFalse, List, length}
 use Rattle.go_points.specs.declared.Cell.{Cell}
-use Rattle.go_points.specs.declared.Cell.TheVariants.{Empty, Stone}
-use Rattle.go_points.specs.Grid.{opponent_of, same_cell, adjacent, cell_at, side_of}
+use Rattle.go_points.specs.declared.Cell.TheVariants.{Empty}
+use Rattle.go_points.specs.Grid.{adjacent, cell_at, side_of}
 use Rattle.go_points.specs.Place.{Place, IsOn, number_of}
 use Rattle.go_points.specs.Points.{holds_place}
 use Rattle.go_chains.specs.Joined.{Joined, IsChainOf, IsLibertyOf}
 use Rattle.pass_alive.specs.Life.{Points, IsBeside, Lasting}
-use Rattle.pass_alive.specs.Sets.{these}
+use Rattle.pass_alive.specs.Sets.{these, IsNear}
 
--- What that board holds at a point: nothing at a stone of the colour, and a stone of the other colour elsewhere.
-abbrev pub area_cell : Colour → Cell → Cell
-area_cell k x = (if same_cell x (Stone k) then Empty else Stone (opponent_of k))
-
-pub record AreAreas (k : Colour) (c a : List Cell) : Type 0 where
-  pub size : side_of a ≡ side_of c
-  pub cells : (q : ℕ) → q < side_of c * side_of c → cell_at a q ≡ area_cell k (cell_at c q)
-
--- What the code needs of it: each empty point is in an area.
+-- What the code needs of the areas: each empty point is in one.
 pub record HasAreas (c a : List Cell) : Type 0 where
   pub size : side_of a ≡ side_of c
   pub free : (q : ℕ) → q < side_of c * side_of c → cell_at c q ≡ Empty → cell_at a q ≢ Empty
@@ -27,10 +18,6 @@ pub record HasAreas (c a : List Cell) : Type 0 where
 pub record IsEyeArea (n : ℕ) (a : List Cell) (stones : Points) (near : ℕ → Type 0) (p : ℕ) : Type 0 where
   pub walls : (r : ℕ) → r < n * n → IsLibertyOf n a p r → IsTrue (stones r)
   pub beside : (q : ℕ) → q < n * n → Joined n a p q → near q
-
--- Adjacent to a point of the set.
-abbrev pub IsNear : ℕ → Points → ℕ → Type 0
-IsNear n chain q = (r : ℕ) × IsTrue (adjacent n q r) × IsTrue (chain r)
 
 -- An empty point that is not among the known ones, and whose area, which is s, is an eye.
 pub record IsEyeOutside (n : ℕ) (c a : List Cell) (stones chain known : Points) (s : List Place) : Type 0 where
@@ -44,6 +31,10 @@ pub record IsEyeOutside (n : ℕ) (c a : List Cell) (stones chain known : Points
 -- The point p is in one of the known ones, or its area is none.
 abbrev pub IsNoEye : ℕ → List Cell → Points → Points → Points → ℕ → Type 0
 IsNoEye n a stones chain known p = IsFalse (known p) → IsEyeArea n a stones (IsNear n chain) p → ⊥
+
+-- The same of a place, for sets of places.
+abbrev pub IsNoEyePlace : ℕ → List Cell → List Place → List Place → List Place → Place → Type 0
+IsNoEyePlace n a stones chain known p = IsNoEye n a (these n stones) (these n chain) (these n known) (number_of n p)
 
 -- There is none on the board.
 abbrev pub NoEyeOutside : ℕ → List Cell → List Cell → Points → Points → Points → Type 0
@@ -89,12 +80,6 @@ pub record IsWithout (other old new : List Place) : Type 0 where
   pub within : (p : Place) → IsTrue (holds_place new p) → IsTrue (holds_place old p)
   pub kept : (p : Place) → IsFalse (holds_place other p) → IsTrue (holds_place old p) → IsTrue (holds_place new p)
   pub fewer : (p : Place) → IsTrue (holds_place other p) → IsTrue (holds_place old p) → length new < length old
-
--- The set with another set of points, and no more of them.
-pub record IsWith (other old new : List Place) : Type 0 where
-  pub kept : (p : Place) → IsTrue (holds_place old p) → IsTrue (holds_place new p)
-  pub added : (p : Place) → IsTrue (holds_place other p) → IsTrue (holds_place new p)
-  pub most : (p : Place) → IsTrue (holds_place new p) → IsTrue (holds_place old p) ⊎ IsTrue (holds_place other p)
 
 -- Adjacent to an empty point that is not in the set.
 abbrev pub IsBesideFree : ℕ → List Cell → Points → ℕ → Type 0

@@ -5,8 +5,7 @@ use Rattle.go_points.specs.Place.{number_of, place_of}
 use Rattle.go_points.specs.Points.{holds_place}
 use Rattle.go_points.proofs.Cells.{eq_same_cell}
 use Rattle.go_chains.specs.Joined.{IsChainOf}
-use Rattle.pass_alive.specs.Sets.{these}
-use Rattle.pass_alive.specs.Private.Areas.{IsNear}
+use Rattle.pass_alive.specs.Sets.{these, IsNear}
 use Rattle.pass_alive.proofs.Regions.{place_back, number_low}
 use Rattle.pass_alive.proofs.Gathered.{gathered_before, gathered_no}
 use Rattle.pass_alive.proofs.candidates.add_area.Goals as goal

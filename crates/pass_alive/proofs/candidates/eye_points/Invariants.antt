@@ -1,6 +1,5 @@
 use Rattle.go_points.specs.Grid.{side_of}
-use Rattle.pass_alive.specs.Sets.{these}
-use Rattle.pass_alive.specs.Private.Areas.{IsNear}
+use Rattle.pass_alive.specs.Sets.{these, IsNear}
 use Rattle.pass_alive.proofs.Gathered.{GatheredSoFar}
 use Rattle.pass_alive.proofs.candidates.eye_points.Given as goal
 

@@ -1,8 +1,7 @@
 use Rattle.std.proofs.Common.{◌*◌, ◌<◌, ℕ, IsTrue, sym, subst}
 use Rattle.go_points.specs.Grid.{side_of}
 use Rattle.go_points.specs.Place.{number_of}
-use Rattle.pass_alive.specs.Sets.{these}
-use Rattle.pass_alive.specs.Private.Areas.{IsNear}
+use Rattle.pass_alive.specs.Sets.{these, IsNear}
 use Rattle.pass_alive.proofs.Tests.{eye_yes, eye_walls, eye_near}
 use Rattle.pass_alive.proofs.eyes.eye_at.Goals as goal
 

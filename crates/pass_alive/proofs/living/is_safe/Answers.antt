@@ -1,9 +1,8 @@
 use Rattle.std.proofs.Common.{inl, inr}
 use Rattle.go_points.specs.Grid.{side_of}
 use Rattle.go_points.specs.Place.{number_of}
-use Rattle.pass_alive.specs.Sets.{these}
+use Rattle.pass_alive.specs.Sets.{these, IsNear}
 use Rattle.pass_alive.specs.Life.{IsBeside}
-use Rattle.pass_alive.specs.Private.Areas.{IsNear}
 use Rattle.pass_alive.proofs.Gathered.{has_eyes_by}
 use Rattle.pass_alive.proofs.Spaces.{near_beside, beside_near, safe_by_sets, areas_by_chain}
 use Rattle.pass_alive.proofs.living.is_safe.Goals as goal

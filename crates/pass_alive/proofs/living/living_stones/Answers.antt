@@ -1,8 +1,8 @@
 use Rattle.std.proofs.Common.{Bool, map, sym, subst}
 use Rattle.go_points.specs.Grid.{side_of}
 use Rattle.pass_alive.specs.Life.{IsBeside}
-use Rattle.pass_alive.specs.Sets.{these, number_on, AreLiving}
-use Rattle.pass_alive.specs.Private.Areas.{IsDropped, IsNear}
+use Rattle.pass_alive.specs.Sets.{these, number_on, AreLiving, IsNear}
+use Rattle.pass_alive.specs.Private.Areas.{IsDropped}
 use Rattle.pass_alive.proofs.Gathered.{has_eyes_by, beside_stones}
 use Rattle.pass_alive.proofs.Sweeps.{none_living, living_first, living_more, living_all}
 use Rattle.pass_alive.proofs.living.living_stones.Goals as goal

@@ -1,8 +1,7 @@
 use Rattle.std.proofs.Common.{◌∙◌, ap}
 use Rattle.go_points.specs.Place.{Place, number_of}
 use Rattle.go_points.specs.Points.{holds_place}
-use Rattle.pass_alive.specs.Sets.{these}
-use Rattle.pass_alive.specs.Private.Areas.{IsNear}
+use Rattle.pass_alive.specs.Sets.{these, IsNear}
 use Rattle.pass_alive.proofs.Regions.{place_back, number_low}
 use Rattle.pass_alive.proofs.Members.{but_item}
 use Rattle.pass_alive.proofs.sets.are_near.Goals as goal

@@ -1,6 +1,5 @@
 use Rattle.go_points.specs.Place.{Place, number_of}
-use Rattle.pass_alive.specs.Sets.{these}
-use Rattle.pass_alive.specs.Private.Areas.{IsNear}
+use Rattle.pass_alive.specs.Sets.{these, IsNear}
 use Rattle.pass_alive.proofs.Members.{AllBut}
 use Rattle.pass_alive.proofs.sets.are_near.Given as goal
 

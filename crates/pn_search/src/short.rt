@@ -31,28 +31,20 @@ pub fn find_short(
     ensures fewer { left.new ≤ left.old }
     ensures all { IfErr result (λ cause. cause ≡ Steps → left.new ≡ 0) }
 {
-    match count_changing(alloc, problem) {
-        Ok(count) if count <= MAX_PLACES => found_by_numbers(alloc, problem, budget, left),
-        Ok(_) => found_after_full_search(alloc, problem, budget, left),
-        Err(_) => Err(Cause::Memory),
+    let Ok(changing) = count_changing(alloc, problem) else {
+        return Err(Cause::Memory);
+    };
+    if changing > MAX_PLACES {
+        let floor = left.saturating_sub(steps_of_full_search(budget.steps));
+        match first_win(alloc, problem, floor, left) {
+            Ok(Some((winner, main))) => return Ok(claim_of_tree(alloc, problem, winner, main)),
+            Ok(None) => {}
+            Err(_) => return Err(Cause::Memory),
+        }
     }
-}
-
-/// The claim of what full search finds with a tenth of the steps, or else the search by proof numbers.
-fn found_after_full_search(
-    alloc: Global,
-    problem: &Problem,
-    budget: Budget,
-    left: &mut u64,
-) -> Result<Certificate, Cause>
-    ensures fewer { left.new ≤ left.old }
-    ensures all { IfErr result (λ cause. cause ≡ Steps → left.new ≡ 0) }
-{
-    let floor = left.saturating_sub(steps_of_full_search(budget.steps));
-    match first_win(alloc, problem, floor, left) {
-        Ok(Some((winner, main))) => Ok(claim_of_tree(alloc, problem, winner, main)),
-        Ok(None) => found_by_numbers(alloc, problem, budget, left),
-        Err(_) => Err(Cause::Memory),
+    match proofs_of(alloc, problem, budget, Answers::Short, left) {
+        Ok(shared) => claim_of_proofs(alloc, problem, &shared),
+        Err(stop) => Err(cause_of_stop(stop)),
     }
 }
 
@@ -64,22 +56,6 @@ fn claim_of_tree(alloc: Global, problem: &Problem, winner: Colour, main: Node) -
         winner,
         lemmas: Vec::new(alloc),
         main,
-    }
-}
-
-/// The claim of what the search by proof numbers finds.
-fn found_by_numbers(
-    alloc: Global,
-    problem: &Problem,
-    budget: Budget,
-    left: &mut u64,
-) -> Result<Certificate, Cause>
-    ensures fewer { left.new ≤ left.old }
-    ensures all { IfErr result (λ cause. cause ≡ Steps → left.new ≡ 0) }
-{
-    match proofs_of(alloc, problem, budget, Answers::Short, left) {
-        Ok(shared) => claim_of_proofs(alloc, problem, &shared),
-        Err(stop) => Err(cause_of_stop(stop)),
     }
 }
 

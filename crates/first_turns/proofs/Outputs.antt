@@ -1,20 +1,16 @@
 -- What is written for a request.
-use Rattle.std.proofs.Common.{◌≡◌, ◌≢◌, Bool, true, false, ℕ, List, [], ◌++◌, Option, Some, None, Result, Ok, Err, IsTrue, nat_lt, refl, sym, ◌∙◌, ap, subst}
-use Rattle.std.specs.Prelude.{IfOk, is_err, string_bytes}
-use Rattle.std.specs.List.{All}
-use Rattle.std.specs.Io.KnownBytes.{Appends}
+use Rattle.std.proofs.Common.{◌≡◌, Bool, true, false, ℕ, List, Some, Result, Ok, Err, nat_lt, sym, ◌∙◌, ap, subst}
+use Rattle.std.specs.Prelude.{IfOk, string_bytes}
 use Rattle.sgf_text.specs.Grammar.{Reads}
 use Rattle.sgf_text.specs.Trees.{GameTree}
 use Rattle.target_game.specs.Legal.{legal_turns}
 use Rattle.target_game.specs.State.{GameProblem, start}
 use Rattle.tsumego_problem.specs.Walk.{problem_within, history_limit}
-use Rattle.tool_parts.specs.Input.{Tells}
-use Rattle.tool_parts.specs.Written.{bytes_of, end_of}
+use Rattle.tool_parts.specs.Written.{end_of}
 use Rattle.tool_parts.specs.declared.output.Output.{Output}
 use Rattle.tool_parts.specs.declared.output.Output.TheVariants.{Record, Text}
 use Rattle.tool_parts.specs.declared.status.Status.{Status}
-use Rattle.tool_parts.specs.declared.status.Status.TheVariants.{Answered, Refused, Failed}
-use Rattle.tool_parts.specs.declared.words.NoRequest.{NoRequest}
+use Rattle.tool_parts.specs.declared.status.Status.TheVariants.{Refused}
 use Rattle.first_turns.specs.declared.found.Found.{Found}
 use Rattle.first_turns.specs.declared.line.Later.{Later}
 use Rattle.first_turns.specs.declared.line_solution.LineSolution.{LineSolution}
@@ -23,8 +19,8 @@ use Rattle.first_turns.specs.declared.words.Form.{Form}
 use Rattle.first_turns.specs.declared.words.Form.TheVariants as forms
 use Rattle.first_turns.specs.declared.words.Request.{Request}
 use Rattle.first_turns.specs.Judged.{AreJudged}
-use Rattle.first_turns.specs.Line.{IsLater}
-use Rattle.first_turns.specs.Outputs.{AnswersText, HasAnswered, IsAnswered, IsInForm, IsLineSolution, IsList, IsListBy, IsListOf, IsOutput, names_of}
+use Rattle.first_turns.specs.Line.{AreLater}
+use Rattle.first_turns.specs.Outputs.{AnswersText, IsInForm, IsLineSolution, IsList, IsListBy, IsListOf, IsOutput, names_of}
 use Rattle.first_turns.specs.Text.{short_list, long_list}
 
 -- a refusal is no answer
@@ -52,41 +48,16 @@ in_form forms.Json P Q f (Ok o) h = tt
 -- the list of the first turns, and with those of the line
 pub short : (request : Request) (q : GameProblem) (names : Names) (found : List Found) → names ≡ names_of request.coordinates q.game.size → AreJudged q (legal_turns (start q)) found
     → nat_lt request.depth 2 ≡ true → (text : List ℕ) → text ≡ short_list names found → IsList request q text
-short request q names found named judged e text is = subst (λ (b : Bool). IsListBy b q (names_of request.coordinates q.game.size) text) (sym e) (found, judged, is ∙ ap (λ ns. short_list ns found) named)
+short request q names found named judged e text is = subst (λ (b : Bool). IsListBy b request.depth q (names_of request.coordinates q.game.size) text) (sym e) (found, judged, is ∙ ap (λ ns. short_list ns found) named)
 
 pub long : (request : Request) (q : GameProblem) (names : Names) (found : List Found) (later : List Later) (is_whole : Bool) → names ≡ names_of request.coordinates q.game.size
-    → AreJudged q (legal_turns (start q)) found → All (IsLater q) later → nat_lt request.depth 2 ≡ false
+    → AreJudged q (legal_turns (start q)) found → AreLater request.depth q later → nat_lt request.depth 2 ≡ false
     → (text : List ℕ) → ((solution : LineSolution) × IsLineSolution found later solution × (text ≡ long_list names found later solution is_whole)) → IsList request q text
-long request q names found later is_whole named judged each e text w =
-    subst (λ (b : Bool). IsListBy b q (names_of request.coordinates q.game.size) text) (sym e)
-    (found, judged, later, each, w.0, w.1, is_whole, w.2 ∙ ap (λ ns. long_list ns found later w.0 is_whole) named)
+long request q names found later is_whole named judged all e text w =
+    subst (λ (b : Bool). IsListBy b request.depth q (names_of request.coordinates q.game.size) text) (sym e)
+    (found, judged, later, all, w.0, w.1, is_whole, w.2 ∙ ap (λ ns. long_list ns found later w.0 is_whole) named)
 
 -- the list of a problem is that of the bytes
 pub of_bytes : {E : Type 0} (request : Request) (bytes : List ℕ) (tree : GameTree) (n : ℕ) (q : GameProblem) (r : Result Output E)
     → Reads bytes tree n → problem_within (Some history_limit) tree ≡ Ok q → IfOk r (IsInForm request.form (IsList request q)) → IfOk r (IsOutput request bytes)
 of_bytes request bytes tree n q r reads is = in_form request.form (IsList request q) (IsListOf request bytes) (λ text list. (tree, n, q, reads, is, list)) r
-
--- an output that is no answer, and one that may be
-pub not_answered : {E : Type 0} (P : Output → Type 0) (status : Status) (r : Result Output E) → status ≢ Answered → IfOk r (λ o. end_of o ≡ status) → IfOk r (λ o. end_of o ≡ Answered → P o)
-not_answered P status (Ok o) ne is = λ e. absurd (ne (sym is ∙ e))
-not_answered P status (Err fault) ne is = tt
-
-pub output_answered : {E : Type 0} (asked : Result Request NoRequest) (request : Request) (told : Option (List ℕ)) (bytes : List ℕ) (r : Result Output E)
-    → asked ≡ Ok request → Tells told bytes → IfOk r (IsOutput request bytes) → IfOk r (λ o. end_of o ≡ Answered → IsAnswered asked told o)
-output_answered asked request told bytes (Ok o) e tells is = λ end. subst (λ a. IsAnswered a told o) (sym e) (bytes, tells, is)
-output_answered asked request told bytes (Err fault) e tells is = tt
-
--- what a reader has, where nothing was read before
-pub all_read : (told : Option (List ℕ)) (items bytes : List ℕ) → items ≡ [] ++ bytes → Tells told bytes → Tells told items
-all_read told items bytes e h = subst (Tells told) (sym e) h
-
--- a run that was answered has written all
-pub answered : {E : Type 0} (request : Result Request NoRequest) (r : Result Output E) (status : Status) (told old new : Option (List ℕ))
-    → IfOk r (λ o. end_of o ≡ Answered → IsAnswered request told o)
-    → IfOk r (λ o. status ≢ Failed → Appends old new (bytes_of o)) → IfOk r (λ o. status ≢ Failed → status ≡ end_of o)
-    → (IsTrue (is_err r) → status ≡ Failed) → status ≡ Answered → HasAnswered request told old new
-answered request (Ok o) status told old new is written ended memory e =
-    let not_failed : status ≢ Failed = λ f. absurd (cc (e, f)) in
-    let answer : end_of o ≡ Answered = sym (ended not_failed) ∙ e in
-    (o, is answer, answer, written not_failed)
-answered request (Err fault) status told old new is written ended memory e = absurd (cc (e, memory refl))

@@ -1,5 +1,6 @@
 -- What is found of the mover's later turns on a line.
-use Rattle.std.specs.Prelude.{◌≡◌, Bool, ◌&&◌, nat_eq, List, [], ◌∷◌, ◌++◌}
+use Rattle.std.specs.Prelude.{◌≡◌, ◌≤◌, ◌-◌, ℕ, Bool, ◌&&◌, nat_eq, List, [], ◌∷◌, ◌++◌, length}
+use Rattle.std.specs.List.{All}
 use Rattle.go_points.specs.declared.Turn.{Turn}
 use Rattle.go_points.specs.Ply.{ply_of}
 use Rattle.target_game.specs.State.{GameProblem, start}
@@ -30,13 +31,23 @@ IsLater q later =
     IsPosition q later.position
     × AreJudged later.position.problem (legal_turns (start later.position.problem)) later.found.items
 
+-- Each position is two turns after the one before; the first is two turns after these.
+abbrev pub AreAlong : List Turn → List Later → Type 0
+AreAlong before [] = Unit
+AreAlong before (l ∷ later) =
+    (t reply : Turn) × (l.position.turns.items ≡ (before ++ t ∷ []) ++ reply ∷ []) × AreAlong l.position.turns.items later
+
+-- Later turns on one line of play of the problem, with its first turn no more than so many.
+abbrev pub AreLater : ℕ → GameProblem → List Later → Type 0
+AreLater depth q later = All (IsLater q) later × AreAlong [] later × (length later ≤ depth - 1)
+
 -- Does one turn win there, and is every other known to lose?
 abbrev pub has_one : Later → Bool
 has_one later = nat_eq (count is_right later.found.items) 1 && nat_eq (count is_unknown later.found.items) 0
 
--- what is claimed where a line is unique; elsewhere nothing is
-abbrev pub IfUnique : LineSolution → Type 0 → Type 0
-IfUnique (lines.Unique n) claim = claim
+-- what is claimed of the number of a turn, if a line is unique to it; elsewhere nothing is
+abbrev pub IfUnique : LineSolution → (ℕ → Type 0) → Type 0
+IfUnique (lines.Unique n) claim = claim n
 IfUnique (lines.Several n) claim = Unit
 IfUnique (lines.Open n k) claim = Unit
 IfUnique lines.Lost claim = Unit

@@ -1,7 +1,7 @@
 -- What a list says of what is found.
 --     turn_lines names before found      a line for each turn that was judged after these
 --     short_list, long_list      the whole list, without and with the line of play
-use Rattle.std.specs.Prelude.{◌≡◌, ℕ, Bool, true, false, List, [], ◌∷◌, ◌++◌, codes, decimal, if◌then◌else◌}
+use Rattle.std.specs.Prelude.{ℕ, Bool, true, false, List, [], ◌∷◌, ◌++◌, codes, decimal, if◌then◌else◌}
 use Rattle.go_points.specs.Gtp.{gtp_text}
 use Rattle.go_points.specs.Place.{Place, on_board}
 use Rattle.go_points.specs.Sgf.{sgf_text}

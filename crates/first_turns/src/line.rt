@@ -1,12 +1,11 @@
 //! The line of a solution: what is found of the mover's later turns on it.
 
 ghost use Rattle.std.specs.Prelude.{◌≡◌, ◌++◌, ◌∷◌, [], IfOk, IfSome};
-ghost use Rattle.std.specs.List.{All};
 ghost use Rattle.go_points.specs.Ply.{ply_of};
 ghost use Rattle.target_game.specs.Legal.{legal_turns};
 ghost use Rattle.target_game.specs.State.{GameProblem, start};
 ghost use Rattle.first_turns.specs.Judged.{AreJudged, IsProblemAfter};
-ghost use Rattle.first_turns.specs.Line.{IsLater, IsNext, IsPosition};
+ghost use Rattle.first_turns.specs.Line.{AreLater, IsNext, IsPosition};
 
 use crate::found::{Found, Settings, judge_turns};
 use crate::judged::{Judged, problem_after};
@@ -55,7 +54,7 @@ pub(crate) fn judge_line<N: Write>(
     settings: &Settings,
     notes: &mut N,
 ) -> Result<Line, AllocError>
-    ensures { IfOk result (λ line. All (IsLater problem.now) line.later.items) }
+    ensures { IfOk result (λ line. AreLater depth problem.now line.later.items) }
 {
     let none = Vec::new(alloc);
     let Some(checked) = first_right(found) else {
@@ -93,7 +92,7 @@ fn judge_along<N: Write>(
     settings: &Settings,
     notes: &mut N,
 ) -> Result<Line, AllocError>
-    ensures { IfOk result (λ line. All (IsLater problem.now) line.later.items) }
+    ensures { IfOk result (λ line. AreLater depth problem.now line.later.items) }
 {
     let mut later = Vec::new(alloc);
     let turns = Vec::new(alloc);

@@ -1,6 +1,6 @@
 //! What the turns of a line say of it.
 
-ghost use Rattle.std.specs.Prelude.{◌≡◌, IfNone, IsTrue};
+ghost use Rattle.std.specs.Prelude.{◌≡◌, ◌+◌, length, IfNone, IsTrue};
 ghost use Rattle.std.specs.List.{list_all};
 ghost use Rattle.first_turns.specs.Line.{IfUnique, has_one};
 
@@ -22,8 +22,8 @@ pub(crate) enum LineSolution {
 
 /// What the first turns and those of the later ones say of the line.
 pub(crate) fn line_solution(first: Tally, later: &[Later]) -> LineSolution
-    ensures { IfUnique result ((first.winning ≡ 1) × (first.unknown ≡ 0)
-        × IsTrue (list_all has_one later.now)) }
+    ensures { IfUnique result (λ n. (n ≡ length later.now + 1) × (first.winning ≡ 1)
+        × (first.unknown ≡ 0) × IsTrue (list_all has_one later.now)) }
 {
     if first.winning > 1 {
         return LineSolution::Several(1);
@@ -42,7 +42,7 @@ pub(crate) fn line_solution(first: Tally, later: &[Later]) -> LineSolution
 
 /// What is known where no first turn is known to win.
 fn without_answer(first: Tally) -> LineSolution
-    ensures { IfUnique result ⊥ }
+    ensures { IfUnique result (λ _. ⊥) }
 {
     if first.solution == Solution::Lost {
         LineSolution::Lost

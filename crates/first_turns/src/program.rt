@@ -1,9 +1,10 @@
-//! A run of the program: from its words and its input to its answer.
+//! A run of the program: from the request that its words make and its input to its answer.
 
-ghost use Rattle.std.specs.Prelude.{◌≡◌, ℕ, List, IfOk, IfSome};
+ghost use Rattle.std.specs.Prelude.{◌≡◌, List, IfOk, IfSome};
+ghost use Rattle.tool_parts.specs.Answered.{HasAnswered, IsAnswered};
 ghost use Rattle.tool_parts.specs.Written.{end_of};
 ghost use Rattle.tool_parts.specs.declared.status.Status.TheVariants.{Answered};
-ghost use Rattle.first_turns.specs.Outputs.{HasAnswered, IsAnswered, IsInForm, IsLineSolution, IsList, IsOutput, names_of};
+ghost use Rattle.first_turns.specs.Outputs.{IsInForm, IsLineSolution, IsList, IsOutput, names_of};
 ghost use Rattle.first_turns.specs.Text.{long_list, short_list};
 ghost use Rattle.first_turns.specs.declared.line_solution.LineSolution.{LineSolution};
 
@@ -38,14 +39,14 @@ pub fn run<R: Read, W: Write, N: Write>(
     writer: &mut W,
     notes: &mut N,
 ) -> Status
-    ensures { result ≡ Answered → HasAnswered request (R.remaining reader.old)
+    ensures { result ≡ Answered → HasAnswered IsOutput request (R.remaining reader.old)
         (W.contents writer.old) (W.contents writer.new) }
 {
     write_output(writer, output(alloc, request, reader, notes))
 }
 
 /// What is written for the request and the input.
-#[tactic(auto, using(crate::proofs::Outputs::all_read, crate::proofs::Outputs::not_answered, crate::proofs::Outputs::output_answered))]
+#[tactic(auto, using(tool_parts::proofs::Answering::all_read, tool_parts::proofs::Answering::not_answered, tool_parts::proofs::Answering::output_answered))]
 fn output<R: Read, N: Write>(
     alloc: Global,
     request: Result<Request, NoRequest>,
@@ -53,7 +54,7 @@ fn output<R: Read, N: Write>(
     notes: &mut N,
 ) -> Result<Output, AllocError>
     ensures { IfOk result (λ o. end_of o ≡ Answered
-        → IsAnswered request (R.remaining reader.old) o) }
+        → IsAnswered IsOutput request (R.remaining reader.old) o) }
 {
     let request = match request {
         Ok(request) => request,

@@ -1,6 +1,9 @@
-use Rattle.std.specs.List.{All}
-use Rattle.first_turns.specs.Line.{IsLater, IsPosition}
+use Rattle.std.proofs.Common.{◌≡◌, ◌<◌, [], length}
+use Rattle.first_turns.specs.Line.{AreLater, IsPosition}
+use Rattle.first_turns.proofs.Reaching.{last_turns}
 use Rattle.first_turns.proofs.line.judge_along.Given as goal
 
 abbrev pub invariant-loop : goal.invariant-loop
-invariant-loop g l = All (IsLater l.problem) l.later.items × IsPosition l.problem l.position
+invariant-loop g l =
+    AreLater l.depth l.problem l.later.items × IsPosition l.problem l.position
+    × (last_turns [] l.later.items ≡ l.position.turns.items) × (length l.later.items < l.counter)

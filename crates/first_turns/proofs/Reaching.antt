@@ -19,7 +19,7 @@ pub next_reached : (q : GameProblem) (p : Position) (t : Turn) (next : Position)
 next_reached q p t next is more = subst (λ (ts : List Turn). IsReached q ts next.problem) (sym more.0) (reached_more q p.turns.items t p.problem next.problem is more.1)
 
 -- The turns of the last of these positions, and of none after them.
-pub last_turns : List Turn → List Later → List Turn
+abbrev pub last_turns : List Turn → List Later → List Turn
 last_turns before [] = before
 last_turns before (l ∷ later) = last_turns l.position.turns.items later
 

@@ -9,6 +9,15 @@ use Rattle.first_turns.specs.Line.{AreAlong, IsLater, IsPosition, IsReached}
 use Rattle.first_turns.proofs.Reaching.{along_more, last_more, last_turns}
 use Rattle.first_turns.proofs.line.judge_along.Goals as goal
 
+pub loop-init : goal.loop-init
+loop-init g c =
+    let none = sym c.new-later.ensures.items in (
+      (search rules, subst (AreAlong []) none tt, search rules),
+      search rules,
+      subst (λ (ls : List Later). last_turns [] ls ≡ c.new-turns.result.items) none (sym c.new-turns.ensures.items),
+      search rules,
+    )
+
 pub loop-preserved : goal.loop-preserved
 loop-preserved g c =
     let q = c.args.problem.now in

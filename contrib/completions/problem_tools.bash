@@ -32,7 +32,7 @@ _problem_tools() {
     *:) options="$commands --help -h --version -V" ;;
     *:split) options='--into --help -h' ;;
     *:mark) options='--node --target --region --walls --shut --to-play --bare --help -h' ;;
-    *:page) options='--short --depth --past --json --help -h' ;;
+    *:page) options='--short --depth --past --json --unaudited --help -h' ;;
     *:picture) options='--node --numbers --plain --no-squares --whole --caption --dark --auto --ascii --help -h' ;;
     *:help) options=$commands ;;
     *) options='--help -h' ;;

@@ -8,6 +8,7 @@ const CELLS = { black: "X", white: "O" };
 const OTHER = { X: "O", O: "X" };
 const CELL = 40;
 const EDGE = 34;
+const MOST_SHOWN = 400;
 const byId = (id) => document.getElementById(id);
 
 // ---- The rules: a board is an array of ".", "X" and "O", row by row; a pass is the point -1.
@@ -51,9 +52,11 @@ function afterMove(size, stones, colour, point) {
 
 // ---- A problem and its positions
 
-// A node is [turn, word?, node..]: the word says what the turn is worth to who makes it.
+// A node is [turn, word?, note?, node..]: the word says what the turn is worth to who makes it, the note has a comment and
+// labels, and says whether what follows is unaudited.
 const wordOf = (node) => (typeof node[1] === "string" ? node[1] : null);
 const repliesOf = (node) => (node ? node.filter(Array.isArray) : []);
+const noteOf = (node) => (node && node.find((it) => typeof it === "object" && !Array.isArray(it))) || {};
 
 function problemOf(data) {
   const stones = [...data.rows.join("")];
@@ -76,7 +79,7 @@ function problemOf(data) {
       stones,
       mover,
       passes: data.passes,
-      node: ["", ...data.turns],
+      node: ["", data.note || {}, ...data.turns],
       seen: new Set([...data.past.map((rows) => rows.join("")), stones.join("")]),
       point: null,
       worth: null,
@@ -101,6 +104,26 @@ function barred(problem, at, point) {
   return at.seen.has(after) ? `${name} is barred now: it would repeat a position.` : "";
 }
 
+// Where the comment of a node says that play goes on as after other turns: the node of the last of these, if the record has it.
+function namedNode(problem, node) {
+  const named = /^As after (.+)\.$/.exec(noteOf(node).comment || "");
+  const next = (at, turn) => repliesOf(at).find((it) => nameOf(problem.size, pointOf(problem.size, it[0])).replace("a ", "") === turn.slice(2));
+  return named && named[1].split(", ").reduce(next, problem.start.node);
+}
+
+// The nodes that may follow a position by the record. Of those that follow the node that it names, some may be barred here.
+function nextNodes(problem, at) {
+  const named = namedNode(problem, at.node);
+  if (!named) return repliesOf(at.node);
+  return repliesOf(named).filter((node) => !barred(problem, at, pointOf(problem.size, node[0])));
+}
+
+// Whether the record ends here because the marked stones live by their shape.
+const isAlive = (at) => /^(Black|White) lives[:.]/m.test(noteOf(at.node).comment || "");
+
+// What the record says here, but for what the page says in words of its own.
+const commentOf = (at) => (noteOf(at.node).comment || "").replace(/^((also )?right: |wrong: )?(Black|White) wins(\n|$)/, "");
+
 // What a turn is worth to its side, as far as the record says it.
 function worthOf(problem, at, node) {
   if (!node) return null;
@@ -113,7 +136,7 @@ function worthOf(problem, at, node) {
 // The position after a turn that is not barred.
 function after(problem, at, point) {
   const stones = point < 0 ? at.stones : afterMove(problem.size, at.stones, at.mover, point);
-  const node = repliesOf(at.node).find((it) => it[0] === turnOf(problem.size, point)) || null;
+  const node = nextNodes(problem, at).find((it) => it[0] === turnOf(problem.size, point)) || null;
   return {
     stones,
     mover: OTHER[at.mover],
@@ -130,12 +153,17 @@ function solution(problem) {
   const line = [problem.start];
   for (;;) {
     const at = line[line.length - 1];
-    const nodes = repliesOf(at.node);
-    if (nodes.length === 0) return line.slice(1);
+    const nodes = nextNodes(problem, at);
+    if (nodes.length === 0 || line.length > MOST_SHOWN) return line.slice(1);
     const best = (!line[1] && nodes.find((it) => wordOf(it) === "wins")) || nodes[0];
     line.push(after(problem, at, pointOf(problem.size, best[0])));
   }
 }
+
+// What is said of what nobody audited: of the solution, or of a line that begins with this position.
+const UNAUDITED = "Nobody audited this solution; what proves such an answer is the short claim that “short_claims prove” writes.";
+const auditOf = (problem, first) =>
+  problem.unaudited ? UNAUDITED : first && noteOf(first.node).unaudited ? UNAUDITED.replace("this solution", "what follows this first move") : "";
 
 // The first turns that are right by the record.
 function rightTurns(problem) {
@@ -244,8 +272,9 @@ function drawPoint(svg, problem, stones, given, point, x, y) {
 }
 
 // A line of play on one board, as books print it: stones stay where they are captured, a second move at a point and
-// passes are told below.
+// passes are told below, and so are the labels of its end that are not at an empty point.
 function diagram(problem, line) {
+  const end = line.length ? line[line.length - 1] : problem.start;
   const stones = problem.stones.slice(), labels = new Map(), told = [];
   line.forEach((at, i) => {
     const colour = OTHER[at.mover], number = i + 1;
@@ -256,18 +285,23 @@ function diagram(problem, line) {
       labels.set(at.point, String(number));
     }
   });
-  return { svg: drawn(problem, stones, { labels }), told: told.join(", ") };
+  for (const [point, text] of labelsAt(problem, noteOf(end.node).labels)) {
+    if (stones[point] === ".") labels.set(point, text);
+    else told.push(`${text} at ${nameOf(problem.size, point)}`);
+  }
+  return { svg: drawn(problem, stones, { labels }), told: told.join(", "), comment: commentOf(end) };
 }
 
-function ownLabels(problem) {
-  return new Map((problem.labels || []).map(([turn, text]) => [pointOf(problem.size, turn), text]));
+function labelsAt(problem, labels) {
+  return new Map((labels || []).map(([turn, text]) => [pointOf(problem.size, turn), text]));
 }
 
-function inWords(problem, stones) {
+function inWords(problem, stones, labels) {
   const list = (test) => stones.map((cell, point) => (test(cell, point) ? nameOf(problem.size, point) : "")).filter(Boolean).join(", ") || "none";
   return `A board of ${problem.size} lines. Black stones: ${list((cell) => cell === "X")}. White stones: ${list((cell) => cell === "O")}. ` +
     `Marked: ${list((cell, point) => cell !== "." && problem.targets.includes(point))}. ` +
-    `Points to play at: ${list((cell, point) => cell === "." && problem.region.has(point))}.`;
+    `Points to play at: ${list((cell, point) => cell === "." && problem.region.has(point))}.` +
+    (labels.size ? ` Labels: ${[...labels].map(([point, text]) => `${text} at ${nameOf(problem.size, point)}`).join(", ")}.` : "");
 }
 
 const problems = JSON.parse(byId("problems").textContent).map(problemOf);

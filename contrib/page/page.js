@@ -11,7 +11,7 @@ const nameHere = (point) => nameOf(problem.size, point);
 
 function overText(at) {
   const winner = winnerOf(problem, at);
-  if (!winner) return repliesOf(at.node).length ? "" : " The record ends here.";
+  if (!winner) return nextNodes(problem, at).length || isAlive(at) ? "" : " The record ends here.";
   return ` ${SIDES[winner]} wins: ${winner === problem.defender ? "the marked stones live" : "marked stones are captured"}.`;
 }
 
@@ -26,15 +26,15 @@ function saidOf(at, reply) {
 
 function play(point) {
   if (isShown) return;
-  const isEnd = isOffRecord() || now().mover !== problem.mover;
-  const why = barred(problem, now(), point) || (isEnd && "The record ends here: take back.");
+  const isEnd = !winnerOf(problem, now()) && (isOffRecord() || isAlive(now()) || now().mover !== problem.mover);
+  const why = isEnd ? `The record ends here: ${line.length > 1 ? "take back" : "show the solution"}.` : barred(problem, now(), point);
   if (why) {
     say(why, "");
     return;
   }
   const mine = after(problem, now(), point);
   line.push(mine);
-  const replies = repliesOf(mine.node);
+  const replies = nextNodes(problem, mine);
   if (point >= 0) cursor = point;
   answer(mine, replies.length && !winnerOf(problem, mine) ? replies[0][0] : null);
 }
@@ -43,7 +43,7 @@ function play(point) {
 function answer(mine, turn) {
   const reply = turn && after(problem, mine, pointOf(problem.size, turn));
   if (reply) line.push(reply);
-  if (mine.worth === "wins" && winnerOf(problem, now()) === problem.mover) solved.add(number);
+  if (mine.worth === "wins" && (winnerOf(problem, now()) === problem.mover || isAlive(now()))) solved.add(number);
   show();
   say(saidOf(mine, reply), mine.worth || "unknown");
 }
@@ -74,8 +74,8 @@ function showSolution() {
   const names = moves.map((at, i) => `${i + 1} ${nameHere(at.point)}`).join(", ");
   const right = rightTurns(problem);
   if (won === null) say("The record has no solution.", "unknown");
-  else if (won) say(`${right.length > 1 ? `Right are ${right.join(", ")}. ` : ""}${SIDES[problem.mover]} wins: ${names}.`, "wins");
-  else say(`No: ${SIDES[OTHER[problem.mover]]} wins. One try: ${names}.`, "loses");
+  else if (won) say(`${right.length > 1 ? `Right are ${right.join(", ")}. ` : ""}${SIDES[problem.mover]} wins${names && ": "}${names}.`, "wins");
+  else say(`No: ${SIDES[OTHER[problem.mover]]} wins.${names && ` One try: ${names}.`}`, "loses");
 }
 
 function say(text, kind) {
@@ -85,7 +85,7 @@ function say(text, kind) {
 
 function showOthers() {
   const isReply = line.length > 2 && !isShown && now().mover === problem.mover;
-  const turns = isReply ? repliesOf(line[line.length - 2].node).map((node) => node[0]) : [];
+  const turns = isReply ? nextNodes(problem, line[line.length - 2]).map((node) => node[0]) : [];
   const buttons = turns.filter((turn) => turn !== turnOf(problem.size, now().point)).map((turn) => {
     const button = element("button", { type: "button" }, nameHere(pointOf(problem.size, turn)));
     button.addEventListener("click", () => {
@@ -97,19 +97,27 @@ function showOthers() {
   byId("others").replaceChildren(...(buttons.length ? [`${SIDES[OTHER[problem.mover]]} may also answer: `, ...buttons] : []));
 }
 
+// What the record says of the reader's turn, and of the reply to it.
+function notesOf(line) {
+  const turns = line.slice(1).slice(now().mover === problem.mover ? -2 : -1);
+  return turns.map(commentOf).filter(Boolean).join("\n\n");
+}
+
 function show(moves) {
   const at = now();
-  const labels = line.length > 1 ? new Map() : ownLabels(problem);
-  const shown = moves ? diagram(problem, moves) : { svg: drawn(problem, at.stones, { labels, last: at.point, cursor, hit: play }), told: "" };
+  const labels = labelsAt(problem, line.length > 1 ? noteOf(at.node).labels : problem.labels);
+  const shown = moves ? diagram(problem, moves) : { svg: drawn(problem, at.stones, { labels, last: at.point, cursor, hit: play }), told: "", comment: notesOf(line) };
   byId("board").replaceChildren(shown.svg);
   byId("board").dataset.mover = at.mover === "X" ? "black" : "white";
   byId("board").setAttribute("aria-label", `Board: ${taskOf(problem)}`);
   byId("notes").textContent = shown.told;
-  byId("words").textContent = inWords(problem, at.stones);
+  byId("note").textContent = shown.comment;
+  byId("audit").textContent = auditOf(problem, moves ? moves[0] : line[1]);
+  byId("words").textContent = inWords(problem, at.stones, labels);
   byId("place").textContent = `Problem ${number + 1} of ${problems.length}${solved.has(number) ? " · solved" : ""}`;
-  byId("pass").disabled = isShown || Boolean(winnerOf(problem, at)) || isOffRecord();
+  byId("pass").disabled = isShown || Boolean(winnerOf(problem, at)) || isAlive(at) || isOffRecord();
   byId("back").disabled = byId("again").disabled = !isShown && line.length < 2;
-  byId("show").disabled = isShown || problem.turns.length === 0;
+  byId("show").disabled = isShown || (problem.turns.length === 0 && !problem.note);
   showOthers();
 }
 

@@ -14,15 +14,17 @@ function sheets(perPage) {
     }
     return made;
   };
-  const asked = problems.map((one, i) => figure(i, one, drawn(one, one.stones, { labels: ownLabels(one) }), taskOf(one)));
+  const asked = problems.map((one, i) => figure(i, one, drawn(one, one.stones, { labels: labelsAt(one, one.labels) }), taskOf(one)));
   const answers = problems.map((one, i) => {
     const moves = solution(one), won = isWon(one);
-    const { svg, told } = diagram(one, moves);
+    const { svg, told, comment } = diagram(one, moves);
     const right = rightTurns(one);
-    const says = won === null ? "Not judged." : won ? (right.length > 1 ? `Yes: ${right.join(", ")}.` : "Yes.") : "No.";
-    return figure(i, one, svg, `${says}${told ? ` ${told}.` : ""}`);
+    const says = [won === null ? "Not judged." : won ? (right.length > 1 ? `Yes: ${right.join(", ")}.` : "Yes.") : "No.", told && `${told}.`, comment];
+    return figure(i, one, svg, says.filter(Boolean).join(" ") + (auditOf(one, moves[0]) && " *"));
   });
-  document.body.append(...pages(asked, perPage, "sheet"), ...pages(answers, 12, "sheet answers", "Answers"));
+  const last = pages(answers, 12, "sheet answers", "Answers");
+  if (problems.some((one) => auditOf(one, solution(one)[0]))) last[last.length - 1].append(element("p", { class: "audit" }, `* ${UNAUDITED}`));
+  document.body.append(...pages(asked, perPage, "sheet"), ...last);
 }
 
 sheets(Number(document.body.dataset.sheet));

@@ -2,10 +2,11 @@
 
 ghost use Rattle.go_points.specs.Place.{IsOn};
 
+use crate::json_notes::{push_labels, push_note, push_note_after_comma};
 use crate::json_text::push_string;
-use crate::lines::{Cut, Lines};
+use crate::lines::Cut;
 use crate::page::{NoPage, is_of_problem, marked_node};
-use crate::puzzle::{Puzzle, Worth, puzzle_of, worth_of};
+use crate::puzzle::{Answer, Branch, Puzzle, Worth, puzzle_of, worth_of};
 use crate::returning::may_return;
 use crate::titles::add_comment;
 use crate::variations::is_right_turn;
@@ -17,20 +18,23 @@ use tsumego_problem::{first_marked, turn_at, values_at};
 
 /// The data of the record: its problem, who wins it, and each line, cut as `cut` says. Titles and comments are those of another
 /// record with the same problem, if there is one. The last byte is a line feed.
+///
+/// What the audit refuses is refused, unless `shows_unaudited`: then it is shown as it is written, and said not to be audited.
 pub fn page_json(
     alloc: Global,
     record: &Tree,
     original: Option<&Tree>,
     cut: Cut,
+    shows_unaudited: bool,
 ) -> Result<String, NoPage> {
-    let puzzle = puzzle_of(alloc, record, cut)?;
+    let puzzle = puzzle_of(alloc, record, cut, shows_unaudited)?;
     if !is_of_problem(alloc, &puzzle.problem, original)? {
         return Err(NoPage::OtherProblem);
     }
     let mut text = String::new(alloc);
     push_problem(alloc, &mut text, &puzzle.problem)?;
     push_titles(alloc, &mut text, record, original)?;
-    push_answer(&mut text, &puzzle)?;
+    push_answer(alloc, &mut text, &puzzle, record)?;
     text.push_str("}\n")?;
     Ok(text)
 }
@@ -162,74 +166,71 @@ fn push_comments(alloc: Global, text: &mut String, other: &Tree) -> Result<(), A
     push_labels(alloc, text, node)
 }
 
-/// Appends the labels of the node: for each label its point and its text.
-fn push_labels(alloc: Global, text: &mut String, node: &SgfNode) -> Result<(), AllocError> {
-    let mut count: usize = 0;
-    for value in values_at(b"LB", node) {
-        if let [column, row, b':', rest @ ..] = value.as_slice() {
-            if column.is_ascii_lowercase() && row.is_ascii_lowercase() {
-                text.push_str(if count == 0 {
-                    ",\"labels\":[[\""
-                } else {
-                    ",[\""
-                })?;
-                count = count.saturating_add(1);
-                text.push(char::from(*column))?;
-                text.push(char::from(*row))?;
-                text.push_str("\",")?;
-                push_string(alloc, text, rest)?;
-                text.push(']')?;
+/// Appends who wins, if the record says so as a whole, and the turns.
+fn push_answer(
+    alloc: Global,
+    text: &mut String,
+    puzzle: &Puzzle,
+    record: &Tree,
+) -> Result<(), AllocError> {
+    match puzzle.answer {
+        Answer::Audited(winner) => push_winner(text, winner)?,
+        Answer::Unaudited(winner) => {
+            push_winner(text, winner)?;
+            text.push_str(",\"unaudited\":true")?;
+            if let Some(node) = marked_node(record) {
+                text.push_str(",\"note\":")?;
+                push_note(alloc, text, node, false)?;
             }
         }
-    }
-    if count > 0 {
-        text.push(']')?;
-    }
-    Ok(())
-}
-
-/// Appends who wins, if the record says so as a whole, and the turns.
-fn push_answer(text: &mut String, puzzle: &Puzzle) -> Result<(), AllocError> {
-    if let Some(winner) = puzzle.winner {
-        let name = side(winner);
-        write!(text, ",\"winner\":\"{name}\"")?;
+        Answer::Judged => {}
     }
     text.push_str(",\"turns\":[")?;
     let size = puzzle.problem.size();
-    let judged = match puzzle.winner {
-        Some(_) => None,
-        None => Some(puzzle.problem.mover()),
+    let judged = match puzzle.answer {
+        Answer::Judged => Some(puzzle.problem.mover()),
+        _ => None,
     };
-    for i in 0..puzzle.turns.len() {
+    for i in 0..puzzle.branches.len() {
         if i > 0 {
             text.push(',')?;
         }
-        push_lines(text, size, &puzzle.turns[i], judged)?;
+        push_branch(alloc, text, size, &puzzle.branches[i], judged)?;
     }
     text.push(']')
 }
 
+fn push_winner(text: &mut String, winner: Colour) -> Result<(), AllocError> {
+    let name = side(winner);
+    write!(text, ",\"winner\":\"{name}\"")
+}
+
 /// Appends the turns that follow one another, and what follows them. `judged` is the side whose turns are said to be right or wrong.
-fn push_lines(
+fn push_branch(
+    alloc: Global,
     text: &mut String,
     size: Size,
-    lines: &Lines,
+    branch: &Branch,
     judged: Option<Colour>,
 ) -> Result<(), AllocError> {
-    let nodes = lines.nodes.as_slice();
-    open_turns(text, size, nodes, judged.is_some())?;
+    let nodes = branch.lines.nodes.as_slice();
+    let has_notes = !branch.is_audited;
+    open_turns(alloc, text, size, nodes, judged.is_some(), has_notes)?;
     let right = right_side(nodes, judged);
-    for i in 0..lines.children.len() {
+    let children = branch.lines.children.as_slice();
+    for i in 0..children.len() {
         if i > 0 || !nodes.is_empty() {
             text.push(',')?;
         }
-        let child = &lines.children[i];
+        let child = &children[i];
         push_tree(
+            alloc,
             text,
             size,
             child,
             right,
             i > 0 && is_also_right(size, right, child),
+            has_notes,
         )?;
     }
     close_turns(text, nodes.len())
@@ -254,29 +255,34 @@ fn is_also_right(size: Size, right: Option<Colour>, tree: &Tree) -> bool {
 /// Appends the tree, and what its first turn is worth if that is judged. Turns of `right` beside the first child of a node may be
 /// right too. It recurses as deep as trees are nested.
 fn push_tree(
+    alloc: Global,
     text: &mut String,
     size: Size,
     tree: &Tree,
     right: Option<Colour>,
     is_judged: bool,
+    has_notes: bool,
 ) -> Result<(), AllocError> {
-    open_turns(text, size, tree.nodes(), is_judged)?;
+    open_turns(alloc, text, size, tree.nodes(), is_judged, has_notes)?;
     let mut is_first = true;
     for child in tree.children() {
         text.push(',')?;
         let is_variation = !is_first && is_also_right(size, right, child);
-        push_tree(text, size, child, right, is_variation)?;
+        push_tree(alloc, text, size, child, right, is_variation, has_notes)?;
         is_first = false;
     }
     close_turns(text, tree.nodes().len())
 }
 
-/// Begins the lists of these turns, each within the one before. The first may say what it is worth.
+/// Begins the lists of these turns, each within the one before. The first may say what it is worth. With notes, each has what its
+/// node says, and what follows a turn that is judged is said not to be audited.
 fn open_turns(
+    alloc: Global,
     text: &mut String,
     size: Size,
     nodes: &[SgfNode],
     is_judged: bool,
+    has_notes: bool,
 ) -> Result<(), AllocError> {
     for i in 0..nodes.len() {
         text.push_str(if i == 0 { "[\"" } else { ",[\"" })?;
@@ -284,6 +290,9 @@ fn open_turns(
         text.push('"')?;
         if i == 0 && is_judged {
             push_worth(text, worth_of(&nodes[i]))?;
+        }
+        if has_notes {
+            push_note_after_comma(alloc, text, &nodes[i], i == 0 && is_judged)?;
         }
     }
     Ok(())

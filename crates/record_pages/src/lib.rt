@@ -3,6 +3,7 @@
 
 mod bare;
 mod json;
+mod json_notes;
 mod json_text;
 mod lines;
 mod page;

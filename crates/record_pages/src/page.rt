@@ -26,6 +26,8 @@ pub enum NoPage {
     NoProblem(ProblemFault),
     /// The tree below the problem is no proof.
     NoAnswer(AuditFault),
+    /// The tree below the problem is no proof, and its problem node does not say who wins.
+    NoWinner,
     /// The second record has another problem, or none.
     OtherProblem,
     /// What is below a first turn does not show what is said of that turn.

@@ -4,14 +4,16 @@
 //! `BM` those that are refuted, as `first_moves` writes them. In a solution record the tree is audited. In a judged one, each turn
 //! that has a tree is audited: after a right turn the tree shows that its side wins the problem, and after a wrong one that the
 //! other side wins the problem after it. Below a right turn the main line may have variations, and each that has a tree is audited
-//! as well.
+//! as well. What the audit refuses, such as a record for readers, is shown only where that is asked for, and is said not to be
+//! audited.
 
-ghost use Rattle.std.specs.Prelude.{◌≡◌, IfOk, IfSome, Ok, Some};
+ghost use Rattle.std.specs.Prelude.{◌≡◌, IfOk, IsSome, Ok, Some};
 ghost use Rattle.solution_tree.specs.Audit.{audit};
-ghost use Rattle.tsumego_problem.specs.Walk.{problem_within, history_limit};
+ghost use Rattle.tsumego_problem.specs.Walk.{problem_node, problem_within, history_limit};
+ghost use Rattle.record_pages.specs.Puzzle.{HasAuditedWinner};
 
 use crate::lines::{Cut, Lines, shown_lines};
-use crate::page::{NoPage, lines_below, problem_of, winner_of};
+use crate::page::{NoPage, lines_below, marked_node, problem_of, winner_of};
 use crate::variations::{begins_with_side, confirm_variations, without_variations};
 use go_points::Colour;
 use sgf_text::{SgfNode, Tree};
@@ -28,14 +30,31 @@ pub(crate) enum Worth {
     Unknown,
 }
 
+/// Who wins, and how that is known.
+#[derive(Clone, Copy, Debug, PartialEq, Eq)]
+pub(crate) enum Answer {
+    /// This side wins according to the audit of the tree.
+    Audited(Colour),
+    /// This side wins, as the comment of the problem node says. The tree is not audited.
+    Unaudited(Colour),
+    /// The first turns are judged one by one.
+    Judged,
+}
+
+/// What follows the problem by a first turn, that turn included; or all that follows it.
+#[derive(Drop)]
+pub(crate) struct Branch {
+    pub(crate) lines: Lines,
+    /// Whether an audit has shown what is said of the turn or of the problem, or nothing is said that could be audited.
+    pub(crate) is_audited: bool,
+}
+
 /// A problem with what follows it.
 #[derive(Drop)]
 pub(crate) struct Puzzle {
     pub(crate) problem: Problem,
-    /// Who wins according to the tree of the record. `None` if its first turns are judged one by one.
-    pub(crate) winner: Option<Colour>,
-    /// What follows each first turn, that turn included.
-    pub(crate) turns: Vec<Lines>,
+    pub(crate) answer: Answer,
+    pub(crate) branches: Vec<Branch>,
 }
 
 /// What the node says of its turn, if it says anything.
@@ -95,8 +114,8 @@ fn push_node(node: SgfNode, into: &mut Vec<SgfNode>) -> Result<(), AllocError> {
     Ok(())
 }
 
-fn push_lines(lines: Lines, into: &mut Vec<Lines>) -> Result<(), AllocError> {
-    into.push(lines)?;
+fn push_branch(lines: Lines, is_audited: bool, into: &mut Vec<Branch>) -> Result<(), AllocError> {
+    into.push(Branch { lines, is_audited })?;
     Ok(())
 }
 
@@ -163,9 +182,14 @@ pub(crate) fn audited(alloc: Global, tree: &Tree) -> Result<Colour, NoPage>
     winner_of(alloc, &problem, tree)
 }
 
+/// Whether nothing follows the branch's first turn.
+fn is_turn_alone(branch: &Tree) -> bool {
+    branch.nodes().len() < 2 && branch.children().is_empty()
+}
+
 /// Checks that what is below a judged turn shows what is said of it. If nothing is there, nothing is checked.
 fn confirm_branch(alloc: Global, problem: &Problem, branch: &Tree) -> Result<(), NoPage> {
-    if branch.nodes().len() < 2 && branch.children().is_empty() {
+    if is_turn_alone(branch) {
         return Ok(());
     }
     let (record, winner) = match worth_of_tree(branch) {
@@ -187,47 +211,116 @@ fn confirm_branch(alloc: Global, problem: &Problem, branch: &Tree) -> Result<(),
     }
 }
 
-/// The lines of the first turns, each of which is confirmed.
-fn judged_lines(
+/// Whether what is below a judged turn shows what is said of it. If it shows something else, that is a refusal, unless it may be
+/// shown all the same; then a turn with nothing below it is not shown to be right or wrong either.
+fn is_confirmed(
+    alloc: Global,
+    problem: &Problem,
+    branch: &Tree,
+    shows_unaudited: bool,
+) -> Result<bool, NoPage> {
+    if shows_unaudited && is_turn_alone(branch) {
+        return Ok(!matches!(
+            worth_of_tree(branch),
+            Some(Worth::Wins) | Some(Worth::Loses)
+        ));
+    }
+    match confirm_branch(alloc, problem, branch) {
+        Ok(()) => Ok(true),
+        Err(NoPage::WrongTurn) if shows_unaudited => Ok(false),
+        Err(refusal) => Err(refusal),
+    }
+}
+
+/// The branches of the first turns.
+fn judged_branches(
     alloc: Global,
     problem: &Problem,
     branches: &[Tree],
     cut: Cut,
-) -> Result<Vec<Lines>, NoPage> {
-    let mut turns = Vec::new(alloc);
+    shows_unaudited: bool,
+) -> Result<Vec<Branch>, NoPage> {
+    let mut shown = Vec::new(alloc);
     for branch in branches {
         if begins_with_side(problem.size(), problem.mover(), branch) {
-            confirm_branch(alloc, problem, branch)?;
+            let is_audited = is_confirmed(alloc, problem, branch, shows_unaudited)?;
             let side = Some(problem.mover());
             let lines = shown_lines(alloc, problem.size(), side, branch, 0, 0, cut)?;
-            push_lines(lines, &mut turns)?;
+            push_branch(lines, is_audited, &mut shown)?;
         }
     }
-    Ok(turns)
+    Ok(shown)
 }
 
-/// What a page to click shows of the record, with its lines cut as `cut` says.
-pub(crate) fn puzzle_of(alloc: Global, tree: &Tree, cut: Cut) -> Result<Puzzle, NoPage>
+/// The text up to its first line end.
+fn first_line(text: &[u8]) -> &[u8] {
+    for at in 0..text.len() {
+        if matches!(text[at], b'\n' | b'\r') {
+            return &text[..at];
+        }
+    }
+    text
+}
+
+/// Who wins, as the first line of the problem node's comment says.
+fn named_winner(record: &Tree) -> Option<Colour> {
+    let comment = values_at(b"C", marked_node(record)?).first()?;
+    match first_line(comment.as_slice()) {
+        b"Black wins" => Some(Colour::Black),
+        b"White wins" => Some(Colour::White),
+        _ => None,
+    }
+}
+
+/// Who wins the problem of the record. If the audit refuses the tree, that is a refusal, unless the tree may be shown all the same.
+fn answer_of(
+    alloc: Global,
+    problem: &Problem,
+    tree: &Tree,
+    shows_unaudited: bool,
+) -> Result<Answer, NoPage>
+    requires { IsSome (problem_node tree.now) }
+    ensures { IfOk result (HasAuditedWinner problem.now tree.now) }
+{
+    match winner_of(alloc, problem, tree) {
+        Ok(winner) => Ok(Answer::Audited(winner)),
+        Err(NoPage::NoAnswer(_)) if shows_unaudited => match named_winner(tree) {
+            Some(winner) => Ok(Answer::Unaudited(winner)),
+            None => Err(NoPage::NoWinner),
+        },
+        Err(refusal) => Err(refusal),
+    }
+}
+
+/// What a page to click shows of the record, with its lines cut as `cut` says. What the audit refuses is refused, unless
+/// `shows_unaudited`.
+pub(crate) fn puzzle_of(
+    alloc: Global,
+    tree: &Tree,
+    cut: Cut,
+    shows_unaudited: bool,
+) -> Result<Puzzle, NoPage>
     ensures problem { IfOk result
         (λ p. problem_within (Some history_limit) tree.now ≡ Ok p.problem) }
-    ensures winner { IfOk result (λ p. IfSome p.winner (λ x. audit p.problem tree.now ≡ Ok x)) }
+    ensures winner { IfOk result (λ p. HasAuditedWinner p.problem tree.now p.answer) }
 {
     let problem = problem_of(alloc, tree)?;
     let first = branches(alloc, tree)?;
     if are_judged(first.as_slice()) {
-        let turns = judged_lines(alloc, &problem, first.as_slice(), cut)?;
+        let branches = judged_branches(alloc, &problem, first.as_slice(), cut, shows_unaudited)?;
         return Ok(Puzzle {
             problem,
-            winner: None,
-            turns,
+            answer: Answer::Judged,
+            branches,
         });
     }
-    let winner = winner_of(alloc, &problem, tree)?;
-    let mut turns = Vec::new(alloc);
-    push_lines(lines_below(alloc, problem.size(), tree, cut)?, &mut turns)?;
+    let answer = answer_of(alloc, &problem, tree, shows_unaudited)?;
+    let lines = lines_below(alloc, problem.size(), tree, cut)?;
+    let mut branches = Vec::new(alloc);
+    push_branch(lines, matches!(answer, Answer::Audited(_)), &mut branches)?;
     Ok(Puzzle {
         problem,
-        winner: Some(winner),
-        turns,
+        answer,
+        branches,
     })
 }

@@ -118,7 +118,8 @@ fn page_command<'a>(alloc: Global) -> Result<clap::Command<'a>, AllocError> {
     let page = page.arg(short_argument(alloc))?;
     let page = page.arg(depth_argument(alloc))?;
     let page = page.arg(past_argument(alloc))?;
-    page.arg(json_argument(alloc))
+    let page = page.arg(json_argument(alloc))?;
+    page.arg(unaudited_argument(alloc))
 }
 
 fn past_argument<'a>(alloc: Global) -> Arg<'a> {
@@ -132,6 +133,15 @@ fn json_argument<'a>(alloc: Global) -> Arg<'a> {
     Arg::new(alloc, "json")
         .help("Writes the data of a page to click, of a record of first_moves too")
         .long("json")
+        .action(ArgAction::SetTrue)
+}
+
+fn unaudited_argument<'a>(alloc: Global) -> Arg<'a> {
+    Arg::new(alloc, "unaudited")
+        .help(
+            "With --json: shows what the audit refuses, such as a record for readers, and says so",
+        )
+        .long("unaudited")
         .action(ArgAction::SetTrue)
 }
 

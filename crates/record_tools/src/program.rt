@@ -265,10 +265,12 @@ fn paged(
     form: PageForm,
 ) -> Result<Output, AllocError> {
     match form {
-        PageForm::Json => match page_json(alloc, answer, original, cut) {
-            Ok(text) => Ok(Output::Text(text, Status::Answered)),
-            Err(refusal) => no_page(alloc, refusal),
-        },
+        PageForm::Json { shows_unaudited } => {
+            match page_json(alloc, answer, original, cut, shows_unaudited) {
+                Ok(text) => Ok(Output::Text(text, Status::Answered)),
+                Err(refusal) => no_page(alloc, refusal),
+            }
+        }
         PageForm::Record { keeps_past } => {
             match page_of(alloc, answer, original, cut, keeps_past) {
                 Ok(page) => Ok(Output::Record(page.tree)),

@@ -92,6 +92,9 @@ pub(crate) fn no_page(alloc: Global, refusal: NoPage) -> Result<Output, AllocErr
             )?;
             Ok(Output::Text(text, Status::Rejected))
         }
+        NoPage::NoWinner => refused(format!(in alloc;
+            "refused: the comment of the problem node does not say who wins\n"
+        )?),
         NoPage::OtherProblem => refused(format!(in alloc;
             "refused: the second record has another problem\n"
         )?),

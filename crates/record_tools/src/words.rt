@@ -16,8 +16,8 @@ pub(crate) const MOST: u64 = 1_000_000;
 /// What is written for a page.
 #[derive(Clone, Copy, Debug, PartialEq, Eq)]
 pub enum PageForm {
-    /// The data of an interactive page.
-    Json,
+    /// The data of an interactive page, which may show what the audit refuses.
+    Json { shows_unaudited: bool },
     /// A record, which may keep the game before the problem.
     Record { keeps_past: bool },
 }
@@ -88,7 +88,7 @@ fn chosen(alloc: Global, matches: &ArgMatches<'_>) -> Result<Request, NoRequest>
     match name {
         "split" => chosen_trees(alloc, given),
         "mark" => chosen_marks(alloc, given),
-        "page" => Ok(chosen_page(given)),
+        "page" => chosen_page(alloc, given),
         _ => chosen_picture(alloc, given),
     }
 }
@@ -142,23 +142,27 @@ fn zone_named(region: String, walls: Walls, shut: String) -> Zone {
 }
 
 /// The page that is asked for.
-fn chosen_page(given: &ArgMatches<'_>) -> Request {
-    Request::Page {
+fn chosen_page(alloc: Global, given: &ArgMatches<'_>) -> Result<Request, NoRequest> {
+    Ok(Request::Page {
         cut: Cut {
             short: number(given, "short").unwrap_or(0),
             depth: number(given, "depth").unwrap_or(usize::MAX),
         },
-        form: chosen_form(given),
-    }
+        form: chosen_form(alloc, given)?,
+    })
 }
 
-fn chosen_form(given: &ArgMatches<'_>) -> PageForm {
+fn chosen_form(alloc: Global, given: &ArgMatches<'_>) -> Result<PageForm, NoRequest> {
+    let shows_unaudited = given.get_one::<bool>("unaudited").unwrap_or(false);
     if given.get_one::<bool>("json").unwrap_or(false) {
-        return PageForm::Json;
+        return Ok(PageForm::Json { shows_unaudited });
     }
-    PageForm::Record {
+    if shows_unaudited {
+        return Err(NoRequest::Words(format!(in alloc; "error: '--unaudited' wants '--json'\n")?));
+    }
+    Ok(PageForm::Record {
         keeps_past: given.get_one::<bool>("past").unwrap_or(false),
-    }
+    })
 }
 
 /// The picture that is asked for.

@@ -21,3 +21,5 @@ mod readings;
 mod records;
 #[cfg(test)]
 mod suppositions;
+#[cfg(test)]
+mod unaudited;

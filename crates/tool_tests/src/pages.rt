@@ -8,8 +8,11 @@ use tool_parts::Status;
 const AFTER_A_KO: &str =
     "(;FF[4]GM[1]SZ[3]AB[ba][ab]AW[ca][bb];AW[aa]AE[ba];PL[B]TR[aa]SQ[ba][cc]C[White wins](;B[];W[])(;B[cc];W[ba];B[];W[]))";
 
-const THREE: &str =
+pub(crate) const THREE: &str =
     "(;FF[4]GM[1]SZ[7]AB[aa][ea][ab][bb][cb][db][eb]AW[fa][fb][ac][bc][cc][dc][ec];PL[W]TR[aa][ea][ab][bb][cb][db][eb]SQ[ba][ca][da];W[ca](;B[ba];W[da])(;B[da];W[ba])(;B[];W[ba](;B[da];W[ba](;B[ca];W[ba])(;B[];W[ca]))(;B[];W[da])))";
+
+pub(crate) const DATA_OF_THREE: &str =
+    "{\"size\":7,\"mover\":\"white\",\"passes\":0,\"rows\":[\"X...XO.\",\"XXXXXO.\",\"OOOOO..\",\".......\",\".......\",\".......\",\".......\"],\"targets\":[\"aa\",\"ea\",\"ab\",\"bb\",\"cb\",\"db\",\"eb\"],\"region\":[\"ba\",\"ca\",\"da\"],\"past\":[],\"winner\":\"white\",\"turns\":[[\"ca\",[\"ba\",[\"da\"]],[\"da\",[\"ba\"]],[\"pass\",[\"ba\",[\"da\",[\"ba\",[\"ca\",[\"ba\"]],[\"pass\",[\"ca\"]]]],[\"pass\",[\"da\"]]]]]]}\n";
 
 // One position: the marks, the side to move and the comment are in the root.
 #[test]
@@ -131,7 +134,7 @@ fn data_of_a_solution_record(rt: HostRuntime) {
         &["problem_tools", "page", "--json"],
         THREE,
         Status::Answered,
-        "{\"size\":7,\"mover\":\"white\",\"passes\":0,\"rows\":[\"X...XO.\",\"XXXXXO.\",\"OOOOO..\",\".......\",\".......\",\".......\",\".......\"],\"targets\":[\"aa\",\"ea\",\"ab\",\"bb\",\"cb\",\"db\",\"eb\"],\"region\":[\"ba\",\"ca\",\"da\"],\"past\":[],\"winner\":\"white\",\"turns\":[[\"ca\",[\"ba\",[\"da\"]],[\"da\",[\"ba\"]],[\"pass\",[\"ba\",[\"da\",[\"ba\",[\"ca\",[\"ba\"]],[\"pass\",[\"ca\"]]]],[\"pass\",[\"da\"]]]]]]}\n",
+        DATA_OF_THREE,
     );
 }
 

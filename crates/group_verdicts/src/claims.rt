@@ -4,9 +4,10 @@ use crate::asked::Asked;
 use crate::group::Group;
 use crate::lines::{colour_name, push_point};
 use crate::table::Table;
+use cert_check::Checked;
 use go_points::Colour;
-use pn_search::{Verdict, solve};
-use proof_cert::{CertWrite, write_cert, write_short};
+use pn_search::{Budget, Verdict, solve};
+use proof_cert::{CertWrite, Certificate, write_cert, write_short};
 use sgf_text::{WriteFault, write_bytes, write_tree};
 use short_proofs::{Proved, prove};
 use std::alloc::{AllocError, Global};
@@ -39,7 +40,14 @@ pub(crate) fn claims(
     for i in 0..asked.len() {
         if let Some(winner) = asked[i].winner {
             let head = head_of(alloc, group, table, i, &asked[i], winner)?;
-            push_claim(alloc, table, &asked[i], length, head.as_str(), &mut bytes)?;
+            push_claim(
+                alloc,
+                table.budget,
+                &asked[i].problem,
+                length,
+                head.as_str(),
+                &mut bytes,
+            )?;
         }
     }
     match String::from_utf8(bytes) {
@@ -92,58 +100,63 @@ fn push_rows(text: &mut String, table: &Table, place: usize) -> Result<(), Alloc
     text.push_str(", a way out")
 }
 
+/// A claim of one kind or the other.
+#[derive(Drop)]
+enum Claim {
+    Short(Certificate),
+    Full(Checked),
+}
+
 /// Appends the head, the record of the question, and its claim; nothing if there is no claim of this kind.
 fn push_claim(
     alloc: Global,
-    table: &Table,
-    asked: &Asked,
+    budget: Budget,
+    problem: &Problem,
     length: Length,
     head: &str,
     bytes: &mut Vec<u8>,
 ) -> Result<(), AllocError> {
+    match find_claim(alloc, budget, problem, length)? {
+        Some(claim) => {
+            push_question(alloc, problem, head, bytes)?;
+            write_claim(&claim, bytes)
+        }
+        None => Ok(()),
+    }
+}
+
+/// The claim of this kind, if the steps find one.
+fn find_claim(
+    alloc: Global,
+    budget: Budget,
+    problem: &Problem,
+    length: Length,
+) -> Result<Option<Claim>, AllocError> {
     match length {
-        Length::Short => push_short_claim(alloc, table, &asked.problem, head, bytes),
-        Length::Full => push_full_claim(alloc, table, &asked.problem, head, bytes),
+        Length::Short => match prove(alloc, problem, budget)? {
+            Proved::Wins {
+                winner: _,
+                turn: _,
+                certificate,
+            } => Ok(Some(Claim::Short(certificate))),
+            Proved::Unknown { .. } => Ok(None),
+        },
+        Length::Full => match solve(alloc, problem.copy(alloc)?, budget) {
+            Verdict::Wins(checked) => Ok(Some(Claim::Full(checked))),
+            Verdict::Unknown { .. } => Ok(None),
+        },
     }
 }
 
-fn push_short_claim(
-    alloc: Global,
-    table: &Table,
-    problem: &Problem,
-    head: &str,
-    bytes: &mut Vec<u8>,
-) -> Result<(), AllocError> {
-    match prove(alloc, problem, table.budget)? {
-        Proved::Wins {
-            winner: _,
-            turn: _,
-            certificate,
-        } => {
-            push_question(alloc, problem, head, bytes)?;
-            written(write_short(&certificate, bytes))
-        }
-        Proved::Unknown { .. } => Ok(()),
-    }
-}
-
-fn push_full_claim(
-    alloc: Global,
-    table: &Table,
-    problem: &Problem,
-    head: &str,
-    bytes: &mut Vec<u8>,
-) -> Result<(), AllocError> {
-    match solve(alloc, problem.copy(alloc)?, table.budget) {
-        Verdict::Wins(checked) => {
-            push_question(alloc, problem, head, bytes)?;
-            match write_cert(checked.certificate(), bytes) {
-                Ok(()) => Ok(()),
-                Err(CertWrite::Write) => Err(AllocError),
-                Err(CertWrite::NoSpelling) => Err(AllocError),
-            }
-        }
-        Verdict::Unknown { .. } => Ok(()),
+/// Appends the claim. A write into memory fails only if memory is refused.
+fn write_claim(claim: &Claim, bytes: &mut Vec<u8>) -> Result<(), AllocError> {
+    match claim {
+        Claim::Short(certificate) => written(write_short(certificate, bytes)),
+        Claim::Full(checked) => match write_cert(checked.certificate(), bytes) {
+            Ok(()) => Ok(()),
+            Err(CertWrite::Write) => Err(AllocError),
+            Err(CertWrite::NoSpelling) => Err(AllocError),
+        },
     }
 }
 

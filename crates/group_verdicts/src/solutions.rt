@@ -6,7 +6,7 @@ use crate::lines::{push_end, walls_text};
 use crate::past::without_past;
 use crate::side::{Finding, Side};
 use crate::table::{Row, Table};
-use crate::variation::{alone, node_with, solved, tree_with};
+use crate::variation::{Question, alone, node_with, solved, tree_with};
 use go_points::{PointSet, to_sgf as letters_of};
 use sgf_text::{Bytes, Property, SgfNode, Tree, Values};
 use std::alloc::{AllocError, Global};
@@ -105,7 +105,13 @@ fn branch(
     let said = said_text(alloc, group, table, told, row)?;
     if let Some(row) = row {
         if let Some(problem) = problem_of(alloc, table, before, row)? {
-            return solved(alloc, before, problem, table.budget, said.as_str(), left);
+            let question = Question {
+                before,
+                problem: &problem,
+                budget: table.budget,
+                said: said.as_str(),
+            };
+            return solved(alloc, &question, left);
         }
     }
     alone(alloc, said.as_str())

@@ -15,57 +15,52 @@ use tsumego_problem::{marks_with_winner, past_nodes, turn_node};
 /// The greatest number of turns of an answer tree that plays everything out.
 const MOST_PLAYED_OUT: usize = 1_000;
 
-/// A node with this comment, and after it what is new in the record of the problem's solution. `left` is how many turns the record
+/// A question whose solution is shown, and what is said of it.
+#[derive(Clone, Copy)]
+pub(crate) struct Question<'a> {
+    /// The problem before the question was asked, whose nodes stand in the record already.
+    pub(crate) before: &'a Problem,
+    pub(crate) problem: &'a Problem,
+    pub(crate) budget: Budget,
+    /// The comment of the solution's first node.
+    pub(crate) said: &'a str,
+}
+
+/// A node with the comment, and after it what is new in the record of the problem's solution. `left` is how many turns the record
 /// may still have, and is lowered by those of the solution.
 pub(crate) fn solved(
     alloc: Global,
-    before: &Problem,
-    problem: Problem,
-    budget: Budget,
-    said: &str,
+    question: &Question<'_>,
     left: &mut usize,
 ) -> Result<Tree, AllocError> {
-    let same = problem.copy(alloc)?;
-    match solve(alloc, problem, budget) {
-        Verdict::Wins(checked) => won(alloc, before, &checked, budget, said, left),
-        Verdict::Unknown { .. } => unsolved(alloc, before, &same, budget, said, left),
+    let problem = question.problem.copy(alloc)?;
+    match solve(alloc, problem, question.budget) {
+        Verdict::Wins(checked) => won(alloc, question, &checked, left),
+        Verdict::Unknown { .. } => unsolved(alloc, question, left),
     }
 }
 
 /// The lines of a short claim, if one is found; nothing else is known.
-fn unsolved(
-    alloc: Global,
-    before: &Problem,
-    problem: &Problem,
-    budget: Budget,
-    said: &str,
-    left: &mut usize,
-) -> Result<Tree, AllocError> {
-    match read_out(alloc, before, problem, budget, said, left)? {
+fn unsolved(alloc: Global, question: &Question<'_>, left: &mut usize) -> Result<Tree, AllocError> {
+    match read_out(alloc, question, left)? {
         Some(tree) => Ok(tree),
-        None => alone(alloc, said),
+        None => alone(alloc, question.said),
     }
 }
 
 /// The solution of a claim that plays everything out; the lines of a short claim if its tree is large.
 fn won(
     alloc: Global,
-    before: &Problem,
+    question: &Question<'_>,
     checked: &Checked,
-    budget: Budget,
-    said: &str,
     left: &mut usize,
 ) -> Result<Tree, AllocError> {
     if let Some(whole) = played_out(alloc, checked, left)? {
-        return continued(alloc, before, said, &whole);
+        return continued(alloc, question.before, question.said, &whole);
     }
-    let problem = checked.problem();
-    match read_out(alloc, before, problem, budget, said, left)? {
+    match read_out(alloc, question, left)? {
         Some(tree) => Ok(tree),
-        None => {
-            let turn = checked.first_turn();
-            first_turn_alone(alloc, before, problem, checked.winner(), turn, said)
-        }
+        None => first_turn_alone(alloc, question, checked.winner(), checked.first_turn()),
     }
 }
 
@@ -88,25 +83,22 @@ fn played_out(
 /// The lines of a short claim; its first turn alone if they are too many. `None` if no short claim is found.
 fn read_out(
     alloc: Global,
-    before: &Problem,
-    problem: &Problem,
-    budget: Budget,
-    said: &str,
+    question: &Question<'_>,
     left: &mut usize,
 ) -> Result<Option<Tree>, AllocError> {
-    match find_reading(alloc, problem, budget, *left)? {
+    match find_reading(alloc, question.problem, question.budget, *left)? {
         Reading::Wins {
             winner,
             turns,
             tree,
         } => {
             *left = left.saturating_sub(turns);
-            let text = with_ends(alloc, said, problem, winner)?;
-            Ok(Some(continued(alloc, before, text.as_str(), &tree)?))
+            let text = with_ends(alloc, question.said, question.problem, winner)?;
+            Ok(Some(continued(alloc, question.before, text.as_str(), &tree)?))
         }
-        Reading::TooLarge { winner, turn } => Ok(Some(first_turn_alone(
-            alloc, before, problem, winner, turn, said,
-        )?)),
+        Reading::TooLarge { winner, turn } => {
+            Ok(Some(first_turn_alone(alloc, question, winner, turn)?))
+        }
         Reading::Unknown { .. } => Ok(None),
     }
 }
@@ -146,12 +138,11 @@ fn continued(
 /// A node with the comment, the problem with its winner, and the winner's first turn, if it moves first, with a comment of its own.
 fn first_turn_alone(
     alloc: Global,
-    before: &Problem,
-    problem: &Problem,
+    question: &Question<'_>,
     winner: Colour,
     turn: Option<Turn>,
-    said: &str,
 ) -> Result<Tree, AllocError> {
+    let problem = question.problem;
     let mut nodes = past_nodes(alloc, problem)?;
     nodes.push(marks_with_winner(alloc, problem, winner)?)?;
     if let Some(turn) = turn {
@@ -165,7 +156,7 @@ fn first_turn_alone(
         nodes.push(node_with(properties)?)?;
     }
     let whole = tree_with(nodes, Vec::new(alloc))?;
-    continued(alloc, before, said, &whole)
+    continued(alloc, question.before, question.said, &whole)
 }
 
 /// A node with the comment, and nothing after it.

@@ -1,5 +1,5 @@
 -- The stones of the chains of some points, gathered one point after the other.
-use Rattle.std.proofs.Common.{◌≡◌, ℕ, ◌+◌, ◌*◌, ◌<◌, ◌≤◌, ◌⊎◌, inl, inr, Bool, true, false, ◌||◌, IsTrue, IsFalse, ◌↔◌, nat_eq, eqb-true, eq-eqb, List, [], refl, sym, ◌∙◌, ap, subst, arith}
+use Rattle.std.proofs.Common.{◌≡◌, ℕ, ◌+◌, ◌*◌, ◌<◌, ◌≤◌, ◌⊎◌, inl, inr, Bool, true, false, ◌||◌, IsTrue, IsFalse, ◌↔◌, eqb-true, eq-eqb, List, [], refl, sym, ◌∙◌, ap, subst, arith}
 use Rattle.go_points.specs.declared.Cell.{Cell}
 use Rattle.go_points.specs.declared.Cell.TheVariants.{Empty}
 use Rattle.go_points.specs.Grid.{same_cell, cell_at}

@@ -1,23 +1,20 @@
 -- What is written for a request.
-use Rattle.std.proofs.Common.{◌≡◌, ◌≢◌, Bool, true, false, ℕ, List, [], ◌++◌, Option, Some, None, Result, Ok, Err, IsTrue, refl, sym, ◌∙◌, ap, subst}
-use Rattle.std.specs.Prelude.{IfOk, is_err, string_bytes}
-use Rattle.std.specs.Io.KnownBytes.{Appends}
+use Rattle.std.proofs.Common.{◌≡◌, Bool, true, false, ℕ, List, Option, Some, Result, Ok, Err, refl, sym, subst}
+use Rattle.std.specs.Prelude.{IfOk, string_bytes}
 use Rattle.sgf_text.specs.Grammar.{Reads}
 use Rattle.sgf_text.specs.Trees.{GameTree}
 use Rattle.target_game.specs.State.{GameProblem}
 use Rattle.tsumego_problem.specs.Walk.{problem_within, history_limit}
-use Rattle.tool_parts.specs.Input.{Tells}
-use Rattle.tool_parts.specs.Written.{bytes_of, end_of}
+use Rattle.tool_parts.specs.Written.{end_of}
 use Rattle.tool_parts.specs.declared.output.Output.{Output}
 use Rattle.tool_parts.specs.declared.output.Output.TheVariants.{Record, Text}
 use Rattle.tool_parts.specs.declared.status.Status.{Status}
-use Rattle.tool_parts.specs.declared.status.Status.TheVariants.{Answered, Refused, Failed}
-use Rattle.tool_parts.specs.declared.words.NoRequest.{NoRequest}
+use Rattle.tool_parts.specs.declared.status.Status.TheVariants.{Refused}
 use Rattle.record_tools.specs.declared.marked_record.Marks.{Marks}
 use Rattle.record_tools.specs.declared.words.Request.{Request}
 use Rattle.record_tools.specs.declared.words.Request.TheVariants as requests
 use Rattle.record_tools.specs.Asked.{IsChosen}
-use Rattle.record_tools.specs.Outputs.{AnswersRecord, HasAnswered, IsAlone, IsAnswered, IsMarkedIn, IsOutput, IsShown, IsWanted, IsWritten}
+use Rattle.record_tools.specs.Outputs.{AnswersRecord, IsAlone, IsMarkedIn, IsOutput, IsWanted, IsWritten}
 
 -- a refusal is no answer
 no_answer : (Is : GameTree → Type 0) (o : Output) → end_of o ≡ Refused → AnswersRecord Is o
@@ -56,28 +53,3 @@ asked_for place targets zone mover is_bare bytes wanted request (Err fault) e w 
 pub unsaid : {E : Type 0} (request : Request) (bytes : List ℕ) (r : Result Output E) → ((o : Output) → IsOutput request bytes o) → IfOk r (IsOutput request bytes)
 unsaid request bytes (Ok o) is = is o
 unsaid request bytes (Err fault) is = tt
-
--- an output that is no answer, and one that may be
-pub not_answered : {E : Type 0} (P : Output → Type 0) (status : Status) (r : Result Output E) → status ≢ Answered → IfOk r (λ o. end_of o ≡ status) → IfOk r (λ o. end_of o ≡ Answered → P o)
-not_answered P status (Ok o) ne is = λ e. absurd (ne (sym is ∙ e))
-not_answered P status (Err fault) ne is = tt
-
-pub output_answered : {E : Type 0} (asked : Result Request NoRequest) (request : Request) (told : Option (List ℕ)) (bytes : List ℕ) (r : Result Output E)
-    → asked ≡ Ok request → Tells told bytes → IfOk r (IsOutput request bytes) → IfOk r (λ o. end_of o ≡ Answered → IsAnswered asked told o)
-output_answered asked request told bytes (Ok o) e tells is = λ end. subst (λ a. IsAnswered a told o) (sym e) (bytes, tells, is)
-output_answered asked request told bytes (Err fault) e tells is = tt
-
--- what a reader has, where nothing was read before
-pub all_read : (told : Option (List ℕ)) (items bytes : List ℕ) → items ≡ [] ++ bytes → Tells told bytes → Tells told items
-all_read told items bytes e h = subst (Tells told) (sym e) h
-
--- a run that was answered has written all
-pub answered : {E : Type 0} (request : Result Request NoRequest) (r : Result Output E) (status : Status) (told old new : Option (List ℕ))
-    → IfOk r (λ o. end_of o ≡ Answered → IsAnswered request told o)
-    → IfOk r (λ o. status ≢ Failed → Appends old new (bytes_of o)) → IfOk r (λ o. status ≢ Failed → status ≡ end_of o)
-    → (IsTrue (is_err r) → status ≡ Failed) → status ≡ Answered → HasAnswered request told old new
-answered request (Ok o) status told old new is written ended memory e =
-    let not_failed : status ≢ Failed = λ f. absurd (cc (e, f)) in
-    let answer : end_of o ≡ Answered = sym (ended not_failed) ∙ e in
-    (o, is answer, answer, written not_failed)
-answered request (Err fault) status told old new is written ended memory e = absurd (cc (e, memory refl))

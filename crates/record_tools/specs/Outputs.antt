@@ -1,22 +1,17 @@
 -- What a run writes, for what is asked for and the bytes of its input.
 --     IsWritten Is node is_bare bytes tree      the record that is marked, or its position alone
 --     IsOutput request bytes output      what is written
---     HasAnswered request told old new      what a writer has taken in a run that was answered
-use Rattle.std.specs.Prelude.{◌≡◌, ◌≢◌, ◌-◌, ℕ, List, [], Bool, true, false, string_bytes, Option, Some, Result, Ok, Err}
-use Rattle.std.specs.Io.KnownBytes.{Appends}
+use Rattle.std.specs.Prelude.{◌≡◌, ◌≢◌, ◌-◌, ℕ, List, Bool, true, false, string_bytes, Option, Some, Ok}
 use Rattle.go_points.specs.declared.Colour.{Colour}
 use Rattle.sgf_text.specs.Grammar.{Reads}
 use Rattle.sgf_text.specs.Trees.{GameTree}
 use Rattle.target_game.specs.State.{GameProblem}
 use Rattle.tsumego_problem.specs.Walk.{problem_within, history_limit}
 use Rattle.record_pages.specs.Bare.{IsBare}
-use Rattle.tool_parts.specs.Input.{Tells}
-use Rattle.tool_parts.specs.Written.{bytes_of, end_of}
 use Rattle.tool_parts.specs.declared.output.Output.{Output}
 use Rattle.tool_parts.specs.declared.output.Output.TheVariants.{Record, Text}
 use Rattle.tool_parts.specs.declared.status.Status.{Status}
 use Rattle.tool_parts.specs.declared.status.Status.TheVariants.{Answered}
-use Rattle.tool_parts.specs.declared.words.NoRequest.{NoRequest}
 use Rattle.record_tools.specs.declared.marked_record.Marks.{Marks}
 use Rattle.record_tools.specs.declared.marked_record.Region.{Region}
 use Rattle.record_tools.specs.declared.marked_record.Region.TheVariants as regions
@@ -77,12 +72,3 @@ IsOutput (requests.Mark node targets zone mover is_bare) bytes output =
 IsOutput (requests.SplitInto folder) bytes output = Unit
 IsOutput (requests.Page cut form) bytes output = Unit
 IsOutput (requests.Picture view look caption ascii) bytes output = Unit
-
--- the output is the one for the request, if there is one, and for all that the reader has
-abbrev pub IsAnswered : Result Request NoRequest → Option (List ℕ) → Output → Type 0
-IsAnswered (Ok request) told output = (bytes : List ℕ) × Tells told bytes × IsOutput request bytes output
-IsAnswered (Err none) told output = ⊥
-
--- The writer has taken the whole of it.
-abbrev pub HasAnswered : Result Request NoRequest → Option (List ℕ) → Option (List ℕ) → Option (List ℕ) → Type 0
-HasAnswered request told old new = (output : Output) × IsAnswered request told output × (end_of output ≡ Answered) × Appends old new (bytes_of output)

@@ -7,7 +7,7 @@ ghost use Rattle.tsumego_problem.specs.Walk.{problem_within, history_limit};
 use crate::marked_record::{Refusal, problem_of};
 use record_pages::{are_same, may_return, push_titles, without_past};
 use sgf_text::{Property, SgfNode, Tree};
-use std::alloc::{AllocError, Global};
+use std::alloc::Global;
 use target_game::Problem;
 use tool_parts::copy_properties;
 use tsumego_problem::{marks_node, past_nodes};

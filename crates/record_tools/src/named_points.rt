@@ -1,6 +1,6 @@
 //! Points and rectangles as people name them, as the values of a property.
 
-ghost use Rattle.std.specs.Prelude.{◌≡◌, ◌≤◌, IfOk, Some, option_map, position, length, take};
+ghost use Rattle.std.specs.Prelude.{◌≡◌, IfOk, Some, option_map, position};
 ghost use Rattle.go_points.specs.Sgf.{sgf_text};
 ghost use Rattle.record_tools.specs.Named.{corners, greater, is_colon, is_comma, lesser, value_named, values_named};
 

@@ -1,10 +1,11 @@
-//! A run of the program: from its words and its input to its answer.
+//! A run of the program: from the request that its words make and its input to its answer.
 
-ghost use Rattle.std.specs.Prelude.{◌≡◌, ◌-◌, ℕ, List, IfOk};
+ghost use Rattle.std.specs.Prelude.{◌≡◌, ◌-◌, IfOk};
 ghost use Rattle.record_tools.specs.Games.{IsGame};
 ghost use Rattle.record_tools.specs.Asked.{IsMarkedFor};
 ghost use Rattle.record_tools.specs.Supposed.{IsMarkedBy};
-ghost use Rattle.record_tools.specs.Outputs.{AnswersRecord, HasAnswered, IsAlone, IsAnswered, IsMarkedIn, IsOutput, IsWritten, IsZone};
+ghost use Rattle.record_tools.specs.Outputs.{AnswersRecord, IsAlone, IsMarkedIn, IsOutput, IsWritten, IsZone};
+ghost use Rattle.tool_parts.specs.Answered.{HasAnswered, IsAnswered};
 ghost use Rattle.tool_parts.specs.Written.{end_of};
 ghost use Rattle.tool_parts.specs.declared.status.Status.TheVariants.{Answered};
 
@@ -40,14 +41,14 @@ pub fn run<F: Files, R: Read, W: Write, N: Write>(
     writer: &mut W,
     notes: &mut N,
 ) -> Status
-    ensures { result ≡ Answered → HasAnswered request (R.remaining reader.old)
+    ensures { result ≡ Answered → HasAnswered IsOutput request (R.remaining reader.old)
         (W.contents writer.old) (W.contents writer.new) }
 {
     write_output(writer, output(alloc, files, request, reader, notes))
 }
 
 /// What is written for the request and the input.
-#[tactic(auto, using(crate::proofs::Outputs::all_read, crate::proofs::Outputs::not_answered, crate::proofs::Outputs::output_answered))]
+#[tactic(auto, using(tool_parts::proofs::Answering::all_read, tool_parts::proofs::Answering::not_answered, tool_parts::proofs::Answering::output_answered))]
 fn output<F: Files, R: Read, N: Write>(
     alloc: Global,
     files: &F,
@@ -56,7 +57,7 @@ fn output<F: Files, R: Read, N: Write>(
     notes: &mut N,
 ) -> Result<Output, AllocError>
     ensures { IfOk result (λ o. end_of o ≡ Answered
-        → IsAnswered request (R.remaining reader.old) o) }
+        → IsAnswered IsOutput request (R.remaining reader.old) o) }
 {
     let request = match request {
         Ok(request) => request,

@@ -10,14 +10,7 @@ use record_pages::NoPage;
 use record_pictures::NoPicture;
 use solution_tree::AuditWhy;
 use std::alloc::{AllocError, Global};
-use tool_parts::{Output, Status, refused_problem, text_of};
-
-/// A refusal with this text.
-fn refused(text: String) -> Result<Output, AllocError>
-    ensures { IfOk result (λ o. end_of o ≡ Refused) }
-{
-    Ok(Output::Text(text, Status::Refused))
-}
+use tool_parts::{Output, Status, refused, refused_problem, text_of};
 
 /// Why no record was made.
 pub(crate) fn no_mark(alloc: Global, refusal: Refusal) -> Result<Output, AllocError>

@@ -1,6 +1,6 @@
 //! Properties that place stones.
 
-ghost use Rattle.std.specs.Prelude.{◌≡◌, ◌++◌, IfOk, OnOk, codes, map};
+ghost use Rattle.std.specs.Prelude.{◌≡◌, ◌++◌, IfOk, OnOk, map};
 ghost use Rattle.go_points.specs.Sgf.{sgf_text};
 ghost use Rattle.tsumego_problem.specs.Canonical.{property};
 ghost use Rattle.record_tools.specs.Supposed.{stones};

@@ -2,8 +2,8 @@
 
 use crate::shown::Note;
 use go_chains::ChainBoard;
-use go_points::{Cell, Colour, Colouring, Point, PointSet};
-use pass_alive::living_stones;
+use go_points::{Colouring, Point, PointSet, Size};
+use pass_alive::{are_members, areas_of, is_near, living_stones, put_in};
 use target_game::Problem;
 
 /// By what the chain of the first target lives in this colouring.
@@ -52,27 +52,6 @@ fn two_eyes(problem: &Problem, board: &ChainBoard, chain: &PointSet) -> Option<(
     Some((first, second))
 }
 
-/// The areas between the stones of the colour, as the chains of another board: there each point without such a stone holds a stone,
-/// and the liberties of a chain are the stones around the area.
-fn areas_of(board: &ChainBoard, colour: Colour) -> Option<ChainBoard> {
-    let size = board.size();
-    let mut filled = Colouring::empty(size);
-    for number in 0..size.area() {
-        let point = size.point_at(number);
-        if !board.cell(point).is_stone_of(colour) {
-            put(&mut filled, point, colour.opponent());
-        }
-    }
-    ChainBoard::from_colouring(&filled).ok()
-}
-
-/// Puts a stone at the point, if the board has it.
-fn put(filled: &mut Colouring, point: Point, colour: Colour) {
-    if filled.size().holds(point) {
-        filled.set(point, Cell::Stone(colour));
-    }
-}
-
 /// The least empty point of an area that has not been seen and is an eye of the chain. The areas on the way are then seen.
 fn next_eye(
     board: &ChainBoard,
@@ -84,10 +63,10 @@ fn next_eye(
     let size = board.size();
     for number in 0..size.area() {
         let point = size.point_at(number);
-        if board.cell(point).is_empty() && !seen.has(point) && is_beside(board, point, chain) {
+        if board.cell(point).is_empty() && !seen.has(point) && is_near(size, point, chain) {
             let area = chain_at(areas, point)?;
-            add_all(board, &area, seen);
-            if is_eye(board, areas, &area, point, living, chain) {
+            put_in(seen, &area);
+            if is_eye(areas, &area, point, living, chain) {
                 return Some(point);
             }
         }
@@ -97,7 +76,6 @@ fn next_eye(
 
 /// Whether the area of the point is an eye: each of its points is beside the chain, and living stones are all around it.
 fn is_eye(
-    board: &ChainBoard,
     areas: &ChainBoard,
     area: &PointSet,
     point: Point,
@@ -105,7 +83,7 @@ fn is_eye(
     chain: &PointSet,
 ) -> bool {
     match stones_around(areas, point) {
-        Some(around) => are_beside(board, area, chain) && are_in(board, &around, living),
+        Some(around) => are_beside(areas.size(), area, chain) && are_members(&around, living),
         None => false,
     }
 }
@@ -124,57 +102,19 @@ fn fixed_liberty(board: &ChainBoard, region: &PointSet, chain: &PointSet) -> Opt
     let size = board.size();
     for number in 0..size.area() {
         let point = size.point_at(number);
-        if board.cell(point).is_empty() && !region.has(point) && is_beside(board, point, chain) {
+        if board.cell(point).is_empty() && !region.has(point) && is_near(size, point, chain) {
             return Some(point);
         }
     }
     None
 }
 
-/// Whether the point is adjacent to a stone of the chain.
-fn is_beside(board: &ChainBoard, point: Point, chain: &PointSet) -> bool {
-    let size = board.size();
-    if !size.holds(point) {
-        return false;
-    }
-    let neighbours = point.neighbours(size);
-    for neighbour in neighbours.as_slice() {
-        if chain.has(*neighbour) {
-            return true;
-        }
-    }
-    false
-}
-
 /// Whether each point of the area is adjacent to a stone of the chain.
-fn are_beside(board: &ChainBoard, area: &PointSet, chain: &PointSet) -> bool {
+fn are_beside(size: Size, area: &PointSet, chain: &PointSet) -> bool {
     for point in area.iter() {
-        if !is_beside(board, point, chain) {
+        if !size.holds(point) || !is_near(size, point, chain) {
             return false;
         }
     }
     true
-}
-
-/// Whether all these stones are among the living ones.
-fn are_in(board: &ChainBoard, stones: &PointSet, living: &PointSet) -> bool {
-    let size = board.size();
-    for number in 0..size.area() {
-        let point = size.point_at(number);
-        if stones.has(point) && !living.has(point) {
-            return false;
-        }
-    }
-    true
-}
-
-/// Adds the points of the area.
-fn add_all(board: &ChainBoard, area: &PointSet, seen: &mut PointSet) {
-    let size = board.size();
-    for number in 0..size.area() {
-        let point = size.point_at(number);
-        if area.has(point) {
-            seen.insert(point);
-        }
-    }
 }

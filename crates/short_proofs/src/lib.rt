@@ -5,7 +5,6 @@
 mod eyes;
 mod first_turn;
 mod judged;
-mod line;
 mod notes;
 mod program;
 mod proof;

@@ -4,10 +4,10 @@
 //! the reader is sent there, unless an earlier position barred a reply there: that reply may be legal here.
 
 use crate::eyes::life_in;
-use crate::line::Line;
 use crate::shown::{Note, Shown, mark_cut, push_turn, set_note};
 use go_points::Turn;
 use proof_cert::{Certificate, Lemma, Node};
+use state_proofs::Play;
 use std::alloc::{AllocError, Global};
 use target_game::Problem;
 
@@ -27,15 +27,15 @@ pub(crate) fn is_shown(
     shown: &mut Vec<Shown>,
 ) -> Result<bool, AllocError> {
     let lemmas = certificate.lemmas.as_slice();
-    let mut line = Line::of(alloc, problem)?;
+    let mut play = Play::of(alloc, problem)?;
     let mut places = no_places(alloc, lemmas.len())?;
     let mut waiting = Vec::new(alloc);
     let mut node = &certificate.main;
     for _ in 0..=most {
-        let part = body_at(problem, lemmas, node, &line, shown, &mut places);
+        let part = body_at(problem, lemmas, node, &play, shown, &mut places);
         let found = match part {
-            Some(part) => open(part, &mut line, shown, &mut waiting)?,
-            None => go_on(&mut line, shown, &mut waiting)?,
+            Some(part) => open(part, &mut play, shown, &mut waiting)?,
+            None => go_on(&mut play, shown, &mut waiting)?,
         };
         let Some(below) = found else {
             return Ok(true);
@@ -60,7 +60,7 @@ fn body_at<'a>(
     problem: &Problem,
     lemmas: &'a [Lemma],
     node: &'a Node,
-    line: &Line,
+    play: &Play,
     shown: &mut Vec<Shown>,
     places: &mut Vec<Option<usize>>,
 ) -> Option<&'a Node> {
@@ -73,7 +73,7 @@ fn body_at<'a>(
             Node::All(_) => return Some(part),
             Node::Use(number) => {
                 let Some(lemma) = (*number as usize).checked_sub(1) else {
-                    set_note(shown, life_in(problem, &line.colouring()));
+                    set_note(shown, life_in(problem, &play.colouring()));
                     return None;
                 };
                 if let Some(place) = whole_place(shown, places, lemma) {
@@ -107,7 +107,7 @@ fn whole_place(shown: &[Shown], places: &[Option<usize>], lemma: usize) -> Optio
 /// Makes the first turn of the tree, and returns the tree below it. If there is none, goes on elsewhere.
 fn open<'a>(
     part: &'a Node,
-    line: &mut Line,
+    play: &mut Play,
     shown: &mut Vec<Shown>,
     waiting: &mut Vec<Waiting<'a>>,
 ) -> Result<Option<&'a Node>, AllocError> {
@@ -115,20 +115,20 @@ fn open<'a>(
     let found = match part {
         Node::Play(turn, below) => {
             let below: &Node = below;
-            if make(*turn, &[], parent, line, shown, waiting)? {
+            if make(*turn, &[], parent, play, shown, waiting)? {
                 Some(below)
             } else {
                 None
             }
         }
-        Node::All(replies) => make_next(replies.as_slice(), parent, line, shown, waiting)?,
+        Node::All(replies) => make_next(replies.as_slice(), parent, play, shown, waiting)?,
         Node::Won => None,
         Node::Use(_) => None,
     };
     if found.is_some() {
         return Ok(found);
     }
-    go_on(line, shown, waiting)
+    go_on(play, shown, waiting)
 }
 
 /// Makes the turn below this node if it is legal, with these replies still to come there. Returns whether it was made.
@@ -136,13 +136,13 @@ fn make<'a>(
     turn: Turn,
     later: &'a [(Turn, Node)],
     parent: usize,
-    line: &mut Line,
+    play: &mut Play,
     shown: &mut Vec<Shown>,
     waiting: &mut Vec<Waiting<'a>>,
 ) -> Result<bool, AllocError> {
-    let colour = line.mover();
+    let colour = play.key().mover;
     let same = turn;
-    if !line.go(same)? {
+    if !play.go(same)? {
         return Ok(false);
     }
     push_turn(shown, parent, colour, turn)?;
@@ -157,7 +157,7 @@ fn make<'a>(
 fn make_next<'a>(
     replies: &'a [(Turn, Node)],
     parent: usize,
-    line: &mut Line,
+    play: &mut Play,
     shown: &mut Vec<Shown>,
     waiting: &mut Vec<Waiting<'a>>,
 ) -> Result<Option<&'a Node>, AllocError> {
@@ -166,7 +166,7 @@ fn make_next<'a>(
         let Some((reply, later)) = left.split_first() else {
             return Ok(None);
         };
-        if make(reply.0, later, parent, line, shown, waiting)? {
+        if make(reply.0, later, parent, play, shown, waiting)? {
             return Ok(Some(&reply.1));
         }
         mark_cut(shown, parent);
@@ -178,7 +178,7 @@ fn make_next<'a>(
 /// Makes the next of the replies that are still to come, at the latest state that has one, and returns its tree. `None` if all have
 /// been made.
 fn go_on<'a>(
-    line: &mut Line,
+    play: &mut Play,
     shown: &mut Vec<Shown>,
     waiting: &mut Vec<Waiting<'a>>,
 ) -> Result<Option<&'a Node>, AllocError> {
@@ -186,8 +186,8 @@ fn go_on<'a>(
         let Some(last) = waiting.pop() else {
             return Ok(None);
         };
-        line.back();
-        if let Some(below) = make_next(last.replies, last.parent, line, shown, waiting)? {
+        play.back();
+        if let Some(below) = make_next(last.replies, last.parent, play, shown, waiting)? {
             return Ok(Some(below));
         }
     }

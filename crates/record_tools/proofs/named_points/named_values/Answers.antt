@@ -1,7 +1,5 @@
-use Rattle.std.proofs.Common.{rules, arith, ◌≡◌, ◌+◌, ◌<◌, ℕ, List, Some, drop, length, sym, ◌∙◌, ap, subst}
+use Rattle.std.proofs.Common.{rules, ◌+◌, ℕ, List, Some, drop, sym, ◌∙◌, ap, subst}
 use Rattle.std.proofs.lemmas.List.{length-drop}
-use Rattle.std.proofs.lemmas.List.Quantifiers.{position-Some}
-use Rattle.record_tools.specs.Named.{is_comma}
 use Rattle.record_tools.proofs.Names.{NamesLeft, names_more, names_none, names_last, names_not_last}
 use Rattle.record_tools.proofs.named_points.named_values.Goals as goal
 

@@ -1,5 +1,6 @@
-use Rattle.record_tools.proofs.Outputs.{answered}
+use Rattle.tool_parts.proofs.Answering.{answered}
+use Rattle.record_tools.specs.Outputs.{IsOutput}
 use Rattle.record_tools.proofs.program.run.Goals as goal
 
 pub returns : goal.returns
-returns g c = answered c.args.request c.output.result c.write_output.result _ _ _ c.output.ensures c.write_output.ensures.written c.write_output.ensures.status c.write_output.ensures.memory
+returns g c = answered IsOutput c.args.request c.output.result c.write_output.result _ _ _ c.output.ensures c.write_output.ensures.written c.write_output.ensures.status c.write_output.ensures.memory

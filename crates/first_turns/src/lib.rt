@@ -11,6 +11,7 @@ mod line_solution;
 mod list;
 mod names;
 mod program;
+mod reading;
 mod record;
 mod words;
 

@@ -126,7 +126,7 @@ fn variations(alloc: Global, later: &Later, left: &mut usize) -> Result<Vec<Tree
         if let Judged::Right(_) = &one.judged {
             if later.turn != Some(one.turn) {
                 let problem = &later.position.problem;
-                trees.push(branch(alloc, problem, one, "also right", left)?)?;
+                trees.push(branch(alloc, problem, one, "also right", None, left)?)?;
             }
         }
     }

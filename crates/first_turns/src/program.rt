@@ -102,10 +102,10 @@ fn answered<N: Write>(
     let found = judge_turns(alloc, problem, &[], None, &settings, notes)?;
     let found = found.as_slice();
     if request.depth < 2 {
-        return first_written(alloc, problem, request.form, &settings.names, found);
+        return first_written(alloc, problem, request.form, &settings, found);
     }
     let line = judge_line(alloc, problem, found, request.depth, &settings, notes)?;
-    line_written(alloc, problem, request.form, &settings.names, found, &line)
+    line_written(alloc, problem, request.form, &settings, found, &line)
 }
 
 /// How turns are judged and told.
@@ -134,23 +134,24 @@ fn first_written(
     alloc: Global,
     problem: &Problem,
     form: Form,
-    names: &Names,
+    settings: &Settings,
     found: &[Found],
 ) -> Result<Output, AllocError>
     ensures { IfOk result
-        (IsInForm form (λ text. text ≡ short_list names.now found.now)) }
+        (IsInForm form (λ text. text ≡ short_list settings.now.names found.now)) }
 {
     match form {
         Form::Record => {
-            let tree = moves_record(alloc, problem, found, counted(found), None)?;
+            let budget = settings.budget;
+            let tree = moves_record(alloc, problem, found, counted(found), None, budget)?;
             Ok(Output::Record(tree))
         }
         Form::List => {
-            let text = short_list(alloc, names, found)?;
+            let text = short_list(alloc, &settings.names, found)?;
             Ok(Output::Text(text, Status::Answered))
         }
         Form::Json => {
-            let text = json_lines(alloc, names, found, counted(found), None)?;
+            let text = json_lines(alloc, &settings.names, found, counted(found), None)?;
             Ok(Output::Text(text, Status::Answered))
         }
     }
@@ -161,25 +162,26 @@ fn line_written(
     alloc: Global,
     problem: &Problem,
     form: Form,
-    names: &Names,
+    settings: &Settings,
     found: &[Found],
     line: &Line,
 ) -> Result<Output, AllocError>
     ensures { IfOk result (IsInForm form (λ text. (solution : LineSolution)
         × IsLineSolution found.now line.now.later.items solution × (text
-        ≡ long_list names.now found.now line.now.later.items solution line.now.is_whole))) }
+        ≡ long_list settings.now.names found.now line.now.later.items solution line.now.is_whole))) }
 {
     match form {
         Form::Record => {
-            let tree = moves_record(alloc, problem, found, counted(found), Some(line))?;
+            let budget = settings.budget;
+            let tree = moves_record(alloc, problem, found, counted(found), Some(line), budget)?;
             Ok(Output::Record(tree))
         }
         Form::List => {
-            let text = long_list(alloc, names, found, line)?;
+            let text = long_list(alloc, &settings.names, found, line)?;
             Ok(Output::Text(text, Status::Answered))
         }
         Form::Json => {
-            let text = json_lines(alloc, names, found, counted(found), Some(line))?;
+            let text = json_lines(alloc, &settings.names, found, counted(found), Some(line))?;
             Ok(Output::Text(text, Status::Answered))
         }
     }

@@ -1,4 +1,5 @@
-//! What is found, as a record: a branch for each first turn, with the answer tree below it.
+//! What is found, as a record: a branch for each first turn, with the answer tree below it. A right turn with a large answer tree
+//! has the lines of a short claim below it instead, if one is found.
 
 ghost use Rattle.std.specs.Prelude.{◌≤◌, length};
 
@@ -7,14 +8,19 @@ use crate::judged::Judged;
 use crate::line::{Line, MOST_TURNS};
 use crate::line_record::with_line;
 use crate::list::solution_text;
+use crate::reading::reading_by;
 use cert_check::Checked;
 use go_points::Colour;
+use pn_search::Budget;
 use sgf_text::{SgfNode, Tree};
 use solution_tree::{Expand, expand, to_sgf};
 use std::alloc::{AllocError, Global};
 use target_game::Problem;
 use tool_parts::{copy_properties, push_nodes, push_trees, single};
-use tsumego_problem::{first_marked, marks_node, past_nodes, turn_node};
+use tsumego_problem::{first_marked, marks_node, past_nodes, turn_node, values_at};
+
+/// The greatest number of turns of an answer tree below a right turn that is always played out.
+const MOST_PLAYED_OUT: usize = 1_000;
 
 /// The kinds of branches, in the order in which they are written.
 #[derive(Clone, Copy, Debug, PartialEq, Eq)]
@@ -26,13 +32,15 @@ enum Kind {
 
 /// The record of the problem with a branch for each turn: first those that win (`TE[1]`), then those that lose (`BM[1]`)
 /// with their refutation, then those about which nothing is known (SGF FF[4], "Move annotation properties"). In the first branch
-/// that wins, further right turns of the line are variations; their trees get the room that those of the branches leave.
+/// that wins, further right turns of the line are variations; their trees get the room that those of the branches leave. If a line
+/// is given, that branch is always played out. The search for each short claim has this budget.
 pub(crate) fn moves_record(
     alloc: Global,
     problem: &Problem,
     found: &[Found],
     tally: Tally,
     line: Option<&Line>,
+    budget: Budget,
 ) -> Result<Tree, AllocError> {
     let mut nodes = past_nodes(alloc, problem)?;
     let marks = marks_node(alloc, problem)?;
@@ -41,24 +49,37 @@ pub(crate) fn moves_record(
     let mut branches = Vec::new(alloc);
     let mut left = MOST_TURNS;
     for kind in [Kind::Right, Kind::Wrong, Kind::Unknown] {
-        push_branches(alloc, problem, found, kind, &mut left, &mut branches)?;
+        push_branches(
+            alloc,
+            problem,
+            found,
+            kind,
+            line.is_some(),
+            budget,
+            &mut left,
+            &mut branches,
+        )?;
     }
     let branches = with_line(alloc, branches, line, &mut left)?;
     tree_with(nodes, branches)
 }
 
-/// Appends the branches of this kind.
+/// Appends the branches of this kind. The first one may have the line, which is played out.
 fn push_branches(
     alloc: Global,
     problem: &Problem,
     found: &[Found],
     kind: Kind,
+    has_line: bool,
+    budget: Budget,
     left: &mut usize,
     into: &mut Vec<Tree>,
 ) -> Result<(), AllocError> {
     for one in found {
         if kind_of(&one.judged) == kind {
-            into.push(branch(alloc, problem, one, "right", left)?)?;
+            let is_played_out = has_line && into.is_empty();
+            let short = if is_played_out { None } else { Some(budget) };
+            into.push(branch(alloc, problem, one, "right", short, left)?)?;
         }
     }
     Ok(())
@@ -73,19 +94,24 @@ fn kind_of(judged: &Judged) -> Kind {
     }
 }
 
-/// The branch of a turn; `right` is what a right one is called.
+/// The branch of a turn; `right` is what a right one is called. With a budget a short claim may be searched for.
 pub(crate) fn branch(
     alloc: Global,
     problem: &Problem,
     one: &Found,
     right: &str,
+    short: Option<Budget>,
     left: &mut usize,
 ) -> Result<Tree, AllocError> {
     let turn = turn_node(alloc, problem.size(), problem.mover(), one.turn)?;
     let mover = problem.mover();
     match &one.judged {
         Judged::Right(checked) => {
-            let first = with_comment(alloc, &turn, Some(b"TE"), &said(alloc, right, mover)?)?;
+            let text = said(alloc, right, mover)?;
+            if let Some(tree) = read_out(alloc, problem, one, checked, &text, short, left)? {
+                return Ok(tree);
+            }
+            let first = with_comment(alloc, &turn, Some(b"TE"), &text)?;
             // The claim's own first turn is that of the branch.
             tree_of_claim(alloc, checked, 1, first, left)
         }
@@ -167,6 +193,61 @@ fn tree_of_claim(
     let mut children = Vec::new(alloc);
     push_trees(alloc, whole.children(), &mut children)?;
     tree_with(nodes, children)
+}
+
+/// The branch of a right turn by the lines of a short claim, with this comment at its first node. `None` if the claim's own tree is
+/// not large or no short claim is found.
+fn read_out(
+    alloc: Global,
+    problem: &Problem,
+    one: &Found,
+    checked: &Checked,
+    text: &str,
+    short: Option<Budget>,
+    left: &mut usize,
+) -> Result<Option<Tree>, AllocError> {
+    let Some(budget) = short else {
+        return Ok(None);
+    };
+    match expand(alloc, checked, MOST_PLAYED_OUT.min(*left)) {
+        Ok(_) => return Ok(None),
+        Err(Expand::TooLarge) => {}
+        Err(Expand::Memory) => return Err(AllocError),
+    }
+    match reading_by(alloc, problem, one.turn, budget, left)? {
+        Some(whole) => Ok(Some(read_branch(alloc, &whole, text)?)),
+        None => Ok(None),
+    }
+}
+
+/// The branch of the record's first turn, with this comment before the turn's own.
+fn read_branch(alloc: Global, whole: &Tree, text: &str) -> Result<Tree, AllocError> {
+    let from = first_below(whole.nodes(), 0);
+    let mut nodes = Vec::new(alloc);
+    if let Some((first, later)) = whole.nodes()[from..].split_first() {
+        nodes.push(right_node(alloc, first, text)?)?;
+        push_nodes(alloc, later, &mut nodes)?;
+    }
+    let mut children = Vec::new(alloc);
+    push_trees(alloc, whole.children(), &mut children)?;
+    tree_with(nodes, children)
+}
+
+/// The node as that of a right turn, with this comment before its own.
+fn right_node(alloc: Global, node: &SgfNode, text: &str) -> Result<SgfNode, AllocError> {
+    let mut properties = copy_properties(alloc, node.as_slice())?;
+    properties.retain(|property| property.ident.as_slice() != b"C".as_slice());
+    properties.push(single(alloc, b"TE", b"1")?)?;
+    let mut comment = text.as_bytes().to_vec(alloc)?;
+    if let Some(own) = values_at(b"C", node).first() {
+        comment.push(b'\n')?;
+        comment.extend_from_slice(own.as_slice())?;
+    }
+    properties.push(single(alloc, b"C", comment.as_slice())?)?;
+    match SgfNode::new(properties) {
+        Some(node) => Ok(node),
+        None => Err(AllocError),
+    }
 }
 
 /// The place after the problem node and this many more nodes.

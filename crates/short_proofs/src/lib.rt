@@ -16,4 +16,4 @@ mod words;
 
 pub use program::run;
 pub use proof::{Proved, prove};
-pub use reading::{Reading, find_reading};
+pub use reading::{Reading, find_reading, reading_of};

@@ -62,7 +62,7 @@ fn living(alloc: Global, problem: &Problem) -> Certificate {
 }
 
 /// What the judge says of the certificate's text.
-fn judged(
+pub(crate) fn judged(
     alloc: Global,
     problem: &Problem,
     certificate: Certificate,

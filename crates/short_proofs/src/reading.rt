@@ -3,9 +3,9 @@
 ghost use Rattle.std.specs.Prelude.{IfOk};
 ghost use Rattle.target_game.specs.State.{start};
 ghost use Rattle.target_game.specs.Wins.{Wins};
-ghost use Rattle.short_proofs.specs.Proved.{HasNamedWinner};
+ghost use Rattle.short_proofs.specs.Proved.{HasNamedWinner, HasWinner};
 
-use crate::proof::{Proved, prove};
+use crate::proof::{Proved, judged, prove};
 use crate::reading_record::record_of;
 use crate::shown::{Note, Shown};
 use crate::walk::is_shown;
@@ -55,7 +55,35 @@ pub fn find_reading(
 ) -> Result<Reading, AllocError>
     ensures { IfOk result (HasNamedWinner (start problem.now)) }
 {
-    match prove(alloc, problem, budget)? {
+    let proved = prove(alloc, problem, budget)?;
+    of_proved(alloc, problem, proved, most)
+}
+
+/// Writes the short claim of this certificate as `find_reading` writes the one that it finds, if the judge accepts its text.
+/// Otherwise nothing is known, after no steps. It fails only if memory is refused.
+pub fn reading_of(
+    alloc: Global,
+    problem: &Problem,
+    certificate: Certificate,
+    most: usize,
+) -> Result<Reading, AllocError>
+    ensures { IfOk result (HasNamedWinner (start problem.now)) }
+{
+    let proved = judged(alloc, problem, certificate, 0)?;
+    of_proved(alloc, problem, proved, most)
+}
+
+/// What is proved, as a record.
+fn of_proved(
+    alloc: Global,
+    problem: &Problem,
+    proved: Proved,
+    most: usize,
+) -> Result<Reading, AllocError>
+    requires { HasWinner (start problem.now) proved }
+    ensures { IfOk result (HasNamedWinner (start problem.now)) }
+{
+    match proved {
         Proved::Wins {
             winner,
             turn,

@@ -219,3 +219,17 @@ fn what_is_refused(rt: HostRuntime) {
         "refused: problem 3 no problem node\n",
     );
 }
+
+// White lives by A8 and B9, where nobody may play, so each of its turns is right. Nine points that touch nothing can be filled in
+// so many orders that the answer tree below each has over 1,000 turns: Black has 8, 6, 4 and 2 of them to choose from.
+#[test]
+fn large_trees_are_not_played_out(rt: HostRuntime) {
+    gives(
+        &rt,
+        rt.alloc(),
+        &["first_moves"],
+        "(;FF[4]GM[1]SZ[9]AW[aa];PL[W]TR[aa]SQ[cc][ec][gc][ce][ee][ge][cg][eg][gg])",
+        Status::Answered,
+        "(;FF[4]GM[1]SZ[9]AW[aa];PL[W]TR[aa]SQ[cc][ec][gc][ce][ee][ge][cg][eg][gg]C[solution several: 10 winning, 0 unknown](;W[cc]LB[ba:a]TE[1]C[right: White wins\nWhite lives: nobody may play at a. White may pass for ever.])(;W[ec]LB[ba:a]TE[1]C[right: White wins\nWhite lives: nobody may play at a. White may pass for ever.])(;W[gc]LB[ba:a]TE[1]C[right: White wins\nWhite lives: nobody may play at a. White may pass for ever.])(;W[ce]LB[ba:a]TE[1]C[right: White wins\nWhite lives: nobody may play at a. White may pass for ever.])(;W[ee]LB[ba:a]TE[1]C[right: White wins\nWhite lives: nobody may play at a. White may pass for ever.])(;W[ge]LB[ba:a]TE[1]C[right: White wins\nWhite lives: nobody may play at a. White may pass for ever.])(;W[cg]LB[ba:a]TE[1]C[right: White wins\nWhite lives: nobody may play at a. White may pass for ever.])(;W[eg]LB[ba:a]TE[1]C[right: White wins\nWhite lives: nobody may play at a. White may pass for ever.])(;W[gg]LB[ba:a]TE[1]C[right: White wins\nWhite lives: nobody may play at a. White may pass for ever.])(;W[]LB[ba:a]TE[1]C[right: White wins\nWhite lives: nobody may play at a. White may pass for ever.]))\n",
+    );
+}

@@ -338,3 +338,9 @@ def living(size, few=False):
         for last in [*due, "pass"]:
             text += [f"reply {last}", "alive"]
     return "\n".join([*text, "end", ""])
+
+
+def useless_moves(count):
+    """A record whose answer has 2 to the power of this many states: Black may play at so many points apart, in any order."""
+    points = [column + row for row in "dfhjl" for column in "acegikm"][:count]
+    return "(;FF[4]GM[1]SZ[13]AW[aa]PL[B]TR[aa]SQ" + "".join(f"[{point}]" for point in points) + ")\n"

@@ -6,18 +6,18 @@ ghost use Rattle.target_game.specs.Wins.{Wins};
 ghost use Rattle.short_proofs.specs.Proved.{HasWinner};
 
 use crate::first_turn::first_turn;
-use cert_check::{Why, check_short};
+use cert_check::{Why, check, check_short};
 use go_points::{Colour, Turn};
 use pass_alive::lives_at;
 use pn_search::{Budget, Cause, find_short};
-use proof_cert::{Certificate, Node, ReaderSource, Version, write_short};
+use proof_cert::{Certificate, HeldSource, Node, ReaderSource, Version, write_short};
 use std::alloc::{AllocError, Global};
 use target_game::Problem;
 
 /// What a search for a short claim found.
 #[derive(Drop)]
 pub enum Proved {
-    /// This side wins: the short claim of this certificate's text is accepted. `turn` is the winner's first turn in it, if the
+    /// This side wins: the short claim of this certificate is accepted. `turn` is the winner's first turn in it, if the
     /// winner moves first.
     Wins {
         winner: Colour,
@@ -61,7 +61,7 @@ fn living(alloc: Global, problem: &Problem) -> Certificate {
     }
 }
 
-/// What the judge says of the certificate's text.
+/// What the judge says of the certificate.
 pub(crate) fn judged(
     alloc: Global,
     problem: &Problem,
@@ -70,11 +70,7 @@ pub(crate) fn judged(
 ) -> Result<Proved, AllocError>
     ensures { IfOk result (HasWinner (start problem.now)) }
 {
-    let mut text = Vec::new(alloc);
-    if write_short(&certificate, &mut text).is_err() {
-        return Err(AllocError);
-    }
-    match winner_of(alloc, problem, text.as_slice()) {
+    match winner_of(alloc, problem, &certificate) {
         Ok(winner) => Ok(Proved::Wins {
             winner,
             turn: first_turn(&certificate),
@@ -92,12 +88,35 @@ pub(crate) fn judged(
     }
 }
 
-/// Who wins according to the short claim of this text, or why it is not accepted.
-fn winner_of(alloc: Global, problem: &Problem, text: &[u8]) -> Result<Colour, Why>
+/// Who wins according to the certificate, or why it is not accepted. A certificate in which no line says that the targets live is
+/// judged as it is held. Otherwise the first such line has no spelling there, and the text is judged.
+fn winner_of(alloc: Global, problem: &Problem, certificate: &Certificate) -> Result<Colour, Why>
     ensures { IfOk result (λ x. Wins x (start problem.now)) }
 {
+    let mut held = HeldSource::new(alloc, certificate);
+    match check(alloc, problem, &mut held) {
+        Ok(winner) => Ok(winner),
+        Err(reject) => match reject.why {
+            Why::Malformed => winner_of_text(alloc, problem, certificate),
+            why => Err(why),
+        },
+    }
+}
+
+/// Who wins according to the short claim of the certificate's text, or why it is not accepted.
+fn winner_of_text(
+    alloc: Global,
+    problem: &Problem,
+    certificate: &Certificate,
+) -> Result<Colour, Why>
+    ensures { IfOk result (λ x. Wins x (start problem.now)) }
+{
+    let mut text = Vec::new(alloc);
+    if write_short(certificate, &mut text).is_err() {
+        return Err(Why::Memory);
+    }
     let mut nothing = b"".as_slice();
-    let mut source = ReaderSource::of_short(problem.size(), text, &mut nothing);
+    let mut source = ReaderSource::of_short(problem.size(), text.as_slice(), &mut nothing);
     match check_short(alloc, problem, &mut source) {
         Ok(winner) => Ok(winner),
         Err(reject) => Err(reject.why),

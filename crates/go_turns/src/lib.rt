@@ -9,6 +9,7 @@ mod hash_seen;
 pub mod laws;
 mod list_seen;
 mod plain_board;
+mod questions;
 mod record;
 mod seen;
 

@@ -1,25 +1,22 @@
 //! Records of turns. A record keeps one board and one history; a step keeps only what it changed, and `undo` looks its colouring up in the history.
 
-ghost use Rattle.std.specs.Prelude.{◌≡◌, ◌<◌, ◌≤◌, ◌+◌, ◌*◌, ◌++◌, [], ◌∷◌, length, map, nat_lt, slice_index_or, slice_set, ◌↔◌, IsTrue, IsFalse, IfErr, IfOk, IfSome, OnOk, OnErr, None, is_some};
+ghost use Rattle.std.specs.Prelude.{◌≡◌, ◌<◌, ◌≤◌, ◌+◌, ◌*◌, ◌++◌, [], ◌∷◌, length, map, nat_lt, slice_index_or, IsFalse, IfErr, IfOk, IfSome, OnOk, OnErr, None, is_some};
 ghost use Rattle.std.specs.List.{All, list_all};
-ghost use Rattle.go_points.specs.Grid.{cell_at, side_of, IsColouring};
+ghost use Rattle.go_points.specs.Grid.{side_of};
 ghost use Rattle.go_points.specs.Place.{IsOn, number_of};
 ghost use Rattle.go_points.specs.Liberty.{first_without_liberty};
-ghost use Rattle.go_points.specs.Move.{after_move};
-ghost use Rattle.go_points.specs.declared.Cell.TheVariants.{Empty, Stone};
 ghost use Rattle.go_points.specs.Ply.{ply_of, pass as a_pass, move as a_move};
 ghost use Rattle.go_turns.specs.History.{place_in, repeats};
 ghost use Rattle.stone_key.specs.Key.{key_of};
 ghost use Rattle.go_turns.specs.Record.{colouring_of, numbered, assigned, play_of, setup_of, set_up, undo_of, opened, reopened, Did, DidIfLegal, DidWithoutMemory, Opens};
-ghost use Rattle.go_turns.specs.Private.Steps.{IsNotAdded, Joins};
+ghost use Rattle.go_turns.specs.Private.Steps.{CanStand, IsAt, IsNotAdded, Joins};
 
 use crate::board::Board;
 use crate::fault::TurnFault;
 use crate::seen::Seen;
-use go_points::{Cell, Colour, Colouring, MAX_POINTS, Point, Size, Turn};
+use go_points::{Cell, Colour, Colouring, Point, Turn};
 use std::alloc::{AllocError, Global};
 use std::marker::Model;
-use stone_key::stone_word;
 
 // What was there before a step: the place of the colouring, how many colourings had occurred, the passes in a row, and the colour
 // of the last play.
@@ -36,11 +33,11 @@ struct Step {
 /// project's own. A refused call leaves the record as it was.
 #[derive(Drop)]
 pub struct Record<B: Board, S: Seen> {
-    board: B,
-    seen: S,
-    place: usize,
-    passes: u64,
-    last_colour: Option<Colour>,
+    pub(crate) board: B,
+    pub(crate) seen: S,
+    pub(crate) place: usize,
+    pub(crate) passes: u64,
+    pub(crate) last_colour: Option<Colour>,
     steps: Vec<Step>,
 }
 
@@ -177,6 +174,17 @@ fn seen_alone<S: Seen>(alloc: Global, colouring: &Colouring, key: u64) -> Result
     let mut seen = S::new(alloc);
     seen.add_with(*colouring, key)?;
     Ok(seen)
+}
+
+// Lets the board hold the colouring at an earlier place. After a pass that is the present place, and the board is left alone.
+fn put_back<B: Board, S: Seen>(board: &mut B, seen: &S, present: usize, earlier: usize)
+    requires stands { CanStand (side_of (B.content board.old)) (S.content seen.now) earlier }
+    requires same { present ≡ earlier → IsAt (S.content seen.now) earlier (B.content board.old) }
+    ensures { IsAt (S.content seen.now) earlier (B.content board.new) }
+{
+    if present != earlier {
+        board.restore(seen.at(earlier));
+    }
 }
 
 impl<B: Board, S: Seen> Record<B, S> {
@@ -384,101 +392,10 @@ impl<B: Board, S: Seen> Record<B, S> {
         while self.seen.len() > step.occurred {
             self.seen.take_last();
         }
-        self.board.restore(self.seen.at(step.place));
+        put_back(&mut self.board, &self.seen, self.place, step.place);
         self.place = step.place;
         self.passes = step.passes;
         self.last_colour = step.last_colour;
         Ok(())
-    }
-
-    /// The size of the board.
-    pub fn size(&self) -> Size
-        ensures { result ≡ self.now.size }
-    {
-        self.board.size()
-    }
-
-    /// The board, which holds the present colouring.
-    pub fn board(&self) -> &B
-        ensures value { B.content result.now ≡ colouring_of self.now.present }
-        ensures size { side_of (B.content result.now) ≡ self.now.size }
-    {
-        &self.board
-    }
-
-    /// What the point holds.
-    pub fn cell(&self, point: Point) -> Cell
-        requires { IsOn self.now.size point }
-        ensures { result ≡ cell_at (colouring_of self.now.present) (number_of self.now.size point) }
-    {
-        self.board.cell(point)
-    }
-
-    /// Whether a move at the empty point keeps its stone and changes no other point, whether or not it repeats.
-    pub fn quiet(&self, colour: Colour, point: Point) -> bool
-        requires on_board { IsOn self.now.size point }
-        requires empty { cell_at (colouring_of self.now.present) (number_of self.now.size point)
-            ≡ Empty }
-        ensures { IsTrue result
-            ↔ (after_move self.now.size (colouring_of self.now.present) colour
-            (number_of self.now.size point)
-            ≡ slice_set (colouring_of self.now.present) (number_of self.now.size point)
-            (Stone colour)) }
-    {
-        self.board.quiet(colour, point)
-    }
-
-    /// The present colouring, in which every stone reaches empty.
-    pub fn colouring(&self) -> Colouring
-        ensures value { result ≡ colouring_of self.now.present }
-        ensures size { side_of result ≡ self.now.size }
-        ensures colouring { IsColouring self.now.size result }
-        ensures liberties { first_without_liberty self.now.size result ≡ None }
-        ensures within { self.now.present.place < length self.now.present.history }
-    {
-        self.board.colouring()
-    }
-
-    /// The key of the present colouring.
-    pub fn key(&self) -> u64
-        ensures { result ≡ key_of (colouring_of self.now.present) }
-    {
-        self.board.key()
-    }
-
-    /// The key of the colouring with a stone put down at the empty point: that of the next colouring, if the move is quiet.
-    pub fn key_with_stone(&self, colour: Colour, point: Point) -> u64
-        requires on_board { IsOn self.now.size point }
-        requires empty { cell_at (colouring_of self.now.present) (number_of self.now.size point)
-            ≡ Empty }
-        ensures { result
-            ≡ key_of (slice_set (colouring_of self.now.present) (number_of self.now.size point)
-            (Stone colour)) }
-    {
-        let size = self.seen.at(self.place).size();
-        prove!(size.area() <= MAX_POINTS);
-        self.board.key() ^ stone_word(point.number(size), colour)
-    }
-
-    /// The colourings that have occurred.
-    pub fn seen(&self) -> &S
-        ensures { S.content result.now ≡ self.now.present.history }
-    {
-        &self.seen
-    }
-
-    /// How many of the last turns were passes.
-    pub fn passes(&self) -> u64
-        ensures value { result ≡ self.now.present.passes }
-        ensures few { result ≤ length self.now.earlier + 2 }
-    {
-        self.passes
-    }
-
-    /// The colour of the last play, if there was one.
-    pub fn last_colour(&self) -> Option<Colour>
-        ensures { result ≡ self.now.present.last_colour }
-    {
-        self.last_colour
     }
 }

@@ -3,7 +3,7 @@ use Rattle.std.proofs.Common.{◌≡◌, ℕ, ◌*◌, List, map, nat_lt, true, 
 use Rattle.std.specs.List.{list_all}
 use Rattle.go_points.specs.declared.Cell.{Cell}
 use Rattle.go_points.specs.Grid.{side_of}
-use Rattle.go_turns.specs.Record.{GameRecord, colouring_of, numbered, assigned, setup_of, set_up, Did}
+use Rattle.go_turns.specs.Record.{GameRecord, colouring_of, numbered, assigned, Did}
 use Rattle.go_turns.proofs.Setups.{setup_is}
 use Rattle.go_turns.proofs.record.Record.setup.Goals as goal
 

@@ -1,12 +1,15 @@
 -- The first bit of some words from a bit on, and the first place of a set from a place on.
-use Rattle.std.proofs.Common.{◌≡◌, ℕ, ◌+◌, ◌-◌, ◌*◌, ◌/◌, ◌%◌, ◌^◌, ◌<◌, ◌≤◌, true, false, nat_eq, List, get_or, Some, None, sym, ◌∙◌, ap, inl, inr, arith}
+use Rattle.std.proofs.Common.{◌≡◌, ℕ, ◌+◌, ◌-◌, ◌*◌, ◌/◌, ◌%◌, ◌^◌, ◌<◌, ◌≤◌, Bool, true, false, ◌||◌, nat_eq, List, [], ◌∷◌, get_or, Option, Some, None, refl, sym, ◌∙◌, ap, subst, inl, inr, arith}
+use Rattle.std.specs.List.{All}
 use Rattle.std.specs.Int.{bit_at, w64, trailing_zeros}
 use Rattle.std.proofs.lemmas.Bool.{cases_lt, true≢false}
 use Rattle.std.proofs.lemmas.Nat.{div-add-mod', shr-shr, shr_le, div-mul-add, mod-mul-add}
+use Rattle.std.proofs.lemmas.List.Elements.{All-head, All-tail}
 use Rattle.std.proofs.lemmas.Nat.Bits.{bit_at-zero, bit_at-trailing_zeros, bit_at_above}
 use Rattle.go_points.specs.declared.TheConstants.{MAX_SIZE}
 use Rattle.go_points.specs.Place.{Place, IsOn, place_of, number_of}
-use Rattle.go_points.specs.Points.{has_bit, holds_place, is_before, places_that, IsFirstFrom}
+use Rattle.go_points.specs.Equal.{same_place_decides}
+use Rattle.go_points.specs.Points.{has_bit, holds_place, is_before, places_that, same_place, IsFirstFrom, IsFirstAfter}
 use Rattle.go_points.specs.Private.Words.{IsWords}
 use Rattle.go_points.specs.Private.Inverses.{bit_there, holds_that}
 use Rattle.go_points.proofs.PlaceSets.{before, not_before}
@@ -135,3 +138,48 @@ module _ (words : List ℕ) (count a : ℕ) (is : IsWords words count (MAX_SIZE 
           | inr past ↦ absurd (true≢false (sym set ∙ is.rest i (omega (arith, past, whole))))
         ]
       ]
+
+-- The first place after one is the first from the next number on.
+held_on : (ps : List Place) (r : Place) → All (IsOn MAX_SIZE) ps → holds_place ps r ≡ true → IsOn MAX_SIZE r
+held_on [] r all held = absurd (true≢false (sym held))
+held_on (q ∷ qs) r all held = go (same_place r q) refl (λ h. held_on qs r (All-tail (IsOn MAX_SIZE) q qs all) h) held
+  where
+    go : (b : Bool) → same_place r q ≡ b → (holds_place qs r ≡ true → IsOn MAX_SIZE r) → (b || holds_place qs r) ≡ true → IsOn MAX_SIZE r
+    go true e later h = subst (IsOn MAX_SIZE) (sym ((same_place_decides r q).0 e)) (All-head (IsOn MAX_SIZE) q qs all)
+    go false e later h = later h
+
+-- a place is before the next number exactly if this number is not before it
+not_after : (k : ℕ) (q : Place) → IsOn MAX_SIZE q → is_before q (place_of MAX_SIZE (k + 1)) ≡ true → is_before (place_of MAX_SIZE k) q ≡ false
+not_after k q on early =
+    let i : ℕ = number_of MAX_SIZE q in
+    let back : place_of MAX_SIZE i ≡ q = place_back MAX_SIZE q on in
+    elim (cases_lt k i) [
+      | inl later ↦ absurd (true≢false (sym early ∙ sym (ap (λ p. is_before p (place_of MAX_SIZE (k + 1))) back) ∙ not_before MAX_SIZE (k + 1) i (omega arith) (omega (arith, later))))
+      | inr low ↦ sym (ap (is_before (place_of MAX_SIZE k)) back) ∙ not_before MAX_SIZE i k (omega arith) low
+    ]
+
+not_early : (k : ℕ) (q : Place) → IsOn MAX_SIZE q → is_before (place_of MAX_SIZE k) q ≡ true → is_before q (place_of MAX_SIZE (k + 1)) ≡ false
+not_early k q on later =
+    let i : ℕ = number_of MAX_SIZE q in
+    let back : place_of MAX_SIZE i ≡ q = place_back MAX_SIZE q on in
+    elim (cases_lt k i) [
+      | inl high ↦ sym (ap (λ p. is_before p (place_of MAX_SIZE (k + 1))) back) ∙ not_before MAX_SIZE (k + 1) i (omega arith) (omega (arith, high))
+      | inr low ↦ absurd (true≢false (sym later ∙ sym (ap (is_before (place_of MAX_SIZE k)) back) ∙ not_before MAX_SIZE i k (omega arith) low))
+    ]
+
+is_after : (k : ℕ) (q : Place) → IsOn MAX_SIZE q → is_before q (place_of MAX_SIZE (k + 1)) ≡ false → is_before (place_of MAX_SIZE k) q ≡ true
+is_after k q on late =
+    let i : ℕ = number_of MAX_SIZE q in
+    let back : place_of MAX_SIZE i ≡ q = place_back MAX_SIZE q on in
+    elim (cases_lt k i) [
+      | inl high ↦ sym (ap (is_before (place_of MAX_SIZE k)) back) ∙ before MAX_SIZE k i (omega arith) high
+      | inr low ↦ absurd (true≢false (sym (before MAX_SIZE i (k + 1) (omega arith) (omega (arith, low))) ∙ ap (λ p. is_before p (place_of MAX_SIZE (k + 1))) back ∙ late))
+    ]
+
+pub first_place_after : (ps : List Place) (k : ℕ) (o : Option Place) → All (IsOn MAX_SIZE) ps → IsFirstFrom ps (place_of MAX_SIZE (k + 1)) o → IsFirstAfter ps (place_of MAX_SIZE k) o
+first_place_after ps k None all first = λ q on there. not_after k q on (first q on there)
+first_place_after ps k (Some r) all first = (
+  first.0,
+  is_after k r (held_on ps r all first.0) first.1,
+  λ q on there later. first.2 q on there (not_early k q on later),
+)

@@ -152,11 +152,11 @@ at_repeat s j again = go (nat_lt j (s.game.size * s.game.size) && holds_point s.
     go true = ap not again
     go false = refl
 
-place_back : (n : ℕ) (q : Place) → IsOn n q → place_of n (number_of n q) ≡ q
+pub place_back : (n : ℕ) (q : Place) → IsOn n q → place_of n (number_of n q) ≡ q
 place_back n q on = λ i. record { row = div-mul-add q.row n q.column on.column_within i; column = mod-mul-add q.row n q.column on.column_within i }
 
 -- the places of the region, in the order of their numbers on the board
-on_held : (n : ℕ) (ps : List Place) (r : Place) → All (IsOn n) ps → holds_place ps r ≡ true → IsOn n r
+pub on_held : (n : ℕ) (ps : List Place) (r : Place) → All (IsOn n) ps → holds_place ps r ≡ true → IsOn n r
 on_held n [] r all held = absurd (true≢false (sym held))
 on_held n (q ∷ qs) r all held = go (same_place r q) refl (λ h. on_held n qs r (All-tail (IsOn n) q qs all) h) held
   where

@@ -1,14 +1,14 @@
 //! What a move makes and whether it is legal, without making it. Most moves change no other point, and no colouring with the new
 //! key has occurred: those are known to be legal by the key alone, and no board is copied.
 
-ghost use Rattle.std.specs.Prelude.{◌≡◌, true, IfSome};
+ghost use Rattle.std.specs.Prelude.{◌≡◌, ◌&&◌, true, IfSome};
 ghost use Rattle.go_points.specs.Grid.{cell_at, same_cell, side_of};
 ghost use Rattle.go_points.specs.Move.{after_move};
 ghost use Rattle.go_points.specs.Place.{IsOn, number_of};
 ghost use Rattle.go_points.specs.Ply.{ply_of, move};
 ghost use Rattle.go_points.specs.declared.Cell.TheVariants.{Empty};
 ghost use Rattle.go_turns.specs.History.{has_occurred};
-ghost use Rattle.target_game.specs.Legal.{legal};
+ghost use Rattle.target_game.specs.Legal.{legal, holds_point};
 ghost use Rattle.target_game.specs.Private.NewKey.{IsNewKey};
 
 use crate::state::State;
@@ -104,6 +104,18 @@ impl<B: Board, S: Seen> State<B, S> {
         if !self.is_open(point) {
             return false;
         }
+        self.may_fill(point)
+    }
+
+    /// Whether the mover may move at an empty point of the region.
+    pub(crate) fn may_fill(&self, point: Point) -> bool
+        requires on_board { IsOn self.now.state.game.size point }
+        requires free { (holds_point self.now.state.game.region
+            (number_of self.now.state.game.size point) && same_cell
+            (cell_at self.now.state.colouring (number_of self.now.state.game.size point)) Empty)
+            ≡ true }
+        ensures { result ≡ legal self.now.state (move (number_of self.now.state.game.size point)) }
+    {
         if let Some(_key) = self.new_key(point) {
             return true;
         }

@@ -1,6 +1,6 @@
 //! States of the target game, and the play from them.
 
-ghost use Rattle.std.specs.Prelude.{◌≡◌, ◌⊎◌, ◌≤◌, ◌<◌, ◌&&◌, true, false, [], ◌∷◌, IsTrue, IsFalse, IfOk, IfErr, IfSome, IfNone, OnOk, OnErr, None, ◌*◌, length};
+ghost use Rattle.std.specs.Prelude.{◌≡◌, ◌⊎◌, ◌≤◌, ◌<◌, ◌&&◌, true, false, [], ◌∷◌, IsTrue, IsFalse, IfOk, IfErr, OnOk, OnErr, None, ◌*◌, length};
 ghost use Rattle.std.specs.List.{All};
 ghost use Rattle.go_points.specs.Grid.{cell_at, same_cell, side_of};
 ghost use Rattle.go_points.specs.Liberty.{first_without_liberty};
@@ -11,7 +11,7 @@ ghost use Rattle.go_turns.specs.History.{place_in, repeats};
 ghost use Rattle.stone_key.specs.Key.{key_of};
 ghost use Rattle.target_game.specs.State.{Game, GameState, GameProblem, Line, start, state_alone, state_with};
 ghost use Rattle.target_game.specs.Legal.{legal, holds_point};
-ghost use Rattle.target_game.specs.Left.{IsNextOpen, NoneLegal, is_repeat, line_if};
+ghost use Rattle.target_game.specs.Left.{is_repeat, line_if};
 ghost use Rattle.target_game.specs.Next.{next};
 ghost use Rattle.target_game.specs.Over.{over, targets_stand};
 ghost use Rattle.target_game.specs.Kept.{at_fault, IsAtFault};
@@ -42,7 +42,7 @@ pub struct State<B: Board, S: Seen> {
     pub(crate) mover: Colour,
     targets: PointSet,
     defender: Colour,
-    region: PointSet,
+    pub(crate) region: PointSet,
 }
 
 impl<B: Board, S: Seen> Model for State<B, S> {
@@ -245,26 +245,6 @@ impl<B: Board, S: Seen> State<B, S> {
             Empty }
     {
         self.region.has(point) && self.played.cell(point).is_empty()
-    }
-
-    /// The first empty point of the region whose number is not below this one.
-    pub fn next_open(&self, from: usize) -> Option<Point>
-        ensures some { IfSome result (λ p. IsNextOpen self.now.state from p) }
-        ensures none { IfNone result
-            (NoneLegal self.now.state from (self.now.state.game.size * self.now.state.game.size)) }
-    {
-        let size = self.size();
-        let mut number = from;
-        while number < size.area() {
-            let Some(point) = self.region.first_from(size.point_at(number)) else {
-                return None;
-            };
-            if self.played.cell(point).is_empty() {
-                return Some(point);
-            }
-            number = point.number(size) + 1;
-        }
-        None
     }
 
     /// Who has won if this colouring is on the board after a move.

@@ -44,16 +44,12 @@ impl<B: Board, S: Seen> State<B, S> {
         ensures none { IfNone result
             (NoneLegal self.now.state from (self.now.state.game.size * self.now.state.game.size)) }
     {
-        let size = self.size();
-        let mut number = from;
-        while number < size.area() {
-            let Some(point) = self.next_open(number) else {
-                return None;
-            };
+        let mut found = self.next_open(from);
+        while let Some(point) = found {
             if let Some(child) = self.move_child(point) {
                 return Some((point, child));
             }
-            number = point.number(size) + 1;
+            found = self.open_after(point);
         }
         None
     }
@@ -64,16 +60,12 @@ impl<B: Board, S: Seen> State<B, S> {
         ensures none { IfNone result
             (NoneLegal self.now.state from (self.now.state.game.size * self.now.state.game.size)) }
     {
-        let size = self.size();
-        let mut number = from;
-        while number < size.area() {
-            let Some(point) = self.next_open(number) else {
-                return None;
-            };
-            if self.may_move(point) {
+        let mut found = self.next_open(from);
+        while let Some(point) = found {
+            if self.may_fill(point) {
                 return Some(point);
             }
-            number = point.number(size) + 1;
+            found = self.open_after(point);
         }
         None
     }
@@ -155,16 +147,12 @@ impl<B: Board, S: Seen> State<B, S> {
             (option_map (λ p. move (number_of self.old.state.game.size p)) o)) }
         ensures err { OnErr result (self.new ≡ self.old) }
     {
-        let size = self.size();
-        let mut number = from;
-        while number < size.area() {
-            let Some(point) = self.next_open(number) else {
-                return Ok(None);
-            };
+        let mut found = self.next_open(from);
+        while let Some(point) = found {
             if self.try_move(point)? {
                 return Ok(Some(point));
             }
-            number = point.number(size) + 1;
+            found = self.open_after(point);
         }
         Ok(None)
     }

@@ -1,9 +1,8 @@
-use Rattle.std.proofs.Common.{◌≤◌, ◌-◌, ◌*◌}
-use Rattle.target_game.specs.Left.{NoneLegal}
+use Rattle.target_game.proofs.OpenPoints.{IsFound, points_left}
 use Rattle.target_game.proofs.state.State.next_legal.Given as goal
 
-abbrev pub invariant-loop-number : goal.invariant-loop-number
-invariant-loop-number g l = (l.initial.number ≤ l.number) × NoneLegal l.self.state l.initial.number l.number
+abbrev pub invariant-loop-found : goal.invariant-loop-found
+invariant-loop-found g l = IsFound l.self.state l.from l.found
 
-abbrev pub decreases-loop-number : goal.decreases-loop-number
-decreases-loop-number g l = l.self.state.game.size * l.self.state.game.size - l.number
+abbrev pub decreases-loop-found : goal.decreases-loop-found
+decreases-loop-found g l = points_left l.self.state.game.size l.found

@@ -1,11 +1,11 @@
-use Rattle.std.proofs.Common.{◌≡◌, ◌+◌, ℕ, true, false, map, refl, sym, ap, ◌∙◌, subst, arith}
+use Rattle.std.proofs.Common.{◌≡◌, ℕ, true, false, map, refl, sym, ap, ◌∙◌, subst, arith}
 use Rattle.std.specs.List.{All}
 use Rattle.go_points.specs.declared.Cell.TheVariants.{Empty}
 use Rattle.go_points.specs.Grid.{same_cell, cell_at}
 use Rattle.go_points.specs.Place.{IsOn, number_of}
 use Rattle.target_game.specs.State.{Line}
-use Rattle.target_game.specs.Left.{NoneLegal}
-use Rattle.target_game.proofs.Due.{next_inside, next_outside, none_more, none_yet, at_stone}
+use Rattle.target_game.proofs.Due.{next_inside, next_outside, none_yet}
+use Rattle.target_game.proofs.OpenPoints.{past_stone}
 use Rattle.target_game.proofs.state.State.next_open.Goals as goal
 
 pub returns-in_default-clause-none : goal.returns-in_default-clause-none
@@ -14,7 +14,7 @@ returns-in_default-clause-none g c =
     let ps = c.self.inside.region in
     let is : s.game.region ≡ map (number_of s.game.size) ps = subst (λ (v : Line). v.state.game.region ≡ map (number_of v.state.game.size) ps) c.self.view_is refl in
     let all : All (IsOn s.game.size) ps = subst (λ (v : Line). All (IsOn v.state.game.size) ps) c.self.view_is c.self.invariant.1 in
-    next_outside s ps c.args.from c.loop-number.number c.size-size.result c.point_at.result c.first_from.result is all c.area.ensures.least c.area.ensures.most c.size-size.ensures c.point_at.ensures.place c.loop-number.invariant.1 c.first_from.ensures c.in_default.is
+    next_outside s ps c.args.from c.args.from c.size-size.result c.point_at.result c.first_from.result is all c.area.ensures.least c.area.ensures.most c.size-size.ensures c.point_at.ensures.place (none_yet s c.args.from) c.first_from.ensures c.in_default.is
 
 pub cell-requires : goal.cell-requires
 cell-requires g c =
@@ -22,17 +22,17 @@ cell-requires g c =
     let ps = c.self.inside.region in
     let is : s.game.region ≡ map (number_of s.game.size) ps = subst (λ (v : Line). v.state.game.region ≡ map (number_of v.state.game.size) ps) c.self.view_is refl in
     let all : All (IsOn s.game.size) ps = subst (λ (v : Line). All (IsOn v.state.game.size) ps) c.self.view_is c.self.invariant.1 in
-    let found = next_inside s ps c.args.from c.loop-number.number c.size-size.result c.point_at.result c.in-Some.point c.first_from.result is all c.area.ensures.least c.area.ensures.most c.size-size.ensures c.point_at.ensures.place c.loop-number.invariant.0 c.loop-number.invariant.1 c.first_from.ensures c.in-Some.is in
-    subst (λ (v : Line). IsOn v.state.game.size c.in-Some.point) (sym c.self.view_is) found.on_board
+    let found = next_inside s ps c.args.from c.args.from c.size-size.result c.point_at.result c.in-Some.first c.first_from.result is all c.area.ensures.least c.area.ensures.most c.size-size.ensures c.point_at.ensures.place (omega arith) (none_yet s c.args.from) c.first_from.ensures c.in-Some.is in
+    subst (λ (v : Line). IsOn v.state.game.size c.in-Some.first) (sym c.self.view_is) found.on_board
 
 pub returns-then-is_empty-clause-some : goal.returns-then-is_empty-clause-some
 returns-then-is_empty-clause-some g c =
     let s = c.args.self.now.state in
-    let p = c.in-Some.point in
+    let p = c.in-Some.first in
     let ps = c.self.inside.region in
     let is : s.game.region ≡ map (number_of s.game.size) ps = subst (λ (v : Line). v.state.game.region ≡ map (number_of v.state.game.size) ps) c.self.view_is refl in
     let all : All (IsOn s.game.size) ps = subst (λ (v : Line). All (IsOn v.state.game.size) ps) c.self.view_is c.self.invariant.1 in
-    let found = next_inside s ps c.args.from c.loop-number.number c.size-size.result c.point_at.result p c.first_from.result is all c.area.ensures.least c.area.ensures.most c.size-size.ensures c.point_at.ensures.place c.loop-number.invariant.0 c.loop-number.invariant.1 c.first_from.ensures c.in-Some.is in
+    let found = next_inside s ps c.args.from c.args.from c.size-size.result c.point_at.result p c.first_from.result is all c.area.ensures.least c.area.ensures.most c.size-size.ensures c.point_at.ensures.place (omega arith) (none_yet s c.args.from) c.first_from.ensures c.in-Some.is in
     record {
       on_board = found.on_board;
       later = found.later;
@@ -41,23 +41,35 @@ returns-then-is_empty-clause-some g c =
       none = found.none;
     }
 
-pub number-number-requires : goal.number-number-requires
-number-number-requires g c =
+pub open_after-requires : goal.open_after-requires
+open_after-requires g c =
     let s = c.args.self.now.state in
     let ps = c.self.inside.region in
     let is : s.game.region ≡ map (number_of s.game.size) ps = subst (λ (v : Line). v.state.game.region ≡ map (number_of v.state.game.size) ps) c.self.view_is refl in
     let all : All (IsOn s.game.size) ps = subst (λ (v : Line). All (IsOn v.state.game.size) ps) c.self.view_is c.self.invariant.1 in
-    let found = next_inside s ps c.args.from c.loop-number.number c.size-size.result c.point_at.result c.in-Some.point c.first_from.result is all c.area.ensures.least c.area.ensures.most c.size-size.ensures c.point_at.ensures.place c.loop-number.invariant.0 c.loop-number.invariant.1 c.first_from.ensures c.in-Some.is in
-    subst (λ n. IsOn n c.in-Some.point) (sym c.size-size.ensures) found.on_board
+    let found = next_inside s ps c.args.from c.args.from c.size-size.result c.point_at.result c.in-Some.first c.first_from.result is all c.area.ensures.least c.area.ensures.most c.size-size.ensures c.point_at.ensures.place (omega arith) (none_yet s c.args.from) c.first_from.ensures c.in-Some.is in
+    found.on_board
 
-pub loop-number-preserved : goal.loop-number-preserved
-loop-number-preserved g c =
+pub returns-clause-some : goal.returns-clause-some
+returns-clause-some g c =
     let s = c.args.self.now.state in
-    let p = c.in-Some.point in
+    let p = c.in-Some.first in
+    let k : ℕ = number_of s.game.size p in
     let ps = c.self.inside.region in
     let is : s.game.region ≡ map (number_of s.game.size) ps = subst (λ (v : Line). v.state.game.region ≡ map (number_of v.state.game.size) ps) c.self.view_is refl in
     let all : All (IsOn s.game.size) ps = subst (λ (v : Line). All (IsOn v.state.game.size) ps) c.self.view_is c.self.invariant.1 in
-    let found = next_inside s ps c.args.from c.loop-number.number c.size-size.result c.point_at.result p c.first_from.result is all c.area.ensures.least c.area.ensures.most c.size-size.ensures c.point_at.ensures.place c.loop-number.invariant.0 c.loop-number.invariant.1 c.first_from.ensures c.in-Some.is in
-    let stone : same_cell (cell_at s.colouring (number_of s.game.size p)) Empty ≡ false = subst (λ (v : Line). same_cell (cell_at v.state.colouring (number_of v.state.game.size p)) Empty ≡ false) c.self.view_is (sym (ap (λ a. same_cell a Empty) c.cell.ensures) ∙ sym c.is_empty.ensures ∙ c.if-is_empty.false) in
-    let number : c.number-number.result ≡ number_of s.game.size p = c.number-number.ensures.value ∙ ap (λ (m : ℕ). number_of m p) c.size-size.ensures in
-    (omega (arith, found.later, number), subst (λ k. NoneLegal s c.args.from (k + 1)) (sym number) (none_more s c.args.from (number_of s.game.size p) (number_of s.game.size p) found.none (none_yet s (number_of s.game.size p)) (at_stone s (number_of s.game.size p) stone)))
+    let inside = next_inside s ps c.args.from c.args.from c.size-size.result c.point_at.result p c.first_from.result is all c.area.ensures.least c.area.ensures.most c.size-size.ensures c.point_at.ensures.place (omega arith) (none_yet s c.args.from) c.first_from.ensures c.in-Some.is in
+    let stone : same_cell (cell_at s.colouring k) Empty ≡ false = subst (λ (v : Line). same_cell (cell_at v.state.colouring (number_of v.state.game.size p)) Empty ≡ false) c.self.view_is (sym (ap (λ a. same_cell a Empty) c.cell.ensures) ∙ sym c.is_empty.ensures ∙ c.if-is_empty.false) in
+    (past_stone s c.args.from p c.open_after.result inside stone c.open_after.ensures.some c.open_after.ensures.none).0
+
+pub returns-clause-none : goal.returns-clause-none
+returns-clause-none g c =
+    let s = c.args.self.now.state in
+    let p = c.in-Some.first in
+    let k : ℕ = number_of s.game.size p in
+    let ps = c.self.inside.region in
+    let is : s.game.region ≡ map (number_of s.game.size) ps = subst (λ (v : Line). v.state.game.region ≡ map (number_of v.state.game.size) ps) c.self.view_is refl in
+    let all : All (IsOn s.game.size) ps = subst (λ (v : Line). All (IsOn v.state.game.size) ps) c.self.view_is c.self.invariant.1 in
+    let inside = next_inside s ps c.args.from c.args.from c.size-size.result c.point_at.result p c.first_from.result is all c.area.ensures.least c.area.ensures.most c.size-size.ensures c.point_at.ensures.place (omega arith) (none_yet s c.args.from) c.first_from.ensures c.in-Some.is in
+    let stone : same_cell (cell_at s.colouring k) Empty ≡ false = subst (λ (v : Line). same_cell (cell_at v.state.colouring (number_of v.state.game.size p)) Empty ≡ false) c.self.view_is (sym (ap (λ a. same_cell a Empty) c.cell.ensures) ∙ sym c.is_empty.ensures ∙ c.if-is_empty.false) in
+    (past_stone s c.args.from p c.open_after.result inside stone c.open_after.ensures.some c.open_after.ensures.none).1

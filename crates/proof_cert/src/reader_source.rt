@@ -172,6 +172,8 @@ impl<'a, R: Read + Drop> ReaderSource<'a, R> {
     }
 
     /// The next line, whichever it is.
+    #[cold]
+    #[inline(never)]
     fn any_line(&mut self) -> Result<Option<Line>, SourceFault>
         requires fresh { self.old.fault ≡ None }
         requires few { self.old.number < 2 ^ 64 - 2 }
@@ -214,13 +216,19 @@ impl<'a, R: Read + Drop> NodeSource for ReaderSource<'a, R> {
         if self.number >= TOO_MANY {
             return self.fail(SourceFault::Read);
         }
-        match self.bytes.body_line(self.spelling, self.size) {
-            Some(line) => {
-                self.number += 1;
-                self.is_alive = matches!(line, BodyLine::Use(0));
-                Ok(Some(line.line()))
-            }
-            None => self.any_line(),
+        let Some(line) = self.bytes.body_line(self.spelling, self.size) else {
+            return self.any_line();
+        };
+        self.number += 1;
+        self.is_alive = matches!(line, BodyLine::Use(0));
+        // Each arm returns by itself: what the arms of a `match` give is copied once more.
+        match line {
+            BodyLine::Won => return Ok(Some(Line::Won)),
+            BodyLine::Use(lemma) => return Ok(Some(Line::Use(lemma))),
+            BodyLine::Play(turn) => return Ok(Some(Line::Play(turn))),
+            BodyLine::All(replies) => return Ok(Some(Line::All(replies))),
+            BodyLine::Reply(turn) => return Ok(Some(Line::Reply(turn))),
+            BodyLine::End => return Ok(Some(Line::End)),
         }
     }
 

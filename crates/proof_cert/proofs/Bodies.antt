@@ -4,7 +4,7 @@ use Rattle.std.specs.Prelude.{option_map, option_and_then}
 use Rattle.proof_cert.specs.declared.spelling.Spelling.{Spelling}
 use Rattle.proof_cert.specs.declared.spelling.Spelling.TheVariants.{Ordinary, Short}
 use Rattle.proof_cert.specs.Lines.{Line, won_line, use_line, play_line, all_line, reply_line, end_line}
-use Rattle.proof_cert.specs.Text.{after_word, at_end, behind, header_rest, line_by, line_of, no_header, number_of, or_else, short_line_of, vertex_of}
+use Rattle.proof_cert.specs.Text.{after_word, at_end, behind, header_rest, line_by, line_of, no_header, number_of, or_else, vertex_of}
 use Rattle.proof_cert.specs.Private.Body.{body_line_of, other_line_of}
 use Rattle.proof_cert.proofs.Chains.{or_none}
 use Rattle.proof_cert.proofs.Texts.{behind_is, end_is}

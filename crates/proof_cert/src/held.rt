@@ -196,7 +196,6 @@ impl<'a> HeldSource<'a> {
         Err(fault)
     }
     /// The next line, whichever it is.
-    #[cold]
     #[inline(never)]
     fn any_line(&mut self) -> Result<Option<Line>, SourceFault>
         requires fresh { self.old.fault ≡ None }

@@ -208,10 +208,10 @@ impl Line {
     pub fn from_text(size: Size, text: &[u8]) -> Option<Line>
         ensures { option_map (line_value size) result ≡ line_of size text.now }
     {
-        match read_body_line(size, text) {
-            Some(line) => Some(line.line()),
-            None => read_other_line(size, text),
+        if let Some(line) = read_body_line(size, text) {
+            return Some(line.line());
         }
+        read_other_line(size, text)
     }
 
     /// The line that these bytes spell in a short claim. `None` if they spell none there.

@@ -172,7 +172,6 @@ impl<'a, R: Read + Drop> ReaderSource<'a, R> {
     }
 
     /// The next line, whichever it is.
-    #[cold]
     #[inline(never)]
     fn any_line(&mut self) -> Result<Option<Line>, SourceFault>
         requires fresh { self.old.fault ≡ None }

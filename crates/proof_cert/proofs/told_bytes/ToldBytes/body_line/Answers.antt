@@ -1,4 +1,4 @@
-use Rattle.std.proofs.Common.{◌≡◌, ◌+◌, ◌-◌, ◌++◌, ◌∙◌, sym, take, drop, subst, arith, Some, Ok, refl, rules}
+use Rattle.std.proofs.Common.{◌≡◌, ◌+◌, ◌-◌, ◌++◌, ◌∙◌, sym, take, drop, subst, arith, Some, Ok, refl}
 use Rattle.proof_cert.specs.Private.Body.{body_value}
 use Rattle.proof_cert.specs.Streamed.{Unread, IsRead}
 use Rattle.proof_cert.specs.Text.{line_by}

@@ -1,5 +1,5 @@
 //! The lines of a body. They have no colouring, and nearly all lines of a claim are such, so they are read and told apart as values
-//! of a few bytes.
+//! of a few bytes. The calls that read them are inlined, since a result goes through memory at a call.
 
 ghost use Rattle.std.specs.Prelude.{◌≡◌, ℕ, Some, IfSome, option_map};
 ghost use Rattle.proof_cert.specs.Private.Body.{body_value, body_line_of};

@@ -163,10 +163,11 @@ impl<'a, R: Read + Drop> ReaderSource<'a, R> {
     fn fail(&mut self, fault: SourceFault) -> Result<Option<Line>, SourceFault>
         requires { self.old.number < 2 ^ 64 - 1 }
         ensures answer { result ≡ Err fault }
-        ensures left { self.new
+        ensures source { self.new
             ≡ record self.old { number = self.old.number + 1; fault = Some fault } }
     {
         self.number += 1;
+        self.is_alive = false;
         self.fault = Some(fault);
         Err(fault)
     }
@@ -185,7 +186,10 @@ impl<'a, R: Read + Drop> ReaderSource<'a, R> {
                 self.is_alive = matches!(line, Line::Use(0));
                 Ok(Some(line))
             }
-            Ok(None) => Ok(None),
+            Ok(None) => {
+                self.is_alive = false;
+                Ok(None)
+            }
             Err(fault) => self.fail(fault),
         }
     }

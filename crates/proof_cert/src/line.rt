@@ -3,9 +3,11 @@
 ghost use Rattle.std.specs.Prelude.{◌≡◌, ◌<◌, ℕ, true, codes, option_map, is_some, nat_eq, position};
 ghost use Rattle.go_points.specs.Ply.{ply_of};
 ghost use Rattle.proof_cert.specs.Text.{after_word, at_end, at_space, behind, number_of, colour_of, vertex_of, header_rest, header_tail, lemma_tail, no_header, or_else, line_by, line_of, short_line_of};
-ghost use Rattle.proof_cert.specs.Lines.{main_line, won_line, use_line, end_line};
+ghost use Rattle.proof_cert.specs.Lines.{use_line};
+ghost use Rattle.proof_cert.specs.Private.Body.{other_line_of};
 ghost use Rattle.proof_cert.specs.Stage.{line_value, version_number};
 
+use crate::body_line::read_body_line;
 use crate::cells::read_cells;
 use crate::spelling::Spelling;
 use crate::version::Version;
@@ -36,14 +38,16 @@ pub enum Line {
 }
 
 /// What follows the word at the front of the text. `None` if the text does not begin with the word.
-fn behind_word<'a>(word: &[u8], text: &'a [u8]) -> Option<&'a [u8]>
+#[inline(always)]
+pub(crate) fn behind_word<'a>(word: &[u8], text: &'a [u8]) -> Option<&'a [u8]>
     ensures { option_map (λ rest. rest.now) result ≡ after_word word.now text.now }
 {
     text.strip_prefix(word)
 }
 
 /// Whether the text is just this word.
-fn is_word(word: &[u8], text: &[u8]) -> bool
+#[inline(always)]
+pub(crate) fn is_word(word: &[u8], text: &[u8]) -> bool
     ensures { result ≡ is_some (at_end true (after_word word.now text.now)) }
 {
     match behind_word(word, text) {
@@ -53,7 +57,8 @@ fn is_word(word: &[u8], text: &[u8]) -> bool
 }
 
 /// A number: 1 to 8 digits, the first not 0.
-fn read_number(text: &[u8]) -> Option<u32>
+#[inline(always)]
+pub(crate) fn read_number(text: &[u8]) -> Option<u32>
     ensures { result ≡ number_of text.now }
 {
     if text.is_empty() || text.len() > 8 || text[0] == b'0' {
@@ -84,7 +89,8 @@ fn read_colour(text: &[u8]) -> Option<Colour>
 }
 
 /// `pass`, or the two letters of a point of the board.
-fn read_vertex(size: Size, text: &[u8]) -> Option<Turn>
+#[inline(always)]
+pub(crate) fn read_vertex(size: Size, text: &[u8]) -> Option<Turn>
     ensures { option_map (ply_of size) result ≡ vertex_of size text.now }
 {
     if is_word(b"pass", text) {
@@ -97,6 +103,7 @@ fn read_vertex(size: Size, text: &[u8]) -> Option<Turn>
 }
 
 /// The place of the first byte that is this one.
+#[inline(always)]
 pub(crate) fn place_of_byte(text: &[u8], wanted: u8) -> Option<usize>
     ensures { result ≡ position (λ x. nat_eq x wanted) text.now }
 {
@@ -197,34 +204,14 @@ fn read_lemma(size: Size, text: &[u8]) -> Option<Line>
 
 impl Line {
     /// The line that these bytes, without a line feed, spell for a board of this size. `None` if they spell none.
+    #[tactic(auto, using(crate::proofs::Bodies::body_or_other))]
     pub fn from_text(size: Size, text: &[u8]) -> Option<Line>
         ensures { option_map (line_value size) result ≡ line_of size text.now }
     {
-        if let Some(rest) = behind_word(b"tsucert ", text) {
-            return read_header(rest);
+        if let Some(line) = read_body_line(size, text) {
+            return Some(line.line());
         }
-        if let Some(rest) = behind_word(b"lemma ", text) {
-            return read_lemma(size, rest);
-        }
-        if let Some(rest) = behind_word(b"had ", text) {
-            return Some(Line::Had(read_cells(size, rest)?));
-        }
-        if let Some(rest) = behind_word(b"not ", text) {
-            return Some(Line::Not(read_cells(size, rest)?));
-        }
-        if let Some(rest) = behind_word(b"use ", text) {
-            return Some(Line::Use(read_number(rest)?));
-        }
-        if let Some(rest) = behind_word(b"play ", text) {
-            return Some(Line::Play(read_vertex(size, rest)?));
-        }
-        if let Some(rest) = behind_word(b"all ", text) {
-            return Some(Line::All(read_number(rest)?));
-        }
-        if let Some(rest) = behind_word(b"reply ", text) {
-            return Some(Line::Reply(read_vertex(size, rest)?));
-        }
-        plain_word(text)
+        read_other_line(size, text)
     }
 
     /// The line that these bytes spell in a short claim. `None` if they spell none there.
@@ -260,20 +247,24 @@ fn read_behind_header(size: Size, text: &[u8]) -> Option<Line>
     }
 }
 
-/// The lines that are a single word.
-fn plain_word(text: &[u8]) -> Option<Line>
-    ensures { (n : ℕ) → option_map (line_value n) result
-        ≡ or_else (at_end main_line (after_word (codes "main") text.now))
-        (or_else (at_end won_line (after_word (codes "won") text.now))
-        (at_end end_line (after_word (codes "end") text.now))) }
+/// The line of no body that these bytes spell for a board of this size. `None` if they spell none.
+fn read_other_line(size: Size, text: &[u8]) -> Option<Line>
+    ensures { option_map (line_value size) result ≡ other_line_of size text.now }
 {
-    if is_word(b"main", text) {
-        Some(Line::Main)
-    } else if is_word(b"won", text) {
-        Some(Line::Won)
-    } else if is_word(b"end", text) {
-        Some(Line::End)
-    } else {
-        None
+    if let Some(rest) = behind_word(b"tsucert ", text) {
+        return read_header(rest);
     }
+    if let Some(rest) = behind_word(b"lemma ", text) {
+        return read_lemma(size, rest);
+    }
+    if let Some(rest) = behind_word(b"had ", text) {
+        return Some(Line::Had(read_cells(size, rest)?));
+    }
+    if let Some(rest) = behind_word(b"not ", text) {
+        return Some(Line::Not(read_cells(size, rest)?));
+    }
+    if is_word(b"main", text) {
+        return Some(Line::Main);
+    }
+    None
 }

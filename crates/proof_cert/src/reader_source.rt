@@ -1,10 +1,12 @@
 //! The lines of a claim, one at a time, from some bytes and then from a reader.
 
-ghost use Rattle.std.specs.Prelude.{◌≡◌, ◌<◌, ◌^◌, [], None, IfOk};
+ghost use Rattle.std.specs.Prelude.{◌≡◌, ◌+◌, ◌-◌, ◌<◌, ◌^◌, [], None, Some, Err, IfOk};
 ghost use Rattle.std.specs.Io.KnownBytes.{Consumes};
 ghost use Rattle.proof_cert.specs.Private.Source.{answer_value};
-ghost use Rattle.proof_cert.specs.Streamed.{IsPiece, IsRead, streamed_of, short_streamed_of};
+ghost use Rattle.proof_cert.specs.Given.{lines_counted};
+ghost use Rattle.proof_cert.specs.Streamed.{IsPiece, IsRead, reader_gives, streamed_of, short_streamed_of};
 
+use crate::body_line::BodyLine;
 use crate::line::Line;
 use crate::node_source::NodeSource;
 use crate::source::SourceFault;
@@ -157,6 +159,41 @@ impl<'a, R: Read + Drop> ReaderSource<'a, R> {
         }
     }
 
+    /// Gives the fault now and at every later call.
+    fn fail(&mut self, fault: SourceFault) -> Result<Option<Line>, SourceFault>
+        requires { self.old.number < 2 ^ 64 - 1 }
+        ensures answer { result ≡ Err fault }
+        ensures source { self.new
+            ≡ record self.old { number = self.old.number + 1; fault = Some fault } }
+    {
+        self.number += 1;
+        self.is_alive = false;
+        self.fault = Some(fault);
+        Err(fault)
+    }
+
+    /// The next line, whichever it is.
+    #[inline(never)]
+    fn any_line(&mut self) -> Result<Option<Line>, SourceFault>
+        requires fresh { self.old.fault ≡ None }
+        requires few { self.old.number < 2 ^ 64 - 2 }
+        ensures gives { reader_gives self.old (answer_value self.old.size result) self.new }
+        ensures number { self.new.number ≡ self.old.number + lines_counted result }
+    {
+        match read_line(self.spelling, self.size, &mut self.bytes) {
+            Ok(Some(line)) => {
+                self.number += 1;
+                self.is_alive = matches!(line, Line::Use(0));
+                Ok(Some(line))
+            }
+            Ok(None) => {
+                self.is_alive = false;
+                Ok(None)
+            }
+            Err(fault) => self.fail(fault),
+        }
+    }
+
     /// Whether the line that was given last was `alive`, the use of lemma 0. It is for texts: nothing is promised of it.
     pub fn is_alive(&self) -> bool {
         self.is_alive
@@ -174,25 +211,28 @@ impl<'a, R: Read + Drop> NodeSource for ReaderSource<'a, R> {
 
     ghost gives = { reader_gives };
 
+    #[inline(never)]
     fn next(&mut self) -> Result<Option<Line>, SourceFault> {
         if let Some(fault) = self.fault {
             return Err(fault);
         }
-        let answer = if self.number >= TOO_MANY {
-            Err(SourceFault::Read)
-        } else {
-            read_line(self.spelling, self.size, &mut self.bytes)
-        };
-        self.is_alive = matches!(answer, Ok(Some(Line::Use(0))));
-        match answer {
-            Ok(Some(_)) => self.number += 1,
-            Ok(None) => {}
-            Err(fault) => {
-                self.number += 1;
-                self.fault = Some(fault);
-            }
+        if self.number >= TOO_MANY {
+            return self.fail(SourceFault::Read);
         }
-        answer
+        let Some(line) = self.bytes.body_line(self.spelling, self.size) else {
+            return self.any_line();
+        };
+        self.number += 1;
+        self.is_alive = matches!(line, BodyLine::Use(0));
+        // Each arm returns by itself: what the arms of a `match` give is copied once more.
+        match line {
+            BodyLine::Won => return Ok(Some(Line::Won)),
+            BodyLine::Use(lemma) => return Ok(Some(Line::Use(lemma))),
+            BodyLine::Play(turn) => return Ok(Some(Line::Play(turn))),
+            BodyLine::All(replies) => return Ok(Some(Line::All(replies))),
+            BodyLine::Reply(turn) => return Ok(Some(Line::Reply(turn))),
+            BodyLine::End => return Ok(Some(Line::End)),
+        }
     }
 
     fn size(&self) -> Size {

@@ -4,11 +4,13 @@ ghost use Rattle.std.specs.Prelude.{◌≡◌, ◌*◌, length, map, Some, nat_e
 ghost use Rattle.std.specs.List.{list_all};
 ghost use Rattle.go_points.specs.Ply.{ply_of};
 ghost use Rattle.proof_cert.specs.Lines.{turn_fits, node_lines, branch_lines, lemma_lines, lemmas_lines, lines_of, had_spelled, not_line};
+ghost use Rattle.proof_cert.specs.Private.Body.{body_value};
 ghost use Rattle.proof_cert.specs.Text.{is_spelled};
 ghost use Rattle.proof_cert.specs.Text.{is_spelled_number as number_test};
 ghost use Rattle.proof_cert.specs.Stage.{line_value, version_number};
 ghost use Rattle.proof_cert.specs.Certificate.{node_of, replies_of, lemma_of, claim_of};
 
+use crate::body_line::BodyLine;
 use crate::certificate::{Certificate, Lemma, Node};
 use crate::line::Line;
 use crate::version::Version;
@@ -62,6 +64,19 @@ pub(crate) fn is_spelled_line(size: Size, line: &Line) -> bool
         Line::Play(turn) => is_turn_on(size, *turn),
         Line::All(replies) => is_spelled_number(*replies as usize),
         Line::Reply(turn) => is_turn_on(size, *turn),
+        _ => true,
+    }
+}
+
+/// Whether the line of a body has a spelling on a board of this size.
+pub(crate) fn is_spelled_body_line(size: Size, line: &BodyLine) -> bool
+    ensures { result ≡ is_spelled size (Some (body_value size line.now)) }
+{
+    match line {
+        BodyLine::Use(lemma) => is_spelled_number(*lemma as usize),
+        BodyLine::Play(turn) => is_turn_on(size, *turn),
+        BodyLine::All(replies) => is_spelled_number(*replies as usize),
+        BodyLine::Reply(turn) => is_turn_on(size, *turn),
         _ => true,
     }
 }

@@ -1,10 +1,12 @@
 //! The bytes that are held and then those of a reader, one byte or one line at a time, from a block of fixed size.
 
-ghost use Rattle.std.specs.Prelude.{◌≡◌, ◌≤◌, ◌++◌, [], ℕ, length, take, None, IfOk, IfSome, option_map};
+ghost use Rattle.std.specs.Prelude.{◌≡◌, ◌≤◌, ◌++◌, [], ℕ, length, take, None, IfOk, IfSome, option_map, Ok, Some};
 ghost use Rattle.proof_cert.specs.Stage.{line_value};
+ghost use Rattle.proof_cert.specs.Private.Body.{body_value};
 ghost use Rattle.proof_cert.specs.Given.{line_answer};
 ghost use Rattle.proof_cert.specs.Streamed.{HasEnded, IsByte, IsRead, Uses};
 
+use crate::body_line::{BodyLine, read_spelled};
 use crate::line::{Line, place_of_byte};
 use crate::spelling::Spelling;
 use go_points::Size;
@@ -107,6 +109,27 @@ impl<'a, R: Read + Drop> ToldBytes<'a, R> {
         let byte = self.block[self.start];
         self.start += 1;
         Ok(Some(byte))
+    }
+
+    /// The next line, if the block has it with its line feed and it is one of a body. If so, its bytes are used.
+    #[inline(always)]
+    pub(crate) fn body_line(&mut self, spelling: Spelling, size: Size) -> Option<BodyLine>
+        ensures some { IfSome result
+            (λ l. IsRead spelling size self.old self.new (Ok (Some (body_value size l)))) }
+        ensures none { result ≡ None → self.new ≡ self.old }
+    {
+        // A colouring is long, so its line is told by its first letter before its end is looked for.
+        if matches!(
+            self.block[self.start..self.end].first(),
+            Some(b'n' | b'h' | b'l')
+        ) {
+            return None;
+        }
+        let length = place_of_byte(&self.block[self.start..self.end], b'\n')?;
+        let feed = self.start + length;
+        let line = read_spelled(spelling, size, &self.block[self.start..feed])?;
+        self.start = feed + 1;
+        Some(line)
     }
 
     /// The next line, if the block has it with its line feed. If its bytes spell a line, they are used.

@@ -1,10 +1,13 @@
-use Rattle.std.proofs.Common.{◌≡◌, ◌++◌, ◌∷◌, [], Option, List, map, sym, ap, ◌∙◌, rules, append_assoc}
-use Rattle.proof_cert.specs.Lines.{Line, lemma_lines}
+use Rattle.std.proofs.Common.{◌≡◌, ◌++◌, ◌∷◌, [], Option, IfSome, List, map, option_map, sym, ap, ◌∙◌, subst, rules, append_assoc}
+use Rattle.proof_cert.specs.Lines.{Line, branch_lines, lemma_lines}
+use Rattle.proof_cert.specs.Private.Body.{body_value}
 use Rattle.proof_cert.specs.Stage.{version_number}
-use Rattle.proof_cert.specs.Certificate.{lemma_of}
-use Rattle.proof_cert.specs.Held.{spelled_line, reply_lines, task_lines, lines_left}
-use Rattle.proof_cert.specs.declared.task.Task.TheVariants.{Lemmas, Replies}
-use Rattle.proof_cert.proofs.Tasks.{left_pushed, lemmas_first, reply_first}
+use Rattle.proof_cert.specs.Certificate.{lemma_of, replies_of}
+use Rattle.proof_cert.specs.Held.{spelled_line, task_lines, lines_left}
+use Rattle.proof_cert.specs.declared.body_line.BodyLine.{BodyLine}
+use Rattle.proof_cert.specs.declared.task.Task.{Task}
+use Rattle.proof_cert.specs.declared.task.Task.TheVariants.{Lemmas}
+use Rattle.proof_cert.proofs.Tasks.{left_pushed, lemmas_first}
 use Rattle.proof_cert.proofs.task.open.Goals as goal
 
 pub returns-in_ok-open_lemma-in-Lemmas-clause-first : goal.returns-in_ok-open_lemma-in-Lemmas-clause-first
@@ -22,16 +25,19 @@ returns-in_ok-open_lemma-in-Lemmas-clause-first c =
     ∙ ap (map (spelled_line n)) (append_assoc l (task_lines n others) (lines_left n old) ∙ ap (λ (x : List (Option Line)). l ++ x) (sym b))
     ∙ c.in_ok-open_lemma-in-Lemmas.ensures
 
-pub returns-in_ok-open_reply-in-Replies-clause-first : goal.returns-in_ok-open_reply-in-Replies-clause-first
-returns-in_ok-open_reply-in-Replies-clause-first c =
+pub returns-in_ok-open_node-in-Tree-clause-first : goal.returns-in_ok-open_node-in-Tree-clause-first
+returns-in_ok-open_node-in-Tree-clause-first c =
+    let n = c.args.size in
+    ap (λ (t : Task). map (spelled_line n) (task_lines n t ++ lines_left n c.args.tasks.now.items)) c.in-Tree.is
+    ∙ c.in_ok-open_node-in-Tree.ensures
+    ∙ ap (λ (l : Option Line). l ∷ map (spelled_line n) (lines_left n c.open_node.new.tasks.items)) (sym (c.whole.ensures n))
+
+pub returns-in-Some-2-clause-first : goal.returns-in-Some-2-clause-first
+returns-in-Some-2-clause-first c =
     let n = c.args.size in
     let old = c.args.tasks.now.items in
-    let r = c.in-Some-split_first-3.reply.now in
-    let others = Replies c.in-Some-split_first-3.others in
-    let first : c.in-Replies.replies.now ≡ r ∷ c.in-Some-split_first-3.others.now = search rules in
-    let a : task_lines n c.args.task ≡ reply_lines n r ++ task_lines n others = ap (task_lines n) c.in-Replies.is ∙ reply_first n c.in-Replies.replies.now r c.in-Some-split_first-3.others.now first in
-    let items : c.push-in-Replies.new.self.items ≡ old ++ others ∷ [] = search rules in
-    let b : lines_left n c.push-in-Replies.new.self.items ≡ task_lines n others ++ lines_left n old = ap (lines_left n) items ∙ left_pushed n old others in
-    ap (λ (x : List (Option Line)). map (spelled_line n) (x ++ lines_left n old)) a
-    ∙ ap (map (spelled_line n)) (append_assoc (reply_lines n r) (task_lines n others) (lines_left n old) ∙ ap (λ (x : List (Option Line)). reply_lines n r ++ x) (sym b))
-    ∙ c.in_ok-open_reply-in-Replies.ensures
+    let rest = map (spelled_line n) (lines_left n c.open_replies.new.tasks.items) in
+    let given : map (spelled_line n) (branch_lines (replies_of n c.in-Replies.replies.now) ++ lines_left n old) ≡ option_map (body_value n) c.in-Some-2.line ∷ rest = subst (λ (o : Option (Option BodyLine)). IfSome o (λ l. map (spelled_line n) (branch_lines (replies_of n c.in-Replies.replies.now) ++ lines_left n old) ≡ option_map (body_value n) l ∷ rest)) c.in-Some-2.is c.in_ok-line-in-Replies.ensures.first in
+    ap (λ (t : Task). map (spelled_line n) (task_lines n t ++ lines_left n old)) c.in-Replies.is
+    ∙ given
+    ∙ ap (λ (l : Option Line). l ∷ rest) (sym (c.whole-in-Some-2.ensures n))

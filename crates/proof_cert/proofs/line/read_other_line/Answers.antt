@@ -1,7 +1,9 @@
-use Rattle.std.proofs.Common.{sym, ap, ◌∙◌, option_map, Bor, List, ℕ}
-use Rattle.proof_cert.proofs.Chains.{line_tsucert, line_word}
+use Rattle.std.proofs.Common.{sym, ap, ◌∙◌, option_map, Bor, List, ℕ, codes}
+use Rattle.proof_cert.specs.Lines.{main_line}
+use Rattle.proof_cert.specs.Text.{after_word}
+use Rattle.proof_cert.proofs.Chains.{line_tsucert, not_whole, other_none}
 use Rattle.proof_cert.proofs.Reading.{none_there}
-use Rattle.proof_cert.proofs.line.Line.from_text.Goals as goal
+use Rattle.proof_cert.proofs.line.read_other_line.Goals as goal
 
 pub returns-in-Some : goal.returns-in-Some
 returns-in-Some c =
@@ -10,13 +12,9 @@ returns-in-Some c =
 
 pub returns : goal.returns
 returns c =
-    c.plain_word.ensures c.args.size
-    ∙ sym (line_word c.args.size c.args.text.now
+    sym (other_none c.args.size c.args.text.now
     (none_there c.behind_word.result _ c.in_default.not-Some c.behind_word.ensures)
     (none_there c.behind_word-2.result _ c.in_default-behind_word.not-Some c.behind_word-2.ensures)
     (none_there c.behind_word-3.result _ c.in_default-behind_word-2.not-Some c.behind_word-3.ensures)
     (none_there c.behind_word-4.result _ c.in_default-behind_word-3.not-Some c.behind_word-4.ensures)
-    (none_there c.behind_word-5.result _ c.in_default-behind_word-4.not-Some c.behind_word-5.ensures)
-    (none_there c.behind_word-6.result _ c.in_default-behind_word-5.not-Some c.behind_word-6.ensures)
-    (none_there c.behind_word-7.result _ c.in_default-behind_word-6.not-Some c.behind_word-7.ensures)
-    (none_there c.behind_word-8.result _ c.in_default-behind_word-7.not-Some c.behind_word-8.ensures))
+    (not_whole main_line (after_word (codes "main") c.args.text.now) (sym c.is_word.ensures ∙ c.if-is_word.false)))

@@ -3,9 +3,11 @@
 
   replay.py FOLDER PROGRAM WORD..
 
-FOLDER/answers has a file for each known call, under a hash of it: the status, the bytes of standard output, and those of
-standard error; those that are given are named in FOLDER/used. A call that is not known is kept in FOLDER/missed, to be asked,
-but for one whose input came from such a call; what came of either is never judged.
+FOLDER/answers has a file for each known call, under a hash of it: the status, the bytes of standard output, those of standard
+error, and the files that the call wrote; those that are given are named in FOLDER/used. A call that is not known is kept in
+FOLDER/missed, to be asked, but for one whose input came from such a call; what came of either is never judged.
+
+A call that writes into a new folder is known whatever the folder is called.
 """
 
 import hashlib
@@ -13,11 +15,22 @@ import os
 import pickle
 import sys
 
+# Stands for the name of the empty folder that a call writes into: scripts call it otherwise each time.
+NEW_FOLDER = "{new folder}"
+
 # Stands for the answer of a call that is not known, in what comes of it.
 UNKNOWN = b"\x01not known yet\x01\n"
 
 # From so many unknown calls on, further ones fail.
 MOST_MISSED = 30
+
+
+def without_folder(words):
+    """Returns the words of a call with no name for the empty folder that it writes into, and that name, or nothing."""
+    for at in range(1, len(words)):
+        if words[at - 1] == "--into" and os.path.isdir(words[at]) and not os.listdir(words[at]):
+            return (*words[:at], NEW_FOLDER, *words[at + 1 :]), words[at]
+    return words, None
 
 
 def key_of(program, words, stdin):
@@ -35,10 +48,12 @@ def stand_in(root, folder, program):
 
 def main(folder, program, *words):
     stdin = b"" if sys.stdin.isatty() else sys.stdin.buffer.read()
+    words, new_folder = without_folder(words)
     key = key_of(program, words, stdin)
+    files = {}
     try:
         with open(f"{folder}/answers/{key}", "rb") as file:
-            status, stdout, notes = pickle.load(file)
+            status, stdout, notes, files = pickle.load(file)
         with open(f"{folder}/used/{key}", "wb"):
             pass
     except FileNotFoundError:
@@ -47,8 +62,11 @@ def main(folder, program, *words):
         if UNKNOWN not in stdin:
             with open(f"{folder}/missed/{key}", "wb") as file:
                 pickle.dump((program, words, stdin), file)
+    for name, content in files.items():
+        with open(f"{new_folder}/{name}", "xb") as file:
+            file.write(content)
     for stream, text in ((sys.stdout, stdout), (sys.stderr, notes)):
-        stream.buffer.write(text)
+        stream.buffer.write(text.replace(NEW_FOLDER.encode(), (new_folder or NEW_FOLDER).encode()))
         stream.flush()
     sys.exit(status)
 

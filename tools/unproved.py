@@ -11,6 +11,8 @@ import tempfile
 import threading
 from typing import NamedTuple
 
+from replay import NEW_FOLDER
+
 TOP = pathlib.Path(__file__).resolve().parent.parent
 PROGRAMS = tuple((TOP / "contrib/programs").read_text().split())
 
@@ -20,7 +22,7 @@ MEGABYTES_OF_DISK = 500
 
 
 class Call(NamedTuple):
-    """A run of a program: its words and what comes on standard input."""
+    """A run of a program: its words and what comes on standard input. The word NEW_FOLDER is an empty folder."""
 
     program: str
     words: tuple[str, ...]
@@ -28,11 +30,13 @@ class Call(NamedTuple):
 
 
 class Answer(NamedTuple):
-    """What a run wrote, and its exit status; none where it did not end by itself, and then the notes say why."""
+    """What a run wrote, and its exit status; none where it did not end by itself, and then the notes say why. Where it was given
+    a new folder, the contents of its files by their names; and the texts say NEW_FOLDER for it."""
 
     status: int | None
     stdout: bytes
     notes: bytes
+    files: dict[str, bytes] = {}
 
 
 def free_memory():
@@ -62,10 +66,15 @@ class Run:
         # A line `== NAME` parts the answers, so no answer may hold the name by chance.
         self.token = secrets.token_hex(8)
         self.folder = tempfile.TemporaryDirectory(prefix="cases-")
+        self.new_folders = tempfile.TemporaryDirectory(prefix="folders-")
         for number, call in enumerate(calls):
             case = pathlib.Path(self.folder.name, self.name(number))
             case.write_bytes(call.stdin)
-            case.with_name(case.name + ".args").write_text("".join(f"{word}\n" for word in call.words))
+            words = call.words
+            if NEW_FOLDER in words:
+                self.new_folder(number).mkdir()
+                words = [str(self.new_folder(number)) if it == NEW_FOLDER else it for it in words]
+            case.with_name(case.name + ".args").write_text("".join(f"{word}\n" for word in words))
         self.process = subprocess.Popen(
             ["rt", "try", "--seconds", str(seconds), "--cases", self.folder.name],
             cwd=TOP / "crates" / program, stdin=subprocess.DEVNULL, stdout=subprocess.PIPE, stderr=subprocess.PIPE,
@@ -73,6 +82,9 @@ class Run:
 
     def name(self, number):
         return f"{self.token}-{number:06}"
+
+    def new_folder(self, number):
+        return pathlib.Path(self.new_folders.name, str(number))
 
     def answers(self, tell=lambda number, status: None):
         """Returns the answer of each call; `tell` hears of each as soon as it has ended."""
@@ -95,7 +107,18 @@ class Run:
         self.folder.cleanup()
         texts = self.parted(written[0])
         lost = (None, before or b"rt try gave no answer\n")
-        return [Answer(ends.get(n, lost)[0], texts.get(n, b""), ends.get(n, lost)[1]) for n in range(len(self.calls))]
+        answers = [self.answer(n, texts.get(n, b""), *ends.get(n, lost)) for n in range(len(self.calls))]
+        self.new_folders.cleanup()
+        return answers
+
+    def answer(self, number, stdout, status, notes):
+        """Returns one answer, which says nothing of where its new folder was."""
+        folder = self.new_folder(number)
+        if not folder.exists():
+            return Answer(status, stdout, notes)
+        name = str(folder).encode()
+        files = {it.name: it.read_bytes() for it in folder.iterdir()}
+        return Answer(status, stdout.replace(name, NEW_FOLDER.encode()), notes.replace(name, NEW_FOLDER.encode()), files)
 
     def parted(self, written):
         """Returns the output of each case. `rt try` ends one that has no line end with one."""

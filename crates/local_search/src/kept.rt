@@ -112,14 +112,22 @@ impl KeptMoves {
         self.moves.get(state.first.saturating_add(place)).copied()
     }
 
-    /// Notes how many points for eyes are left after the state's turn.
-    pub(crate) fn note(&mut self, state: KeptState, step: Step, many: Option<u8>) {
-        for place in 0..state.count {
+    /// Notes how many points for eyes are left after the state's turn, which is looked for from this place on. Returns the place
+    /// after it.
+    pub(crate) fn note(
+        &mut self,
+        state: KeptState,
+        from: usize,
+        step: Step,
+        many: Option<u8>,
+    ) -> usize {
+        for place in from..state.count {
             let at = state.first.saturating_add(place);
             if at < self.moves.len() && self.moves[at].step == step {
                 self.moves[at].many = many;
-                return;
+                return place + 1;
             }
         }
+        state.count
     }
 }

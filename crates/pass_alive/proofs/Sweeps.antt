@@ -1,5 +1,5 @@
 -- Sweeps over the stones: what is left after some points of one, and after some sweeps.
-use Rattle.std.proofs.Common.{◌≡◌, ◌≢◌, ℕ, ◌+◌, ◌*◌, ◌<◌, ◌≤◌, Bool, true, false, cond, not, ◌||◌, ◌⊎◌, inl, inr, IsTrue, IsFalse, ◌↔◌, List, [], ◌∷◌, map, length, refl, sym, ◌∙◌, ap, subst, arith}
+use Rattle.std.proofs.Common.{◌≡◌, ℕ, ◌+◌, ◌*◌, ◌<◌, ◌≤◌, Bool, true, false, cond, not, ◌||◌, ◌⊎◌, inl, inr, IsTrue, IsFalse, ◌↔◌, List, [], ◌∷◌, map, length, refl, sym, ◌∙◌, ap, subst, arith}
 use Rattle.std.specs.List.{list_all}
 use Rattle.go_points.specs.declared.Colour.{Colour}
 use Rattle.go_points.specs.declared.Cell.{Cell}
@@ -31,7 +31,7 @@ without_fewer (q ∷ qs) p = go (same_place p q) refl (without_fewer qs p)
     go true e rest = grind (arith, rest)
     go false e rest = grind (arith, rest)
 
-without_less : (ps : List Place) (p : Place) → holds_place ps p ≡ true → length (without_place ps p) < length ps
+pub without_less : (ps : List Place) (p : Place) → holds_place ps p ≡ true → length (without_place ps p) < length ps
 without_less [] p h = absurd (cc h)
 without_less (q ∷ qs) p h = go (same_place p q) refl h (without_less qs p)
   where
@@ -319,14 +319,6 @@ module _ (n : ℕ) (k : Colour) (region : List Place) (c a : List Cell) (cells :
     };
     greatest = h.kept;
   }
-
--- without a stone of the colour none lives
-pub none_living : (n : ℕ) (k : Colour) (region : List Place) (c : List Cell) → ((q : ℕ) → q < n * n → cell_at c q ≢ Stone k) → AreLiving n k region c []
-none_living n k region c none = record {
-  on_board = λ p held. absurd (cc held);
-  live = record { own = λ q held. absurd (cc held); safe = λ q held. absurd (cc held) };
-  greatest = λ stones live q is. absurd (none q (live_on (game_of n [] k region) c stones live q is) (live.own q is));
-}
 
 -- so the targets live by their shape exactly if they are in the set
 pub pass_alive_by : (n : ℕ) (k : Colour) (targets region : List Place) (c : List Cell) (s : List Place) → AreLiving n k region c s → (b : Bool) → b ≡ list_all (holds_place s) targets → IsTrue b ↔ PassAlive (game_of n targets k region) c

@@ -2,7 +2,6 @@
 #![tactic(auto)]
 
 mod areas;
-mod candidates;
 mod chains;
 mod eyes;
 pub mod laws;
@@ -10,6 +9,7 @@ mod living;
 mod problems;
 mod sets;
 mod sides;
+mod spread;
 
 pub use areas::areas_of;
 pub use living::{is_pass_alive, living_stones};

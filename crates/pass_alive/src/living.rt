@@ -7,12 +7,10 @@ ghost use Rattle.go_points.specs.Grid.{same_cell, cell_at, side_of};
 ghost use Rattle.go_points.specs.Place.{Place, IsOn, number_of};
 ghost use Rattle.go_points.specs.Points.{holds_place};
 ghost use Rattle.go_chains.specs.Joined.{IsChainOf, HoldsThose};
-ghost use Rattle.pass_alive.specs.Life.{IsBeside, Fixed, PassAlive};
+ghost use Rattle.pass_alive.specs.Life.{Fixed, PassAlive};
 ghost use Rattle.pass_alive.specs.Sets.{these, number_on, game_of, AreLiving, IsNear};
-ghost use Rattle.pass_alive.specs.Private.Areas.{HasAreas, HasEyes, MayLive, IsSafe, IsJudged, IsDropped};
+ghost use Rattle.pass_alive.specs.Private.Areas.{areas_in, MayLive, IsSafe, IsJudged, IsDropped};
 
-use crate::areas::areas_of;
-use crate::candidates::eye_points;
 use crate::chains::chain_at;
 use crate::eyes::has_two_eyes;
 use crate::sets::{are_members, put_in, take_out};
@@ -33,50 +31,40 @@ fn is_lasting(board: &ChainBoard, region: &PointSet, chain: &PointSet) -> bool
 /// Whether the chain of the point has such a liberty, or two eyes that these stones enclose.
 fn is_safe(
     board: &ChainBoard,
-    areas: &ChainBoard,
-    eyes: &PointSet,
+    colour: Colour,
     region: &PointSet,
     stones: &PointSet,
     chain: &PointSet,
     point: Point,
 ) -> bool
-    requires areas { HasAreas board.now areas.now }
-    requires eyes { HasEyes (side_of board.now) board.now areas.now
-        (these (side_of board.now) eyes.now)
-        (IsBeside (side_of board.now) board.now (number_of (side_of board.now) point)) }
-    requires chain { IsChainOf (side_of board.now) board.now
+    requires { IsChainOf (side_of board.now) board.now
         (number_of (side_of board.now) point) chain.now }
     ensures sound { IsTrue result → IsSafe (side_of board.now)
-        (map (number_on (side_of board.now)) region.now) board.now areas.now
+        (map (number_on (side_of board.now)) region.now) board.now (areas_in colour board.now)
         (these (side_of board.now) stones.now) (number_of (side_of board.now) point) }
     ensures complete { MayLive (side_of board.now)
-        (map (number_on (side_of board.now)) region.now) board.now areas.now
+        (map (number_on (side_of board.now)) region.now) board.now (areas_in colour board.now)
         (these (side_of board.now) stones.now) (number_of (side_of board.now) point)
         → IsTrue result }
 {
-    is_lasting(board, region, chain) || has_two_eyes(board, areas, eyes, stones, chain)
+    is_lasting(board, region, chain) || has_two_eyes(board, colour, stones, chain)
 }
 
 /// Judges the chain at the point, if its stones are left and not yet marked: marks them as safe, or takes them away. Returns whether
 /// it takes any away.
 fn drop_chain(
     board: &ChainBoard,
-    areas: &ChainBoard,
-    eyes: &PointSet,
+    colour: Colour,
     region: &PointSet,
     stones: &mut PointSet,
     marked: &mut PointSet,
     point: Point,
 ) -> bool
-    requires areas { HasAreas board.now areas.now }
     requires on { IsOn (side_of board.now) point }
     requires own { (q : ℕ) → q < side_of board.now * side_of board.now
         → IsTrue (these (side_of board.now) stones.old q) → cell_at board.now q ≢ Empty }
-    requires eyes { (x : ℕ) → IsTrue (these (side_of board.now) stones.old x)
-        → HasEyes (side_of board.now) board.now areas.now (these (side_of board.now) eyes.now)
-        (IsBeside (side_of board.now) board.now x) }
     ensures { IsJudged (side_of board.now) (map (number_on (side_of board.now)) region.now)
-        board.now areas.now (number_of (side_of board.now) point)
+        board.now (areas_in colour board.now) (number_of (side_of board.now) point)
         stones.old marked.old stones.new marked.new result }
 {
     if !stones.has(point) || marked.has(point) {
@@ -85,7 +73,7 @@ fn drop_chain(
     let Some(chain) = chain_at(board, point) else {
         return false;
     };
-    if is_safe(board, areas, eyes, region, stones, &chain, point) {
+    if is_safe(board, colour, region, stones, &chain, point) {
         put_in(marked, &chain);
         return false;
     }
@@ -94,28 +82,18 @@ fn drop_chain(
 }
 
 /// Takes the chains away that are not safe by the stones that are left so far. Returns whether there were any.
-fn drop_unsafe(
-    board: &ChainBoard,
-    areas: &ChainBoard,
-    eyes: &PointSet,
-    region: &PointSet,
-    stones: &mut PointSet,
-) -> bool
-    requires areas { HasAreas board.now areas.now }
+fn drop_unsafe(board: &ChainBoard, colour: Colour, region: &PointSet, stones: &mut PointSet) -> bool
     requires own { (q : ℕ) → q < side_of board.now * side_of board.now
         → IsTrue (these (side_of board.now) stones.old q) → cell_at board.now q ≢ Empty }
-    requires eyes { (x : ℕ) → IsTrue (these (side_of board.now) stones.old x)
-        → HasEyes (side_of board.now) board.now areas.now (these (side_of board.now) eyes.now)
-        (IsBeside (side_of board.now) board.now x) }
     ensures { IsDropped (side_of board.now) (map (number_on (side_of board.now)) region.now)
-        board.now areas.now stones.old stones.new result }
+        board.now (areas_in colour board.now) stones.old stones.new result }
 {
     let size = board.size();
     let mut marked = PointSet::new();
     let mut has_changed = false;
     for number in 0..size.area() {
         let point = size.point_at(number);
-        if drop_chain(board, areas, eyes, region, stones, &mut marked, point) {
+        if drop_chain(board, colour, region, stones, &mut marked, point) {
             has_changed = true;
         }
     }
@@ -147,12 +125,8 @@ fn stones_of(board: &ChainBoard, colour: Colour) -> PointSet
 pub fn living_stones(board: &ChainBoard, colour: Colour, region: &PointSet) -> PointSet
     ensures { AreLiving (side_of board.now) colour region.now board.now result }
 {
-    let Some(areas) = areas_of(board, colour) else {
-        return PointSet::new();
-    };
     let mut stones = stones_of(board, colour);
-    let eyes = eye_points(board, &areas, &stones);
-    while drop_unsafe(board, &areas, &eyes, region, &mut stones) {}
+    while drop_unsafe(board, colour, region, &mut stones) {}
     stones
 }
 

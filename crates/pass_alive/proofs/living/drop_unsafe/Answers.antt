@@ -2,7 +2,7 @@ use Rattle.std.proofs.Common.{◌≡◌, ◌+◌, ◌*◌, ◌<◌, ℕ, Bool, m
 use Rattle.go_points.specs.Grid.{side_of}
 use Rattle.go_points.specs.Place.{number_of}
 use Rattle.pass_alive.specs.Sets.{number_on}
-use Rattle.pass_alive.specs.Private.Areas.{IsJudged}
+use Rattle.pass_alive.specs.Private.Areas.{areas_in, IsJudged}
 use Rattle.pass_alive.proofs.Sweeps.{SweptSoFar, swept_taken, swept_kept}
 use Rattle.pass_alive.proofs.living.drop_unsafe.Goals as goal
 use Rattle.pass_alive.proofs.living.drop_unsafe.Goals.{then-drop_chain, else-drop_chain}
@@ -10,7 +10,7 @@ use Rattle.pass_alive.proofs.living.drop_unsafe.Goals.{then-drop_chain, else-dro
 pub loop-number-preserved : goal.loop-number-preserved
 loop-number-preserved c =
     let cells = c.args.board.now in
-    let areas = c.args.areas.now in
+    let areas = areas_in c.args.colour cells in
     let n = side_of cells in
     let region = map (number_on n) c.args.region.now in
     let old = c.args.stones.now in

@@ -12,3 +12,4 @@ pub mod Examples
 pub mod Gathered
 pub mod Shapes
 pub mod Spreading
+pub mod Doubts

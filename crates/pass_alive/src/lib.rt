@@ -4,6 +4,7 @@
 mod areas;
 mod chains;
 mod eyes;
+mod lasting;
 pub mod laws;
 mod living;
 mod problems;

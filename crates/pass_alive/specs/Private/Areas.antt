@@ -139,3 +139,7 @@ pub record IsJudged (n : ℕ) (region : List ℕ) (c a : List Cell) (i : ℕ) (o
   pub within : (p : Place) → IsTrue (holds_place new p) → IsTrue (holds_place old p)
   pub fewer : IsTrue has_dropped → length new < length old
   pub kept : IsTrue has_dropped → (q : ℕ) → q < n * n → IsTrue (these n old q) → MayLive n region c a (these n old) q → IsTrue (these n new q)
+
+-- Each of the stones is in doubt, or has a lasting liberty.
+abbrev pub LastsOutside : ℕ → List ℕ → List Cell → Points → Points → Type 0
+LastsOutside n region c doubtful stones = (q : ℕ) → q < n * n → IsTrue (stones q) → IsTrue (doubtful q) ⊎ Lasting n region c q

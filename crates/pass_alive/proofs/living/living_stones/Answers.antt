@@ -3,7 +3,7 @@ use Rattle.go_points.specs.Grid.{side_of}
 use Rattle.pass_alive.specs.Sets.{number_on}
 use Rattle.pass_alive.specs.Private.Areas.{areas_in, IsDropped}
 use Rattle.pass_alive.proofs.Spreading.{in_areas}
-use Rattle.pass_alive.proofs.Sweeps.{living_first, living_more, living_all}
+use Rattle.pass_alive.proofs.Sweeps.{living_first, living_more, living_all, lasts_outside}
 use Rattle.pass_alive.proofs.living.living_stones.Goals as goal
 
 pub loop-colour-init : goal.loop-colour-init
@@ -27,3 +27,8 @@ returns c =
     living_all n c.args.colour region cells areas (in_areas c.args.colour cells) old new
     (subst (λ (b : Bool). IsDropped n (map (number_on n) region) cells areas old new b) c.loop-colour-test.false c.drop_unsafe.ensures)
     (living_more n c.args.colour region cells areas (in_areas c.args.colour cells) old new c.drop_unsafe.result c.drop_unsafe.ensures c.loop-colour.invariant)
+
+pub drop_unsafe-requires-clause-outside : goal.drop_unsafe-requires-clause-outside
+drop_unsafe-requires-clause-outside c =
+    let cells = c.args.board.now in
+    lasts_outside (side_of cells) c.args.colour c.args.region.now cells (areas_in c.args.colour cells) (in_areas c.args.colour cells) c.stones_of-stones.result c.loop-colour.stones c.doubtful_stones-doubtful.result c.stones_of-stones.ensures c.doubtful_stones-doubtful.ensures.outside c.loop-colour.invariant

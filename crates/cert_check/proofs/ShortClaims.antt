@@ -7,17 +7,22 @@ use Rattle.go_points.specs.declared.Colour.TheVariants.{Black, White}
 use Rattle.go_points.specs.declared.Cell.{Cell}
 use Rattle.go_points.specs.Grid.{same_colour, opponent_of}
 use Rattle.target_game.specs.State.{Game, GameState, GameProblem, start}
+use Rattle.target_game.specs.Next.{next}
 use Rattle.target_game.specs.Over.{over}
 use Rattle.target_game.specs.Wins.{wins, Wins}
 use Rattle.target_game.specs.Laws.{WinnerExists, NotBothWin}
 use Rattle.pass_alive.specs.Life.{PassAlive}
 use Rattle.pass_alive.specs.Told.{play_bound, Tells}
 use Rattle.pass_alive.specs.Laws.{DefenderWinsWithin, ShapesCanBeTold}
+use Rattle.go_points.specs.Ply.{Ply}
+use Rattle.proof_cert.specs.Claim.{Claim, Node, play, heads_of}
+use Rattle.cert_check.specs.Body.{main_body_by}
+use Rattle.cert_check.proofs.ShortTrees.{FitsShort}
 use Rattle.cert_check.specs.Meaning.{heights_behind, height_by}
-use Rattle.cert_check.specs.Laws.{AcceptedShortSidesWin}
+use Rattle.cert_check.specs.Laws.{AcceptedShortSidesWin, AcceptedShortTurnsWin}
 use Rattle.cert_check.proofs.Members.{and_first, and_second}
 use Rattle.cert_check.proofs.Game.{same_colour-eq}
-use Rattle.cert_check.proofs.Soundness.{with_past, Rests, right_short_wins}
+use Rattle.cert_check.proofs.Soundness.{with_past, Rests, right_short_wins, right_short_turn}
 use Rattle.cert_check.proofs.ReadingClaims.{accepted_short}
 
 rests_on : DefenderWinsWithin → (g : Game) (shape : List Cell → Bool) → ((c : List Cell) → IsTrue (shape c) → PassAlive g c) → (x : Colour) → Rests (play_bound g.size) shape g x
@@ -36,6 +41,21 @@ accepted_short_sides_win law q shape sound ls x h e =
     let living : ℕ = play_bound q.game.size in
     let k : ℕ = height_by living (heights_behind living [] r.0.lemmas) r.0.main in
     (k, subst (λ y. IsTrue (wins y (start q) k)) r.1 (right_short_wins living shape q r.0 (rests_on law q.game shape sound r.0.winner) h r.5 r.6))
+
+pub accepted_short_turns_win : DefenderWinsWithin → AcceptedShortTurnsWin
+accepted_short_turns_win law q shape sound ls x h e =
+    let r = accepted_short shape q ls x e in
+    let z : Claim = r.0 in
+    let living : ℕ = play_bound q.game.size in
+    let heights : List ℕ = heights_behind living [] z.lemmas in (
+      z,
+      r.4,
+      r.1,
+      λ t n begins.
+          let fits = subst (λ m. FitsShort (main_body_by shape z.winner (heads_of z.lemmas)) (start q) m) begins r.6 in
+          let turn = right_short_turn living shape q z (rests_on law q.game shape sound z.winner) h r.5 t n fits in
+          (turn.0, (height_by living heights n, subst (λ y. IsTrue (wins y (next (start q) t) (height_by living heights n))) r.1 turn.1)),
+    )
 
 -- What follows for every shape that tells where the targets live is so, since it cannot be that there is none.
 one_of : WinnerExists → (x : Colour) (s : GameState) → s.passes ≤ 2 → Wins x s ⊎ Wins (opponent_of x) s

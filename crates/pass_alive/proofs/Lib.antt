@@ -11,3 +11,5 @@ pub mod Tests
 pub mod Examples
 pub mod Gathered
 pub mod Shapes
+pub mod Spreading
+pub mod Doubts

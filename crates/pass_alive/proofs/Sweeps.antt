@@ -1,11 +1,11 @@
 -- Sweeps over the stones: what is left after some points of one, and after some sweeps.
-use Rattle.std.proofs.Common.{◌≡◌, ◌≢◌, ℕ, ◌+◌, ◌*◌, ◌<◌, ◌≤◌, Bool, true, false, cond, not, ◌||◌, ◌⊎◌, inl, inr, IsTrue, IsFalse, ◌↔◌, List, [], ◌∷◌, map, length, refl, sym, ◌∙◌, ap, subst, arith}
+use Rattle.std.proofs.Common.{◌≡◌, ℕ, ◌*◌, ◌<◌, ◌≤◌, Bool, true, false, cond, not, ◌||◌, ◌⊎◌, inl, inr, IsTrue, IsFalse, ◌↔◌, List, [], ◌∷◌, map, length, refl, sym, ◌∙◌, ap, subst, arith}
 use Rattle.std.specs.List.{list_all}
 use Rattle.go_points.specs.declared.Colour.{Colour}
 use Rattle.go_points.specs.declared.Cell.{Cell}
 use Rattle.go_points.specs.declared.Cell.TheVariants.{Stone}
 use Rattle.go_points.specs.Grid.{same_cell, cell_at}
-use Rattle.go_points.specs.Place.{Place, IsOn, place_of}
+use Rattle.go_points.specs.Place.{Place, IsOn, number_of, place_of}
 use Rattle.go_points.specs.Points.{same_place, holds_place, with_place, without_place}
 use Rattle.go_points.specs.Equal.{same_place_decides}
 use Rattle.go_points.proofs.Membership.{sets_gain, sets_lose}
@@ -17,9 +17,9 @@ use Rattle.target_game.specs.State.{Game}
 use Rattle.pass_alive.specs.Areas.{area_cell}
 use Rattle.pass_alive.specs.Life.{Points, IsBeside, Live, PassAlive}
 use Rattle.pass_alive.specs.Sets.{these, number_on, game_of, AreLiving, IsWith}
-use Rattle.pass_alive.specs.Private.Areas.{MayLive, IsSafe, IsDropped, IsWithout, IsJudged}
-use Rattle.pass_alive.proofs.Regions.{targets_hold}
-use Rattle.pass_alive.proofs.Members.{left_first, left_later, left_either}
+use Rattle.pass_alive.specs.Private.Areas.{MayLive, IsSafe, IsDropped, IsWithout, IsJudged, LastsOutside}
+use Rattle.pass_alive.proofs.Regions.{targets_hold, place_back, number_low, number_back}
+use Rattle.pass_alive.proofs.Members.{AllBut, but_first, but_more, but_none, left_first, left_later, left_either}
 use Rattle.pass_alive.proofs.Spaces.{two_eyes, two_areas, near_areas, near_sets, may_live_more, place_on}
 
 -- a set that loses a place that it held is smaller
@@ -31,7 +31,7 @@ without_fewer (q ∷ qs) p = go (same_place p q) refl (without_fewer qs p)
     go true e rest = grind (arith, rest)
     go false e rest = grind (arith, rest)
 
-without_less : (ps : List Place) (p : Place) → holds_place ps p ≡ true → length (without_place ps p) < length ps
+pub without_less : (ps : List Place) (p : Place) → holds_place ps p ≡ true → length (without_place ps p) < length ps
 without_less [] p h = absurd (cc h)
 without_less (q ∷ qs) p h = go (same_place p q) refl h (without_less qs p)
   where
@@ -151,7 +151,7 @@ module _ (other old : List Place) where
 
 module _ (n : ℕ) (region : List ℕ) (c a : List Cell) where
   -- the stones of a chain are safe together, and may live together
-  beside_joined : (x y q : ℕ) → Joined n c y x → IsBeside n c x q → IsBeside n c y q
+  pub beside_joined : (x y q : ℕ) → Joined n c y x → IsBeside n c x q → IsBeside n c y q
   beside_joined x y q j near = (near.0, near.1, joined_on n c y x near.0 j near.2)
 
   pub may_live_joined : (stones : Points) (x y : ℕ) → Joined n c y x → MayLive n region c a stones x → MayLive n region c a stones y
@@ -202,65 +202,71 @@ module _ (n : ℕ) (region : List ℕ) (c a : List Cell) where
           other q q_on may true e = absurd (dead (may_live_joined (these n old) q i ((is.joined q q_on).0 e) may))
           other q q_on may false e = refl
 
-module _ (n : ℕ) (region : List ℕ) (c a : List Cell) (old : List Place) where
-  -- after the points below i
-  pub record SweptSoFar (now marked : List Place) (has_changed : Bool) (i : ℕ) : Type 0 where
+module _ (n : ℕ) (region : List ℕ) (c a : List Cell) (old doubtful : List Place) where
+  -- what a sweep says of a stone that it has looked at
+  abbrev pub SafeIfSame : List Place → Bool → Place → Type 0
+  SafeIfSame now has_changed p = IsFalse has_changed → IsTrue (holds_place now p) → IsSafe n region c a (these n now) (number_of n p)
+
+  -- before the stones in doubt that are left
+  pub record SweptSoFar (now marked left : List Place) (has_changed : Bool) : Type 0 where
     pub within : (p : Place) → IsTrue (holds_place now p) → IsTrue (holds_place old p)
     pub fewer : IsTrue has_changed → length now < length old
     pub same : IsFalse has_changed → now ≡ old
     pub kept : (stones : Points) → ((x : ℕ) → IsTrue (stones x) → (x < n * n) × MayLive n region c a stones x)
         → ((q : ℕ) → IsTrue (stones q) → IsTrue (these n old q)) → (q : ℕ) → IsTrue (stones q) → IsTrue (these n now q)
-    pub safe : IsFalse has_changed → (q : ℕ) → q < i → IsTrue (these n now q) → IsSafe n region c a (these n now) q
+    pub safe : AllBut (SafeIfSame now has_changed) doubtful left
     pub marked_safe : IsFalse has_changed → (q : ℕ) → q < n * n → IsTrue (these n marked q) → IsSafe n region c a (these n now) q
 
-  pub swept_none : (marked : List Place) → marked ≡ [] → SweptSoFar old marked false 0
-  swept_none marked none = record {
+  pub swept_none : (marked left : List Place) → marked ≡ [] → left ≡ doubtful → SweptSoFar old marked left false
+  swept_none marked left none is = record {
     within = λ p h. h;
     fewer = λ e. absurd (cc e);
     same = λ e. refl;
     kept = λ stones live into q is. into q is;
-    safe = λ e q low held. absurd (omega (arith, low));
+    safe = but_first (SafeIfSame old false) doubtful left is;
     marked_safe = λ e q on held. absurd (cc (held, none));
   }
 
-  pub swept_kept : (now marked new new_marked : List Place) (has_changed : Bool) (i : ℕ) → i < n * n → IsJudged n region c a i now marked new new_marked false → SweptSoFar now marked has_changed i → SweptSoFar new new_marked has_changed (i + 1)
-  swept_kept now marked new new_marked has_changed i on judged h = subst (λ s. SweptSoFar s new_marked has_changed (i + 1)) (sym (judged.same refl)) (record {
+  module _ (now marked new new_marked left rest : List Place) (x : Place) (e : left ≡ x ∷ rest) (on : IsOn n x) (has_changed : Bool) (h : SweptSoFar now marked left has_changed) where
+    pub swept_kept : IsJudged n region c a (number_of n x) now marked new new_marked false → SweptSoFar new new_marked rest has_changed
+    swept_kept judged = subst (λ s. SweptSoFar s new_marked rest has_changed) (sym (judged.same refl)) (record {
+      within = h.within;
+      fewer = h.fewer;
+      same = h.same;
+      kept = h.kept;
+      safe = but_more (SafeIfSame now has_changed) doubtful left rest x e here_safe h.safe;
+      marked_safe = λ f q q_on held. elim (judged.marked refl q q_on held) [ inl had ↦ h.marked_safe f q q_on had | inr safe ↦ safe ];
+    })
+      where
+        here_safe : SafeIfSame now has_changed x
+        here_safe f held = elim (judged.safe refl (ap (holds_place now) (place_back n x on) ∙ held)) [
+          | inl had ↦ h.marked_safe f (number_of n x) (number_low n x on) had
+          | inr safe ↦ safe
+        ]
+
+    pub swept_taken : IsJudged n region c a (number_of n x) now marked new new_marked true → SweptSoFar new new_marked rest true
+    swept_taken judged = record {
+      within = λ p held. h.within p (judged.within p held);
+      fewer = λ f. few has_changed refl;
+      same = λ f. absurd (cc f);
+      kept = λ stones live into q is. judged.kept refl q (live q is).0 (h.kept stones live into q is) (may_live_more n region c a stones (these n now) q (h.kept stones live into) (live q is).1);
+      safe = but_more (SafeIfSame new true) doubtful left rest x e (λ f. absurd (cc f)) (record { among = h.safe.among; passed = λ p held. inr (λ f. absurd (cc f)) });
+      marked_safe = λ f. absurd (cc f);
+    }
+      where
+        few : (b : Bool) → has_changed ≡ b → length new < length old
+        few true f = let before = h.fewer f in omega (arith, judged.fewer refl, before)
+        few false f = let same : length now ≡ length old = ap length (h.same f) in omega (arith, judged.fewer refl, same)
+
+  pub swept_all : (now marked left : List Place) (has_changed : Bool) → left ≡ [] → LastsOutside n region c (these n doubtful) (these n old) → SweptSoFar now marked left has_changed → IsDropped n region c a old now has_changed
+  swept_all now marked left has_changed none outside h = record {
     within = h.within;
     fewer = h.fewer;
-    same = h.same;
     kept = h.kept;
-    safe = λ e q low held.
-        let split : (q < i) ⊎ (q ≡ i) = grind (arith, low) in
-        elim split [
-          | inl less ↦ h.safe e q less held
-          | inr here ↦ subst (IsSafe n region c a (these n now)) (sym here) (here_safe e (subst (λ z. IsTrue (these n now z)) here held))
-        ];
-    marked_safe = λ e q q_on held. elim (judged.marked refl q q_on held) [ inl had ↦ h.marked_safe e q q_on had | inr safe ↦ safe ];
-  })
-    where
-      here_safe : IsFalse has_changed → IsTrue (these n now i) → IsSafe n region c a (these n now) i
-      here_safe e held = elim (judged.safe refl held) [ inl had ↦ h.marked_safe e i on had | inr safe ↦ safe ]
-
-  pub swept_taken : (now marked new new_marked : List Place) (has_changed : Bool) (i : ℕ) → IsJudged n region c a i now marked new new_marked true → SweptSoFar now marked has_changed i → SweptSoFar new new_marked true (i + 1)
-  swept_taken now marked new new_marked has_changed i judged h = record {
-    within = λ p held. h.within p (judged.within p held);
-    fewer = λ e. few has_changed refl;
-    same = λ e. absurd (cc e);
-    kept = λ stones live into q is. judged.kept refl q (live q is).0 (h.kept stones live into q is) (may_live_more n region c a stones (these n now) q (h.kept stones live into) (live q is).1);
-    safe = λ e. absurd (cc e);
-    marked_safe = λ e. absurd (cc e);
-  }
-    where
-      few : (b : Bool) → has_changed ≡ b → length new < length old
-      few true e = let before = h.fewer e in omega (arith, judged.fewer refl, before)
-      few false e = let same : length now ≡ length old = ap length (h.same e) in omega (arith, judged.fewer refl, same)
-
-  pub swept_all : (now marked : List Place) (has_changed : Bool) (i : ℕ) → n * n ≤ i → SweptSoFar now marked has_changed i → IsDropped n region c a old now has_changed
-  swept_all now marked has_changed i all h = record {
-    within = h.within;
-    fewer = h.fewer;
-    kept = h.kept;
-    safe = λ e q low held. h.safe e q (omega (arith, low, all)) held;
+    safe = λ f q low held. elim (outside q low (h.within (place_of n q) held)) [
+      | inl in_doubt ↦ subst (IsSafe n region c a (these n now)) (number_back n q) (but_none (SafeIfSame now has_changed) doubtful left none h.safe (place_of n q) in_doubt f held)
+      | inr lasting ↦ inl lasting
+    ];
   }
 
 -- stones that live are on the board
@@ -291,6 +297,10 @@ module _ (n : ℕ) (k : Colour) (region : List Place) (c a : List Cell) (cells :
     kept = λ stones live q is. those.holds q (live_on (game_of n [] k region) c stones live q is) ∙ eq_same_cell (cell_at c q) (Stone k) (live.own q is);
   }
 
+  -- what is left is among the stones at first
+  pub lasts_outside : (all now doubtful : List Place) → HoldsThose n (λ q. same_cell (cell_at c q) (Stone k)) all → LastsOutside n (map (number_on n) region) c (these n doubtful) (these n all) → LivingSoFar n k region c now → LastsOutside n (map (number_on n) region) c (these n doubtful) (these n now)
+  lasts_outside all now doubtful those outside h q low held = outside q low (those.holds q low ∙ eq_same_cell (cell_at c q) (Stone k) (h.own q held))
+
   may_live : (stones : Points) → Live (game_of n [] k region) c stones → (x : ℕ) → IsTrue (stones x) → (x < n * n) × MayLive n (map (number_on n) region) c a stones x
   may_live stones live x is = (
     live_on (game_of n [] k region) c stones live x is,
@@ -319,14 +329,6 @@ module _ (n : ℕ) (k : Colour) (region : List Place) (c a : List Cell) (cells :
     };
     greatest = h.kept;
   }
-
--- without a stone of the colour none lives
-pub none_living : (n : ℕ) (k : Colour) (region : List Place) (c : List Cell) → ((q : ℕ) → q < n * n → cell_at c q ≢ Stone k) → AreLiving n k region c []
-none_living n k region c none = record {
-  on_board = λ p held. absurd (cc held);
-  live = record { own = λ q held. absurd (cc held); safe = λ q held. absurd (cc held) };
-  greatest = λ stones live q is. absurd (none q (live_on (game_of n [] k region) c stones live q is) (live.own q is));
-}
 
 -- so the targets live by their shape exactly if they are in the set
 pub pass_alive_by : (n : ℕ) (k : Colour) (targets region : List Place) (c : List Cell) (s : List Place) → AreLiving n k region c s → (b : Bool) → b ≡ list_all (holds_place s) targets → IsTrue b ↔ PassAlive (game_of n targets k region) c

@@ -8,11 +8,11 @@ use Rattle.go_points.specs.Place.{Place, IsOn, number_of, place_of}
 use Rattle.go_points.specs.Points.{holds_place}
 use Rattle.go_points.proofs.Lists.{Member, any_to, member_map}
 use Rattle.go_points.proofs.Cells.{neighbours_member, adjacent_on_board, adjacent_back}
-use Rattle.go_chains.specs.Joined.{IsChainOf, IsLibertyOf}
+use Rattle.go_chains.specs.Joined.{IsChainOf}
 use Rattle.go_chains.proofs.Joins.{joined_self, joined_back, joined_on}
 use Rattle.pass_alive.specs.Life.{Points, Fixed}
 use Rattle.pass_alive.specs.Sets.{these, number_on, IsNear}
-use Rattle.pass_alive.specs.Private.Areas.{HasEyes, AreSides, IsBesideFree, IsFreePlace, IsNoEye, IsEyeArea, IsEyeOutside, NoEyeOutside, TwoEyeAreas, TwoEyeSets}
+use Rattle.pass_alive.specs.Private.Areas.{AreSides, IsBesideFree, IsFreePlace, IsNoEye, IsEyeArea, IsEyeOutside, NoEyeOutside, TwoEyeAreas, TwoEyeSets}
 use Rattle.target_game.specs.Legal.{holds_point}
 use Rattle.pass_alive.proofs.Regions.{place_back, number_back, number_low, on_place, region_holds}
 
@@ -35,35 +35,6 @@ near_no n set items p those on none b e = (λ h. absurd (cc (h, e)), λ near. ab
         let back : place_of n near.0 ≡ found.0 = ap (place_of n) found.2 ∙ place_back n found.0 (all_member (IsOn n) items on found.0 found.1) in
         cc (any_to (holds_place set) found.0 items found.1 (sym (ap (holds_place set) back) ∙ near.2), none)
 
--- the area of a point is an eye, or is none
-module _ (n : ℕ) (a : List Cell) (p : ℕ) (stones : Points) (chain area : List Place) (is : IsChainOf n a p area) where
-  pub eye_yes : ((x : Place) × IsTrue (holds_place area x) × IsBesideFree n a stones (number_of n x) → ⊥) → ((q : ℕ) → q < n * n → IsTrue (these n area q) → IsNear n (these n chain) q) → IsEyeArea n a stones (IsNear n (these n chain)) p
-  eye_yes closed near = record {
-    walls = λ r on lib. held r lib (stones r) refl;
-    beside = λ q on j. near q on ((is.joined q on).1 j);
-  }
-    where
-      held : (r : ℕ) → IsLibertyOf n a p r → (b : Bool) → stones r ≡ b → b ≡ true
-      held r lib true e = refl
-      held r lib false e =
-          let q = lib.1.0 in
-          let q_on : q < n * n = (adjacent_on_board n r q lib.1.1).1 in
-          let there : IsTrue (these n area q) = (is.joined q q_on).1 lib.1.2 in
-          absurd (closed (place_of n q, there, (r, subst (λ z. IsTrue (adjacent n z r)) (sym (number_back n q)) (adjacent_back n r q lib.1.1), lib.0, e)))
-
-  pub eye_walls : IsEyeArea n a stones (IsNear n (these n chain)) p → (x : Place) × IsTrue (holds_place area x) × IsBesideFree n a stones (number_of n x) → ⊥
-  eye_walls eye found =
-      let x = found.0 in
-      let x_on : IsOn n x = is.on_board x found.1 in
-      let low : number_of n x < n * n = number_low n x x_on in
-      let j = (is.joined (number_of n x) low).0 (ap (holds_place area) (place_back n x x_on) ∙ found.1) in
-      let r = found.2.0 in
-      let r_on : r < n * n = (adjacent_on_board n (number_of n x) r found.2.1).1 in
-      cc (eye.walls r r_on (found.2.2, (number_of n x, adjacent_back n (number_of n x) r found.2.1, j)), found.2.3)
-
-pub eye_near : (n : ℕ) (a : List Cell) (p : ℕ) (stones chain : Points) (area : List Place) → IsChainOf n a p area → IsEyeArea n a stones (IsNear n chain) p → (q : ℕ) → q < n * n → IsTrue (these n area q) → IsNear n chain q
-eye_near n a p stones chain area is eye q on held = eye.beside q on ((is.joined q on).0 held)
-
 -- what an eye asks of its own point
 pub eye_here : (n : ℕ) (a : List Cell) (stones chain : Points) (p : ℕ) → p < n * n → IsEyeArea n a stones (IsNear n chain) p → IsNear n chain p
 eye_here n a stones chain p on eye = eye.beside p on (joined_self n a p)
@@ -72,17 +43,17 @@ eye_here n a stones chain p on eye = eye.beside p on (joined_self n a p)
 pub empty_as : (cells : List Cell) (q : ℕ) (x : Cell) (b : Bool) → b ≡ same_cell x Empty → x ≡ cell_at cells q → same_cell (cell_at cells q) Empty ≡ b
 empty_as cells q x b e is = sym (e ∙ ap (λ (a : Cell). same_cell a Empty) is)
 
--- the area of an empty point, which another board has
-pub eye_found : (n m : ℕ) (c a : List Cell) (stones chain known : List Place) (x : Place) (area : List Place) → m ≡ n → IsFreePlace n c x → IsFalse (holds_place known x)
-    → IsChainOf m a (number_of m x) area × IsEyeArea m a (these m stones) (IsNear m (these m chain)) (number_of m x)
+-- the area of an empty point
+pub eye_found : (n : ℕ) (c a : List Cell) (stones chain known : List Place) (x : Place) (area : List Place) → IsFreePlace n c x → IsFalse (holds_place known x)
+    → IsChainOf n a (number_of n x) area × IsEyeArea n a (these n stones) (IsNear n (these n chain)) (number_of n x)
     → IsEyeOutside n c a (these n stones) (these n chain) (these n known) area
-eye_found n m c a stones chain known x area same place unknown found = record {
+eye_found n c a stones chain known x area place unknown found = record {
   at = number_of n x;
   on = number_low n x place.0;
   empty = place.1;
   unknown = ap (holds_place known) (place_back n x place.0) ∙ unknown;
-  area = subst (λ (k : ℕ). IsChainOf k a (number_of k x) area) same found.0;
-  eye = subst (λ (k : ℕ). IsEyeArea k a (these k stones) (IsNear k (these k chain)) (number_of k x)) same found.1;
+  area = found.0;
+  eye = found.1;
 }
 
 -- two eyes, from the two that were looked for
@@ -119,11 +90,11 @@ module _ (n : ℕ) (c a : List Cell) (stones chain : Points) where
           two.apart (joined_on n a two.first one.at two.second (joined_back n a one.at two.first ((one.area.joined two.first two.first_on).0 first)) ((one.area.joined two.second two.second_on).0 second))
 
 -- no eye beside the chain is none at all: an eye is beside it
-pub no_eye_outside : (n : ℕ) (c a : List Cell) (eyes stones : Points) (chain sides : List Place) (known : Points) → HasEyes n c a eyes (IsNear n (these n chain)) → AreSides n c eyes chain sides
+pub no_eye_outside : (n : ℕ) (c a : List Cell) (stones : Points) (chain sides : List Place) (known : Points) → AreSides n c chain sides
     → ((x : Place) → IsTrue (holds_place sides x) → IsNoEye n a stones (these n chain) known (number_of n x)) → NoEyeOutside n c a stones (these n chain) known
-no_eye_outside n c a eyes stones chain sides known has are none p on free unknown eye =
+no_eye_outside n c a stones chain sides known are none p on free unknown eye =
     let here = eye_here n a stones (these n chain) p on eye in
-    let there : IsTrue (these n sides p) = are.all p free (has p on free eye.beside) here in
+    let there : IsTrue (these n sides p) = are.all p free here in
     let back : number_of n (place_of n p) ≡ p = number_back n p in
     none (place_of n p) there (ap known back ∙ unknown) (subst (IsEyeArea n a stones (IsNear n (these n chain))) (sym back) eye)
 

@@ -2,14 +2,15 @@
 #![tactic(auto)]
 
 mod areas;
-mod candidates;
 mod chains;
 mod eyes;
+mod lasting;
 pub mod laws;
 mod living;
 mod problems;
 mod sets;
 mod sides;
+mod spread;
 
 pub use areas::areas_of;
 pub use living::{is_pass_alive, living_stones};

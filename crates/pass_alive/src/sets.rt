@@ -1,8 +1,8 @@
 //! Sets of points of which one is within the other, or beside it. Only the points that a set holds are looked at.
 
-ghost use Rattle.std.specs.Prelude.{◌≡◌, ◌*◌, ◌<◌, ◌↔◌, ℕ, IsTrue};
+ghost use Rattle.std.specs.Prelude.{◌≡◌, ◌↔◌, IsTrue};
 ghost use Rattle.std.specs.List.{list_all};
-ghost use Rattle.go_points.specs.Place.{Place, IsOn, number_of};
+ghost use Rattle.go_points.specs.Place.{IsOn, number_of};
 ghost use Rattle.go_points.specs.Points.{holds_place};
 ghost use Rattle.pass_alive.specs.Sets.{these, IsNear, IsWith};
 ghost use Rattle.pass_alive.specs.Private.Areas.{IsWithout};
@@ -33,20 +33,6 @@ pub fn is_near(size: Size, point: Point, set: &PointSet) -> bool
         }
     }
     false
-}
-
-/// Whether each point of the first set is adjacent to one of the second.
-pub(crate) fn are_near(size: Size, set: &PointSet, other: &PointSet) -> bool
-    requires { (p : Place) → IsTrue (holds_place set.now p) → IsOn size p }
-    ensures { IsTrue result ↔ ((q : ℕ) → q < size * size
-        → IsTrue (these size set.now q) → IsNear size (these size other.now) q) }
-{
-    for point in set.iter() {
-        if !is_near(size, point, other) {
-            return false;
-        }
-    }
-    true
 }
 
 /// Takes the points of the second set out of the first.

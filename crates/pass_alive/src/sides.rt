@@ -11,7 +11,7 @@ use go_chains::ChainBoard;
 use go_points::{Point, PointSet};
 
 /// Whether the point is adjacent to an empty point that is not in the set.
-fn is_beside_free(board: &ChainBoard, set: &PointSet, point: Point) -> bool
+pub(crate) fn is_beside_free(board: &ChainBoard, set: &PointSet, point: Point) -> bool
     requires { IsOn (side_of board.now) point }
     ensures { IsTrue result ↔ IsBesideFree (side_of board.now) board.now
         (these (side_of board.now) set.now) (number_of (side_of board.now) point) }

@@ -1,18 +1,19 @@
 -- Areas that are eyes, and what the loops over them do.
-use Rattle.std.specs.Prelude.{◌≡◌, ◌≢◌, ℕ, ◌*◌, ◌<◌, ◌⊎◌, Bool, IsTrue, IsFalse, List, length}
+use Rattle.std.specs.Prelude.{◌≡◌, ◌≢◌, ℕ, ◌+◌, ◌*◌, ◌<◌, ◌≤◌, ◌⊎◌, Bool, IsTrue, IsFalse, List, length, map}
+use Rattle.go_points.specs.declared.Colour.{Colour}
 use Rattle.go_points.specs.declared.Cell.{Cell}
-use Rattle.go_points.specs.declared.Cell.TheVariants.{Empty}
-use Rattle.go_points.specs.Grid.{adjacent, cell_at, side_of}
+use Rattle.go_points.specs.declared.Cell.TheVariants.{Empty, Stone}
+use Rattle.go_points.specs.Grid.{adjacent, cell_at}
 use Rattle.go_points.specs.Place.{Place, IsOn, number_of}
 use Rattle.go_points.specs.Points.{holds_place}
 use Rattle.go_chains.specs.Joined.{Joined, IsChainOf, IsLibertyOf}
+use Rattle.pass_alive.specs.Areas.{area_cell}
 use Rattle.pass_alive.specs.Life.{Points, IsBeside, Lasting}
 use Rattle.pass_alive.specs.Sets.{these, IsNear}
 
--- What the code needs of the areas: each empty point is in one.
-pub record HasAreas (c a : List Cell) : Type 0 where
-  pub size : side_of a ≡ side_of c
-  pub free : (q : ℕ) → q < side_of c * side_of c → cell_at c q ≡ Empty → cell_at a q ≢ Empty
+-- What a board of the areas between the stones of the colour k would hold.
+abbrev pub areas_in : Colour → List Cell → List Cell
+areas_in k c = map (area_cell k) c
 
 -- The area of the point p is an eye: the stones around it are among these, and each of its points is near.
 pub record IsEyeArea (n : ℕ) (a : List Cell) (stones : Points) (near : ℕ → Type 0) (p : ℕ) : Type 0 where
@@ -89,27 +90,46 @@ IsBesideFree n c set p = (q : ℕ) × IsTrue (adjacent n p q) × (cell_at c q �
 abbrev pub IsFreePlace : ℕ → List Cell → Place → Type 0
 IsFreePlace n c p = IsOn n p × (cell_at c (number_of n p) ≡ Empty)
 
--- The set with the empty points of the eyes that are adjacent to the point p, and no more of them.
-pub record HasSides (n : ℕ) (c : List Cell) (eyes : Points) (p : ℕ) (old new : List Place) : Type 0 where
+-- The set with the empty points that are adjacent to the point p, and no more of them.
+pub record HasSides (n : ℕ) (c : List Cell) (p : ℕ) (old new : List Place) : Type 0 where
   pub kept : (x : Place) → IsTrue (holds_place old x) → IsTrue (holds_place new x)
   pub free : (x : Place) → IsTrue (holds_place new x) → IsTrue (holds_place old x) ⊎ IsFreePlace n c x
-  pub added : (q : ℕ) → IsTrue (adjacent n p q) → cell_at c q ≡ Empty → IsTrue (eyes q) → IsTrue (these n new q)
+  pub added : (q : ℕ) → IsTrue (adjacent n p q) → cell_at c q ≡ Empty → IsTrue (these n new q)
 
--- The set of the empty points of the eyes that are adjacent to the chain.
-pub record AreSides (n : ℕ) (c : List Cell) (eyes : Points) (chain sides : List Place) : Type 0 where
+-- The set of the empty points that are adjacent to the chain.
+pub record AreSides (n : ℕ) (c : List Cell) (chain sides : List Place) : Type 0 where
   pub free : (x : Place) → IsTrue (holds_place sides x) → IsFreePlace n c x
-  pub all : (q : ℕ) → cell_at c q ≡ Empty → IsTrue (eyes q) → IsNear n (these n chain) q → IsTrue (these n sides q)
+  pub all : (q : ℕ) → cell_at c q ≡ Empty → IsNear n (these n chain) q → IsTrue (these n sides q)
 
--- Each empty point whose area is near, all of it, is among these points.
-abbrev pub HasEyes : ℕ → List Cell → List Cell → Points → (ℕ → Type 0) → Type 0
-HasEyes n c a eyes near = (p : ℕ) → p < n * n → cell_at c p ≡ Empty → ((q : ℕ) → q < n * n → Joined n a p q → near q) → IsTrue (eyes p)
+-- The points of an area that have been met, and those among them that have still to be looked at: some are met now, each of which is
+-- new in the sense given.
+pub record HasMet (is_new : Place → Type 0) (old_area old_left area left : List Place) : Type 0 where
+  pub kept : (x : Place) → IsTrue (holds_place old_area x) → IsTrue (holds_place area x)
+  pub left_kept : (x : Place) → IsTrue (holds_place old_left x) → IsTrue (holds_place left x)
+  pub added : (x : Place) → IsTrue (holds_place area x) → IsTrue (holds_place old_area x) ⊎ (IsTrue (holds_place left x) × is_new x)
+  pub among : (x : Place) → IsTrue (holds_place left x) → IsTrue (holds_place old_left x) ⊎ IsTrue (holds_place area x)
+  pub more : length old_area ≤ length area
+  pub as_many : length left + length old_area ≤ length old_left + length area
 
--- The area of the point i is looked at: its points have been seen, and are among the eyes if all of them are near.
-pub record IsGathered (n : ℕ) (c a : List Cell) (near : ℕ → Type 0) (i : ℕ) (old_seen old_eyes seen eyes : List Place) : Type 0 where
-  pub seen_kept : (q : ℕ) → q < n * n → IsTrue (these n old_seen q) → IsTrue (these n seen q)
-  pub eyes_kept : (q : ℕ) → q < n * n → IsTrue (these n old_eyes q) → IsTrue (these n eyes q)
-  pub here : cell_at c i ≡ Empty → IsTrue (these n seen i)
-  pub right : (p : ℕ) → p < n * n → IsTrue (these n seen p) → ((q : ℕ) → q < n * n → Joined n a p q → near q) → IsTrue (these n old_seen p) ⊎ IsTrue (these n eyes p)
+-- That point of an area.
+abbrev pub IsPoint : ℕ → Colour → List Cell → Place → Place → Type 0
+IsPoint n k c p x = (x ≡ p) × (cell_at c (number_of n x) ≢ Stone k)
+
+-- A point of an area beside the point p.
+abbrev pub IsBesidePoint : ℕ → Colour → List Cell → ℕ → Place → Type 0
+IsBesidePoint n k c p x = IsOn n x × IsTrue (adjacent n p (number_of n x)) × (cell_at c (number_of n x) ≢ Stone k)
+
+-- The point r is one of the area, or a stone among these.
+abbrev pub IsMetOrWall : ℕ → Colour → List Cell → Points → List Place → ℕ → Type 0
+IsMetOrWall n k c stones area r = IsTrue (these n area r) ⊎ ((cell_at c r ≡ Stone k) × IsTrue (stones r))
+
+-- The point r is a stone that is not among these.
+abbrev pub IsGap : Colour → List Cell → Points → ℕ → Type 0
+IsGap k c stones r = (cell_at c r ≡ Stone k) × IsFalse (stones r)
+
+-- The area of each point of the set is no eye.
+abbrev pub AreNoEyes : ℕ → List Cell → Points → Points → List Place → Type 0
+AreNoEyes n a stones chain s = (x : Place) → IsTrue (holds_place s x) → IsOn n x × (IsEyeArea n a stones (IsNear n chain) (number_of n x) → ⊥)
 
 -- One chain is judged, that of the stone i: it is marked as safe, or its stones are taken away.
 pub record IsJudged (n : ℕ) (region : List ℕ) (c a : List Cell) (i : ℕ) (old old_marked new new_marked : List Place) (has_dropped : Bool) : Type 0 where
@@ -119,3 +139,7 @@ pub record IsJudged (n : ℕ) (region : List ℕ) (c a : List Cell) (i : ℕ) (o
   pub within : (p : Place) → IsTrue (holds_place new p) → IsTrue (holds_place old p)
   pub fewer : IsTrue has_dropped → length new < length old
   pub kept : IsTrue has_dropped → (q : ℕ) → q < n * n → IsTrue (these n old q) → MayLive n region c a (these n old) q → IsTrue (these n new q)
+
+-- Each of the stones is in doubt, or has a lasting liberty.
+abbrev pub LastsOutside : ℕ → List ℕ → List Cell → Points → Points → Type 0
+LastsOutside n region c doubtful stones = (q : ℕ) → q < n * n → IsTrue (stones q) → IsTrue (doubtful q) ⊎ Lasting n region c q

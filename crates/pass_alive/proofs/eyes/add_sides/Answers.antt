@@ -1,23 +1,18 @@
-use Rattle.std.proofs.Common.{◌≡◌, ◌+◌, List, sym, ◌∙◌, ap, subst}
-use Rattle.go_points.specs.declared.Cell.{Cell}
+use Rattle.std.proofs.Common.{◌+◌, List, sym, ◌∙◌, subst}
 use Rattle.go_points.specs.declared.Cell.TheVariants.{Empty}
 use Rattle.go_points.specs.Grid.{cell_at, side_of}
 use Rattle.go_points.specs.Place.{Place, IsOn, number_of}
-use Rattle.go_points.specs.Points.{holds_place}
 use Rattle.go_points.proofs.Cells.{same_cell_eq, eq_same_cell}
-use Rattle.pass_alive.specs.Sets.{these}
-use Rattle.pass_alive.proofs.Regions.{place_back}
 use Rattle.pass_alive.proofs.Members.{beside_those, beside_item}
 use Rattle.pass_alive.proofs.Gathered.{SidesSoFar, sides_kept, sides_more, sides_all}
 use Rattle.pass_alive.proofs.Tests.{empty_as}
 use Rattle.pass_alive.proofs.eyes.add_sides.Goals as goal
-use Rattle.pass_alive.proofs.eyes.add_sides.Goals.{then-has+then-is_empty, else-has, else-has-via-then-has+else-is_empty, else-has-via-else-has}
+use Rattle.pass_alive.proofs.eyes.add_sides.Goals.{then-is_empty, else-is_empty}
 
 pub loop-neighbour-preserved : goal.loop-neighbour-preserved
 loop-neighbour-preserved c =
     let cells = c.args.board.now in
     let n = side_of cells in
-    let eyes = these n c.args.eyes.now in
     let old = c.args.sides.now in
     let now = c.loop-neighbour.sides in
     let x = c.neighbour-item.result in
@@ -26,21 +21,15 @@ loop-neighbour-preserved c =
     let low = c.loop-neighbour-test.true in
     let is = c.neighbour-item.is in
     let on : IsOn n x = (beside_item n c.size.result c.size.ensures c.args.point c.neighbours-neighbours.result.items items c.as_slice-neighbour-items.ensures.value c.neighbours-neighbours.ensures.exact c.neighbours-neighbours.ensures.on_board i x low is).0 in
-    let eye : eyes (number_of n x) ≡ c.has.result = ap (holds_place c.args.eyes.now) (place_back n x on) ∙ sym c.has.ensures in
-    elim c.if-has.branch [
-      | then-has+then-is_empty w ↦
-          (let cell = empty_as cells (number_of n x) w.cell.result w.is_empty.result w.is_empty.ensures w.cell.ensures in
-          subst (λ (s : List Place). SidesSoFar n cells eyes old items (i + 1) s) (sym (w.sides-is ∙ w.insert.ensures))
-          (sides_more n cells eyes old items i x low is now c.loop-neighbour.invariant (on, same_cell_eq (cell_at cells (number_of n x)) Empty (cell ∙ w.if-is_empty.true))))
-      | else-has w ↦
-          subst (λ (s : List Place). SidesSoFar n cells eyes old items (i + 1) s) (sym w.sides-is)
-          (sides_kept n cells eyes old items i x low is now c.loop-neighbour.invariant
-          (λ free held. elim w.else-has.branch [
-            | else-has-via-then-has+else-is_empty v ↦
-                (let cell = empty_as cells (number_of n x) v.cell.result v.is_empty.result v.is_empty.ensures v.cell.ensures in
-                cc (cell, v.if-is_empty.false, eq_same_cell (cell_at cells (number_of n x)) Empty free))
-            | else-has-via-else-has v ↦ cc (eye, held, v.if-has.false)
-          ]))
+    let cell = empty_as cells (number_of n x) c.cell.result c.is_empty.result c.is_empty.ensures c.cell.ensures in
+    elim c.if-is_empty.branch [
+      | then-is_empty w ↦
+          subst (λ (s : List Place). SidesSoFar n cells old items (i + 1) s) (sym (w.sides-is ∙ w.insert.ensures))
+          (sides_more n cells old items i x low is now c.loop-neighbour.invariant (on, same_cell_eq (cell_at cells (number_of n x)) Empty (cell ∙ w.if-is_empty.true)))
+      | else-is_empty w ↦
+          subst (λ (s : List Place). SidesSoFar n cells old items (i + 1) s) (sym w.sides-is)
+          (sides_kept n cells old items i x low is now c.loop-neighbour.invariant
+          (λ free. cc (cell, w.if-is_empty.false, eq_same_cell (cell_at cells (number_of n x)) Empty free)))
     ]
 
 pub returns : goal.returns
@@ -48,4 +37,4 @@ returns c =
     let cells = c.args.board.now in
     let n = side_of cells in
     let those = beside_those n c.size.result c.size.ensures c.args.point c.neighbours-neighbours.result.items c.as_slice-neighbour-items.result.now c.as_slice-neighbour-items.ensures.value c.neighbours-neighbours.ensures.exact in
-    sides_all n cells (these n c.args.eyes.now) c.args.sides.now c.as_slice-neighbour-items.result.now c.loop-neighbour.neighbour-index (number_of n c.args.point) c.loop-neighbour-test.false those c.loop-neighbour.sides c.loop-neighbour.invariant
+    sides_all n cells c.args.sides.now c.as_slice-neighbour-items.result.now c.loop-neighbour.neighbour-index (number_of n c.args.point) c.loop-neighbour-test.false those c.loop-neighbour.sides c.loop-neighbour.invariant

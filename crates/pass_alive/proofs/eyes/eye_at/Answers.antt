@@ -1,33 +1,86 @@
-use Rattle.std.proofs.Common.{◌*◌, ◌<◌, ℕ, IsTrue, sym, subst}
+use Rattle.std.proofs.Common.{◌≤◌, ℕ, sym, ◌∙◌, ap, subst}
+use Rattle.go_points.specs.declared.TheConstants.{MAX_POINTS}
 use Rattle.go_points.specs.Grid.{side_of}
-use Rattle.go_points.specs.Place.{number_of}
-use Rattle.pass_alive.specs.Sets.{these, IsNear}
-use Rattle.pass_alive.proofs.Tests.{eye_yes, eye_walls, eye_near}
+use Rattle.go_points.specs.Points.{with_place}
+use Rattle.pass_alive.specs.Sets.{these}
+use Rattle.pass_alive.specs.Private.Areas.{areas_in}
+use Rattle.pass_alive.proofs.Spreading.{in_areas, first_held, first_none, left_on, left_inside, spread_first, spread_more, spread_fails, more_fail, spread_less, spread_all}
 use Rattle.pass_alive.proofs.eyes.eye_at.Goals as goal
 
-pub returns-then-not-are_near-clause-none : goal.returns-then-not-are_near-clause-none
-returns-then-not-are_near-clause-none c eye =
-    let a = c.args.areas.now in
-    let n = side_of a in
-    let chain = c.args.chain.now in
-    let area = c.in_ok-area.area in
-    let near = subst (λ (m : ℕ). (q : ℕ) → q < m * m → IsTrue (these m area q) → IsNear m (these m chain) q) (sym c.size-size.ensures) (eye_near n a (number_of n c.args.point) (these n c.args.stones.now) (these n chain) area c.in_ok-area.ensures.some eye) in
-    cc (c.are_near.ensures.1 near, c.if-not-are_near.true)
+pub loop-next-init : goal.loop-next-init
+loop-next-init c =
+    let cells = c.args.board.now in
+    let n = side_of cells in
+    let k = c.args.colour in (
+      spread_first n k cells (areas_in k cells) (in_areas k cells) (these n c.args.stones.now) (these n c.args.chain.now) c.args.point c.requires.on c.requires.inside c.insert.new.self
+          (c.insert.ensures ∙ ap (λ s. with_place s c.args.point) c.new-area.ensures),
+      c.requires.failed,
+    )
 
-pub returns-then-are_beside_free-clause-none : goal.returns-then-are_beside_free-clause-none
-returns-then-are_beside_free-clause-none c eye =
-    let a = c.args.areas.now in
-    let n = side_of a in
-    eye_walls n a (number_of n c.args.point) (these n c.args.stones.now) c.args.chain.now c.in_ok-area.area c.in_ok-area.ensures.some eye (c.are_beside_free.ensures.0 c.if-are_beside_free.true)
+pub look_at-requires-clause-on : goal.look_at-requires-clause-on
+look_at-requires-clause-on c =
+    let cells = c.args.board.now in
+    let n = side_of cells in
+    let k = c.args.colour in
+    left_on n k cells (areas_in k cells) (in_areas k cells) (these n c.args.stones.now) (these n c.args.chain.now) c.args.point c.requires.on c.requires.inside c.loop-next.area c.loop-next.left c.loop-next.invariant.0
+    c.in-Some.next (first_held c.loop-next.left c.in-Some.next (sym c.in-Some.ensures.value))
+
+pub look_at-requires-clause-inside : goal.look_at-requires-clause-inside
+look_at-requires-clause-inside c =
+    let cells = c.args.board.now in
+    let n = side_of cells in
+    let k = c.args.colour in
+    left_inside n k cells (areas_in k cells) (in_areas k cells) (these n c.args.stones.now) (these n c.args.chain.now) c.args.point c.requires.on c.requires.inside c.loop-next.area c.loop-next.left c.loop-next.invariant.0
+    c.in-Some.next (first_held c.loop-next.left c.in-Some.next (sym c.in-Some.ensures.value))
+
+pub look_at-requires-clause-failed : goal.look_at-requires-clause-failed
+look_at-requires-clause-failed c = c.loop-next.invariant.1
+
+pub returns-then-not-look_at-clause-none : goal.returns-then-not-look_at-clause-none
+returns-then-not-look_at-clause-none c =
+    let cells = c.args.board.now in
+    let n = side_of cells in
+    let k = c.args.colour in
+    spread_fails n k cells (areas_in k cells) (in_areas k cells) (these n c.args.stones.now) (these n c.args.chain.now) c.args.point c.requires.on c.requires.inside c.loop-next.area c.loop-next.left c.loop-next.invariant.0
+    c.in-Some.next (first_held c.loop-next.left c.in-Some.next (sym c.in-Some.ensures.value)) c.look_at.new.area c.look_at.new.left c.look_at.ensures.met
+    (c.look_at.ensures.fails c.if-not-look_at.true)
+
+pub returns-then-not-look_at-clause-failed : goal.returns-then-not-look_at-clause-failed
+returns-then-not-look_at-clause-failed c =
+    let cells = c.args.board.now in
+    let n = side_of cells in
+    let k = c.args.colour in
+    more_fail n k cells (areas_in k cells) (in_areas k cells) (these n c.args.stones.now) (these n c.args.chain.now) c.args.point c.requires.on c.requires.inside c.loop-next.area c.loop-next.left c.loop-next.invariant.0
+    c.in-Some.next (first_held c.loop-next.left c.in-Some.next (sym c.in-Some.ensures.value)) c.look_at.new.area c.look_at.new.left c.look_at.ensures.met
+    (c.look_at.ensures.fails c.if-not-look_at.true) c.loop-next.failed c.put_in.new.set c.loop-next.invariant.1 c.put_in.ensures
+
+pub loop-next-smaller : goal.loop-next-smaller
+loop-next-smaller c =
+    let cells = c.args.board.now in
+    let n = side_of cells in
+    let k = c.args.colour in
+    spread_less n k cells (areas_in k cells) (in_areas k cells) (these n c.args.stones.now) (these n c.args.chain.now) c.args.point c.requires.on c.requires.inside c.loop-next.area c.loop-next.left c.loop-next.invariant.0
+    c.in-Some.next (first_held c.loop-next.left c.in-Some.next (sym c.in-Some.ensures.value)) c.look_at.new.area c.look_at.new.left c.look_at.ensures.met
+    MAX_POINTS (subst (λ (m : ℕ). m ≤ MAX_POINTS) c.len.ensures.value c.len.ensures.most)
+
+pub loop-next-preserved : goal.loop-next-preserved
+loop-next-preserved c =
+    let cells = c.args.board.now in
+    let n = side_of cells in
+    let k = c.args.colour in (
+      spread_more n k cells (areas_in k cells) (in_areas k cells) (these n c.args.stones.now) (these n c.args.chain.now) c.args.point c.requires.on c.requires.inside c.loop-next.area c.loop-next.left c.loop-next.invariant.0
+          c.in-Some.next (first_held c.loop-next.left c.in-Some.next (sym c.in-Some.ensures.value)) c.look_at.new.area c.look_at.new.left c.look_at.ensures.met
+          (c.look_at.ensures.near c.if-not-look_at.false) (c.look_at.ensures.closed c.if-not-look_at.false),
+      c.loop-next.invariant.1,
+    )
 
 pub returns-clause-some : goal.returns-clause-some
 returns-clause-some c =
-    let a = c.args.areas.now in
-    let n = side_of a in
-    let chain = c.args.chain.now in
-    let area = c.in_ok-area.area in (
-      c.in_ok-area.ensures.some,
-      eye_yes n a (number_of n c.args.point) (these n c.args.stones.now) chain area c.in_ok-area.ensures.some
-          (λ found. cc (c.are_beside_free.ensures.1 found, c.if-are_beside_free.false))
-          (subst (λ (m : ℕ). (q : ℕ) → q < m * m → IsTrue (these m area q) → IsNear m (these m chain) q) c.size-size.ensures (c.are_near.ensures.0 c.if-not-are_near.false)),
-    )
+    let cells = c.args.board.now in
+    let n = side_of cells in
+    let k = c.args.colour in
+    spread_all n k cells (areas_in k cells) (in_areas k cells) (these n c.args.stones.now) (these n c.args.chain.now) c.args.point c.requires.on c.requires.inside c.loop-next.area c.loop-next.left c.loop-next.invariant.0
+    (first_none c.loop-next.left (sym c.in_default.ensures.value))
+
+pub returns-clause-failed : goal.returns-clause-failed
+returns-clause-failed c = c.loop-next.invariant.1

@@ -1,5 +1,6 @@
 use Rattle.go_points.specs.Grid.{side_of}
-use Rattle.pass_alive.specs.Private.Areas.{IsNoEyePlace}
+use Rattle.pass_alive.specs.Sets.{these}
+use Rattle.pass_alive.specs.Private.Areas.{areas_in, AreNoEyes, IsNoEyePlace}
 use Rattle.pass_alive.proofs.Members.{AllBut}
 use Rattle.pass_alive.proofs.eyes.eye_outside.Given as goal
 
@@ -7,4 +8,5 @@ abbrev pub invariant-loop-point : goal.invariant-loop-point
 invariant-loop-point l =
     (goal.iterator-loop-point).can_next l.point-iterator
     × (goal.iterator-loop-point).is_finite l.point-iterator
-    × AllBut (IsNoEyePlace (side_of l.board) l.areas l.stones l.chain l.known) l.sides l.point-iterator
+    × AllBut (IsNoEyePlace (side_of l.board) (areas_in l.fn.colour l.board) l.stones l.chain l.known) l.sides l.point-iterator
+    × AreNoEyes (side_of l.board) (areas_in l.fn.colour l.board) (these (side_of l.board) l.stones) (these (side_of l.board) l.chain) l.failed

@@ -1,6 +1,5 @@
 use Rattle.std.proofs.Common.{rules}
 use Rattle.go_points.specs.Grid.{side_of}
-use Rattle.pass_alive.specs.Sets.{these}
 use Rattle.pass_alive.proofs.Gathered.{gathering_item, gathering_more}
 use Rattle.pass_alive.proofs.eyes.sides_of.Goals as goal
 
@@ -9,7 +8,7 @@ add_sides-requires c =
     let cells = c.args.board.now in
     let n = side_of cells in
     c.requires c.in-Some.stone
-    (gathering_item n cells (these n c.args.eyes.now) c.args.chain.now c.loop-stone.stone-iterator c.next.new.self c.in-Some.stone c.in-Some.ensures.steps c.loop-stone.sides c.loop-stone.invariant.2)
+    (gathering_item n cells c.args.chain.now c.loop-stone.stone-iterator c.next.new.self c.in-Some.stone c.in-Some.ensures.steps c.loop-stone.sides c.loop-stone.invariant.2)
 
 pub loop-stone-preserved : goal.loop-stone-preserved
 loop-stone-preserved c =
@@ -17,5 +16,5 @@ loop-stone-preserved c =
     let n = side_of cells in (
       search rules,
       search rules,
-      gathering_more n cells (these n c.args.eyes.now) c.args.chain.now c.loop-stone.stone-iterator c.next.new.self c.in-Some.stone c.in-Some.ensures.steps c.loop-stone.sides c.add_sides.new.sides c.add_sides.ensures c.loop-stone.invariant.2,
+      gathering_more n cells c.args.chain.now c.loop-stone.stone-iterator c.next.new.self c.in-Some.stone c.in-Some.ensures.steps c.loop-stone.sides c.add_sides.new.sides c.add_sides.ensures c.loop-stone.invariant.2,
     )

@@ -3,6 +3,7 @@ use Rattle.go_points.specs.Grid.{side_of}
 use Rattle.go_points.specs.Place.{number_of, place_of}
 use Rattle.go_points.specs.Points.{holds_place}
 use Rattle.pass_alive.specs.Sets.{these, number_on}
+use Rattle.pass_alive.specs.Private.Areas.{areas_in}
 use Rattle.pass_alive.proofs.Regions.{place_back, number_low}
 use Rattle.pass_alive.proofs.Sweeps.{judged_before, judged_safe, judged_unsafe}
 use Rattle.pass_alive.proofs.living.drop_chain.Goals as goal
@@ -16,7 +17,7 @@ returns-then-not-has c =
     let stones = c.args.stones.now in
     let marked = c.args.marked.now in
     let back : place_of n i ≡ c.args.point = place_back n c.args.point c.requires.on in
-    judged_before n (map (number_on n) c.args.region.now) cells c.args.areas.now i stones marked
+    judged_before n (map (number_on n) c.args.region.now) cells (areas_in c.args.colour c.args.board.now) i stones marked
     (elim c.then-not-has.branch [
       | then-not-has-via-then-not-has w ↦ λ held. absurd (cc (w.if-not-has.true, c.has.ensures, ap (holds_place stones) back, held))
       | then-not-has-via-else-not-has+then-has w ↦ λ held. ap (holds_place marked) back ∙ sym w.has-else-not-has.ensures ∙ w.if-has.true
@@ -28,7 +29,7 @@ returns-then-is_safe c =
     let n = side_of cells in
     let chain = c.in-Some.chain in
     let marked = c.args.marked.now in
-    judged_safe n (map (number_on n) c.args.region.now) cells c.args.areas.now (number_of n c.args.point) c.args.stones.now marked chain c.in-Some.ensures.some c.put_in.new.set
+    judged_safe n (map (number_on n) c.args.region.now) cells (areas_in c.args.colour c.args.board.now) (number_of n c.args.point) c.args.stones.now marked chain c.in-Some.ensures.some c.put_in.new.set
     c.put_in.ensures (c.is_safe.ensures.sound c.if-is_safe.true)
 
 pub returns : goal.returns
@@ -40,15 +41,6 @@ returns c =
     let stones = c.args.stones.now in
     let back : place_of n i ≡ c.args.point = place_back n c.args.point c.requires.on in
     let there : IsTrue (these n stones i) = ap (holds_place stones) back ∙ sym c.has.ensures ∙ c.if-not-has.false in
-    judged_unsafe n (map (number_on n) c.args.region.now) cells c.args.areas.now i stones c.args.marked.now chain c.in-Some.ensures.some c.take_out.new.set
+    judged_unsafe n (map (number_on n) c.args.region.now) cells (areas_in c.args.colour c.args.board.now) i stones c.args.marked.now chain c.in-Some.ensures.some c.take_out.new.set
     c.take_out.ensures (number_low n c.args.point c.requires.on) there
     (λ may. cc (c.is_safe.ensures.complete may, c.if-is_safe.false))
-
-pub is_safe-requires-clause-eyes : goal.is_safe-requires-clause-eyes
-is_safe-requires-clause-eyes c =
-    let n = side_of c.args.board.now in
-    let i = number_of n c.args.point in
-    let stones = c.args.stones.now in
-    let back : place_of n i ≡ c.args.point = place_back n c.args.point c.requires.on in
-    let there : IsTrue (these n stones i) = ap (holds_place stones) back ∙ sym c.has.ensures ∙ c.if-not-has.false in
-    c.requires.eyes i there

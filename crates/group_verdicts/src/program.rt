@@ -7,7 +7,7 @@ use crate::group::Group;
 use crate::json::{found_object, judged_object};
 use crate::lines::{found_lines, judged_lines};
 use crate::past::without_past;
-use crate::refusals::{before_passes, no_marks, no_stone, no_tree, node_asked, refused};
+use crate::refusals::{before_passes, no_marks, no_stone, no_tree, node_asked};
 use crate::side::{Finding, Side};
 use crate::solutions::{Told, solutions};
 use crate::table::Table;
@@ -22,7 +22,9 @@ use std::convert::AsStr;
 use std::io::{Read, Write};
 use std::num::NonZeroUsize;
 use target_game::Problem;
-use tool_parts::{Output, Status, read_whole, without_input, without_request, write_output};
+use tool_parts::{
+    Output, Status, read_whole, refused, without_input, without_request, write_output,
+};
 use tsumego_problem::{ProblemFault, board_size};
 
 /// The greatest number of entries of the search's table.

@@ -4,7 +4,7 @@ use record_tools::{NoStone, default_node, last_node};
 use sgf_text::{SgfFault, Tree};
 use std::alloc::{AllocError, Global};
 use std::convert::AsStr;
-use tool_parts::{Output, Status};
+use tool_parts::{Output, refused};
 use tsumego_problem::{ProblemFault, board_size};
 
 /// Why no tree was read.
@@ -13,11 +13,6 @@ pub(crate) fn no_tree(alloc: Global, fault: SgfFault) -> Result<Output, AllocErr
         return Err(AllocError);
     }
     refused(format!(in alloc; "refused: {fault}\n")?)
-}
-
-/// A refusal with this text.
-pub(crate) fn refused(text: String) -> Result<Output, AllocError> {
-    Ok(Output::Text(text, Status::Refused))
 }
 
 /// The number of the node that is asked about.

@@ -14,8 +14,7 @@ use Rattle.target_game.specs.Laws.{WinnerExists, NotBothWin}
 use Rattle.pass_alive.specs.Life.{PassAlive}
 use Rattle.pass_alive.specs.Told.{play_bound, Tells}
 use Rattle.pass_alive.specs.Laws.{DefenderWinsWithin, ShapesCanBeTold}
-use Rattle.go_points.specs.Ply.{Ply}
-use Rattle.proof_cert.specs.Claim.{Claim, Node, play, heads_of}
+use Rattle.proof_cert.specs.Claim.{Claim, heads_of}
 use Rattle.cert_check.specs.Body.{main_body_by}
 use Rattle.cert_check.proofs.ShortTrees.{FitsShort}
 use Rattle.cert_check.specs.Meaning.{heights_behind, height_by}

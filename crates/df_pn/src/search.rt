@@ -7,7 +7,7 @@
 //!
 //! Nothing is promised about the numbers: what is found is given to the checker.
 
-ghost use Rattle.std.specs.Prelude.{◌≡◌, ◌≤◌, ◌<◌, ◌+◌, IfErr};
+ghost use Rattle.std.specs.Prelude.{◌≡◌, ◌≤◌, ◌<◌, IfErr};
 ghost use Rattle.state_proofs.specs.declared.stop.Stop.TheVariants.{Steps};
 
 use crate::frame::{Child, Frame, Outcome, Standing, standing_of};

@@ -9,7 +9,6 @@ use Rattle.tsumego_problem.specs.Walk.{problem_within, history_limit}
 use Rattle.tool_parts.specs.Written.{end_of}
 use Rattle.tool_parts.specs.declared.output.Output.{Output}
 use Rattle.tool_parts.specs.declared.output.Output.TheVariants.{Record, Text}
-use Rattle.tool_parts.specs.declared.status.Status.{Status}
 use Rattle.tool_parts.specs.declared.status.Status.TheVariants.{Refused}
 use Rattle.first_turns.specs.declared.found.Found.{Found}
 use Rattle.first_turns.specs.declared.line.Later.{Later}

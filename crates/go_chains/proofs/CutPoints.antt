@@ -8,7 +8,7 @@ use Rattle.go_points.specs.declared.Cell.TheVariants.{Empty, Stone}
 use Rattle.go_points.specs.Grid.{same_cell, adjacent, neighbours, cell_at}
 use Rattle.go_points.proofs.Cells.{adjacent_on_board, adjacent_back, member_neighbours}
 use Rattle.go_chains.specs.Joined.{IsWay, Joined}
-use Rattle.go_chains.specs.Private.Chains.{nowhere, IsIn, Follows, Lists, total, HasCircle, HasCircles, HasCounts, IsClosed, IsBridged, Meet, IsNoCutPoint, touches, liberty_count, empties_beside}
+use Rattle.go_chains.specs.Private.Chains.{nowhere, IsIn, Follows, Lists, HasCircle, HasCircles, HasCounts, IsClosed, Meet, IsNoCutPoint, touches, liberty_count, empties_beside}
 use Rattle.go_chains.proofs.Totals.{total_same}
 use Rattle.go_chains.proofs.Joins.{joined_holds, way_on}
 use Rattle.go_chains.proofs.Exchange.{follows_kept}

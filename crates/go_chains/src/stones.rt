@@ -1,6 +1,6 @@
 //! Putting down a stone, and joining its chain with those beside it.
 
-ghost use Rattle.std.specs.Prelude.{◌≡◌, ◌≢◌, ◌*◌, ◌<◌, ◌≤◌, ℕ, true, slice_index, slice_set};
+ghost use Rattle.std.specs.Prelude.{◌≡◌, ◌*◌, ◌<◌, true, slice_index, slice_set};
 ghost use Rattle.go_points.specs.declared.Cell.TheVariants.{Stone};
 ghost use Rattle.go_points.specs.declared.TheConstants.{MAX_POINTS};
 ghost use Rattle.go_points.specs.Grid.{adjacent, cell_at, side_of};

@@ -1,5 +1,5 @@
 -- What the words of a colouring say of it: its size, each cell, and one cell written.
-use Rattle.std.proofs.Common.{◌≡◌, ◌≢◌, ℕ, zero, suc, ◌*◌, ◌<◌, ◌≤◌, Bool, true, false, not, List, [], ◌∷◌, map, length, length-set, get_or, set, replicate, inl, inr, refl, sym, ◌∙◌, ap, ap₂, subst, mul-le-mul, arith}
+use Rattle.std.proofs.Common.{◌≡◌, ◌≢◌, ℕ, zero, suc, ◌*◌, ◌<◌, ◌≤◌, Bool, false, not, List, length, length-set, get_or, set, replicate, inl, inr, refl, sym, ◌∙◌, ap, ap₂, subst, mul-le-mul, arith}
 use Rattle.std.proofs.lemmas.Bool.{cases_eq}
 use Rattle.std.proofs.lemmas.List.{ext_get_or, get_or-set_same, get_or-set_other, length-replicate}
 use Rattle.go_points.specs.declared.TheConstants.{MAX_SIZE, MAX_POINTS}

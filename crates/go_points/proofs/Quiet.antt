@@ -6,7 +6,7 @@ use Rattle.go_points.specs.declared.Cell.{Cell}
 use Rattle.go_points.specs.declared.Cell.TheVariants.{Empty, Stone}
 use Rattle.go_points.specs.Grid.{opponent_of, same_cell, cell_at}
 use Rattle.go_points.specs.Reach.{reaches, Reaches}
-use Rattle.go_points.specs.Clear.{is_captured, clear}
+use Rattle.go_points.specs.Clear.{clear}
 use Rattle.go_points.specs.Liberty.{all_reach_empty}
 use Rattle.go_points.specs.Move.{after_move}
 use Rattle.go_points.proofs.Cells.{same_cell_eq}

@@ -1,10 +1,9 @@
 -- Vertices as GTP writes them, there and back.
-use Rattle.std.proofs.Common.{◌≡◌, ℕ, ◌+◌, ◌-◌, ◌*◌, ◌/◌, ◌%◌, ◌<◌, ◌≤◌, Bool, true, false, ◌&&◌, cond, nat_eq, nat_lt, List, [], ◌∷◌, Option, Some, None, codes, refl, ◌∙◌, ap, ap₂, arith}
+use Rattle.std.proofs.Common.{◌≡◌, ℕ, ◌+◌, ◌-◌, ◌/◌, ◌%◌, ◌<◌, ◌≤◌, Bool, true, false, ◌&&◌, cond, nat_eq, nat_lt, [], ◌∷◌, Some, codes, refl, ◌∙◌, ap, ap₂, arith}
 use Rattle.std.specs.Char.{to_ascii_lowercase}
 use Rattle.std.specs.Str.{bytes_eq, str_to_ascii_lowercase}
 use Rattle.go_points.specs.Place.{Place, IsOn}
-use Rattle.go_points.specs.Gtp.{column_named, row_numbered, row_named, vertex_at, vertex_named, column_letter, row_digits, gtp_text}
-use Rattle.go_points.specs.declared.vertex.Vertex.{Vertex}
+use Rattle.go_points.specs.Gtp.{column_named, row_named, vertex_at, vertex_named, column_letter, row_digits, gtp_text}
 use Rattle.go_points.specs.declared.vertex.Vertex.TheVariants.{Pass, At}
 
 letter_back : (c : ℕ) → c < 25 → column_named (to_ascii_lowercase (column_letter c)) ≡ Some c

@@ -1,8 +1,6 @@
 -- Colourings in two bits a cell. These are tools and proofs for the type `Colouring`. They stand here because its impls cite them,
 -- and a reader may skip them.
-use Rattle.std.proofs.Common.{◌≡◌, ℕ, ◌+◌, ◌*◌, ◌^◌, ◌<◌, ◌≤◌, ◌⊎◌, inl, inr, Bool, true, false, List, map, length, get_or, refl, sym, ◌∙◌, ap, ap₂, subst, arith}
-use Rattle.std.specs.List.{range_with_len}
-use Rattle.std.specs.Int.{bit_at}
+use Rattle.std.proofs.Common.{◌≡◌, ℕ, ◌+◌, ◌*◌, ◌<◌, ◌≤◌, inl, inr, Bool, true, false, List, map, length, get_or, refl, sym, ◌∙◌, ap, subst, arith}
 use Rattle.std.proofs.lemmas.Bool.{cases_lt}
 use Rattle.std.proofs.lemmas.List.{get_or_past}
 use Rattle.std.proofs.lemmas.List.FromFn.{fill_by_all, get_or-map-range_with_len, length-map-range_with_len}
@@ -12,7 +10,7 @@ use Rattle.go_points.specs.declared.Cell.{Cell}
 use Rattle.go_points.specs.declared.Cell.TheVariants.{Empty, Stone}
 use Rattle.go_points.specs.Grid.{points, cell_at, side_of}
 use Rattle.go_points.specs.Points.{has_bit}
-use Rattle.go_points.specs.Private.Words.{word_count, words_that, word_that, IsWords}
+use Rattle.go_points.specs.Private.Words.{word_count, words_that, IsWords}
 use Rattle.go_points.specs.Private.Inverses.{word_back, bit_there}
 use Rattle.go_points.specs.Private.Sides.{side_of-whole}
 

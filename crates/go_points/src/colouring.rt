@@ -1,8 +1,7 @@
 //! What every point of a board holds.
 
-ghost use Rattle.std.specs.Prelude.{◌≡◌, ◌*◌, ◌<◌, ◌≤◌, ◌≢◌, ℕ, length, replicate, slice_set};
+ghost use Rattle.std.specs.Prelude.{◌≡◌, ◌*◌, ◌<◌, ◌≤◌, ◌≢◌, ℕ, replicate, slice_set};
 ghost use Rattle.go_points.specs.declared.Cell.TheVariants.{Empty};
-ghost use Rattle.go_points.specs.declared.TheConstants.{MAX_SIZE};
 ghost use Rattle.go_points.specs.Grid.{cell_at, side_of, IsColouring};
 ghost use Rattle.go_points.specs.Place.{IsOn, number_of};
 

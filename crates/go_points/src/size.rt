@@ -1,7 +1,7 @@
 //! The size of a board.
 
 ghost use Rattle.std.specs.Prelude.{◌≡◌, ◌*◌, ◌/◌, ◌<◌, ◌≤◌, ◌↔◌, SomeIff, IsTrue};
-ghost use Rattle.go_points.specs.Place.{Place, IsOn, number_of, place_of};
+ghost use Rattle.go_points.specs.Place.{IsOn, number_of, place_of};
 ghost use Rattle.go_points.specs.declared.TheConstants.{MAX_SIZE, MAX_POINTS};
 
 use crate::MAX_SIZE;

@@ -1,6 +1,6 @@
 //! Vertices as GTP 2 writes them.
 
-ghost use Rattle.std.specs.Prelude.{◌≡◌, ◌≤◌, IfSome};
+ghost use Rattle.std.specs.Prelude.{◌≡◌, ◌≤◌};
 ghost use Rattle.go_points.specs.Place.{IsOn};
 ghost use Rattle.go_points.specs.Gtp.{column_named, column_letter, row_numbered, row_named, vertex_named, gtp_text};
 

@@ -5,7 +5,7 @@
 //! place stays right when the last colouring is removed, so nothing has to be counted.
 
 ghost use Rattle.std.specs.Prelude.{◌≡◌, ◌<◌, ◌≤◌, ◌%◌, ℕ, length, replicate, slice_index};
-ghost use Rattle.go_turns.specs.History.{place_in, repeats, HasNoneOf};
+ghost use Rattle.go_turns.specs.History.{repeats};
 ghost use Rattle.go_turns.specs.Private.Buckets.{bucket_count};
 
 use crate::seen::Seen;

@@ -1,7 +1,7 @@
 //! The colourings that have occurred, in a vector that is searched from the front: the simplest list.
 
-ghost use Rattle.std.specs.Prelude.{◌≡◌, ◌<◌, ◌-◌, ◌++◌, ◌∷◌, [], Some, None, IsFalse, OnOk, OnErr, length, slice_get, take};
-ghost use Rattle.go_turns.specs.History.{place_in, repeats};
+ghost use Rattle.std.specs.Prelude.{◌<◌, ◌-◌, Some, None, IsFalse};
+ghost use Rattle.go_turns.specs.History.{repeats};
 
 use crate::seen::Seen;
 use go_points::Colouring;

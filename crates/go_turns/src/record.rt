@@ -8,7 +8,7 @@ ghost use Rattle.go_points.specs.Liberty.{first_without_liberty};
 ghost use Rattle.go_points.specs.Ply.{ply_of, pass as a_pass, move as a_move};
 ghost use Rattle.go_turns.specs.History.{place_in, repeats};
 ghost use Rattle.stone_key.specs.Key.{key_of};
-ghost use Rattle.go_turns.specs.Record.{colouring_of, numbered, assigned, play_of, setup_of, set_up, undo_of, opened, reopened, Did, DidIfLegal, DidWithoutMemory, Opens};
+ghost use Rattle.go_turns.specs.Record.{numbered, assigned, play_of, setup_of, set_up, undo_of, opened, reopened, Did, DidIfLegal, DidWithoutMemory, Opens};
 ghost use Rattle.go_turns.specs.Private.Steps.{CanStand, IsAt, IsNotAdded, Joins};
 
 use crate::board::Board;

@@ -1,5 +1,5 @@
 -- What the first procedure makes of its answers (this project's own).
-use Rattle.std.specs.Prelude.{ℕ, ◌+◌, Bool, true, false, not, ◌&&◌, ◌||◌, nat_lt, nat_le, nat_eq, if◌then◌else◌, Option, Some, None, is_some, is_none}
+use Rattle.std.specs.Prelude.{Bool, false, ◌&&◌, ◌||◌, nat_lt, nat_eq, if◌then◌else◌, Option, Some, None, is_some, is_none}
 use Rattle.group_verdicts.specs.declared.side.Side.{Side}
 use Rattle.group_verdicts.specs.declared.side.Side.TheVariants.{Attacker, Defender}
 use Rattle.group_verdicts.specs.declared.side.Word.{Word}

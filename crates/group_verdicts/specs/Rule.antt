@@ -1,5 +1,5 @@
 -- What two procedures say together, and what both first moves say about a group (this project's own).
-use Rattle.std.specs.Prelude.{◌≡◌, ℕ, Bool, true, false, not, ◌&&◌, ◌||◌, nat_lt, nat_eq, if◌then◌else◌, List, [], ◌∷◌, Option, Some, None, IsTrue}
+use Rattle.std.specs.Prelude.{◌≡◌, Bool, false, not, ◌&&◌, ◌||◌, nat_lt, nat_eq, if◌then◌else◌, List, [], ◌∷◌, Option, Some, None, IsTrue}
 use Rattle.group_verdicts.specs.declared.side.Side.{Side}
 use Rattle.group_verdicts.specs.declared.side.Side.TheVariants.{Attacker, Defender}
 use Rattle.group_verdicts.specs.declared.side.Word.{Word}

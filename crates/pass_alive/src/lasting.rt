@@ -1,6 +1,6 @@
 //! Which stones have a liberty that nobody can fill. Where the region is small most have one, and need no eyes.
 
-ghost use Rattle.std.specs.Prelude.{◌*◌, ◌↔◌, ℕ, IsTrue, map};
+ghost use Rattle.std.specs.Prelude.{◌↔◌, ℕ, IsTrue, map};
 ghost use Rattle.go_points.specs.Grid.{side_of};
 ghost use Rattle.go_points.specs.Place.{Place, IsOn};
 ghost use Rattle.go_points.specs.Points.{holds_place};

@@ -4,7 +4,7 @@ ghost use Rattle.std.specs.Prelude.{◌≢◌, ◌*◌, ℕ, IsTrue, IsFalse};
 ghost use Rattle.go_points.specs.declared.Cell.TheVariants.{Stone};
 ghost use Rattle.go_points.specs.Grid.{adjacent, cell_at, side_of};
 ghost use Rattle.go_points.specs.Place.{IsOn, number_of};
-ghost use Rattle.go_points.specs.Points.{holds_place, without_place};
+ghost use Rattle.go_points.specs.Points.{without_place};
 ghost use Rattle.pass_alive.specs.Sets.{these, IsNear};
 ghost use Rattle.pass_alive.specs.Private.Areas.{areas_in, HasMet, IsPoint, IsBesidePoint, IsMetOrWall, IsGap, IsEyeArea, AreNoEyes};
 

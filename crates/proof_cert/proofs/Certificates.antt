@@ -5,7 +5,7 @@ use Rattle.std.specs.List.{list_all}
 use Rattle.std.proofs.lemmas.List.Folds.{list_all-append}
 use Rattle.go_points.specs.declared.Turn.{Turn}
 use Rattle.go_points.specs.Ply.{ply_of}
-use Rattle.proof_cert.specs.Claim.{won, by_lemma, play, all, branch, no_branch, branch_turns}
+use Rattle.proof_cert.specs.Claim.{won, by_lemma, play, all, branch, branch_turns}
 use Rattle.proof_cert.specs.Claim as claim
 use Rattle.proof_cert.specs.Certificate.{node_step, node_of, replies_of}
 use Rattle.proof_cert.specs.declared.certificate.Node.{Node, Node-F, fold-roll-Node}

@@ -1,6 +1,6 @@
 //! The text of a claim.
 
-ghost use Rattle.std.specs.Prelude.{◌≡◌, ◌++◌, ℕ, ◌↔◌, IsTrue, IsSomeAnd, OnOk, OnErr, Err, None, Some, map};
+ghost use Rattle.std.specs.Prelude.{◌≡◌, ℕ, ◌↔◌, IsTrue, IsSomeAnd, OnOk, OnErr, Err, None, Some, map};
 ghost use Rattle.std.specs.List.{list_all};
 ghost use Rattle.std.specs.Io.KnownBytes.{Appends};
 ghost use Rattle.proof_cert.specs.Lines.{node_lines, branch_lines, lemma_lines, lemmas_lines, lines_of, had_spelled, not_line, use_line};

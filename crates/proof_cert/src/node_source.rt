@@ -1,6 +1,6 @@
 //! Sources of lines: what each of them provides, whether its lines are held, walked or read.
 
-ghost use Rattle.std.specs.Prelude.{◌≡◌, ◌+◌, ◌-◌, ◌^◌, ◌<◌, ℕ, Option, Result, Some, None, Err, IfSome, OnSome};
+ghost use Rattle.std.specs.Prelude.{◌≡◌, ◌+◌, ◌-◌, ◌^◌, ◌<◌, ℕ, Option, Result, None, Err, IfSome, OnSome};
 ghost use Rattle.proof_cert.specs.declared.source.SourceFault.{SourceFault as Fault};
 ghost use Rattle.proof_cert.specs.Lines.{Line as SpecLine};
 ghost use Rattle.proof_cert.specs.Private.Source.{answer_value};

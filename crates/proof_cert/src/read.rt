@@ -1,7 +1,6 @@
 //! Whole claims, read from their bytes.
 
 ghost use Rattle.std.specs.Prelude.{◌≡◌, ◌+◌, ◌-◌, ◌≤◌, ◌⊎◌, ◌↔◌, ℕ, IfOk, IfErr, IfSome, Some, Err, length, map, option_map, true};
-ghost use Rattle.go_points.specs.Ply.{ply_of};
 ghost use Rattle.proof_cert.specs.Claim.{Claim, IsWithinLimits, max_depth, max_lemmas, max_listed, max_nodes};
 ghost use Rattle.proof_cert.specs.Text.{text};
 ghost use Rattle.proof_cert.specs.Stage.{line_value};

@@ -1,7 +1,6 @@
 //! The lines of a claim, one at a time, from some bytes and then from a reader.
 
 ghost use Rattle.std.specs.Prelude.{◌≡◌, ◌+◌, ◌-◌, ◌<◌, ◌^◌, [], None, Some, Err, IfOk};
-ghost use Rattle.std.specs.Io.KnownBytes.{Consumes};
 ghost use Rattle.proof_cert.specs.Private.Source.{answer_value};
 ghost use Rattle.proof_cert.specs.Given.{lines_counted};
 ghost use Rattle.proof_cert.specs.Streamed.{IsPiece, IsRead, reader_gives, streamed_of, short_streamed_of};

@@ -1,6 +1,6 @@
 //! The bytes that are held and then those of a reader, one byte or one line at a time, from a block of fixed size.
 
-ghost use Rattle.std.specs.Prelude.{◌≡◌, ◌≤◌, ◌++◌, [], ℕ, length, take, None, IfOk, IfSome, option_map, Ok, Some};
+ghost use Rattle.std.specs.Prelude.{◌≡◌, ◌≤◌, ◌++◌, length, take, None, IfOk, IfSome, option_map, Ok, Some};
 ghost use Rattle.proof_cert.specs.Stage.{line_value};
 ghost use Rattle.proof_cert.specs.Private.Body.{body_value};
 ghost use Rattle.proof_cert.specs.Given.{line_answer};

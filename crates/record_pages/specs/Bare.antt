@@ -1,5 +1,5 @@
 -- A problem without the game before it.
-use Rattle.std.specs.Prelude.{◌≡◌, ℕ, List, [], ◌∷◌, map, Ok}
+use Rattle.std.specs.Prelude.{◌≡◌, List, [], ◌∷◌, map, Ok}
 use Rattle.go_points.specs.Place.{Place, number_of}
 use Rattle.go_points.specs.declared.Cell.{Cell}
 use Rattle.target_game.specs.State.{GameProblem, start}

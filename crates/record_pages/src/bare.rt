@@ -1,7 +1,6 @@
 //! A problem without the game before it.
 
-ghost use Rattle.std.specs.Prelude.{◌≡◌, ◌∷◌, [], IfOk, IfSome};
-ghost use Rattle.target_game.specs.State.{start};
+ghost use Rattle.std.specs.Prelude.{IfOk, IfSome};
 ghost use Rattle.record_pages.specs.Bare.{IsAlone, IsBare};
 
 use go_points::Colouring;

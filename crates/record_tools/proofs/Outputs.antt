@@ -8,7 +8,6 @@ use Rattle.tsumego_problem.specs.Walk.{problem_within, history_limit}
 use Rattle.tool_parts.specs.Written.{end_of}
 use Rattle.tool_parts.specs.declared.output.Output.{Output}
 use Rattle.tool_parts.specs.declared.output.Output.TheVariants.{Record, Text}
-use Rattle.tool_parts.specs.declared.status.Status.{Status}
 use Rattle.tool_parts.specs.declared.status.Status.TheVariants.{Refused}
 use Rattle.record_tools.specs.declared.marked_record.Marks.{Marks}
 use Rattle.record_tools.specs.declared.words.Request.{Request}

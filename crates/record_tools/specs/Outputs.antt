@@ -10,7 +10,6 @@ use Rattle.tsumego_problem.specs.Walk.{problem_within, history_limit}
 use Rattle.record_pages.specs.Bare.{IsBare}
 use Rattle.tool_parts.specs.declared.output.Output.{Output}
 use Rattle.tool_parts.specs.declared.output.Output.TheVariants.{Record, Text}
-use Rattle.tool_parts.specs.declared.status.Status.{Status}
 use Rattle.tool_parts.specs.declared.status.Status.TheVariants.{Answered}
 use Rattle.record_tools.specs.declared.marked_record.Marks.{Marks}
 use Rattle.record_tools.specs.declared.marked_record.Region.{Region}

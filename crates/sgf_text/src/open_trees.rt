@@ -2,10 +2,10 @@
 //!
 //! The trees are on a stack of their own, which the limit on depth bounds, so reading does not recurse.
 
-ghost use Rattle.std.specs.Prelude.{◌≡◌, ◌+◌, false, length, nat_lt, IsTrue, OnOk, IfOk, ◌<◌};
+ghost use Rattle.std.specs.Prelude.{◌≡◌, ◌+◌, IsTrue, OnOk, IfOk, ◌<◌};
 ghost use Rattle.sgf_text.specs.Bytes.{sign_of};
-ghost use Rattle.sgf_text.specs.Followers.{transition, depth_limit, node_limit};
-ghost use Rattle.sgf_text.specs.OpenTrees.{Steps, IsSound, at_start, led, can_close, opened_in, begun_in, ClosesTo, node_ended, property_ended, ident_ended, value_ended, with_byte};
+ghost use Rattle.sgf_text.specs.Followers.{transition, node_limit};
+ghost use Rattle.sgf_text.specs.OpenTrees.{Steps, IsSound, at_start, led, can_close, opened_in, begun_in, ClosesTo, node_ended, property_ended, ident_ended, value_ended};
 
 use crate::bytes::Bytes;
 use crate::fault::SgfFault;

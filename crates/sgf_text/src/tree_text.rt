@@ -4,7 +4,6 @@ ghost use Rattle.std.specs.Prelude.{OnOk, OnErr, flat_map};
 ghost use Rattle.std.specs.Io.KnownBytes.{Appends};
 ghost use Rattle.byte_writer.specs.Taken.{HasPut, TakesPart};
 ghost use Rattle.sgf_text.specs.Text.{value_text, property_text, node_text, tree_text};
-ghost use Rattle.sgf_text.specs.Trees.{forest_of};
 
 use crate::bytes::Bytes;
 use crate::node::{Property, SgfNode};

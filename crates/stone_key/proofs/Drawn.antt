@@ -1,12 +1,10 @@
 -- The word at a place of the generator's first words is the word that it draws after so many others.
-use Rattle.std.proofs.Common.{◌≡◌, ℕ, zero, suc, ◌+◌, ◌<◌, List, slice_index, refl, sym, ap, ◌∙◌, subst, arith, rules}
+use Rattle.std.proofs.Common.{◌≡◌, ℕ, zero, suc, ◌+◌, ◌<◌, slice_index, refl, sym, ap, ◌∙◌, arith}
 use Rattle.rand_core.specs.Steps.{first_words}
 use Rattle.rand_core.specs.Pcg32Seed.{pcg32_seed}
-use Rattle.rand_pcg.specs.Lcg.{Lcg}
 use Rattle.rand_pcg.specs.Pcg.{pcg64, pcg64_of_seed}
 use Rattle.stone_key.specs.declared.words.TheConstants.{WORD_COUNT}
 use Rattle.stone_key.specs.Key.{generator_after, word_after}
-use Rattle.stone_key.proofs.Table.{table}
 
 first_generator : generator_after 0 ≡ pcg64_of_seed (pcg32_seed 32 1)
 unfolding generator_after

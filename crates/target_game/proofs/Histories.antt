@@ -1,6 +1,6 @@
 -- A history of a colouring with others: those of the others that differ from it, one by one.
 use Rattle.std.proofs.Common.{◌≡◌, ℕ, zero, suc, ◌+◌, ◌<◌, Bool, true, false, cond, not, ◌||◌, List, [], ◌∷◌, ◌++◌, drop, length, get_or, filter, refl, sym, ap, ◌∙◌, append_assoc, append-nil, arith}
-use Rattle.std.specs.List.{All, list_any}
+use Rattle.std.specs.List.{All}
 use Rattle.std.proofs.Math.Seq.{drop-cons, drop-length}
 use Rattle.go_points.specs.declared.Cell.{Cell}
 use Rattle.go_points.specs.Grid.{same_cells}

@@ -6,7 +6,7 @@ use Rattle.go_points.specs.declared.Cell.{Cell}
 use Rattle.go_points.specs.declared.Colour.{Colour}
 use Rattle.go_points.specs.declared.Colour.TheVariants.{Black, White}
 use Rattle.go_points.specs.declared.Cell.TheVariants.{Empty, Stone}
-use Rattle.go_points.specs.Grid.{same_cell, side_of, IsColouring}
+use Rattle.go_points.specs.Grid.{same_cell, side_of}
 use Rattle.go_points.specs.Place.{Place, IsOn, on_board}
 use Rattle.go_points.specs.Points.{first_place}
 use Rattle.go_points.proofs.Cells.{same_cell_refl}

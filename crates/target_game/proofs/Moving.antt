@@ -1,5 +1,5 @@
 -- With no pass standing nobody loses by moving first.
-use Rattle.std.proofs.Common.{◌≡◌, ℕ, zero, suc, ◌+◌, Bool, true, false, not, nat_eq, ◌⊎◌, inl, inr, if◌then◌else◌, IsTrue, List, Option, Some, None, refl, sym, ◌∙◌, ap, ap₂}
+use Rattle.std.proofs.Common.{◌≡◌, ℕ, zero, suc, ◌+◌, Bool, true, false, nat_eq, ◌⊎◌, inl, inr, if◌then◌else◌, Some, None, refl, sym, ◌∙◌, ap, ap₂}
 use Rattle.go_points.specs.declared.Colour.{Colour}
 use Rattle.go_points.specs.declared.Colour.TheVariants.{Black, White}
 use Rattle.go_points.specs.Grid.{opponent_of, same_colour}
@@ -11,7 +11,7 @@ use Rattle.target_game.specs.Legal.{legal, legal_turns}
 use Rattle.target_game.specs.Next.{next}
 use Rattle.target_game.specs.Over.{targets_stand, over}
 use Rattle.target_game.specs.Wins.{some_or_each, wins, Wins}
-use Rattle.target_game.proofs.Winning.{over_cases, wins_over, wins_none, wins_next, wins_more, wins_by_turn, wins_by_replies, member_legal, legal_member}
+use Rattle.target_game.proofs.Winning.{over_cases, wins_over, wins_none, wins_next, wins_by_turn, wins_by_replies, member_legal, legal_member}
 
 other_colour : (x : Colour) → same_colour (opponent_of x) x ≡ false
 other_colour Black = refl

@@ -1,6 +1,6 @@
 //! The empty points of the region one by one, without a list of them.
 
-ghost use Rattle.std.specs.Prelude.{◌≡◌, ◌+◌, ◌*◌, IfSome, IfNone};
+ghost use Rattle.std.specs.Prelude.{◌+◌, ◌*◌, IfSome, IfNone};
 ghost use Rattle.go_points.specs.Place.{IsOn, number_of};
 ghost use Rattle.target_game.specs.Left.{IsNextOpen, NoneLegal};
 

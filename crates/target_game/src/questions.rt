@@ -1,11 +1,10 @@
 //! The questions that a problem is asked before it is one.
 
-ghost use Rattle.std.specs.Prelude.{◌≡◌, ◌*◌, ◌<◌, ℕ, [], map, length, nat_eq, slice_index_or, IsTrue, MatchResult, Some, None};
+ghost use Rattle.std.specs.Prelude.{◌≡◌, ◌*◌, ◌<◌, [], map, length, nat_eq, slice_index_or, IsTrue, MatchResult, Some, None};
 ghost use Rattle.std.specs.List.{All, list_all};
 ghost use Rattle.go_points.specs.Grid.{cell_at, same_cell, side_of};
 ghost use Rattle.go_points.specs.Liberty.{all_reach_empty};
 ghost use Rattle.go_points.specs.Place.{IsOn, on_board, number_of};
-ghost use Rattle.go_turns.specs.History.{repeats};
 ghost use Rattle.target_game.specs.Problem.{one_colour, first_refusal, refusals};
 
 use crate::MAX_HISTORY;

@@ -9,7 +9,7 @@ ghost use Rattle.go_points.specs.Ply.{ply_of, move, pass};
 ghost use Rattle.go_points.specs.declared.Cell.TheVariants.{Empty};
 ghost use Rattle.go_turns.specs.History.{place_in, repeats};
 ghost use Rattle.stone_key.specs.Key.{key_of};
-ghost use Rattle.target_game.specs.State.{Game, GameState, GameProblem, Line, start, state_alone, state_with};
+ghost use Rattle.target_game.specs.State.{Line, start, state_alone, state_with};
 ghost use Rattle.target_game.specs.Legal.{legal, holds_point};
 ghost use Rattle.target_game.specs.Left.{is_repeat, line_if};
 ghost use Rattle.target_game.specs.Next.{next};

@@ -3,8 +3,7 @@
 //! The pass goes down with the number of states that are still allowed and gives back what is left of it, so no sum can overflow
 //! and the pass stops at the first state past the limit. It keeps one path of play and makes no list of turns.
 
-ghost use Rattle.std.specs.Prelude.{◌≡◌, ◌+◌, ◌≤◌, OnOk, IfOk, None, if◌then◌else◌};
-ghost use Rattle.go_points.specs.Grid.{same_colour};
+ghost use Rattle.std.specs.Prelude.{◌≡◌, OnOk, IfOk, None, if◌then◌else◌};
 ghost use Rattle.go_points.specs.declared.Colour.TheVariants.{Black, White};
 ghost use Rattle.target_game.specs.Legal.{legal_turns};
 ghost use Rattle.target_game.specs.Over.{over};

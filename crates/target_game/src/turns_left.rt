@@ -1,14 +1,13 @@
 //! The legal turns of a state one by one, without a list of them.
 
 ghost use Rattle.std.specs.Prelude.{◌≡◌, ◌*◌, [], Some, None, IfOk, IfSome, IfNone, OnErr, is_none, map, option_map, if◌then◌else◌};
-ghost use Rattle.go_points.specs.Place.{IsOn, number_of};
+ghost use Rattle.go_points.specs.Place.{number_of};
 ghost use Rattle.go_points.specs.Ply.{ply_of, move};
 ghost use Rattle.target_game.specs.Child.{child_of};
 ghost use Rattle.target_game.specs.Kept.{turn_from};
 ghost use Rattle.target_game.specs.Legal.{legal_turns};
 ghost use Rattle.target_game.specs.Left.{IsNextMove, NoneLegal, Takes, line_with};
 ghost use Rattle.target_game.specs.Over.{over};
-ghost use Rattle.target_game.specs.State.{Line};
 
 use crate::MAX_TURNS;
 use crate::child::Child;

@@ -12,7 +12,7 @@ use Rattle.target_game.specs.Answers.{AnswerTree, answers}
 use Rattle.tsumego_problem.specs.Walk.{problem_of, has_no_liberty, are_targets, colour_of}
 use Rattle.tsumego_problem.specs.Canonical.{canonical, solution, present}
 use Rattle.tsumego_problem.specs.Below.{below_problem, Shows, Below}
-use Rattle.sgf_text.specs.Trees.{Forest, GameTree}
+use Rattle.sgf_text.specs.Trees.{Forest}
 
 -- Is each colouring different from those before it?
 abbrev pub each_new : List (List Cell) → List (List Cell) → Bool

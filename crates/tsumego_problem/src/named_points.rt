@@ -1,6 +1,6 @@
 //! The points that the values of a property stand for.
 
-ghost use Rattle.std.specs.Prelude.{◌≡◌, ◌&&◌, ◌++◌, ◌∷◌, [], length, nat_le, filter, map, option_map, Some, IfSome};
+ghost use Rattle.std.specs.Prelude.{◌≡◌, ◌&&◌, ◌++◌, ◌∷◌, length, nat_le, filter, map, option_map, Some, IfSome};
 ghost use Rattle.std.specs.List.{All};
 ghost use Rattle.go_points.specs.Grid.{points};
 ghost use Rattle.go_points.specs.Place.{IsOn, number_of};

@@ -1,6 +1,6 @@
 //! What the values of a record stand for.
 
-ghost use Rattle.std.specs.Prelude.{◌≡◌, ◌≤◌, length, reverse, option_map, option_and_then};
+ghost use Rattle.std.specs.Prelude.{◌≡◌, ◌≤◌, length, reverse, option_map};
 ghost use Rattle.go_points.specs.Ply.{ply_of};
 ghost use Rattle.tsumego_problem.specs.Values.{skip_white, trim, turn_in, colour_in};
 

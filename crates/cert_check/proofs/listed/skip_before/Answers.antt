@@ -1,5 +1,5 @@
 use Rattle.std.proofs.Common.{refl, sym, ◌∙◌}
-use Rattle.cert_check.proofs.Apart.{passed_one, passed_within}
+use Rattle.cert_check.proofs.Apart.{passed_one}
 use Rattle.cert_check.proofs.listed.skip_before.Goals as goal
 
 pub skipping-init : goal.skipping-init

@@ -1,5 +1,4 @@
-use Rattle.std.proofs.Common.{rules, ◌≡◌, ◌*◌, ◌≤◌, List, None, sym, ◌∙◌, ap}
-use Rattle.go_points.specs.declared.Cell.{Cell}
+use Rattle.std.proofs.Common.{rules, ◌≡◌, ◌*◌, ◌≤◌, None, sym, ◌∙◌, ap}
 use Rattle.go_points.specs.declared.TheConstants.{MAX_POINTS}
 use Rattle.go_points.specs.Grid.{side_of}
 use Rattle.go_points.specs.Liberty.{first_without_liberty}

@@ -1,4 +1,4 @@
-use Rattle.std.proofs.Common.{◌≡◌, ℕ, inr, true, map, sym, ◌∙◌, ap, subst}
+use Rattle.std.proofs.Common.{◌≡◌, inr, true, map, sym, ◌∙◌, ap, subst}
 use Rattle.go_points.specs.Grid.{adjacent, neighbours}
 use Rattle.go_points.specs.Place.{number_of}
 use Rattle.go_chains.proofs.Beside.{item_beside}

@@ -1,6 +1,6 @@
-use Rattle.std.proofs.Common.{◌≡◌, ℕ, inl, inr, true, map, take, slice_index, sym, ◌∙◌, ap, subst}
+use Rattle.std.proofs.Common.{◌≡◌, inl, inr, true, map, take, slice_index, sym, ◌∙◌, ap, subst}
 use Rattle.std.proofs.lemmas.List.{take_all}
-use Rattle.go_points.specs.Grid.{adjacent, neighbours}
+use Rattle.go_points.specs.Grid.{neighbours}
 use Rattle.go_points.specs.Place.{number_of}
 use Rattle.go_points.proofs.Cells.{neighbours_member}
 use Rattle.go_chains.specs.Private.Chains.{IsIn, Meet}

@@ -1,4 +1,4 @@
-use Rattle.std.proofs.Common.{slice_index, List, ℕ, ap, ◌∙◌, rules}
+use Rattle.std.proofs.Common.{slice_index, List, ℕ, ap, ◌∙◌}
 use Rattle.stone_key.proofs.Table.{table}
 use Rattle.stone_key.proofs.Drawn.{drawn_at}
 use Rattle.stone_key.proofs.words.word.Goals as goal

@@ -1,13 +1,12 @@
-use Rattle.std.proofs.Common.{◌≡◌, ◌≢◌, ℕ, ◌+◌, ◌*◌, ◌<◌, ◌≤◌, ◌⊎◌, inl, inr, length, Ordering, Less, Equal, Greater, refl, sym, ◌∙◌, ap, ap₂, arith}
+use Rattle.std.proofs.Common.{◌≡◌, ◌≢◌, ℕ, ◌*◌, ◌<◌, ◌≤◌, ◌⊎◌, length, Less, Equal, Greater, refl, sym, ◌∙◌, ap, ap₂, arith}
 use Rattle.std.specs.Ordering.{nat_cmp}
 use Rattle.go_points.specs.declared.Colour.TheVariants.{Black, White}
 use Rattle.go_points.specs.declared.Cell.{Cell}
 use Rattle.go_points.specs.declared.Cell.TheVariants.{Empty, Stone}
-use Rattle.go_points.specs.Grid.{cell_at, side_of}
+use Rattle.go_points.specs.Grid.{cell_at}
 use Rattle.go_points.specs.Text.{cell_code}
-use Rattle.go_points.specs.Order.{text_order}
 use Rattle.go_points.specs.contracts.CellOrd.TheImpl.{cmp-value}
-use Rattle.go_points.proofs.Comparing.{SameBelow, order_at, order_whole, one_cell_more}
+use Rattle.go_points.proofs.Comparing.{order_at, order_whole, one_cell_more}
 use Rattle.go_points.proofs.colouring.ColouringOrd.cmp.Goals as goal
 
 -- the derived order of cells is that of their bytes

@@ -1,5 +1,5 @@
 -- A quiet move whose key tells that it is legal.
-use Rattle.std.proofs.Common.{◌≡◌, ◌<◌, ◌*◌, true, not, if◌then◌else◌, Option, Some, None, sym, ◌∙◌, ap}
+use Rattle.std.proofs.Common.{◌≡◌, ◌<◌, ◌*◌, true, not, if◌then◌else◌, Some, None, sym, ◌∙◌, ap}
 use Rattle.std.proofs.lemmas.Nat.{mul-add-lt}
 use Rattle.go_points.specs.Place.{number_of}
 use Rattle.go_points.specs.Ply.{move}

@@ -1,6 +1,5 @@
 //! The data of a page to click, as JSON. docs/FORMATS.md describes the format.
 
-
 use crate::json_notes::{push_labels, push_note, push_note_after_comma};
 use crate::json_text::push_string;
 use crate::lines::Cut;

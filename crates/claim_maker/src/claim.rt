@@ -1,5 +1,6 @@
 //! The claim of shared proofs: lemmas for the states that occur at several places, and the main tree.
 
+use crate::claim_size::{NodeCount, may_fit};
 use crate::tree::Writer;
 use go_points::{Colour, Colouring};
 use indexmap::IndexMap;
@@ -233,6 +234,17 @@ impl Walk {
             && matches!(self.places.get(&proof.key), Some(Places::Several))
     }
 
+    /// How many nodes the claim would have at most.
+    fn count_nodes(&self, alloc: Global, proofs: &Proofs, root: u32) -> Result<u64, AllocError> {
+        let mut count = NodeCount::new(alloc, proofs)?;
+        for number in 0..proofs.len() {
+            if let Some(proof) = proofs.at(number) {
+                count.add(proofs, proof, self.is_lemma(proofs, proof))?;
+            }
+        }
+        Ok(count.of_claim(root))
+    }
+
     /// Leaves the last proof, all of whose branches were followed, and makes its lemma if it is to be one.
     fn leave(
         &mut self,
@@ -322,6 +334,9 @@ fn lemmas_of(
     choice: Choice,
 ) -> Result<Lemmas, Refusal> {
     let mut walk = Walk::new(alloc, problem, proofs, root, choice)?;
+    if !may_fit(walk.count_nodes(alloc, proofs, root)?) {
+        return Err(Refusal::Limit);
+    }
     walk.make_lemmas(alloc, problem, proofs, root)?;
     Ok(walk.into_lemmas())
 }
@@ -345,6 +360,9 @@ pub fn claim_without_lemmas(
     problem: &Problem,
     shared: &Shared,
 ) -> Result<Certificate, Refusal> {
+    if !may_fit(shared.proofs.turns_below(Below::Proof(shared.root))) {
+        return Err(Refusal::Limit);
+    }
     let lemmas = Lemmas {
         made: Vec::new(alloc),
         version: Version::One,

@@ -4,6 +4,7 @@
 #![tactic(auto)]
 
 mod claim;
+mod claim_size;
 mod full_tree;
 mod tree;
 

@@ -15,7 +15,7 @@ import os
 import pickle
 import sys
 
-# Stands for the name of the empty folder that a call writes into: scripts call it otherwise each time.
+# Stands for the name of the folder that a call writes into, which is empty or not there: scripts call it otherwise each time.
 NEW_FOLDER = "{new folder}"
 
 # Stands for the answer of a call that is not known, in what comes of it.
@@ -26,11 +26,16 @@ MOST_MISSED = 30
 
 
 def without_folder(words):
-    """Returns the words of a call with no name for the empty folder that it writes into, and that name, or nothing."""
+    """Returns the words of a call with no name for the new folder that it writes into, and that name, or nothing."""
     for at in range(1, len(words)):
-        if words[at - 1] == "--into" and os.path.isdir(words[at]) and not os.listdir(words[at]):
+        if words[at - 1] == "--into" and is_new(words[at]):
             return (*words[:at], NEW_FOLDER, *words[at + 1 :]), words[at]
     return words, None
+
+
+def is_new(folder):
+    """Whether the folder is empty, or not there."""
+    return not os.path.lexists(folder) or os.path.isdir(folder) and not os.listdir(folder)
 
 
 def key_of(program, words, stdin):
@@ -62,6 +67,8 @@ def main(folder, program, *words):
         if UNKNOWN not in stdin:
             with open(f"{folder}/missed/{key}", "wb") as file:
                 pickle.dump((program, words, stdin), file)
+    if files:
+        os.makedirs(new_folder, exist_ok=True)
     for name, content in files.items():
         with open(f"{new_folder}/{name}", "xb") as file:
             file.write(content)

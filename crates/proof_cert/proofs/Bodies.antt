@@ -9,7 +9,7 @@ use Rattle.proof_cert.specs.Private.Body.{body_line_of, other_line_of}
 use Rattle.proof_cert.proofs.Chains.{or_none}
 use Rattle.proof_cert.proofs.Texts.{behind_is, end_is}
 
-none_of : {A : Type 0} (o : Option A) → ((a : A) → o ≡ Some a → ⊥) → o ≡ None
+pub none_of : {A : Type 0} (o : Option A) → ((a : A) → o ≡ Some a → ⊥) → o ≡ None
 none_of None h = refl
 none_of (Some a) h = absurd (h a refl)
 

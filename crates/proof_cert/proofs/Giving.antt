@@ -30,7 +30,7 @@ lines_given_of_claim z ls t given =
       all = λ u ended. front ∙ ap (λ x. ls ++ x) ended.1.0 ∙ append-nil ls;
     }
 
-all_spelled : (n : ℕ) (ls : List (Option Line)) → IsTrue (list_all (is_spelled n) ls) → map (spelled_line n) ls ≡ ls
+pub all_spelled : (n : ℕ) (ls : List (Option Line)) → IsTrue (list_all (is_spelled n) ls) → map (spelled_line n) ls ≡ ls
 all_spelled n [] h = refl
 all_spelled n (l ∷ ls) h = go (is_spelled n l) (and_first (is_spelled n l) (list_all (is_spelled n) ls) h) (all_spelled n ls (and_second (is_spelled n l) (list_all (is_spelled n) ls) h))
   where

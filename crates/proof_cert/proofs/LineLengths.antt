@@ -1,5 +1,5 @@
 -- No line is longer than the longest line of the widest board.
-use Rattle.std.proofs.Common.{◌≡◌, ℕ, suc, ◌+◌, ◌*◌, ◌<◌, ◌≤◌, ◌⊎◌, inl, inr, Bool, true, false, ◌||◌, nat_eq, nat_le, nat_lt, eqb-true, leb-true, ltb-true, List, [], ◌∷◌, ◌++◌, length, Option, Some, None, IsTrue, codes, decimal, refl, ap, arith, length-append}
+use Rattle.std.proofs.Common.{◌≡◌, ℕ, ◌+◌, ◌*◌, ◌<◌, ◌≤◌, ◌⊎◌, inl, inr, Bool, true, false, ◌||◌, nat_eq, nat_le, nat_lt, eqb-true, leb-true, ltb-true, List, ◌++◌, length, Option, Some, None, IsTrue, codes, decimal, refl, ap, arith, length-append}
 use Rattle.std.proofs.lemmas.Fmt.{length-decimal-le}
 use Rattle.std.proofs.Math.Nat.{mul-le-mul}
 use Rattle.go_points.specs.declared.TheConstants.{MAX_SIZE, MAX_POINTS}
@@ -10,7 +10,7 @@ use Rattle.go_points.specs.Ply.{Ply, pass, move}
 use Rattle.go_points.specs.Text.{text_of}
 use Rattle.proof_cert.specs.Lines.{Line, header_line, lemma_line, had_line, not_line, main_line, won_line, use_line, play_line, all_line, reply_line, end_line, line_fits}
 use Rattle.proof_cert.specs.Text.{colour_letter, vertex_text, is_spelled_number, numbers_spelled, line_bytes, is_spelled, line_of, max_line}
-use Rattle.proof_cert.proofs.Words.{and_first, and_second}
+use Rattle.proof_cert.proofs.Words.{and_first, and_second, length-text_of}
 use Rattle.proof_cert.proofs.Texts.{line_of-is}
 
 -- a number that a line can hold has at most eight digits
@@ -28,10 +28,6 @@ few_letters : (n : ℕ) (t : Ply) → length (vertex_text n t) ≤ 4
 few_letters n pass = omega arith
 few_letters n (move p) = omega arith
 
-cells_long : (c : List Cell) → length (text_of c) ≡ length c
-cells_long [] = refl
-cells_long (x ∷ c) = ap suc (cells_long c)
-
 or_true : (a b : Bool) → IsTrue (a || b) → (a ≡ true) ⊎ (b ≡ true)
 or_true true b h = inl refl
 or_true false b h = inr h
@@ -46,7 +42,7 @@ two_versions v h = at (or_true (nat_eq v 1) (nat_eq v 2) h)
 cells_most : (n : ℕ) (c : List Cell) → n ≤ MAX_SIZE → IsTrue (nat_eq (length c) (n * n)) → length (text_of c) ≤ MAX_POINTS
 cells_most n c small h =
     let same : length c ≡ n * n = eqb-true (length c) (n * n) h in
-    let long = cells_long c in
+    let long = length-text_of c in
     let square : n * n ≤ MAX_SIZE * MAX_SIZE = mul-le-mul small small in
     omega (arith, same, long, square)
 

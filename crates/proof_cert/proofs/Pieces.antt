@@ -1,9 +1,9 @@
 -- The first line of a text, by the place of its line feed.
 use Rattle.std.proofs.Common.{◌≡◌, ℕ, suc, ◌+◌, ◌-◌, ◌<◌, ◌≤◌, Bool, true, false, cond, not, nat_eq, nat_lt, ltb-true, ltb-false, List, [], ◌∷◌, length, map, take, drop, Option, Some, None, position, refl, ◌∙◌, ap, arith}
 use Rattle.std.specs.List.{position_or_len}
-use Rattle.std.proofs.lemmas.List.{length-drop}
-use Rattle.std.proofs.Math.Seq.{drop-length, take-length}
+use Rattle.std.proofs.Math.Seq.{drop-length}
 use Rattle.proof_cert.specs.Text.{with_byte, lines, pieces, line_of_piece, line_of}
+use Rattle.byte_writer.proofs.TakenLemmas.{rest_is}
 
 abbrev pub place : List ℕ → ℕ
 place b = position_or_len (λ x. nat_eq x 10) b
@@ -49,8 +49,5 @@ unended_read n b e some = go (nat_lt (place b) (length b)) refl e
     go true low e' = absurd (cc)
     go false low e' = ap (λ ps. map (line_of_piece n) ps) (pieces_none b (ltb-false (place b) (length b) low) some)
 
-pub rest_whole : (b : List ℕ) (k : ℕ) → take (length b - k) (drop k b) ≡ drop k b
-rest_whole b k = rw (← length-drop k b) (take-length (drop k b))
-
 pub rest_none : (b : List ℕ) → take (length b - length b) (drop (length b) b) ≡ []
-rest_none b = rest_whole b (length b) ∙ drop-length b
+rest_none b = rest_is b (length b) ∙ drop-length b

@@ -8,6 +8,7 @@ use Rattle.proof_cert.specs.Claim.{Node, won, by_lemma, play, all, Branches, no_
 use Rattle.proof_cert.specs.Lines.{Line, header_line, lemma_line, had_line, not_line, main_line, won_line, use_line, play_line, all_line, reply_line, end_line, node_lines, branch_lines, had_spelled, lemma_lines, lemmas_lines, lines_of}
 use Rattle.proof_cert.specs.Private.Reading.{Left, first_of, line_read, line_as, as_reply, as_not, as_had, as_header, opened, counted, replies_read, below_read, tree_read, listed_read, list_read, lists_read, body_read, lemma_made, lemma_read, lemmas_read, all_lemmas_read, claim_made, main_read, claim_read}
 use Rattle.proof_cert.proofs.Unique.{Writes, AllWrite}
+use Rattle.proof_cert.proofs.Tasks.{lemma_left}
 
 -- ---- lines
 
@@ -25,7 +26,7 @@ as_comes pick s l a rest e is = rw (line_comes s l rest e, is) refl
 abbrev after : Left → List (Option Line) → ℕ → Left
 after s rest n = record { lines = rest; nodes = n; listed = s.listed }
 
-one_node : (z : Node) → 1 ≤ node_count z
+pub one_node : (z : Node) → 1 ≤ node_count z
 one_node won = omega arith
 one_node (by_lemma j) = omega arith
 one_node (play t z) = omega arith
@@ -195,9 +196,6 @@ lists_come v had absent z first s rest w e few =
     let sum : (s.listed + length had) + length absent ≡ s.listed + (length had + length absent) = omega arith in
     rw (hads, nots, sum) refl
 
-lemma_split : (h a b : List (Option Line)) (e : Option Line) (rest : List (Option Line)) → (((h ++ a) ++ b) ++ e ∷ []) ++ rest ≡ h ++ (a ++ (b ++ (e ∷ rest)))
-lemma_split h a b e rest = append_assoc ((h ++ a) ++ b) (e ∷ []) rest ∙ append_assoc (h ++ a) b (e ∷ rest) ∙ append_assoc h a (b ++ (e ∷ rest))
-
 -- the first line of a lemma after `lemma`
 lists_begin : (v : ℕ) (had absent : List (List Cell)) (z : Node) (others : List (Option Line)) → Writes v had
     → (k : Line) × (ls : List (Option Line)) × (map (had_spelled v) had ++ (map (λ c. Some (not_line c)) absent ++ Some (head_of z) ∷ others) ≡ Some k ∷ ls)
@@ -215,7 +213,7 @@ lemma_comes v k p root had absent body s rest w e most deep few =
     let hads = map (had_spelled v) had in
     let nots = map (λ c. Some (not_line c)) absent in
     let left = tail_of body ++ Some end_line ∷ rest in
-    let lines : s.lines ≡ hads ++ (nots ++ Some (head_of body) ∷ left) = e ∙ lemma_split hads nots (node_lines body) (Some end_line) rest ∙ ap (λ x. hads ++ (nots ++ (x ++ Some end_line ∷ rest))) (heads body) in
+    let lines : s.lines ≡ hads ++ (nots ++ Some (head_of body) ∷ left) = e ∙ lemma_left hads nots (node_lines body) (Some end_line) rest ∙ ap (λ x. hads ++ (nots ++ (x ++ Some end_line ∷ rest))) (heads body) in
     let begin = lists_begin v had absent body left w in
     let first = line_comes s begin.0 begin.1 (lines ∙ begin.2) in
     let s0 : Left = record s { lines = begin.1 } in

@@ -8,6 +8,7 @@ use Rattle.proof_cert.specs.Text.{after_word, at_end, at_space, behind, colour_o
 use Rattle.proof_cert.proofs.Words.{number_of-is, colour_of-is}
 use Rattle.proof_cert.proofs.Texts.{behind_is, end_is, pair_is, space_is}
 use Rattle.proof_cert.proofs.LineLengths.{few_digits, long_none, one_letter}
+use Rattle.proof_cert.proofs.Bodies.{none_of}
 
 -- the size and the winner of a first line take at most ten bytes
 rest_length : (r : List ℕ) (l : Line) → header_rest 2 r ≡ Some l → length r ≤ 10
@@ -25,10 +26,6 @@ rest_length r l e = split (at_space r) refl e
         let both = length-append p.0 (32 ∷ p.1) in
         let whole = ap (λ (b : List ℕ). length b) (space_is r p e1) in
         omega (arith, few, size, letter, one, both, whole)
-
-none_of : {A : Type 0} (o : Option A) → ((a : A) → o ≡ Some a → ⊥) → o ≡ None
-none_of None h = refl
-none_of (Some a) h = absurd (h a refl)
 
 long_header : (b : List ℕ) → max_line < length b → behind (codes "tsushort 1 ") (header_rest 2) b ≡ None
 long_header b long = none_of (behind (codes "tsushort 1 ") (header_rest 2) b) (λ l e.

@@ -195,6 +195,7 @@ impl<'a> HeldSource<'a> {
         self.fault = Some(fault);
         Err(fault)
     }
+
     /// The next line, whichever it is.
     #[inline(never)]
     fn any_line(&mut self) -> Result<Option<Line>, SourceFault>

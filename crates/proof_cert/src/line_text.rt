@@ -4,7 +4,7 @@ ghost use Rattle.std.specs.Prelude.{◌≡◌, ◌++◌, [], ◌∷◌, IsTrue, 
 ghost use Rattle.go_points.specs.Ply.{ply_of};
 ghost use Rattle.go_points.specs.Text.{cell_code, text_of};
 ghost use Rattle.byte_writer.specs.Taken.{HasPut};
-ghost use Rattle.proof_cert.specs.Lines.{turn_fits, lemma_line, had_line, had_spelled, not_line, header_line};
+ghost use Rattle.proof_cert.specs.Lines.{turn_fits, lemma_line, had_spelled, not_line, header_line};
 ghost use Rattle.proof_cert.specs.Stage.{version_number};
 ghost use Rattle.proof_cert.specs.Text.{colour_letter, vertex_text, line_feed};
 ghost use Rattle.proof_cert.specs.Private.Taken.{line_text};
@@ -119,6 +119,21 @@ pub(crate) fn put_turn<W: Write>(
     pending.put(b"\n", writer);
 }
 
+/// Puts a line of a word and a colouring.
+fn put_coloured<W: Write>(
+    word: &[u8],
+    colouring: &Colouring,
+    pending: &mut PendingBytes,
+    writer: &mut W,
+)
+    ensures { HasPut (W.contents writer.old) (W.contents writer.new) pending.old pending.new
+        ((word.now ++ text_of colouring.now) ++ line_feed ∷ []) }
+{
+    pending.put(word, writer);
+    put_cells(colouring, pending, writer);
+    pending.put(b"\n", writer);
+}
+
 /// Puts the line of a listed colouring.
 pub(crate) fn put_not<W: Write>(
     size: Size,
@@ -129,24 +144,7 @@ pub(crate) fn put_not<W: Write>(
     ensures { HasPut (W.contents writer.old) (W.contents writer.new) pending.old pending.new
         (line_text size (Some (not_line colouring.now))) }
 {
-    pending.put(b"not ", writer);
-    put_cells(colouring, pending, writer);
-    pending.put(b"\n", writer);
-}
-
-/// Puts the line of a colouring that must have occurred, for claims of version 2.
-fn put_had_line<W: Write>(
-    size: Size,
-    colouring: &Colouring,
-    pending: &mut PendingBytes,
-    writer: &mut W,
-)
-    ensures { HasPut (W.contents writer.old) (W.contents writer.new) pending.old pending.new
-        (line_text size (Some (had_line colouring.now))) }
-{
-    pending.put(b"had ", writer);
-    put_cells(colouring, pending, writer);
-    pending.put(b"\n", writer);
+    put_coloured(b"not ", colouring, pending, writer);
 }
 
 /// Puts the line of a colouring that must have occurred; it has none in a claim of version 1.
@@ -162,7 +160,7 @@ pub(crate) fn put_had<W: Write>(
 {
     match version {
         Version::One => {}
-        Version::Two => put_had_line(size, colouring, pending, writer),
+        Version::Two => put_coloured(b"had ", colouring, pending, writer),
     }
 }
 

@@ -1,20 +1,22 @@
 //! Whole claims, read from their bytes.
 
-ghost use Rattle.std.specs.Prelude.{◌≡◌, ◌+◌, ◌-◌, ◌≤◌, ◌⊎◌, ◌↔◌, ℕ, IfOk, IfErr, IfSome, Some, Err, length, map, option_map, true};
-ghost use Rattle.proof_cert.specs.Claim.{Claim, IsWithinLimits, max_depth, max_lemmas, max_listed, max_nodes};
+ghost use Rattle.std.specs.Prelude.{◌≡◌, ◌+◌, ◌≤◌, ◌⊎◌, ◌↔◌, ℕ, IfOk, IfErr, IfSome, Some, Err, length, map, option_map, true};
+ghost use Rattle.proof_cert.specs.Claim.{Claim, IsWithinLimits, max_depth, max_lemmas, max_listed};
 ghost use Rattle.proof_cert.specs.Text.{text};
 ghost use Rattle.proof_cert.specs.Stage.{line_value};
-ghost use Rattle.proof_cert.specs.Certificate.{node_of, replies_of, lemma_of, claim_of};
-ghost use Rattle.proof_cert.specs.Private.Reading.{with_rest, left_of, line_read, reply_read, replies_read, below_read, tree_read, reply_value, picks, list_read, lists_read, listed_value, lists_value, body_read, lemma_read, all_lemmas_read, claim_read, CountsTree, CountsReplies, CountsListed, CountsLemma, CountsLemmas};
+ghost use Rattle.proof_cert.specs.Certificate.{node_of, lemma_of, claim_of};
+ghost use Rattle.proof_cert.specs.Private.Reading.{with_rest, left_of, picks, list_read, lists_read, listed_value, lists_value, body_read, lemma_read, all_lemmas_read, claim_read, CountsTree, CountsListed, CountsLemma, CountsLemmas};
 
 use crate::certificate::{Certificate, Lemma, Node};
 use crate::claim_text::write_cert;
-use crate::limits::{MAX_DEPTH, MAX_LEMMAS, MAX_LISTED, MAX_NODES};
+use crate::limits::{MAX_DEPTH, MAX_LEMMAS, MAX_LISTED};
 use crate::line::Line;
+use crate::line_cursor::{LineCursor, next_line};
 use crate::source::{SourceFault, TextSource};
+use crate::tree_reading::read_tree;
 use crate::version::Version;
 use crate::write::CertWrite;
-use go_points::{Colour, Colouring, Size, Turn};
+use go_points::{Colour, Colouring, Size};
 use std::alloc::{AllocError, Global};
 
 /// One of a lemma's two lists: the colourings that must have occurred, or those that must not have.
@@ -22,153 +24,6 @@ use std::alloc::{AllocError, Global};
 pub(crate) enum Listing {
     Had,
     Not,
-}
-
-/// The lines that are left, and how many nodes and listed colourings the claim has had so far.
-#[derive(Drop)]
-pub(crate) struct LineCursor<'a> {
-    source: TextSource<'a>,
-    nodes: u32,
-    listed: u32,
-}
-
-/// The next line.
-#[tactic(auto, using(crate::proofs::ReadTrees::line_there, crate::proofs::ReadTrees::line_ended, crate::proofs::ReadTrees::line_bad))]
-fn next_line(reading: &mut LineCursor<'_>) -> Option<Line>
-    ensures read { with_rest (line_value reading.old.source.size) result
-        (left_of reading.new.source reading.new.nodes reading.new.listed)
-        ≡ line_read (left_of reading.old.source reading.old.nodes reading.old.listed) }
-    ensures nodes { reading.new.nodes ≡ reading.old.nodes }
-    ensures listed { reading.new.listed ≡ reading.old.listed }
-    ensures size { reading.new.source.size ≡ reading.old.source.size }
-{
-    match reading.source.next() {
-        Ok(Some(line)) => Some(line),
-        Ok(None) => None,
-        Err(_) => None,
-    }
-}
-
-/// The tree of at most this many levels that has this first line.
-#[cycle(read)]
-#[tactic(auto, using(crate::proofs::Certificates::node_of_won, crate::proofs::Certificates::node_of_use, crate::proofs::Certificates::node_of_play, crate::proofs::Certificates::node_of_all, crate::proofs::ReadTrees::tree_opened))]
-fn read_tree(
-    alloc: Global,
-    reading: &mut LineCursor<'_>,
-    first: &Line,
-    room: u32,
-) -> Result<Option<Node>, AllocError>
-    ensures read { IfOk result
-        (λ read. with_rest (node_of reading.old.source.size) read
-        (left_of reading.new.source reading.new.nodes reading.new.listed)
-        ≡ tree_read room (line_value reading.old.source.size first.now)
-        (left_of reading.old.source reading.old.nodes reading.old.listed)) }
-    ensures counted { IfOk result
-        (λ read. IfSome read (λ tree. CountsTree room reading.old.nodes reading.old.listed
-        (node_of reading.old.source.size tree) reading.new.nodes reading.new.listed)) }
-    ensures size { reading.new.source.size ≡ reading.old.source.size }
-{
-    if room == 0 || reading.nodes >= MAX_NODES {
-        return Ok(None);
-    }
-    reading.nodes += 1;
-    match first {
-        Line::Won => Ok(Some(Node::Won)),
-        Line::Use(lemma) => Ok(Some(Node::Use(*lemma))),
-        Line::Play(turn) => {
-            let Some(below) = read_below(alloc, reading, room - 1)? else {
-                return Ok(None);
-            };
-            Ok(Some(Node::Play(*turn, Box::new(alloc, below)?)))
-        }
-        Line::All(count) => {
-            let Some(replies) = read_replies(alloc, reading, *count, room - 1)? else {
-                return Ok(None);
-            };
-            Ok(Some(Node::All(replies)))
-        }
-        _ => Ok(None),
-    }
-}
-
-/// The tree below a turn.
-#[cycle(read)]
-fn read_below(
-    alloc: Global,
-    reading: &mut LineCursor<'_>,
-    room: u32,
-) -> Result<Option<Node>, AllocError>
-    ensures read { IfOk result
-        (λ read. with_rest (node_of reading.old.source.size) read
-        (left_of reading.new.source reading.new.nodes reading.new.listed)
-        ≡ below_read (tree_read room)
-        (left_of reading.old.source reading.old.nodes reading.old.listed)) }
-    ensures counted { IfOk result
-        (λ read. IfSome read (λ tree. CountsTree room reading.old.nodes reading.old.listed
-        (node_of reading.old.source.size tree) reading.new.nodes reading.new.listed)) }
-    ensures size { reading.new.source.size ≡ reading.old.source.size }
-{
-    let Some(first) = next_line(reading) else {
-        return Ok(None);
-    };
-    read_tree(alloc, reading, &first, room)
-}
-
-/// This many replies.
-#[cycle(read)]
-fn read_replies(
-    alloc: Global,
-    reading: &mut LineCursor<'_>,
-    count: u32,
-    room: u32,
-) -> Result<Option<Vec<(Turn, Node)>>, AllocError>
-    requires { reading.old.nodes ≤ max_nodes }
-    ensures read { IfOk result
-        (λ read. with_rest (λ replies. replies_of reading.old.source.size replies.items) read
-        (left_of reading.new.source reading.new.nodes reading.new.listed)
-        ≡ replies_read (below_read (tree_read room)) count
-        (left_of reading.old.source reading.old.nodes reading.old.listed)) }
-    ensures counted { IfOk result
-        (λ read. IfSome read (λ replies. CountsReplies room reading.old.nodes reading.old.listed
-        (replies_of reading.old.source.size replies.items) reading.new.nodes
-        reading.new.listed)) }
-    ensures size { reading.new.source.size ≡ reading.old.source.size }
-{
-    let mut replies = Vec::new(alloc);
-    for _ in 0..count {
-        let Some(reply) = read_reply(alloc, reading, room)? else {
-            return Ok(None);
-        };
-        replies.push(reply)?;
-    }
-    Ok(Some(replies))
-}
-
-/// A reply, and the tree below it.
-#[cycle(read)]
-#[tactic(auto, unfolding(crate::specs::Private::Reading::line_as))]
-fn read_reply(
-    alloc: Global,
-    reading: &mut LineCursor<'_>,
-    room: u32,
-) -> Result<Option<(Turn, Node)>, AllocError>
-    ensures read { IfOk result
-        (λ read. with_rest (reply_value reading.old.source.size) read
-        (left_of reading.new.source reading.new.nodes reading.new.listed)
-        ≡ reply_read (below_read (tree_read room))
-        (left_of reading.old.source reading.old.nodes reading.old.listed)) }
-    ensures counted { IfOk result
-        (λ read. IfSome read (λ reply. CountsTree room reading.old.nodes reading.old.listed
-        (node_of reading.old.source.size reply.1) reading.new.nodes reading.new.listed)) }
-    ensures size { reading.new.source.size ≡ reading.old.source.size }
-{
-    let Some(Line::Reply(turn)) = next_line(reading) else {
-        return Ok(None);
-    };
-    let Some(below) = read_below(alloc, reading, room)? else {
-        return Ok(None);
-    };
-    Ok(Some((turn, below)))
 }
 
 /// The colouring of a line of the list.

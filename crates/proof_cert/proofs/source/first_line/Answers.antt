@@ -2,8 +2,9 @@ use Rattle.std.proofs.Common.{◌+◌, ◌∷◌, ◌∙◌, sym, ap, drop, Opti
 use Rattle.proof_cert.specs.Lines.{Line}
 use Rattle.proof_cert.specs.Stage.{line_value}
 use Rattle.proof_cert.specs.Text.{lines}
-use Rattle.proof_cert.proofs.Pieces.{first_read, unended_read, rest_whole, rest_none}
+use Rattle.proof_cert.proofs.Pieces.{first_read, unended_read, rest_none}
 use Rattle.proof_cert.proofs.source.first_line.Goals as goal
+use Rattle.byte_writer.proofs.TakenLemmas.{rest_is}
 
 pub returns-in-Some-clause-lines : goal.returns-in-Some-clause-lines
 returns-in-Some-clause-lines c =
@@ -12,7 +13,7 @@ returns-in-Some-clause-lines c =
     let k = c.in-Some.end in
     first_read n text k (sym c.place_of_byte.ensures ∙ c.in-Some.is)
     ∙ ap (λ (l : Option Line). l ∷ lines n (drop (k + 1) text)) (sym c.from_text.ensures)
-    ∙ ap (λ rest. option_map (line_value n) c.from_text.result ∷ lines n rest) (sym (rest_whole text (k + 1)))
+    ∙ ap (λ rest. option_map (line_value n) c.from_text.result ∷ lines n rest) (sym (rest_is text (k + 1)))
 
 pub returns-in-None-clause-lines : goal.returns-in-None-clause-lines
 returns-in-None-clause-lines c =

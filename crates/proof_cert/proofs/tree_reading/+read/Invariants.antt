@@ -2,7 +2,7 @@ use Rattle.std.proofs.Common.{◌≡◌, ◌+◌, ◌*◌, ◌-◌}
 use Rattle.proof_cert.specs.Certificate.{replies_of}
 use Rattle.proof_cert.specs.Private.Reading.{left_of, replies_read, below_read, tree_read, CountsReplies}
 use Rattle.proof_cert.proofs.ReadTrees.{prepended}
-use Rattle.proof_cert.proofs.read.+read.Given as goal
+use Rattle.proof_cert.proofs.tree_reading.+read.Given as goal
 
 abbrev pub decreases-read_tree : goal.decreases-read_tree
 decreases-read_tree a = 4 * a.room

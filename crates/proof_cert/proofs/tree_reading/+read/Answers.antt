@@ -7,7 +7,7 @@ use Rattle.proof_cert.specs.Certificate.{node_of, replies_of}
 use Rattle.proof_cert.specs.Private.Reading.{with_rest, left_of, reply_read, replies_read, below_read, tree_read, reply_value, CountsTree, CountsReplies}
 use Rattle.proof_cert.proofs.ReadTrees.{prepended, reply_is_read, reply_is_missing, replies_are_read, replies_pushed}
 use Rattle.proof_cert.proofs.ReadCounts.{reply_counted}
-use Rattle.proof_cert.proofs.read.+read.Goals as goal
+use Rattle.proof_cert.proofs.tree_reading.+read.Goals as goal
 
 pub read_replies-returns-in_default-clause-read : goal.read_replies-returns-in_default-clause-read
 read_replies-returns-in_default-clause-read t c =

@@ -178,10 +178,6 @@ without x xs (y ∷ ys) h =
     ap (λ b. (b || has_occurred xs y) && stand_on (x ∷ xs) ys) (apart_other x y (less_apart x y h.0))
     ∙ ap (λ b. has_occurred xs y && b) (without x xs ys h.1)
 
-absent_above : (y : List Cell) (xs : List (List Cell)) → AllAbove y xs → has_occurred xs y ≡ false
-absent_above y [] h = refl
-absent_above y (x ∷ xs) h = ap (λ b. b || has_occurred xs y) (less_apart y x h.0) ∙ absent_above y xs h.1
-
 pub pass_found : (x : List Cell) (xs : List (List Cell)) (y : List Cell) (ys : List (List Cell)) → Ascends (y ∷ ys) → same_cells y x ≡ true → stand_on (x ∷ xs) (y ∷ ys) ≡ stand_on xs ys
 pass_found x xs y ys h e =
     ap (λ b. (b || has_occurred xs y) && stand_on (x ∷ xs) ys) e
@@ -195,7 +191,7 @@ pass_other x xs y ys h k e = go (text_order x y) refl
     go Equal same = absurd (cc (sym e ∙ same_from y x same))
     go Greater more =
         let less : text_order y x ≡ Less = order.antisymm y x ∙ ap ordering_reverse more in
-        let none : has_occurred xs y ≡ false = absent_above y xs (above_from y x xs less (above_all x xs h)) in
+        let none : has_occurred xs y ≡ false = none_among y xs (above_from y x xs less (above_all x xs h)) in
         ap (λ b. (b || has_occurred xs y) && stand_on (x ∷ xs) ys) e ∙ ap (λ b. b && stand_on (x ∷ xs) ys) none ∙ sym (ap (λ b. b && stand_on xs ys) none)
 
 module _ (few list : List (List Cell)) where

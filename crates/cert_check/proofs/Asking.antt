@@ -8,7 +8,7 @@ use Rattle.target_game.specs.State.{GameState}
 use Rattle.target_game.specs.State as State
 use Rattle.target_game.specs.Over.{over}
 use Rattle.proof_cert.specs.Claim.{Head}
-use Rattle.proof_cert.specs.Lines.{Line, header_line, lemma_line, had_line, not_line, main_line, won_line, use_line, play_line, all_line, reply_line, end_line, line_fits}
+use Rattle.proof_cert.specs.Lines.{Line, header_line, lemma_line, had_line, not_line, main_line, won_line, use_line, play_line, all_line, reply_line, end_line, line_fits, had_of, not_of}
 use Rattle.cert_check.specs.declared.judge.Judge.{Judge}
 use Rattle.cert_check.specs.declared.judge.Phase.{Phase}
 use Rattle.cert_check.specs.declared.judge.Phase.TheVariants as phases
@@ -16,7 +16,6 @@ use Rattle.cert_check.specs.declared.open_nodes.Due.TheVariants as dues
 use Rattle.cert_check.specs.declared.lines.NodeLine.{NodeLine}
 use Rattle.cert_check.specs.declared.lines.NodeLine.TheVariants.{Won, Use, Play, All}
 use Rattle.cert_check.specs.Body.{Body, lemma_not_lower, ask, nowhere, lemma_start, lives, use_fault, head_fault, lemma_at}
-use Rattle.cert_check.specs.Verdict.{had_of, not_of}
 use Rattle.cert_check.specs.Parts.{node_value}
 use Rattle.cert_check.specs.Private.Machine.{Machine, Heading, Owed, reply_due, body_of, counted, node_taken, not_taken, had_taken, phase_taken, taken}
 use Rattle.cert_check.specs.Private.Inside.{node_fault}

@@ -1,5 +1,5 @@
 -- The turn that is due and the turn that is given.
-use Rattle.std.proofs.Common.{◌≡◌, ℕ, zero, suc, not, ◌*◌, ◌<◌, Bool, true, false, ◌&&◌, ◌||◌, nat_eq, nat_lt, IsTrue, eqb-true, ltb-true, [], ◌∷◌, refl, sym, ap, ◌∙◌, arith, if◌then◌else◌}
+use Rattle.std.proofs.Common.{◌≡◌, ℕ, zero, suc, not, ◌*◌, ◌<◌, Bool, true, false, ◌&&◌, nat_eq, nat_lt, IsTrue, eqb-true, ltb-true, [], ◌∷◌, refl, sym, ap, ◌∙◌, arith, if◌then◌else◌}
 use Rattle.std.specs.List.{All}
 use Rattle.go_points.specs.declared.Cell.TheVariants.{Empty}
 use Rattle.go_points.specs.Grid.{same_cell, cell_at}
@@ -15,20 +15,15 @@ use Rattle.target_game.specs.State.{GameState}
 use Rattle.target_game.specs.Legal.{legal, holds_point}
 use Rattle.target_game.proofs.Playing.{holds_numbered}
 use Rattle.proof_cert.specs.Lines.{turn_fits}
-use Rattle.cert_check.proofs.Members.{and_first, and_second}
-
-is_on : (n : ℕ) (p : Place) → on_board n p ≡ true → IsOn n p
-is_on n p e = record { row_within = ltb-true p.row n (and_first (nat_lt p.row n) (nat_lt p.column n) e); column_within = ltb-true p.column n (and_second (nat_lt p.row n) (nat_lt p.column n) e) }
-
-or_none : (b : Bool) → (b || false) ≡ b
-or_none true = refl
-or_none false = refl
+use Rattle.cert_check.proofs.Members.{and_first}
+use Rattle.cert_check.proofs.Known.{or_end}
+use Rattle.go_turns.proofs.Turns.{is_on_from}
 
 apart : (n : ℕ) (p q : Place) → IsOn n p → IsOn n q → (p ≡ q → ⊥) → nat_eq (number_of n p) (number_of n q) ≡ false
 apart n p q on_p on_q other =
-    sym (or_none (nat_eq (number_of n p) (number_of n q)))
+    sym (or_end (nat_eq (number_of n p) (number_of n q)))
     ∙ holds_numbered n (q ∷ []) p at on_p
-    ∙ or_none (same_place p q) ∙ go (same_place p q) refl
+    ∙ or_end (same_place p q) ∙ go (same_place p q) refl
   where
     at : All (IsOn n) (q ∷ [])
     at zero d low = on_q
@@ -47,7 +42,7 @@ turns_apart n (At p) (At q) fits other = go (on_board n p) refl (on_board n q) r
     go : (a : Bool) → on_board n p ≡ a → (b : Bool) → on_board n q ≡ b → IsTrue (nat_lt (if a then number_of n p else n * n) (n * n))
         → nat_eq (if a then number_of n p else n * n) (if b then number_of n q else n * n) ≡ false
     go false e b f h = absurd (let low = ltb-true (n * n) (n * n) h in omega arith)
-    go true e true f h = apart n p q (is_on n p e) (is_on n q f) (λ same. other (ap At (sym same)))
+    go true e true f h = apart n p q (is_on_from n p e) (is_on_from n q f) (λ same. other (ap At (sym same)))
     go true e false f h = no (nat_eq (number_of n p) (n * n)) refl
       where
         no : (c : Bool) → nat_eq (number_of n p) (n * n) ≡ c → c ≡ false

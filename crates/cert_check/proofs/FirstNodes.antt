@@ -19,7 +19,7 @@ use Rattle.cert_check.specs.Laws.{IsFirstTurn}
 abbrev Answers : Type 0
 Answers = List (GameState → AnswerTree)
 
-longer : (es : Answers) (ls : List Lemma) (i : ℕ) → i < length es → get_or (answers_behind es ls) i (λ _. leaf) ≡ get_or es i (λ _. leaf)
+pub longer : (es : Answers) (ls : List Lemma) (i : ℕ) → i < length es → get_or (answers_behind es ls) i (λ _. leaf) ≡ get_or es i (λ _. leaf)
 longer es [] i within = refl
 longer es (l ∷ ls) i within =
     longer (es ++ expand_node es l.body ∷ []) ls i (omega (arith, within, length-append es (expand_node es l.body ∷ [])))

@@ -1,16 +1,14 @@
 -- A walk over a tree: what is left to be gathered after a turn, and that each turn may be made.
-use Rattle.std.proofs.Common.{◌≡◌, ℕ, ◌+◌, ◌*◌, ◌≤◌, ◌<◌, Bool, true, false, not, ◌&&◌, List, [], ◌∷◌, ◌++◌, map, filter, Option, Some, None, IsTrue, Bor, Vec, Box, Global, refl, sym, ap, ◌∙◌, subst, arith, append_assoc, append-nil, cond, lt-ltb, inl, inr}
-use Rattle.std.specs.Prelude.{is_none}
+use Rattle.std.proofs.Common.{◌≡◌, ℕ, ◌+◌, ◌*◌, ◌≤◌, ◌<◌, Bool, true, false, not, ◌&&◌, List, [], ◌∷◌, ◌++◌, map, filter, Some, None, IsTrue, Bor, Vec, Box, Global, refl, sym, ap, ◌∙◌, subst, arith, append_assoc, append-nil, cond, lt-ltb, inl, inr}
 use Rattle.std.specs.List.{range_with_len}
 use Rattle.std.proofs.lemmas.List.{map-append, reverse-append}
 use Rattle.std.proofs.lemmas.List.Elements.{filter-append}
 use Rattle.go_points.specs.declared.Cell.{Cell}
-use Rattle.go_points.specs.declared.Colour.{Colour}
 use Rattle.go_points.specs.declared.Turn.{Turn}
 use Rattle.go_points.specs.declared.Turn.TheVariants.{Pass, At}
 use Rattle.go_points.specs.Place.{Place}
 use Rattle.go_points.specs.declared.Cell.TheVariants.{Empty}
-use Rattle.go_points.specs.Grid.{same_colour, same_cell, cell_at, opponent_of, points}
+use Rattle.go_points.specs.Grid.{same_cell, cell_at, opponent_of, points}
 use Rattle.go_points.specs.Ply.{Ply, pass, move, ply_of}
 use Rattle.target_game.specs.State.{Game, GameState, Line}
 use Rattle.target_game.specs.Legal.{holds_point, legal}
@@ -23,13 +21,14 @@ use Rattle.proof_cert.specs.declared.certificate.Node as code
 use Rattle.proof_cert.specs.declared.certificate.Node.TheVariants as node_of_claim
 use Rattle.proof_cert.proofs.Certificates.{node_of_play, node_of_all}
 use Rattle.cert_check.specs.declared.results.Later.{Later}
-use Rattle.cert_check.specs.Body.{Body, is_open, is_known, is_to_move, result_of}
+use Rattle.cert_check.specs.Body.{Body, is_open, is_known, result_of}
 use Rattle.cert_check.specs.Validity.{FitsNode, FitsBranches}
 use Rattle.cert_check.specs.Lift.{reply_results_below}
 use Rattle.cert_check.specs.Private.Results.{Gathered, gathered, nothing, joined, of_node, of_branches, of_later, left_at, node_at, due_at, reversed, is_past, IsPlayable, ArePlayable}
-use Rattle.cert_check.proofs.Members.{Member, and_first, and_both}
+use Rattle.cert_check.proofs.Members.{Member, and_both}
 use Rattle.cert_check.proofs.Game.{legal_at}
-use Rattle.cert_check.proofs.Soundness.{game-next}
+use Rattle.cert_check.proofs.Soundness.{game-next, nobody}
+use Rattle.proof_cert.proofs.ReadComplete.{one_node}
 
 -- JOINING
 
@@ -56,12 +55,6 @@ counted_on ps bs ps' bs' k x y e =
 
 pub joined_last : (a : Gathered) → joined a nothing ≡ a
 joined_last a = same_parts (a.plays ++ []) a.plays (a.barred ++ []) a.barred (a.nodes + 0) a.nodes (append-nil a.plays) (append-nil a.barred) (omega arith)
-
-pub some_node : (n : Node) → 1 ≤ node_count n
-some_node won = omega arith
-some_node (by_lemma j) = omega arith
-some_node (play t n) = omega arith
-some_node (all bs) = omega arith
 
 -- WHAT A NODE GIVES BY ITSELF
 
@@ -185,20 +178,13 @@ module _ (s : GameState) (node : code.Node) where
 
 -- EACH TURN MAY BE MADE
 
-none_from : (o : Option Colour) → IsTrue (is_none o) → o ≡ None
-none_from None h = refl
-none_from (Some x) h = absurd (cc)
-
-open_now : (x : Colour) (s : GameState) → IsTrue (is_to_move x s) → over s ≡ None
-open_now x s h = none_from (over s) (and_first (is_none (over s)) (same_colour s.mover x) h)
-
 mutual
   pub playable_node : (b : Body) (n : Node) (s : GameState) → FitsNode b s n → IsPlayable s n
   playable_node b won s f = tt
   playable_node b (by_lemma j) s f = tt
-  playable_node b (play pass n) s f = (open_now b.winner s f.0, refl, playable_node b n (next s pass) f.1)
-  playable_node b (play (move p) n) s f = (open_now b.winner s f.0.0, and_both (is_open s p) (not (is_known s (result_of s p))) f.0.1 f.0.2, playable_node b n (next s (move p)) f.1)
-  playable_node b (all bs) s f = playable_branches b bs s (open_now (opponent_of b.winner) s f.0) (λ t m. legal_at s t (subst (λ ts. Member t ts) f.1 m)) f.2
+  playable_node b (play pass n) s f = (nobody b.winner s f.0, refl, playable_node b n (next s pass) f.1)
+  playable_node b (play (move p) n) s f = (nobody b.winner s f.0.0, and_both (is_open s p) (not (is_known s (result_of s p))) f.0.1 f.0.2, playable_node b n (next s (move p)) f.1)
+  playable_node b (all bs) s f = playable_branches b bs s (nobody (opponent_of b.winner) s f.0) (λ t m. legal_at s t (subst (λ ts. Member t ts) f.1 m)) f.2
 
   playable_branches : (b : Body) (bs : Branches) (s : GameState) → over s ≡ None → ((t : Ply) → Member t (branch_turns bs) → IsTrue (legal s t)) → FitsBranches b s bs → ArePlayable s bs
   playable_branches b no_branch s o l f = tt
@@ -274,5 +260,5 @@ begins_playable b s line node n first size fits =
 pub walk_room : (s : GameState) (line : Line) (ls : List Later) (node : code.Node) (ps bs : List (List Cell)) (k most : ℕ) (whole : Gathered) → joined (gathered ps bs k) (node_at s line ls node) ≡ whole → whole.nodes ≤ most → k + 1 ≤ most
 walk_room s line ls node ps bs k most whole so_far few =
     let m : k + (node_count (node_of line.state.game.size node) + (of_later s (reversed ls) line.before).nodes) ≡ whole.nodes = ap (λ (g : Gathered). g.nodes) so_far in
-    let one = some_node (node_of line.state.game.size node) in
+    let one = one_node (node_of line.state.game.size node) in
     omega (arith, m, one, few)

@@ -11,8 +11,8 @@ use Rattle.proof_cert.specs.declared.line.Line as code
 use Rattle.proof_cert.specs.declared.source.SourceFault.{SourceFault}
 use Rattle.proof_cert.specs.declared.source.SourceFault.TheVariants as fault
 use Rattle.cert_check.specs.Body.{Why}
-use Rattle.cert_check.specs.Verdict.{Verdict, verdict_by, accepted, rejected}
-use Rattle.cert_check.specs.Private.Machine.{Machine, begun, Phase, header, opening, listing_had, listing_not, node_due, reply_due, done, goes_on, stops, taken, ended, ended_at, after_step, verdict_from}
+use Rattle.cert_check.specs.Verdict.{verdict_by, accepted, rejected}
+use Rattle.cert_check.specs.Private.Machine.{Machine, begun, goes_on, stops, taken, ended, after_step, verdict_from}
 use Rattle.cert_check.specs.Parts.{line_values}
 use Rattle.cert_check.specs.Checks.{Answers, AcceptsBy, AsksTo, RejectsAtBy, FailsAtBy, IsReachedBy}
 use Rattle.cert_check.specs.declared.kind.Kind.{Kind}
@@ -20,6 +20,7 @@ use Rattle.cert_check.specs.Private.Judging.{IsToldBy}
 use Rattle.cert_check.specs.Private.Heard.{Heard}
 use Rattle.cert_check.proofs.Machines.{lines_judged}
 use Rattle.cert_check.proofs.Taking.{asks_before, asks_there, took_more, one_more}
+use Rattle.cert_check.proofs.Faults.{ended_behind}
 
 pub either_way : {F : Type 0} (o : Option F) (P : Type 0) → (o ≡ None → P) → OnSome o P → P
 either_way None P f h = f refl
@@ -66,20 +67,6 @@ module _ {S : Type 0} (kind : Kind) (gives : S → Result (Option Line) SourceFa
             lines_judged shape q (line_values q.game.size (h.taken ++ l ∷ [])) ∙ ap (verdict_from shape q begun) (sym (append-nil (line_values q.game.size (h.taken ++ l ∷ []))))
             ∙ ap (verdict_from shape q begun) (values_more h.taken l []) ∙ h.so_far shape told (option_map (line_value q.game.size) l ∷ []) ∙ ap (λ st. after_step st (λ k. verdict_from shape q k [])) step;
       }
-
-  abbrev place_of : Verdict → ℕ → ℕ
-  place_of (accepted x) p = p
-  place_of (rejected a b) p = a
-
-  -- where no line follows, the fault is that of the next line
-  ended_behind : (p k : ℕ) (ph : Phase) (w : Why) → ended_at p ph ≡ rejected k w → p ≡ k
-  ended_behind p k header w e = ap (λ v. place_of v p) e
-  ended_behind p k (opening f) w e = ap (λ v. place_of v p) e
-  ended_behind p k (listing_had f h) w e = ap (λ v. place_of v p) e
-  ended_behind p k (listing_not f h) w e = ap (λ v. place_of v p) e
-  ended_behind p k (node_due f inside d st os) w e = ap (λ v. place_of v p) e
-  ended_behind p k (reply_due f inside os) w e = ap (λ v. place_of v p) e
-  ended_behind p k (done x) w e = ap (λ v. place_of v p) e
 
   pub heard_fails : (shape : List Cell → Bool) → IsToldBy kind q.game shape → (t : S) (m : Machine) (p : ℕ) → Heard kind gives number n q s t m → Answers gives t (Err fault.Read) → p ≡ m.place → p < 2 ^ 63 → FailsAtBy shape gives number n q s p
   heard_fails shape told t m p h last at small =

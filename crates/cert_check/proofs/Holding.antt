@@ -22,16 +22,11 @@ use Rattle.cert_check.proofs.Members.{and_first, and_second}
 use Rattle.cert_check.proofs.Faults.{faults_stay}
 use Rattle.cert_check.proofs.Spelling.{accepts_valid_claims, text_spelled}
 use Rattle.cert_check.proofs.Taking.{as_long, each_why}
+use Rattle.proof_cert.proofs.Giving.{all_spelled}
 
 -- lines that are all spelled are given as they are
 one_spelled : (n : ℕ) (l : Option Line) → IsTrue (is_spelled n l) → spelled_line n l ≡ l
 one_spelled n l h = ap (λ b. if b then l else None) h
-
-given_spelled : (n : ℕ) (ls : List (Option Line)) → IsTrue (list_all (is_spelled n) ls) → map (spelled_line n) ls ≡ ls
-given_spelled n [] h = refl
-given_spelled n (l ∷ ls) h =
-    ap (λ k. k ∷ map (spelled_line n) ls) (one_spelled n l (and_first (is_spelled n l) (list_all (is_spelled n) ls) h))
-    ∙ ap (λ ks. l ∷ ks) (given_spelled n ls (and_second (is_spelled n l) (list_all (is_spelled n) ls) h))
 
 -- and lines that are given spelled are
 one_given : (n : ℕ) (l : Option Line) → IsTrue (is_spelled n (spelled_line n l)) → IsTrue (is_spelled n l)
@@ -79,7 +74,7 @@ module _ (q : GameProblem) (z : Claim) (low : 1 ≤ q.game.size) (high : q.game.
   checked_lines k =
       let valid = k.valid in
       let limits = k.limits in
-      (given_spelled z.size (lines_of z) (text_spelled z.size (lines_of z) valid.spelled), (accepts_valid_claims q (lines_of z) z.winner low high).1 (z, refl, limits, valid, refl))
+      (all_spelled z.size (lines_of z) (text_spelled z.size (lines_of z) valid.spelled), (accepts_valid_claims q (lines_of z) z.winner low high).1 (z, refl, limits, valid, refl))
 
   -- a refusal is the verdict, and that of no checked claim
   held_fault : LinesGivenOfClaim → (place : ℕ) (why : Why) → RejectsAt held_gives z.size q (held_source_of z) place why → verdict_on q z ≡ rejected place why

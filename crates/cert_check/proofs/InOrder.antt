@@ -13,10 +13,11 @@ use Rattle.go_turns.specs.History.{has_occurred}
 use Rattle.proof_cert.specs.Claim.{cells_before, is_ascending}
 use Rattle.cert_check.specs.Private.Ascending.{Ascends}
 use Rattle.cert_check.specs.Private.Known.{SameMembers}
-use Rattle.cert_check.proofs.Ascending.{order, above_all, none_among, above_from, same_from}
+use Rattle.cert_check.proofs.Ascending.{order, above_all, none_among, above_from, same_from, is_less}
 use Rattle.cert_check.proofs.Lists.{before_is}
 use Rattle.cert_check.proofs.Members.{Member, and_first, and_second, and_both}
 use Rattle.cert_check.proofs.Game.{same_cells-refl, occurred-member, member-occurred}
+use Rattle.go_points.proofs.Lists.{or_left}
 
 -- WHAT A SORT AND A DROP OF EQUALS LEAVE
 
@@ -53,12 +54,8 @@ same_left cs xs ds moved is c = ap (λ (l : List (List Cell)). has_occurred l c)
 
 -- KNOWN BY WHAT STANDS ON IT
 
-or_front : (a b : Bool) → a ≡ true → (a || b) ≡ true
-or_front true b e = refl
-or_front false b e = absurd (cc)
-
 stands_first : (c : List Cell) (cs : List (List Cell)) → has_occurred (c ∷ cs) c ≡ true
-stands_first c cs = or_front (same_cells c c) (has_occurred cs c) (same_cells-refl c)
+stands_first c cs = or_left (same_cells c c) (has_occurred cs c) (same_cells-refl c)
 
 below_all : (c d : List Cell) (ds : List (List Cell)) → text_order c d ≡ Less → Ascends (d ∷ ds) → has_occurred (d ∷ ds) c ≡ false
 below_all c d ds e up = none_among c (d ∷ ds) (e, above_from c d ds e (above_all d ds up))
@@ -93,11 +90,6 @@ same_list (c ∷ cs) (d ∷ ds) up vp same = at (text_order c d) refl (same_list
 abbrev pub AreLong : ℕ → List (List Cell) → Type 0
 AreLong m cs = (c : List Cell) → Member c cs → length c ≡ m
 
-lt_less : (o : Ordering) → is_lt o ≡ true → o ≡ Less
-lt_less Less h = refl
-lt_less Equal h = absurd (cc)
-lt_less Greater h = absurd (cc)
-
 pub ascending_is : (m : ℕ) (cs : List (List Cell)) → AreLong m cs → Ascends cs → IsTrue (is_ascending cs)
 ascending_is m [] long up = refl
 ascending_is m (c ∷ []) long up = refl
@@ -110,7 +102,7 @@ pub ascends_is : (m : ℕ) (cs : List (List Cell)) → AreLong m cs → IsTrue (
 ascends_is m [] long up = tt
 ascends_is m (c ∷ []) long up = (tt, tt)
 ascends_is m (c ∷ d ∷ cs) long up = (
-  lt_less (text_order c d) (before_is c d (long c (inl refl) ∙ sym (long d (inr (inl refl)))) ∙ and_first (cells_before c d) (is_ascending (d ∷ cs)) up),
+  is_less (text_order c d) (before_is c d (long c (inl refl) ∙ sym (long d (inr (inl refl)))) ∙ and_first (cells_before c d) (is_ascending (d ∷ cs)) up),
   ascends_is m (d ∷ cs) (λ x h. long x (inr h)) (and_second (cells_before c d) (is_ascending (d ∷ cs)) up),
 )
 

@@ -12,7 +12,7 @@ use Rattle.std.proofs.lemmas.List.Elements.{All-push}
 use Rattle.go_points.specs.Grid.{side_of}
 use Rattle.go_points.specs.Private.Sides.{side_of-whole}
 use Rattle.proof_cert.specs.Claim.{Head, max_nodes, max_depth, max_listed}
-use Rattle.proof_cert.specs.Lines.{Line, header_line, lemma_line, had_line, not_line, main_line, won_line, use_line, play_line, all_line, reply_line, end_line, line_fits}
+use Rattle.proof_cert.specs.Lines.{Line, header_line, lemma_line, had_line, not_line, main_line, won_line, use_line, play_line, all_line, reply_line, end_line, line_fits, had_of, not_of}
 use Rattle.cert_check.specs.declared.judge.Judge.{Judge}
 use Rattle.cert_check.specs.declared.judge.Phase.TheVariants.{ListingHad, Listing, Body}
 use Rattle.cert_check.specs.declared.judge.Within.{Within}
@@ -21,7 +21,7 @@ use Rattle.cert_check.specs.declared.open_nodes.Due.{Due}
 use Rattle.cert_check.specs.declared.open_nodes.Due.TheVariants.{Node, Reply, End}
 use Rattle.cert_check.specs.declared.lines.NodeLine.{NodeLine}
 use Rattle.cert_check.specs.Body.{Why, limit, list_order, ask, lemma_start}
-use Rattle.cert_check.specs.Verdict.{had_of, not_of, is_after}
+use Rattle.cert_check.specs.Verdict.{is_after}
 use Rattle.cert_check.specs.Private.Machine.{Machine, Heading, Phase, goes_on, stops, goes_if, last_of, listed_taken, listing_had, listing_not, had_taken, not_taken, phase_taken, taken, body_of, node_taken}
 use Rattle.cert_check.specs.Private.Inside.{Inside, phase_of, owed_by, node_fault, node_next}
 use Rattle.cert_check.specs.Parts.{head_of, had_line_of, listed_line, node_line, node_value}

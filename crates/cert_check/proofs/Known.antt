@@ -17,6 +17,7 @@ use Rattle.cert_check.specs.Private.Ascending.{Ascends, apart, is_it}
 use Rattle.cert_check.specs.Private.Known.{SameMembers, IsKnownAt, AreKnown, HasStart}
 use Rattle.cert_check.proofs.Apart.{apart_turned}
 use Rattle.cert_check.proofs.Ascending.{any_at}
+use Rattle.go_points.proofs.Lists.{or_left}
 
 or_swap : (a b : Bool) → (a || b) ≡ (b || a)
 or_swap true true = refl
@@ -28,13 +29,9 @@ or_known : (a b : Bool) → (a ≡ true → b ≡ true) → (a || b) ≡ b
 or_known true b h = sym (h refl)
 or_known false b h = refl
 
-or_end : (b : Bool) → (b || false) ≡ b
+pub or_end : (b : Bool) → (b || false) ≡ b
 or_end true = refl
 or_end false = refl
-
-or_first : (a b : Bool) → a ≡ true → (a || b) ≡ true
-or_first true b e = refl
-or_first false b e = absurd (cc)
 
 -- a list turned round holds the same
 pub turned : (cs : List (List Cell)) → SameMembers (reverse cs) cs
@@ -54,7 +51,7 @@ start_known q cs low is = record {
 }
 
 pub alone_known : (g : Game) (root : List Cell) (mover : Colour) (passes : ℕ) → AreKnown (root ∷ []) (state_alone g root mover passes) []
-alone_known g root mover passes = record { same = λ c. refl; present = or_first (same_cells root root) false (same_cells_refl root) }
+alone_known g root mover passes = record { same = λ c. refl; present = or_left (same_cells root root) false (same_cells_refl root) }
 
 -- the others that differ from the root, beside it
 beside : (root : List Cell) (others : List (List Cell)) (c : List Cell) → has_occurred (root ∷ filter (λ d. not (same_cells root d)) others) c ≡ has_occurred (root ∷ others) c
@@ -87,7 +84,7 @@ with_known g root others known mover passes is = record {
       ∙ or_swap (has_occurred others c) (has_occurred (root ∷ []) c)
       ∙ ap (λ b. b || has_occurred others c) (or_end (same_cells c root))
       ∙ sym (beside root others c);
-  present = or_first (same_cells root root) _ (same_cells_refl root);
+  present = or_left (same_cells root root) _ (same_cells_refl root);
 }
 
 -- ONE TURN MORE
@@ -112,7 +109,7 @@ known_next cs s (move p) h =
           ∙ sym (list_any-append (same_cells c) s.history (new ∷ []));
       present = list_any-append (same_cells new) s.history (new ∷ [])
           ∙ or_swap (has_occurred s.history new) (has_occurred (new ∷ []) new)
-          ∙ or_first (has_occurred (new ∷ []) new) (has_occurred s.history new) (or_first (same_cells new new) false (same_cells_refl new));
+          ∙ or_left (has_occurred (new ∷ []) new) (has_occurred s.history new) (or_left (same_cells new new) false (same_cells_refl new));
     }
 
 pub one_known_more : (known more : List (List Cell)) (s : GameState) (before : List GameState) (t : Ply) → more ≡ known ++ (next s t).colouring ∷ [] → AreKnown (reverse known) s before → AreKnown (reverse more) (next s t) (s ∷ before)
@@ -176,5 +173,5 @@ known_at known k c s before h e = sym ((at_once (reverse known) s before h).same
     stands : (ds : List (List Cell)) (i : ℕ) → is_it (slice_get ds i) c ≡ true → has_occurred ds c ≡ true
     stands [] zero f = absurd (cc)
     stands [] (suc i) f = absurd (cc)
-    stands (d ∷ ds) zero f = or_first (same_cells c d) (has_occurred ds c) (same_cells_symm c d ∙ f)
+    stands (d ∷ ds) zero f = or_left (same_cells c d) (has_occurred ds c) (same_cells_symm c d ∙ f)
     stands (d ∷ ds) (suc i) f = or_second (same_cells c d) (has_occurred ds c) (stands ds i f)

@@ -4,9 +4,9 @@ use Rattle.go_points.specs.declared.Colour.{Colour}
 use Rattle.go_points.specs.declared.Cell.{Cell}
 use Rattle.target_game.specs.State.{Game}
 use Rattle.proof_cert.specs.Claim.{Head, max_listed}
-use Rattle.proof_cert.specs.Lines.{Line, header_line, lemma_line, had_line, not_line, main_line, won_line, use_line, play_line, all_line, reply_line, end_line}
+use Rattle.proof_cert.specs.Lines.{Line, header_line, lemma_line, had_line, not_line, main_line, won_line, use_line, play_line, all_line, reply_line, end_line, had_of, not_of}
 use Rattle.cert_check.specs.Body.{Why, limit, list_order, ask, lemma_body_by, lemma_start}
-use Rattle.cert_check.specs.Verdict.{Cursor, Judged, fine, faulty, then_judge, asked, judge_node, judge_end, judge_end_line, had_of, not_of, is_after, with_first, judge_list, judge_had, judge_not, judge_lemma, lemma_fault, judge_opening, judge_lemmas}
+use Rattle.cert_check.specs.Verdict.{Cursor, Judged, fine, faulty, then_judge, asked, judge_node, judge_end, judge_end_line, is_after, with_first, judge_list, judge_had, judge_not, judge_lemma, lemma_fault, judge_opening, judge_lemmas}
 use Rattle.cert_check.proofs.Bounds.{reading, Leaves, Leaves-more, Leaves-then, Leaves-node}
 
 Leaves-first : (c : List Cell) (j : Judged (List (List Cell))) (n : ℕ) → Leaves j n → Leaves (with_first c j) n

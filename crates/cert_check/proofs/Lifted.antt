@@ -1,6 +1,5 @@
 -- A claim that was lifted: its lists are the only ones, it is valid, and whether it is within the limits.
-use Rattle.std.proofs.Common.{◌≡◌, ℕ, ◌+◌, ◌*◌, ◌<◌, ◌≤◌, ◌⊎◌, Bool, true, false, not, ◌&&◌, ◌||◌, cond, nat_eq, nat_le, List, [], ◌∷◌, ◌++◌, map, filter, length, Option, Some, None, IsTrue, refl, sym, ap, ◌∙◌, subst, inl, inr, arith, eq-eqb, le-leb, leb-true, leb-false, ltb-true, ltb-false, nat_lt, sum_by}
-use Rattle.std.specs.Prelude.{IsSomeAnd}
+use Rattle.std.proofs.Common.{◌≡◌, ℕ, ◌+◌, ◌*◌, ◌<◌, ◌≤◌, ◌⊎◌, Bool, true, false, not, ◌&&◌, ◌||◌, cond, nat_eq, nat_le, List, [], ◌∷◌, ◌++◌, map, filter, length, Option, Some, IsTrue, refl, sym, ap, ◌∙◌, subst, inl, inr, arith, eq-eqb, le-leb, leb-true, leb-false, ltb-true, ltb-false, nat_lt, sum_by}
 use Rattle.std.specs.List.{AllByRecursion}
 use Rattle.std.proofs.lemmas.List.Elements.{recursion_from_All}
 use Rattle.std.proofs.lemmas.List.Sums.{sum_by-cons}
@@ -17,7 +16,6 @@ use Rattle.target_game.specs.Next.{next}
 use Rattle.target_game.proofs.States.{length-after_move}
 use Rattle.proof_cert.specs.Claim.{Node, won, by_lemma, play, all, Branches, no_branch, branch, Head, Claim, Lemma, node_count, listed_count, max_nodes, max_listed, IsWithinLimits}
 use Rattle.proof_cert.specs.Lines.{Line, had_spelled, not_line, end_line, main_line, lemma_line, lines_of, lemmas_lines, lemma_lines, node_lines}
-use Rattle.proof_cert.specs.Text.{text, OneClaimOfText}
 use Rattle.proof_cert.specs.Stage.{version_number}
 use Rattle.proof_cert.specs.Certificate.{claim_of, lemma_of, node_of}
 use Rattle.proof_cert.specs.declared.certificate.Certificate.{Certificate}
@@ -25,6 +23,7 @@ use Rattle.proof_cert.specs.declared.certificate.Lemma as code_lemma
 use Rattle.proof_cert.specs.declared.certificate.Node as code
 use Rattle.proof_cert.specs.declared.certificate.Node.TheVariants.{Use}
 use Rattle.proof_cert.proofs.Certificates.{node_of_use}
+use Rattle.proof_cert.proofs.Unique.{Writes}
 use Rattle.cert_check.specs.Body.{lemma_body, lemma_start}
 use Rattle.cert_check.specs.Private.Ascending.{Ascends}
 use Rattle.cert_check.specs.Checked.{IsChecked}
@@ -37,7 +36,6 @@ use Rattle.cert_check.proofs.Game.{occurred-member, member-occurred}
 use Rattle.cert_check.specs.Private.Known.{SameMembers}
 use Rattle.cert_check.proofs.InOrder.{AreLong, same_list, ascending_is, ascends_is, long_left}
 use Rattle.cert_check.proofs.Members.{Member, and_both, or_cases, Member-append_cases}
-use Rattle.cert_check.proofs.ReadingClaims.{HadFits}
 use Rattle.cert_check.proofs.Soundness.{game-next}
 use Rattle.cert_check.proofs.Spelling.{AllGood, claim_good, spelled_text}
 
@@ -105,13 +103,6 @@ pub under_both : (a b : ℕ) → (nat_le max_nodes a || nat_lt max_listed b) ≡
 under_both a b h =
     let r = neither (nat_le max_nodes a) (nat_lt max_listed b) h in
     (leb-false max_nodes a r.0, ltb-false max_listed b r.1)
-
-pub read_again : OneClaimOfText → (z y : Claim) (xs : List ℕ) → IsSomeAnd (text z) (λ spelled. xs ≡ spelled) → text y ≡ Some xs → y.size ≡ z.size → y ≡ z
-read_again law z y xs written read size = go (text z) refl written
-  where
-    go : (o : Option (List ℕ)) → text z ≡ o → IsSomeAnd o (λ spelled. xs ≡ spelled) → y ≡ z
-    go None e h = absurd h
-    go (Some b) e h = law y z b size (read ∙ ap Some h) e
 
 -- WHAT A TEST LEAVES
 
@@ -236,11 +227,11 @@ module _ (q : GameProblem) (z : Claim) (sound : IsProblem q) (had absent : List 
   version_is [] = refl
   version_is (c ∷ cs) = refl
 
-  fits_version : (hs : List (List Cell)) → HadFits (version_for hs) hs
+  fits_version : (hs : List (List Cell)) → Writes (version_for hs) hs
   fits_version [] = inr refl
   fits_version (c ∷ cs) = inl refl
 
-  had_fitting : (v : ℕ) (cs : List (List Cell)) → HadFits v cs → AreLong most cs → AllFitting q.game.size (map (had_spelled v) cs)
+  had_fitting : (v : ℕ) (cs : List (List Cell)) → Writes v cs → AreLong most cs → AllFitting q.game.size (map (had_spelled v) cs)
   had_fitting v [] h long = tt
   had_fitting v (c ∷ cs) (inl e) long = rw e (eq-eqb (length c) most (long c (inl refl)), had_fitting v cs (inl e) (λ d m. long d (inr m)))
   had_fitting v (c ∷ cs) (inr e) long = absurd (cc)

@@ -6,13 +6,13 @@ use Rattle.go_points.specs.Ply.{Ply}
 use Rattle.target_game.specs.State.{Game, GameState, GameProblem, start}
 use Rattle.target_game.specs.Next.{next}
 use Rattle.proof_cert.specs.Claim.{Head, max_nodes, max_depth, max_listed}
-use Rattle.proof_cert.specs.Lines.{Line, header_line, lemma_line, had_line, not_line, main_line, won_line, use_line, play_line, all_line, reply_line, end_line, fitting}
+use Rattle.proof_cert.specs.Lines.{Line, header_line, lemma_line, had_line, not_line, main_line, won_line, use_line, play_line, all_line, reply_line, end_line, fitting, had_of, not_of}
 use Rattle.cert_check.specs.Body.{Body, Why, malformed, size_differs, limit, list_order, ask, due_replies, won_fault, play_fault, use_fault, all_fault, reply_fault, lemma_body_by, lemma_start, main_body_by}
-use Rattle.cert_check.specs.Verdict.{Cursor, Judged, fine, faulty, then_judge, read_line, asked, judge_reply, judge_end, judge_end_line, judge_had, judge_not, judge_lemma, lemma_fault, judge_opening, is_after, with_first, judge_claim, judge_node, judge_lemmas, judge_list, judge_header, had_of, not_of, verdict_of}
+use Rattle.cert_check.specs.Verdict.{Cursor, Judged, fine, faulty, then_judge, read_line, asked, judge_reply, judge_end, judge_end_line, judge_had, judge_not, judge_lemma, lemma_fault, judge_opening, is_after, with_first, judge_claim, judge_node, judge_lemmas, judge_list, judge_header, verdict_of}
 use Rattle.cert_check.specs.Private.Resume.{OpenNode, awaited, owed, resume, opened}
 use Rattle.cert_check.specs.Private.Machine.{Owed, Heading, Phase, header, opening, listing_had, listing_not, node_due, reply_due, done, Machine, AfterLine, goes_on, stops, begun, body_of, owing, goes_if, there, node_taken, reply_taken, closed, end_taken, last_of, first_of, lists_due, opening_taken, listed_taken, header_taken, first_taken, not_taken, had_taken, phase_taken, taken, ended_at, after_step, verdict_from, LinesJudged}
 use Rattle.cert_check.proofs.Bounds.{reading, Leaves, Leaves-then, then_same, same_node, Leaves-asked, Leaves-node}
-use Rattle.cert_check.proofs.Resuming.{resume_laws}
+use Rattle.cert_check.proofs.Resuming.{resume_laws, then_then}
 use Rattle.cert_check.proofs.Leaving.{Leaves-not, Leaves-had, Leaves-end, Leaves-lemma, Leaves-lemmas_at}
 
 -- what is open, as the stack that is resumed
@@ -258,10 +258,6 @@ module _ (shape : List Cell → Bool) (q : GameProblem) (f : Heading) (h : Head)
       ∙ had_line_on l (had_of l)
 
 -- LEMMAS
-
-then_then : {A B C : Type 0} (j : Judged A) (f : A → Cursor → Judged B) (g : B → Cursor → Judged C) → then_judge (then_judge j f) g ≡ then_judge j (λ a r. then_judge (f a r) g)
-then_then (fine a r) f g = refl
-then_then (faulty place why) f g = refl
 
 -- a lemma's tree and `end`
 abbrev rest_of : (List Cell → Bool) → ℕ → Game → Colour → List Head → Head → Cursor → Judged Head

@@ -5,7 +5,7 @@ ghost use Rattle.std.specs.Prelude.{◌≡◌, ◌<◌, ◌^◌, Bool, List, suc
 ghost use Rattle.go_points.specs.declared.Cell.{Cell as SpecCell};
 ghost use Rattle.proof_cert.specs.Stage.{line_value};
 ghost use Rattle.cert_check.specs.Body.{Why as SpecWhy};
-ghost use Rattle.cert_check.specs.Private.Judging.{GoesOn, IsBehind, IsReady, IsToldBy, StopsFor, answering, bad_line, machine_of};
+ghost use Rattle.cert_check.specs.Private.Judging.{IsReady, IsToldBy, answering, bad_line, machine_of, Takes};
 ghost use Rattle.cert_check.specs.Private.Machine.{begun, ended, goes_on, stops, taken};
 ghost use Rattle.cert_check.specs.Parts.{IsJudged};
 ghost use Rattle.cert_check.specs.Stage.{why_value};
@@ -125,17 +125,9 @@ impl<'p> Judge<'p> {
     /// Judges the next line, which has not been counted yet. If it rests on the shape of the targets, `alive` is whether it may.
     fn step(&mut self, line: &Line, alive: bool) -> Result<(), Why>
         requires ready { IsReady self.old }
-        ensures place { self.new.place ≡ self.old.place }
-        ensures problem { self.new.problem ≡ self.old.problem }
-        ensures ready { OnOk result (IsBehind self.new) }
-        ensures ok { OnOk result
-            (GoesOn self.old self.new
+        ensures { Takes self.old self.new
             (taken (answering alive) self.old.problem.now (machine_of self.old)
-            (Some (line_value self.old.problem.now.game.size line.now)))) }
-        ensures err { IfErr result
-            (λ why. StopsFor self.old
-            (taken (answering alive) self.old.problem.now (machine_of self.old)
-            (Some (line_value self.old.problem.now.game.size line.now))) why) }
+            (Some (line_value self.old.problem.now.game.size line.now))) result }
     {
         if !line_fits(self.problem.size(), line) {
             return Err(self.malformed_why());

@@ -1,16 +1,14 @@
 //! The judge's calls for the lines of a tree: nodes, replies and `end`.
 
-ghost use Rattle.std.specs.Prelude.{◌≡◌, ◌<◌, [], suc, nat_lt, nat_le, ◌&&◌, ◌+◌, ◌++◌, ◌∷◌, length, reverse, None, Some, IsTrue, IfOk, IfErr, OnOk};
+ghost use Rattle.std.specs.Prelude.{◌≡◌, ◌<◌, [], nat_lt, nat_le, ◌&&◌, ◌+◌, ◌++◌, ◌∷◌, length, Some, IsTrue};
 ghost use Rattle.proof_cert.specs.Claim.{max_nodes, max_depth};
 ghost use Rattle.proof_cert.specs.Lines.{use_line};
 ghost use Rattle.proof_cert.specs.Stage.{line_value};
 ghost use Rattle.cert_check.specs.Private.Ascending.{Ascends};
-ghost use Rattle.cert_check.specs.Body.{Why as SpecWhy, lives, nowhere};
-ghost use Rattle.cert_check.specs.Private.Inside.{node_fault, node_next, owed_by};
-ghost use Rattle.cert_check.specs.Private.Judging.{AwaitsNode, GoesOn, IsBehind, StopsFor, answering, body_here, heading_of, inside_now, lemma_of, machine_of, node_here, reply_here, within_of};
+ghost use Rattle.cert_check.specs.Body.{lives, nowhere};
+ghost use Rattle.cert_check.specs.Private.Judging.{AwaitsNode, answering, body_here, heading_of, lemma_of, machine_of, node_here, reply_here, within_of, Takes, TakesNodeIn};
 ghost use Rattle.cert_check.specs.Private.Machine.{body_of, end_taken, goes_on, moved, opening};
-ghost use Rattle.cert_check.specs.Parts.{IsJudged, node_value};
-ghost use Rattle.cert_check.specs.Stage.{why_value};
+ghost use Rattle.cert_check.specs.Parts.{node_value};
 ghost use Rattle.cert_check.specs.declared.judge.Within.{Within as SpecWithin};
 ghost use Rattle.cert_check.specs.declared.judge.Within.TheVariants.{Lemma, Main};
 ghost use Rattle.cert_check.specs.declared.open_nodes.Due.TheVariants.{Node, Reply};
@@ -37,17 +35,9 @@ impl<'p> Judge<'p> {
         alive: bool,
     ) -> Result<(), Why>
         requires ready { AwaitsNode self.old due }
-        ensures place { self.new.place ≡ self.old.place }
-        ensures problem { self.new.problem ≡ self.old.problem }
-        ensures ready { OnOk result (IsBehind self.new) }
-        ensures ok { OnOk result
-            (GoesOn self.old self.new
+        ensures { Takes self.old self.new
             (body_here alive self.old within due
-            (line_value self.old.problem.now.game.size line.now))) }
-        ensures err { IfErr result
-            (λ why. StopsFor self.old
-            (body_here alive self.old within due
-            (line_value self.old.problem.now.game.size line.now)) why) }
+            (line_value self.old.problem.now.game.size line.now)) result }
     {
         match due {
             Due::Node => self.node(within, line, alive),
@@ -59,17 +49,9 @@ impl<'p> Judge<'p> {
     /// The line of a node.
     pub(crate) fn node(&mut self, within: Within, line: &Line, alive: bool) -> Result<(), Why>
         requires ready { AwaitsNode self.old Node }
-        ensures place { self.new.place ≡ self.old.place }
-        ensures problem { self.new.problem ≡ self.old.problem }
-        ensures ready { OnOk result (IsBehind self.new) }
-        ensures ok { OnOk result
-            (GoesOn self.old self.new
+        ensures { Takes self.old self.new
             (node_here alive self.old within
-            (line_value self.old.problem.now.game.size line.now))) }
-        ensures err { IfErr result
-            (λ why. StopsFor self.old
-            (node_here alive self.old within (line_value self.old.problem.now.game.size line.now))
-            why) }
+            (line_value self.old.problem.now.game.size line.now)) result }
     {
         let Some(node) = node_of(line) else {
             return Err(Why::Malformed);
@@ -97,20 +79,8 @@ impl<'p> Judge<'p> {
               open_nodes = self.new.open_nodes;
               passed = self.new.passed;
             } }
-        ensures ready { IfOk result (λ due. AwaitsNode self.new due) }
-        ensures none { OnOk result
-            (node_fault (body_of (answering alive) (heading_of self.old)
-            (within_of self.old within)) self.old.state.state (node_value self.old.state.state.game.size node) ≡ None) }
-        ensures due { IfOk result
-            (λ due. inside_now self.new due
-            ≡ node_next (suc (length self.old.state.before)) self.old.state.state
-            (owed_by self.old.state.before (reverse self.old.open_nodes.items))
-            (node_value self.old.state.state.game.size node)) }
-        ensures err { IfErr result (λ why. (p : SpecWhy)
-            → why_value self.old.state.state.game.size why ≡ Some p
-            → node_fault (body_of (answering alive) (heading_of self.old)
-            (within_of self.old within)) self.old.state.state (node_value self.old.state.state.game.size node) ≡ Some p) }
-        ensures judged { IfErr result (λ why. IsJudged why) }
+        ensures taken { TakesNodeIn self.old within (answering alive)
+            (node_value self.old.state.state.game.size node) self.new result }
     {
         if rests_on_shape(&node) {
             return self.by_shape(alive);
@@ -127,19 +97,8 @@ impl<'p> Judge<'p> {
         requires room { length self.old.open_nodes.items < 2000 }
         ensures rest { self.new
             ≡ record self.old { state = self.new.state; open_nodes = self.new.open_nodes } }
-        ensures ready { IfOk result (λ due. AwaitsNode self.new due) }
-        ensures none { (within : SpecWithin) → OnOk result
-            (node_fault (body_of (answering alive) (heading_of self.old)
-            (within_of self.old within)) self.old.state.state (use_line 0) ≡ None) }
-        ensures due { IfOk result
-            (λ due. inside_now self.new due
-            ≡ node_next (suc (length self.old.state.before)) self.old.state.state
-            (owed_by self.old.state.before (reverse self.old.open_nodes.items)) (use_line 0)) }
-        ensures err { (within : SpecWithin) → IfErr result (λ why. (p : SpecWhy)
-            → why_value self.old.state.state.game.size why ≡ Some p
-            → node_fault (body_of (answering alive) (heading_of self.old)
-            (within_of self.old within)) self.old.state.state (use_line 0) ≡ Some p) }
-        ensures judged { IfErr result (λ why. IsJudged why) }
+        ensures taken { (within : SpecWithin) → TakesNodeIn self.old within (answering alive)
+            (use_line 0) self.new result }
     {
         if !self.may_rest(alive) {
             return Err(Why::LemmaNotLower);
@@ -171,20 +130,8 @@ impl<'p> Judge<'p> {
               open_nodes = self.new.open_nodes;
               passed = self.new.passed;
             } }
-        ensures ready { IfOk result (λ due. AwaitsNode self.new due) }
-        ensures none { OnOk result
-            (node_fault (body_of nowhere (heading_of self.old) (within_of self.old Lemma))
-            self.old.state.state (node_value self.old.state.state.game.size node) ≡ None) }
-        ensures due { IfOk result
-            (λ due. inside_now self.new due
-            ≡ node_next (suc (length self.old.state.before)) self.old.state.state
-            (owed_by self.old.state.before (reverse self.old.open_nodes.items))
-            (node_value self.old.state.state.game.size node)) }
-        ensures err { IfErr result (λ why. (p : SpecWhy)
-            → why_value self.old.state.state.game.size why ≡ Some p
-            → node_fault (body_of nowhere (heading_of self.old) (within_of self.old Lemma))
-            self.old.state.state (node_value self.old.state.state.game.size node) ≡ Some p) }
-        ensures judged { IfErr result (λ why. IsJudged why) }
+        ensures taken { TakesNodeIn self.old Lemma nowhere
+            (node_value self.old.state.state.game.size node) self.new result }
     {
         let body = Body::of_lemma(self.winner, self.heads.as_slice(), &self.list);
         take_node(
@@ -206,20 +153,8 @@ impl<'p> Judge<'p> {
               open_nodes = self.new.open_nodes;
               passed = self.new.passed;
             } }
-        ensures ready { IfOk result (λ due. AwaitsNode self.new due) }
-        ensures none { OnOk result
-            (node_fault (body_of nowhere (heading_of self.old) (within_of self.old Main))
-            self.old.state.state (node_value self.old.state.state.game.size node) ≡ None) }
-        ensures due { IfOk result
-            (λ due. inside_now self.new due
-            ≡ node_next (suc (length self.old.state.before)) self.old.state.state
-            (owed_by self.old.state.before (reverse self.old.open_nodes.items))
-            (node_value self.old.state.state.game.size node)) }
-        ensures err { IfErr result (λ why. (p : SpecWhy)
-            → why_value self.old.state.state.game.size why ≡ Some p
-            → node_fault (body_of nowhere (heading_of self.old) (within_of self.old Main))
-            self.old.state.state (node_value self.old.state.state.game.size node) ≡ Some p) }
-        ensures judged { IfErr result (λ why. IsJudged why) }
+        ensures taken { TakesNodeIn self.old Main nowhere
+            (node_value self.old.state.state.game.size node) self.new result }
     {
         let body = Body::of_main(self.winner, self.heads.as_slice());
         // Main has no list that would have to contain another, so nothing is remembered here.
@@ -247,17 +182,9 @@ impl<'p> Judge<'p> {
     /// The line of a reply, if this reply is due.
     fn reply(&mut self, within: Within, due: Turn, left: TurnsLeft, line: &Line) -> Result<(), Why>
         requires ready { AwaitsNode self.old (Reply due left) }
-        ensures place { self.new.place ≡ self.old.place }
-        ensures problem { self.new.problem ≡ self.old.problem }
-        ensures ready { OnOk result (IsBehind self.new) }
-        ensures ok { OnOk result
-            (GoesOn self.old self.new
+        ensures { Takes self.old self.new
             (reply_here self.old within due left
-            (line_value self.old.problem.now.game.size line.now))) }
-        ensures err { IfErr result
-            (λ why. StopsFor self.old
-            (reply_here self.old within due left
-            (line_value self.old.problem.now.game.size line.now)) why) }
+            (line_value self.old.problem.now.game.size line.now)) result }
     {
         let Some(turn) = reply_of(line) else {
             return Err(Why::Malformed);
@@ -278,17 +205,9 @@ impl<'p> Judge<'p> {
     fn close(&mut self, within: Within, line: &Line) -> Result<(), Why>
         requires ascends { Ascends self.old.list }
         requires game { self.old.state.state.game ≡ self.old.problem.now.game }
-        ensures place { self.new.place ≡ self.old.place }
-        ensures problem { self.new.problem ≡ self.old.problem }
-        ensures ready { OnOk result (IsBehind self.new) }
-        ensures ok { OnOk result
-            (GoesOn self.old self.new
+        ensures { Takes self.old self.new
             (end_taken (machine_of self.old) (heading_of self.old) (within_of self.old within)
-            (line_value self.old.problem.now.game.size line.now))) }
-        ensures err { IfErr result
-            (λ why. StopsFor self.old
-            (end_taken (machine_of self.old) (heading_of self.old) (within_of self.old within)
-            (line_value self.old.problem.now.game.size line.now)) why) }
+            (line_value self.old.problem.now.game.size line.now)) result }
     {
         if !is_end(line) {
             return Err(Why::Malformed);
@@ -306,15 +225,10 @@ impl<'p> Judge<'p> {
     fn close_lemma(&mut self) -> Result<(), Why>
         requires ascends { Ascends self.old.list }
         requires game { self.old.state.state.game ≡ self.old.problem.now.game }
-        ensures place { self.new.place ≡ self.old.place }
-        ensures problem { self.new.problem ≡ self.old.problem }
-        ensures ready { OnOk result (IsBehind self.new) }
-        ensures ok { OnOk result
-            (GoesOn self.old self.new
+        ensures { Takes self.old self.new
             (goes_on (moved (machine_of self.old)
             (opening (record (heading_of self.old)
-            { heads = self.old.heads.items ++ lemma_of self.old ∷ [] }))))) }
-        ensures err { IfErr result (λ why. why ≡ Memory) }
+            { heads = self.old.heads.items ++ lemma_of self.old ∷ [] })))) result }
     {
         let had = mem::replace(&mut self.had, Vec::new(self.alloc));
         let list = mem::replace(&mut self.list, ColouringList::new(self.alloc));

@@ -6,7 +6,7 @@ ghost use Rattle.target_game.specs.State.{state_alone};
 ghost use Rattle.proof_cert.specs.Lines.{line_fits as fits_board, lemma_line, main_line};
 ghost use Rattle.proof_cert.specs.Stage.{line_value};
 ghost use Rattle.cert_check.specs.Body.{Why as SpecWhy};
-ghost use Rattle.cert_check.specs.Private.Judging.{AwaitsHad, AwaitsHeader, AwaitsList, GoesOn, IsBehind, IsBetweenBodies, StopsFor, had_here, had_more, heading_of, lemma_of, list_here, listed_more, machine_of};
+ghost use Rattle.cert_check.specs.Private.Judging.{AwaitsHad, AwaitsHeader, AwaitsList, IsBetweenBodies, had_here, had_more, heading_of, lemma_of, list_here, listed_more, machine_of, Takes};
 ghost use Rattle.cert_check.specs.Private.Machine.{header_taken, last_of, listed_taken, listing_had, listing_not, opening_taken};
 ghost use Rattle.cert_check.specs.Parts.{IsJudged};
 ghost use Rattle.cert_check.specs.Stage.{why_value};
@@ -29,17 +29,9 @@ impl<'p> Judge<'p> {
     /// The first line.
     pub(crate) fn header(&mut self, line: &Line) -> Result<(), Why>
         requires ready { AwaitsHeader self.old }
-        ensures place { self.new.place ≡ self.old.place }
-        ensures problem { self.new.problem ≡ self.old.problem }
-        ensures ready { OnOk result (IsBehind self.new) }
-        ensures ok { OnOk result
-            (GoesOn self.old self.new
+        ensures { Takes self.old self.new
             (header_taken self.old.problem.now (machine_of self.old)
-            (line_value self.old.problem.now.game.size line.now))) }
-        ensures err { IfErr result
-            (λ why. StopsFor self.old
-            (header_taken self.old.problem.now (machine_of self.old)
-            (line_value self.old.problem.now.game.size line.now)) why) }
+            (line_value self.old.problem.now.game.size line.now)) result }
     {
         let Some(header) = header_of(line) else {
             return Err(Why::Malformed);
@@ -59,17 +51,9 @@ impl<'p> Judge<'p> {
         requires fits { IsTrue
             (fits_board self.old.problem.now.game.size
             (line_value self.old.problem.now.game.size line.now)) }
-        ensures place { self.new.place ≡ self.old.place }
-        ensures problem { self.new.problem ≡ self.old.problem }
-        ensures ready { OnOk result (IsBehind self.new) }
-        ensures ok { OnOk result
-            (GoesOn self.old self.new
+        ensures { Takes self.old self.new
             (opening_taken self.old.problem.now (machine_of self.old) (heading_of self.old)
-            (line_value self.old.problem.now.game.size line.now))) }
-        ensures err { IfErr result
-            (λ why. StopsFor self.old
-            (opening_taken self.old.problem.now (machine_of self.old) (heading_of self.old)
-            (line_value self.old.problem.now.game.size line.now)) why) }
+            (line_value self.old.problem.now.game.size line.now)) result }
     {
         let Some(opening) = opening_of(line) else {
             return Err(Why::Malformed);
@@ -89,17 +73,9 @@ impl<'p> Judge<'p> {
         requires size { side_of root ≡ self.old.problem.now.game.size }
         requires few { passes ≤ 1 }
         requires between { IsBetweenBodies self.old }
-        ensures place { self.new.place ≡ self.old.place }
-        ensures problem { self.new.problem ≡ self.old.problem }
-        ensures ready { OnOk result (IsBehind self.new) }
-        ensures ok { OnOk result
-            (GoesOn self.old self.new
+        ensures { Takes self.old self.new
             (opening_taken self.old.problem.now (machine_of self.old) (heading_of self.old)
-            (lemma_line mover passes root))) }
-        ensures err { IfErr result
-            (λ why. StopsFor self.old
-            (opening_taken self.old.problem.now (machine_of self.old) (heading_of self.old)
-            (lemma_line mover passes root)) why) }
+            (lemma_line mover passes root)) result }
     {
         if let Err(why) = begin(
             self.alloc,
@@ -130,17 +106,9 @@ impl<'p> Judge<'p> {
     /// The line `main`.
     fn main(&mut self) -> Result<(), Why>
         requires between { IsBetweenBodies self.old }
-        ensures place { self.new.place ≡ self.old.place }
-        ensures problem { self.new.problem ≡ self.old.problem }
-        ensures ready { OnOk result (IsBehind self.new) }
-        ensures ok { OnOk result
-            (GoesOn self.old self.new
+        ensures { Takes self.old self.new
             (opening_taken self.old.problem.now (machine_of self.old) (heading_of self.old)
-            main_line)) }
-        ensures err { IfErr result
-            (λ why. StopsFor self.old
-            (opening_taken self.old.problem.now (machine_of self.old) (heading_of self.old)
-            main_line) why) }
+            main_line) result }
     {
         let Ok(state) = BodyState::of(self.alloc, self.problem) else {
             return Err(Why::Memory);
@@ -161,15 +129,8 @@ impl<'p> Judge<'p> {
         requires fits { IsTrue
             (fits_board self.old.problem.now.game.size
             (line_value self.old.problem.now.game.size line.now)) }
-        ensures place { self.new.place ≡ self.old.place }
-        ensures problem { self.new.problem ≡ self.old.problem }
-        ensures ready { OnOk result (IsBehind self.new) }
-        ensures ok { OnOk result
-            (GoesOn self.old self.new
-            (had_here alive self.old (line_value self.old.problem.now.game.size line.now))) }
-        ensures err { IfErr result
-            (λ why. StopsFor self.old
-            (had_here alive self.old (line_value self.old.problem.now.game.size line.now)) why) }
+        ensures { Takes self.old self.new
+            (had_here alive self.old (line_value self.old.problem.now.game.size line.now)) result }
     {
         if let Some(colouring) = had_of(line) {
             return self.had(colouring);
@@ -186,17 +147,9 @@ impl<'p> Judge<'p> {
         requires phase { self.old.phase ≡ phases.ListingHad }
         requires fits { length colouring
             ≡ self.old.problem.now.game.size * self.old.problem.now.game.size }
-        ensures place { self.new.place ≡ self.old.place }
-        ensures problem { self.new.problem ≡ self.old.problem }
-        ensures ready { OnOk result (IsBehind self.new) }
-        ensures ok { OnOk result
-            (GoesOn self.old self.new
+        ensures { Takes self.old self.new
             (listed_taken (machine_of self.old) (last_of self.old.had.items) colouring
-            (listing_had (heading_of self.old) (had_more (lemma_of self.old) colouring)))) }
-        ensures err { IfErr result
-            (λ why. StopsFor self.old
-            (listed_taken (machine_of self.old) (last_of self.old.had.items) colouring
-            (listing_had (heading_of self.old) (had_more (lemma_of self.old) colouring))) why) }
+            (listing_had (heading_of self.old) (had_more (lemma_of self.old) colouring))) result }
     {
         if self.listed_count >= MAX_LISTED {
             return Err(Why::Limit);
@@ -246,15 +199,8 @@ impl<'p> Judge<'p> {
         requires fits { IsTrue
             (fits_board self.old.problem.now.game.size
             (line_value self.old.problem.now.game.size line.now)) }
-        ensures place { self.new.place ≡ self.old.place }
-        ensures problem { self.new.problem ≡ self.old.problem }
-        ensures ready { OnOk result (IsBehind self.new) }
-        ensures ok { OnOk result
-            (GoesOn self.old self.new
-            (list_here alive self.old (line_value self.old.problem.now.game.size line.now))) }
-        ensures err { IfErr result
-            (λ why. StopsFor self.old
-            (list_here alive self.old (line_value self.old.problem.now.game.size line.now)) why) }
+        ensures { Takes self.old self.new
+            (list_here alive self.old (line_value self.old.problem.now.game.size line.now)) result }
     {
         match listed_of(line) {
             Some(colouring) => self.listed(colouring),
@@ -268,18 +214,9 @@ impl<'p> Judge<'p> {
         requires phase { self.old.phase ≡ phases.Listing }
         requires fits { length colouring
             ≡ self.old.problem.now.game.size * self.old.problem.now.game.size }
-        ensures place { self.new.place ≡ self.old.place }
-        ensures problem { self.new.problem ≡ self.old.problem }
-        ensures ready { OnOk result (IsBehind self.new) }
-        ensures ok { OnOk result
-            (GoesOn self.old self.new
+        ensures { Takes self.old self.new
             (listed_taken (machine_of self.old) (last_of self.old.list) colouring
-            (listing_not (heading_of self.old) (listed_more (lemma_of self.old) colouring)))) }
-        ensures err { IfErr result
-            (λ why. StopsFor self.old
-            (listed_taken (machine_of self.old) (last_of self.old.list) colouring
-            (listing_not (heading_of self.old) (listed_more (lemma_of self.old) colouring)))
-            why) }
+            (listing_not (heading_of self.old) (listed_more (lemma_of self.old) colouring))) result }
     {
         if self.listed_count >= MAX_LISTED {
             return Err(Why::Limit);

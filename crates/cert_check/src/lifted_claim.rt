@@ -1,10 +1,9 @@
 //! A claim without lemmas, made into one lemma with a past.
 
-ghost use Rattle.std.specs.Prelude.{◌≡◌, ◌<◌, ◌↔◌, ◌||◌, Err, IfOk, IsSomeAnd, length, nat_le, nat_lt};
+ghost use Rattle.std.specs.Prelude.{◌≡◌, ◌<◌, ◌↔◌, ◌||◌, Err, IfOk, length, nat_le, nat_lt};
 ghost use Rattle.proof_cert.specs.Certificate.{claim_of, node_of};
 ghost use Rattle.proof_cert.specs.Claim.{Claim, IsWithinLimits, max_listed, max_nodes};
 ghost use Rattle.proof_cert.specs.Stage.{version_number};
-ghost use Rattle.proof_cert.specs.Text.{text};
 ghost use Rattle.cert_check.specs.Checked.{IsChecked};
 ghost use Rattle.cert_check.specs.Lift.{IsLifted};
 ghost use Rattle.cert_check.specs.Private.Results.{claim_with, version_for};
@@ -15,37 +14,8 @@ use crate::lift_fault::Lift;
 use crate::results::{Results, results_of};
 use crate::sorting::put_in_order;
 use go_points::{Colouring, MAX_SIZE};
-use proof_cert::laws::one_claim_of_text;
-use proof_cert::{Certificate, Lemma, MAX_LISTED, MAX_NODES, Node, Version, read_cert, write_cert};
+use proof_cert::{Certificate, Lemma, MAX_LISTED, MAX_NODES, Node, Version};
 use std::alloc::{AllocError, Global};
-
-/// The claim's text, if it has one.
-fn text_of(alloc: Global, certificate: &Certificate) -> Result<Vec<u8>, AllocError>
-    ensures { IfOk result
-        (λ bytes. IsSomeAnd (text (claim_of certificate.now)) (λ spelled. bytes.items ≡ spelled)) }
-{
-    let mut bytes = Vec::new(alloc);
-    match write_cert(certificate, &mut bytes) {
-        Ok(()) => Ok(bytes),
-        Err(_) => Err(AllocError),
-    }
-}
-
-/// A copy of the claim's main tree, in memory of its own. It is read from the claim's text.
-fn main_again(alloc: Global, checked: &Checked) -> Result<Node, AllocError>
-    ensures { IfOk result
-        (λ node. node_of checked.now.certificate.size node
-        ≡ (claim_of checked.now.certificate).main) }
-{
-    one_claim_of_text();
-    let _winner = checked.winner();
-    let certificate = checked.certificate();
-    let text = text_of(alloc, certificate)?;
-    match read_cert(alloc, certificate.size, text.as_slice()) {
-        Ok(again) => Ok(again.main),
-        Err(_) => Err(AllocError),
-    }
-}
 
 /// The version of a claim whose lemmas need these colourings.
 fn version_with(had: &[Colouring]) -> Version
@@ -137,7 +107,7 @@ pub fn lift(alloc: Global, checked: &Checked) -> Result<Certificate, Lift>
         return Err(Lift::Limit);
     }
     lifted_claims_are_right();
-    let Ok(body) = main_again(alloc, checked) else {
+    let Ok(body) = checked.certificate().main.copied(alloc) else {
         return Err(Lift::Memory);
     };
     match claim_of_lemma(alloc, checked, had, absent, body) {

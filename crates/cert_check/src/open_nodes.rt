@@ -1,13 +1,13 @@
 //! The open nodes of a body: the replies of each that are still to come, and the turns that are to be taken back.
 
-ghost use Rattle.std.specs.Prelude.{◌≡◌, ◌<◌, ◌∷◌, suc, length, reverse, None, Some, IfOk, IfErr, OnOk};
+ghost use Rattle.std.specs.Prelude.{◌≡◌, ◌<◌, ◌∷◌, suc, length, reverse, None, Some, IfErr, OnOk};
 ghost use Rattle.std.specs.List.{All};
 ghost use Rattle.go_points.specs.Ply.{ply_of};
 ghost use Rattle.target_game.specs.Next.{next};
 ghost use Rattle.target_game.specs.Left.{turns_due};
 ghost use Rattle.proof_cert.specs.Lines.{won_line, use_line, play_line, all_line};
 ghost use Rattle.cert_check.specs.Body.{Why as SpecWhy, reply_fault};
-ghost use Rattle.cert_check.specs.Private.Inside.{Follows, MayBeMade, inside_of, node_fault, node_next, owed_by, reply_at};
+ghost use Rattle.cert_check.specs.Private.Inside.{Follows, MayBeMade, inside_of, owed_by, reply_at, TakesNode};
 ghost use Rattle.cert_check.specs.Private.Machine.{owing};
 ghost use Rattle.cert_check.specs.Parts.{IsJudged, PassesOn, node_value, ordinary};
 ghost use Rattle.cert_check.specs.Stage.{why_value};
@@ -109,20 +109,8 @@ fn take_won(
     requires follows { Follows state.old.state.game state.old.before
         (reverse open_nodes.old.items) }
     requires room { length open_nodes.old.items < 2000 }
-    ensures game { OnOk result (state.new.state.game ≡ state.old.state.game) }
-    ensures follows { OnOk result
-        (Follows state.old.state.game state.new.before (reverse open_nodes.new.items)) }
-    ensures made { IfOk result
-        (λ due. MayBeMade due state.new.state (length open_nodes.new.items)) }
-    ensures none { OnOk result (node_fault (ordinary body.now) state.old.state (won_line) ≡ None) }
-    ensures due { IfOk result
-        (λ due. inside_of due state.new.state state.new.before (reverse open_nodes.new.items)
-        ≡ node_next (suc (length state.old.before)) state.old.state
-        (owed_by state.old.before (reverse open_nodes.old.items)) (won_line)) }
-    ensures err { IfErr result (λ why. (p : SpecWhy)
-        → why_value state.old.state.game.size why ≡ Some p
-        → node_fault (ordinary body.now) state.old.state (won_line) ≡ Some p) }
-    ensures judged { IfErr result (λ why. IsJudged why) }
+    ensures { TakesNode (ordinary body.now) (won_line)
+        state.old open_nodes.old.items state.new open_nodes.new.items result }
 {
     if let Some(why) = won_fault(body, state.play()) {
         return Err(why);
@@ -143,21 +131,8 @@ fn take_use(
     requires room { length open_nodes.old.items < 2000 }
     requires passed { All (PassesOn (ordinary body.now)) passed.old }
     ensures passed { All (PassesOn (ordinary body.now)) passed.new }
-    ensures game { OnOk result (state.new.state.game ≡ state.old.state.game) }
-    ensures follows { OnOk result
-        (Follows state.old.state.game state.new.before (reverse open_nodes.new.items)) }
-    ensures made { IfOk result
-        (λ due. MayBeMade due state.new.state (length open_nodes.new.items)) }
-    ensures none { OnOk result
-        (node_fault (ordinary body.now) state.old.state (use_line lemma) ≡ None) }
-    ensures due { IfOk result
-        (λ due. inside_of due state.new.state state.new.before (reverse open_nodes.new.items)
-        ≡ node_next (suc (length state.old.before)) state.old.state
-        (owed_by state.old.before (reverse open_nodes.old.items)) (use_line lemma)) }
-    ensures err { IfErr result (λ why. (p : SpecWhy)
-        → why_value state.old.state.game.size why ≡ Some p
-        → node_fault (ordinary body.now) state.old.state (use_line lemma) ≡ Some p) }
-    ensures judged { IfErr result (λ why. IsJudged why) }
+    ensures taken { TakesNode (ordinary body.now) (use_line lemma)
+        state.old open_nodes.old.items state.new open_nodes.new.items result }
 {
     let Ok(fault) = use_fault(body, passed, state, lemma) else {
         return Err(Why::Memory);
@@ -178,24 +153,8 @@ fn take_play(
     requires follows { Follows state.old.state.game state.old.before
         (reverse open_nodes.old.items) }
     requires room { length open_nodes.old.items < 2000 }
-    ensures game { OnOk result (state.new.state.game ≡ state.old.state.game) }
-    ensures follows { OnOk result
-        (Follows state.old.state.game state.new.before (reverse open_nodes.new.items)) }
-    ensures made { IfOk result
-        (λ due. MayBeMade due state.new.state (length open_nodes.new.items)) }
-    ensures none { OnOk result
-        (node_fault (ordinary body.now) state.old.state
-        (play_line (ply_of state.old.state.game.size turn)) ≡ None) }
-    ensures due { IfOk result
-        (λ due. inside_of due state.new.state state.new.before (reverse open_nodes.new.items)
-        ≡ node_next (suc (length state.old.before)) state.old.state
-        (owed_by state.old.before (reverse open_nodes.old.items))
-        (play_line (ply_of state.old.state.game.size turn))) }
-    ensures err { IfErr result (λ why. (p : SpecWhy)
-        → why_value state.old.state.game.size why ≡ Some p
-        → node_fault (ordinary body.now) state.old.state
-        (play_line (ply_of state.old.state.game.size turn)) ≡ Some p) }
-    ensures judged { IfErr result (λ why. IsJudged why) }
+    ensures { TakesNode (ordinary body.now) (play_line (ply_of state.old.state.game.size turn))
+        state.old open_nodes.old.items state.new open_nodes.new.items result }
 {
     let Ok(fault) = make_turn(body, state, turn) else {
         return Err(Why::Memory);
@@ -217,21 +176,8 @@ fn take_all(
     requires follows { Follows state.old.state.game state.old.before
         (reverse open_nodes.old.items) }
     requires room { length open_nodes.old.items < 2000 }
-    ensures game { OnOk result (state.new.state.game ≡ state.old.state.game) }
-    ensures follows { OnOk result
-        (Follows state.old.state.game state.new.before (reverse open_nodes.new.items)) }
-    ensures made { IfOk result
-        (λ due. MayBeMade due state.new.state (length open_nodes.new.items)) }
-    ensures none { OnOk result
-        (node_fault (ordinary body.now) state.old.state (all_line replies) ≡ None) }
-    ensures due { IfOk result
-        (λ due. inside_of due state.new.state state.new.before (reverse open_nodes.new.items)
-        ≡ node_next (suc (length state.old.before)) state.old.state
-        (owed_by state.old.before (reverse open_nodes.old.items)) (all_line replies)) }
-    ensures err { IfErr result (λ why. (p : SpecWhy)
-        → why_value state.old.state.game.size why ≡ Some p
-        → node_fault (ordinary body.now) state.old.state (all_line replies) ≡ Some p) }
-    ensures judged { IfErr result (λ why. IsJudged why) }
+    ensures { TakesNode (ordinary body.now) (all_line replies)
+        state.old open_nodes.old.items state.new open_nodes.new.items result }
 {
     if let Some(why) = all_fault(body, state.play(), replies) {
         return Err(why);
@@ -256,24 +202,8 @@ pub(crate) fn take_node(
     requires room { length open_nodes.old.items < 2000 }
     requires passed { All (PassesOn (ordinary body.now)) passed.old }
     ensures passed { All (PassesOn (ordinary body.now)) passed.new }
-    ensures game { OnOk result (state.new.state.game ≡ state.old.state.game) }
-    ensures follows { OnOk result
-        (Follows state.old.state.game state.new.before (reverse open_nodes.new.items)) }
-    ensures made { IfOk result
-        (λ due. MayBeMade due state.new.state (length open_nodes.new.items)) }
-    ensures none { OnOk result
-        (node_fault (ordinary body.now) state.old.state
-        (node_value state.old.state.game.size node) ≡ None) }
-    ensures due { IfOk result
-        (λ due. inside_of due state.new.state state.new.before (reverse open_nodes.new.items)
-        ≡ node_next (suc (length state.old.before)) state.old.state
-        (owed_by state.old.before (reverse open_nodes.old.items))
-        (node_value state.old.state.game.size node)) }
-    ensures err { IfErr result (λ why. (p : SpecWhy)
-        → why_value state.old.state.game.size why ≡ Some p
-        → node_fault (ordinary body.now) state.old.state
-        (node_value state.old.state.game.size node) ≡ Some p) }
-    ensures judged { IfErr result (λ why. IsJudged why) }
+    ensures taken { TakesNode (ordinary body.now) (node_value state.old.state.game.size node)
+        state.old open_nodes.old.items state.new open_nodes.new.items result }
 {
     match node {
         NodeLine::Won => take_won(body, state, open_nodes),

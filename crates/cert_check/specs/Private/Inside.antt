@@ -1,9 +1,11 @@
 -- The open nodes of a body, as the program keeps them: for each turn that was made, the turns that are still to come after it.
 --     owed_by      what they say about the states before the turns
+--     TakesNode b l old opened new left r      a call that returned r took the line of a node
 --     Follows      there are as many as the turns that were made, and nobody had won before any of those turns, in the same game
-use Rattle.std.specs.Prelude.{◌≡◌, ℕ, suc, ◌<◌, List, [], ◌∷◌, length, Option, Some, None, IsTrue}
+use Rattle.std.specs.Prelude.{◌≡◌, ℕ, suc, ◌<◌, List, [], ◌∷◌, length, reverse, Option, Some, None, Result, Ok, Err, IsTrue}
 use Rattle.go_points.specs.Ply.{ply_of}
 use Rattle.target_game.specs.State.{Game, GameState}
+use Rattle.target_game.specs.State as State
 use Rattle.target_game.specs.Left.{turns_due}
 use Rattle.target_game.specs.Legal.{legal}
 use Rattle.target_game.specs.Over.{over}
@@ -14,6 +16,9 @@ use Rattle.proof_cert.specs.Lines.{Line, won_line, use_line, play_line, all_line
 use Rattle.cert_check.specs.declared.open_nodes.Due.{Due}
 use Rattle.cert_check.specs.declared.open_nodes.Due.TheVariants.{Node, Reply, End}
 use Rattle.cert_check.specs.Body.{Body, Why, malformed, won_fault, use_fault, play_fault, all_fault, due_replies}
+use Rattle.cert_check.specs.declared.reject.Why as stop
+use Rattle.cert_check.specs.Stage.{why_value}
+use Rattle.cert_check.specs.Parts.{IsJudged}
 use Rattle.cert_check.specs.Private.Machine.{Owed, owing, Heading, Phase, node_due, reply_due}
 
 -- both lists latest first
@@ -61,3 +66,15 @@ abbrev pub node_next : ℕ → GameState → List Owed → Line → Inside
 node_next depth s os (play_line t) = node_at (suc depth) (next s t) os
 node_next depth s os (all_line k) = reply_at (owing depth s (due_replies s) os)
 node_next depth s os _ = reply_at os
+
+-- A call took the line of a node at a state: the node has no fault, and this line is due after it, or the fault is the node's.
+pub record NodeTaken (b : Body) (l : Line) (old : State.Line) (opened : List TurnsLeft) (new : State.Line) (left : List TurnsLeft) (due : Due) : Type 0 where
+  pub game : new.state.game ≡ old.state.game
+  pub follows : Follows old.state.game new.before (reverse left)
+  pub made : MayBeMade due new.state (length left)
+  pub none : node_fault b old.state l ≡ None
+  pub behind : inside_of due new.state new.before (reverse left) ≡ node_next (suc (length old.before)) old.state (owed_by old.before (reverse opened)) l
+
+abbrev pub TakesNode : Body → Line → State.Line → List TurnsLeft → State.Line → List TurnsLeft → Result Due stop.Why → Type 0
+TakesNode b l old opened new left (Ok due) = NodeTaken b l old opened new left due
+TakesNode b l old opened new left (Err why) = ((p : Why) → why_value old.state.game.size why ≡ Some p → node_fault b old.state l ≡ Some p) × IsJudged why

@@ -1,10 +1,11 @@
 -- What the judge holds, as the machine that takes lines.
 --     machine_of j      the machine
 --     IsReady j      what the judge keeps from line to line
---     GoesOn, StopsFor      a call did what the machine does with a line, and a refusal is the machine's
+--     Takes old new step r      a call that returned r did what the machine does with a line: GoesOn, or StopsFor a fault
+--     TakesNodeIn      the same of a call for the line of a node
 --     IsToldBy kind g shape      where a claim of this kind may say that the targets live by their shape
 --     answering b      the shape that gives this answer everywhere; a line asks at one colouring at most
-use Rattle.std.specs.Prelude.{◌≡◌, ◌≤◌, suc, ◌*◌, Bool, false, List, [], ◌∷◌, ◌++◌, length, reverse, Option, Some, None, IfSome}
+use Rattle.std.specs.Prelude.{◌≡◌, ◌≤◌, suc, ◌*◌, Bool, false, List, [], ◌∷◌, ◌++◌, length, reverse, Option, Some, None, IfSome, Result, Ok, Err}
 use Rattle.std.specs.List.{All}
 use Rattle.go_points.specs.declared.Cell.{Cell}
 use Rattle.go_points.specs.Grid.{side_of}
@@ -17,6 +18,7 @@ use Rattle.pass_alive.specs.Told.{Tells}
 use Rattle.proof_cert.specs.Lines as Read
 use Rattle.proof_cert.specs.Claim.{Head}
 use Rattle.proof_cert.specs.Stage.{version_number}
+use Rattle.proof_cert.specs.Lines.{had_of, not_of}
 use Rattle.cert_check.specs.declared.reject.Why as stop
 use Rattle.cert_check.specs.declared.kind.Kind.{Kind}
 use Rattle.cert_check.specs.declared.kind.Kind.TheVariants.{Ordinary, Short}
@@ -27,13 +29,12 @@ use Rattle.cert_check.specs.declared.judge.Within.{Within}
 use Rattle.cert_check.specs.declared.judge.Within.TheVariants.{Lemma, Main}
 use Rattle.cert_check.specs.declared.open_nodes.Due.{Due}
 use Rattle.cert_check.specs.declared.open_nodes.Due.TheVariants.{Node, Reply, End}
-use Rattle.cert_check.specs.Verdict.{had_of, not_of}
 use Rattle.cert_check.specs.Body.{Why, malformed, text_after_end, lemma_body, lemma_start}
 use Rattle.cert_check.specs.Stage.{why_value}
-use Rattle.cert_check.specs.Private.Machine.{Machine, Heading, header, opening, listing_had, listing_not, done, last_of, AfterLine, goes_on, stops, had_taken, not_taken, node_taken, reply_taken, end_taken}
+use Rattle.cert_check.specs.Private.Machine.{Machine, Heading, header, opening, listing_had, listing_not, done, last_of, AfterLine, goes_on, stops, had_taken, not_taken, node_taken, reply_taken, end_taken, body_of}
 use Rattle.cert_check.specs.Private.Machine as machine
 use Rattle.cert_check.specs.Private.Ascending.{Ascends}
-use Rattle.cert_check.specs.Private.Inside.{Follows, MayBeMade, Inside, inside_of, phase_of, owed_by}
+use Rattle.cert_check.specs.Private.Inside.{Follows, MayBeMade, Inside, inside_of, phase_of, owed_by, node_fault, node_next}
 use Rattle.cert_check.specs.Parts.{PassesOn, head_of, IsJudged}
 
 abbrev pub heading_of : Judge → Heading
@@ -133,6 +134,26 @@ GoesOn old new step = step ≡ goes_on (record (machine_of new) { place = suc ol
 
 abbrev pub StopsFor : Judge → AfterLine → stop.Why → Type 0
 StopsFor j step why = ((p : Why) → why_value j.problem.now.game.size why ≡ Some p → step ≡ stops j.place p) × IsJudged why
+
+-- by what a call for a line returned
+abbrev pub GoesOnOrStops : {A : Type 0} → Judge → Judge → AfterLine → Result A stop.Why → Type 0
+GoesOnOrStops old new step (Ok _) = IsBehind new × GoesOn old new step
+GoesOnOrStops old new step (Err why) = StopsFor old step why
+
+-- A call did with a line what the machine does with it, which is this step.
+abbrev pub Takes : {A : Type 0} → Judge → Judge → AfterLine → Result A stop.Why → Type 0
+Takes old new step r = (new.place ≡ old.place) × (new.problem ≡ old.problem) × GoesOnOrStops old new step r
+
+-- A call for the line of a node in a body: the node has no fault there and this line is due after it, or the fault is the node's.
+pub record NodeGoesOn (old : Judge) (within : Within) (shape : List Cell → Bool) (l : Read.Line) (new : Judge) (due : Due) : Type 0 where
+  pub ready : AwaitsNode new due
+  pub none : node_fault (body_of shape (heading_of old) (within_of old within)) old.state.state l ≡ None
+  pub behind : inside_now new due ≡ node_next (suc (length old.state.before)) old.state.state (owed_by old.state.before (reverse old.open_nodes.items)) l
+
+abbrev pub TakesNodeIn : Judge → Within → (List Cell → Bool) → Read.Line → Judge → Result Due stop.Why → Type 0
+TakesNodeIn old within shape l new (Ok due) = NodeGoesOn old within shape l new due
+TakesNodeIn old within shape l new (Err why) =
+    ((p : Why) → why_value old.state.state.game.size why ≡ Some p → node_fault (body_of shape (heading_of old) (within_of old within)) old.state.state l ≡ Some p) × IsJudged why
 
 abbrev pub IsToldBy : Kind → Game → (List Cell → Bool) → Type 0
 IsToldBy Ordinary g shape = (c : List Cell) → shape c ≡ false

@@ -10,9 +10,9 @@ use Rattle.go_points.specs.Ply.{Ply}
 use Rattle.target_game.specs.State.{GameState, GameProblem, start}
 use Rattle.target_game.specs.Next.{next}
 use Rattle.proof_cert.specs.Claim.{Head, max_nodes, max_depth, max_listed}
-use Rattle.proof_cert.specs.Lines.{Line, header_line, lemma_line, main_line, won_line, use_line, play_line, all_line, reply_line, end_line, fitting}
+use Rattle.proof_cert.specs.Lines.{Line, header_line, lemma_line, main_line, won_line, use_line, play_line, all_line, reply_line, end_line, fitting, had_of, not_of}
 use Rattle.cert_check.specs.Body.{Body, Why, malformed, size_differs, list_order, limit, text_after_end, ask, won_fault, play_fault, use_fault, all_fault, due_replies, reply_fault, lemma_body_by, lemma_start, main_body_by}
-use Rattle.cert_check.specs.Verdict.{Verdict, accepted, rejected, verdict_by, had_of, not_of, is_after, lemma_fault}
+use Rattle.cert_check.specs.Verdict.{Verdict, accepted, rejected, verdict_by, is_after, lemma_fault}
 
 -- WHAT IS KEPT
 

@@ -12,10 +12,11 @@ use Rattle.cert_check.specs.Checks.{AcceptsBy}
 use Rattle.cert_check.specs.Private.Machine.{taken, goes_on, stops, ended}
 use Rattle.cert_check.specs.Private.Judging.{machine_of, IsToldBy}
 use Rattle.cert_check.specs.Stage.{why_value}
-use Rattle.cert_check.proofs.Steps.{if_ok_map, if_err_map}
+use Rattle.cert_check.proofs.Steps.{if_err_map}
 use Rattle.cert_check.proofs.Taking.{never}
 use Rattle.cert_check.proofs.Hearing.{either_way, heard_more, heard_accepts, heard_ends, heard_rejects, heard_fails, heard_reaches, heard_asks, heard_asks_there}
 use Rattle.cert_check.proofs.checker.check_by.Goals as goal
+use Rattle.target_game.proofs.Tallies.{if_ok_map}
 
 pub returns-in-Err-clause-err : goal.returns-in-Err-clause-err
 returns-in-Err-clause-err g c = λ shape told fresh why said.

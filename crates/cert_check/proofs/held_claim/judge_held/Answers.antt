@@ -7,9 +7,10 @@ use Rattle.cert_check.specs.Body.{Why}
 use Rattle.cert_check.specs.Stage.{why_value, Rejects}
 use Rattle.cert_check.specs.Checked.{IsChecked, verdict_on}
 use Rattle.cert_check.specs.Checks.{Accepts, RejectsAt, FailsAt}
-use Rattle.cert_check.proofs.Steps.{if_ok_map, if_err_map, if_err_both}
+use Rattle.cert_check.proofs.Steps.{if_err_map, if_err_both}
 use Rattle.cert_check.proofs.Holding.{held_accepted, held_refused}
 use Rattle.cert_check.proofs.held_claim.judge_held.Goals as goal
+use Rattle.target_game.proofs.Tallies.{if_ok_map}
 
 -- the size is that of the problem
 same_size : (c : goal.After-drop-new) → (1 ≤ c.args.problem.now.game.size) × (c.args.problem.now.game.size ≤ MAX_SIZE) × (c.args.certificate.now.size ≡ c.args.problem.now.game.size)

@@ -6,6 +6,7 @@ use Rattle.target_game.specs.Laws.{IsProblem}
 use Rattle.target_game.specs.State.{GameProblem, start}
 use Rattle.proof_cert.specs.Claim.{Claim, node_count}
 use Rattle.proof_cert.specs.Certificate.{claim_of, lemma_of, node_of}
+use Rattle.proof_cert.specs.declared.certificate.Certificate.{Certificate}
 use Rattle.cert_check.specs.Checked.{CheckedClaim, IsChecked}
 use Rattle.cert_check.specs.Lift.{IsLifted, play_results, reply_results}
 use Rattle.cert_check.specs.Private.Results.{is_past, claim_with}
@@ -41,7 +42,8 @@ made c =
     let absent : List (List Cell) = c.put_in_order-2.new.list.items in
     let size : k.certificate.size ≡ k.problem.game.size = c.winner-winner.ensures.checked.valid.size in
     c.in-Ok-claim_of_lemma.ensures
-    ∙ ap (claim_with k.problem k.certificate.winner had absent) (ap (λ (n : ℕ). node_of n c.in-Ok-main_again.body) (sym size) ∙ c.in-Ok-main_again.ensures)
+    ∙ ap (claim_with k.problem k.certificate.winner had absent)
+    (c.in-Ok-copied.ensures k.problem.game.size ∙ ap (λ (d : Certificate). node_of k.problem.game.size d.main) c.certificate-2.ensures ∙ ap (λ (n : ℕ). node_of n k.certificate.main) (sym size))
 
 pub returns-in-Ok-claim_of_lemma-clause-lifted : goal.returns-in-Ok-claim_of_lemma-clause-lifted
 returns-in-Ok-claim_of_lemma-clause-lifted c =

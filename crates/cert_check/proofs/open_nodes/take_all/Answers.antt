@@ -1,4 +1,4 @@
-use Rattle.std.proofs.Common.{◌≡◌, ◌∷◌, Option, Some, option_map, suc, length, reverse, sym, ap, ◌∙◌, subst}
+use Rattle.std.proofs.Common.{◌≡◌, ◌∷◌, Option, Some, option_map, suc, length, reverse, sym, ap, ◌∙◌, subst, rules}
 use Rattle.go_points.specs.declared.Turn.{Turn}
 use Rattle.go_points.specs.Ply.{ply_of}
 use Rattle.target_game.specs.State.{Line}
@@ -12,15 +12,21 @@ use Rattle.cert_check.specs.Private.Inside.{reply_at, owed_by}
 use Rattle.cert_check.proofs.Replies.{fault_said}
 use Rattle.cert_check.proofs.open_nodes.take_all.Goals as goal
 
-pub returns-in-Some-clause-err : goal.returns-in-Some-clause-err
-returns-in-Some-clause-err c =
+pub returns-in-Some : goal.returns-in-Some
+returns-in-Some c =
     let asked = subst (λ (l : Line). option_map (why_value l.state.game.size) c.all_fault.result ≡ option_map Some (all_fault (ordinary c.args.body.now) l.state c.args.replies)) c.play.ensures c.all_fault.ensures in
-    fault_said c.args.state.now.state.game.size c.all_fault.result c.in-Some.why (all_fault (ordinary c.args.body.now) c.args.state.now.state c.args.replies) asked c.in-Some.is
+    (fault_said c.args.state.now.state.game.size c.all_fault.result c.in-Some.why (all_fault (ordinary c.args.body.now) c.args.state.now.state c.args.replies) asked c.in-Some.is, search rules)
 
-pub returns-clause-due : goal.returns-clause-due
-returns-clause-due c =
+pub returns : goal.returns
+returns c =
     let s = c.args.state.now.state in
     let n = c.next_left.new.left.next in
     let taken = subst (λ (o : Option Turn). Takes s c.all-left.result.next (option_map (ply_of s.game.size) o) n) c.in-Some-next_left.is (subst (λ (l : Line). Takes l.state c.all-left.result.next (option_map (ply_of l.state.game.size) c.next_left.result) n) c.play-2.ensures c.next_left.ensures) in
     let due : ply_of s.game.size c.in-Some-next_left.due ∷ turns_due s n ≡ due_replies s = sym taken.0 ∙ ap (turns_due s) c.all-left.ensures ∙ turns_begun s in
-    ap (λ ts. reply_at (owing (suc (length c.args.state.now.before)) s ts (owed_by c.args.state.now.before (reverse c.args.open_nodes.now.items)))) due
+    record {
+      game = search rules;
+      follows = search rules;
+      made = search rules;
+      none = search rules;
+      behind = ap (λ ts. reply_at (owing (suc (length c.args.state.now.before)) s ts (owed_by c.args.state.now.before (reverse c.args.open_nodes.now.items)))) due;
+    }

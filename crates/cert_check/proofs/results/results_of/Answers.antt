@@ -49,32 +49,23 @@ step-requires-clause-playable c = c.loop-barred.invariant.1
 pub step-requires-clause-opened : goal.step-requires-clause-opened
 step-requires-clause-opened c = c.loop-barred.invariant.2
 
-pub returns-in_default-clause-plays : goal.returns-in_default-clause-plays
-returns-in_default-clause-plays c =
+-- what was gathered in the end
+all_gathered : (c : goal.After-drop-past-inside-in_default-5) → gathered c.step.new.plays.items c.step.new.barred.items (c.loop-barred.nodes + 1) ≡ whole c.args.checked.now
+all_gathered c =
     let k : CheckedClaim = c.args.checked.now in
     let past : c.in_ok-past.past.state ≡ start k.problem = ap (λ (l : Line). l.state) (start_is k c.problem-problem.result.now c.in_ok-past.past c.problem-problem.ensures c.in_ok-past.ensures) in
     let done : left_at c.in_ok-past.past.state c.step.new.state c.step.new.opened.items c.in_ok-next.next ≡ nothing = ap (left_at c.in_ok-past.past.state c.step.new.state c.step.new.opened.items) c.in_default.is in
-    ap (λ (g : Gathered). g.plays)
-    (walked_all c.in_ok-past.past.state (start k.problem) c.loop-barred.state c.loop-barred.opened.items c.loop-barred.node.now c.loop-barred.plays.items c.loop-barred.barred.items c.step.new.plays.items c.step.new.barred.items
-    (left_at c.in_ok-past.past.state c.step.new.state c.step.new.opened.items c.in_ok-next.next) past c.in_ok-next.ensures.left c.loop-barred.nodes (whole k) done c.loop-barred.invariant.0)
+    walked_all c.in_ok-past.past.state (start k.problem) c.loop-barred.state c.loop-barred.opened.items c.loop-barred.node.now c.loop-barred.plays.items c.loop-barred.barred.items c.step.new.plays.items c.step.new.barred.items
+    (left_at c.in_ok-past.past.state c.step.new.state c.step.new.opened.items c.in_ok-next.next) past c.in_ok-next.ensures.left c.loop-barred.nodes (whole k) done c.loop-barred.invariant.0
+
+pub returns-in_default-clause-plays : goal.returns-in_default-clause-plays
+returns-in_default-clause-plays c = ap (λ (g : Gathered). g.plays) (all_gathered c)
 
 pub returns-in_default-clause-barred : goal.returns-in_default-clause-barred
-returns-in_default-clause-barred c =
-    let k : CheckedClaim = c.args.checked.now in
-    let past : c.in_ok-past.past.state ≡ start k.problem = ap (λ (l : Line). l.state) (start_is k c.problem-problem.result.now c.in_ok-past.past c.problem-problem.ensures c.in_ok-past.ensures) in
-    let done : left_at c.in_ok-past.past.state c.step.new.state c.step.new.opened.items c.in_ok-next.next ≡ nothing = ap (left_at c.in_ok-past.past.state c.step.new.state c.step.new.opened.items) c.in_default.is in
-    ap (λ (g : Gathered). g.barred)
-    (walked_all c.in_ok-past.past.state (start k.problem) c.loop-barred.state c.loop-barred.opened.items c.loop-barred.node.now c.loop-barred.plays.items c.loop-barred.barred.items c.step.new.plays.items c.step.new.barred.items
-    (left_at c.in_ok-past.past.state c.step.new.state c.step.new.opened.items c.in_ok-next.next) past c.in_ok-next.ensures.left c.loop-barred.nodes (whole k) done c.loop-barred.invariant.0)
+returns-in_default-clause-barred c = ap (λ (g : Gathered). g.barred) (all_gathered c)
 
 pub returns-in_default-clause-nodes : goal.returns-in_default-clause-nodes
-returns-in_default-clause-nodes c =
-    let k : CheckedClaim = c.args.checked.now in
-    let past : c.in_ok-past.past.state ≡ start k.problem = ap (λ (l : Line). l.state) (start_is k c.problem-problem.result.now c.in_ok-past.past c.problem-problem.ensures c.in_ok-past.ensures) in
-    let done : left_at c.in_ok-past.past.state c.step.new.state c.step.new.opened.items c.in_ok-next.next ≡ nothing = ap (left_at c.in_ok-past.past.state c.step.new.state c.step.new.opened.items) c.in_default.is in
-    ap (λ (g : Gathered). g.nodes)
-    (walked_all c.in_ok-past.past.state (start k.problem) c.loop-barred.state c.loop-barred.opened.items c.loop-barred.node.now c.loop-barred.plays.items c.loop-barred.barred.items c.step.new.plays.items c.step.new.barred.items
-    (left_at c.in_ok-past.past.state c.step.new.state c.step.new.opened.items c.in_ok-next.next) past c.in_ok-next.ensures.left c.loop-barred.nodes (whole k) done c.loop-barred.invariant.0)
+returns-in_default-clause-nodes c = ap (λ (g : Gathered). g.nodes) (all_gathered c)
 
 -- the same with the tree that comes next
 next_left : (k : CheckedClaim) (past : GameState) (line : Line) (os : List Later) (o : Option (Bor Node)) (below : Bor Node) (a b : Gathered) → past ≡ start k.problem → o ≡ Some below

@@ -1,4 +1,4 @@
-use Rattle.std.proofs.Common.{rules, ◌∙◌, sym, true, false, refl}
+use Rattle.std.proofs.Common.{rules, ◌∙◌, sym, refl}
 use Rattle.target_game.proofs.Loops.{all_more, all_no, all_yes}
 use Rattle.cert_check.specs.Body.{is_known}
 use Rattle.cert_check.proofs.body_state.BodyState.knows_all.Goals as goal

@@ -15,30 +15,21 @@ is_after-requires c =
     let last : c.last.result ≡ slice_get cs (length cs - 1) = c.last.ensures in
     last_fits cs c.args.colouring _ c.last.result last c.requires.fits c.requires.ready.fits
 
-pub returns-then-not-is_after-clause-err : goal.returns-then-not-is_after-clause-err
-returns-then-not-is_after-clause-err c =
+pub returns-then-not-is_after : goal.returns-then-not-is_after
+returns-then-not-is_after c =
     let j = c.args.self.now in
     let cs = j.list in
     let last : c.last.result ≡ slice_get cs (length cs - 1) = c.last.ensures in
     let few : nat_lt j.listed_count max_listed ≡ true = lt-ltb j.listed_count max_listed c.if-self-ge-MAX_LISTED.false in
     let after : is_after (last_of cs) c.args.colouring ≡ false = ap (λ o. is_after o c.args.colouring) (sym (last ∙ last_get cs)) ∙ sym c.is_after.ensures ∙ c.if-not-is_after.true in
-    (λ p said. listed_barred (machine_of j) (last_of cs) c.args.colouring (listing_not (heading_of j) (listed_more (lemma_of j) c.args.colouring)) few after ∙ stops_said j.place list_order p said, tt)
+    (search rules, search rules, (λ p said. listed_barred (machine_of j) (last_of cs) c.args.colouring (listing_not (heading_of j) (listed_more (lemma_of j) c.args.colouring)) few after ∙ stops_said j.place list_order p said, tt))
 
-pub returns-clause-ready : goal.returns-clause-ready
-returns-clause-ready c =
-    let j = c.args.self.now in
-    let cs = j.list in
-    let last : c.last.result ≡ slice_get cs (length cs - 1) = c.last.ensures in
-    let after : is_after (last_of cs) c.args.colouring ≡ true = ap (λ o. is_after o c.args.colouring) (sym (last ∙ last_get cs)) ∙ sym c.is_after.ensures ∙ c.if-not-is_after.false in
-    let pushed : c.push.new.self ≡ cs ++ c.args.colouring ∷ [] = search rules in
-    listed_ready j c.args.colouring (record j { list = c.push.new.self }) (j.listed_count + 1) c.requires.phase pushed c.requires.ready c.requires.fits after
-
-pub returns-clause-ok : goal.returns-clause-ok
-returns-clause-ok c =
+pub returns : goal.returns
+returns c =
     let j = c.args.self.now in
     let cs = j.list in
     let last : c.last.result ≡ slice_get cs (length cs - 1) = c.last.ensures in
     let few : nat_lt j.listed_count max_listed ≡ true = lt-ltb j.listed_count max_listed c.if-self-ge-MAX_LISTED.false in
     let after : is_after (last_of cs) c.args.colouring ≡ true = ap (λ o. is_after o c.args.colouring) (sym (last ∙ last_get cs)) ∙ sym c.is_after.ensures ∙ c.if-not-is_after.false in
     let pushed : c.push.new.self ≡ cs ++ c.args.colouring ∷ [] = search rules in
-    listed_goes j c.args.colouring (record j { list = c.push.new.self }) (j.listed_count + 1) c.requires.phase pushed few after (omega arith)
+    (search rules, search rules, (listed_ready j c.args.colouring (record j { list = c.push.new.self }) (j.listed_count + 1) c.requires.phase pushed c.requires.ready c.requires.fits after, listed_goes j c.args.colouring (record j { list = c.push.new.self }) (j.listed_count + 1) c.requires.phase pushed few after (omega arith)))

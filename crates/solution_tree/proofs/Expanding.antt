@@ -3,7 +3,7 @@ use Rattle.std.proofs.Common.{◌≡◌, ℕ, ◌+◌, ◌≤◌, Bool, true, fa
 use Rattle.std.specs.Prelude.{is_none, not}
 use Rattle.go_points.specs.declared.Colour.{Colour}
 use Rattle.go_points.specs.Grid.{same_colour}
-use Rattle.go_points.specs.Ply.{Ply, ply_of, pass, move}
+use Rattle.go_points.specs.Ply.{Ply, ply_of}
 use Rattle.go_points.proofs.Lists.{and_left, and_right}
 use Rattle.target_game.specs.State.{GameState, Line}
 use Rattle.target_game.specs.Legal.{legal, legal_turns}
@@ -16,12 +16,9 @@ use Rattle.solution_tree.specs.Answer.{replies_of}
 use Rattle.solution_tree.specs.declared.opened.OpenTurn.{OpenTurn}
 use Rattle.solution_tree.specs.declared.opened.OpenTurn.TheVariants.{Made, Reply}
 use Rattle.solution_tree.specs.Private.Opened.{branches_at, closed, finish, lemma_count, all_below, open_below, open_size, open_sizes, played, replies_then, turn_of}
+use Rattle.cert_check.proofs.Soundness.{game-next}
 
 -- ---- play
-
-next_game : (s : GameState) (t : Ply) → (next s t).game ≡ s.game
-next_game s pass = refl
-next_game s (move p) = refl
 
 -- the state that the open turns lead to
 abbrev pub reached : ℕ → List OpenTurn → GameState → GameState
@@ -30,7 +27,7 @@ reached n (o ∷ os) s = reached n os (next s (turn_of n o))
 
 pub reached_game : (n : ℕ) (os : List OpenTurn) (s : GameState) → (reached n os s).game ≡ s.game
 reached_game n [] s = refl
-reached_game n (o ∷ os) s = reached_game n os (next s (turn_of n o)) ∙ next_game s (turn_of n o)
+reached_game n (o ∷ os) s = reached_game n os (next s (turn_of n o)) ∙ game-next s (turn_of n o)
 
 pub played_state : (n : ℕ) (os : List OpenTurn) (line : Line) → (played n os line).state ≡ reached n os line.state
 played_state n [] line = refl

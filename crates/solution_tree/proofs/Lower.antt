@@ -21,6 +21,8 @@ use Rattle.cert_check.specs.Validity.{FitsNode, FitsBranches, IsValidLemma, AreV
 use Rattle.cert_check.specs.Checked.{CheckedClaim, IsChecked}
 use Rattle.cert_check.specs.Expand.{answer_at, expand_node, expand_branches, answers_behind}
 use Rattle.solution_tree.specs.Private.Opened.{lemma_answers, lemma_count, tree_at, uses_below, all_below, lemmas_below}
+use Rattle.cert_check.proofs.FirstNodes.{longer}
+use Rattle.cert_check.proofs.Spelling.{length-heads_of}
 
 abbrev Answers : Type 0
 Answers = List (GameState → AnswerTree)
@@ -83,12 +85,6 @@ module _ (m : ℕ) (es fs : Answers) (alike : (i : ℕ) → suc i ≤ m → (s :
 no_answer : GameState → AnswerTree
 no_answer s = leaf
 
-longer : (es : Answers) (ls : List Lemma) (i : ℕ) → i < length es → get_or (answers_behind es ls) i (λ _. leaf) ≡ get_or es i (λ _. leaf)
-longer es [] i within = refl
-longer es (l ∷ ls) i within =
-    longer (es ++ expand_node es l.body ∷ []) ls i (omega (arith, within, length-append es (expand_node es l.body ∷ [])))
-    ∙ get_or_append_left es (expand_node es l.body ∷ []) (λ _. leaf) i within
-
 answer_of_lemma : (es : Answers) (ls : List Lemma) → IsTrue (lemmas_below (length es) ls) → (j : ℕ) (d : Lemma) → j < length ls → (s : GameState)
     → (get_or (answers_behind es ls) (length es + j) (λ _. leaf)) s ≡ expand_node (answers_behind es ls) (get_or ls j d).body s
 answer_of_lemma es [] good j d within s = absurd (omega (arith, within))
@@ -140,10 +136,6 @@ valid_below g x heads (l ∷ ls) v =
     and_both (uses_below (length heads) l.body) (lemmas_below (length heads + 1) ls) (fits_below (lemma_body x heads l.head) _ l.body it.body)
     (subst (λ m. lemmas_below m ls ≡ true) long (valid_below g x (heads ++ l.head ∷ []) ls v.1))
 
-heads_counted : (ls : List Lemma) → length (heads_of ls) ≡ length ls
-heads_counted [] = refl
-heads_counted (l ∷ ls) = omega (arith, heads_counted ls)
-
 -- ---- of a checked claim
 
 module _ (k : CheckedClaim) (it : IsChecked k.problem (claim_of k.certificate)) where
@@ -153,7 +145,7 @@ module _ (k : CheckedClaim) (it : IsChecked k.problem (claim_of k.certificate)) 
   pub main_is_below : IsTrue (uses_below (lemma_count k) (claim_of k.certificate).main)
   main_is_below =
       let ls = (claim_of k.certificate).lemmas in
-      let count : length (heads_of ls) ≡ lemma_count k = heads_counted ls ∙ length-map k.certificate.lemmas.items (lemma_of k.certificate.size) in
+      let count : length (heads_of ls) ≡ lemma_count k = length-heads_of ls ∙ length-map k.certificate.lemmas.items (lemma_of k.certificate.size) in
       subst (λ m. IsTrue (uses_below m (claim_of k.certificate).main)) count (fits_below (main_body (claim_of k.certificate).winner (heads_of ls)) (start k.problem) (claim_of k.certificate).main it.valid.main)
 
   -- the body of the lemma of a number

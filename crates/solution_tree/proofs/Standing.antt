@@ -1,6 +1,6 @@
 -- Where an expansion stands, before and after each of its steps.
 use Rattle.std.proofs.Common.{◌≡◌, ℕ, suc, length, ◌<◌, true, ◌&&◌, IsTrue, List, [], ◌∷◌, ◌++◌, Vec, Box, Global, Bor, Option, Some, None, refl, sym, ap, ◌∙◌, subst, arith}
-use Rattle.std.specs.Prelude.{is_none, IfOk, Result, Ok, Err}
+use Rattle.std.specs.Prelude.{is_none}
 use Rattle.go_points.specs.declared.Turn.{Turn}
 use Rattle.go_points.specs.Ply.{Ply, ply_of}
 use Rattle.go_points.proofs.Lists.{and_both, and_left, and_right}
@@ -172,10 +172,6 @@ module _ (k : CheckedClaim) (os : List OpenTurn) (line : Line) where
 
 pub play_below : (n m : ℕ) (t : Turn) (below : Box node_type.Node Global) (whole_node : node_type.Node) → whole_node ≡ node_of_claim.Play t below → IsTrue (uses_below m (claim.node_of n whole_node)) → IsTrue (uses_below m (claim.node_of n below.value))
 play_below n m t below whole_node is h = subst (λ x. IsTrue (uses_below m x)) (ap (claim.node_of n) is ∙ node_of_play n t below) h
-
-pub ok_weaker : {A E : Type 0} (P Q : A → Type 0) → ((a : A) → P a → Q a) → (r : Result A E) → IfOk r P → IfOk r Q
-ok_weaker P Q f (Ok a) h = f a h
-ok_weaker P Q f (Err e) h = tt
 
 -- a turn that is open was made from a state before
 pub made_before : (k : CheckedClaim) (os all : List OpenTurn) (line : Line) (o : OpenTurn) (a : AnswerTree) → all ≡ os ++ o ∷ [] → Expands k all line a → 0 < length line.before

@@ -16,6 +16,7 @@ use Rattle.target_game.proofs.Playing.{ply_at}
 use Rattle.tsumego_problem.specs.Walked.{StandsOn}
 use Rattle.solution_tree.specs.declared.given.Given.{Given}
 use Rattle.solution_tree.specs.Private.Asked.{Tells}
+use Rattle.go_points.proofs.Anywhere.{same_tests}
 
 -- a turn that stands on the board is at a point of it
 pub point_on : (n : ℕ) (p : Place) → StandsOn n (ply_of n (At p)) → IsOn n p
@@ -31,15 +32,10 @@ same_number n p q on other e =
     let k : p.column ≡ q.column = sym (mod-mul-add p.row n p.column on.column_within) ∙ ap (λ k. k % n) e ∙ mod-mul-add q.row n q.column other.column_within in
     λ i. record { row = r i; column = k i }
 
-both_ways : (a b : Bool) → (a ≡ true → b ≡ true) → (b ≡ true → a ≡ true) → a ≡ b
-both_ways true b f g = sym (f refl)
-both_ways false true f g = g refl
-both_ways false false f g = refl
-
 -- two points of the board have one number where they are the same
 same_point : (n : ℕ) (p q : Place) → IsOn n p → IsOn n q → same_place q p ≡ nat_eq (number_of n q) (number_of n p)
 same_point n p q on other =
-    both_ways (same_place q p) (nat_eq (number_of n q) (number_of n p))
+    same_tests (same_place q p) (nat_eq (number_of n q) (number_of n p))
     (λ h. eq-eqb (number_of n q) (number_of n p) (ap (number_of n) ((same_place_decides q p).0 h)))
     (λ h. (same_place_decides q p).1 (same_number n q p other on (eqb-true (number_of n q) (number_of n p) h)))
 

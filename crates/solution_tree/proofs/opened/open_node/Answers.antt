@@ -11,8 +11,9 @@ use Rattle.solution_tree.specs.declared.opened.OpenTurn.{OpenTurn}
 use Rattle.solution_tree.specs.declared.opened.OpenTurn.TheVariants.{Made}
 use Rattle.solution_tree.proofs.AnswerTrees.{no_sizes}
 use Rattle.solution_tree.proofs.Expanding.{sizes_push}
-use Rattle.solution_tree.proofs.Standing.{turn_opened, play_below, ok_weaker}
+use Rattle.solution_tree.proofs.Standing.{turn_opened, play_below}
 use Rattle.solution_tree.proofs.opened.open_node.Goals as goal
+use Rattle.target_game.proofs.Tallies.{if_ok_map}
 
 pub after-requires-clause-open : goal.after-requires-clause-open
 after-requires-clause-open c = (turn_opened c.args.checked.now c.args.opened.now.items c.args.state.now c.in-Play.turn c.in-Play.below c.args.node.now c.in-Play.is c.requires.stands).0
@@ -50,6 +51,6 @@ returns-in-All-clause-size c =
     let k : CheckedClaim = c.args.checked.now in
     let n : ℕ = k.certificate.size in
     let empty : reply_sizes (replies_of n c.new.result.items) ≡ 0 = ap (λ rs. reply_sizes (replies_of n rs)) c.new.ensures.items ∙ no_sizes n in
-    ok_weaker (λ p. open_sizes n c.go_on.new.opened.items + part_size n p ≡ open_sizes n c.args.opened.now.items + reply_sizes (replies_of n c.new.result.items) + part_turns p)
+    if_ok_map c.go_on.result (λ p. open_sizes n c.go_on.new.opened.items + part_size n p ≡ open_sizes n c.args.opened.now.items + reply_sizes (replies_of n c.new.result.items) + part_turns p)
     (λ p. open_sizes n c.go_on.new.opened.items + part_size n p ≡ open_sizes n c.args.opened.now.items + part_turns p)
-    (λ p h. omega (arith, h, empty)) c.go_on.result c.go_on.ensures.size
+    (λ p h. omega (arith, h, empty)) c.go_on.ensures.size

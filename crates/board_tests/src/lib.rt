@@ -16,6 +16,8 @@ mod points;
 #[cfg(test)]
 mod seen;
 #[cfg(test)]
+mod taken_back;
+#[cfg(test)]
 mod turns;
 #[cfg(test)]
 mod widest;

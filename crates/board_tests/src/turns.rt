@@ -45,7 +45,7 @@ pub fn point(rt: &impl Abort, size: Size, column: u8, row: u8) -> Point
     size.point(column, row).expect(rt, "a point")
 }
 
-fn expect_done(rt: &impl Abort, found: Result<(), TurnFault>, wanted: Result<(), TurnFault>) {
+pub fn expect_done(rt: &impl Abort, found: Result<(), TurnFault>, wanted: Result<(), TurnFault>) {
     assert_eq!(rt; found, wanted);
 }
 

@@ -13,6 +13,7 @@ use go_points::{Colour, MAX_POINTS};
 use stone_key::KeyedColouring;
 
 /// Takes the chain at the point off if it has this colour and no liberty. Returns how many stones it had.
+#[inline(always)]
 pub(crate) fn remove_without_liberty(
     colouring: &mut KeyedColouring,
     heads: &mut [u16],

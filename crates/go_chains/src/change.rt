@@ -75,7 +75,40 @@ fn differ_widely(one: &Colouring, other: &Colouring) -> bool
     number < size.area()
 }
 
-// Takes off what the other colouring does not hold. If most points change, all stones are taken off at once.
+// Takes off the stone at the only point where the other colouring holds something else, if there is such a point.
+fn remove_only(
+    colouring: &mut KeyedColouring,
+    heads: &mut [u16],
+    next: &mut [u16],
+    counts: &mut [u32],
+    wanted: &Colouring,
+    number: usize,
+)
+    requires settled { IsSettled (side_of colouring.old) colouring.old heads.old next.old
+        counts.old }
+    requires same_size { side_of wanted.now ≡ side_of colouring.old }
+    requires before { (p : ℕ) → p < number → cell_at colouring.old p ≡ cell_at wanted.now p }
+    requires after { (p : ℕ) → number < p → p < side_of colouring.old * side_of colouring.old
+        → cell_at colouring.old p ≡ cell_at wanted.now p }
+    ensures size { side_of colouring.new ≡ side_of colouring.old }
+    ensures settled { IsSettled (side_of colouring.old) colouring.new heads.new next.new
+        counts.new }
+    ensures rest { (p : ℕ) → p < side_of colouring.old * side_of colouring.old
+        → (cell_at colouring.new p ≡ Empty) ⊎ (cell_at colouring.new p ≡ cell_at wanted.now p) }
+{
+    let size = colouring.size();
+    prove!(size.area() <= MAX_POINTS);
+    if number >= size.area() {
+        return;
+    }
+    if heads[number] == MAX_POINTS as u16 {
+        return;
+    }
+    take_off(colouring, heads, next, counts, number);
+}
+
+// Takes off what the other colouring does not hold. If most points change, all stones are taken off at once. A move that is taken
+// back usually changes one point alone, and then nothing is looked for twice.
 fn make_way(
     colouring: &mut KeyedColouring,
     heads: &mut [u16],
@@ -92,7 +125,15 @@ fn make_way(
     ensures rest { (p : ℕ) → p < side_of colouring.old * side_of colouring.old
         → (cell_at colouring.new p ≡ Empty) ⊎ (cell_at colouring.new p ≡ cell_at wanted.now p) }
 {
-    prove!(colouring.size().area() <= MAX_POINTS);
+    let size = colouring.size();
+    prove!(size.area() <= MAX_POINTS);
+    let first = colouring.colouring().next_difference(wanted, 0);
+    if first >= size.area()
+        || colouring.colouring().next_difference(wanted, first + 1) >= size.area()
+    {
+        remove_only(colouring, heads, next, counts, wanted, first);
+        return;
+    }
     if differ_widely(colouring.colouring(), wanted) {
         clear(colouring, heads, next, counts);
     } else {

@@ -54,8 +54,8 @@ fn meet(heads: &[u16], size: Size, number: usize, head: u16, one: usize, other: 
     false
 }
 
-// Whether each stone of the chain beside this one meets another.
-fn meet_at(heads: &[u16], size: Size, number: usize, head: u16, centre: usize) -> bool
+/// Whether each stone of the chain beside this one meets another.
+pub(crate) fn meet_at(heads: &[u16], size: Size, number: usize, head: u16, centre: usize) -> bool
     requires room { size * size ≤ MAX_POINTS }
     requires heads_full { length heads.now ≡ MAX_POINTS }
     requires on { number < size * size }

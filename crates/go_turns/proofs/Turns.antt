@@ -1,5 +1,5 @@
 -- What the definitions of records give where a move is made and where a step is taken back.
-use Rattle.std.proofs.Common.{◌≡◌, ℕ, ◌*◌, ◌<◌, Bool, true, false, cond, nat_lt, List, [], ◌∷◌, ◌++◌, length, slice_get, Option, Some, None, Result, Ok, Err, OnOk, is_err, is_ok, sym, ◌∙◌, ap, subst}
+use Rattle.std.proofs.Common.{◌≡◌, ℕ, ◌*◌, ◌<◌, if◌then◌else◌, Bool, true, false, cond, nat_lt, List, [], ◌∷◌, ◌++◌, length, slice_get, Option, Some, None, Result, Ok, Err, OnOk, is_err, is_ok, sym, ◌∙◌, ap, subst}
 use Rattle.std.proofs.lemmas.Bool.{lt-ltb, ltb-true, and_from, and_parts}
 use Rattle.std.proofs.lemmas.Option.{get_or_from_slice_get}
 use Rattle.go_points.specs.declared.Colour.{Colour}
@@ -69,3 +69,8 @@ was_moved n before old new after k p (Err x) same ok made is = absurd (cc)
 -- the board's own colouring, as the history has it
 pub found_at : (h : List (List Cell)) (place : ℕ) (old at : List Cell) → IsAt h place old → slice_get h place ≡ Some at → at ≡ old
 found_at h place old at is found = sym (get_or_from_slice_get h place at [] found) ∙ is.same
+
+-- a list after an element was added to it
+pub was_pushed : {T E X : Type 0} (r : Result T E) (new pushed old : X) → is_err r ≡ false → new ≡ (if is_ok r then pushed else old) → new ≡ pushed
+was_pushed (Ok t) new pushed old ok is = is
+was_pushed (Err x) new pushed old ok is = absurd (cc)

@@ -74,6 +74,10 @@ pub trait Board: Drop {
             ≡ slice_set (content self.now) (number_of (side_of (content self.now)) point)
             (Stone colour)) };
 
+    /// Whether a move at the point may cost more to take back than a copy of the board. It is a hint, and promises nothing.
+    fn is_costly(&self, colour: Colour, point: Point) -> bool
+        requires { IsOn (side_of (content self.now)) point };
+
     /// Takes over the colouring, or returns the least point whose stone does not reach empty.
     fn assign(&mut self, colouring: &Colouring) -> Result<(), NoLiberty>
         requires { side_of colouring.now ≡ side_of (content self.old) }

@@ -39,6 +39,10 @@ impl Board for ChainBoard {
         self.quiet(colour, point)
     }
 
+    fn is_costly(&self, colour: Colour, point: Point) -> bool {
+        self.is_costly(colour, point)
+    }
+
     fn assign(&mut self, colouring: &Colouring) -> Result<(), NoLiberty> {
         self.assign(colouring)
     }

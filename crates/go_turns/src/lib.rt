@@ -12,6 +12,7 @@ mod plain_board;
 mod questions;
 mod record;
 mod seen;
+mod spares;
 
 pub use board::{Board, NoLiberty, Occupied};
 pub use fault::TurnFault;

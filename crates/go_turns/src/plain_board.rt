@@ -77,6 +77,10 @@ impl Board for PlainBoard {
         }
     }
 
+    fn is_costly(&self, _colour: Colour, _point: Point) -> bool {
+        false
+    }
+
     fn assign(&mut self, colouring: &Colouring) -> Result<(), NoLiberty> {
         match find_without_liberty(colouring) {
             Some(point) => Err(NoLiberty { point }),

@@ -14,6 +14,7 @@ ghost use Rattle.go_turns.specs.Private.Steps.{CanStand, IsAt, IsNotAdded, Joins
 use crate::board::Board;
 use crate::fault::TurnFault;
 use crate::seen::Seen;
+use crate::spares::Spares;
 use go_points::{Cell, Colour, Colouring, Point, Turn};
 use std::alloc::{AllocError, Global};
 use std::marker::Model;
@@ -39,6 +40,7 @@ pub struct Record<B: Board, S: Seen> {
     pub(crate) passes: u64,
     pub(crate) last_colour: Option<Colour>,
     steps: Vec<Step>,
+    spares: Spares<B>,
 }
 
 impl<B: Board, S: Seen> Model for Record<B, S> {
@@ -176,14 +178,22 @@ fn seen_alone<S: Seen>(alloc: Global, colouring: &Colouring, key: u64) -> Result
     Ok(seen)
 }
 
-// Lets the board hold the colouring at an earlier place. After a pass that is the present place, and the board is left alone.
-fn put_back<B: Board, S: Seen>(board: &mut B, seen: &S, present: usize, earlier: usize)
+// Lets the board hold the colouring at an earlier place, which it held after so many steps. After a pass that is the present place,
+// and the board is left alone.
+fn put_back<B: Board, S: Seen>(
+    board: &mut B,
+    spares: &mut Spares<B>,
+    seen: &S,
+    present: usize,
+    earlier: usize,
+    steps: usize,
+)
     requires stands { CanStand (side_of (B.content board.old)) (S.content seen.now) earlier }
     requires same { present ≡ earlier → IsAt (S.content seen.now) earlier (B.content board.old) }
     ensures { IsAt (S.content seen.now) earlier (B.content board.new) }
 {
     if present != earlier {
-        board.restore(seen.at(earlier));
+        spares.restore(board, seen.at(earlier), steps);
     }
 }
 
@@ -232,6 +242,7 @@ impl<B: Board, S: Seen> Record<B, S> {
             passes,
             last_colour: None,
             steps: Vec::new(alloc),
+            spares: Spares::new(alloc),
         })
     }
 
@@ -264,6 +275,7 @@ impl<B: Board, S: Seen> Record<B, S> {
         self.passes = passes;
         self.last_colour = None;
         self.steps.clear();
+        self.spares.clear();
         Ok(())
     }
 
@@ -326,13 +338,17 @@ impl<B: Board, S: Seen> Record<B, S> {
             passes: self.passes,
             last_colour: self.last_colour,
         };
+        let depth = self.steps.len();
+        self.spares
+            .keep_if_costly(&self.board, colour, point, depth);
         if self.board.play(colour, point).is_err() {
             return Err(TurnFault::Occupied);
         }
         let after = self.board.colouring();
         let key = self.board.key();
         if let Err(fault) = add_step(&mut self.seen, &mut self.steps, step, after, key) {
-            self.board.restore(self.seen.at(self.place));
+            self.spares
+                .restore(&mut self.board, self.seen.at(self.place), depth);
             return Err(fault);
         }
         self.place = step.occurred;
@@ -392,7 +408,15 @@ impl<B: Board, S: Seen> Record<B, S> {
         while self.seen.len() > step.occurred {
             self.seen.take_last();
         }
-        put_back(&mut self.board, &self.seen, self.place, step.place);
+        let depth = self.steps.len();
+        put_back(
+            &mut self.board,
+            &mut self.spares,
+            &self.seen,
+            self.place,
+            step.place,
+            depth,
+        );
         self.place = step.place;
         self.passes = step.passes;
         self.last_colour = step.last_colour;

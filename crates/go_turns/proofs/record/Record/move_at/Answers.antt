@@ -75,7 +75,7 @@ returns-in-Err g c =
     let moment : List (List Cell) → Step → Moment = λ h s. record { history = h; place = s.place; passes = s.passes; last_colour = s.last_colour } in
     let step : Step = record { place = c.self.inside.place; occurred = c.len.result; passes = c.self.inside.passes; last_colour = c.self.inside.last_colour } in
     let was : GameRecord = record { size = n; present = moment whole step; earlier = reverse (map (λ s. moment (take s.occurred whole) s) c.self.inside.steps.items) } in
-    let is : GameRecord = record { size = side_of (g.B.Board.content c.restore.new.self); present = moment left step; earlier = reverse (map (λ s. moment (take s.occurred left) s) c.add_step.new.steps.items) } in
+    let is : GameRecord = record { size = side_of (g.B.Board.content c.restore.new.board); present = moment left step; earlier = reverse (map (λ s. moment (take s.occurred left) s) c.add_step.new.steps.items) } in
     let here : IsAt left c.self.inside.place old = rw (c.in-Err.ensures.history_kept) c.self.invariant.here in
     let back = c.restore.ensures ∙ found_at left c.self.inside.place old at here c.at.ensures in
     let same : is ≡ was = λ i. record {

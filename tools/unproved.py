@@ -65,6 +65,7 @@ class Run:
         self.calls = calls
         # A line `== NAME` parts the answers, so no answer may hold the name by chance.
         self.token = secrets.token_hex(8)
+        self.ends, self.last_words, self.told = {}, None, threading.Condition()
         self.folder = tempfile.TemporaryDirectory(prefix="cases-")
         self.new_folders = tempfile.TemporaryDirectory(prefix="folders-")
         for number, call in enumerate(calls):
@@ -86,30 +87,56 @@ class Run:
     def new_folder(self, number):
         return pathlib.Path(self.new_folders.name, str(number))
 
-    def answers(self, tell=lambda number, status: None):
-        """Returns the answer of each call; `tell` hears of each as soon as it has ended."""
-        written = []
-        reader = threading.Thread(target=lambda: written.append(self.process.stdout.read()))
-        reader.start()
-        ends, before = {}, b""
-        for line in self.process.stderr:
-            case = re.match(rb"case=\w+-(\d+) run=(\w+)(?: status=(\d+))?", line)
-            if case and line[5 : 5 + len(self.token)] == self.token.encode():
-                number = int(case[1])
-                status = int(case[3]) if case[2] == b"ended" and case[3] else None
-                ends[number] = (status, before if status is not None else before + line)
-                before = b""
-                tell(number, status)
-            else:
-                before += line
-        reader.join()
+    def answers(self):
+        """Yields the answer of each call, in order: each as soon as the next call begins, which shows where its output ends."""
+        threading.Thread(target=self.read_ends, daemon=True).start()
+        answered = 0
+        for number, text in self.texts():
+            yield self.answer(number, text, *self.end_of(number))
+            answered = number + 1
+        for number in range(answered, len(self.calls)):
+            yield self.answer(number, b"", *self.end_of(number))
         self.process.wait()
         self.folder.cleanup()
-        texts = self.parted(written[0])
-        lost = (None, before or b"rt try gave no answer\n")
-        answers = [self.answer(n, texts.get(n, b""), *ends.get(n, lost)) for n in range(len(self.calls))]
         self.new_folders.cleanup()
-        return answers
+
+    def texts(self):
+        """Yields the number and the output of each call that begins. `rt try` ends one that has no line end with one."""
+        header = re.compile(rb"== " + self.token.encode() + rb"-(\d+)\n")
+        number, lines = None, []
+        for line in self.process.stdout:
+            begun = header.fullmatch(line)
+            if begun is None:
+                lines.append(line)
+                continue
+            if number is not None:
+                yield number, b"".join(lines)
+            number, lines = int(begun[1]), []
+        if number is not None:
+            yield number, b"".join(lines)
+
+    def read_ends(self):
+        """Keeps the status of each call and what was said before it ended."""
+        before = b""
+        for line in self.process.stderr:
+            case = re.match(rb"case=\w+-(\d+) run=(\w+)(?: status=(\d+))?", line)
+            if not case or line[5 : 5 + len(self.token)] != self.token.encode():
+                before += line
+                continue
+            status = int(case[3]) if case[2] == b"ended" and case[3] else None
+            with self.told:
+                self.ends[int(case[1])] = (status, before if status is not None else before + line)
+                self.told.notify_all()
+            before = b""
+        with self.told:
+            self.last_words = before
+            self.told.notify_all()
+
+    def end_of(self, number):
+        """Returns the status of a call and what was said, as soon as that is known."""
+        with self.told:
+            self.told.wait_for(lambda: number in self.ends or self.last_words is not None)
+            return self.ends.get(number) or (None, self.last_words or b"rt try gave no answer\n")
 
     def answer(self, number, stdout, status, notes):
         """Returns one answer, which says nothing of where its new folder was."""
@@ -120,12 +147,7 @@ class Run:
         files = {it.name: it.read_bytes() for it in folder.iterdir()}
         return Answer(status, stdout.replace(name, NEW_FOLDER.encode()), notes.replace(name, NEW_FOLDER.encode()), files)
 
-    def parted(self, written):
-        """Returns the output of each case. `rt try` ends one that has no line end with one."""
-        parts = re.split(rb"^== " + self.token.encode() + rb"-(\d+)\n", written, flags=re.MULTILINE)
-        return {int(parts[i]): parts[i + 1] for i in range(1, len(parts), 2)}
 
-
-def ask(program, calls, seconds=600, tell=lambda number, status: None):
-    """Compiles a program and returns its answer to each call."""
-    return Run(program, calls, seconds).answers(tell)
+def ask(program, calls, seconds=600):
+    """Compiles a program and yields its answer to each call."""
+    return Run(program, calls, seconds).answers()

@@ -1,14 +1,7 @@
 -- Whether none of two lists stands on the other; where both ascend, by one pass over both.
-use Rattle.std.proofs.Common.{◌≡◌, ℕ, zero, suc, ◌+◌, ◌<◌, Bool, true, false, not, ◌&&◌, ◌||◌, List, [], ◌∷◌, drop, length, slice_get, Option, Some, None, Less, Greater, refl, sym, ap, ◌∙◌, subst, arith}
-use Rattle.std.proofs.lemmas.Option.{slice_get_within}
-use Rattle.std.proofs.Math.Seq.{drop-length}
-use Rattle.std.specs.Ordering.{is_lt, ordering_reverse}
-use Rattle.go_points.specs.declared.Cell.{Cell}
-use Rattle.go_points.specs.Grid.{same_cells}
-use Rattle.go_points.specs.Equal.{same_cells_symm}
-use Rattle.go_points.specs.Order.{text_order, same_cells_ties}
-use Rattle.go_turns.specs.History.{has_occurred}
-use Rattle.cert_check.specs.Private.Ascending.{Ascends, apart, comes_before, is_it}
+use Rattle.cert_check.proofs.Common.{◌≡◌, ℕ, zero, suc, ◌+◌, ◌<◌, Bool, true, false, not, ◌&&◌, ◌||◌, List, [], ◌∷◌, drop, length, Option, Some, None, Less, Greater, refl, sym, ap, ◌∙◌, subst, arith, slice_get_within, drop-length, is_lt, ordering_reverse, Cell, same_cells, same_cells_symm, text_order, same_cells_ties, has_occurred, Ascends, apart, is_it}
+use Rattle.std.proofs.Common.{slice_get}
+use Rattle.cert_check.specs.Private.Ascending.{comes_before}
 use Rattle.cert_check.proofs.Ascending.{AllAbove, above_all, above_from, ascends_drop, is_greater, is_less, none_among, order}
 
 apart_nothing : (ys : List (List Cell)) → apart ys [] ≡ true

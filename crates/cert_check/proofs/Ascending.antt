@@ -1,20 +1,12 @@
 -- Lists of colourings that ascend: looking one up by halving, and whether one list stands on another by one pass over both.
-use Rattle.std.proofs.Common.{◌≡◌, ℕ, zero, suc, ◌+◌, ◌<◌, ◌≤◌, ◌⊎◌, inl, inr, Bool, true, false, ◌&&◌, ◌||◌, List, [], ◌∷◌, ◌++◌, drop, length, get_or, slice_index_or, slice_get, Some, IfSome, Ordering, Less, Equal, Greater, nat_eq, eqb-true, refl, sym, ap, ◌∙◌, subst, arith}
+use Rattle.cert_check.proofs.Common.{◌≡◌, ℕ, zero, suc, ◌+◌, ◌<◌, ◌≤◌, ◌⊎◌, inl, inr, Bool, true, false, ◌&&◌, ◌||◌, List, [], ◌∷◌, ◌++◌, drop, length, get_or, slice_index_or, Some, IfSome, Ordering, Less, Equal, Greater, nat_eq, eqb-true, refl, sym, ap, ◌∙◌, subst, arith, list_any, list_all, is_lt, ordering_reverse, get_or_from_slice_get, drop-length, Cell, same_cells, same_cells_eq, same_cells_symm, text_order, same_cells_ties, has_occurred, repeats, last_of, Ascends}
+use Rattle.std.proofs.Common.{slice_get}
 use Rattle.std.proofs.lemmas.Bool.{cases_lt, eq-eqb}
-use Rattle.std.specs.List.{list_any, list_all}
-use Rattle.std.specs.Ordering.{is_lt, ordering_reverse, is_eq}
+use Rattle.std.specs.Ordering.{is_eq}
 use Rattle.std.specs.Cmp.{IsTotalOrder}
 use Rattle.std.specs.Cmp.Lexicographic.{on_texts}
-use Rattle.std.proofs.lemmas.Option.{get_or_from_slice_get}
-use Rattle.std.proofs.Math.Seq.{drop-cons, drop-length}
-use Rattle.go_points.specs.declared.Cell.{Cell}
-use Rattle.go_points.specs.Grid.{same_cells}
-use Rattle.go_points.specs.Equal.{same_cells_eq, same_cells_symm}
-use Rattle.go_points.specs.Order.{text_order, same_cells_ties}
+use Rattle.std.proofs.Math.Seq.{drop-cons}
 use Rattle.go_points.specs.Text.{text_of}
-use Rattle.go_turns.specs.History.{has_occurred, repeats}
-use Rattle.cert_check.specs.Private.Machine.{last_of}
-use Rattle.cert_check.specs.Private.Ascending.{Ascends}
 
 pub order : IsTotalOrder text_order
 order = on_texts text_of

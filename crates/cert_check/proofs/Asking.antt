@@ -1,25 +1,12 @@
 -- A line asks about shape at one colouring at most: the present one.
-use Rattle.std.proofs.Common.{◌≡◌, ℕ, zero, suc, ◌&&◌, ◌↔◌, nat_lt, Bool, true, false, List, [], Option, Some, None, IsTrue, refl, sym, ap, ◌∙◌, if◌then◌else◌}
-use Rattle.std.specs.Prelude.{is_none}
-use Rattle.go_points.specs.declared.Cell.{Cell}
-use Rattle.go_points.specs.Grid.{same_colour}
-use Rattle.go_points.specs.Ply.{Ply, pass, move, ply_of}
-use Rattle.target_game.specs.State.{GameState}
+use Rattle.cert_check.proofs.Common.{◌≡◌, ℕ, zero, suc, ◌&&◌, nat_lt, Bool, true, false, List, [], Option, Some, None, IsTrue, refl, sym, ap, ◌∙◌, if◌then◌else◌, is_none, Cell, same_colour, Ply, pass, move, ply_of, GameState, over, Head, Line, header_line, lemma_line, had_line, not_line, main_line, won_line, use_line, play_line, all_line, reply_line, end_line, line_fits, had_of, not_of, Judge, NodeLine, Won, Play, All, Body, lemma_not_lower, ask, nowhere, lemma_start, lives, use_fault, head_fault, lemma_at, node_value, Machine, Heading, Owed, reply_due, body_of, counted, node_taken, not_taken, had_taken, phase_taken, taken, node_fault, IsReady, IsReadyFor, machine_of, heading_of, phase_held, answering}
+use Rattle.std.proofs.Common.{◌↔◌}
 use Rattle.target_game.specs.State as State
-use Rattle.target_game.specs.Over.{over}
-use Rattle.proof_cert.specs.Claim.{Head}
-use Rattle.proof_cert.specs.Lines.{Line, header_line, lemma_line, had_line, not_line, main_line, won_line, use_line, play_line, all_line, reply_line, end_line, line_fits, had_of, not_of}
-use Rattle.cert_check.specs.declared.judge.Judge.{Judge}
 use Rattle.cert_check.specs.declared.judge.Phase.{Phase}
 use Rattle.cert_check.specs.declared.judge.Phase.TheVariants as phases
 use Rattle.cert_check.specs.declared.open_nodes.Due.TheVariants as dues
-use Rattle.cert_check.specs.declared.lines.NodeLine.{NodeLine}
-use Rattle.cert_check.specs.declared.lines.NodeLine.TheVariants.{Won, Use, Play, All}
-use Rattle.cert_check.specs.Body.{Body, lemma_not_lower, ask, nowhere, lemma_start, lives, use_fault, head_fault, lemma_at}
-use Rattle.cert_check.specs.Parts.{node_value}
-use Rattle.cert_check.specs.Private.Machine.{Machine, Heading, Owed, reply_due, body_of, counted, node_taken, not_taken, had_taken, phase_taken, taken}
-use Rattle.cert_check.specs.Private.Inside.{node_fault}
-use Rattle.cert_check.specs.Private.Judging.{IsReady, IsReadyFor, machine_of, heading_of, lemma_of, phase_held, answering}
+use Rattle.cert_check.specs.declared.lines.NodeLine.TheVariants.{Use}
+use Rattle.cert_check.specs.Private.Judging.{lemma_of}
 use Rattle.cert_check.proofs.ShortTrees.{lives_nowhere}
 
 module _ (shape : List Cell → Bool) (b : Bool) (m : Machine) (f : Heading) where

@@ -1,20 +1,10 @@
 -- The turn that is due and the turn that is given.
-use Rattle.std.proofs.Common.{◌≡◌, ℕ, zero, suc, not, ◌*◌, ◌<◌, Bool, true, false, ◌&&◌, nat_eq, nat_lt, IsTrue, eqb-true, ltb-true, [], ◌∷◌, refl, sym, ap, ◌∙◌, arith, if◌then◌else◌}
+use Rattle.cert_check.proofs.Common.{◌≡◌, ℕ, zero, suc, not, ◌*◌, ◌<◌, Bool, true, false, ◌&&◌, nat_eq, nat_lt, IsTrue, eqb-true, ltb-true, [], ◌∷◌, refl, sym, ap, ◌∙◌, arith, if◌then◌else◌, Empty, same_cell, cell_at, after_move, has_occurred, Place, Turn, Pass, At, Ply, pass, move, ply_of, same_ply, GameState, legal, holds_point, turn_fits}
 use Rattle.std.specs.List.{All}
-use Rattle.go_points.specs.declared.Cell.TheVariants.{Empty}
-use Rattle.go_points.specs.Grid.{same_cell, cell_at}
-use Rattle.go_points.specs.Move.{after_move}
-use Rattle.go_turns.specs.History.{has_occurred}
-use Rattle.go_points.specs.Place.{Place, IsOn, on_board, number_of}
+use Rattle.go_points.specs.Place.{IsOn, on_board, number_of}
 use Rattle.go_points.specs.Points.{same_place}
 use Rattle.go_points.specs.Equal.{same_place_decides}
-use Rattle.go_points.specs.declared.Turn.{Turn}
-use Rattle.go_points.specs.declared.Turn.TheVariants.{Pass, At}
-use Rattle.go_points.specs.Ply.{Ply, pass, move, ply_of, same_ply}
-use Rattle.target_game.specs.State.{GameState}
-use Rattle.target_game.specs.Legal.{legal, holds_point}
 use Rattle.target_game.proofs.Playing.{holds_numbered}
-use Rattle.proof_cert.specs.Lines.{turn_fits}
 use Rattle.cert_check.proofs.Members.{and_first}
 use Rattle.cert_check.proofs.Known.{or_end}
 use Rattle.go_turns.proofs.Turns.{is_on_from}

@@ -1,19 +1,9 @@
 -- The answers of the lemmas of a claim, one by one: each is that of its body, where the lemmas before it are used.
-use Rattle.std.proofs.Common.{◌≡◌, ℕ, Bool, true, false, IsTrue, zero, suc, ◌+◌, ◌-◌, ◌<◌, ◌≤◌, List, [], ◌∷◌, ◌++◌, length, take, map, get_or, Option, Some, None, option_map, is_some, IfSome, Vec, Box, Global, ◌⊎◌, inl, inr, refl, sym, ap, ap₂, ◌∙◌, subst, arith}
+use Rattle.cert_check.proofs.Common.{◌≡◌, ℕ, Bool, true, false, IsTrue, zero, suc, ◌+◌, ◌-◌, ◌<◌, ◌≤◌, List, [], ◌∷◌, ◌++◌, length, take, map, get_or, Option, Some, None, option_map, is_some, IfSome, Vec, Box, Global, ◌⊎◌, inl, inr, refl, sym, ap, ap₂, ◌∙◌, subst, arith, GameState, GameProblem, start, AnswerTree, leaf, Turn, Ply, ply_of, Claim, Lemma, Node, claim_of, lemma_of, node_of, Certificate, Use, node_of_won, node_of_use, node_of_play, node_of_all, answer_at, expand_node, answers_behind, first_turn, first_turn_of, is_to_move}
 use Rattle.std.proofs.lemmas.List.{get_or_append_left, get_or-append-add, get_or_past, get_or-map, get_or-take, length-append, length-map, length-take-le, take-map, take-take}
-use Rattle.target_game.specs.State.{GameState, GameProblem, start}
-use Rattle.target_game.specs.Answers.{AnswerTree, leaf}
-use Rattle.go_points.specs.declared.Turn.{Turn}
-use Rattle.go_points.specs.Ply.{Ply, ply_of}
-use Rattle.proof_cert.specs.Claim.{Claim, Lemma, Node}
-use Rattle.proof_cert.specs.Certificate.{claim_of, lemma_of, node_of}
-use Rattle.proof_cert.specs.declared.certificate.Certificate.{Certificate}
 use Rattle.proof_cert.specs.declared.certificate.Lemma as code
 use Rattle.proof_cert.specs.declared.certificate.Node as tree
-use Rattle.proof_cert.specs.declared.certificate.Node.TheVariants.{Won, Use, Play, All}
-use Rattle.proof_cert.proofs.Certificates.{node_of_won, node_of_use, node_of_play, node_of_all}
-use Rattle.cert_check.specs.Expand.{answer_at, expand_node, answers_behind, first_turn, first_turn_of}
-use Rattle.cert_check.specs.Body.{is_to_move}
+use Rattle.proof_cert.specs.declared.certificate.Node.TheVariants.{Won, Play, All}
 use Rattle.cert_check.specs.Laws.{IsFirstTurn}
 
 abbrev Answers : Type 0

@@ -1,30 +1,11 @@
 -- A walk over a tree: what is left to be gathered after a turn, and that each turn may be made.
-use Rattle.std.proofs.Common.{◌≡◌, ℕ, ◌+◌, ◌*◌, ◌≤◌, ◌<◌, Bool, true, false, not, ◌&&◌, List, [], ◌∷◌, ◌++◌, map, filter, Some, None, IsTrue, Bor, Vec, Box, Global, refl, sym, ap, ◌∙◌, subst, arith, append_assoc, append-nil, cond, lt-ltb, inl, inr}
-use Rattle.std.specs.List.{range_with_len}
-use Rattle.std.proofs.lemmas.List.{map-append, reverse-append}
+use Rattle.cert_check.proofs.Common.{◌≡◌, ℕ, ◌+◌, ◌*◌, ◌≤◌, ◌<◌, Bool, true, false, not, ◌&&◌, List, [], ◌∷◌, ◌++◌, map, filter, Some, None, IsTrue, Bor, Vec, Box, Global, refl, sym, ap, ◌∙◌, subst, arith, append_assoc, append-nil, cond, lt-ltb, inl, inr, range_with_len, map-append, reverse-append, Cell, Turn, Pass, At, Place, Empty, same_cell, cell_at, opponent_of, points, Ply, pass, move, ply_of, Game, GameState, holds_point, legal, next, over, Node, won, by_lemma, play, all, Branches, no_branch, branch, branch_turns, node_count, node_count_below, node_of, replies_of, node_of_play, node_of_all, Later, Body, is_open, is_known, result_of, FitsNode, FitsBranches, reply_results_below, Gathered, gathered, nothing, joined, of_node, left_at, node_at, due_at, reversed, is_past, IsPlayable, ArePlayable}
 use Rattle.std.proofs.lemmas.List.Elements.{filter-append}
-use Rattle.go_points.specs.declared.Cell.{Cell}
-use Rattle.go_points.specs.declared.Turn.{Turn}
-use Rattle.go_points.specs.declared.Turn.TheVariants.{Pass, At}
-use Rattle.go_points.specs.Place.{Place}
-use Rattle.go_points.specs.declared.Cell.TheVariants.{Empty}
-use Rattle.go_points.specs.Grid.{same_cell, cell_at, opponent_of, points}
-use Rattle.go_points.specs.Ply.{Ply, pass, move, ply_of}
-use Rattle.target_game.specs.State.{Game, GameState, Line}
-use Rattle.target_game.specs.Legal.{holds_point, legal}
-use Rattle.target_game.specs.Next.{next}
-use Rattle.target_game.specs.Over.{over}
+use Rattle.target_game.specs.State.{Line}
 use Rattle.target_game.proofs.Playing.{passing_more}
-use Rattle.proof_cert.specs.Claim.{Node, won, by_lemma, play, all, Branches, no_branch, branch, branch_turns, node_count, node_count_below}
-use Rattle.proof_cert.specs.Certificate.{node_of, replies_of}
 use Rattle.proof_cert.specs.declared.certificate.Node as code
 use Rattle.proof_cert.specs.declared.certificate.Node.TheVariants as node_of_claim
-use Rattle.proof_cert.proofs.Certificates.{node_of_play, node_of_all}
-use Rattle.cert_check.specs.declared.results.Later.{Later}
-use Rattle.cert_check.specs.Body.{Body, is_open, is_known, result_of}
-use Rattle.cert_check.specs.Validity.{FitsNode, FitsBranches}
-use Rattle.cert_check.specs.Lift.{reply_results_below}
-use Rattle.cert_check.specs.Private.Results.{Gathered, gathered, nothing, joined, of_node, of_branches, of_later, left_at, node_at, due_at, reversed, is_past, IsPlayable, ArePlayable}
+use Rattle.cert_check.specs.Private.Results.{of_branches, of_later}
 use Rattle.cert_check.proofs.Members.{Member, and_both}
 use Rattle.cert_check.proofs.Game.{legal_at}
 use Rattle.cert_check.proofs.Soundness.{game-next, nobody}

@@ -1,23 +1,9 @@
 -- What was heard of a source: nothing, a line more, and the verdict where it ends.
-use Rattle.std.proofs.Common.{◌≡◌, ℕ, suc, ◌+◌, ◌≤◌, ◌<◌, ◌^◌, Bool, List, [], ◌∷◌, ◌++◌, Option, Some, None, Result, Ok, Err, OnSome, option_map, refl, sym, ap, ◌∙◌, inl, inr, arith, append_assoc, append-nil}
-use Rattle.std.proofs.lemmas.List.{map-append}
-use Rattle.go_points.specs.declared.Colour.{Colour}
-use Rattle.go_points.specs.declared.Cell.{Cell}
-use Rattle.target_game.specs.State.{GameProblem}
-use Rattle.proof_cert.specs.Lines.{Line}
-use Rattle.proof_cert.specs.Stage.{line_value}
-use Rattle.proof_cert.specs.Given.{line_answer}
+use Rattle.cert_check.proofs.Common.{◌≡◌, ℕ, suc, ◌+◌, ◌≤◌, ◌<◌, ◌^◌, Bool, List, [], ◌∷◌, ◌++◌, Option, Some, None, Result, Ok, Err, OnSome, option_map, refl, sym, ap, ◌∙◌, inl, inr, arith, append_assoc, append-nil, map-append, Colour, Cell, GameProblem, Line, line_value, line_answer, SourceFault, Why, verdict_by, accepted, rejected, Machine, begun, goes_on, stops, taken, ended, after_step, verdict_from, line_values, Answers, AcceptsBy, AsksTo, IsToldBy, Heard}
 use Rattle.proof_cert.specs.declared.line.Line as code
-use Rattle.proof_cert.specs.declared.source.SourceFault.{SourceFault}
 use Rattle.proof_cert.specs.declared.source.SourceFault.TheVariants as fault
-use Rattle.cert_check.specs.Body.{Why}
-use Rattle.cert_check.specs.Verdict.{verdict_by, accepted, rejected}
-use Rattle.cert_check.specs.Private.Machine.{Machine, begun, goes_on, stops, taken, ended, after_step, verdict_from}
-use Rattle.cert_check.specs.Parts.{line_values}
-use Rattle.cert_check.specs.Checks.{Answers, AcceptsBy, AsksTo, RejectsAtBy, FailsAtBy, IsReachedBy}
+use Rattle.cert_check.specs.Checks.{RejectsAtBy, FailsAtBy, IsReachedBy}
 use Rattle.cert_check.specs.declared.kind.Kind.{Kind}
-use Rattle.cert_check.specs.Private.Judging.{IsToldBy}
-use Rattle.cert_check.specs.Private.Heard.{Heard}
 use Rattle.cert_check.proofs.Machines.{lines_judged}
 use Rattle.cert_check.proofs.Taking.{asks_before, asks_there, took_more, one_more}
 use Rattle.cert_check.proofs.Faults.{ended_behind}

@@ -1,23 +1,11 @@
 -- A certificate that is held: what is answered of its lines, and whether it is valid.
-use Rattle.std.proofs.Common.{◌≡◌, ℕ, ◌-◌, ◌^◌, ◌≤◌, ◌⊎◌, inl, inr, Bool, true, false, List, [], ◌∷◌, ◌++◌, length, map, Option, Some, None, IsTrue, IsSome, Ok, refl, sym, ap, ◌∙◌, subst, arith, if◌then◌else◌}
-use Rattle.std.specs.List.{list_all}
-use Rattle.go_points.specs.declared.TheConstants.{MAX_SIZE}
-use Rattle.go_points.specs.declared.Colour.{Colour}
-use Rattle.target_game.specs.State.{GameProblem}
-use Rattle.proof_cert.specs.Claim.{Claim, IsWithinLimits}
-use Rattle.proof_cert.specs.Lines.{Line, lines_of}
-use Rattle.proof_cert.specs.Text.{text, text_of_lines, is_spelled, OneClaimOfText}
-use Rattle.proof_cert.specs.Held.{Held, spelled_line, held_source_of, held_gives}
+use Rattle.cert_check.proofs.Common.{◌≡◌, ℕ, ◌-◌, ◌^◌, ◌≤◌, ◌⊎◌, inl, inr, Bool, true, false, List, [], ◌∷◌, ◌++◌, length, map, Option, Some, None, IsTrue, IsSome, Ok, refl, sym, ap, ◌∙◌, subst, arith, if◌then◌else◌, list_all, MAX_SIZE, Colour, GameProblem, Claim, IsWithinLimits, Line, lines_of, text, text_of_lines, is_spelled, Held, held_gives, why_value, Rejects, Why, verdict, accepted, rejected, IsValid, line_values, Answers, Accepts, RejectsAt, FailsAt, IsChecked, verdict_on}
+use Rattle.proof_cert.specs.Text.{OneClaimOfText}
+use Rattle.proof_cert.specs.Held.{spelled_line, held_source_of}
 use Rattle.proof_cert.specs.Given.{IsFrontOfClaim, LinesGivenOfClaim}
 use Rattle.cert_check.specs.declared.reject.Why.TheVariants as stops
 use Rattle.cert_check.specs.declared.reject.Reject.{Reject}
-use Rattle.cert_check.specs.Stage.{why_value, IsRejection, Rejects}
-use Rattle.cert_check.specs.Body.{Why}
-use Rattle.cert_check.specs.Verdict.{verdict, accepted, rejected}
-use Rattle.cert_check.specs.Validity.{IsValid}
-use Rattle.cert_check.specs.Parts.{line_values}
-use Rattle.cert_check.specs.Checks.{Answers, Accepts, RejectsAt, FailsAt}
-use Rattle.cert_check.specs.Checked.{IsChecked, verdict_on}
+use Rattle.cert_check.specs.Stage.{IsRejection}
 use Rattle.cert_check.proofs.Members.{and_first, and_second}
 use Rattle.cert_check.proofs.Faults.{faults_stay}
 use Rattle.cert_check.proofs.Spelling.{accepts_valid_claims, text_spelled}

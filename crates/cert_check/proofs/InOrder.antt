@@ -1,23 +1,13 @@
 -- Colourings put in order, each once: what a sort and a drop of equals leave, and that it is known by what stands on it.
-use Rattle.std.proofs.Common.{◌≡◌, ℕ, Bool, true, false, ◌||◌, cond, List, [], ◌∷◌, length, IsTrue, Ordering, Less, Equal, Greater, refl, sym, ap, ◌∙◌, subst, inl, inr}
+use Rattle.cert_check.proofs.Common.{◌≡◌, ℕ, Bool, true, false, ◌||◌, cond, List, [], ◌∷◌, length, IsTrue, Ordering, Less, Equal, Greater, refl, sym, ap, ◌∙◌, subst, inl, inr, is_lt, ordering_reverse, Cell, same_cells, same_cells_eq, text_order, same_cells_ties, has_occurred, cells_before, is_ascending, Ascends, SameMembers, or_left}
 use Rattle.std.specs.List.{dedup, dedup_from}
 use Rattle.std.specs.List.Sorted.{IsStrictlySortedBy, IsSorted, IsPermutation}
-use Rattle.std.specs.Ordering.{is_lt, ordering_reverse}
 use Rattle.std.proofs.lemmas.List.Kept.{IsStrictlySortedBy-dedup}
 use Rattle.std.proofs.lemmas.List.Sorted.{list_any-IsPermutation}
-use Rattle.go_points.specs.declared.Cell.{Cell}
-use Rattle.go_points.specs.Grid.{same_cells}
-use Rattle.go_points.specs.Equal.{same_cells_eq}
-use Rattle.go_points.specs.Order.{text_order, same_cells_ties}
-use Rattle.go_turns.specs.History.{has_occurred}
-use Rattle.proof_cert.specs.Claim.{cells_before, is_ascending}
-use Rattle.cert_check.specs.Private.Ascending.{Ascends}
-use Rattle.cert_check.specs.Private.Known.{SameMembers}
 use Rattle.cert_check.proofs.Ascending.{order, above_all, none_among, above_from, same_from, is_less}
 use Rattle.cert_check.proofs.Lists.{before_is}
 use Rattle.cert_check.proofs.Members.{Member, and_first, and_second, and_both}
 use Rattle.cert_check.proofs.Game.{same_cells-refl, occurred-member, member-occurred}
-use Rattle.go_points.proofs.Lists.{or_left}
 
 -- WHAT A SORT AND A DROP OF EQUALS LEAVE
 

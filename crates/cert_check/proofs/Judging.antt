@@ -1,32 +1,16 @@
 -- What the judge does with a line, as the machine does it.
-use Rattle.std.proofs.Common.{◌≡◌, ℕ, suc, ◌+◌, ◌-◌, ◌*◌, Bool, true, false, ◌&&◌, nat_lt, nat_le, List, [], ◌∷◌, ◌++◌, length, Option, Some, None, IfSome, refl, sym, ap, ◌∙◌, subst, arith, if◌then◌else◌}
-use Rattle.std.specs.Prelude.{slice_get, reverse}
-use Rattle.std.specs.Ordering.{is_lt}
-use Rattle.std.proofs.Common.{Ordering, Less, Equal, Greater}
-use Rattle.go_points.specs.declared.Cell.{Cell}
-use Rattle.go_points.specs.Order.{text_order}
+use Rattle.cert_check.proofs.Common.{◌≡◌, ℕ, suc, ◌+◌, ◌-◌, ◌*◌, Bool, true, false, ◌&&◌, nat_lt, nat_le, List, [], ◌∷◌, ◌++◌, length, Option, Some, None, IfSome, refl, sym, ap, ◌∙◌, subst, arith, if◌then◌else◌, slice_get, is_lt, Ordering, Less, Equal, Greater, Cell, text_order, GameProblem, All-push, side_of-whole, Head, max_nodes, max_depth, max_listed, Line, header_line, lemma_line, had_line, not_line, main_line, won_line, use_line, play_line, all_line, reply_line, end_line, line_fits, had_of, not_of, Judge, NodeLine, Why, limit, list_order, ask, lemma_start, is_after, Machine, Heading, Phase, goes_on, stops, goes_if, last_of, listed_taken, listing_had, listing_not, had_taken, not_taken, phase_taken, taken, body_of, node_taken, Inside, phase_of, owed_by, node_fault, node_next, head_of, node_value, machine_of, heading_of, phase_held, AwaitsNode, answering, had_more, listed_more, Ascends}
+use Rattle.std.specs.Prelude.{reverse}
 use Rattle.target_game.specs.State as State
-use Rattle.target_game.specs.State.{GameProblem}
 use Rattle.std.specs.List.{All}
-use Rattle.std.proofs.lemmas.List.Elements.{All-push}
 use Rattle.go_points.specs.Grid.{side_of}
-use Rattle.go_points.specs.Private.Sides.{side_of-whole}
-use Rattle.proof_cert.specs.Claim.{Head, max_nodes, max_depth, max_listed}
-use Rattle.proof_cert.specs.Lines.{Line, header_line, lemma_line, had_line, not_line, main_line, won_line, use_line, play_line, all_line, reply_line, end_line, line_fits, had_of, not_of}
-use Rattle.cert_check.specs.declared.judge.Judge.{Judge}
 use Rattle.cert_check.specs.declared.judge.Phase.TheVariants.{ListingHad, Listing, Body}
 use Rattle.cert_check.specs.declared.judge.Within.{Within}
 use Rattle.cert_check.specs.declared.judge.Within.TheVariants.{Lemma, Main}
 use Rattle.cert_check.specs.declared.open_nodes.Due.{Due}
 use Rattle.cert_check.specs.declared.open_nodes.Due.TheVariants.{Node, Reply, End}
-use Rattle.cert_check.specs.declared.lines.NodeLine.{NodeLine}
-use Rattle.cert_check.specs.Body.{Why, limit, list_order, ask, lemma_start}
-use Rattle.cert_check.specs.Verdict.{is_after}
-use Rattle.cert_check.specs.Private.Machine.{Machine, Heading, Phase, goes_on, stops, goes_if, last_of, listed_taken, listing_had, listing_not, had_taken, not_taken, phase_taken, taken, body_of, node_taken}
-use Rattle.cert_check.specs.Private.Inside.{Inside, phase_of, owed_by, node_fault, node_next}
-use Rattle.cert_check.specs.Parts.{head_of, had_line_of, listed_line, node_line, node_value}
-use Rattle.cert_check.specs.Private.Judging.{GoesOn, IsBehind, machine_of, heading_of, lemma_of, within_of, inside_now, phase_held, IsBehindFor, AwaitsHad, AwaitsList, AwaitsNode, answering, had_here, list_here, node_here, body_here, had_more, listed_more}
-use Rattle.cert_check.specs.Private.Ascending.{Ascends}
+use Rattle.cert_check.specs.Parts.{had_line_of, listed_line, node_line}
+use Rattle.cert_check.specs.Private.Judging.{GoesOn, IsBehind, lemma_of, within_of, inside_now, IsBehindFor, AwaitsHad, AwaitsList, had_here, list_here, node_here, body_here}
 use Rattle.cert_check.proofs.Ascending.{ascends_more}
 use Rattle.cert_check.proofs.Lists.{before_is}
 use Rattle.cert_check.proofs.Machines.{last_pushed}

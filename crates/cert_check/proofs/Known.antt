@@ -1,23 +1,13 @@
 -- What is known at a state, by the list that a body keeps of it.
-use Rattle.std.proofs.Common.{◌≡◌, ℕ, zero, suc, ◌+◌, ◌-◌, ◌<◌, ◌≤◌, arith, take, drop, slice_get, Bool, true, false, not, ◌&&◌, ◌||◌, List, [], ◌∷◌, ◌++◌, length, reverse, filter, cond, slice_index_or, refl, sym, ap, ap₂, ◌∙◌, subst}
-use Rattle.std.specs.List.{list_all}
-use Rattle.std.proofs.lemmas.List.{reverse-append, take-append-drop, take-append-le, length-append, length-drop}
+use Rattle.cert_check.proofs.Common.{◌≡◌, ℕ, zero, suc, ◌+◌, ◌-◌, ◌<◌, ◌≤◌, arith, take, drop, Bool, true, false, not, ◌&&◌, ◌||◌, List, [], ◌∷◌, ◌++◌, length, reverse, filter, cond, slice_index_or, refl, sym, ap, ap₂, ◌∙◌, subst, list_all, reverse-append, Colour, Cell, same_cells, same_cells_eq, same_cells_symm, Ply, pass, move, has_occurred, Game, GameState, GameProblem, start, state_alone, state_with, next, is_known, Ascends, apart, is_it, SameMembers, AreKnown, HasStart, or_left}
+use Rattle.std.proofs.Common.{slice_get}
+use Rattle.std.proofs.lemmas.List.{take-append-drop, take-append-le, length-append, length-drop}
 use Rattle.std.proofs.lemmas.List.Folds.{list_all-append, list_any-append}
 use Rattle.std.proofs.Math.Seq.{take-append_seam, take-length}
-use Rattle.go_points.specs.declared.Colour.{Colour}
-use Rattle.go_points.specs.declared.Cell.{Cell}
-use Rattle.go_points.specs.Grid.{same_cells}
-use Rattle.go_points.specs.Equal.{same_cells_eq, same_cells_refl, same_cells_symm}
-use Rattle.go_points.specs.Ply.{Ply, pass, move}
-use Rattle.go_turns.specs.History.{has_occurred}
-use Rattle.target_game.specs.State.{Game, GameState, GameProblem, start, state_alone, state_with}
-use Rattle.target_game.specs.Next.{next}
-use Rattle.cert_check.specs.Body.{is_known}
-use Rattle.cert_check.specs.Private.Ascending.{Ascends, apart, is_it}
-use Rattle.cert_check.specs.Private.Known.{SameMembers, IsKnownAt, AreKnown, HasStart}
+use Rattle.go_points.specs.Equal.{same_cells_refl}
+use Rattle.cert_check.specs.Private.Known.{IsKnownAt}
 use Rattle.cert_check.proofs.Apart.{apart_turned}
 use Rattle.cert_check.proofs.Ascending.{any_at}
-use Rattle.go_points.proofs.Lists.{or_left}
 
 or_swap : (a b : Bool) → (a || b) ≡ (b || a)
 or_swap true true = refl

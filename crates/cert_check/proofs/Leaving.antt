@@ -1,12 +1,5 @@
 -- How many lines the parts of a claim leave.
-use Rattle.std.proofs.Common.{ℕ, zero, suc, Bool, true, false, nat_eq, nat_lt, List, [], ◌∷◌, ◌++◌, length, Option, Some, None, arith, le_refl, if◌then◌else◌}
-use Rattle.go_points.specs.declared.Colour.{Colour}
-use Rattle.go_points.specs.declared.Cell.{Cell}
-use Rattle.target_game.specs.State.{Game}
-use Rattle.proof_cert.specs.Claim.{Head, max_listed}
-use Rattle.proof_cert.specs.Lines.{Line, header_line, lemma_line, had_line, not_line, main_line, won_line, use_line, play_line, all_line, reply_line, end_line, had_of, not_of}
-use Rattle.cert_check.specs.Body.{Why, limit, list_order, ask, lemma_body_by, lemma_start}
-use Rattle.cert_check.specs.Verdict.{Cursor, Judged, fine, faulty, then_judge, asked, judge_node, judge_end, judge_end_line, is_after, with_first, judge_list, judge_had, judge_not, judge_lemma, lemma_fault, judge_opening, judge_lemmas}
+use Rattle.cert_check.proofs.Common.{ℕ, zero, suc, Bool, true, false, nat_eq, nat_lt, List, [], ◌∷◌, ◌++◌, length, Option, Some, None, arith, le_refl, if◌then◌else◌, Colour, Cell, Game, Head, max_listed, Line, header_line, lemma_line, had_line, not_line, main_line, won_line, use_line, play_line, all_line, reply_line, end_line, had_of, not_of, Why, limit, list_order, ask, lemma_body_by, lemma_start, Cursor, Judged, fine, faulty, then_judge, asked, judge_node, judge_end, judge_end_line, is_after, with_first, judge_list, judge_had, judge_not, judge_lemma, lemma_fault, judge_opening, judge_lemmas}
 use Rattle.cert_check.proofs.Bounds.{reading, Leaves, Leaves-more, Leaves-then, Leaves-node}
 
 Leaves-first : (c : List Cell) (j : Judged (List (List Cell))) (n : ℕ) → Leaves j n → Leaves (with_first c j) n

@@ -1,39 +1,15 @@
 -- A claim that was lifted: its lists are the only ones, it is valid, and whether it is within the limits.
-use Rattle.std.proofs.Common.{◌≡◌, ℕ, ◌+◌, ◌*◌, ◌<◌, ◌≤◌, ◌⊎◌, Bool, true, false, not, ◌&&◌, ◌||◌, cond, nat_eq, nat_le, List, [], ◌∷◌, ◌++◌, map, filter, length, Option, Some, IsTrue, refl, sym, ap, ◌∙◌, subst, inl, inr, arith, eq-eqb, le-leb, leb-true, leb-false, ltb-true, ltb-false, nat_lt, sum_by}
+use Rattle.cert_check.proofs.Common.{◌≡◌, ℕ, ◌+◌, ◌*◌, ◌<◌, ◌≤◌, ◌⊎◌, Bool, true, false, not, ◌&&◌, ◌||◌, cond, nat_eq, nat_le, List, [], ◌∷◌, ◌++◌, map, filter, length, Option, Some, IsTrue, refl, sym, ap, ◌∙◌, subst, inl, inr, arith, eq-eqb, le-leb, leb-true, ltb-true, nat_lt, sum_by, sum_by-cons, MAX_SIZE, Cell, Colour, same_cells, same_cells_eq, pass, move, has_occurred, Game, GameProblem, GameState, start, IsProblem, next, Node, won, by_lemma, play, all, Branches, no_branch, branch, Head, Claim, Lemma, node_count, listed_count, max_nodes, max_listed, IsWithinLimits, Line, had_spelled, not_line, end_line, main_line, lemma_line, lines_of, lemmas_lines, lemma_lines, node_lines, claim_of, lemma_of, node_of, Certificate, Use, node_of_use, Writes, lemma_body, lemma_start, Ascends, IsChecked, LiftedClaimsAreRight, play_results, play_results_below, reply_results, IsLiftedHead, IsLifted, head_of, is_past, version_for, claim_with, SameMembers}
+use Rattle.std.proofs.Common.{leb-false, ltb-false}
 use Rattle.std.specs.List.{AllByRecursion}
 use Rattle.std.proofs.lemmas.List.Elements.{recursion_from_All}
-use Rattle.std.proofs.lemmas.List.Sums.{sum_by-cons}
-use Rattle.go_points.specs.declared.TheConstants.{MAX_SIZE}
-use Rattle.go_points.specs.declared.Cell.{Cell}
-use Rattle.go_points.specs.declared.Colour.{Colour}
-use Rattle.go_points.specs.Grid.{same_cells}
-use Rattle.go_points.specs.Equal.{same_cells_eq}
-use Rattle.go_points.specs.Ply.{pass, move}
-use Rattle.go_turns.specs.History.{has_occurred}
-use Rattle.target_game.specs.State.{Game, GameProblem, GameState, start}
-use Rattle.target_game.specs.Laws.{IsProblem}
-use Rattle.target_game.specs.Next.{next}
 use Rattle.target_game.proofs.States.{length-after_move}
-use Rattle.proof_cert.specs.Claim.{Node, won, by_lemma, play, all, Branches, no_branch, branch, Head, Claim, Lemma, node_count, listed_count, max_nodes, max_listed, IsWithinLimits}
-use Rattle.proof_cert.specs.Lines.{Line, had_spelled, not_line, end_line, main_line, lemma_line, lines_of, lemmas_lines, lemma_lines, node_lines}
 use Rattle.proof_cert.specs.Stage.{version_number}
-use Rattle.proof_cert.specs.Certificate.{claim_of, lemma_of, node_of}
-use Rattle.proof_cert.specs.declared.certificate.Certificate.{Certificate}
 use Rattle.proof_cert.specs.declared.certificate.Lemma as code_lemma
 use Rattle.proof_cert.specs.declared.certificate.Node as code
-use Rattle.proof_cert.specs.declared.certificate.Node.TheVariants.{Use}
-use Rattle.proof_cert.proofs.Certificates.{node_of_use}
-use Rattle.proof_cert.proofs.Unique.{Writes}
-use Rattle.cert_check.specs.Body.{lemma_body, lemma_start}
-use Rattle.cert_check.specs.Private.Ascending.{Ascends}
-use Rattle.cert_check.specs.Checked.{IsChecked}
-use Rattle.cert_check.specs.Laws.{IsRight, LiftedClaimsAreRight}
-use Rattle.cert_check.specs.Lift.{play_results, play_results_below, reply_results, IsLiftedHead, IsLifted}
-use Rattle.cert_check.specs.Parts.{head_of}
-use Rattle.cert_check.specs.Private.Results.{is_past, version_for, claim_with}
+use Rattle.cert_check.specs.Laws.{IsRight}
 use Rattle.cert_check.proofs.Claiming.{AllFitting, AllFitting-append, node_fitting, both_spelled}
 use Rattle.cert_check.proofs.Game.{occurred-member, member-occurred}
-use Rattle.cert_check.specs.Private.Known.{SameMembers}
 use Rattle.cert_check.proofs.InOrder.{AreLong, same_list, ascending_is, ascends_is, long_left}
 use Rattle.cert_check.proofs.Members.{Member, and_both, or_cases, Member-append_cases}
 use Rattle.cert_check.proofs.Soundness.{game-next}

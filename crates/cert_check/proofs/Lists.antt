@@ -1,14 +1,10 @@
 -- Lists of colourings: what is tested of each, and their order.
-use Rattle.std.proofs.Common.{◌≡◌, ℕ, Bool, true, false, cond, not, ◌&&◌, ◌||◌, nat_eq, nat_lt, List, [], ◌∷◌, length, Option, Some, None, is_some, is_none, Ordering, Less, Equal, Greater, refl, sym, ap, ◌∙◌, arith}
-use Rattle.std.specs.List.{list_all}
-use Rattle.std.specs.Ordering.{is_lt, ordering_then}
-use Rattle.go_points.specs.declared.Cell.{Cell}
+use Rattle.cert_check.proofs.Common.{◌≡◌, ℕ, Bool, true, false, cond, not, ◌&&◌, ◌||◌, nat_eq, nat_lt, List, [], ◌∷◌, length, Option, Some, None, is_some, Ordering, Less, Equal, Greater, refl, sym, ap, ◌∙◌, arith, list_all, is_lt, Cell, text_order, has_occurred, cells_before, is_listed}
+use Rattle.std.proofs.Common.{is_none}
+use Rattle.std.specs.Ordering.{ordering_then}
 use Rattle.go_points.specs.Text.{cell_code}
-use Rattle.go_points.specs.Order.{text_order}
-use Rattle.go_turns.specs.History.{place_in, has_occurred}
+use Rattle.go_turns.specs.History.{place_in}
 use Rattle.target_game.proofs.Playing.{occurred_place}
-use Rattle.proof_cert.specs.Claim.{cells_before}
-use Rattle.cert_check.specs.Body.{is_listed}
 
 -- whether a colouring is known, by its place
 pub known_by : (h : List (List Cell)) (c : List Cell) (o : Option ℕ) (b : Bool) → o ≡ place_in h c → is_some o ≡ b → not (has_occurred h c) ≡ not b

@@ -1,16 +1,6 @@
 -- Judging a claim a line at a time gives its verdict.
-use Rattle.std.proofs.Common.{◌≡◌, ℕ, zero, suc, ◌≤◌, Bool, true, false, ◌&&◌, ◌||◌, nat_eq, nat_lt, nat_le, List, [], ◌∷◌, ◌++◌, map, length, Option, Some, None, refl, sym, ap, ◌∙◌, arith, le_refl, append_assoc, append-nil, if◌then◌else◌}
-use Rattle.go_points.specs.declared.Colour.{Colour}
-use Rattle.go_points.specs.declared.Cell.{Cell}
-use Rattle.go_points.specs.Ply.{Ply}
-use Rattle.target_game.specs.State.{Game, GameState, GameProblem, start}
-use Rattle.target_game.specs.Next.{next}
-use Rattle.proof_cert.specs.Claim.{Head, max_nodes, max_depth, max_listed}
-use Rattle.proof_cert.specs.Lines.{Line, header_line, lemma_line, had_line, not_line, main_line, won_line, use_line, play_line, all_line, reply_line, end_line, fitting, had_of, not_of}
-use Rattle.cert_check.specs.Body.{Body, Why, malformed, size_differs, limit, list_order, ask, due_replies, won_fault, play_fault, use_fault, all_fault, reply_fault, lemma_body_by, lemma_start, main_body_by}
-use Rattle.cert_check.specs.Verdict.{Cursor, Judged, fine, faulty, then_judge, read_line, asked, judge_reply, judge_end, judge_end_line, judge_had, judge_not, judge_lemma, lemma_fault, judge_opening, is_after, with_first, judge_claim, judge_node, judge_lemmas, judge_list, judge_header, verdict_of}
-use Rattle.cert_check.specs.Private.Resume.{OpenNode, awaited, owed, resume, opened}
-use Rattle.cert_check.specs.Private.Machine.{Owed, Heading, Phase, header, opening, listing_had, listing_not, node_due, reply_due, done, Machine, AfterLine, goes_on, stops, begun, body_of, owing, goes_if, there, node_taken, reply_taken, closed, end_taken, last_of, first_of, lists_due, opening_taken, listed_taken, header_taken, first_taken, not_taken, had_taken, phase_taken, taken, ended_at, after_step, verdict_from, LinesJudged}
+use Rattle.cert_check.proofs.Common.{◌≡◌, ℕ, zero, suc, ◌≤◌, Bool, true, false, ◌&&◌, ◌||◌, nat_eq, nat_lt, nat_le, List, [], ◌∷◌, ◌++◌, map, length, Option, Some, None, refl, sym, ap, ◌∙◌, arith, le_refl, append_assoc, append-nil, if◌then◌else◌, Colour, Cell, Ply, Game, GameState, GameProblem, start, next, Head, max_nodes, max_depth, max_listed, Line, header_line, lemma_line, had_line, not_line, main_line, won_line, use_line, play_line, all_line, reply_line, end_line, fitting, had_of, not_of, Body, Why, malformed, size_differs, limit, list_order, ask, due_replies, won_fault, play_fault, use_fault, all_fault, reply_fault, lemma_body_by, lemma_start, main_body_by, Cursor, Judged, fine, faulty, then_judge, read_line, asked, judge_reply, judge_end, judge_end_line, judge_had, judge_not, judge_lemma, lemma_fault, judge_opening, is_after, with_first, judge_claim, judge_node, judge_lemmas, judge_list, judge_header, verdict_of, OpenNode, awaited, owed, resume, opened, Owed, Heading, Phase, header, opening, listing_had, listing_not, node_due, reply_due, done, Machine, AfterLine, goes_on, stops, begun, body_of, owing, goes_if, there, node_taken, reply_taken, end_taken, last_of, opening_taken, listed_taken, header_taken, not_taken, had_taken, phase_taken, taken, ended_at, after_step, verdict_from}
+use Rattle.cert_check.specs.Private.Machine.{closed, first_of, lists_due, first_taken, LinesJudged}
 use Rattle.cert_check.proofs.Bounds.{reading, Leaves, Leaves-then, then_same, same_node, Leaves-asked, Leaves-node}
 use Rattle.cert_check.proofs.Resuming.{resume_laws, then_then}
 use Rattle.cert_check.proofs.Leaving.{Leaves-not, Leaves-had, Leaves-end, Leaves-lemma, Leaves-lemmas_at}

@@ -1,10 +1,9 @@
 -- Numbers are found by their places, where one more is put in, and where there is room for more places.
-use Rattle.std.proofs.Common.{◌≡◌, ◌≢◌, ℕ, zero, suc, ◌<◌, ◌≤◌, Bool, true, false, nat_eq, List, [], ◌∷◌, ◌++◌, length, get_or, set, None, Some, refl, sym, ap, ◌∙◌, subst, arith, eqb-true, eq-eqb}
-use Rattle.std.specs.Prelude.{slice_get}
-use Rattle.std.specs.List.{Contains}
-use Rattle.std.proofs.lemmas.List.Elements.{All-contains, All-push, All-weaker}
-use Rattle.std.proofs.lemmas.Option.{slice_get_past, get_or_from_slice_get}
-use Rattle.cert_check.specs.Private.Places.{IsPlaced, ArePlaced, KeepsAll}
+use Rattle.cert_check.proofs.Common.{◌≡◌, ℕ, zero, suc, ◌<◌, ◌≤◌, Bool, true, false, nat_eq, List, [], ◌∷◌, ◌++◌, length, get_or, set, None, Some, refl, sym, ap, ◌∙◌, subst, arith, eqb-true, eq-eqb, slice_get, Contains, All-push, get_or_from_slice_get, ArePlaced}
+use Rattle.std.proofs.Common.{◌≢◌}
+use Rattle.std.proofs.lemmas.List.Elements.{All-contains, All-weaker}
+use Rattle.std.proofs.lemmas.Option.{slice_get_past}
+use Rattle.cert_check.specs.Private.Places.{IsPlaced, KeepsAll}
 
 get_more : (xs ys : List ℕ) (i v : ℕ) → slice_get xs i ≡ Some v → slice_get (xs ++ ys) i ≡ Some v
 get_more [] ys i v e = absurd (cc)

@@ -1,22 +1,10 @@
 -- A line of a body, as the machine takes it, by what the program found.
-use Rattle.std.proofs.Common.{◌≡◌, ℕ, suc, ◌+◌, Bool, true, false, List, [], ◌∷◌, Option, Some, None, IsTrue, refl, sym, ap, ◌∙◌, arith, option_map, length, nat_lt, nat_le, ◌&&◌}
+use Rattle.cert_check.proofs.Common.{◌≡◌, ℕ, suc, ◌+◌, Bool, true, false, List, [], ◌∷◌, Option, Some, None, IsTrue, refl, sym, ap, ◌∙◌, arith, option_map, length, nat_lt, nat_le, ◌&&◌, ply_of, Cell, Turn, Game, GameState, legal, Head, max_nodes, max_depth, NodeLine, Won, Play, All, Body, Why, limit, replies_differ, ask, reply_fault, why_value, Machine, Heading, Phase, goes_on, stops, goes_if, Owed, body_of, counted, node_taken, node_value, Inside, Follows, phase_of, node_fault, node_next}
 use Rattle.std.specs.Prelude.{reverse}
 use Rattle.std.proofs.lemmas.List.{length-reverse}
-use Rattle.go_points.specs.Ply.{ply_of}
-use Rattle.go_points.specs.declared.Cell.{Cell}
-use Rattle.go_points.specs.declared.Turn.{Turn}
-use Rattle.target_game.specs.State.{Game, GameState}
-use Rattle.target_game.specs.Legal.{legal}
 use Rattle.target_game.specs.declared.turns_left.TurnsLeft.{TurnsLeft}
-use Rattle.proof_cert.specs.Claim.{Head, max_nodes, max_depth}
 use Rattle.cert_check.specs.declared.reject.Why as code
-use Rattle.cert_check.specs.declared.lines.NodeLine.{NodeLine}
-use Rattle.cert_check.specs.declared.lines.NodeLine.TheVariants.{Won, Use, Play, All}
-use Rattle.cert_check.specs.Body.{Body, Why, limit, replies_differ, ask, reply_fault}
-use Rattle.cert_check.specs.Stage.{why_value}
-use Rattle.cert_check.specs.Private.Machine.{Machine, Heading, Phase, goes_on, stops, goes_if, Owed, body_of, counted, node_taken}
-use Rattle.cert_check.specs.Parts.{node_value}
-use Rattle.cert_check.specs.Private.Inside.{Inside, Follows, phase_of, node_fault, node_next}
+use Rattle.cert_check.specs.declared.lines.NodeLine.TheVariants.{Use}
 use Rattle.cert_check.proofs.Due.{turns_apart, legal_fits}
 
 -- another turn than the one that is due

@@ -1,23 +1,11 @@
 -- The side that a short claim names wins, if the targets live where it may rest on their shape.
-use Rattle.std.proofs.Common.{ℕ, ◌<◌, ◌≤◌, ◌&&◌, Bool, List, [], ◌⊎◌, inl, inr, IsTrue, IfOk, Result, Ok, Err, arith, sym, subst}
-use Rattle.std.specs.Prelude.{is_none, nat_lt}
-use Rattle.std.proofs.Common.{ltb-true}
-use Rattle.go_points.specs.declared.Colour.{Colour}
-use Rattle.go_points.specs.declared.Colour.TheVariants.{Black, White}
-use Rattle.go_points.specs.declared.Cell.{Cell}
-use Rattle.go_points.specs.Grid.{same_colour, opponent_of}
-use Rattle.target_game.specs.State.{Game, GameState, GameProblem, start}
-use Rattle.target_game.specs.Next.{next}
-use Rattle.target_game.specs.Over.{over}
-use Rattle.target_game.specs.Wins.{wins, Wins}
+use Rattle.cert_check.proofs.Common.{ℕ, ◌<◌, ◌≤◌, ◌&&◌, Bool, List, [], ◌⊎◌, inl, inr, IsTrue, IfOk, Result, Ok, Err, arith, sym, subst, is_none, ltb-true, Colour, Black, White, Cell, same_colour, opponent_of, Game, GameState, GameProblem, start, next, over, wins, Wins, Claim, heads_of, main_body_by, heights_behind, height_by}
+use Rattle.std.specs.Prelude.{nat_lt}
 use Rattle.target_game.specs.Laws.{WinnerExists, NotBothWin}
 use Rattle.pass_alive.specs.Life.{PassAlive}
 use Rattle.pass_alive.specs.Told.{play_bound, Tells}
 use Rattle.pass_alive.specs.Laws.{DefenderWinsWithin, ShapesCanBeTold}
-use Rattle.proof_cert.specs.Claim.{Claim, heads_of}
-use Rattle.cert_check.specs.Body.{main_body_by}
 use Rattle.cert_check.proofs.ShortTrees.{FitsShort}
-use Rattle.cert_check.specs.Meaning.{heights_behind, height_by}
 use Rattle.cert_check.specs.Laws.{AcceptedShortSidesWin, AcceptedShortTurnsWin}
 use Rattle.cert_check.proofs.Members.{and_first, and_second}
 use Rattle.cert_check.proofs.Game.{same_colour-eq}

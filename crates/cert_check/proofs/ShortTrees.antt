@@ -1,16 +1,6 @@
 -- Trees of short claims: what is right at a state, as `Validity` says it of ordinary claims, where lemma 0 rests on shape.
-use Rattle.std.proofs.Common.{◌≡◌, ℕ, zero, suc, ◌&&◌, Bool, false, List, [], ◌∷◌, ◌++◌, Some, IsTrue, refl}
-use Rattle.std.specs.Prelude.{is_none, nat_lt, slice_get}
-use Rattle.go_points.specs.Liberty.{all_reach_empty}
-use Rattle.go_points.specs.declared.Colour.{Colour}
-use Rattle.go_points.specs.declared.Cell.{Cell}
-use Rattle.go_points.specs.Grid.{same_colour, opponent_of}
-use Rattle.target_game.specs.State.{Game, GameState}
-use Rattle.target_game.specs.Next.{next}
-use Rattle.target_game.specs.Over.{over}
-use Rattle.proof_cert.specs.Claim.{Node, won, by_lemma, play, all, Branches, no_branch, branch, branch_turns, Head, Lemma, is_ascending}
-use Rattle.cert_check.specs.Body.{Body, nowhere, lemma_body_by, lemma_body, lemma_start, is_to_move, due_replies, lives}
-use Rattle.cert_check.specs.Validity.{MayPlay, Serves, FitsNode, FitsBranches, AreValidLemmas}
+use Rattle.cert_check.proofs.Common.{◌≡◌, ℕ, zero, suc, ◌&&◌, Bool, false, List, [], ◌∷◌, ◌++◌, Some, IsTrue, refl, is_none, slice_get, all_reach_empty, Colour, Cell, same_colour, opponent_of, Game, GameState, next, over, Node, won, by_lemma, play, all, Branches, no_branch, branch, branch_turns, Head, Lemma, is_ascending, Body, nowhere, lemma_body_by, lemma_body, lemma_start, is_to_move, due_replies, lives, MayPlay, Serves, FitsNode, FitsBranches, AreValidLemmas}
+use Rattle.std.specs.Prelude.{nat_lt}
 use Rattle.cert_check.proofs.Members.{and_second}
 
 abbrev pub FitsLemma : Body → GameState → ℕ → Type 0

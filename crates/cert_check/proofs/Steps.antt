@@ -1,8 +1,6 @@
 -- What holds of an answer.
-use Rattle.std.proofs.Common.{◌≡◌, Result, Ok, Err, IfErr, subst}
+use Rattle.cert_check.proofs.Common.{◌≡◌, Result, Ok, Err, IfErr, subst, Judge, AfterLine}
 use Rattle.cert_check.specs.declared.reject.Why.{Why}
-use Rattle.cert_check.specs.declared.judge.Judge.{Judge}
-use Rattle.cert_check.specs.Private.Machine.{AfterLine}
 use Rattle.cert_check.specs.Private.Judging.{Takes}
 
 pub if_err_map : {A E : Type 0} (r : Result A E) (P Q : E → Type 0) → ((e : E) → P e → Q e) → IfErr r P → IfErr r Q

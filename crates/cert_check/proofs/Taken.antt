@@ -1,13 +1,7 @@
 -- What the checker answers over the lines that a reader gives.
-use Rattle.std.proofs.Common.{◌≡◌, ℕ, ◌≤◌, ◌⊎◌, inl, inr, List, ◌++◌, length, Option, None, Ok, ap, ◌∙◌, arith}
-use Rattle.go_points.specs.declared.Colour.{Colour}
-use Rattle.target_game.specs.State.{GameProblem}
-use Rattle.proof_cert.specs.Text.{lines}
+use Rattle.cert_check.proofs.Common.{◌≡◌, ℕ, ◌≤◌, ◌⊎◌, inl, inr, List, ◌++◌, length, Option, None, Ok, ap, ◌∙◌, arith, Colour, GameProblem, lines, Why, verdict, accepted, rejected, line_values, Answers, Accepts, RejectsAt}
 use Rattle.proof_cert.specs.Streamed.{Tells, reader_gives, streamed_of, LinesGivenOfReader}
-use Rattle.cert_check.specs.Body.{Why}
-use Rattle.cert_check.specs.Verdict.{verdict, accepted, rejected}
-use Rattle.cert_check.specs.Parts.{line_values}
-use Rattle.cert_check.specs.Checks.{Answers, Accepts, RejectsAt, ReadersJudged}
+use Rattle.cert_check.specs.Checks.{ReadersJudged}
 use Rattle.cert_check.proofs.Faults.{faults_stay}
 use Rattle.cert_check.proofs.Taking.{as_long}
 

@@ -1,18 +1,11 @@
 -- What is taken of a source of lines, and what a refusal says.
-use Rattle.std.proofs.Common.{◌≡◌, ℕ, suc, ◌+◌, arith, ◌⊎◌, inl, inr, List, [], ◌∷◌, ◌++◌, length, Option, Some, None, option_map, Result, Ok, Err, IfSome, OnSome, refl, sym, ap, ◌∙◌, subst, length-append}
-use Rattle.std.proofs.lemmas.List.{map-append}
-use Rattle.proof_cert.specs.Lines.{Line}
-use Rattle.proof_cert.specs.Stage.{line_value}
-use Rattle.proof_cert.specs.Given.{Gave, line_answer}
+use Rattle.cert_check.proofs.Common.{◌≡◌, ℕ, suc, ◌+◌, arith, ◌⊎◌, inl, inr, List, [], ◌∷◌, ◌++◌, length, Option, Some, None, option_map, Result, Ok, Err, IfSome, OnSome, refl, sym, ap, ◌∙◌, subst, length-append, map-append, Line, line_value, line_answer, SourceFault, Why, why_value, line_values, AsksTo}
+use Rattle.proof_cert.specs.Given.{Gave}
 use Rattle.proof_cert.proofs.Giving.{gave_more}
 use Rattle.proof_cert.specs.declared.line.Line as code
-use Rattle.proof_cert.specs.declared.source.SourceFault.{SourceFault}
 use Rattle.cert_check.specs.declared.reject.Why as stop
 use Rattle.cert_check.specs.declared.reject.Why.TheVariants as stops
-use Rattle.cert_check.specs.Body.{Why}
-use Rattle.cert_check.specs.Stage.{why_value}
-use Rattle.cert_check.specs.Parts.{line_values}
-use Rattle.cert_check.specs.Checks.{Took, Asked, AsksTo}
+use Rattle.cert_check.specs.Checks.{Took, Asked}
 
 module _ {S : Type 0} (gives : S → Result (Option Line) SourceFault → S → Type 0) (n : ℕ) (s : S) where
   pub took_more : (ls : List (Option code.Line)) (t u : S) (l : Option code.Line) → Took gives n s ls t → gives t (line_answer (option_map (line_value n) l)) u → Took gives n s (ls ++ l ∷ []) u

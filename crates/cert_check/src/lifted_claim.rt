@@ -107,7 +107,7 @@ pub fn lift(alloc: Global, checked: &Checked) -> Result<Certificate, Lift>
         return Err(Lift::Limit);
     }
     lifted_claims_are_right();
-    let Ok(body) = checked.certificate().main.copied(alloc) else {
+    let Ok(body) = checked.certificate().main.copy(alloc) else {
         return Err(Lift::Memory);
     };
     match claim_of_lemma(alloc, checked, had, absent, body) {

@@ -1,9 +1,7 @@
 -- Turns that were judged one by one.
-use Rattle.std.proofs.Common.{◌≡◌, List, [], ◌∷◌, ◌++◌, append_assoc, sym, ◌∙◌}
-use Rattle.go_points.specs.Ply.{Ply, ply_of}
-use Rattle.target_game.specs.State.{GameProblem}
-use Rattle.first_turns.specs.declared.found.Found.{Found}
-use Rattle.first_turns.specs.Judged.{AreJudged, IsJudged}
+use Rattle.first_turns.proofs.Common.{◌≡◌, List, [], ◌∷◌, ◌++◌, append_assoc, sym, ◌∙◌, ply_of, GameProblem, Found, AreJudged}
+use Rattle.go_points.specs.Ply.{Ply}
+use Rattle.first_turns.specs.Judged.{IsJudged}
 
 -- Of the turns those before the ones that are left have been judged.
 abbrev pub JudgedBefore : GameProblem → List Ply → List Ply → List Found → Type 0

@@ -1,25 +1,19 @@
 -- What is written for a request.
-use Rattle.std.proofs.Common.{◌≡◌, Bool, true, false, ℕ, List, Some, Result, Ok, Err, nat_lt, sym, ◌∙◌, ap, subst}
-use Rattle.std.specs.Prelude.{IfOk, string_bytes}
+use Rattle.first_turns.proofs.Common.{◌≡◌, ℕ, List, Some, Result, Ok, Err, sym, ◌∙◌, ap, subst, IfOk, string_bytes, legal_turns, GameProblem, start, Found, Later, AreJudged, AreLater, IsOutput}
+use Rattle.std.proofs.Common.{Bool, true, false, nat_lt}
 use Rattle.sgf_text.specs.Grammar.{Reads}
 use Rattle.sgf_text.specs.Trees.{GameTree}
-use Rattle.target_game.specs.Legal.{legal_turns}
-use Rattle.target_game.specs.State.{GameProblem, start}
 use Rattle.tsumego_problem.specs.Walk.{problem_within, history_limit}
 use Rattle.tool_parts.specs.Written.{end_of}
 use Rattle.tool_parts.specs.declared.output.Output.{Output}
 use Rattle.tool_parts.specs.declared.output.Output.TheVariants.{Record, Text}
 use Rattle.tool_parts.specs.declared.status.Status.TheVariants.{Refused}
-use Rattle.first_turns.specs.declared.found.Found.{Found}
-use Rattle.first_turns.specs.declared.line.Later.{Later}
 use Rattle.first_turns.specs.declared.line_solution.LineSolution.{LineSolution}
 use Rattle.first_turns.specs.declared.names.Names.{Names}
 use Rattle.first_turns.specs.declared.words.Form.{Form}
 use Rattle.first_turns.specs.declared.words.Form.TheVariants as forms
 use Rattle.first_turns.specs.declared.words.Request.{Request}
-use Rattle.first_turns.specs.Judged.{AreJudged}
-use Rattle.first_turns.specs.Line.{AreLater}
-use Rattle.first_turns.specs.Outputs.{AnswersText, IsInForm, IsLineSolution, IsList, IsListBy, IsListOf, IsOutput, names_of}
+use Rattle.first_turns.specs.Outputs.{AnswersText, IsInForm, IsLineSolution, IsList, IsListBy, IsListOf, names_of}
 use Rattle.first_turns.specs.Text.{short_list, long_list}
 
 -- a refusal is no answer

@@ -1,12 +1,7 @@
 -- Positions that are reached turn by turn.
-use Rattle.std.proofs.Common.{◌≡◌, List, [], ◌∷◌, ◌++◌, Option, None, Some, Result, Ok, Err, IfOk, IfSome, refl, sym, subst}
-use Rattle.go_points.specs.declared.Turn.{Turn}
-use Rattle.go_points.specs.Ply.{ply_of}
-use Rattle.target_game.specs.State.{GameProblem}
-use Rattle.first_turns.specs.declared.line.Later.{Later}
-use Rattle.first_turns.specs.declared.line.Position.{Position}
+use Rattle.first_turns.proofs.Common.{◌≡◌, List, [], ◌∷◌, ◌++◌, Option, Some, Result, Ok, Err, IfSome, refl, sym, subst, Turn, ply_of, GameProblem, Later, Position, AreAlong, IsReached, IsPosition, IsNext}
+use Rattle.std.proofs.Common.{None, IfOk}
 use Rattle.first_turns.specs.Judged.{IsProblemAfter}
-use Rattle.first_turns.specs.Line.{AreAlong, IsReached, IsPosition, IsNext}
 
 reached_more : (q : GameProblem) (turns : List Turn) (t : Turn) (m r : GameProblem)
     → IsReached q turns m → IsProblemAfter m (ply_of m.game.size t) r → IsReached q (turns ++ t ∷ []) r

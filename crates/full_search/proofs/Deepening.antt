@@ -1,12 +1,8 @@
 -- Full search depth by depth.
-use Rattle.std.proofs.Common.{◌≡◌, ℕ, ◌+◌, ◌-◌, ◌*◌, ◌/◌, ◌<◌, ◌≤◌, ◌⊎◌, inl, inr, false, IsTrue, arith}
+use Rattle.full_search.proofs.Common.{◌≡◌, ℕ, ◌+◌, ◌-◌, ◌*◌, ◌/◌, ◌<◌, ◌≤◌, ◌⊎◌, inl, inr, false, IsTrue, arith, Colour, GameState, wins, nodes, Node, node_count, rest, NeitherWins}
 use Rattle.std.proofs.Math.Nat.{mul-le-mul, mul-le-mul_left, lt-mul-div-succ}
-use Rattle.go_points.specs.declared.Colour.{Colour}
-use Rattle.target_game.specs.State.{GameState}
-use Rattle.target_game.specs.Wins.{wins, nodes}
-use Rattle.proof_cert.specs.Claim.{Node, node_count, max_nodes}
+use Rattle.proof_cert.specs.Claim.{max_nodes}
 use Rattle.full_search.specs.Decided.{NoneWithin, IsFirst}
-use Rattle.full_search.specs.Private.Shown.{rest, NeitherWins}
 use Rattle.full_search.proofs.Showing.{nodes_within}
 
 -- neither side wins within less than k turns, and each depth had no more steps than its tree has states

@@ -1,2 +1,3 @@
+pub mod Common
 pub mod Showing
 pub mod Deepening

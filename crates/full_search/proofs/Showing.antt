@@ -1,38 +1,33 @@
 -- What full search finds, turn by turn and depth by depth.
-use Rattle.std.proofs.Common.{◌≡◌, ℕ, zero, suc, ◌+◌, ◌<◌, ◌≤◌, ◌⊎◌, inl, inr, Bool, true, false, not, ◌&&◌, ◌||◌, IsTrue, List, [], ◌∷◌, ◌++◌, Option, Some, None, is_none, refl, sym, ◌∙◌, ap, subst, arith, sum_by, add-one, zero-le, append_assoc, nat_eq, Result, Ok, Err, OnOk}
+use Rattle.full_search.proofs.Common.{◌≡◌, ℕ, ◌+◌, ◌<◌, ◌≤◌, ◌⊎◌, inl, inr, false, IsTrue, [], ◌∷◌, None, refl, sym, ◌∙◌, ap, subst, arith, OnOk, Colour, opponent_of, ply_of, GameState, legal_turns, next, over, wins, nodes, Node, node_count, node_of, node_of_won, same_colour-eq, Tried, Shows, nodes_behind, NeitherWins, IsFound, IsTurnSeen}
+use Rattle.std.proofs.Common.{zero, suc, Bool, true, not, ◌&&◌, ◌||◌, List, ◌++◌, Option, Some, is_none, sum_by, add-one, zero-le, append_assoc, nat_eq, Result, Ok, Err}
 use Rattle.std.specs.List.{list_any, list_all}
 use Rattle.std.proofs.lemmas.List.Sums.{sum_by-cons, sum_by-append}
 use Rattle.std.proofs.lemmas.List.Folds.{list_any-append, list_all-append}
-use Rattle.go_points.specs.declared.Colour.{Colour}
 use Rattle.go_points.specs.declared.Colour.TheVariants.{Black, White}
 use Rattle.go_points.specs.declared.Turn.{Turn}
 use Rattle.go_points.specs.declared.Turn.TheVariants.{Pass}
-use Rattle.go_points.specs.Grid.{opponent_of, same_colour}
-use Rattle.go_points.specs.Ply.{Ply, pass, move, ply_of}
+use Rattle.go_points.specs.Grid.{same_colour}
+use Rattle.go_points.specs.Ply.{Ply, pass, move}
 use Rattle.go_points.proofs.Lists.{Member}
 use Rattle.go_turns.specs.History.{has_occurred}
-use Rattle.target_game.specs.State.{Game, GameState}
-use Rattle.target_game.specs.Legal.{legal, legal_turns}
-use Rattle.target_game.specs.Next.{next}
-use Rattle.target_game.specs.Over.{over}
-use Rattle.target_game.specs.Wins.{is_winner, some_or_each, wins, nodes}
+use Rattle.target_game.specs.State.{Game}
+use Rattle.target_game.specs.Legal.{legal}
+use Rattle.target_game.specs.Wins.{is_winner, some_or_each}
 use Rattle.target_game.proofs.Winning.{over_cases, wins_over, wins_none, wins_next, wins_by_turn, not_both, legal_member}
-use Rattle.proof_cert.specs.Claim.{Node, won, play, all, Branches, no_branch, branch, branch_turns, node_count, node_count_below, depth_of, depth_below}
-use Rattle.proof_cert.specs.Certificate.{node_of, replies_of}
+use Rattle.proof_cert.specs.Claim.{won, play, all, Branches, no_branch, branch, branch_turns, node_count_below, depth_of, depth_below}
+use Rattle.proof_cert.specs.Certificate.{replies_of}
 use Rattle.proof_cert.specs.declared.certificate.Node as code
 use Rattle.proof_cert.specs.declared.certificate.Node.TheVariants.{Won}
-use Rattle.proof_cert.proofs.Certificates.{node_of_won}
 use Rattle.proof_cert.proofs.ReadTrees.{joined, replies_pushed}
 use Rattle.cert_check.specs.Body.{main_body, is_to_move, is_open, result_of}
 use Rattle.cert_check.specs.Validity.{MayPlay, FitsNode, FitsBranches}
-use Rattle.cert_check.proofs.Game.{same_colour-eq, same_colour-refl}
+use Rattle.cert_check.proofs.Game.{same_colour-refl}
 use Rattle.cert_check.proofs.Members.{and_both, and_first, and_second}
 use Rattle.cert_check.proofs.Soundness.{game-next}
 use Rattle.full_search.specs.declared.search.Found.{Found}
 use Rattle.full_search.specs.declared.search.Found.TheVariants.{Wins, Open, OutOfSteps}
-use Rattle.full_search.specs.declared.search.Tried.{Tried}
-use Rattle.full_search.specs.Decided.{Shows}
-use Rattle.full_search.specs.Private.Shown.{nodes_behind, AllShow, NeitherWins, AreSeen, IsFound, IsWonBy, IsTurnSeen}
+use Rattle.full_search.specs.Private.Shown.{AllShow, AreSeen, IsWonBy}
 
 -- THE NUMBER OF STATES
 

@@ -1,11 +1,5 @@
 -- The points beside a point are passed one by one.
-use Rattle.std.proofs.Common.{◌≡◌, ℕ, ◌+◌, ◌<◌, ◌⊎◌, inl, inr, true, List, [], ◌∷◌, ◌++◌, length, map, take, drop, take-append-drop, get_or, refl, sym, ◌∙◌, ap, subst, arith}
-use Rattle.std.proofs.lemmas.Grind.{take_at_read}
-use Rattle.std.proofs.lemmas.List.{map-append}
-use Rattle.go_points.specs.Place.{Place}
-use Rattle.go_points.specs.Grid.{adjacent, neighbours}
-use Rattle.go_points.proofs.Cells.{member_neighbours}
-use Rattle.go_chains.specs.Private.Chains.{IsIn, total}
+use Rattle.go_chains.proofs.Common.{◌≡◌, ℕ, ◌+◌, ◌<◌, ◌⊎◌, inl, inr, true, List, [], ◌∷◌, ◌++◌, length, map, take, drop, take-append-drop, get_or, refl, sym, ◌∙◌, ap, subst, arith, take_at_read, map-append, Place, adjacent, neighbours, member_neighbours, IsIn, total}
 use Rattle.go_chains.proofs.Totals.{total_append}
 use Rattle.go_chains.proofs.Exchange.{in_append, in_left, in_right}
 use Rattle.go_chains.proofs.Counts.{in_member}

@@ -1,16 +1,7 @@
 -- Where every stone reached empty, one that does not any more stands at or beside a new stone.
-use Rattle.std.proofs.Common.{◌≡◌, ◌≢◌, ℕ, ◌+◌, ◌<◌, ◌≤◌, Bool, true, false, not, ◌&&◌, ◌⊎◌, inl, inr, None, is_none, List, [], ◌∷◌, refl, sym, ◌∙◌, ap, subst, arith}
-use Rattle.std.proofs.lemmas.Bool.{cases_eq, cases_lt}
-use Rattle.go_points.specs.declared.Cell.{Cell}
-use Rattle.go_points.specs.declared.Cell.TheVariants.{Empty}
-use Rattle.go_points.specs.Grid.{same_cell, adjacent, points, cell_at}
-use Rattle.go_points.specs.Reach.{reaches, IsPath, Reaches}
-use Rattle.go_points.specs.Liberty.{lacks_liberty, first_without_liberty}
-use Rattle.go_points.proofs.Lists.{and_false, not_false, none_found, true_or_false}
-use Rattle.go_points.proofs.Cells.{same_cell_eq, eq_same_cell, same_cell_false, points_member, adjacent_back, adjacent_on_board}
-use Rattle.go_points.proofs.Liberties.{first_none, lacks_empty}
-use Rattle.go_points.proofs.Paths.{reaches_path}
-use Rattle.go_chains.specs.Private.Chains.{LivesAround, LivesWhereNew}
+use Rattle.go_chains.proofs.Common.{◌≡◌, ◌≢◌, ℕ, ◌+◌, ◌<◌, ◌≤◌, Bool, true, false, not, ◌&&◌, ◌⊎◌, inl, inr, None, is_none, List, [], ◌∷◌, refl, sym, ◌∙◌, ap, subst, arith, cases_eq, cases_lt, Cell, Empty, same_cell, adjacent, points, cell_at, reaches, IsPath, Reaches, lacks_liberty, first_without_liberty, not_false, none_found, same_cell_eq, eq_same_cell, same_cell_false, points_member, adjacent_back, adjacent_on_board, first_none, lacks_empty, reaches_path, LivesAround}
+use Rattle.go_points.proofs.Lists.{and_false, true_or_false}
+use Rattle.go_chains.specs.Private.Chains.{LivesWhereNew}
 
 cell_or_not : (a b : Cell) → (a ≡ b) ⊎ (a ≢ b)
 cell_or_not a b = elim (true_or_false (same_cell a b)) [

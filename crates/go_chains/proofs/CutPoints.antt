@@ -1,14 +1,6 @@
 -- A stone that is no cut point is taken off, and the rest of its chain stays a chain.
-use Rattle.std.proofs.Common.{◌≡◌, ◌≢◌, ℕ, ◌+◌, ◌*◌, ◌<◌, ◌≤◌, true, false, cond, inl, inr, nat_eq, eq-eqb, List, [], ◌∷◌, length, slice_index, set, refl, sym, ◌∙◌, ap, subst, arith}
-use Rattle.std.proofs.lemmas.Bool.{cases_eq}
-use Rattle.std.proofs.lemmas.List.{get_or-set_same, get_or-set_other}
-use Rattle.go_points.specs.declared.TheConstants.{MAX_POINTS}
-use Rattle.go_points.specs.declared.Cell.{Cell}
-use Rattle.go_points.specs.declared.Cell.TheVariants.{Empty, Stone}
-use Rattle.go_points.specs.Grid.{same_cell, adjacent, neighbours, cell_at}
-use Rattle.go_points.proofs.Cells.{adjacent_on_board, adjacent_back, member_neighbours}
-use Rattle.go_chains.specs.Joined.{IsWay, Joined}
-use Rattle.go_chains.specs.Private.Chains.{nowhere, IsIn, Follows, Lists, HasCircle, HasCircles, HasCounts, IsClosed, Meet, IsNoCutPoint, touches, liberty_count, empties_beside}
+use Rattle.go_chains.proofs.Common.{◌≡◌, ◌≢◌, ℕ, ◌+◌, ◌*◌, ◌<◌, ◌≤◌, true, false, cond, inl, inr, nat_eq, eq-eqb, List, [], ◌∷◌, length, slice_index, set, refl, sym, ◌∙◌, ap, subst, arith, cases_eq, get_or-set_same, get_or-set_other, MAX_POINTS, Cell, Empty, Stone, same_cell, adjacent, neighbours, cell_at, adjacent_on_board, adjacent_back, member_neighbours, IsWay, Joined, nowhere, IsIn, Follows, Lists, HasCircle, HasCircles, HasCounts, IsClosed, Meet, touches, liberty_count, empties_beside}
+use Rattle.go_chains.specs.Private.Chains.{IsNoCutPoint}
 use Rattle.go_chains.proofs.Totals.{total_same}
 use Rattle.go_chains.proofs.Joins.{joined_holds, way_on}
 use Rattle.go_chains.proofs.Exchange.{follows_kept}

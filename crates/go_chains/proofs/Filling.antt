@@ -1,15 +1,5 @@
 -- A stone that was put down is joined with its neighbours one by one.
-use Rattle.std.proofs.Common.{◌≡◌, ◌≢◌, ℕ, ◌*◌, ◌<◌, ◌≤◌, true, cond, ◌⊎◌, inl, inr, List, [], length, slice_index, set, sym, ◌∙◌, ap, subst, arith}
-use Rattle.std.proofs.lemmas.Bool.{cases_eq}
-use Rattle.std.proofs.lemmas.List.{get_or-set_same, get_or-set_other}
-use Rattle.go_points.specs.declared.TheConstants.{MAX_POINTS}
-use Rattle.go_points.specs.declared.Colour.{Colour}
-use Rattle.go_points.specs.declared.Cell.{Cell}
-use Rattle.go_points.specs.declared.Cell.TheVariants.{Empty, Stone}
-use Rattle.go_points.specs.Grid.{same_cell, adjacent, neighbours, points, cell_at}
-use Rattle.go_points.proofs.Cells.{adjacent_on_board, adjacent_back, eq_same_cell, neighbours_member, points_member}
-use Rattle.go_chains.specs.Joined.{Joined}
-use Rattle.go_chains.specs.Private.Chains.{nowhere, IsIn, touches, liberty_count, AreFull, HasCircles, HasCounts, IsSettled, KeepsTogether, KeepsOthers}
+use Rattle.go_chains.proofs.Common.{◌≡◌, ◌≢◌, ℕ, ◌*◌, ◌<◌, ◌≤◌, true, cond, ◌⊎◌, inl, inr, List, [], length, slice_index, set, sym, ◌∙◌, ap, subst, arith, cases_eq, get_or-set_same, get_or-set_other, MAX_POINTS, Colour, Cell, Empty, Stone, same_cell, adjacent, neighbours, points, cell_at, adjacent_on_board, adjacent_back, eq_same_cell, neighbours_member, points_member, Joined, nowhere, IsIn, touches, liberty_count, AreFull, HasCircles, HasCounts, IsSettled, KeepsTogether, KeepsOthers}
 use Rattle.go_chains.proofs.Joins.{joined_self, joined_on, joined_back, joined_beside}
 use Rattle.go_chains.proofs.Totals.{total_from}
 use Rattle.go_chains.proofs.Counts.{member_in}

@@ -1,17 +1,5 @@
 -- Whether each stone reaches empty, from the counts.
-use Rattle.std.proofs.Common.{◌≡◌, ◌≢◌, ℕ, ◌*◌, ◌<◌, ◌≤◌, ◌⊎◌, inl, inr, Bool, true, false, not, ◌&&◌, nat_eq, eqb-true, eq-eqb, None, is_none, List, slice_index, refl, sym, ◌∙◌, ap, arith}
-use Rattle.std.proofs.lemmas.Bool.{cases_eq}
-use Rattle.go_points.specs.declared.TheConstants.{MAX_POINTS}
-use Rattle.go_points.specs.declared.Cell.{Cell}
-use Rattle.go_points.specs.declared.Cell.TheVariants.{Empty}
-use Rattle.go_points.specs.Grid.{points, cell_at}
-use Rattle.go_points.specs.Reach.{reaches}
-use Rattle.go_points.specs.Liberty.{lacks_liberty, first_without_liberty}
-use Rattle.go_points.proofs.Cells.{same_cell_false, points_member}
-use Rattle.go_points.proofs.Lists.{none_found, not_false}
-use Rattle.go_points.proofs.Liberties.{first_none, lacks_empty}
-use Rattle.go_points.proofs.Paths.{reaches_path}
-use Rattle.go_chains.specs.Private.Chains.{nowhere, liberty_count, IsSettled, IsBoard, LacksLiberties, TellsLiberties}
+use Rattle.go_chains.proofs.Common.{◌≡◌, ◌≢◌, ℕ, ◌*◌, ◌<◌, ◌≤◌, ◌⊎◌, inl, inr, Bool, true, false, not, ◌&&◌, nat_eq, eqb-true, eq-eqb, None, is_none, List, slice_index, refl, sym, ◌∙◌, ap, arith, cases_eq, MAX_POINTS, Cell, Empty, points, cell_at, reaches, lacks_liberty, first_without_liberty, same_cell_false, points_member, none_found, not_false, first_none, lacks_empty, reaches_path, nowhere, liberty_count, IsSettled, IsBoard, LacksLiberties, TellsLiberties}
 use Rattle.go_chains.proofs.Counts.{counted_reaches, reaches_counted}
 use Rattle.go_chains.proofs.Boards.{heads_joined}
 use Rattle.go_chains.proofs.Playing.{board_of}

@@ -1,23 +1,11 @@
 -- Chains without liberty: taking one off gives no other one none.
-use Rattle.std.proofs.Common.{◌≡◌, ◌≢◌, ℕ, ◌+◌, ◌*◌, ◌<◌, ◌≤◌, Bool, true, false, cond, ◌⊎◌, inl, inr, nat_eq, List, length, slice_index, refl, sym, ◌∙◌, ap, subst, arith}
-use Rattle.std.proofs.lemmas.Bool.{cases_eq}
-use Rattle.go_points.specs.declared.TheConstants.{MAX_POINTS}
-use Rattle.go_points.specs.declared.Colour.{Colour}
-use Rattle.go_points.specs.declared.Cell.{Cell}
-use Rattle.go_points.specs.declared.Cell.TheVariants.{Empty, Stone}
-use Rattle.go_points.specs.Grid.{same_cell, adjacent, neighbours, points, cell_at}
-use Rattle.go_points.specs.Reach.{Reaches}
-use Rattle.go_points.specs.Clear.{clear}
-use Rattle.go_points.specs.Private.Stones.{stone_count}
-use Rattle.go_points.proofs.Cells.{same_cell_eq, eq_same_cell, member_points, neighbours_member, adjacent_on_board}
-use Rattle.go_chains.specs.Joined.{Joined}
-use Rattle.go_chains.specs.Private.Chains.{nowhere, IsIn, touches, liberty_count, HasCircles, IsSettled, LacksLiberties, LeavesLiberties}
+use Rattle.go_chains.proofs.Common.{◌≡◌, ◌≢◌, ℕ, ◌+◌, ◌*◌, ◌<◌, ◌≤◌, Bool, true, false, cond, ◌⊎◌, inl, inr, nat_eq, List, length, slice_index, refl, sym, ◌∙◌, ap, subst, arith, cases_eq, MAX_POINTS, Colour, Cell, Empty, Stone, same_cell, adjacent, neighbours, points, cell_at, Reaches, clear, stone_count, same_cell_eq, eq_same_cell, neighbours_member, adjacent_on_board, Joined, nowhere, IsIn, touches, liberty_count, HasCircles, IsSettled, LacksLiberties, LeavesLiberties, clear_none}
+use Rattle.go_points.proofs.Cells.{member_points}
 use Rattle.go_chains.proofs.Joins.{joined_holds}
 use Rattle.go_chains.proofs.Totals.{total_le_within}
 use Rattle.go_chains.proofs.Counts.{member_in, in_member, touches_same, touches_to, counted_reaches}
 use Rattle.go_chains.proofs.Merging.{off}
 use Rattle.go_chains.proofs.Boards.{heads_joined}
-use Rattle.go_points.proofs.Quiet.{clear_none}
 
 -- a stone has the colour of its head
 pub head_holds : (n : ℕ) (c : List Cell) (heads next : List ℕ) (p h : ℕ) → n * n ≤ MAX_POINTS → HasCircles n c heads next → p < n * n → h < n * n → slice_index heads p ≡ h → cell_at c p ≡ cell_at c h

@@ -1,19 +1,7 @@
 -- What a move leaves, from its three steps.
-use Rattle.std.proofs.Common.{◌≡◌, ◌≢◌, ℕ, ◌*◌, ◌<◌, ◌≤◌, ◌⊎◌, inl, inr, List, length, slice_index, set, refl, sym, ◌∙◌, ap, subst, arith}
-use Rattle.std.proofs.lemmas.Bool.{cases_eq}
-use Rattle.std.proofs.lemmas.List.{get_or-set_same, get_or-set_other}
-use Rattle.go_points.specs.declared.TheConstants.{MAX_POINTS}
-use Rattle.go_points.specs.declared.Colour.{Colour}
-use Rattle.go_points.specs.declared.Cell.{Cell}
-use Rattle.go_points.specs.declared.Cell.TheVariants.{Empty, Stone}
-use Rattle.go_points.specs.Grid.{opponent_of, same_cell, cell_at}
-use Rattle.go_points.specs.Reach.{Reaches}
-use Rattle.go_points.specs.Clear.{clear}
-use Rattle.go_points.proofs.Cells.{opponent_ne, adjacent_on_board}
-use Rattle.go_points.proofs.Clearing.{one_or_other, cleared_reaches}
-use Rattle.go_chains.specs.Private.Chains.{nowhere, touches, liberty_count, IsSettled, IsBoard, LacksLiberties, LeavesLiberties, KeepsOthers}
+use Rattle.go_chains.proofs.Common.{◌≡◌, ◌≢◌, ℕ, ◌*◌, ◌<◌, ◌≤◌, ◌⊎◌, inl, inr, List, length, slice_index, set, refl, sym, ◌∙◌, ap, subst, arith, cases_eq, get_or-set_same, get_or-set_other, MAX_POINTS, Colour, Cell, Empty, Stone, opponent_of, same_cell, cell_at, Reaches, clear, opponent_ne, adjacent_on_board, one_or_other, nowhere, touches, liberty_count, IsSettled, IsBoard, LacksLiberties, LeavesLiberties, KeepsOthers, clear_none}
+use Rattle.go_points.proofs.Clearing.{cleared_reaches}
 use Rattle.go_chains.proofs.Counts.{touches_same, touches_to, count_filled, reaches_counted}
-use Rattle.go_points.proofs.Quiet.{clear_none}
 use Rattle.go_chains.proofs.Leaving.{head_holds, stone_reaches}
 
 same_stone : (k j : Colour) (a : Cell) → a ≡ Stone k → a ≡ Stone j → k ≡ j

@@ -1,22 +1,10 @@
 -- When a move keeps its stone and changes no other point, from the counts before it.
-use Rattle.std.proofs.Common.{◌≡◌, ◌≢◌, ℕ, ◌+◌, ◌*◌, ◌<◌, ◌≤◌, ◌⊎◌, inl, inr, ◌↔◌, Bool, true, false, not, ◌&&◌, IsTrue, nat_eq, eqb-true, eq-eqb, cond, nat_lt, ltb-true, ltb-false, List, [], ◌∷◌, length, slice_index, set, refl, sym, ◌∙◌, ap, subst, arith}
-use Rattle.std.specs.List.{list_any}
-use Rattle.std.proofs.lemmas.Bool.{cases_eq, false_from_ne_true}
-use Rattle.std.proofs.lemmas.List.{get_or-set_same, get_or-set_other, get_or_past}
-use Rattle.go_points.specs.declared.TheConstants.{MAX_POINTS}
-use Rattle.go_points.specs.declared.Colour.{Colour}
-use Rattle.go_points.specs.declared.Cell.{Cell}
-use Rattle.go_points.specs.declared.Cell.TheVariants.{Empty, Stone}
-use Rattle.go_points.specs.Grid.{opponent_of, same_cell, differ_by_one, row_of, column_of, adjacent, neighbours, cell_at}
-use Rattle.go_points.specs.Reach.{IsPath, Reaches}
-use Rattle.go_points.specs.Move.{after_move}
-use Rattle.go_points.proofs.Lists.{Member, and_left, and_right, and_both, or_cases, or_left, or_right, not_true, any_from, any_to}
-use Rattle.go_points.proofs.Cells.{same_cell_eq, eq_same_cell, adjacent_on_board, adjacent_back, member_neighbours, neighbours_member, opponent_ne}
-use Rattle.go_points.proofs.Clearing.{EveryStoneReaches, one_or_other, on_or_off}
+use Rattle.go_chains.proofs.Common.{◌≡◌, ◌≢◌, ℕ, ◌+◌, ◌*◌, ◌<◌, ◌≤◌, ◌⊎◌, inl, inr, ◌↔◌, Bool, true, false, not, ◌&&◌, IsTrue, nat_eq, eqb-true, eq-eqb, cond, nat_lt, ltb-true, ltb-false, List, [], ◌∷◌, length, slice_index, set, refl, sym, ◌∙◌, ap, subst, arith, list_any, cases_eq, get_or-set_same, get_or-set_other, get_or_past, MAX_POINTS, Colour, Cell, Empty, Stone, opponent_of, same_cell, adjacent, neighbours, cell_at, IsPath, Reaches, after_move, Member, and_left, and_right, and_both, or_cases, or_left, or_right, any_to, same_cell_eq, eq_same_cell, adjacent_on_board, adjacent_back, member_neighbours, neighbours_member, opponent_ne, one_or_other, IsWay, Joined, nowhere, touches, empties_beside, liberty_count, HasCircles, IsBoard, has_more, loses_last, lets_stay}
+use Rattle.std.proofs.lemmas.Bool.{false_from_ne_true}
+use Rattle.go_points.specs.Grid.{differ_by_one, row_of, column_of}
+use Rattle.go_points.proofs.Lists.{not_true, any_from}
+use Rattle.go_points.proofs.Clearing.{EveryStoneReaches, on_or_off}
 use Rattle.go_points.proofs.Quiet.{quiet_reaches}
-use Rattle.go_chains.specs.Joined.{IsWay, Joined}
-use Rattle.go_chains.specs.Private.Chains.{nowhere, touches, empties_beside, liberty_count, HasCircles, IsBoard}
-use Rattle.go_chains.specs.Private.Quiet.{has_more, loses_last, lets_stay}
 use Rattle.go_chains.proofs.Joins.{joined_self, joined_on, joined_beside, reaches_beside}
 use Rattle.go_chains.proofs.Counts.{in_member, is_head, touches_from, touches_to, count_from, count_to, count_filled}
 use Rattle.go_chains.proofs.Totals.{total_same}

@@ -1,6 +1,5 @@
 -- A test of some element, as a loop goes over the list.
-use Rattle.std.proofs.Common.{◌≡◌, ℕ, zero, suc, ◌<◌, Bool, true, false, List, [], ◌∷◌, map, length, get_or, refl, sym, arith}
-use Rattle.std.specs.List.{list_any}
+use Rattle.go_points.proofs.Common.{◌≡◌, ℕ, zero, suc, ◌<◌, Bool, true, false, List, [], ◌∷◌, map, length, get_or, refl, sym, arith, list_any}
 use Rattle.go_points.proofs.Lists.{or_left, or_right}
 
 module _ {X Y : Type 0} (test : Y → Bool) (f : X → Y) where

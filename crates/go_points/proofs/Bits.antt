@@ -1,12 +1,7 @@
 -- One bit of some words is written, and the others stay.
-use Rattle.std.proofs.Common.{◌≡◌, ◌≢◌, ℕ, zero, suc, ◌-◌, ◌*◌, ◌/◌, ◌%◌, ◌^◌, ◌<◌, ◌≤◌, Bool, true, false, nat_eq, bit_and, bit_or, List, length, length-set, get_or, set, replicate, refl, sym, ◌∙◌, ap, subst, inl, inr, arith}
-use Rattle.std.specs.Int.{bit_at, w64}
-use Rattle.std.proofs.lemmas.Bool.{cases_eq}
-use Rattle.std.proofs.lemmas.Nat.{div-add-mod', mod_below, and_le_l, or_lt}
-use Rattle.std.proofs.lemmas.Nat.Bits.{shr_and_one, bit_at-zero, bit_at_set_same, bit_at_set_other, bit_at_clear_same, bit_at_clear_other}
-use Rattle.std.proofs.lemmas.List.{length-replicate, get_or-set_same, get_or-set_other}
-use Rattle.go_points.specs.Points.{has_bit}
-use Rattle.go_points.specs.Private.Words.{IsWords}
+use Rattle.go_points.proofs.Common.{◌≡◌, ◌≢◌, ℕ, zero, suc, ◌-◌, ◌*◌, ◌/◌, ◌%◌, ◌^◌, ◌<◌, ◌≤◌, Bool, true, false, nat_eq, bit_and, bit_or, List, length, length-set, get_or, set, replicate, refl, sym, ◌∙◌, ap, subst, inl, inr, arith, bit_at, w64, cases_eq, div-add-mod', mod_below, bit_at-zero, length-replicate, get_or-set_same, get_or-set_other, has_bit, IsWords}
+use Rattle.std.proofs.lemmas.Nat.{and_le_l, or_lt}
+use Rattle.std.proofs.lemmas.Nat.Bits.{shr_and_one, bit_at_set_same, bit_at_set_other, bit_at_clear_same, bit_at_clear_other}
 
 other_bit : (m k : ℕ) → m ≢ k → m / 64 ≡ k / 64 → m % 64 ≡ k % 64 → ⊥
 other_bit m k other row col = other (omega (arith, row, col, div-add-mod' m 64, div-add-mod' k 64))

@@ -1,15 +1,10 @@
 -- Two colourings compared: up to a point they hold the same, and the first difference decides.
-use Rattle.std.proofs.Common.{◌≡◌, ◌≢◌, ℕ, zero, suc, ◌+◌, ◌<◌, ◌≤◌, ◌⊎◌, Bool, true, false, nat_eq, eq-eqb, eqb-true, List, [], ◌∷◌, length, inl, inr, refl, sym, ◌∙◌, ap, arith, Ordering, Less, Equal, Greater}
-use Rattle.std.specs.Ordering.{nat_cmp, ordering_then}
+use Rattle.go_points.proofs.Common.{◌≡◌, ◌≢◌, ℕ, zero, suc, ◌+◌, ◌<◌, ◌≤◌, ◌⊎◌, Bool, true, false, nat_eq, eq-eqb, eqb-true, List, [], ◌∷◌, length, inl, inr, refl, sym, ◌∙◌, ap, arith, Less, Equal, Greater, nat_cmp, pointwise, pointwise_decides, cases_lt, Cell, cell_at, side_of, same_cells, IsPacked, packed_cells, packed_side, stone_words, black_words, stones_back, blacks_back, cell_code}
+use Rattle.std.proofs.Common.{Ordering}
+use Rattle.std.specs.Ordering.{ordering_then}
 use Rattle.std.specs.Cmp.{nat_cmp_is}
-use Rattle.std.specs.Cmp.Lexicographic.{pointwise, pointwise_decides}
-use Rattle.std.proofs.lemmas.Bool.{cases_lt}
-use Rattle.go_points.specs.declared.Cell.{Cell}
-use Rattle.go_points.specs.Grid.{cell_at, side_of, same_cells}
 use Rattle.go_points.specs.Equal.{same_cells_eq, same_cells_refl}
 use Rattle.go_points.specs.Order.{text_order}
-use Rattle.go_points.specs.Packed.{IsPacked, packed_cells, packed_side, stone_words, black_words, stones_back, blacks_back}
-use Rattle.go_points.specs.Text.{cell_code}
 
 -- The cells below a number are the same.
 pub record SameBelow (c d : List Cell) (i : ℕ) : Type 0 where

@@ -1,19 +1,10 @@
 -- The bits of some words, counted word by word; and the first of them.
-use Rattle.std.proofs.Common.{◌≡◌, ℕ, zero, suc, ◌+◌, ◌-◌, ◌*◌, ◌/◌, ◌%◌, ◌^◌, ◌<◌, ◌≤◌, Bool, true, false, cond, nat_eq, count_ones, List, ◌∷◌, ◌++◌, filter, length, get_or, Some, None, refl, sym, ◌∙◌, ap, ap₂, inl, inr, arith}
-use Rattle.std.specs.List.{range_with_len, count_by}
-use Rattle.std.specs.Int.{bit_at, w64, trailing_zeros}
-use Rattle.std.proofs.lemmas.Bool.{cases_lt, true≢false}
-use Rattle.std.proofs.lemmas.Nat.{div-add-mod', mod_below}
-use Rattle.std.proofs.lemmas.Nat.Bits.{bit_at-zero, bit_at-trailing_zeros}
+use Rattle.go_points.proofs.Common.{◌≡◌, ℕ, zero, suc, ◌+◌, ◌-◌, ◌*◌, ◌/◌, ◌%◌, ◌^◌, ◌<◌, ◌≤◌, Bool, true, false, cond, nat_eq, List, ◌∷◌, ◌++◌, filter, length, get_or, Some, None, refl, sym, ◌∙◌, ap, ap₂, inl, inr, arith, range_with_len, count_by, bit_at, w64, trailing_zeros, cases_lt, true≢false, div-add-mod', mod_below, bit_at-zero, bit_at-trailing_zeros, length-map, length-range_with_len, points, place_of, has_bit, places_that, first_place, IsWords, bit_there}
+use Rattle.std.proofs.Common.{count_ones}
 use Rattle.std.proofs.lemmas.Simd.{ones-mask_l}
-use Rattle.std.proofs.lemmas.List.{length-map}
 use Rattle.std.proofs.lemmas.List.Sums.{sum_by-append, sum_by-cons, length-filter, count_by-le-length}
-use Rattle.std.proofs.lemmas.List.FromFn.{length-range_with_len}
-use Rattle.go_points.specs.Grid.{points}
-use Rattle.go_points.specs.Place.{place_of}
-use Rattle.go_points.specs.Points.{has_bit, places_that, first_place}
-use Rattle.go_points.specs.Private.Words.{IsWords, word_that}
-use Rattle.go_points.specs.Private.Inverses.{word_back, bit_there}
+use Rattle.go_points.specs.Private.Words.{word_that}
+use Rattle.go_points.specs.Private.Inverses.{word_back}
 use Rattle.go_points.proofs.PlaceSets.{places_first, places_none}
 
 range_split : (a m k : ℕ) → range_with_len a (m + k) ≡ range_with_len a m ++ range_with_len (a + m) k

@@ -1,11 +1,5 @@
 -- The least point whose stone does not reach empty.
-use Rattle.std.proofs.Common.{◌≡◌, ℕ, zero, suc, ◌+◌, ◌*◌, ◌<◌, ◌≤◌, ◌⊎◌, inl, inr, Bool, true, false, not, ◌&&◌, cond, find, is_none, replicate, Option, Some, None, List, refl, ◌∙◌, ap, arith}
-use Rattle.std.specs.List.{range_with_len}
-use Rattle.go_points.specs.declared.Cell.{Cell}
-use Rattle.go_points.specs.declared.Cell.TheVariants.{Empty}
-use Rattle.go_points.specs.Grid.{same_cell, points, cell_at}
-use Rattle.go_points.specs.Reach.{reaches}
-use Rattle.go_points.specs.Liberty.{lacks_liberty, first_without_liberty}
+use Rattle.go_points.proofs.Common.{◌≡◌, ℕ, zero, suc, ◌+◌, ◌*◌, ◌<◌, ◌≤◌, ◌⊎◌, inl, inr, Bool, true, false, not, ◌&&◌, cond, find, is_none, replicate, Option, Some, None, List, refl, ◌∙◌, ap, arith, range_with_len, Cell, Empty, same_cell, points, cell_at, reaches, lacks_liberty, first_without_liberty}
 use Rattle.go_points.proofs.Lists.{find_none}
 use Rattle.go_points.proofs.Cells.{member_points}
 

@@ -1,8 +1,5 @@
 -- What a set holds after one place is put in or taken out.
-use Rattle.std.proofs.Common.{◌≡◌, Bool, true, false, cond, not, ◌&&◌, ◌||◌, List, [], ◌∷◌, refl, sym, ◌∙◌, ap, ap₂}
-use Rattle.go_points.specs.Place.{Place}
-use Rattle.go_points.specs.Points.{same_place, is_before, holds_place, with_place, without_place}
-use Rattle.go_points.specs.Equal.{same_place_decides}
+use Rattle.go_points.proofs.Common.{◌≡◌, Bool, true, false, cond, not, ◌&&◌, ◌||◌, List, [], ◌∷◌, refl, sym, ◌∙◌, ap, ap₂, Place, same_place, is_before, holds_place, with_place, without_place, same_place_decides}
 
 or_twice : (a b : Bool) → (a || b) ≡ (a || (a || b))
 or_twice true b = refl

@@ -1,14 +1,6 @@
 -- A move, from its three steps.
-use Rattle.std.proofs.Common.{◌≡◌, ℕ, ◌+◌, ◌*◌, List, None, length, set, ◌∙◌, ap, arith}
-use Rattle.go_points.specs.declared.Colour.{Colour}
-use Rattle.go_points.specs.declared.Cell.{Cell}
-use Rattle.go_points.specs.declared.Cell.TheVariants.{Stone}
-use Rattle.go_points.specs.Grid.{opponent_of, side_of}
-use Rattle.go_points.specs.Clear.{clear}
-use Rattle.go_points.specs.Liberty.{first_without_liberty}
-use Rattle.go_points.specs.Move.{after_move, taken_by_move}
+use Rattle.go_points.proofs.Common.{◌≡◌, ℕ, ◌+◌, ◌*◌, List, None, length, set, ◌∙◌, ap, arith, Colour, Cell, Stone, opponent_of, side_of, clear, first_without_liberty, after_move, taken_by_move, stone_count}
 use Rattle.go_points.proofs.Clearing.{moves_leave_liberties}
-use Rattle.go_points.specs.Private.Stones.{stone_count}
 use Rattle.go_points.proofs.Liberties.{none_is}
 use Rattle.go_points.proofs.Taken.{taken_count}
 

@@ -1,18 +1,6 @@
 -- A colouring of at most 19 rows says the same in its first words.
-use Rattle.std.proofs.Common.{◌≡◌, ℕ, ◌+◌, ◌*◌, ◌/◌, ◌%◌, ◌<◌, ◌≤◌, ◌^◌, false, nat_eq, List, length, length-set, get_or, set, replicate, sym, ◌∙◌, ap, ap₂, subst, inl, inr, mul-le-mul, arith}
-use Rattle.std.proofs.lemmas.Bool.{cases_eq, cases_lt}
-use Rattle.std.proofs.lemmas.List.{ext_get_or, get_or_past, get_or-set_same, get_or-set_other, length-replicate}
-use Rattle.std.proofs.lemmas.List.FromFn.{get_or-map-range_with_len, length-map-range_with_len}
-use Rattle.std.proofs.lemmas.Nat.{div-add-mod'}
-use Rattle.std.proofs.lemmas.Nat.Bits.{bit_at-zero}
-use Rattle.std.specs.Int.{bit_at}
-use Rattle.go_points.specs.declared.point_bits.TheConstants.{NARROW_SIZE}
-use Rattle.go_points.specs.declared.Cell.TheVariants.{Empty}
-use Rattle.go_points.specs.Points.{has_bit}
-use Rattle.go_points.specs.Private.Words.{word_count, IsWords}
-use Rattle.go_points.specs.Packed.{IsPacked, cell_of_bits, packed_cells, packed_length, packed_at}
+use Rattle.go_points.proofs.Common.{◌≡◌, ℕ, ◌+◌, ◌*◌, ◌/◌, ◌%◌, ◌<◌, ◌≤◌, ◌^◌, false, nat_eq, List, length, length-set, get_or, set, replicate, sym, ◌∙◌, ap, ap₂, subst, inl, inr, mul-le-mul, arith, cases_eq, cases_lt, ext_get_or, get_or_past, get_or-set_same, get_or-set_other, length-replicate, get_or-map-range_with_len, length-map-range_with_len, div-add-mod', bit_at-zero, bit_at, NARROW_SIZE, Empty, has_bit, word_count, IsWords, IsPacked, cell_of_bits, packed_cells, packed_length, packed_at, narrow_count, first_words, IsNarrow}
 use Rattle.go_points.proofs.Bits.{zeros}
-use Rattle.go_points.specs.Private.Narrow.{narrow_count, first_words, IsNarrow}
 
 -- words that are the same at a place say the same of its bits, and none past their end says anything
 same_bit : (v w : List ℕ) (i : ℕ) → get_or v (i / 64) 0 ≡ get_or w (i / 64) 0 → has_bit v i ≡ has_bit w i

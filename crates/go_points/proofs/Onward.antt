@@ -1,17 +1,5 @@
 -- The first bit of some words from a bit on, and the first place of a set from a place on.
-use Rattle.std.proofs.Common.{◌≡◌, ℕ, ◌+◌, ◌-◌, ◌*◌, ◌/◌, ◌%◌, ◌^◌, ◌<◌, ◌≤◌, Bool, true, false, ◌||◌, nat_eq, List, [], ◌∷◌, get_or, Option, Some, None, refl, sym, ◌∙◌, ap, subst, inl, inr, arith}
-use Rattle.std.specs.List.{All}
-use Rattle.std.specs.Int.{bit_at, w64, trailing_zeros}
-use Rattle.std.proofs.lemmas.Bool.{cases_lt, true≢false}
-use Rattle.std.proofs.lemmas.Nat.{div-add-mod', shr-shr, shr_le, div-mul-add, mod-mul-add}
-use Rattle.std.proofs.lemmas.List.Elements.{All-head, All-tail}
-use Rattle.std.proofs.lemmas.Nat.Bits.{bit_at-zero, bit_at-trailing_zeros, bit_at_above}
-use Rattle.go_points.specs.declared.TheConstants.{MAX_SIZE}
-use Rattle.go_points.specs.Place.{Place, IsOn, place_of, number_of}
-use Rattle.go_points.specs.Equal.{same_place_decides}
-use Rattle.go_points.specs.Points.{has_bit, holds_place, is_before, places_that, same_place, IsFirstFrom, IsFirstAfter}
-use Rattle.go_points.specs.Private.Words.{IsWords}
-use Rattle.go_points.specs.Private.Inverses.{bit_there, holds_that}
+use Rattle.go_points.proofs.Common.{◌≡◌, ℕ, ◌+◌, ◌-◌, ◌*◌, ◌/◌, ◌%◌, ◌^◌, ◌<◌, ◌≤◌, Bool, true, false, ◌||◌, nat_eq, List, [], ◌∷◌, get_or, Option, Some, None, refl, sym, ◌∙◌, ap, subst, inl, inr, arith, All, bit_at, w64, trailing_zeros, cases_lt, true≢false, div-add-mod', shr-shr, shr_le, div-mul-add, mod-mul-add, All-head, All-tail, bit_at-zero, bit_at-trailing_zeros, bit_at_above, MAX_SIZE, Place, IsOn, place_of, number_of, same_place_decides, has_bit, holds_place, is_before, places_that, same_place, IsFirstFrom, IsFirstAfter, IsWords, bit_there, holds_that}
 use Rattle.go_points.proofs.PlaceSets.{before, not_before}
 
 -- the bits from a on, up to b, are not set

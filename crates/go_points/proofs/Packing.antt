@@ -1,16 +1,7 @@
 -- What the words of a colouring say of it: its size, each cell, and one cell written.
-use Rattle.std.proofs.Common.{◌≡◌, ◌≢◌, ℕ, zero, suc, ◌*◌, ◌<◌, ◌≤◌, Bool, false, not, List, length, length-set, get_or, set, replicate, inl, inr, refl, sym, ◌∙◌, ap, ap₂, subst, mul-le-mul, arith}
-use Rattle.std.proofs.lemmas.Bool.{cases_eq}
-use Rattle.std.proofs.lemmas.List.{ext_get_or, get_or-set_same, get_or-set_other, length-replicate}
-use Rattle.go_points.specs.declared.TheConstants.{MAX_SIZE, MAX_POINTS}
-use Rattle.go_points.specs.declared.Cell.{Cell}
-use Rattle.go_points.specs.declared.Cell.TheVariants.{Empty, Stone}
-use Rattle.go_points.specs.declared.Colour.TheVariants.{Black, White}
-use Rattle.go_points.specs.Grid.{cell_at, same_cell, side_of, IsColouring}
-use Rattle.go_points.specs.Place.{Place, IsOn, number_of}
-use Rattle.go_points.specs.Points.{has_bit}
-use Rattle.go_points.specs.Private.Words.{word_count, IsWords}
-use Rattle.go_points.specs.Packed.{IsPacked, cell_of_bits, is_stone, is_black, packed_cell, packed_cells, packed_side, packed_length, packed_at}
+use Rattle.go_points.proofs.Common.{◌≡◌, ◌≢◌, ℕ, zero, suc, ◌*◌, ◌<◌, ◌≤◌, Bool, false, not, List, length, length-set, get_or, set, replicate, inl, inr, refl, sym, ◌∙◌, ap, ap₂, subst, mul-le-mul, arith, cases_eq, ext_get_or, get_or-set_same, get_or-set_other, length-replicate, MAX_SIZE, MAX_POINTS, Cell, Empty, Stone, Black, White, cell_at, same_cell, side_of, Place, IsOn, number_of, has_bit, word_count, IsWords, IsPacked, cell_of_bits, is_stone, is_black, packed_cells, packed_side, packed_length, packed_at}
+use Rattle.go_points.specs.Grid.{IsColouring}
+use Rattle.go_points.specs.Packed.{packed_cell}
 use Rattle.go_points.proofs.Bits.{no_bit, words_of_zeros}
 use Rattle.go_points.proofs.Sides.{number_below}
 

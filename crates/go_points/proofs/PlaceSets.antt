@@ -1,15 +1,12 @@
 -- The places that pass a test, as a set: with one more, with one less, the first, and their order.
-use Rattle.std.proofs.Common.{◌≡◌, ◌≢◌, ℕ, zero, suc, ◌+◌, ◌*◌, ◌/◌, ◌%◌, ◌<◌, ◌≤◌, Bool, true, false, cond, not, ◌&&◌, ◌||◌, nat_eq, nat_lt, eqb-true, eq-eqb, List, [], ◌∷◌, map, filter, Some, refl, sym, ◌∙◌, ap, ap₂, subst, inl, inr, ◌⊎◌, arith}
-use Rattle.std.specs.List.{range_with_len, All, AllPairs}
+use Rattle.go_points.proofs.Common.{◌≡◌, ◌≢◌, ℕ, zero, suc, ◌+◌, ◌*◌, ◌/◌, ◌%◌, ◌<◌, ◌≤◌, Bool, true, false, cond, not, ◌&&◌, ◌||◌, nat_eq, nat_lt, eqb-true, eq-eqb, List, [], ◌∷◌, map, filter, Some, refl, sym, ◌∙◌, ap, ap₂, subst, inl, inr, ◌⊎◌, arith, range_with_len, All, cases_eq, lt-ltb, false_from_ne_true, div-add-mod', div_below, mod_below, All-head, All-tail, MAX_SIZE, points, Place, IsOn, place_of, same_place, is_before, with_place, without_place, first_place, places_that}
+use Rattle.std.specs.List.{AllPairs}
 use Rattle.std.specs.Bool.{IsTrue}
-use Rattle.std.proofs.lemmas.Bool.{cases_eq, lt-ltb, false_from_ne_true, ltb-true}
-use Rattle.std.proofs.lemmas.Nat.{div-add-mod', div_below, mod_below, le-div}
-use Rattle.std.proofs.lemmas.List.Elements.{All-nil, All-cons, All-head, All-tail}
+use Rattle.std.proofs.lemmas.Bool.{ltb-true}
+use Rattle.std.proofs.lemmas.Nat.{le-div}
+use Rattle.std.proofs.lemmas.List.Elements.{All-nil, All-cons}
 use Rattle.std.proofs.lemmas.List.Kept.{AllPairs-cons}
-use Rattle.go_points.specs.declared.TheConstants.{MAX_SIZE}
-use Rattle.go_points.specs.Grid.{points}
-use Rattle.go_points.specs.Place.{Place, IsOn, place_of}
-use Rattle.go_points.specs.Points.{same_place, is_before, with_place, without_place, first_place, places_that, IsPointSet}
+use Rattle.go_points.specs.Points.{IsPointSet}
 use Rattle.go_points.specs.Private.Inverses.{same_numbers}
 use Rattle.go_points.proofs.Lists.{and_both, and_right, or_cases, or_left, or_right, some_same, none_some}
 

@@ -1,14 +1,6 @@
 -- Clearing changes nothing where no stone of the colour is without liberty; so a move changes no other point exactly where every stone reaches empty once its own is put down.
-use Rattle.std.proofs.Common.{◌≡◌, ℕ, ◌*◌, ◌<◌, ◌↔◌, Bool, true, false, cond, not, ◌&&◌, IsTrue, List, length, set, refl, sym, ◌∙◌, ap, subst, arith}
-use Rattle.std.proofs.lemmas.List.{ext_get_or, length-set}
-use Rattle.go_points.specs.declared.Colour.{Colour}
-use Rattle.go_points.specs.declared.Cell.{Cell}
-use Rattle.go_points.specs.declared.Cell.TheVariants.{Empty, Stone}
-use Rattle.go_points.specs.Grid.{opponent_of, same_cell, cell_at}
-use Rattle.go_points.specs.Reach.{reaches, Reaches}
-use Rattle.go_points.specs.Clear.{clear}
-use Rattle.go_points.specs.Liberty.{all_reach_empty}
-use Rattle.go_points.specs.Move.{after_move}
+use Rattle.go_points.proofs.Common.{◌≡◌, ℕ, ◌*◌, ◌<◌, ◌↔◌, Bool, true, false, cond, not, ◌&&◌, IsTrue, List, length, set, refl, sym, ◌∙◌, ap, subst, arith, ext_get_or, Colour, Cell, Empty, Stone, opponent_of, same_cell, cell_at, reaches, Reaches, clear, all_reach_empty, after_move}
+use Rattle.std.proofs.lemmas.List.{length-set}
 use Rattle.go_points.proofs.Cells.{same_cell_eq}
 use Rattle.go_points.proofs.Clearing.{length-clear, cell_at-clear, EveryStoneReaches, after_move_reaches, every_all, all_every}
 use Rattle.go_points.proofs.Paths.{reaches_path}

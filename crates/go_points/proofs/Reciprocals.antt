@@ -1,8 +1,5 @@
 -- A quotient by a number of rows, by a multiplication: the reciprocals are exact enough for the points of a board.
-use Rattle.std.proofs.Common.{◌≡◌, ℕ, ◌+◌, ◌-◌, ◌*◌, ◌/◌, ◌%◌, ◌^◌, ◌<◌, ◌≤◌, Bool, true, ◌&&◌, nat_lt, ltb-true, List, [], ◌∷◌, get_or, mul-le-mul, refl, sym, ◌∙◌, ap, arith}
-use Rattle.std.specs.List.{list_all, range_with_len}
-use Rattle.std.proofs.lemmas.Nat.{div-add-mod', mod_below, div-mul-add, div_below}
-use Rattle.go_points.specs.declared.TheConstants.{MAX_SIZE}
+use Rattle.go_points.proofs.Common.{◌≡◌, ℕ, ◌+◌, ◌-◌, ◌*◌, ◌/◌, ◌%◌, ◌^◌, ◌<◌, ◌≤◌, Bool, true, ◌&&◌, nat_lt, ltb-true, List, [], ◌∷◌, get_or, mul-le-mul, refl, sym, ◌∙◌, ap, arith, list_all, range_with_len, div-add-mod', mod_below, div-mul-add, div_below, MAX_SIZE}
 use Rattle.go_points.proofs.Lists.{and_left, and_right, range_passes}
 
 -- 2^16 divided by each number of rows, rounded up

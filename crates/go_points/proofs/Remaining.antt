@@ -1,9 +1,7 @@
 -- The points that are left of a board's, one by one.
-use Rattle.std.proofs.Common.{◌≡◌, ℕ, zero, suc, ◌+◌, ◌*◌, ◌<◌, ◌≤◌, [], ◌∷◌, map, drop, ◌∙◌, ap, ap₂, arith}
-use Rattle.std.specs.List.{range_with_len}
+use Rattle.go_points.proofs.Common.{◌≡◌, ℕ, zero, suc, ◌+◌, ◌*◌, ◌<◌, ◌≤◌, [], ◌∷◌, map, ◌∙◌, ap, ap₂, arith, range_with_len, points, place_of}
+use Rattle.std.proofs.Common.{drop}
 use Rattle.std.proofs.lemmas.List.{drop_all}
-use Rattle.go_points.specs.Grid.{points}
-use Rattle.go_points.specs.Place.{place_of}
 use Rattle.go_points.proofs.Cells.{length-points}
 
 range_next : (k a m : ℕ) → k < m → drop k (range_with_len a m) ≡ (a + k) ∷ drop (suc k) (range_with_len a m)

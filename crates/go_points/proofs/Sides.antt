@@ -1,7 +1,5 @@
 -- The number of a point of the board.
-use Rattle.std.proofs.lemmas.Nat.{mul-add-lt}
-use Rattle.std.proofs.Common.{ℕ, ◌*◌, ◌<◌}
-use Rattle.go_points.specs.Place.{Place, IsOn, number_of}
+use Rattle.go_points.proofs.Common.{mul-add-lt, ℕ, ◌*◌, ◌<◌, Place, IsOn, number_of}
 
 -- the number of a point of the board
 pub number_below : (n : ℕ) (p : Place) → IsOn n p → number_of n p < n * n

@@ -1,17 +1,11 @@
 -- The stones that a move takes off, counted over the points.
-use Rattle.std.proofs.Common.{◌≡◌, ℕ, zero, suc, ◌+◌, ◌*◌, ◌≤◌, ◌⊎◌, inl, inr, Bool, true, false, ◌&&◌, not, cond, List, map, take, length, set, refl, sym, ◌∙◌, subst, arith}
-use Rattle.std.specs.List.{range_with_len, count_by, sum_by}
-use Rattle.std.proofs.lemmas.List.{map-id, take_all, length-set}
+use Rattle.go_points.proofs.Common.{◌≡◌, ℕ, zero, suc, ◌+◌, ◌*◌, ◌≤◌, ◌⊎◌, inl, inr, Bool, true, false, ◌&&◌, not, cond, List, map, take, length, set, refl, sym, ◌∙◌, subst, arith, range_with_len, count_by, map-id, Colour, Cell, Empty, Stone, opponent_of, same_cell, cell_at, is_captured, clear, after_move, taken_by_move, stone_count}
+use Rattle.std.specs.List.{sum_by}
+use Rattle.std.proofs.lemmas.List.{take_all, length-set}
 use Rattle.std.proofs.lemmas.List.Sums.{sum_by_more}
 use Rattle.std.proofs.lemmas.List.FromFn.{sum_by-map-range_with_len_more}
-use Rattle.go_points.specs.declared.Colour.{Colour}
-use Rattle.go_points.specs.declared.Cell.{Cell}
-use Rattle.go_points.specs.declared.Cell.TheVariants.{Empty, Stone}
-use Rattle.go_points.specs.Grid.{opponent_of, same_cell, cell_at}
-use Rattle.go_points.specs.Clear.{is_captured, clear}
-use Rattle.go_points.specs.Move.{after_move, taken_by_move}
 use Rattle.go_points.proofs.Clearing.{length-clear, cell_at-clear, cell_at_past, on_or_off}
-use Rattle.go_points.specs.Private.Stones.{is_stone, stone_count}
+use Rattle.go_points.specs.Private.Stones.{is_stone}
 
 -- a stone that is gone
 abbrev pub is_gone : List Cell → List Cell → ℕ → Bool

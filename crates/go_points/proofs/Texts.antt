@@ -1,12 +1,7 @@
 -- Colourings and their texts: reading and writing, and what has been read of a text.
-use Rattle.std.proofs.Common.{◌≡◌, ℕ, zero, suc, ◌*◌, ◌<◌, Bool, true, false, cond, nat_eq, eqb-true, eq-eqb, List, [], ◌∷◌, length, get_or, Option, Some, None, refl, sym, ◌∙◌, ap, ap₂, arith}
-use Rattle.std.proofs.lemmas.List.{length-map}
-use Rattle.go_points.specs.declared.Colour.TheVariants.{Black, White}
-use Rattle.go_points.specs.declared.Cell.{Cell}
-use Rattle.go_points.specs.declared.Cell.TheVariants.{Empty, Stone}
-use Rattle.go_points.specs.Grid.{side_of}
+use Rattle.go_points.proofs.Common.{◌≡◌, ℕ, zero, suc, ◌*◌, ◌<◌, Bool, true, false, cond, nat_eq, eqb-true, eq-eqb, List, [], ◌∷◌, length, get_or, Option, Some, None, refl, sym, ◌∙◌, ap, ap₂, arith, length-map, Black, White, Cell, Empty, Stone, side_of, cell_code, text_of}
 use Rattle.go_points.proofs.Lists.{some_same, none_some}
-use Rattle.go_points.specs.Text.{cell_code, cell_of, text_of, cons_cell, cells_of, colouring_from_text}
+use Rattle.go_points.specs.Text.{cell_of, cons_cell, cells_of, colouring_from_text}
 
 code_back : (a : Cell) → cell_of (cell_code a) ≡ Some a
 code_back Empty = refl

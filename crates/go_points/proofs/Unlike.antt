@@ -1,13 +1,8 @@
 -- The first bit in which two words differ, or two others.
-use Rattle.std.proofs.Common.{◌≡◌, ◌≢◌, ℕ, ◌+◌, ◌-◌, ◌*◌, ◌/◌, ◌%◌, ◌^◌, ◌<◌, ◌≤◌, Bool, true, false, nat_eq, eq-eqb, eqb-true, bit_or, bit_xor, List, get_or, inl, inr, refl, sym, ◌∙◌, ap, ap₂, arith}
-use Rattle.std.specs.Int.{bit_at, w64, trailing_zeros}
-use Rattle.std.proofs.lemmas.Bool.{cases_lt}
-use Rattle.std.proofs.lemmas.Nat.{shr-shr, shr_le, div-add-mod', mod_below, div-mul-add, mod-mul-add}
-use Rattle.std.proofs.lemmas.Nat.Bits.{bit_at-zero, bit_at-lt, bit_at-trailing_zeros, bit_at_above, bit_at_or, bit_at_xor}
-use Rattle.go_points.specs.Grid.{cell_at}
-use Rattle.go_points.specs.Points.{has_bit}
-use Rattle.go_points.specs.Private.Words.{AreAlike}
-use Rattle.go_points.specs.Packed.{IsPacked, cell_of_bits, packed_cells, packed_at, packed_past, is_stone, is_black}
+use Rattle.go_points.proofs.Common.{◌≡◌, ◌≢◌, ℕ, ◌+◌, ◌-◌, ◌*◌, ◌/◌, ◌%◌, ◌^◌, ◌<◌, ◌≤◌, Bool, true, false, nat_eq, eq-eqb, eqb-true, bit_or, List, get_or, inl, inr, refl, sym, ◌∙◌, ap, ap₂, arith, bit_at, w64, trailing_zeros, cases_lt, shr-shr, shr_le, div-add-mod', mod_below, div-mul-add, mod-mul-add, bit_at-zero, bit_at-trailing_zeros, bit_at_above, cell_at, has_bit, AreAlike, IsPacked, cell_of_bits, packed_cells, packed_at, is_stone, is_black}
+use Rattle.std.proofs.Common.{bit_xor}
+use Rattle.std.proofs.lemmas.Nat.Bits.{bit_at-lt, bit_at_or, bit_at_xor}
+use Rattle.go_points.specs.Packed.{packed_past}
 
 -- the bits of a word from one on
 shifted : (word from i : ℕ) → bit_at (word / 2 ^ from) i ≡ bit_at word (from + i)

@@ -1,16 +1,8 @@
 -- The places that are kept for the buckets of a history, as it changes.
-use Rattle.std.proofs.Common.{◌≡◌, ℕ, ◌%◌, ◌<◌, ◌≤◌, inl, inr, false, List, [], ◌∷◌, ◌++◌, length, length-append, length-set, set, take, get_or, slice_index, if◌then◌else◌, sym, ◌∙◌, ap, subst, arith}
-use Rattle.std.specs.List.{list_any}
-use Rattle.std.proofs.lemmas.Bool.{cases_eq, cases_lt}
-use Rattle.std.proofs.lemmas.List.{get_or-take, get_or-set_other, get_or_append_left, get_or_push, length-take-le}
-use Rattle.go_points.specs.declared.Cell.{Cell}
-use Rattle.go_points.specs.Grid.{same_cells}
-use Rattle.go_points.specs.Equal.{same_cells_eq}
-use Rattle.go_points.proofs.Lists.{true_or_false}
-use Rattle.go_turns.specs.History.{HasNoneOf}
-use Rattle.go_turns.specs.Private.Buckets.{NoneBefore, bucket_count}
+use Rattle.go_turns.proofs.Common.{◌≡◌, ℕ, ◌%◌, ◌<◌, ◌≤◌, inl, inr, false, List, [], ◌∷◌, ◌++◌, length, length-append, length-set, set, take, get_or, slice_index, if◌then◌else◌, sym, ◌∙◌, ap, subst, arith, list_any, cases_eq, cases_lt, get_or-set_other, get_or_append_left, get_or_push, length-take-le, Cell, same_cells, same_cells_eq, true_or_false, HasNoneOf, bucket_count, key_of}
+use Rattle.std.proofs.lemmas.List.{get_or-take}
+use Rattle.go_turns.specs.Private.Buckets.{NoneBefore}
 use Rattle.go_turns.proofs.Repeats.{any_none, no_position}
-use Rattle.stone_key.specs.Key.{key_of}
 
 pub lowered : (h : List (List Cell)) (places lower : List ℕ) → length lower ≡ length places → ((b : ℕ) → slice_index lower b ≤ slice_index places b) → NoneBefore h places → NoneBefore h lower
 lowered h places lower long less s = record {

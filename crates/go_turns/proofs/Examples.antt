@@ -1,18 +1,9 @@
 -- Worked examples of records, computed by the definitions.
-use Rattle.std.proofs.Common.{◌≡◌, List, [], ◌∷◌, replicate, codes, Option, Some, None, Result, Ok, Err, refl}
-use Rattle.go_points.specs.declared.Colour.{Colour}
-use Rattle.go_points.specs.declared.Colour.TheVariants.{Black, White}
-use Rattle.go_points.specs.declared.Cell.{Cell}
-use Rattle.go_points.specs.declared.Cell.TheVariants.{Empty}
-use Rattle.go_points.specs.Grid.{neighbours}
-use Rattle.go_points.specs.Reach.{reaches_within, reaches}
-use Rattle.go_points.specs.Clear.{clear}
-use Rattle.go_points.specs.Move.{after_move}
-use Rattle.go_points.specs.Ply.{Ply, move}
+use Rattle.go_turns.proofs.Common.{◌≡◌, List, [], ◌∷◌, Option, Some, None, Result, Ok, Err, refl, Colour, Black, White, Cell, Empty, neighbours, reaches, clear, after_move, Ply, move, TurnFault, Occupied, OffBoard, Moment, after_play, colouring_of}
+use Rattle.std.proofs.Common.{replicate, codes}
+use Rattle.go_points.specs.Reach.{reaches_within}
 use Rattle.go_points.specs.Text.{cells_of}
-use Rattle.go_turns.specs.declared.fault.TurnFault.{TurnFault}
-use Rattle.go_turns.specs.declared.fault.TurnFault.TheVariants.{Occupied, Repeats, OffBoard}
-use Rattle.go_turns.specs.Record.{Moment, after_play, colouring_of}
+use Rattle.go_turns.specs.declared.fault.TurnFault.TheVariants.{Repeats}
 
 abbrev opening : Moment
 opening = record { history = replicate 9 Empty ∷ []; place = 0; passes = 0; last_colour = None }

@@ -1,12 +1,8 @@
 -- A set of colourings that keeps their order, as a history without repeats.
-use Rattle.std.proofs.Common.{◌≡◌, ℕ, ◌+◌, ◌-◌, ◌<◌, true, false, inl, inr, subst, List, [], ◌∷◌, ◌++◌, take, length, length-append, Option, Some, None, if◌then◌else◌, sym, ◌∙◌, ap, ap₂, arith}
-use Rattle.std.specs.List.{list_any, position_or_len}
-use Rattle.std.specs.Option.{IsSome, option_to_list}
+use Rattle.go_turns.proofs.Common.{◌≡◌, ℕ, ◌+◌, ◌-◌, ◌<◌, true, false, inl, inr, subst, List, [], ◌∷◌, ◌++◌, take, length, length-append, Option, Some, None, if◌then◌else◌, sym, ◌∙◌, ap, ap₂, arith, list_any, position_or_len, IsSome, Cell, same_cells, true_or_false, place_in, repeats}
+use Rattle.std.specs.Option.{option_to_list}
 use Rattle.std.proofs.Math.Seq.{take-append_seam}
-use Rattle.go_points.specs.declared.Cell.{Cell}
-use Rattle.go_points.specs.Grid.{same_cells}
-use Rattle.go_points.proofs.Lists.{true_or_false}
-use Rattle.go_turns.specs.History.{place_in, repeats, IsJoined}
+use Rattle.go_turns.specs.History.{IsJoined}
 use Rattle.go_turns.proofs.Repeats.{no_element, no_position, some_position, once_more, once_in_front}
 
 -- a new colouring goes last

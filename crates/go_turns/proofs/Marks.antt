@@ -1,19 +1,13 @@
 -- Marks that are sound and closed are on exactly the free points.
-use Rattle.std.proofs.Common.{◌≡◌, ℕ, ◌+◌, ◌*◌, ◌<◌, ◌≤◌, Bool, true, false, not, ◌&&◌, ◌⊎◌, inl, inr, cond, List, [], ◌∷◌, length, get_or, set, refl, sym, ◌∙◌, ap, subst, arith}
-use Rattle.std.specs.List.{list_any}
-use Rattle.std.proofs.lemmas.Bool.{cases_eq, cases_lt, both_ways, true≢false}
-use Rattle.std.proofs.lemmas.List.{get_or-set_same, get_or-set_other, get_or_past}
-use Rattle.std.proofs.lemmas.List.Sums.{sum_by-set}
-use Rattle.go_points.specs.declared.Colour.{Colour}
-use Rattle.go_points.specs.declared.Cell.{Cell}
-use Rattle.go_points.specs.declared.Cell.TheVariants.{Empty, Stone}
-use Rattle.go_points.specs.Grid.{same_cell, adjacent, neighbours, cell_at}
-use Rattle.go_points.specs.Reach.{reaches, IsPath}
-use Rattle.go_points.specs.Liberty.{lacks_liberty}
+use Rattle.go_turns.proofs.Common.{◌≡◌, ℕ, ◌+◌, ◌*◌, ◌<◌, ◌≤◌, Bool, true, false, not, ◌&&◌, ◌⊎◌, inl, inr, cond, List, [], ◌∷◌, length, get_or, set, refl, sym, ◌∙◌, ap, subst, arith, list_any, cases_eq, cases_lt, both_ways, get_or-set_same, get_or-set_other, sum_by-set, Colour, Cell, Empty, Stone, same_cell, neighbours, cell_at, reaches, lacks_liberty, same_cell_eq, eq_same_cell, is_marked, mark_count, IsSound, HasSeeds, AreFree}
+use Rattle.std.proofs.lemmas.Bool.{true≢false}
+use Rattle.std.proofs.lemmas.List.{get_or_past}
+use Rattle.go_points.specs.Grid.{adjacent}
+use Rattle.go_points.specs.Reach.{IsPath}
 use Rattle.go_points.proofs.Lists.{any_from, any_to}
-use Rattle.go_points.proofs.Cells.{same_cell_eq, eq_same_cell, adjacent_on_board, member_neighbours, neighbours_member}
+use Rattle.go_points.proofs.Cells.{adjacent_on_board, member_neighbours, neighbours_member}
 use Rattle.go_points.proofs.Paths.{reaches_path}
-use Rattle.go_turns.specs.Private.Marks.{is_marked, mark_count, IsFree, IsSound, HasSeeds, IsClosedBelow, AreFree}
+use Rattle.go_turns.specs.Private.Marks.{IsFree, IsClosedBelow}
 use Rattle.go_points.proofs.Anywhere.{same_tests}
 
 -- one more mark

@@ -1,9 +1,7 @@
 -- What the definition of an opening gives, by whether the present colouring has its liberties.
-use Rattle.std.proofs.Common.{◌≡◌, ℕ, Option, Some, Err, sym, ◌∙◌, ap, subst}
+use Rattle.go_turns.proofs.Common.{◌≡◌, ℕ, Option, Some, Err, sym, ◌∙◌, ap, subst, Place, IsOn, number_of, NoLiberty, Moment, with_liberties, reopened, Opens}
 use Rattle.std.proofs.lemmas.Nat.{div-mul-add, mod-mul-add}
-use Rattle.go_points.specs.Place.{Place, IsOn, number_of, place_of}
-use Rattle.go_turns.specs.declared.fault.TurnFault.TheVariants.{NoLiberty}
-use Rattle.go_turns.specs.Record.{Moment, with_liberties, reopened, Opens}
+use Rattle.go_points.specs.Place.{place_of}
 
 -- a point of the board is the place of its number
 pub place_back : (n : ℕ) (p : Place) → IsOn n p → place_of n (number_of n p) ≡ p

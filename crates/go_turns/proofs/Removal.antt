@@ -1,18 +1,9 @@
 -- Clearing, a point at a time.
-use Rattle.std.proofs.Common.{◌≡◌, ℕ, ◌+◌, ◌*◌, ◌<◌, ◌≤◌, Bool, true, false, ◌&&◌, not, cond, inl, inr, List, length, get_or, set, sym, ◌∙◌, ap, arith}
-use Rattle.std.proofs.lemmas.List.{get_or-set_same, get_or-set_other, length-set}
+use Rattle.go_turns.proofs.Common.{◌≡◌, ℕ, ◌+◌, ◌*◌, ◌<◌, ◌≤◌, Bool, true, false, ◌&&◌, not, cond, inl, inr, List, length, get_or, set, sym, ◌∙◌, ap, arith, get_or-set_same, get_or-set_other, sum_by-set, cases_eq, Colour, Cell, Empty, Stone, same_cell, cell_at, reaches, clear, true_or_false, same_cell_eq, AreFree, is_marked}
+use Rattle.std.proofs.lemmas.List.{length-set}
 use Rattle.std.proofs.lemmas.List.FromFn.{fill_by_all}
-use Rattle.std.proofs.lemmas.List.Sums.{sum_by-set}
-use Rattle.std.proofs.lemmas.Bool.{cases_eq}
-use Rattle.go_points.specs.declared.Colour.{Colour}
-use Rattle.go_points.specs.declared.Cell.{Cell}
-use Rattle.go_points.specs.declared.Cell.TheVariants.{Empty, Stone}
-use Rattle.go_points.specs.Grid.{same_cell, cell_at}
-use Rattle.go_points.specs.Reach.{reaches}
-use Rattle.go_points.specs.Clear.{is_captured, clear}
-use Rattle.go_points.proofs.Lists.{and_both, true_or_false}
-use Rattle.go_points.proofs.Cells.{same_cell_eq}
-use Rattle.go_turns.specs.Private.Marks.{AreFree, is_marked}
+use Rattle.go_points.specs.Clear.{is_captured}
+use Rattle.go_points.proofs.Lists.{and_both}
 use Rattle.go_points.specs.Private.Stones.{is_stone, stone_count}
 use Rattle.go_turns.proofs.Marks.{reaches_marked}
 

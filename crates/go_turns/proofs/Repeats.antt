@@ -1,14 +1,11 @@
 -- Histories without repeats: one colouring more, and a front of one.
-use Rattle.std.proofs.Common.{◌≡◌, ℕ, zero, suc, ◌+◌, ◌<◌, ◌≤◌, Bool, true, false, ◌||◌, ◌⊎◌, inl, inr, not, cond, List, [], ◌∷◌, ◌++◌, take, length, get_or, Some, None, refl, sym, ◌∙◌, ap, arith}
-use Rattle.std.specs.List.{list_any, position, position_or_len}
-use Rattle.std.proofs.lemmas.Bool.{or_from, lt-ltb, le-ltb}
-use Rattle.std.proofs.lemmas.List.{take_more}
+use Rattle.go_turns.proofs.Common.{◌≡◌, ℕ, zero, suc, ◌+◌, ◌<◌, ◌≤◌, Bool, true, false, ◌⊎◌, inl, inr, not, cond, List, [], ◌∷◌, ◌++◌, take, length, get_or, Some, None, refl, sym, ◌∙◌, ap, arith, list_any, position_or_len, lt-ltb, le-ltb, take_more, Cell, same_cells, true_or_false, place_in, repeats}
+use Rattle.std.proofs.Common.{◌||◌}
+use Rattle.std.specs.List.{position}
+use Rattle.std.proofs.lemmas.Bool.{or_from}
 use Rattle.std.proofs.lemmas.List.Folds.{list_any-append}
-use Rattle.go_points.specs.declared.Cell.{Cell}
-use Rattle.go_points.specs.Grid.{same_cells}
 use Rattle.go_points.specs.Equal.{same_cells_symm}
-use Rattle.go_points.proofs.Lists.{true_or_false}
-use Rattle.go_turns.specs.History.{has_occurred, place_in, repeats}
+use Rattle.go_turns.specs.History.{has_occurred}
 
 -- neither of two tests passes
 or_no_left : (a b : Bool) → (a || b) ≡ false → a ≡ false

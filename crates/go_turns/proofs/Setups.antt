@@ -1,20 +1,9 @@
 -- Points assigned in order, and what the definition of a setup gives.
-use Rattle.std.proofs.Common.{◌≡◌, ℕ, zero, suc, ◌+◌, ◌*◌, ◌<◌, Bool, true, false, cond, nat_lt, ◌&&◌, List, [], ◌∷◌, ◌++◌, map, take, length, get_or, set, Option, Some, None, Result, Ok, Err, refl, sym, ◌∙◌, ap, subst, arith}
-use Rattle.std.specs.List.{list_all}
-use Rattle.std.proofs.lemmas.Bool.{lt-ltb, le-ltb, false_from_ne_true}
-use Rattle.std.proofs.lemmas.List.{map-append, take_more, take_all, take_at}
+use Rattle.go_turns.proofs.Common.{◌≡◌, ℕ, zero, suc, ◌+◌, ◌*◌, ◌<◌, Bool, true, false, cond, nat_lt, ◌&&◌, List, [], ◌∷◌, ◌++◌, map, take, length, get_or, set, Option, Some, None, Result, Ok, Err, refl, sym, ◌∙◌, ap, subst, arith, list_all, lt-ltb, le-ltb, map-append, take_more, take_all, take_at, Cell, same_cells, same_cells_eq, Place, IsOn, on_board, number_of, first_without_liberty, number_below, TurnFault, OffBoard, NoLiberty, place_in, GameRecord, Moment, colouring_of, numbered, assigned, with_liberties, stepped, setup_of, set_up, Did, IsAt, StepsFit}
+use Rattle.std.proofs.lemmas.Bool.{false_from_ne_true}
 use Rattle.std.proofs.lemmas.List.Quantifiers.{position-Some}
-use Rattle.go_points.specs.declared.Cell.{Cell}
-use Rattle.go_points.specs.Grid.{same_cells}
-use Rattle.go_points.specs.Equal.{same_cells_eq}
-use Rattle.go_points.specs.Place.{Place, IsOn, on_board, number_of}
-use Rattle.go_points.specs.Liberty.{first_without_liberty}
-use Rattle.go_points.proofs.Sides.{number_below}
-use Rattle.go_turns.specs.declared.fault.TurnFault.{TurnFault}
-use Rattle.go_turns.specs.declared.fault.TurnFault.TheVariants.{OffBoard, NoLiberty}
-use Rattle.go_turns.specs.History.{place_in}
-use Rattle.go_turns.specs.Record.{GameRecord, Moment, colouring_of, numbered, assigned, set_to, with_liberties, stepped, setup_of, set_up, Did}
-use Rattle.go_turns.specs.Private.Steps.{IsAt, StepsFit, Joins}
+use Rattle.go_turns.specs.Record.{set_to}
+use Rattle.go_turns.specs.Private.Steps.{Joins}
 use Rattle.go_turns.proofs.Steps.{at_end, fit_longer}
 use Rattle.go_turns.proofs.Turns.{on_from, is_on_from}
 use Rattle.go_turns.proofs.Openings.{place_back}

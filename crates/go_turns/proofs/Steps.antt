@@ -1,13 +1,8 @@
 -- The steps that a record keeps, against its history.
-use Rattle.std.proofs.Common.{◌≡◌, ℕ, suc, ◌+◌, ◌<◌, ◌≤◌, List, [], ◌∷◌, ◌++◌, map, reverse, take, length, get_or, None, inl, inr, refl, sym, ◌∙◌, ap, arith}
-use Rattle.std.proofs.lemmas.List.{take-append-le, take-take, take_all, get_or_append_left, length-append, length-take-le, map-append, get_or_default, get_or_push, reverse-append}
-use Rattle.std.proofs.lemmas.Bool.{cases_lt}
+use Rattle.go_turns.proofs.Common.{◌≡◌, ℕ, suc, ◌+◌, ◌<◌, ◌≤◌, List, [], ◌∷◌, ◌++◌, map, reverse, take, length, get_or, None, inl, inr, refl, sym, ◌∙◌, ap, arith, take_all, get_or_append_left, length-take-le, map-append, get_or_default, get_or_push, cases_lt, Cell, side_of, first_without_liberty, IsAt, CanStand, StepsFit}
+use Rattle.std.proofs.lemmas.List.{take-append-le, take-take, length-append, reverse-append}
 use Rattle.std.proofs.lemmas.List.Elements.{All-push}
 use Rattle.std.proofs.lemmas.List.Quantifiers.{all_pairs_push}
-use Rattle.go_points.specs.declared.Cell.{Cell}
-use Rattle.go_points.specs.Grid.{side_of}
-use Rattle.go_points.specs.Liberty.{first_without_liberty}
-use Rattle.go_turns.specs.Private.Steps.{IsAt, CanStand, StepsFit}
 
 -- the colouring that is present can be taken over again
 pub can_stand : (h : List (List Cell)) (place : ℕ) (c : List Cell) → IsAt h place c → first_without_liberty (side_of c) c ≡ None → CanStand (side_of c) h place

@@ -1,15 +1,12 @@
 -- The key of a colouring with one stone more.
-use Rattle.std.proofs.Common.{◌≡◌, ◌≢◌, ℕ, zero, suc, ◌+◌, ◌*◌, ◌<◌, ◌≤◌, ◌⊎◌, inl, inr, List, [], ◌∷◌, length, length-set, map, set, bit_xor, refl, sym, ◌∙◌, ap, arith, zero-le}
+use Rattle.go_turns.proofs.Common.{◌≡◌, ℕ, zero, suc, ◌+◌, ◌*◌, ◌<◌, ◌≤◌, ◌⊎◌, inl, inr, List, [], ◌∷◌, length, length-set, map, set, bit_xor, refl, sym, ◌∙◌, ap, arith, get_or-set_same, get_or-set_other, Colour, Cell, Empty, Stone, cell_at, side_of, key_of, word_for, word_after}
+use Rattle.std.proofs.Common.{◌≢◌, zero-le}
 use Rattle.std.specs.List.{fold, range_with_len}
 use Rattle.std.specs.Int.Bits.{xor_assoc, xor_zero_l}
 use Rattle.std.proofs.lemmas.Nat.{xor_comm}
-use Rattle.std.proofs.lemmas.List.{get_or-set_same, get_or-set_other}
-use Rattle.go_points.specs.declared.Colour.{Colour}
-use Rattle.go_points.specs.declared.Cell.{Cell}
-use Rattle.go_points.specs.declared.Cell.TheVariants.{Empty, Stone}
-use Rattle.go_points.specs.Grid.{cell_at, points, side_of}
+use Rattle.go_points.specs.Grid.{points}
 use Rattle.go_points.specs.Private.Sides.{side_of-whole}
-use Rattle.stone_key.specs.Key.{key_of, point_word, word_for, word_after}
+use Rattle.stone_key.specs.Key.{point_word}
 
 abbrev xor_from : ℕ → (ℕ → ℕ) → List ℕ → ℕ
 xor_from a f xs = fold bit_xor a (map f xs)

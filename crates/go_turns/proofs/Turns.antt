@@ -1,19 +1,8 @@
 -- What the definitions of records give where a move is made and where a step is taken back.
-use Rattle.std.proofs.Common.{◌≡◌, ℕ, ◌*◌, ◌<◌, if◌then◌else◌, Bool, true, false, cond, nat_lt, List, [], ◌∷◌, ◌++◌, length, slice_get, Option, Some, None, Result, Ok, Err, OnOk, is_err, is_ok, sym, ◌∙◌, ap, subst}
-use Rattle.std.proofs.lemmas.Bool.{lt-ltb, ltb-true, and_from, and_parts}
-use Rattle.std.proofs.lemmas.Option.{get_or_from_slice_get}
-use Rattle.go_points.specs.declared.Colour.{Colour}
-use Rattle.go_points.specs.declared.Cell.{Cell}
-use Rattle.go_points.specs.declared.Cell.TheVariants.{Empty}
-use Rattle.go_points.specs.Grid.{same_cell, cell_at}
-use Rattle.go_points.specs.Place.{Place, IsOn, on_board}
-use Rattle.go_points.specs.Move.{after_move}
-use Rattle.go_points.specs.Ply.{move}
-use Rattle.go_turns.specs.declared.fault.TurnFault.{TurnFault}
-use Rattle.go_turns.specs.declared.fault.TurnFault.TheVariants.{OffBoard, Occupied}
-use Rattle.go_turns.specs.History.{place_in}
-use Rattle.go_turns.specs.Record.{GameRecord, colouring_of, moved, stepped, play_of, without_last, undo_of, Did, DidWithoutMemory}
-use Rattle.go_turns.specs.Private.Steps.{IsAt, IsNotAdded}
+use Rattle.go_turns.proofs.Common.{◌≡◌, ℕ, ◌*◌, ◌<◌, if◌then◌else◌, Bool, true, false, cond, nat_lt, List, [], ◌∷◌, ◌++◌, length, Option, Some, None, Result, Ok, Err, sym, ◌∙◌, ap, subst, lt-ltb, get_or_from_slice_get, Colour, Cell, Empty, same_cell, cell_at, Place, IsOn, on_board, after_move, move, TurnFault, OffBoard, Occupied, place_in, GameRecord, colouring_of, stepped, play_of, undo_of, Did, DidWithoutMemory, IsAt, IsNotAdded}
+use Rattle.std.proofs.Common.{slice_get, OnOk, is_err, is_ok}
+use Rattle.std.proofs.lemmas.Bool.{ltb-true, and_from, and_parts}
+use Rattle.go_turns.specs.Record.{moved, without_last}
 
 pub on_from : (n : ℕ) (p : Place) → IsOn n p → on_board n p ≡ true
 on_from n p on = and_from (nat_lt p.row n) (nat_lt p.column n) (lt-ltb p.row n on.row_within) (lt-ltb p.column n on.column_within)

@@ -1,10 +1,6 @@
 -- A step taken back.
-use Rattle.std.proofs.Common.{◌≡◌, ℕ, List, Result, Ok, Err, sym, ap}
-use Rattle.go_points.specs.declared.Colour.{Colour}
-use Rattle.go_points.specs.declared.Cell.{Cell}
-use Rattle.go_points.specs.Ply.{Ply}
-use Rattle.go_turns.specs.declared.fault.TurnFault.{TurnFault}
-use Rattle.go_turns.specs.Record.{Moment, GameRecord, after_play, after_setup, stepped, play_of, setup_of, undo_of}
+use Rattle.go_turns.proofs.Common.{◌≡◌, ℕ, List, Result, Ok, Err, sym, ap, Colour, Cell, Ply, TurnFault, Moment, GameRecord, after_play, stepped, play_of, setup_of, undo_of}
+use Rattle.go_turns.specs.Record.{after_setup}
 
 -- the record that a result has, or else another
 abbrev record_or : GameRecord → Result GameRecord TurnFault → GameRecord

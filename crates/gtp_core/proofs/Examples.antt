@@ -1,15 +1,12 @@
 -- Lines and sessions of GTP, computed by the definitions.
-use Rattle.std.proofs.Common.{◌≡◌, [], ◌∷◌, ◌++◌, codes, Some, Ok, Err, refl}
+use Rattle.gtp_core.proofs.Common.{◌≡◌, [], ◌∷◌, ◌++◌, codes, Some, Ok, Err, refl, raw_lines, request_of, bad_line, success, failure, size_of, answers, refuses, first_session}
 use Rattle.go_points.specs.declared.Colour.TheVariants.{Black}
 use Rattle.go_points.specs.declared.vertex.Vertex.TheVariants as vertex
 use Rattle.gtp_core.specs.declared.command.Command.TheVariants as command
 use Rattle.gtp_core.specs.declared.refusal.Refusal.TheVariants as refusal
-use Rattle.gtp_core.specs.Lines.{raw_lines, request_of, number_named, nothing, bad_line, asks}
-use Rattle.gtp_core.specs.Words.{success, failure}
+use Rattle.gtp_core.specs.Lines.{number_named, nothing, asks}
 use Rattle.gtp_core.specs.Commands.{order_of}
-use Rattle.gtp_core.specs.Session.{size_of}
-use Rattle.gtp_core.specs.Serving.{due_of, answers, refuses, ends}
-use Rattle.gtp_core.specs.Runs.{first_session}
+use Rattle.gtp_core.specs.Serving.{due_of, ends}
 
 lines_end_with_line_feeds : raw_lines (codes "name" ++ 10 ∷ codes "quit" ++ 10 ∷ []) ≡ codes "name" ∷ codes "quit" ∷ [] ∷ []
 lines_end_with_line_feeds = refl

@@ -1,30 +1,19 @@
 -- What words, rows and records come to, over plain values.
-use Rattle.std.proofs.Common.{◌≡◌, ℕ, zero, suc, ◌+◌, ◌-◌, ◌*◌, ◌<◌, Bool, true, false, cond, nat_eq, nat_lt, ltb-true, List, [], ◌∷◌, ◌++◌, map, length, take, drop, get_or, replicate, Option, None, Some, Ok, refl, sym, ap, ap₂, ◌∙◌, subst, arith, append_assoc, take-append-drop}
+use Rattle.gtp_core.proofs.Common.{◌≡◌, ℕ, zero, suc, ◌+◌, ◌-◌, ◌*◌, ◌<◌, Bool, true, false, cond, nat_eq, nat_lt, List, [], ◌∷◌, ◌++◌, map, length, take, drop, get_or, replicate, Option, None, Some, Ok, refl, sym, ap, ap₂, ◌∙◌, subst, arith, append_assoc, All, Cell, Empty, Turn, points, first_without_liberty, Place, IsOn, on_board, number_of, move, ply_of, GameRecord, Opens, opened, vertex_named, same_place, is_before, with_place, point_at, with_points, words_of, HasNone, IsAtSpace, fed_rows, new_record, place_at, turn_text}
+use Rattle.std.proofs.Common.{ltb-true, take-append-drop}
 use Rattle.std.proofs.lemmas.Nat.{div-mul-add, mod-mul-add}
 use Rattle.std.proofs.lemmas.List.{take_more, drop-drop}
-use Rattle.std.specs.List.{All}
 use Rattle.go_points.proofs.Lists.{and_left, and_right}
-use Rattle.go_points.specs.declared.Cell.{Cell}
-use Rattle.go_points.specs.declared.Cell.TheVariants.{Empty}
-use Rattle.go_points.specs.declared.Turn.{Turn}
 use Rattle.go_points.specs.declared.Turn.TheVariants.{At}
-use Rattle.go_points.specs.Grid.{points}
 use Rattle.go_points.specs.Gtp.{gtp_text}
-use Rattle.go_points.specs.Liberty.{first_without_liberty}
-use Rattle.go_points.specs.Place.{Place, IsOn, on_board, number_of, place_of}
-use Rattle.go_points.specs.Ply.{move, ply_of}
-use Rattle.go_turns.specs.Record.{GameRecord, Opens, opened, with_liberties}
+use Rattle.go_points.specs.Place.{place_of}
+use Rattle.go_turns.specs.Record.{with_liberties}
 use Rattle.go_points.specs.declared.vertex.Vertex.{Vertex}
 use Rattle.go_points.specs.declared.vertex.Vertex.TheVariants as vertex
-use Rattle.go_points.specs.Gtp.{vertex_named}
-use Rattle.go_points.specs.Points.{same_place, is_before, with_place}
 use Rattle.gtp_core.specs.declared.command.Command.TheVariants as command
-use Rattle.gtp_core.specs.Commands.{Order, point_at, region_named, whole_board, with_value, with_points}
-use Rattle.gtp_core.specs.Lines.{words_of}
-use Rattle.gtp_core.specs.Private.Pieces.{HasNone, IsAtSpace, BeginsWord}
-use Rattle.gtp_core.specs.Serving.{fed_rows}
-use Rattle.gtp_core.specs.Session.{new_record}
-use Rattle.gtp_core.specs.Words.{is_on_board, place_at, turn_text}
+use Rattle.gtp_core.specs.Commands.{Order, region_named, whole_board, with_value}
+use Rattle.gtp_core.specs.Private.Pieces.{BeginsWord}
+use Rattle.gtp_core.specs.Words.{is_on_board}
 use Rattle.gtp_core.proofs.Pieces.{none_more, word_taken}
 
 pub none_taken : (k : ℕ) (xs : List ℕ) (i d : ℕ) → i < length xs → HasNone k (take i xs) → nat_eq (get_or xs i d) k ≡ false → HasNone k (take (i + 1) xs)

@@ -1,12 +1,8 @@
 -- Lines and words, parted at a byte.
-use Rattle.std.proofs.Common.{◌≡◌, ℕ, ◌<◌, Bool, true, false, nat_eq, eqb-true, eq-eqb, List, [], ◌∷◌, ◌++◌, length, take, inl, inr, refl, sym, ap, ◌∙◌, subst, arith}
-use Rattle.std.proofs.lemmas.Bool.{cases_lt}
-use Rattle.std.proofs.lemmas.List.{append-nil, length-append, length-take-le, take_all, take-append-le}
-use Rattle.std.proofs.KnownBytes.{Consumes-trans}
-use Rattle.gtp_core.specs.declared.input.Ending.TheVariants.{LineFeed}
-use Rattle.gtp_core.specs.Private.Taking.{Bounded, Gives, Stops, kept, IsRawLine}
-use Rattle.gtp_core.specs.Lines.{with_byte, parted_at, whole_words, words_of}
-use Rattle.gtp_core.specs.Private.Pieces.{HasNone, IsAtSpace}
+use Rattle.gtp_core.proofs.Common.{◌≡◌, ℕ, ◌<◌, Bool, true, false, nat_eq, eqb-true, eq-eqb, List, [], ◌∷◌, ◌++◌, length, take, inl, inr, refl, sym, ap, ◌∙◌, subst, arith, cases_lt, length-append, length-take-le, take_all, take-append-le, Consumes-trans, LineFeed, Bounded, Gives, kept, IsRawLine, words_of, HasNone, IsAtSpace}
+use Rattle.std.proofs.lemmas.List.{append-nil}
+use Rattle.gtp_core.specs.Private.Taking.{Stops}
+use Rattle.gtp_core.specs.Lines.{with_byte, parted_at, whole_words}
 
 -- one byte more, without and with a piece's end
 pub parted_other : (k c : ℕ) (rest : List ℕ) → nat_eq c k ≡ false → parted_at k (c ∷ rest) ≡ with_byte c (parted_at k rest)

@@ -1,21 +1,16 @@
 -- Runs, line by line, over a reader and a writer.
-use Rattle.std.proofs.Common.{◌≡◌, ℕ, ◌+◌, ◌<◌, ◌≤◌, Bool, true, false, IsTrue, codes, cond, lt-ltb, List, [], ◌∷◌, ◌++◌, length, take, Option, None, Some, ◌⊎◌, inl, inr, refl, sym, ap, ◌∙◌, subst, arith, append_assoc, append-nil}
-use Rattle.std.proofs.lemmas.Bool.{cases_lt}
-use Rattle.std.proofs.lemmas.List.{length-append, length-take-le, take_all, take-append-le}
-use Rattle.std.specs.Io.KnownBytes.{Consumes, IsAtEnd, prepend_known}
-use Rattle.std.proofs.KnownBytes.{Appends-nil, Appends-trans, Consumes-nil, Consumes-trans}
+use Rattle.gtp_core.proofs.Common.{◌≡◌, ℕ, ◌+◌, ◌<◌, ◌≤◌, Bool, true, false, codes, cond, lt-ltb, List, [], ◌∷◌, ◌++◌, length, take, Option, None, Some, inl, inr, refl, sym, ap, ◌∙◌, subst, arith, append_assoc, cases_lt, length-append, length-take-le, take_all, take-append-le, prepend_known, Consumes-trans, Ending, LineFeed, bad_line, request_of, cleaned, words_of, raw_lines, HasNone, GtpSession, failure, reply, first_session, Bounded, bounded, kept, IsRawLine, IsServed, IsPartServed, IsUnderWay}
+use Rattle.std.proofs.Common.{IsTrue, ◌⊎◌, append-nil}
+use Rattle.std.specs.Io.KnownBytes.{Consumes, IsAtEnd}
+use Rattle.std.proofs.KnownBytes.{Appends-nil, Appends-trans, Consumes-nil}
 use Rattle.byte_writer.specs.Taken.{TakesPart}
 use Rattle.proof_cert.specs.Streamed.{Tells}
 use Rattle.gtp_core.specs.declared.end.GtpEnd.TheVariants.{Read, Write}
-use Rattle.gtp_core.specs.declared.input.Ending.{Ending}
-use Rattle.gtp_core.specs.declared.input.Ending.TheVariants.{LineFeed, End}
-use Rattle.gtp_core.specs.Lines.{bad_line, request_of, request_with, cleaned, words_of, raw_lines}
-use Rattle.gtp_core.specs.Private.Pieces.{HasNone}
-use Rattle.gtp_core.specs.Session.{GtpSession}
-use Rattle.gtp_core.specs.Words.{failure}
-use Rattle.gtp_core.specs.Serving.{Output, needs_memory, reply, last_reply, Answers, HadNoMemory, Serves}
-use Rattle.gtp_core.specs.Runs.{GoesThrough, IsRun, first_session, input_limit, block_limit, IsReadTo, EndsWithLine, AsksWithin, HasRun, HasStoppedOn}
-use Rattle.gtp_core.specs.Private.Taking.{Bounded, HeldInput, bounded, StopsInLine, kept, IsRawLine, IsServed, IsPartServed, IsUnderWay}
+use Rattle.gtp_core.specs.declared.input.Ending.TheVariants.{End}
+use Rattle.gtp_core.specs.Lines.{request_with}
+use Rattle.gtp_core.specs.Serving.{Output, needs_memory, last_reply, Answers, HadNoMemory, Serves}
+use Rattle.gtp_core.specs.Runs.{GoesThrough, IsRun, input_limit, block_limit, IsReadTo, EndsWithLine, AsksWithin, HasRun, HasStoppedOn}
+use Rattle.gtp_core.specs.Private.Taking.{HeldInput, StopsInLine}
 use Rattle.gtp_core.proofs.Pieces.{parted_one, parted_more}
 
 -- one line more

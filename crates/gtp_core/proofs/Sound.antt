@@ -1,41 +1,31 @@
 -- What a session keeps, and the problem that it has for that.
-use Rattle.std.proofs.Common.{◌≡◌, ℕ, zero, suc, ◌+◌, ◌*◌, ◌<◌, ◌≤◌, Bool, true, false, cond, not, ◌&&◌, ◌||◌, nat_eq, nat_lt, nat_le, List, [], ◌∷◌, ◌++◌, length, map, get_or, replicate, Option, Some, None, is_none, Result, Ok, Err, refl, sym, ◌∙◌, ap, ap₂, subst, arith, eq-eqb, eqb-true, lt-ltb, mul-le-mul, if◌then◌else◌}
-use Rattle.std.specs.Prelude.{IfSome, find, option_map, unwrap_or}
-use Rattle.std.specs.Result.{result_ok}
-use Rattle.std.specs.List.{All, list_any, list_all, position_or_len}
+use Rattle.gtp_core.proofs.Common.{◌≡◌, ℕ, zero, suc, ◌+◌, ◌*◌, ◌<◌, ◌≤◌, Bool, true, false, cond, nat_eq, nat_lt, List, [], ◌∷◌, ◌++◌, length, map, get_or, replicate, Option, Some, None, Result, Ok, Err, refl, sym, ◌∙◌, ap, ap₂, subst, arith, eq-eqb, eqb-true, lt-ltb, IfSome, unwrap_or, result_ok, All, Cell, Empty, Colour, points, cell_at, side_of, first_without_liberty, Place, IsOn, on_board, number_of, same_place, is_before, with_place, Ply, pass, move, vertex_named, TurnFault, place_in, GameRecord, play_of, Did, problem_of, GameProblem, point_at, with_points, GtpSession, new_record, board_of, stones_at, problem_at, IsSound}
+use Rattle.std.proofs.Common.{not, ◌&&◌, ◌||◌, nat_le, is_none, mul-le-mul, if◌then◌else◌}
+use Rattle.std.specs.Prelude.{find, option_map}
+use Rattle.std.specs.List.{list_any, list_all, position_or_len}
 use Rattle.std.proofs.lemmas.Bool.{or_parts}
 use Rattle.std.proofs.lemmas.Bool.Decides.{nat_tests}
 use Rattle.std.proofs.lemmas.List.{length-replicate}
 use Rattle.std.proofs.lemmas.List.Folds.{list_all-append, list_any-append}
 use Rattle.std.proofs.lemmas.List.FromFn.{length-range_with_len}
 use Rattle.std.proofs.lemmas.List.Quantifiers.{position-Some}
-use Rattle.go_points.specs.declared.Cell.{Cell}
-use Rattle.go_points.specs.declared.Cell.TheVariants.{Empty}
-use Rattle.go_points.specs.declared.Colour.{Colour}
-use Rattle.go_points.specs.Grid.{points, same_cells, same_cell, cell_at, side_of, side_up_to}
-use Rattle.go_points.specs.Liberty.{lacks_liberty, first_without_liberty, all_reach_empty}
+use Rattle.go_points.specs.Grid.{same_cells, same_cell, side_up_to}
+use Rattle.go_points.specs.Liberty.{lacks_liberty, all_reach_empty}
 use Rattle.go_points.specs.Move.{after_move}
-use Rattle.go_points.specs.Place.{Place, IsOn, on_board, number_of}
-use Rattle.go_points.specs.Points.{same_place, is_before, with_place}
-use Rattle.go_points.specs.Ply.{Ply, pass, move}
-use Rattle.go_points.specs.Gtp.{vertex_named}
 use Rattle.go_points.proofs.Cells.{same_cell_refl}
 use Rattle.go_points.proofs.Clearing.{moves_leave_liberties}
 use Rattle.go_points.proofs.Lists.{and_both}
-use Rattle.go_turns.specs.declared.fault.TurnFault.{TurnFault}
 use Rattle.go_turns.specs.declared.fault.TurnFault.TheVariants.{OffBoard, Occupied}
-use Rattle.go_turns.specs.History.{has_occurred, place_in}
-use Rattle.go_turns.specs.Record.{Moment, GameRecord, colouring_of, passed, moved, after_play, stepped, play_of, without_last, undo_of, Did, DidWithoutMemory}
+use Rattle.go_turns.specs.History.{has_occurred}
+use Rattle.go_turns.specs.Record.{Moment, colouring_of, passed, moved, after_play, stepped, without_last, undo_of, DidWithoutMemory}
 use Rattle.go_turns.proofs.Repeats.{once_more, no_element, some_position}
 use Rattle.target_game.specs.declared.bad_problem.BadProblem.TheVariants.{OtherSize, BadPlace, BadTargets, Ended, EmptyRegion, LongHistory, NoLiberty, Repeated}
 use Rattle.target_game.specs.declared.TheConstants.{MAX_HISTORY}
-use Rattle.target_game.specs.Problem.{first_refusal, the_colour, unless_refused, problem_on, problem_of}
-use Rattle.target_game.specs.State.{GameProblem}
+use Rattle.target_game.specs.Problem.{first_refusal, the_colour, unless_refused, problem_on}
 use Rattle.target_game.proofs.Facts.{all_pass}
 use Rattle.target_game.proofs.States.{length-after_move}
-use Rattle.gtp_core.specs.Commands.{point_at, with_points}
-use Rattle.gtp_core.specs.Session.{GtpSession, new_record, board_of, stones_at, problem_with, has_question, problem_at}
-use Rattle.gtp_core.specs.Private.Sound.{IsSoundMoment, AreSound, IsSoundRecord, IsSound}
+use Rattle.gtp_core.specs.Session.{problem_with, has_question}
+use Rattle.gtp_core.specs.Private.Sound.{IsSoundMoment, AreSound, IsSoundRecord}
 
 -- ---- one colouring more
 

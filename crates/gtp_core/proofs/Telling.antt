@@ -1,20 +1,9 @@
 -- What a search found, told.
-use Rattle.std.proofs.Common.{◌≡◌, ℕ, false, nat_eq, List, [], ◌∷◌, length, codes, Option, None, Some, is_some, Result, Ok, Err, inl, inr, refl, sym, ap, subst}
-use Rattle.std.specs.Prelude.{IfOk}
-use Rattle.go_points.specs.declared.Colour.{Colour}
-use Rattle.go_points.specs.declared.Turn.{Turn}
-use Rattle.go_points.specs.Place.{Place}
-use Rattle.go_points.specs.Ply.{Ply, pass, ply_of}
-use Rattle.go_turns.specs.declared.fault.TurnFault.{TurnFault}
-use Rattle.go_turns.specs.Record.{GameRecord, Did, play_of}
-use Rattle.target_game.specs.State.{GameProblem}
-use Rattle.gtp_core.specs.declared.refusal.Refusal.TheVariants.{BadTargets, NoProblem}
+use Rattle.gtp_core.proofs.Common.{◌≡◌, ℕ, false, nat_eq, List, [], ◌∷◌, length, codes, Option, None, Some, is_some, Result, Ok, Err, inl, inr, refl, sym, ap, subst, IfOk, Colour, Turn, Place, Ply, pass, ply_of, TurnFault, GameRecord, Did, play_of, GameProblem, NoProblem, Win, IsFoundAt, GtpSession, size_of, stones_at, Meets, MayPlay, IsPlayed, answers, due_or_refusal, refuses, target_due, tells, reply, failure, success, turn_text}
+use Rattle.gtp_core.specs.declared.refusal.Refusal.TheVariants.{BadTargets}
 use Rattle.gtp_core.specs.declared.search.Found.{Found}
-use Rattle.gtp_core.specs.declared.search.Found.TheVariants.{Win, Loss, Unknown}
-use Rattle.gtp_core.specs.Private.Following.{IsFoundAt}
-use Rattle.gtp_core.specs.Session.{GtpSession, size_of, stones_at}
-use Rattle.gtp_core.specs.Serving.{Meets, MayPlay, IsPlayed, IsWinning, answers, due_or_refusal, refuses, target_due, tells, reply, with_targets, with_turns}
-use Rattle.gtp_core.specs.Words.{failure, success, turn_text}
+use Rattle.gtp_core.specs.declared.search.Found.TheVariants.{Loss, Unknown}
+use Rattle.gtp_core.specs.Serving.{IsWinning, with_targets, with_turns}
 
 module _ (s : GtpSession) (id : List ℕ) (n : ℕ) (k : Colour) where
   pub loss_told : {B E : Type 0} (items : B → List ℕ) (r : Result B E) (o : Option GameProblem) (f : Option Found) → IsFoundAt n k o f → f ≡ Some Loss

@@ -1,22 +1,13 @@
 -- The points of a board are connected: so each area is beside a stone, if there is one.
-use Rattle.std.proofs.Common.{◌≡◌, ◌≢◌, ℕ, zero, suc, ◌+◌, ◌-◌, ◌*◌, ◌/◌, ◌%◌, ◌<◌, ◌≤◌, Bool, true, false, not, ◌&&◌, ◌⊎◌, inl, inr, IsTrue, List, [], ◌∷◌, Some, zero-le, refl, sym, ◌∙◌, ap, subst, arith}
+use Rattle.pass_alive.proofs.Common.{◌≡◌, ◌≢◌, ℕ, zero, suc, ◌+◌, ◌-◌, ◌*◌, ◌/◌, ◌%◌, ◌<◌, ◌≤◌, Bool, true, false, not, ◌&&◌, ◌⊎◌, inl, inr, IsTrue, List, [], ◌∷◌, Some, refl, sym, ◌∙◌, ap, subst, arith, div-add-mod', get_or_past, Cell, Empty, Stone, Colour, adjacent, cell_at, same_cell, points, opponent_of, reaches, IsPath, Reaches, first_without_liberty, all_reach_empty, and_both, adjacent_on_board, IsWay, Joined, joined_self, joined_back, joined_on, joined_beside, area_cell}
+use Rattle.std.proofs.Common.{zero-le}
 use Rattle.std.proofs.Math.Nat.{mul-le-mul_right}
-use Rattle.std.proofs.lemmas.Nat.{div-add-mod'}
 use Rattle.std.proofs.lemmas.Bool.{lt-ltb}
-use Rattle.std.proofs.lemmas.List.{get_or_past}
-use Rattle.go_points.specs.declared.Cell.{Cell}
-use Rattle.go_points.specs.declared.Cell.TheVariants.{Empty, Stone}
-use Rattle.go_points.specs.declared.Colour.{Colour}
-use Rattle.go_points.specs.Grid.{adjacent, cell_at, same_cell, points, opponent_of}
-use Rattle.go_points.specs.Reach.{reaches, IsPath, Reaches}
-use Rattle.go_points.specs.Liberty.{lacks_liberty, first_without_liberty, all_reach_empty}
+use Rattle.go_points.specs.Liberty.{lacks_liberty}
 use Rattle.go_points.proofs.Adjacency.{is_adjacent, IsBeside, above, left, adjacent_from_beside}
-use Rattle.go_points.proofs.Lists.{and_both, find_none}
-use Rattle.go_points.proofs.Cells.{member_points, adjacent_on_board}
+use Rattle.go_points.proofs.Lists.{find_none}
+use Rattle.go_points.proofs.Cells.{member_points}
 use Rattle.go_points.proofs.Paths.{reaches_path}
-use Rattle.go_chains.specs.Joined.{IsWay, Joined}
-use Rattle.go_chains.proofs.Joins.{joined_self, joined_back, joined_on, joined_beside}
-use Rattle.pass_alive.specs.Areas.{area_cell}
 use Rattle.pass_alive.proofs.Spaces.{area_either, not_in_area, in_area}
 
 adjacent_by : (n p q : ℕ) → p < n * n → q < n * n → IsBeside n p q → adjacent n p q ≡ true

@@ -1,16 +1,5 @@
 -- Stones that are beside a liberty that nobody can fill, and those in doubt.
-use Rattle.std.proofs.Common.{◌≡◌, ℕ, ◌*◌, ◌<◌, ◌⊎◌, inl, inr, IsTrue, List, [], ◌∷◌, map, sym, ◌∙◌, subst}
-use Rattle.go_points.specs.declared.Cell.{Cell}
-use Rattle.go_points.specs.Place.{Place, IsOn, number_of, place_of}
-use Rattle.go_points.specs.Points.{same_place, holds_place, with_place}
-use Rattle.go_points.specs.Equal.{same_place_decides}
-use Rattle.go_points.proofs.Membership.{sets_gain}
-use Rattle.go_points.proofs.Lists.{or_cases, or_right}
-use Rattle.go_points.proofs.Cells.{adjacent_on_board, adjacent_back}
-use Rattle.go_chains.proofs.Joins.{joined_self}
-use Rattle.pass_alive.specs.Life.{Lasting}
-use Rattle.pass_alive.specs.Sets.{these, number_on}
-use Rattle.pass_alive.specs.Private.Areas.{IsBesideFree, LastsOutside}
+use Rattle.pass_alive.proofs.Common.{◌≡◌, ℕ, ◌*◌, ◌<◌, ◌⊎◌, inl, inr, IsTrue, List, [], ◌∷◌, map, sym, ◌∙◌, subst, Cell, Place, IsOn, number_of, place_of, same_place, holds_place, with_place, same_place_decides, sets_gain, or_cases, or_right, adjacent_on_board, adjacent_back, joined_self, Lasting, these, number_on, IsBesideFree, LastsOutside}
 use Rattle.pass_alive.proofs.Regions.{number_back, on_place, region_holds}
 use Rattle.pass_alive.proofs.Members.{AllBut, but_first, but_more, but_none}
 use Rattle.pass_alive.proofs.Spreading.{with_held}

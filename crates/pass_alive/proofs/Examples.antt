@@ -1,24 +1,10 @@
 -- Groups that live by their shape, and groups that do not: for these the moves that take a target are computed by the definitions of
 -- play. Boards of 3 and 4 rows; points aa, ba, ca, .. are 0, 1, 2, ..
-use Rattle.std.proofs.Common.{◌≡◌, ℕ, zero, suc, true, false, inl, inr, nat_eq, eqb-true, eq-eqb, List, [], ◌∷◌, unwrap_or, codes, refl, sym, ap, subst}
-use Rattle.std.specs.List.{list_all}
+use Rattle.pass_alive.proofs.Common.{◌≡◌, ℕ, zero, suc, true, false, inl, inr, nat_eq, eqb-true, eq-eqb, List, [], ◌∷◌, refl, sym, ap, subst, list_all, Colour, Black, Cell, Empty, Stone, adjacent, neighbours, points, same_cell, cell_at, reaches, clear, after_move, all_at, same_cell_eq, eq_same_cell, neighbours_member, Joined, joined_on, Game, Points, IsBeside, Lasting, EyeOf, PassAlive, MayMove, after_moves, AreMoves}
+use Rattle.std.proofs.Common.{unwrap_or, codes}
 use Prim.Native.String.{String}
-use Rattle.go_points.specs.declared.Colour.{Colour}
-use Rattle.go_points.specs.declared.Colour.TheVariants.{Black}
-use Rattle.go_points.specs.declared.Cell.{Cell}
-use Rattle.go_points.specs.declared.Cell.TheVariants.{Empty, Stone}
-use Rattle.go_points.specs.Grid.{adjacent, neighbours, points, same_cell, cell_at}
-use Rattle.go_points.specs.Reach.{reaches_within, reaches}
-use Rattle.go_points.specs.Clear.{clear}
-use Rattle.go_points.specs.Move.{after_move}
+use Rattle.go_points.specs.Reach.{reaches_within}
 use Rattle.go_points.specs.Text.{cells_of}
-use Rattle.go_points.proofs.Lists.{all_at}
-use Rattle.go_points.proofs.Cells.{same_cell_eq, eq_same_cell, neighbours_member}
-use Rattle.go_chains.specs.Joined.{Joined}
-use Rattle.go_chains.proofs.Joins.{joined_on}
-use Rattle.target_game.specs.State.{Game}
-use Rattle.pass_alive.specs.Life.{Points, IsBeside, Lasting, EyeOf, PassAlive}
-use Rattle.pass_alive.specs.Laws.{MayMove, after_moves, AreMoves}
 use Rattle.pass_alive.proofs.Never.{never_taken}
 
 abbrev cells : String → List Cell

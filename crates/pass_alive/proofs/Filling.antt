@@ -1,12 +1,9 @@
 -- The board of the areas is filled point by point.
-use Rattle.std.proofs.Common.{◌≡◌, ◌≢◌, ℕ, ◌+◌, ◌*◌, ◌<◌, ◌≤◌, true, false, cond, ◌⊎◌, inl, inr, List, length, set, replicate, sym, ◌∙◌, ap, arith}
-use Rattle.std.proofs.lemmas.List.{get_or-set_same, get_or-set_other, length-set, length-replicate}
-use Rattle.go_points.specs.declared.Colour.{Colour}
-use Rattle.go_points.specs.declared.Cell.{Cell}
-use Rattle.go_points.specs.declared.Cell.TheVariants.{Empty, Stone}
-use Rattle.go_points.specs.Grid.{opponent_of, same_cell, cell_at, side_of}
+use Rattle.pass_alive.proofs.Common.{◌≡◌, ◌≢◌, ℕ, ◌+◌, ◌*◌, ◌<◌, ◌≤◌, true, false, cond, ◌⊎◌, inl, inr, List, length, set, sym, ◌∙◌, ap, arith, get_or-set_same, get_or-set_other, length-set, Colour, Cell, Empty, Stone, opponent_of, same_cell, cell_at, side_of, area_cell}
+use Rattle.std.proofs.Common.{replicate}
+use Rattle.std.proofs.lemmas.List.{length-replicate}
 use Rattle.go_chains.proofs.Boards.{all_empty}
-use Rattle.pass_alive.specs.Areas.{area_cell, AreAreas}
+use Rattle.pass_alive.specs.Areas.{AreAreas}
 
 module _ (k : Colour) (c : List Cell) where
   pub record FilledSoFar (f : List Cell) (i : ℕ) : Type 0 where

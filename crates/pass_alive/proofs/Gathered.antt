@@ -1,18 +1,6 @@
 -- The areas that can be eyes are gathered one by one.
-use Rattle.std.proofs.Common.{◌≡◌, ◌≢◌, ℕ, false, ◌+◌, ◌<◌, ◌≤◌, ◌⊎◌, inl, inr, IsTrue, List, [], ◌∷◌, length, map, get_or, sym, ◌∙◌, ap, subst}
-use Rattle.go_points.specs.declared.Cell.{Cell}
-use Rattle.go_points.specs.declared.Cell.TheVariants.{Empty}
-use Rattle.go_points.specs.Grid.{adjacent, neighbours, cell_at}
-use Rattle.go_points.specs.Place.{Place, IsOn, number_of, place_of}
-use Rattle.go_points.specs.Points.{same_place, holds_place, with_place}
-use Rattle.go_points.specs.Equal.{same_place_decides}
-use Rattle.go_points.proofs.Membership.{sets_gain}
-use Rattle.go_points.proofs.Lists.{or_cases, or_left, or_right}
-use Rattle.go_points.proofs.Cells.{adjacent_back}
-use Rattle.go_chains.specs.Joined.{IsWay, Joined, IsChainOf}
-use Rattle.go_chains.proofs.Joins.{joined_self}
-use Rattle.pass_alive.specs.Sets.{these}
-use Rattle.pass_alive.specs.Private.Areas.{IsFreePlace, HasSides, AreSides}
+use Rattle.pass_alive.proofs.Common.{◌≡◌, ◌≢◌, ℕ, false, ◌+◌, ◌<◌, ◌≤◌, ◌⊎◌, inl, inr, IsTrue, List, [], ◌∷◌, length, map, get_or, sym, ◌∙◌, ap, subst, Cell, Empty, adjacent, neighbours, cell_at, Place, IsOn, number_of, place_of, same_place, holds_place, with_place, same_place_decides, sets_gain, or_cases, or_left, or_right, adjacent_back, IsWay, Joined, IsChainOf, joined_self, these, IsFreePlace, AreSides}
+use Rattle.pass_alive.specs.Private.Areas.{HasSides}
 use Rattle.pass_alive.proofs.Regions.{place_back, number_back}
 use Rattle.pass_alive.proofs.Members.{AllBut, AllBeside, but_first, but_item, but_more, but_none, beside_more, beside_all}
 

@@ -1,15 +1,7 @@
 -- Loops over what a set holds, and over the points beside a point.
-use Rattle.std.proofs.Common.{◌≡◌, ℕ, ◌+◌, ◌<◌, ◌≤◌, ◌⊎◌, inl, inr, true, IsTrue, List, [], ◌∷◌, length, map, take, get_or, refl, sym, ◌∙◌, ap, subst}
-use Rattle.std.specs.List.{All}
-use Rattle.std.proofs.lemmas.List.{take_all}
-use Rattle.go_points.specs.Grid.{adjacent, neighbours}
-use Rattle.go_points.specs.Place.{Place, IsOn, number_of}
-use Rattle.go_points.specs.Points.{same_place, holds_place}
-use Rattle.go_points.specs.Equal.{same_place_decides}
-use Rattle.go_points.proofs.Lists.{or_cases, or_left, or_right}
-use Rattle.go_points.proofs.Cells.{neighbours_member}
+use Rattle.pass_alive.proofs.Common.{◌≡◌, ℕ, ◌+◌, ◌<◌, ◌≤◌, ◌⊎◌, inl, inr, true, IsTrue, List, [], ◌∷◌, length, map, take, get_or, refl, sym, ◌∙◌, ap, subst, All, take_all, adjacent, neighbours, Place, IsOn, number_of, same_place, holds_place, same_place_decides, or_cases, or_left, or_right, neighbours_member, item_beside}
 use Rattle.go_chains.specs.Private.Chains.{IsIn}
-use Rattle.go_chains.proofs.Beside.{in_more, item_beside}
+use Rattle.go_chains.proofs.Beside.{in_more}
 use Rattle.go_chains.proofs.Counts.{member_in}
 
 -- the first of what is left, and the rest

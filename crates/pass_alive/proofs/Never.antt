@@ -1,26 +1,17 @@
 -- The attacker wins no state whose targets live by their shape.
-use Rattle.std.proofs.Common.{◌≡◌, ℕ, zero, suc, ◌*◌, ◌<◌, ◌≤◌, Bool, true, false, ◌&&◌, nat_eq, nat_lt, eq-eqb, if◌then◌else◌, ◌⊎◌, inl, inr, IsTrue, IsFalse, List, [], ◌∷◌, Some, None, refl, sym, ◌∙◌, subst, arith}
-use Rattle.std.specs.List.{list_all}
-use Rattle.go_points.specs.declared.Colour.{Colour}
-use Rattle.go_points.specs.declared.Colour.TheVariants.{Black, White}
-use Rattle.go_points.specs.declared.Cell.{Cell}
-use Rattle.go_points.specs.declared.Cell.TheVariants.{Empty, Stone}
-use Rattle.go_points.specs.Grid.{opponent_of, same_colour, same_cell, points, cell_at}
-use Rattle.go_points.specs.Move.{after_move}
+use Rattle.pass_alive.proofs.Common.{◌≡◌, ℕ, zero, suc, ◌*◌, ◌<◌, ◌≤◌, Bool, true, false, ◌&&◌, nat_eq, nat_lt, eq-eqb, if◌then◌else◌, ◌⊎◌, inl, inr, IsTrue, IsFalse, List, [], ◌∷◌, Some, None, refl, sym, ◌∙◌, subst, arith, list_all, Colour, Black, White, Cell, Empty, Stone, opponent_of, same_cell, points, cell_at, after_move, and_left, and_right, any_to, all_at, all_from, same_cell_eq, eq_same_cell, joined_self, Game, GameState, holds_point, wins, Points, Fixed, Live, PassAlive, Stands, MayMove, after_moves, AreMoves}
+use Rattle.go_points.specs.Grid.{same_colour}
 use Rattle.go_points.specs.Ply.{Ply, pass, move}
-use Rattle.go_points.proofs.Lists.{and_left, and_right, any_from, any_to, all_at, all_from}
-use Rattle.go_points.proofs.Cells.{same_cell_eq, eq_same_cell, same_colour_eq, points_member}
-use Rattle.go_chains.proofs.Joins.{joined_self}
-use Rattle.target_game.specs.State.{Game, GameState}
-use Rattle.target_game.specs.Legal.{holds_point, legal, legal_turns}
+use Rattle.go_points.proofs.Lists.{any_from}
+use Rattle.go_points.proofs.Cells.{same_colour_eq, points_member}
+use Rattle.target_game.specs.Legal.{legal, legal_turns}
 use Rattle.target_game.specs.Next.{next}
 use Rattle.target_game.specs.Over.{targets_stand, over}
-use Rattle.target_game.specs.Wins.{wins, Wins, some_or_each}
+use Rattle.target_game.specs.Wins.{Wins, some_or_each}
 use Rattle.target_game.specs.Status.{moving, IsAlive}
 use Rattle.target_game.proofs.Winning.{wins_over, wins_none, wins_next, member_legal, legal_member}
 use Rattle.target_game.proofs.Ending.{winner_exists}
-use Rattle.pass_alive.specs.Life.{Points, Fixed, Live, PassAlive}
-use Rattle.pass_alive.specs.Laws.{Stands, MayMove, after_moves, AreMoves, whole_board, AreAnywhere}
+use Rattle.pass_alive.specs.Laws.{whole_board, AreAnywhere}
 use Rattle.pass_alive.proofs.Standing.{pass_alive_stands, pass_alive_stays}
 
 -- the targets stand

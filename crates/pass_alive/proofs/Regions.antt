@@ -1,16 +1,10 @@
 -- Sets of places, as lists of the numbers of points.
-use Rattle.std.proofs.Common.{◌≡◌, ℕ, suc, ◌+◌, ◌*◌, ◌/◌, ◌<◌, Bool, true, false, cond, ◌&&◌, ◌||◌, IsTrue, nat_eq, nat_lt, eqb-true, ltb-true, lt-ltb, List, [], ◌∷◌, map, refl, sym, ◌∙◌, ap, ap₂, subst, arith}
-use Rattle.std.specs.List.{All, list_all}
-use Rattle.go_points.specs.declared.Colour.{Colour}
-use Rattle.std.proofs.lemmas.Nat.{div-mul-add, mod-mul-add, mul-add-lt, div-add-mod', div_below, mod_below}
-use Rattle.go_points.specs.Place.{Place, IsOn, on_board, number_of, place_of}
-use Rattle.go_points.specs.Points.{same_place, holds_place}
-use Rattle.go_points.specs.Equal.{same_place_decides}
+use Rattle.pass_alive.proofs.Common.{◌≡◌, ℕ, suc, ◌+◌, ◌*◌, ◌/◌, ◌<◌, Bool, true, false, cond, ◌&&◌, ◌||◌, IsTrue, nat_eq, nat_lt, eqb-true, List, [], ◌∷◌, map, refl, sym, ◌∙◌, ap, subst, arith, All, list_all, Colour, mul-add-lt, div-add-mod', Place, IsOn, number_of, place_of, same_place, holds_place, same_place_decides, and_both, and_left, and_right, holds_point, these, number_on, game_of}
+use Rattle.std.proofs.Common.{ltb-true, lt-ltb, ap₂}
+use Rattle.std.proofs.lemmas.Nat.{div-mul-add, mod-mul-add, div_below, mod_below}
+use Rattle.go_points.specs.Place.{on_board}
 use Rattle.go_points.specs.Private.Inverses.{same_numbers}
-use Rattle.go_points.proofs.Lists.{and_both, and_left, and_right}
 use Rattle.target_game.specs.Kept.{kept_game}
-use Rattle.target_game.specs.Legal.{holds_point}
-use Rattle.pass_alive.specs.Sets.{these, number_on, game_of}
 
 pub place_back : (n : ℕ) (p : Place) → IsOn n p → place_of n (number_of n p) ≡ p
 place_back n p on = λ i. record { row = div-mul-add p.row n p.column on.column_within i; column = mod-mul-add p.row n p.column on.column_within i }

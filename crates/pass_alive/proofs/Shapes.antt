@@ -1,17 +1,7 @@
 -- Whether the targets live by their shape at a colouring, as the program finds it.
-use Rattle.std.proofs.Common.{◌≡◌, ◌*◌, ℕ, ◌↔◌, Bool, false, List, length, map, Some, None, IsTrue, sym, ap, ◌∙◌, subst}
+use Rattle.pass_alive.proofs.Common.{◌≡◌, ◌*◌, ℕ, ◌↔◌, Bool, false, List, length, map, Some, None, IsTrue, sym, ap, ◌∙◌, subst, All, Colour, Cell, side_of, first_without_liberty, Place, IsOn, number_of, Game, PassAlive, game_of, LivesAt}
 use Rattle.std.specs.Prelude.{is_none}
-use Rattle.std.specs.List.{All}
-use Rattle.go_points.specs.declared.Colour.{Colour}
-use Rattle.go_points.specs.declared.Cell.{Cell}
-use Rattle.go_points.specs.Grid.{side_of}
-use Rattle.go_points.specs.Liberty.{first_without_liberty}
-use Rattle.go_points.specs.Place.{Place, IsOn, number_of}
 use Rattle.go_points.specs.Private.Sides.{side_of-whole}
-use Rattle.target_game.specs.State.{Game}
-use Rattle.pass_alive.specs.Life.{PassAlive}
-use Rattle.pass_alive.specs.Sets.{game_of}
-use Rattle.pass_alive.specs.Told.{LivesAt}
 use Rattle.pass_alive.specs.Laws.{GamesAgree}
 
 module _ (g : Game) (c : List Cell) where

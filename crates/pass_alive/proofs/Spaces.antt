@@ -1,19 +1,5 @@
 -- Eyes are areas: what holds of the areas on their board, said of the stones.
-use Rattle.std.proofs.Common.{◌≡◌, ◌≢◌, ℕ, ◌+◌, ◌*◌, ◌/◌, ◌%◌, ◌<◌, Bool, true, false, cond, ◌⊎◌, inl, inr, IsTrue, List, [], ◌∷◌, refl, sym, ◌∙◌, ap, subst, arith}
-use Rattle.std.proofs.lemmas.Nat.{div-add-mod', mul-add-lt}
-use Rattle.go_points.specs.declared.Colour.{Colour}
-use Rattle.go_points.specs.declared.Colour.TheVariants.{Black, White}
-use Rattle.go_points.specs.declared.Cell.{Cell}
-use Rattle.go_points.specs.declared.Cell.TheVariants.{Empty, Stone}
-use Rattle.go_points.specs.Grid.{opponent_of, same_cell, adjacent, cell_at}
-use Rattle.go_points.specs.Place.{Place, IsOn, place_of}
-use Rattle.go_points.proofs.Cells.{same_cell_eq, eq_same_cell, adjacent_on_board, adjacent_back}
-use Rattle.go_chains.specs.Joined.{IsWay, Joined, IsChainOf, IsLibertyOf}
-use Rattle.go_chains.proofs.Joins.{joined_holds, joined_self, joined_back, joined_on, joined_beside}
-use Rattle.pass_alive.specs.Areas.{area_cell}
-use Rattle.pass_alive.specs.Life.{Points, IsBeside, EyeOf, TwoEyes}
-use Rattle.pass_alive.specs.Sets.{these, IsNear}
-use Rattle.pass_alive.specs.Private.Areas.{IsEyeArea, TwoEyeAreas, TwoEyeSets, MayLive}
+use Rattle.pass_alive.proofs.Common.{◌≡◌, ◌≢◌, ℕ, ◌+◌, ◌*◌, ◌/◌, ◌%◌, ◌<◌, Bool, true, false, cond, ◌⊎◌, inl, inr, IsTrue, List, [], ◌∷◌, refl, sym, ◌∙◌, ap, subst, arith, div-add-mod', mul-add-lt, Colour, Black, White, Cell, Empty, Stone, opponent_of, same_cell, adjacent, cell_at, Place, IsOn, place_of, same_cell_eq, eq_same_cell, adjacent_on_board, adjacent_back, IsWay, Joined, IsChainOf, IsLibertyOf, joined_holds, joined_self, joined_back, joined_on, joined_beside, area_cell, Points, IsBeside, EyeOf, TwoEyes, these, IsNear, IsEyeArea, TwoEyeAreas, TwoEyeSets, MayLive}
 
 -- what the board of the areas holds
 area_own : (k : Colour) → area_cell k (Stone k) ≡ Empty

@@ -1,22 +1,10 @@
 -- An area is found from one point: what has been met so far, and what that says at the end.
-use Rattle.std.proofs.Common.{◌≡◌, ◌≢◌, ℕ, zero, suc, ◌+◌, ◌-◌, ◌*◌, ◌<◌, ◌≤◌, Bool, true, false, cond, ◌||◌, ◌⊎◌, inl, inr, IsTrue, nat_le, leb-true, List, [], ◌∷◌, Some, None, length, refl, sym, ◌∙◌, ap, subst, arith}
+use Rattle.pass_alive.proofs.Common.{◌≡◌, ◌≢◌, ℕ, zero, suc, ◌+◌, ◌-◌, ◌*◌, ◌<◌, ◌≤◌, Bool, true, false, cond, ◌||◌, ◌⊎◌, inl, inr, IsTrue, List, [], ◌∷◌, Some, None, length, refl, sym, ◌∙◌, ap, subst, arith, Colour, Cell, Empty, Stone, opponent_of, adjacent, cell_at, side_of, Place, IsOn, number_of, place_of, same_place, holds_place, with_place, without_place, same_place_decides, sets_gain, sets_lose, and_right, or_cases, or_left, or_right, adjacent_on_board, adjacent_back, IsWay, Joined, IsChainOf, IsLibertyOf, joined_holds, joined_self, joined_back, joined_on, joined_beside, area_cell, Points, these, IsNear, IsWith, areas_in, IsEyeArea, HasMet, IsPoint, IsBesidePoint, IsMetOrWall, AreNoEyes}
+use Rattle.std.proofs.Common.{nat_le, leb-true}
 use Rattle.std.proofs.lemmas.List.{get_or-map}
-use Rattle.go_points.specs.declared.Colour.{Colour}
-use Rattle.go_points.specs.declared.Cell.{Cell}
-use Rattle.go_points.specs.declared.Cell.TheVariants.{Empty, Stone}
-use Rattle.go_points.specs.Grid.{opponent_of, adjacent, cell_at, side_up_to, side_of}
-use Rattle.go_points.specs.Place.{Place, IsOn, number_of, place_of}
-use Rattle.go_points.specs.Points.{same_place, is_before, holds_place, with_place, without_place, first_place}
-use Rattle.go_points.specs.Equal.{same_place_decides}
-use Rattle.go_points.proofs.Membership.{sets_gain, sets_lose}
-use Rattle.go_points.proofs.Lists.{and_right, or_cases, or_left, or_right}
-use Rattle.go_points.proofs.Cells.{adjacent_on_board, adjacent_back}
-use Rattle.go_chains.specs.Joined.{IsWay, Joined, IsChainOf, IsLibertyOf}
-use Rattle.go_chains.proofs.Joins.{joined_holds, joined_self, joined_back, joined_on, joined_beside}
-use Rattle.pass_alive.specs.Areas.{area_cell}
-use Rattle.pass_alive.specs.Life.{Points}
-use Rattle.pass_alive.specs.Sets.{these, IsNear, IsWith}
-use Rattle.pass_alive.specs.Private.Areas.{areas_in, IsEyeArea, HasMet, IsPoint, IsBesidePoint, IsMetOrWall, IsGap, AreNoEyes}
+use Rattle.go_points.specs.Grid.{side_up_to}
+use Rattle.go_points.specs.Points.{is_before, first_place}
+use Rattle.pass_alive.specs.Private.Areas.{IsGap}
 use Rattle.pass_alive.proofs.Regions.{place_back, number_back, number_low}
 use Rattle.pass_alive.proofs.Spaces.{not_in_area, in_area}
 use Rattle.pass_alive.proofs.Sweeps.{without_less}

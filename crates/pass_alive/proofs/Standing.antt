@@ -1,21 +1,10 @@
 -- What stones that live by their shape keep, whatever the attacker plays.
-use Rattle.std.proofs.Common.{◌≡◌, ◌≢◌, ℕ, ◌*◌, ◌<◌, ◌≤◌, ◌⊎◌, inl, inr, IsTrue, List, [], ◌∷◌, length, set, refl, sym, ◌∙◌, ap, subst, arith}
-use Rattle.std.proofs.lemmas.List.{get_or_past, get_or-set_same, get_or-set_other, length-set}
+use Rattle.pass_alive.proofs.Common.{◌≡◌, ◌≢◌, ℕ, ◌*◌, ◌<◌, ◌≤◌, ◌⊎◌, inl, inr, IsTrue, List, [], ◌∷◌, length, set, refl, sym, ◌∙◌, ap, subst, arith, get_or_past, get_or-set_same, get_or-set_other, length-set, Cell, Empty, Stone, opponent_of, cell_at, IsPath, Reaches, clear, after_move, adjacent_back, IsWay, Joined, joined_holds, joined_self, joined_back, joined_on, joined_beside, Game, holds_point, Points, Fixed, IsBeside, TwoEyes, Live, Stands, MayMove}
 use Rattle.std.proofs.lemmas.Bool.{cases_lt}
-use Rattle.go_points.specs.declared.Cell.{Cell}
-use Rattle.go_points.specs.declared.Cell.TheVariants.{Empty, Stone}
-use Rattle.go_points.specs.Grid.{opponent_of, cell_at}
-use Rattle.go_points.specs.Reach.{IsPath, Reaches}
-use Rattle.go_points.specs.Clear.{clear}
-use Rattle.go_points.specs.Move.{after_move}
-use Rattle.go_points.proofs.Cells.{adjacent_back, opponent_twice, opponent_ne}
+use Rattle.go_points.proofs.Cells.{opponent_twice, opponent_ne}
 use Rattle.go_points.proofs.Clearing.{empty_stays, stone_before, reaching_stays, reaching_kept, on_board_of, EveryStoneReaches, after_move_reaches, one_or_other}
-use Rattle.go_chains.specs.Joined.{IsWay, Joined}
-use Rattle.go_chains.proofs.Joins.{joined_holds, joined_self, joined_back, joined_on, joined_beside, reaches_beside}
-use Rattle.target_game.specs.State.{Game}
-use Rattle.target_game.specs.Legal.{holds_point}
-use Rattle.pass_alive.specs.Life.{Points, Fixed, IsBeside, EyeSpace, TwoEyes, Live}
-use Rattle.pass_alive.specs.Laws.{Stands, MayMove}
+use Rattle.go_chains.proofs.Joins.{reaches_beside}
+use Rattle.pass_alive.specs.Life.{EyeSpace}
 
 -- once a stone is put down at p, each point holds what it held, or that stone
 pub put_down : (d : List Cell) (p q : ℕ) (x : Cell) → (cell_at (set d p x) q ≡ cell_at d q) ⊎ (cell_at (set d p x) q ≡ x)

@@ -1,23 +1,8 @@
 -- Sweeps over the stones: what is left after some points of one, and after some sweeps.
-use Rattle.std.proofs.Common.{◌≡◌, ℕ, ◌*◌, ◌<◌, ◌≤◌, Bool, true, false, cond, not, ◌||◌, ◌⊎◌, inl, inr, IsTrue, IsFalse, ◌↔◌, List, [], ◌∷◌, map, length, refl, sym, ◌∙◌, ap, subst, arith}
-use Rattle.std.specs.List.{list_all}
-use Rattle.go_points.specs.declared.Colour.{Colour}
-use Rattle.go_points.specs.declared.Cell.{Cell}
-use Rattle.go_points.specs.declared.Cell.TheVariants.{Stone}
-use Rattle.go_points.specs.Grid.{same_cell, cell_at}
-use Rattle.go_points.specs.Place.{Place, IsOn, number_of, place_of}
-use Rattle.go_points.specs.Points.{same_place, holds_place, with_place, without_place}
-use Rattle.go_points.specs.Equal.{same_place_decides}
-use Rattle.go_points.proofs.Membership.{sets_gain, sets_lose}
-use Rattle.go_points.proofs.Lists.{and_right, and_both, or_cases, or_left, or_right, all_at, all_from}
-use Rattle.go_points.proofs.Cells.{same_cell_eq, eq_same_cell, adjacent_on_board}
-use Rattle.go_chains.specs.Joined.{IsWay, Joined, IsChainOf, HoldsThose}
-use Rattle.go_chains.proofs.Joins.{joined_self, joined_back, joined_on}
-use Rattle.target_game.specs.State.{Game}
-use Rattle.pass_alive.specs.Areas.{area_cell}
-use Rattle.pass_alive.specs.Life.{Points, IsBeside, Live, PassAlive}
-use Rattle.pass_alive.specs.Sets.{these, number_on, game_of, AreLiving, IsWith}
-use Rattle.pass_alive.specs.Private.Areas.{MayLive, IsSafe, IsDropped, IsWithout, IsJudged, LastsOutside}
+use Rattle.pass_alive.proofs.Common.{◌≡◌, ℕ, ◌*◌, ◌<◌, ◌≤◌, Bool, true, false, cond, not, ◌||◌, ◌⊎◌, inl, inr, IsTrue, IsFalse, ◌↔◌, List, [], ◌∷◌, map, length, refl, sym, ◌∙◌, ap, subst, arith, list_all, Colour, Cell, Stone, same_cell, cell_at, Place, IsOn, number_of, place_of, same_place, holds_place, with_place, without_place, same_place_decides, sets_gain, sets_lose, and_right, and_both, or_cases, or_left, or_right, all_at, all_from, same_cell_eq, eq_same_cell, adjacent_on_board, IsWay, Joined, IsChainOf, joined_self, joined_back, joined_on, Game, area_cell, Points, IsBeside, Live, PassAlive, these, number_on, game_of, IsWith, MayLive, IsDropped, IsJudged, LastsOutside}
+use Rattle.go_chains.specs.Joined.{HoldsThose}
+use Rattle.pass_alive.specs.Sets.{AreLiving}
+use Rattle.pass_alive.specs.Private.Areas.{IsSafe, IsWithout}
 use Rattle.pass_alive.proofs.Regions.{targets_hold, place_back, number_low, number_back}
 use Rattle.pass_alive.proofs.Members.{AllBut, but_first, but_more, but_none, left_first, left_later, left_either}
 use Rattle.pass_alive.proofs.Spaces.{two_eyes, two_areas, near_areas, near_sets, may_live_more, place_on}

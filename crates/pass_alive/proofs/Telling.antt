@@ -1,20 +1,12 @@
 -- How many turns the defender's win takes at most, and that some test tells which colourings live by their shape.
-use Rattle.std.proofs.Common.{◌≡◌, ℕ, zero, suc, ◌*◌, ◌^◌, ◌≤◌, ◌↔◌, Bool, true, false, ◌&&◌, nat_eq, eqb-true, eq-eqb, if◌then◌else◌, ◌⊎◌, inl, inr, IsTrue, List, [], ◌∷◌, ◌++◌, map, length, refl, sym, ap, ◌∙◌, subst, arith}
+use Rattle.pass_alive.proofs.Common.{◌≡◌, ℕ, zero, suc, ◌*◌, ◌≤◌, ◌↔◌, Bool, true, false, ◌&&◌, nat_eq, eqb-true, eq-eqb, if◌then◌else◌, ◌⊎◌, inl, inr, IsTrue, List, [], ◌∷◌, map, length, refl, sym, ap, ◌∙◌, subst, arith, Colour, Black, White, Cell, Empty, Stone, opponent_of, all_reach_empty, Member, and_left, and_right, and_both, Game, GameState, wins, PassAlive, LivesAt}
+use Rattle.std.proofs.Common.{◌^◌, ◌++◌}
 use Rattle.std.proofs.lemmas.List.{length-append, length-map}
 use Rattle.std.proofs.Math.Nat.{pow-suc}
-use Rattle.go_points.specs.declared.Colour.{Colour}
-use Rattle.go_points.specs.declared.Colour.TheVariants.{Black, White}
-use Rattle.go_points.specs.declared.Cell.{Cell}
-use Rattle.go_points.specs.declared.Cell.TheVariants.{Empty, Stone}
-use Rattle.go_points.specs.Grid.{opponent_of, same_cells}
-use Rattle.go_points.specs.Liberty.{all_reach_empty}
-use Rattle.go_points.proofs.Lists.{Member, and_left, and_right, and_both}
+use Rattle.go_points.specs.Grid.{same_cells}
 use Rattle.go_points.proofs.Cells.{same_cells_eq, same_cells_refl}
-use Rattle.target_game.specs.State.{Game, GameState}
-use Rattle.target_game.specs.Wins.{wins}
 use Rattle.target_game.proofs.Ending.{colourings, each_is_one, unseen, unseen_most, Decided, decided}
-use Rattle.pass_alive.specs.Life.{PassAlive}
-use Rattle.pass_alive.specs.Told.{play_bound, LivesAt, Tells}
+use Rattle.pass_alive.specs.Told.{play_bound, Tells}
 use Rattle.pass_alive.specs.Laws.{DefenderWinsWithin, ShapesCanBeTold}
 use Rattle.pass_alive.proofs.Never.{never_wins}
 

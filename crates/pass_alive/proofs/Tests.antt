@@ -1,19 +1,8 @@
 -- What loops over the points of a board find out.
-use Rattle.std.proofs.Common.{◌≡◌, ℕ, suc, ◌*◌, ◌<◌, Bool, true, false, inl, inr, IsTrue, ◌↔◌, IsFalse, not, Option, Some, None, is_some, IfSome, IfNone, List, [], ◌∷◌, map, refl, sym, ◌∙◌, ap, subst, arith}
-use Rattle.std.specs.List.{All, list_any}
-use Rattle.go_points.specs.declared.Cell.{Cell}
-use Rattle.go_points.specs.declared.Cell.TheVariants.{Empty}
-use Rattle.go_points.specs.Grid.{same_cell, adjacent, cell_at, neighbours}
-use Rattle.go_points.specs.Place.{Place, IsOn, number_of, place_of}
-use Rattle.go_points.specs.Points.{holds_place}
-use Rattle.go_points.proofs.Lists.{Member, any_to, member_map}
-use Rattle.go_points.proofs.Cells.{neighbours_member, adjacent_on_board, adjacent_back}
-use Rattle.go_chains.specs.Joined.{IsChainOf}
-use Rattle.go_chains.proofs.Joins.{joined_self, joined_back, joined_on}
-use Rattle.pass_alive.specs.Life.{Points, Fixed}
-use Rattle.pass_alive.specs.Sets.{these, number_on, IsNear}
-use Rattle.pass_alive.specs.Private.Areas.{AreSides, IsBesideFree, IsFreePlace, IsNoEye, IsEyeArea, IsEyeOutside, NoEyeOutside, TwoEyeAreas, TwoEyeSets}
-use Rattle.target_game.specs.Legal.{holds_point}
+use Rattle.pass_alive.proofs.Common.{◌≡◌, ℕ, suc, ◌*◌, ◌<◌, Bool, true, false, inl, inr, IsTrue, ◌↔◌, IsFalse, not, Some, None, List, [], ◌∷◌, map, refl, sym, ◌∙◌, ap, subst, arith, All, list_any, Cell, Empty, same_cell, adjacent, cell_at, neighbours, Place, IsOn, number_of, place_of, holds_place, Member, any_to, neighbours_member, adjacent_on_board, adjacent_back, IsChainOf, joined_self, joined_back, joined_on, Points, Fixed, these, number_on, IsNear, AreSides, IsBesideFree, IsFreePlace, IsNoEye, IsEyeArea, IsEyeOutside, TwoEyeAreas, TwoEyeSets, holds_point}
+use Rattle.std.proofs.Common.{Option, is_some, IfSome, IfNone}
+use Rattle.go_points.proofs.Lists.{member_map}
+use Rattle.pass_alive.specs.Private.Areas.{NoEyeOutside}
 use Rattle.pass_alive.proofs.Regions.{place_back, number_back, number_low, on_place, region_holds}
 
 -- a point beside another

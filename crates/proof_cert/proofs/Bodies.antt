@@ -1,11 +1,6 @@
 -- A line is that of a body or another one, and a short claim spells those of a body alike.
-use Rattle.std.proofs.Common.{◌≡◌, ℕ, ◌⊎◌, inl, inr, Bool, true, false, nat_eq, eqb-true, List, [], ◌∷◌, ◌++◌, Option, Some, None, codes, refl, sym, ap, ◌∙◌, subst}
-use Rattle.std.specs.Prelude.{option_map, option_and_then}
-use Rattle.proof_cert.specs.declared.spelling.Spelling.{Spelling}
-use Rattle.proof_cert.specs.declared.spelling.Spelling.TheVariants.{Ordinary, Short}
-use Rattle.proof_cert.specs.Lines.{Line, won_line, use_line, play_line, all_line, reply_line, end_line}
-use Rattle.proof_cert.specs.Text.{after_word, at_end, behind, header_rest, line_by, line_of, no_header, number_of, or_else, vertex_of}
-use Rattle.proof_cert.specs.Private.Body.{body_line_of, other_line_of}
+use Rattle.proof_cert.proofs.Common.{◌≡◌, ℕ, ◌⊎◌, inl, inr, Bool, true, false, nat_eq, eqb-true, List, [], ◌∷◌, ◌++◌, Option, Some, None, codes, refl, sym, ap, ◌∙◌, subst, option_and_then, Spelling, Ordinary, Short, Line, won_line, use_line, play_line, all_line, reply_line, end_line, after_word, at_end, behind, header_rest, line_by, line_of, no_header, number_of, or_else, vertex_of, body_line_of, other_line_of}
+use Rattle.std.specs.Prelude.{option_map}
 use Rattle.proof_cert.proofs.Chains.{or_none}
 use Rattle.proof_cert.proofs.Texts.{behind_is, end_is}
 

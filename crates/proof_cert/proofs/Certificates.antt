@@ -1,15 +1,10 @@
 -- The equations of what a certificate says.
-use Rattle.std.proofs.Common.{◌≡◌, ℕ, ◌+◌, ◌<◌, length, drop, get_or, List, [], ◌∷◌, ◌++◌, Bool, ◌&&◌, Vec, Box, Global, sym, ap, ◌∙◌, refl, arith}
-use Rattle.std.proofs.lemmas.List.{at_drop_more}
-use Rattle.std.specs.List.{list_all}
+use Rattle.proof_cert.proofs.Common.{◌≡◌, ℕ, ◌+◌, ◌<◌, length, drop, get_or, List, [], ◌∷◌, ◌++◌, Bool, ◌&&◌, Vec, Box, Global, sym, ap, ◌∙◌, refl, arith, at_drop_more, list_all, Turn, ply_of, won, by_lemma, play, all, branch, branch_turns, node_of, replies_of, Won, Use, Play, All}
 use Rattle.std.proofs.lemmas.List.Folds.{list_all-append}
-use Rattle.go_points.specs.declared.Turn.{Turn}
-use Rattle.go_points.specs.Ply.{ply_of}
-use Rattle.proof_cert.specs.Claim.{won, by_lemma, play, all, branch, branch_turns}
 use Rattle.proof_cert.specs.Claim as claim
-use Rattle.proof_cert.specs.Certificate.{node_step, node_of, replies_of}
+use Rattle.proof_cert.specs.Certificate.{node_step}
 use Rattle.proof_cert.specs.declared.certificate.Node.{Node, Node-F, fold-roll-Node}
-use Rattle.proof_cert.specs.declared.certificate.Node.TheVariants.{Won, Use, Play, All, rolls-Won, rolls-Use, rolls-Play, rolls-All}
+use Rattle.proof_cert.specs.declared.certificate.Node.TheVariants.{rolls-Won, rolls-Use, rolls-Play, rolls-All}
 
 pub node_of_won : (n : ℕ) → node_of n Won ≡ won
 unfolding node_of

@@ -1,8 +1,6 @@
 -- The line that bytes spell, by the word at their front: no two words begin alike.
-use Rattle.std.proofs.Common.{◌≡◌, ℕ, Bool, true, false, nat_eq, List, [], ◌∷◌, eqb-true, Option, Some, None, is_some, codes, refl, sym}
-use Rattle.proof_cert.specs.Lines.{Line, main_line, won_line, end_line}
-use Rattle.proof_cert.specs.Text.{after_word, at_end, header_tail, or_else}
-use Rattle.proof_cert.specs.Private.Body.{body_line_of, other_line_of}
+use Rattle.proof_cert.proofs.Common.{◌≡◌, ℕ, Bool, true, false, nat_eq, List, [], ◌∷◌, eqb-true, Option, Some, None, codes, refl, sym, Line, main_line, won_line, end_line, after_word, at_end, header_tail, or_else, body_line_of, other_line_of}
+use Rattle.std.proofs.Common.{is_some}
 
 pub or_none : {A : Type 0} (o : Option A) → or_else o None ≡ o
 or_none None = refl

@@ -1,14 +1,10 @@
 -- What sources of lines give, by calls one after another.
-use Rattle.std.proofs.Common.{ℕ, ◌≡◌, Bool, true, false, List, [], ◌∷◌, ◌++◌, Option, Some, None, Result, ◌∙◌, sym, ap, subst, refl, append-nil, map, IsTrue, cond}
-use Rattle.std.specs.List.{list_all}
-use Rattle.std.proofs.lemmas.Bool.{false≢true}
-use Rattle.proof_cert.specs.Lines.{Line, lines_of}
-use Rattle.proof_cert.specs.Text.{is_spelled}
-use Rattle.proof_cert.specs.Held.{Held, held_source_of, held_gives, spelled_line}
+use Rattle.proof_cert.proofs.Common.{ℕ, ◌≡◌, Bool, true, false, List, [], ◌∷◌, ◌++◌, Option, Some, None, ◌∙◌, sym, ap, subst, refl, append-nil, map, IsTrue, cond, list_all, false≢true, Line, lines_of, is_spelled, spelled_line, SourceFault, Gave}
+use Rattle.std.proofs.Common.{Result}
+use Rattle.proof_cert.specs.Held.{Held, held_source_of, held_gives}
 use Rattle.proof_cert.proofs.Words.{and_first, and_second}
 use Rattle.proof_cert.proofs.Texts.{lines_of_texts}
-use Rattle.proof_cert.specs.declared.source.SourceFault.{SourceFault}
-use Rattle.proof_cert.specs.Given.{Gave, line_answer, LinesGivenOfClaim, HeldLinesAreTheText}
+use Rattle.proof_cert.specs.Given.{line_answer, LinesGivenOfClaim, HeldLinesAreTheText}
 
 -- one more call gives one more line
 pub gave_more : {S : Type 0} (gives : S → Result (Option Line) SourceFault → S → Type 0) (s t u : S) (ls : List (Option Line)) (l : Option Line) → Gave gives s ls t → gives t (line_answer l) u → Gave gives s (ls ++ l ∷ []) u

@@ -1,15 +1,9 @@
 -- No line is longer than the longest line of the widest board.
-use Rattle.std.proofs.Common.{◌≡◌, ℕ, ◌+◌, ◌*◌, ◌<◌, ◌≤◌, ◌⊎◌, inl, inr, Bool, true, false, ◌||◌, nat_eq, nat_le, nat_lt, eqb-true, leb-true, ltb-true, List, ◌++◌, length, Option, Some, None, IsTrue, codes, decimal, refl, ap, arith, length-append}
-use Rattle.std.proofs.lemmas.Fmt.{length-decimal-le}
+use Rattle.proof_cert.proofs.Common.{◌≡◌, ℕ, ◌+◌, ◌*◌, ◌<◌, ◌≤◌, ◌⊎◌, inl, inr, Bool, true, false, ◌||◌, nat_eq, nat_le, nat_lt, eqb-true, leb-true, ltb-true, List, ◌++◌, length, Option, Some, None, IsTrue, codes, decimal, refl, ap, arith, length-append, length-decimal-le, MAX_SIZE, Colour, Black, White, Cell, Ply, pass, move, text_of, Line, header_line, lemma_line, had_line, not_line, main_line, won_line, use_line, play_line, all_line, reply_line, end_line, colour_letter, vertex_text, is_spelled_number, line_bytes, is_spelled, line_of, max_line}
 use Rattle.std.proofs.Math.Nat.{mul-le-mul}
-use Rattle.go_points.specs.declared.TheConstants.{MAX_SIZE, MAX_POINTS}
-use Rattle.go_points.specs.declared.Colour.{Colour}
-use Rattle.go_points.specs.declared.Colour.TheVariants.{Black, White}
-use Rattle.go_points.specs.declared.Cell.{Cell}
-use Rattle.go_points.specs.Ply.{Ply, pass, move}
-use Rattle.go_points.specs.Text.{text_of}
-use Rattle.proof_cert.specs.Lines.{Line, header_line, lemma_line, had_line, not_line, main_line, won_line, use_line, play_line, all_line, reply_line, end_line, line_fits}
-use Rattle.proof_cert.specs.Text.{colour_letter, vertex_text, is_spelled_number, numbers_spelled, line_bytes, is_spelled, line_of, max_line}
+use Rattle.go_points.specs.declared.TheConstants.{MAX_POINTS}
+use Rattle.proof_cert.specs.Lines.{line_fits}
+use Rattle.proof_cert.specs.Text.{numbers_spelled}
 use Rattle.proof_cert.proofs.Words.{and_first, and_second, length-text_of}
 use Rattle.proof_cert.proofs.Texts.{line_of-is}
 

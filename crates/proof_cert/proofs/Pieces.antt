@@ -1,9 +1,6 @@
 -- The first line of a text, by the place of its line feed.
-use Rattle.std.proofs.Common.{◌≡◌, ℕ, suc, ◌+◌, ◌-◌, ◌<◌, ◌≤◌, Bool, true, false, cond, not, nat_eq, nat_lt, ltb-true, ltb-false, List, [], ◌∷◌, length, map, take, drop, Option, Some, None, position, refl, ◌∙◌, ap, arith}
-use Rattle.std.specs.List.{position_or_len}
+use Rattle.proof_cert.proofs.Common.{◌≡◌, ℕ, suc, ◌+◌, ◌-◌, ◌<◌, ◌≤◌, Bool, true, false, cond, not, nat_eq, nat_lt, ltb-true, ltb-false, List, [], ◌∷◌, length, map, take, drop, Option, Some, None, position, refl, ◌∙◌, ap, arith, position_or_len, with_byte, lines, pieces, line_of_piece, line_of, rest_is}
 use Rattle.std.proofs.Math.Seq.{drop-length}
-use Rattle.proof_cert.specs.Text.{with_byte, lines, pieces, line_of_piece, line_of}
-use Rattle.byte_writer.proofs.TakenLemmas.{rest_is}
 
 abbrev pub place : List ℕ → ℕ
 place b = position_or_len (λ x. nat_eq x 10) b

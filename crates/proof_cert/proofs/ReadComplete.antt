@@ -1,12 +1,7 @@
 -- Each claim within the limits is read from its lines.
-use Rattle.std.proofs.Common.{◌≡◌, inl, inr, ℕ, suc, zero, ◌+◌, ◌-◌, ◌<◌, ◌≤◌, true, cond, nat_lt, lt-ltb, List, [], ◌∷◌, ◌++◌, map, length, max, sum_by, Option, Some, None, refl, sym, ap, ◌∙◌, append_assoc, arith}
-use Rattle.std.specs.Prelude.{option_map, option_and_then}
-use Rattle.std.proofs.lemmas.List.Sums.{sum_by-cons}
-use Rattle.go_points.specs.declared.Cell.{Cell}
-use Rattle.go_points.specs.declared.Colour.{Colour}
-use Rattle.proof_cert.specs.Claim.{Node, won, by_lemma, play, all, Branches, no_branch, branch, branch_turns, node_count, node_count_below, depth_of, depth_below, Lemma, Claim, max_nodes, listed_count, IsWithinLimits, AreShallow}
-use Rattle.proof_cert.specs.Lines.{Line, header_line, lemma_line, had_line, not_line, main_line, won_line, use_line, play_line, all_line, reply_line, end_line, node_lines, branch_lines, had_spelled, lemma_lines, lemmas_lines, lines_of}
-use Rattle.proof_cert.specs.Private.Reading.{Left, first_of, line_read, line_as, as_reply, as_not, as_had, as_header, opened, counted, replies_read, below_read, tree_read, listed_read, list_read, lists_read, body_read, lemma_made, lemma_read, lemmas_read, all_lemmas_read, claim_made, main_read, claim_read}
+use Rattle.proof_cert.proofs.Common.{◌≡◌, inl, inr, ℕ, suc, zero, ◌+◌, ◌-◌, ◌<◌, ◌≤◌, true, cond, nat_lt, lt-ltb, List, [], ◌∷◌, ◌++◌, map, length, max, sum_by, Option, Some, None, refl, sym, ap, ◌∙◌, append_assoc, arith, option_and_then, sum_by-cons, Cell, Colour, Node, won, by_lemma, play, all, Branches, no_branch, branch, branch_turns, node_count, node_count_below, depth_of, depth_below, Lemma, Claim, max_nodes, listed_count, IsWithinLimits, AreShallow, Line, header_line, lemma_line, had_line, not_line, main_line, won_line, use_line, play_line, all_line, reply_line, end_line, node_lines, branch_lines, had_spelled, lemma_lines, lemmas_lines, lines_of, Left, first_of, line_read, opened, counted, replies_read, below_read, tree_read, listed_read, list_read, lemma_read, lemmas_read, all_lemmas_read, claim_read}
+use Rattle.std.specs.Prelude.{option_map}
+use Rattle.proof_cert.specs.Private.Reading.{line_as, as_reply, as_not, as_had, as_header, lists_read, body_read, lemma_made, claim_made, main_read}
 use Rattle.proof_cert.proofs.Unique.{Writes, AllWrite}
 use Rattle.proof_cert.proofs.Tasks.{lemma_left}
 

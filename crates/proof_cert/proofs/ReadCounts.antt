@@ -1,9 +1,7 @@
 -- What was read one by one is counted.
-use Rattle.std.proofs.Common.{◌≡◌, ◌+◌, ◌≤◌, ℕ, List, [], ◌∷◌, ◌++◌, max, sum_by, arith}
-use Rattle.std.proofs.lemmas.List.Sums.{sum_by-cons}
-use Rattle.go_points.specs.Ply.{Ply}
-use Rattle.proof_cert.specs.Claim.{Node, Branches, no_branch, branch, node_count, node_count_below, depth_of, depth_below, Lemma, listed_count, max_depth, AreShallow}
-use Rattle.proof_cert.specs.Private.Reading.{CountsTree, CountsReplies, CountsLemma, CountsLemmas}
+use Rattle.proof_cert.proofs.Common.{◌≡◌, ◌+◌, ◌≤◌, ℕ, List, [], ◌∷◌, ◌++◌, max, sum_by, arith, sum_by-cons, Ply, Node, Branches, no_branch, branch, node_count, node_count_below, depth_of, depth_below, Lemma, listed_count, AreShallow, CountsTree, CountsReplies, CountsLemmas}
+use Rattle.proof_cert.specs.Claim.{max_depth}
+use Rattle.proof_cert.specs.Private.Reading.{CountsLemma}
 use Rattle.proof_cert.proofs.ReadTrees.{joined}
 
 max_le : (a b c : ℕ) → a ≤ c → b ≤ c → max a b ≤ c

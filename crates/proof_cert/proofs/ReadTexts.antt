@@ -1,9 +1,5 @@
 -- A claim within the limits is read from its text.
-use Rattle.std.proofs.Common.{◌≡◌, ℕ, List, Some, sym, ap, ◌∙◌}
-use Rattle.proof_cert.specs.Claim.{Claim, IsWithinLimits}
-use Rattle.proof_cert.specs.Lines.{lines_of}
-use Rattle.proof_cert.specs.Text.{text, lines}
-use Rattle.proof_cert.specs.Private.Reading.{claim_read}
+use Rattle.proof_cert.proofs.Common.{◌≡◌, ℕ, List, Some, sym, ap, ◌∙◌, Claim, IsWithinLimits, lines_of, text, lines, claim_read}
 use Rattle.proof_cert.proofs.Texts.{lines_of_texts}
 use Rattle.proof_cert.proofs.Unique.{claim_writes}
 use Rattle.proof_cert.proofs.ReadComplete.{claim_comes}

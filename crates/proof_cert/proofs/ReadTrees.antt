@@ -1,21 +1,13 @@
 -- What reading trees from lines comes to.
-use Rattle.std.proofs.Common.{◌≡◌, ℕ, suc, zero, ◌+◌, ◌-◌, ◌<◌, ◌≤◌, Bool, true, false, cond, nat_lt, List, [], ◌∷◌, ◌++◌, map, Option, Some, None, Ok, Err, refl, sym, ap, ◌∙◌, append_assoc, arith, rules, tests}
-use Rattle.std.specs.Prelude.{option_map, option_and_then}
-use Rattle.proof_cert.specs.Lines.{Line, lemma_line}
-use Rattle.proof_cert.specs.Stage.{line_value}
+use Rattle.proof_cert.proofs.Common.{◌≡◌, ℕ, suc, zero, ◌+◌, ◌-◌, ◌<◌, ◌≤◌, Bool, true, false, cond, nat_lt, List, [], ◌∷◌, ◌++◌, map, Option, Some, None, Ok, Err, refl, sym, ap, ◌∙◌, append_assoc, arith, rules, option_and_then, Line, lemma_line, line_value, Cell, Colour, Turn, Ply, ply_of, node_of, replies_of, lemma_of, Node, Branches, no_branch, branch, Lemma, max_nodes, SourceFault, Source, Left, left_of, first_of, line_read, opened, counted, reply_read, replies_read, below_read, tree_read, listed_read, lemma_read, lemmas_read}
+use Rattle.std.proofs.Common.{tests}
+use Rattle.std.specs.Prelude.{option_map}
 use Rattle.proof_cert.specs.declared.line.Line as code_line
 use Rattle.proof_cert.specs.declared.line.Line.TheVariants as lines
-use Rattle.go_points.specs.declared.Cell.{Cell}
-use Rattle.go_points.specs.declared.Colour.{Colour}
-use Rattle.go_points.specs.declared.Turn.{Turn}
-use Rattle.go_points.specs.Ply.{Ply, ply_of}
 use Rattle.proof_cert.specs.declared.certificate.Node as code
 use Rattle.proof_cert.specs.declared.certificate.Lemma as code_lemma
-use Rattle.proof_cert.specs.Certificate.{node_of, replies_of, lemma_of}
-use Rattle.proof_cert.specs.Claim.{Node, Branches, no_branch, branch, Lemma, max_nodes}
-use Rattle.proof_cert.specs.declared.source.SourceFault.{SourceFault}
-use Rattle.proof_cert.specs.Private.Source.{Source, answer, answer_from, later, later_from}
-use Rattle.proof_cert.specs.Private.Reading.{Left, left_of, first_of, line_read, opened, counted, reply_read, replies_read, below_read, tree_read, listed_more, listed_read, lemma_read, lemmas_more, lemmas_read}
+use Rattle.proof_cert.specs.Private.Source.{answer, answer_from, later, later_from}
+use Rattle.proof_cert.specs.Private.Reading.{listed_more, lemmas_more}
 
 line_given : (s : Source) (nodes listed : ℕ) (failed : Bool) (left : List (Option Line)) (l : Line) → s.has_failed ≡ failed → Ok (Some l) ≡ answer_from failed left
     → first_of (record { lines = cond failed (None ∷ []) left; nodes = nodes; listed = listed }) (cond failed (None ∷ []) left)

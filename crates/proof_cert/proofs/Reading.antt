@@ -1,12 +1,9 @@
 -- What the reader of lines does, against the definitions, over plain bytes.
-use Rattle.std.proofs.Common.{◌≡◌, ℕ, suc, ◌+◌, ◌<◌, ◌≤◌, ◌^◌, ◌⊎◌, inl, inr, Bool, true, false, cond, not, ◌&&◌, nat_eq, nat_le, List, [], ◌∷◌, length, take, drop, get_or, ◌-◌, ◌||◌, IsTrue, eq-eqb, eqb-true, le-leb, ltb-true, ltb-false, nat_lt, Option, Some, None, position, MatchOption, option_map, Bor, refl, sym, subst, ◌∙◌, ap, ap₂, arith}
+use Rattle.proof_cert.proofs.Common.{◌≡◌, ℕ, suc, ◌+◌, ◌<◌, ◌≤◌, ◌^◌, ◌⊎◌, inl, inr, Bool, true, false, cond, not, ◌&&◌, nat_eq, nat_le, List, [], ◌∷◌, length, take, drop, get_or, ◌-◌, ◌||◌, IsTrue, eq-eqb, eqb-true, le-leb, ltb-true, ltb-false, nat_lt, Option, Some, None, position, option_map, Bor, refl, sym, subst, ◌∙◌, ap, arith, all_ascii_digits, position_or_len, is_ascii_digit, after_word, at_space, header_rest, header_tail, value_from}
+use Rattle.std.proofs.Common.{MatchOption, ap₂}
 use Rattle.std.proofs.Math.Nat.{pow-le-pow_right}
-use Rattle.std.specs.Str.{all_ascii_digits}
-use Rattle.std.specs.List.{position_or_len}
-use Rattle.std.specs.Char.{is_ascii_digit}
 use Rattle.std.proofs.lemmas.Bool.{lt-leb}
 use lib.Pointwise.{pointwise}
-use Rattle.proof_cert.specs.Text.{after_word, at_space, header_rest, header_tail, value_from}
 
 -- a word at the front
 front_yes : (w b : List ℕ) → pointwise nat_eq (take (length w) b) w ≡ true → after_word w b ≡ Some (drop (length w) b)

@@ -1,10 +1,5 @@
 -- No line of a short claim is longer than the longest line of the widest board.
-use Rattle.std.proofs.Common.{◌≡◌, ℕ, ◌<◌, ◌≤◌, List, ◌∷◌, length, Option, Some, None, codes, refl, ap, ◌∙◌, arith, length-append}
-use Rattle.go_points.specs.declared.TheConstants.{MAX_SIZE}
-use Rattle.proof_cert.specs.declared.spelling.Spelling.{Spelling}
-use Rattle.proof_cert.specs.declared.spelling.Spelling.TheVariants.{Ordinary, Short}
-use Rattle.proof_cert.specs.Lines.{Line, header_line, use_line}
-use Rattle.proof_cert.specs.Text.{after_word, at_end, at_space, behind, colour_of, header_rest, line_by, line_of, max_line, no_header, number_of, or_else, parted}
+use Rattle.proof_cert.proofs.Common.{◌≡◌, ℕ, ◌<◌, ◌≤◌, List, ◌∷◌, length, Option, Some, None, codes, refl, ap, ◌∙◌, arith, length-append, MAX_SIZE, Spelling, Ordinary, Short, Line, header_line, use_line, after_word, at_end, at_space, behind, colour_of, header_rest, line_by, line_of, max_line, no_header, number_of, or_else, parted}
 use Rattle.proof_cert.proofs.Words.{number_of-is, colour_of-is}
 use Rattle.proof_cert.proofs.Texts.{behind_is, end_is, pair_is, space_is}
 use Rattle.proof_cert.proofs.LineLengths.{few_digits, long_none, one_letter}

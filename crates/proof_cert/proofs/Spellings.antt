@@ -1,21 +1,8 @@
 -- What the parts of a tree have, where the tree has a spelling, and what its text is made of.
-use Rattle.std.proofs.Common.{◌≡◌, ℕ, ◌+◌, ◌<◌, Bool, true, false, ◌&&◌, List, [], ◌∷◌, ◌++◌, map, length, drop, get_or, Option, Some, None, IsTrue, Vec, Box, Global, sym, ap, ◌∙◌, subst, refl, cond, append_assoc}
-use Rattle.std.specs.List.{list_all}
+use Rattle.proof_cert.proofs.Common.{◌≡◌, ℕ, ◌+◌, ◌<◌, Bool, true, false, ◌&&◌, List, [], ◌∷◌, ◌++◌, map, length, drop, get_or, Option, Some, None, IsTrue, Vec, Box, Global, sym, ap, ◌∙◌, subst, refl, cond, append_assoc, list_all, at_drop_more, false≢true, Cell, Turn, ply_of, Line, play_line, all_line, use_line, won_line, reply_line, had_spelled, not_line, lemma_line, header_line, main_line, end_line, node_lines, branch_lines, lemma_lines, lemmas_lines, lines_of, turn_fits, is_spelled, line_bytes, line_feed, with_line, text_of_lines, version_number, node_of, replies_of, lemma_of, claim_of, line_text, lines_text, Won, Use, Play, All, Certificate}
 use Rattle.std.proofs.lemmas.Grind.{flat_map-append}
-use Rattle.std.proofs.lemmas.List.{at_drop_more}
-use Rattle.std.proofs.lemmas.Bool.{false≢true}
-use Rattle.go_points.specs.declared.Cell.{Cell}
-use Rattle.go_points.specs.declared.Turn.{Turn}
-use Rattle.go_points.specs.Ply.{ply_of}
-use Rattle.proof_cert.specs.Lines.{Line, play_line, all_line, use_line, won_line, reply_line, had_spelled, not_line, lemma_line, header_line, main_line, end_line, node_lines, branch_lines, lemma_lines, lemmas_lines, lines_of, turn_fits}
-use Rattle.proof_cert.specs.Text.{is_spelled, line_bytes, line_feed, with_line, text_of_lines}
-use Rattle.proof_cert.specs.Stage.{version_number}
-use Rattle.proof_cert.specs.Certificate.{node_of, replies_of, lemma_of, claim_of}
-use Rattle.proof_cert.specs.Private.Taken.{line_text, lines_text}
 use Rattle.proof_cert.specs.declared.certificate.Node.{Node}
-use Rattle.proof_cert.specs.declared.certificate.Node.TheVariants.{Won, Use, Play, All}
 use Rattle.proof_cert.specs.declared.certificate.Lemma.{Lemma}
-use Rattle.proof_cert.specs.declared.certificate.Certificate.{Certificate}
 use Rattle.proof_cert.proofs.Certificates.{node_of_won, node_of_use, node_of_play, node_of_all, replies_more, replies_counted, list_all_joined}
 use Rattle.proof_cert.proofs.Words.{and_first, and_second}
 

@@ -1,8 +1,5 @@
 -- Cells that are read one by one into a colouring without stones.
-use Rattle.std.proofs.Common.{◌≡◌, ℕ, ◌≤◌, List, get_or}
-use Rattle.go_points.specs.declared.Cell.{Cell}
-use Rattle.go_points.specs.declared.Cell.TheVariants.{Empty}
-use Rattle.go_points.proofs.Texts.{ReadSoFar}
+use Rattle.proof_cert.proofs.Common.{◌≡◌, ℕ, ◌≤◌, List, get_or, Cell, Empty, ReadSoFar}
 
 -- the first k bytes of the text are read, and there is no stone after them
 pub record StonesSoFar (n : ℕ) (text : List ℕ) (c : List Cell) (k : ℕ) : Type 0 where

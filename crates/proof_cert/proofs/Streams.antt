@@ -1,17 +1,12 @@
 -- The lines that a reader gives: the first line of its bytes, and all of them.
-use Rattle.std.proofs.Common.{◌≡◌, ℕ, suc, ◌+◌, ◌-◌, ◌<◌, ◌≤◌, Bool, true, false, cond, not, nat_eq, nat_lt, ltb-true, eqb-true, List, [], ◌∷◌, ◌++◌, length, take, drop, get_or, map, Option, Some, None, Ok, Err, position, refl, sym, ap, ◌∙◌, subst, arith, append_assoc, append-nil, length-append}
+use Rattle.proof_cert.proofs.Common.{◌≡◌, ℕ, suc, ◌+◌, ◌-◌, ◌<◌, ◌≤◌, Bool, true, false, cond, not, nat_eq, nat_lt, ltb-true, eqb-true, List, [], ◌∷◌, ◌++◌, length, take, drop, get_or, map, Option, Some, None, Ok, Err, position, refl, sym, ap, ◌∙◌, subst, arith, append_assoc, append-nil, length-append, MAX_SIZE, Line, pieces, with_byte, line_by, lines_by, line_feed, max_line, Spelling, Malformed, Gave, Unread, IsRead, bytes_left, Uses, HasNoFeed}
 use Rattle.std.specs.Io.KnownBytes.{Consumes, IsAtEnd}
 use Rattle.std.proofs.lemmas.List.{length-take, get_or-take, drop-take, drop-drop, take-take, take-append-drop}
 use Rattle.std.proofs.Math.Seq.{drop-cons}
-use Rattle.go_points.specs.declared.TheConstants.{MAX_SIZE}
 use Rattle.proof_cert.proofs.Pieces.{place}
 use Rattle.std.proofs.KnownBytes.{Consumes-nil, Consumes-trans}
-use Rattle.proof_cert.specs.Lines.{Line}
-use Rattle.proof_cert.specs.Text.{pieces, with_byte, line_by, piece_by, lines_by, line_feed, max_line}
-use Rattle.proof_cert.specs.declared.spelling.Spelling.{Spelling}
-use Rattle.proof_cert.specs.declared.source.SourceFault.TheVariants.{Malformed}
-use Rattle.proof_cert.specs.Given.{Gave}
-use Rattle.proof_cert.specs.Streamed.{Unread, Streamed, IsRead, streamed_by, Tells, told_bytes, bytes_left, Uses, HasEnded, HasNoFeed, reader_gives, LinesGivenBy}
+use Rattle.proof_cert.specs.Text.{piece_by}
+use Rattle.proof_cert.specs.Streamed.{Streamed, streamed_by, Tells, told_bytes, HasEnded, reader_gives, LinesGivenBy}
 use Rattle.proof_cert.proofs.ShortLines.{long_by}
 
 -- PIECES

@@ -1,14 +1,7 @@
 -- The lines of what is still to be given.
-use Rattle.std.proofs.Common.{◌≡◌, ℕ, List, [], ◌∷◌, ◌++◌, map, Option, Some, sym, ap, ◌∙◌, append_assoc, append-nil}
-use Rattle.go_points.specs.declared.Cell.{Cell}
-use Rattle.go_points.specs.declared.Turn.{Turn}
-use Rattle.go_points.specs.Ply.{ply_of}
-use Rattle.proof_cert.specs.Lines.{Line, had_spelled, not_line, reply_line, node_lines, branch_lines, lemma_lines, lemmas_lines}
-use Rattle.proof_cert.specs.Certificate.{node_of, replies_of, lemma_of}
+use Rattle.proof_cert.proofs.Common.{◌≡◌, ℕ, List, [], ◌∷◌, ◌++◌, map, Option, Some, sym, ap, ◌∙◌, append_assoc, append-nil, Cell, Turn, ply_of, Line, had_spelled, not_line, reply_line, node_lines, branch_lines, lemma_lines, lemmas_lines, node_of, replies_of, lemma_of, task_lines, lines_left, Task}
 use Rattle.proof_cert.specs.declared.certificate.Node.{Node}
 use Rattle.proof_cert.specs.declared.certificate.Lemma.{Lemma}
-use Rattle.proof_cert.specs.Held.{task_lines, lines_left}
-use Rattle.proof_cert.specs.declared.task.Task.{Task}
 
 pub left_pushed : (n : ℕ) (ts : List Task) (t : Task) → lines_left n (ts ++ t ∷ []) ≡ task_lines n t ++ lines_left n ts
 left_pushed n [] t = sym (append-nil (task_lines n t))

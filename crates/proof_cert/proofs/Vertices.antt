@@ -1,12 +1,8 @@
 -- The letters of a turn that the board has.
-use Rattle.std.proofs.Common.{◌≡◌, ℕ, ◌+◌, ◌*◌, ◌/◌, ◌%◌, ◌<◌, Bool, true, false, cond, nat_lt, ltb-true, [], ◌∷◌, IsTrue, sym, ap, ◌∙◌, refl, arith}
+use Rattle.proof_cert.proofs.Common.{◌≡◌, ℕ, ◌+◌, ◌*◌, ◌/◌, ◌%◌, ◌<◌, Bool, true, false, cond, nat_lt, ltb-true, [], ◌∷◌, IsTrue, sym, ap, ◌∙◌, refl, arith, At, ply_of, move, turn_fits, vertex_text}
 use Rattle.std.proofs.lemmas.Nat.{div-mul-add, mod-mul-add}
-use Rattle.go_points.specs.declared.Turn.TheVariants.{At}
 use Rattle.go_points.specs.Place.{Place, on_board, number_of}
-use Rattle.go_points.specs.Ply.{ply_of, move}
 use Rattle.go_points.specs.Sgf.{sgf_text}
-use Rattle.proof_cert.specs.Lines.{turn_fits}
-use Rattle.proof_cert.specs.Text.{vertex_text}
 use Rattle.proof_cert.proofs.Words.{and_second}
 
 pub letters_of : (n : ℕ) (p : Place) → IsTrue (turn_fits n (ply_of n (At p))) → sgf_text p ≡ vertex_text n (ply_of n (At p))

@@ -9,7 +9,7 @@ use std::alloc::{AllocError, Global};
 
 impl Node {
     /// The same tree, in memory of its own.
-    pub fn copied(&self, alloc: Global) -> Result<Node, AllocError>
+    pub fn copy(&self, alloc: Global) -> Result<Node, AllocError>
         ensures { IfOk result (λ node. (n : ℕ) → node_of n node ≡ node_of n self.now) }
     {
         copy_node(alloc, self)

@@ -1,16 +1,8 @@
 -- Values added to a node under a name, and what joins properties that stand twice.
-use Rattle.std.proofs.Common.{◌≡◌, ℕ, zero, suc, ◌+◌, List, [], ◌∷◌, ◌++◌, set, get_or, sym, ap, ◌∙◌, subst, refl, arith, rules}
-use Rattle.std.specs.Prelude.{Bool, true, false, ◌||◌, cond, Some, None, position, Result, OnOk}
-use Rattle.std.specs.List.{list_all, list_any}
-use Rattle.std.specs.Str.{bytes_eq}
-use Rattle.std.specs.List.{position_from}
-use Rattle.std.proofs.lemmas.Iterator.Adapters.{position_from-zero}
+use Rattle.sgf_text.proofs.Common.{◌≡◌, ℕ, zero, suc, ◌+◌, List, [], ◌∷◌, ◌++◌, get_or, sym, ap, ◌∙◌, subst, refl, arith, rules, Bool, true, false, ◌||◌, cond, Some, None, position, Result, list_all, list_any, bytes_eq, position_from, position_from-zero, and_from, and_parts, not-true, nat_tests, Property, is_value, is_ident, is_property, is_named, are_distinct, is_node, added, names_of}
+use Rattle.std.proofs.Common.{set}
+use Rattle.std.specs.Prelude.{OnOk}
 use Rattle.std.proofs.lemmas.Slice.Eq.{bytes_eq-Decides}
-use Rattle.std.proofs.lemmas.Bool.{and_from, and_parts, not-true}
-use Rattle.std.proofs.lemmas.Bool.Decides.{nat_tests}
-use Rattle.sgf_text.specs.declared.node.Property.{Property}
-use Rattle.sgf_text.specs.Nodes.{is_value, is_ident, is_property, is_named, are_distinct, is_node}
-use Rattle.sgf_text.specs.OpenTrees.{added, names_of}
 
 abbrev pub property : List ℕ → List (List ℕ) → Property
 property name values = record { ident = name; values = values }

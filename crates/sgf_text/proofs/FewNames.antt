@@ -1,16 +1,9 @@
 -- The place of a name among the first few properties, or after them.
-use Rattle.std.proofs.Common.{◌≡◌, ℕ, zero, suc, ◌+◌, ◌<◌, ◌≤◌, ◌⊎◌, inl, inr, List, [], ◌∷◌, ◌++◌, length, length-append, sym, ap, ◌∙◌, subst, refl, arith}
-use Rattle.std.specs.Prelude.{Bool, true, false, cond, Option, Some, None, option_map, take, drop, position, set, get_or, ◌-◌}
-use Rattle.std.specs.BTreeMap.{BTreeMap, Updates}
+use Rattle.sgf_text.proofs.Common.{◌≡◌, ℕ, zero, suc, ◌+◌, ◌<◌, ◌≤◌, inl, inr, List, [], ◌∷◌, ◌++◌, length, length-append, sym, ap, ◌∙◌, subst, refl, arith, Bool, true, false, cond, Option, Some, None, option_map, position, BTreeMap, Updates, bytes_order, position_from, bytes_eq, position_from-zero, Property, is_named, ArePlaces, names_of}
+use Rattle.std.proofs.Common.{◌⊎◌}
+use Rattle.std.specs.Prelude.{take, drop, set, get_or, ◌-◌}
 use Rattle.std.proofs.lemmas.Bool.{cases_lt}
 use Rattle.std.proofs.lemmas.List.{drop-append-le, length-drop, drop_all, drop-map}
-use Rattle.sgf_text.specs.Bytes.{bytes_order}
-use Rattle.std.specs.List.{position_from}
-use Rattle.std.specs.Str.{bytes_eq}
-use Rattle.std.proofs.lemmas.Iterator.Adapters.{position_from-zero}
-use Rattle.sgf_text.specs.declared.node.Property.{Property}
-use Rattle.sgf_text.specs.Nodes.{is_named}
-use Rattle.sgf_text.specs.OpenTrees.{ArePlaces, names_of}
 use Rattle.sgf_text.proofs.AddedLemmas.{property, names_position, names_set}
 use Rattle.sgf_text.proofs.Places.{places_more, names_pushed, names_length}
 

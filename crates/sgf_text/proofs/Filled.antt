@@ -1,19 +1,5 @@
 -- What an open tree becomes with what is still to come, and that no byte changes it.
-use Rattle.std.proofs.Common.{◌≡◌, ℕ, List, [], ◌∷◌, ◌++◌, sym, ap, ◌∙◌, refl, rules, arith}
-use Rattle.std.specs.Prelude.{true, false, map, filter}
-use Rattle.std.proofs.lemmas.List.{append_assoc, append-nil}
-use Rattle.std.proofs.lemmas.Bool.Decides.{nat_tests}
-use Rattle.sgf_text.specs.declared.followers.Sign.{Sign}
-use Rattle.sgf_text.specs.declared.followers.ParserState.{ParserState}
-use Rattle.sgf_text.specs.declared.followers.ParserState.TheVariants.{AfterOpen, AfterSemicolon, InIdent, InValue, AfterBackslash, AfterChild}
-use Rattle.sgf_text.specs.declared.followers.Transition.{Transition}
-use Rattle.sgf_text.specs.declared.followers.Transition.TheVariants.{To}
-use Rattle.sgf_text.specs.Bytes.{is_upper}
-use Rattle.sgf_text.specs.Nodes.{joined}
-use Rattle.sgf_text.specs.Trees.{Node, Forest, tree_then, GameTree}
-use Rattle.sgf_text.specs.Grammar.{joined_forest}
-use Rattle.sgf_text.specs.Followers.{transition}
-use Rattle.sgf_text.specs.OpenTrees.{added, forest_join, Parser, led, node_ended, can_close, begun_in, opened_in, closed_in, IsSoundWord, IsSoundProperty, IsSoundNode}
+use Rattle.sgf_text.proofs.Common.{◌≡◌, ℕ, List, [], ◌∷◌, ◌++◌, sym, ap, ◌∙◌, refl, rules, arith, true, false, map, filter, append_assoc, append-nil, nat_tests, Sign, ParserState, AfterOpen, AfterSemicolon, InIdent, InValue, AfterBackslash, AfterChild, Transition, To, is_upper, joined, Node, Forest, tree_then, GameTree, joined_forest, transition, added, forest_join, Parser, led, node_ended, can_close, begun_in, opened_in, closed_in, IsSoundWord, IsSoundProperty, IsSoundNode}
 use Rattle.sgf_text.proofs.Signs.{Means}
 use Rattle.sgf_text.proofs.Machine.{Front, front, ended, closed, begun, kept}
 use Rattle.sgf_text.proofs.Sound.{Fits}

@@ -1,11 +1,7 @@
 -- Forests one after another.
-use Rattle.std.proofs.Common.{◌≡◌, ℕ, ◌+◌, ◌<◌, List, [], ◌∷◌, ◌++◌, length, get_or, take, sym, ap, ◌∙◌, subst, refl}
+use Rattle.sgf_text.proofs.Common.{◌≡◌, ℕ, ◌+◌, ◌<◌, List, [], ◌∷◌, ◌++◌, length, get_or, take, sym, ap, ◌∙◌, subst, refl, Bool, true, false, ◌&&◌, IsTrue, and_from, is_forest, is_tree, are_nodes, Node, Forest, no_tree, tree_then, GameTree, forest_of, forest_join, with_child}
 use Rattle.std.proofs.lemmas.List.{take_more}
-use Rattle.std.specs.Prelude.{Bool, true, false, ◌&&◌, IsTrue}
-use Rattle.std.proofs.lemmas.Bool.{and_from}
-use Rattle.sgf_text.specs.Text.{is_forest, is_tree, are_nodes}
-use Rattle.sgf_text.specs.Trees.{Node, Forest, no_tree, tree_then, GameTree, forest_of, tree_of}
-use Rattle.sgf_text.specs.OpenTrees.{forest_join, with_child}
+use Rattle.sgf_text.specs.Trees.{tree_of}
 
 pub join_none : (f : Forest) → forest_join f no_tree ≡ f
 join_none no_tree = refl

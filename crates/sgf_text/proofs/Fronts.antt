@@ -1,10 +1,7 @@
 -- The front of a text decides what is read of it.
-use Rattle.std.proofs.Common.{◌≡◌, ℕ, ◌<◌, List, ◌++◌, length, take, sym, ap, ◌∙◌, arith, append_assoc, length-append, lt-ltb, if◌then◌else◌}
+use Rattle.sgf_text.proofs.Common.{◌≡◌, ℕ, ◌<◌, List, ◌++◌, length, take, sym, ap, ◌∙◌, arith, length-append, GameTree, tree_place, Reads, outcome_of, outcome_in, cut_fault, byte_limit, TooLong, Syntax}
+use Rattle.std.proofs.Common.{append_assoc, lt-ltb, if◌then◌else◌}
 use Rattle.std.proofs.lemmas.List.{take-append-le}
-use Rattle.sgf_text.specs.Trees.{GameTree}
-use Rattle.sgf_text.specs.Grammar.{tree_place, Reads}
-use Rattle.sgf_text.specs.Followers.{outcome_of, outcome_in, cut_fault, byte_limit}
-use Rattle.sgf_text.specs.declared.fault.SgfFault.TheVariants.{TooLong, Syntax}
 use Rattle.sgf_text.specs.Laws.{FrontsDecide}
 use Rattle.sgf_text.proofs.Readings.{place_grow}
 

@@ -1,12 +1,5 @@
 -- Properties joined one after another, as a reader does it.
-use Rattle.std.proofs.Common.{◌≡◌, ℕ, List, [], ◌∷◌, ◌++◌, sym, ap, ◌∙◌, refl, rules, arith}
-use Rattle.std.specs.Prelude.{true, false}
-use Rattle.std.specs.Str.{bytes_eq}
-use Rattle.std.proofs.lemmas.List.{append_assoc, append-nil}
-use Rattle.std.proofs.lemmas.Bool.Decides.{nat_tests}
-use Rattle.sgf_text.specs.declared.node.Property.{Property}
-use Rattle.sgf_text.specs.Nodes.{is_named, values_at, without, joined}
-use Rattle.sgf_text.specs.OpenTrees.{added}
+use Rattle.sgf_text.proofs.Common.{◌≡◌, ℕ, List, [], ◌∷◌, ◌++◌, sym, ap, ◌∙◌, refl, rules, arith, true, false, bytes_eq, append_assoc, append-nil, nat_tests, Property, is_named, values_at, without, joined, added}
 use Rattle.sgf_text.proofs.AddedLemmas.{property, added_here, added_later, same_name, name_itself, flipped}
 
 -- the properties that are there, with further ones added in turn

@@ -1,23 +1,5 @@
 -- No byte breaks what an open tree keeps.
-use Rattle.std.proofs.Common.{◌≡◌, ◌≢◌, ℕ, List, [], ◌∷◌, ◌++◌, sym, ap, ◌∙◌, subst, refl, rules, arith}
-use Rattle.std.specs.Prelude.{true, false, IsTrue}
-use Rattle.std.specs.List.{list_all}
-use Rattle.std.proofs.lemmas.List.{append_assoc, append-nil}
-use Rattle.std.proofs.lemmas.Bool.{and_from, and_parts}
-use Rattle.std.proofs.lemmas.Bool.Decides.{nat_tests}
-use Rattle.sgf_text.specs.declared.followers.Sign.{Sign}
-use Rattle.sgf_text.specs.declared.followers.Sign.TheVariants.{White, Upper, Lower, OpenRound, CloseRound, Semicolon, OpenSquare, CloseSquare, Backslash, Other}
-use Rattle.sgf_text.specs.declared.followers.ParserState.{ParserState}
-use Rattle.sgf_text.specs.declared.followers.ParserState.TheVariants.{AfterOpen, AfterSemicolon, InIdent, AfterIdent, InValue, AfterBackslash, AfterValue, AfterChild}
-use Rattle.sgf_text.specs.declared.followers.Transition.{Transition}
-use Rattle.sgf_text.specs.declared.followers.Transition.TheVariants.{To}
-use Rattle.sgf_text.specs.declared.node.Property.{Property}
-use Rattle.sgf_text.specs.Bytes.{is_upper}
-use Rattle.sgf_text.specs.Nodes.{is_value_after, is_value, is_ident}
-use Rattle.sgf_text.specs.Trees.{GameTree}
-use Rattle.sgf_text.specs.Text.{is_tree}
-use Rattle.sgf_text.specs.Followers.{transition}
-use Rattle.sgf_text.specs.OpenTrees.{added, with_node, with_child, Parser, moved, led, node_ended, can_close, begun_in, opened_in, closed_in, IsSound, IsSoundWord, IsSoundProperty, IsSoundNode, IsSoundTree}
+use Rattle.sgf_text.proofs.Common.{◌≡◌, ◌≢◌, ℕ, List, [], ◌∷◌, ◌++◌, sym, ap, ◌∙◌, subst, refl, rules, arith, true, false, IsTrue, list_all, append_assoc, append-nil, and_from, and_parts, nat_tests, Sign, White, Upper, Lower, OpenRound, CloseRound, Semicolon, OpenSquare, CloseSquare, Backslash, Other, ParserState, AfterOpen, AfterSemicolon, InIdent, AfterIdent, InValue, AfterBackslash, AfterValue, AfterChild, Transition, To, Property, is_upper, is_value_after, is_value, is_ident, GameTree, is_tree, transition, added, with_node, with_child, Parser, moved, led, node_ended, can_close, begun_in, opened_in, closed_in, IsSound, IsSoundWord, IsSoundProperty, IsSoundNode, IsSoundTree}
 use Rattle.sgf_text.proofs.Signs.{Means}
 use Rattle.sgf_text.proofs.Sound.{IsPlain, plain_white, plain_letter, plain_at}
 use Rattle.sgf_text.proofs.ForestLemmas.{join_good}

@@ -1,19 +1,5 @@
 -- What an open tree keeps, step by step.
-use Rattle.std.proofs.Common.{◌≡◌, ℕ, List, [], ◌∷◌, ◌++◌, refl, rules, arith}
-use Rattle.std.specs.Prelude.{Bool, true, false, IsTrue}
-use Rattle.std.specs.List.{list_all}
-use Rattle.std.proofs.lemmas.Bool.{and_from, and_parts}
-use Rattle.std.proofs.lemmas.Bool.Decides.{nat_tests}
-use Rattle.sgf_text.specs.declared.followers.Sign.{Sign}
-use Rattle.sgf_text.specs.declared.followers.ParserState.{ParserState}
-use Rattle.sgf_text.specs.declared.followers.ParserState.TheVariants.{AfterOpen, AfterSemicolon, AfterValue}
-use Rattle.sgf_text.specs.declared.followers.Transition.TheVariants.{Opens, Begins, Closes}
-use Rattle.sgf_text.specs.declared.node.Property.{Property}
-use Rattle.sgf_text.specs.Nodes.{is_node}
-use Rattle.sgf_text.specs.Trees.{Node, GameTree}
-use Rattle.sgf_text.specs.Text.{is_tree, is_forest, are_nodes}
-use Rattle.sgf_text.specs.Followers.{transition}
-use Rattle.sgf_text.specs.OpenTrees.{added, with_node, Parser, node_ended, can_close, IsSound, IsSoundProperty, IsSoundNode, IsSoundTree}
+use Rattle.sgf_text.proofs.Common.{◌≡◌, ℕ, List, [], ◌∷◌, ◌++◌, refl, rules, arith, Bool, true, false, IsTrue, list_all, and_from, and_parts, nat_tests, Sign, ParserState, AfterOpen, AfterSemicolon, AfterValue, Opens, Begins, Closes, Property, is_node, Node, GameTree, is_tree, is_forest, are_nodes, transition, added, with_node, Parser, node_ended, can_close, IsSound, IsSoundProperty, IsSoundNode, IsSoundTree}
 use Rattle.sgf_text.proofs.AddedLemmas.{added_good}
 
 abbrev pub open_at : ParserState → List ℕ → List ℕ → List (List ℕ) → List Property → GameTree → List GameTree → ℕ → Parser

@@ -1,10 +1,5 @@
 -- Where a tree begins, found in one pass.
-use Rattle.std.proofs.Common.{◌≡◌, ℕ, suc, ◌+◌, ◌<◌, ◌≤◌, List, [], ◌∷◌, length, get_or, drop, sym, ap, ◌∙◌, arith, rules}
-use Rattle.std.specs.Prelude.{true, false, cond, ◌==◌, Option, Some, None, option_map}
-use Rattle.std.proofs.Math.Seq.{drop-cons}
-use Rattle.std.proofs.Math.ListN.{drop_of_length-le}
-use Rattle.sgf_text.specs.Bytes.{is_white}
-use Rattle.sgf_text.specs.Grammar.{starts_node, tree_place}
+use Rattle.sgf_text.proofs.Common.{◌≡◌, ℕ, suc, ◌+◌, ◌<◌, ◌≤◌, List, [], ◌∷◌, length, get_or, drop, sym, ap, ◌∙◌, arith, rules, true, false, cond, ◌==◌, Option, Some, None, option_map, drop-cons, drop_of_length-le, is_white, starts_node, tree_place}
 
 -- the tree begins at the last "(" where what comes starts a node, or else in what comes
 abbrev pub scan : Option ℕ → ℕ → List ℕ → Option ℕ

@@ -1,14 +1,8 @@
 -- A map of places, with one name more.
-use Rattle.std.proofs.Common.{◌≡◌, ℕ, suc, ◌+◌, List, [], ◌∷◌, ◌++◌, sym, ap, ◌∙◌, refl, arith, rules}
-use Rattle.std.specs.Prelude.{Bool, true, false, cond, Some, None, length, position}
-use Rattle.std.specs.List.{position_from}
-use Rattle.std.specs.Str.{bytes_eq}
-use Rattle.std.specs.BTreeMap.{BTreeMap, Updates, get}
+use Rattle.sgf_text.proofs.Common.{◌≡◌, ℕ, suc, ◌+◌, List, [], ◌∷◌, ◌++◌, sym, ap, ◌∙◌, refl, arith, rules, Bool, true, false, cond, Some, None, position, position_from, bytes_eq, BTreeMap, Updates, position_from-zero, bytes_order, Property, ArePlaces, names_of}
+use Rattle.std.specs.Prelude.{length}
+use Rattle.std.specs.BTreeMap.{get}
 use Rattle.std.specs.Cmp.Lexicographic.{texts_ties}
-use Rattle.std.proofs.lemmas.Iterator.Adapters.{position_from-zero}
-use Rattle.sgf_text.specs.Bytes.{bytes_order}
-use Rattle.sgf_text.specs.declared.node.Property.{Property}
-use Rattle.sgf_text.specs.OpenTrees.{ArePlaces, names_of}
 use Rattle.sgf_text.proofs.AddedLemmas.{same_name}
 
 turned : (a b : List ℕ) → bytes_eq a b ≡ bytes_eq b a

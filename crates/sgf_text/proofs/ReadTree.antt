@@ -1,19 +1,7 @@
 -- From the reader's steps to what it answers.
-use Rattle.std.proofs.Common.{◌≡◌, ◌≢◌, ℕ, suc, ◌+◌, ◌<◌, ◌≤◌, List, ◌∷◌, ◌++◌, length, get_or, take, drop, sym, ap, ◌∙◌, subst, refl, arith}
-use Rattle.std.specs.Prelude.{Some, None, option_map, Ok, Err}
-use Rattle.std.proofs.Math.Seq.{drop-cons}
-use Rattle.std.proofs.Math.ListN.{drop_of_length-le}
-use Rattle.std.proofs.lemmas.List.{take-append-drop, get_or-take, length-take, length-append}
-use Rattle.std.proofs.lemmas.Bool.Decides.{nat_tests}
-use Rattle.sgf_text.specs.declared.followers.ParserState.TheVariants.{AfterOpen}
-use Rattle.sgf_text.specs.declared.fault.SgfFault.{SgfFault}
-use Rattle.sgf_text.specs.declared.fault.SgfFault.TheVariants.{NoTree, Syntax, TooLong, TooDeep, TooMany, Memory}
-use Rattle.sgf_text.specs.Bytes.{sign_of}
-use Rattle.sgf_text.specs.Trees.{GameTree}
-use Rattle.sgf_text.specs.Grammar.{tree_place, Reads, joined_tree}
-use Rattle.sgf_text.specs.Followers.{transition, byte_limit, cut_fault, outcome_in, outcome_of}
-use Rattle.sgf_text.specs.Laws.{IsWithin}
-use Rattle.sgf_text.specs.OpenTrees.{Parser, at_start, Steps, IsSound}
+use Rattle.sgf_text.proofs.Common.{◌≡◌, ◌≢◌, ℕ, suc, ◌+◌, ◌<◌, ◌≤◌, List, ◌∷◌, ◌++◌, length, get_or, take, drop, sym, ap, ◌∙◌, subst, refl, arith, Some, None, option_map, Ok, Err, drop-cons, drop_of_length-le, take-append-drop, length-take, nat_tests, AfterOpen, SgfFault, NoTree, Syntax, TooLong, TooDeep, TooMany, Memory, sign_of, GameTree, tree_place, Reads, joined_tree, transition, byte_limit, cut_fault, outcome_in, outcome_of, IsWithin, Parser, Steps, IsSound}
+use Rattle.std.proofs.lemmas.List.{get_or-take, length-append}
+use Rattle.sgf_text.specs.OpenTrees.{at_start}
 use Rattle.sgf_text.proofs.Readings.{finds_of, one_reading, no_fault_where_read, place_split, place_grow}
 use Rattle.sgf_text.proofs.Filled.{filled}
 use Rattle.sgf_text.proofs.Reading.{completed, ends, Follows, steps_follow}

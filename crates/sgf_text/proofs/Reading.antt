@@ -1,18 +1,5 @@
 -- Each byte that the reader takes is one step of the followers and of the reader on lists.
-use Rattle.std.proofs.Common.{◌≡◌, ℕ, suc, ◌+◌, List, [], ◌∷◌, sym, ap, ◌∙◌, subst, refl, arith, length, rules}
-use Rattle.std.specs.Prelude.{true, nat_lt, Option, Some, None, option_map, Result, Ok, Err}
-use Rattle.std.proofs.lemmas.Bool.Decides.{nat_tests}
-use Rattle.sgf_text.specs.declared.followers.Sign.{Sign}
-use Rattle.sgf_text.specs.declared.followers.ParserState.{ParserState}
-use Rattle.sgf_text.specs.declared.followers.ParserState.TheVariants.{AfterOpen, AfterChild}
-use Rattle.sgf_text.specs.declared.followers.Transition.{Transition}
-use Rattle.sgf_text.specs.declared.followers.Transition.TheVariants.{Opens, Begins, Closes, To, Refused}
-use Rattle.sgf_text.specs.declared.fault.SgfFault.{SgfFault}
-use Rattle.sgf_text.specs.declared.fault.SgfFault.TheVariants.{NoTree, Syntax, TooLong, TooDeep, TooMany, Memory}
-use Rattle.sgf_text.specs.Bytes.{sign_of}
-use Rattle.sgf_text.specs.Trees.{Node, Forest, GameTree}
-use Rattle.sgf_text.specs.Followers.{transition, tree_end, depth_limit, node_limit}
-use Rattle.sgf_text.specs.OpenTrees.{Parser, moved, led, node_ended, begun_in, opened_in, closed_in, Steps, IsSound}
+use Rattle.sgf_text.proofs.Common.{◌≡◌, ℕ, suc, ◌+◌, List, [], ◌∷◌, sym, ap, ◌∙◌, subst, refl, arith, length, rules, true, nat_lt, Option, Some, None, option_map, Result, Ok, Err, nat_tests, Sign, ParserState, AfterOpen, AfterChild, Transition, Opens, Begins, Closes, To, Refused, SgfFault, NoTree, Syntax, TooLong, TooDeep, TooMany, Memory, sign_of, Node, Forest, GameTree, transition, tree_end, depth_limit, node_limit, Parser, moved, led, node_ended, begun_in, opened_in, closed_in, Steps, IsSound}
 use Rattle.sgf_text.proofs.Signs.{means}
 use Rattle.sgf_text.proofs.Machine.{Front, front, closed, opened, begun, kept, complete}
 use Rattle.sgf_text.proofs.Sound.{sound}

@@ -1,13 +1,9 @@
 -- Tokens at a place of a text.
-use Rattle.std.proofs.Common.{◌≡◌, ℕ, zero, suc, ◌+◌, ◌-◌, ◌<◌, List, [], ◌∷◌, length, get_or, take, drop, refl, sym, ap, ◌∙◌, arith, rules}
-use Rattle.std.specs.Prelude.{true, false}
-use Rattle.std.proofs.Math.Seq.{drop-cons}
+use Rattle.sgf_text.proofs.Common.{◌≡◌, ℕ, zero, suc, ◌+◌, ◌-◌, ◌<◌, List, [], ◌∷◌, length, get_or, take, drop, refl, sym, ap, ◌∙◌, arith, rules, true, false, drop-cons, nat_tests, is_white, tokens_after}
 use Rattle.std.proofs.lemmas.List.{drop-drop}
-use Rattle.std.proofs.lemmas.Bool.Decides.{nat_tests}
 use Rattle.sgf_text.specs.declared.token.TokenKind.{TokenKind}
 use Rattle.byte_writer.proofs.TakenLemmas.{rest_is}
-use Rattle.sgf_text.specs.Bytes.{is_white}
-use Rattle.sgf_text.specs.Tokens.{Span, tokens_after, token_len, kind_of, first_len}
+use Rattle.sgf_text.specs.Tokens.{Span, token_len, kind_of, first_len}
 
 -- white space is passed over
 white_head : (at c : ℕ) (rest : List ℕ) → is_white c ≡ true → tokens_after 0 at (c ∷ rest) ≡ tokens_after 0 (at + 1) rest

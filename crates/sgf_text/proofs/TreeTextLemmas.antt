@@ -1,10 +1,6 @@
 -- The text of a tree, child by child.
-use Rattle.std.proofs.Common.{◌≡◌, ℕ, zero, suc, ◌<◌, List, [], ◌∷◌, get_or, ap, refl, length, arith}
-use Rattle.std.specs.Prelude.{flat_map}
-use Rattle.std.proofs.lemmas.List.{append_assoc}
-use Rattle.std.proofs.lemmas.Bool.Decides.{nat_tests}
-use Rattle.sgf_text.specs.Text.{tree_text, forest_text}
-use Rattle.sgf_text.specs.Trees.{GameTree, forest_of, forest_count, tree_count}
+use Rattle.sgf_text.proofs.Common.{◌≡◌, ℕ, zero, suc, ◌<◌, List, [], ◌∷◌, get_or, ap, refl, length, arith, flat_map, append_assoc, nat_tests, tree_text, forest_text, GameTree, forest_of, tree_count}
+use Rattle.sgf_text.specs.Trees.{forest_count}
 
 pub forest_flat : (kids : List GameTree) → forest_text (forest_of kids) ≡ flat_map tree_text kids
 forest_flat [] = refl

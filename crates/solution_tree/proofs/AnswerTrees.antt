@@ -1,13 +1,10 @@
 -- The equations of what an answer tree of the program says.
-use Rattle.std.proofs.Common.{arith, ◌≡◌, ℕ, ◌+◌, ◌<◌, ◌≤◌, length, drop, get_or, List, [], ◌∷◌, ◌++◌, Vec, Box, Global, sym, ap, ◌∙◌, refl}
+use Rattle.solution_tree.proofs.Common.{arith, ◌≡◌, ℕ, ◌+◌, ◌<◌, ◌≤◌, length, drop, get_or, List, [], ◌∷◌, ◌++◌, Vec, Box, Global, sym, ap, ◌∙◌, refl, nat_tests, Turn, ply_of, AnswerTree, leaf, turn, replies, none, reply, reply_sizes, answer_of, replies_of, Answer}
 use Rattle.std.specs.List.{IsLastAndRest}
 use Rattle.std.proofs.lemmas.List.{at_drop_more, at_drop_all}
-use Rattle.std.proofs.lemmas.Bool.Decides.{nat_tests}
-use Rattle.go_points.specs.declared.Turn.{Turn}
-use Rattle.go_points.specs.Ply.{ply_of}
-use Rattle.target_game.specs.Answers.{AnswerTree, leaf, turn, replies, none, reply, answer_size, reply_sizes}
-use Rattle.solution_tree.specs.Answer.{answer_step, answer_of, replies_of}
-use Rattle.solution_tree.specs.declared.answer.Answer.{Answer, Answer-F, fold-roll-Answer}
+use Rattle.target_game.specs.Answers.{answer_size}
+use Rattle.solution_tree.specs.Answer.{answer_step}
+use Rattle.solution_tree.specs.declared.answer.Answer.{Answer-F, fold-roll-Answer}
 use Rattle.solution_tree.specs.declared.answer.Answer.TheVariants as code
 
 pub answer_of_won : (n : ℕ) → answer_of n code.Won ≡ leaf

@@ -1,18 +1,10 @@
 -- The replies of an expansion ascend, points first and then pass: those that are due do, and what the past bars is left out.
-use Rattle.std.proofs.Common.{ℕ, zero, suc, ◌+◌, ◌*◌, ◌<◌, Bool, true, false, ◌&&◌, nat_lt, List, [], ◌∷◌, ◌++◌, map, filter, IsTrue, refl, sym, subst, arith, lt-ltb, rules}
-use Rattle.std.specs.Prelude.{cond, slice_index_or}
-use Rattle.std.specs.List.{list_all, range_with_len}
-use Rattle.std.proofs.lemmas.Bool.Decides.{nat_tests}
-use Rattle.go_points.specs.declared.Colour.{Colour}
-use Rattle.go_points.specs.Ply.{Ply, pass, move}
-use Rattle.target_game.specs.State.{Game, GameState, start}
-use Rattle.target_game.specs.Legal.{legal, legal_turns}
-use Rattle.target_game.specs.Next.{next}
-use Rattle.target_game.specs.Answers.{AnswerTree, leaf, reply}
-use Rattle.proof_cert.specs.Claim.{Node, won, by_lemma, play, all, Branches, no_branch, branch, branch_turns, Head, Lemma, heads_of}
-use Rattle.cert_check.specs.Body.{Body, lemma_body, lemma_start, main_body}
-use Rattle.cert_check.specs.Validity.{FitsNode, FitsBranches, AreValidLemmas}
-use Rattle.cert_check.specs.Expand.{answer_at, expand_node, expand_branches, answers_behind}
+use Rattle.solution_tree.proofs.Common.{ℕ, zero, suc, ◌+◌, ◌*◌, ◌<◌, Bool, true, false, ◌&&◌, nat_lt, List, [], ◌∷◌, ◌++◌, IsTrue, refl, sym, subst, arith, rules, cond, list_all, nat_tests, Colour, Ply, pass, move, Game, GameState, start, legal, legal_turns, next, AnswerTree, leaf, reply, won, by_lemma, play, all, Branches, no_branch, branch, Head, Lemma, heads_of, Body, lemma_body, main_body, FitsNode, FitsBranches, AreValidLemmas, answer_at, expand_node, expand_branches, answers_behind}
+use Rattle.std.proofs.Common.{map, filter, lt-ltb}
+use Rattle.std.specs.Prelude.{slice_index_or}
+use Rattle.std.specs.List.{range_with_len}
+use Rattle.proof_cert.specs.Claim.{Node, branch_turns}
+use Rattle.cert_check.specs.Body.{lemma_start}
 use Rattle.cert_check.proofs.Members.{and_first, and_second, and_both}
 use Rattle.tsumego_problem.specs.Canonical.{comes_before, comes_first, ascends, all_ascend}
 use Rattle.solution_tree.specs.Laws.{ExpansionsAscend}

@@ -1,25 +1,16 @@
 -- Counting the turns of a claim's tree: what a turn more leaves to be counted.
-use Rattle.std.proofs.Common.{◌≡◌, ℕ, ◌+◌, ◌≤◌, Bool, true, false, ◌&&◌, IsTrue, List, [], ◌∷◌, ◌++◌, Option, Some, Result, Ok, Err, IfOk, Bor, Box, Vec, Global, refl, sym, ap, ◌∙◌, subst, arith}
+use Rattle.solution_tree.proofs.Common.{◌≡◌, ℕ, ◌+◌, ◌≤◌, Bool, true, false, ◌&&◌, IsTrue, List, [], ◌∷◌, ◌++◌, Option, Some, Result, Ok, Err, Bor, Box, Vec, Global, refl, sym, ap, ◌∙◌, subst, arith, Turn, Ply, ply_of, and_left, and_right, GameState, Line, start, line_if, legal, next, AnswerTree, ReplyTrees, turn, replies, none, reply, reply_sizes, play, all, node_of_play, CheckedClaim, IsChecked, expand_node, expand_branches, Waiting, all_below, branches_at, expanded, lemma_answers, lemma_count, tree_at, uses_below, IsPlayed, due, with_one}
+use Rattle.std.proofs.Common.{IfOk}
 use Rattle.std.proofs.lemmas.List.{reverse-append}
-use Rattle.go_points.specs.declared.Turn.{Turn}
-use Rattle.go_points.specs.Ply.{Ply, ply_of}
-use Rattle.go_points.proofs.Lists.{and_left, and_right}
-use Rattle.target_game.specs.State.{GameState, Line, start}
-use Rattle.target_game.specs.Left.{line_after, line_if}
-use Rattle.target_game.specs.Legal.{legal}
-use Rattle.target_game.specs.Next.{next}
-use Rattle.target_game.specs.Answers.{AnswerTree, ReplyTrees, turn, replies, none, reply, answer_size, reply_sizes}
+use Rattle.target_game.specs.Left.{line_after}
+use Rattle.target_game.specs.Answers.{answer_size}
 use Rattle.proof_cert.specs.Certificate as claim
-use Rattle.proof_cert.specs.Claim.{Node, play, all}
+use Rattle.proof_cert.specs.Claim.{Node}
 use Rattle.proof_cert.specs.declared.certificate.Node as code
 use Rattle.proof_cert.specs.declared.certificate.Node.TheVariants as node_of_claim
 use Rattle.proof_cert.specs.declared.certificate.Certificate as certificate_type
-use Rattle.proof_cert.proofs.Certificates.{node_of_play, node_of_all}
-use Rattle.cert_check.specs.Checked.{CheckedClaim, IsChecked}
-use Rattle.cert_check.specs.Expand.{expand_node, expand_branches}
-use Rattle.solution_tree.specs.declared.turn_count.Waiting.{Waiting}
-use Rattle.solution_tree.specs.Private.Opened.{all_below, branches_at, expanded, lemma_answers, lemma_count, tree_at, uses_below}
-use Rattle.solution_tree.specs.Private.Counting.{IsPlayed, due, due_before, found_size, latest_first, waiting_size, with_one}
+use Rattle.proof_cert.proofs.Certificates.{node_of_all}
+use Rattle.solution_tree.specs.Private.Counting.{due_before, found_size, latest_first, waiting_size}
 use Rattle.solution_tree.proofs.Lower.{main_is_below}
 use Rattle.solution_tree.proofs.NextReplies.{replies_kept, replies_left_out}
 

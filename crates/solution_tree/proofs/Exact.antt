@@ -1,29 +1,14 @@
 -- Where the nodes below are an answer tree of a side, the audit names that side.
-use Rattle.std.proofs.Common.{◌≡◌, ℕ, ◌+◌, refl, sym, ◌∙◌, ap, subst, inl, rules, arith}
-use Rattle.std.specs.Prelude.{true, false, cond, not, ◌&&◌, ◌||◌, is_some, List, [], ◌∷◌, ◌++◌, find, option_map, Option, Some, None, is_none, Ok, unwrap_or, position}
-use Rattle.std.specs.List.{list_all}
-use Rattle.std.proofs.lemmas.List.{append_assoc, append-nil}
-use Rattle.std.proofs.lemmas.List.Folds.{list_any-append}
-use Rattle.std.proofs.lemmas.Bool.Decides.{nat_tests}
-use Rattle.go_points.specs.declared.Colour.{Colour}
-use Rattle.go_points.specs.Grid.{same_colour, opponent_of}
-use Rattle.go_points.specs.Ply.{Ply, pass, holds_ply}
-use Rattle.go_points.proofs.Lists.{Member, or_right, and_left, and_right, and_both, not_true, all_at, all_from}
-use Rattle.target_game.specs.State.{GameState, GameProblem, start}
-use Rattle.target_game.specs.Legal.{legal, legal_turns}
-use Rattle.target_game.specs.Next.{next}
-use Rattle.target_game.specs.Over.{over}
-use Rattle.target_game.specs.Wins.{is_winner}
-use Rattle.target_game.specs.Answers.{AnswerTree, leaf, turn, replies, ReplyTrees, none, reply, turns_of, each_once, same_plies, answers, all_answer}
-use Rattle.target_game.proofs.Winning.{answers_turn, answers_replies, all_reply, same_ply_eq, lists_the_legal, member_holds, holds_member, legal_member}
+use Rattle.solution_tree.proofs.Common.{◌≡◌, ℕ, ◌+◌, refl, sym, ◌∙◌, ap, subst, inl, rules, arith, cond, find, option_map, is_none, unwrap_or, list_all, append_assoc, append-nil, list_any-append, nat_tests, Colour, same_colour, opponent_of, Ply, pass, holds_ply, or_right, and_left, and_right, and_both, not_true, all_at, all_from, GameState, GameProblem, start, legal, legal_turns, next, over, is_winner, AnswerTree, leaf, turn, replies, ReplyTrees, none, reply, turns_of, each_once, same_plies, same_ply_eq, lists_the_legal, Node, Forest, no_tree, tree_then, GameTree, is_forest, are_nodes, problem_node, children_of, Carries, Shows, ShowsEach, Nodes, no_node, node_then, sequence, nodes_of, nodes_in, nodes_below, count_nodes, carried, at_or, with_turn, turns_in, reply_missing, missing, reply_fault, has_children, has_several, rest_fault, faults_below, first_line, then_all, unless_fault, audit}
+use Rattle.std.specs.Prelude.{true, false, not, ◌&&◌, ◌||◌, is_some, List, [], ◌∷◌, ◌++◌, Option, Some, None, Ok, position}
+use Rattle.go_points.proofs.Lists.{Member}
+use Rattle.target_game.specs.Answers.{answers, all_answer}
+use Rattle.target_game.proofs.Winning.{answers_turn, answers_replies, all_reply, member_holds, holds_member, legal_member}
 use Rattle.sgf_text.specs.Nodes.{is_node}
-use Rattle.sgf_text.specs.Trees.{Node, Forest, no_tree, tree_then, GameTree}
-use Rattle.sgf_text.specs.Text.{is_forest, are_nodes, is_tree}
-use Rattle.tsumego_problem.specs.Walk.{is_marked, line_below, problem_node}
-use Rattle.tsumego_problem.specs.Below.{children_of, below_in, below_line, below_problem, Carries, Shows, ShowsEach, Below}
+use Rattle.sgf_text.specs.Text.{is_tree}
+use Rattle.tsumego_problem.specs.Walk.{is_marked, line_below}
+use Rattle.tsumego_problem.specs.Below.{below_in, below_line, below_problem, Below}
 use Rattle.tsumego_problem.proofs.FirstPlace.{behind, place_in_both}
-use Rattle.solution_tree.specs.Below.{Nodes, no_node, node_then, sequence, nodes_of, nodes_in, nodes_below, count_nodes, carried}
-use Rattle.solution_tree.specs.Audit.{at_or, with_turn, turns_in, reply_missing, missing, reply_fault, has_children, has_several, rest_fault, faults_below, first_line, then_all, unless_fault, audit}
 use Rattle.solution_tree.specs.Laws.{AuditIsExact}
 use Rattle.solution_tree.proofs.Sound.{Stands, StandsEach}
 use Rattle.solution_tree.proofs.Shown.{nodes_of_children, audited_trees_stand}

@@ -1,21 +1,8 @@
 -- The open turns of an expansion: one more of them, one less, and what the whole tree says of the tree below them.
-use Rattle.std.proofs.Common.{◌≡◌, ℕ, ◌+◌, ◌≤◌, Bool, true, false, ◌&&◌, List, [], ◌∷◌, ◌++◌, refl, ap, ◌∙◌, arith}
-use Rattle.std.specs.Prelude.{is_none, not}
-use Rattle.go_points.specs.declared.Colour.{Colour}
-use Rattle.go_points.specs.Grid.{same_colour}
-use Rattle.go_points.specs.Ply.{Ply, ply_of}
-use Rattle.go_points.proofs.Lists.{and_left, and_right}
-use Rattle.target_game.specs.State.{GameState, Line}
-use Rattle.target_game.specs.Legal.{legal, legal_turns}
-use Rattle.target_game.specs.Next.{next}
-use Rattle.target_game.specs.Over.{over}
-use Rattle.target_game.specs.Answers.{AnswerTree, turn, replies, ReplyTrees, none, reply, answer_size, reply_sizes, answers, all_answer, each_once, same_plies, turns_of}
+use Rattle.solution_tree.proofs.Common.{◌≡◌, ℕ, ◌+◌, ◌≤◌, Bool, true, false, ◌&&◌, List, [], ◌∷◌, ◌++◌, refl, ap, ◌∙◌, arith, is_none, Colour, same_colour, Ply, ply_of, and_left, and_right, GameState, Line, legal, legal_turns, next, over, AnswerTree, turn, replies, ReplyTrees, none, reply, reply_sizes, each_once, same_plies, turns_of, CheckedClaim, replies_of, OpenTurn, Made, Reply, branches_at, closed, finish, lemma_count, all_below, open_below, open_size, open_sizes, played, replies_then, turn_of}
+use Rattle.std.specs.Prelude.{not}
+use Rattle.target_game.specs.Answers.{answer_size, answers, all_answer}
 use Rattle.proof_cert.specs.Certificate as claim
-use Rattle.cert_check.specs.Checked.{CheckedClaim}
-use Rattle.solution_tree.specs.Answer.{replies_of}
-use Rattle.solution_tree.specs.declared.opened.OpenTurn.{OpenTurn}
-use Rattle.solution_tree.specs.declared.opened.OpenTurn.TheVariants.{Made, Reply}
-use Rattle.solution_tree.specs.Private.Opened.{branches_at, closed, finish, lemma_count, all_below, open_below, open_size, open_sizes, played, replies_then, turn_of}
 use Rattle.cert_check.proofs.Soundness.{game-next}
 
 -- ---- play

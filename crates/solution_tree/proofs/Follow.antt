@@ -1,11 +1,6 @@
 -- What follows a node: the rest of its sequence, or the child trees after it.
-use Rattle.std.proofs.Common.{◌≡◌, true, false, not, nat_eq, nat_lt, List, [], ◌∷◌, length, refl, ◌∙◌, arith, rules}
+use Rattle.solution_tree.proofs.Common.{◌≡◌, true, false, not, nat_eq, nat_lt, List, [], ◌∷◌, length, refl, ◌∙◌, arith, rules, Node, GameTree, no_tree, tree_then, forest_of, is_forest, nodes_of, has_children, has_several, follows}
 use Rattle.std.proofs.lemmas.Bool.{le-ltb}
-use Rattle.sgf_text.specs.Trees.{Node, GameTree, no_tree, tree_then, forest_of}
-use Rattle.sgf_text.specs.Text.{is_forest}
-use Rattle.solution_tree.specs.Below.{nodes_of}
-use Rattle.solution_tree.specs.Audit.{has_children, has_several}
-use Rattle.solution_tree.specs.Private.Asked.{follows}
 
 some_length : {A : Type 0} (x : A) (xs : List A) → nat_eq (length (x ∷ xs)) 0 ≡ false
 some_length x xs = search rules

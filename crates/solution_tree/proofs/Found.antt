@@ -1,19 +1,10 @@
 -- The faults of nodes, put together.
-use Rattle.std.proofs.Common.{◌≡◌, ℕ, ◌+◌, Bool, true, false, not, ◌||◌, List, [], ◌∷◌, ◌++◌, length, Option, Some, None, Result, ◌⊎◌, ap, ◌∙◌, refl, subst, arith, rules}
-use Rattle.std.specs.Option.{option_or}
-use Rattle.std.proofs.lemmas.Bool.Decides.{nat_tests}
-use Rattle.go_points.specs.declared.Colour.{Colour}
-use Rattle.go_points.specs.Grid.{same_colour}
-use Rattle.go_points.specs.Ply.{Ply, holds_ply}
-use Rattle.target_game.specs.State.{GameState}
-use Rattle.target_game.specs.Next.{next}
-use Rattle.sgf_text.specs.Trees.{Node, GameTree, Forest, tree_then, forest_of}
+use Rattle.solution_tree.proofs.Common.{◌≡◌, ℕ, ◌+◌, Bool, true, false, not, ◌||◌, List, [], ◌∷◌, ◌++◌, length, Option, Some, None, Result, ap, ◌∙◌, refl, subst, arith, rules, option_or, nat_tests, Colour, same_colour, Ply, holds_ply, GameState, next, Node, GameTree, Forest, tree_then, forest_of, Nodes, no_node, node_then, sequence, nodes_of, count_nodes, carried, Why, Fault, ask, at_or, reply_twice, turn_fault, after_turn, with_turn, is_new, rest_fault, faults_below, faults_of, follows, IsFound}
+use Rattle.std.proofs.Common.{◌⊎◌}
 use Rattle.solution_tree.specs.declared.fault.AuditWhy.{AuditWhy}
-use Rattle.solution_tree.specs.Below.{Nodes, no_node, node_then, sequence, nodes_of, count_nodes, carried}
 use Rattle.solution_tree.specs.declared.fault.AuditFault.{AuditFault}
-use Rattle.solution_tree.specs.Audit.{Why, Fault, ask, at_or, reply_twice, turn_fault, after_turn, with_turn, is_new, rest_fault, faults_below, faults_of}
 use Rattle.solution_tree.specs.Faults.{IsFault}
-use Rattle.solution_tree.specs.Private.Asked.{follows, IsWhy, IsFound}
+use Rattle.solution_tree.specs.Private.Asked.{IsWhy}
 
 pub fault_same : (n m : ℕ) (r q : Result Colour Fault) (e : AuditFault) → n ≡ m → r ≡ q → IsFault n r e → IsFault m q e
 fault_same n m r q e size same h = subst (λ k. IsFault k q e) size (subst (λ z. IsFault n z e) same h)

@@ -1,9 +1,5 @@
 -- Turns made, and taken back.
-use Rattle.std.proofs.Common.{◌≡◌, ℕ, suc, ◌∷◌, rules}
-use Rattle.go_points.specs.Ply.{Ply}
-use Rattle.target_game.specs.State.{GameState, Line}
-use Rattle.target_game.specs.Next.{next}
-use Rattle.solution_tree.specs.Private.Asked.{Leads}
+use Rattle.solution_tree.proofs.Common.{◌≡◌, ℕ, suc, ◌∷◌, rules, Ply, GameState, Line, next, Leads}
 
 -- one turn more
 pub leads_more : (k : ℕ) (first l m : Line) (s : GameState) → m.before ≡ l.state ∷ l.before → Leads k first l → Leads (suc k) first m

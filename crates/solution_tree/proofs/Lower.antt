@@ -1,26 +1,17 @@
 -- The lemmas that a checked claim uses are lower ones, so the answers of all its lemmas serve each body.
-use Rattle.std.proofs.Common.{◌≡◌, ℕ, zero, suc, ◌+◌, ◌-◌, ◌<◌, ◌≤◌, Bool, true, false, ◌&&◌, nat_le, IsTrue, List, [], ◌∷◌, ◌++◌, length, get_or, refl, sym, ap, ◌∙◌, subst, arith, rules}
+use Rattle.solution_tree.proofs.Common.{◌≡◌, ℕ, zero, suc, ◌+◌, ◌<◌, ◌≤◌, Bool, true, false, ◌&&◌, IsTrue, List, [], ◌∷◌, ◌++◌, length, get_or, refl, sym, ap, ◌∙◌, subst, arith, rules, nat_tests, Colour, and_left, and_right, and_both, Game, GameState, start, next, legal, AnswerTree, leaf, turn, replies, ReplyTrees, reply, won, by_lemma, play, all, Branches, no_branch, branch, Head, Lemma, heads_of, claim_of, node_of, Body, lemma_body, main_body, FitsNode, FitsBranches, AreValidLemmas, CheckedClaim, IsChecked, answer_at, expand_node, expand_branches, answers_behind, lemma_answers, lemma_count, tree_at, uses_below, all_below}
+use Rattle.std.proofs.Common.{◌-◌, nat_le}
 use Rattle.std.proofs.lemmas.List.{get_or_append_left, get_or-append-add, get_or-map, length-append, length-map}
 use Rattle.std.proofs.lemmas.Option.{slice_get_within}
 use Rattle.std.proofs.lemmas.Bool.{leb-true, le-leb}
-use Rattle.std.proofs.lemmas.Bool.Decides.{nat_tests}
-use Rattle.go_points.specs.declared.Colour.{Colour}
-use Rattle.go_points.proofs.Lists.{and_left, and_right, and_both}
-use Rattle.target_game.specs.State.{Game, GameState, start}
-use Rattle.target_game.specs.Next.{next}
-use Rattle.target_game.specs.Legal.{legal}
-use Rattle.target_game.specs.Answers.{AnswerTree, leaf, turn, replies, ReplyTrees, reply}
-use Rattle.proof_cert.specs.Claim.{Node, won, by_lemma, play, all, Branches, no_branch, branch, Head, Lemma, heads_of}
-use Rattle.proof_cert.specs.Certificate.{claim_of, node_of, lemma_of}
+use Rattle.proof_cert.specs.Claim.{Node}
+use Rattle.proof_cert.specs.Certificate.{lemma_of}
 use Rattle.proof_cert.specs.declared.certificate.Lemma as code
 use Rattle.proof_cert.specs.declared.certificate.Node as claim
 use Rattle.proof_cert.specs.declared.certificate.Node.TheVariants.{Use}
 use Rattle.proof_cert.proofs.Certificates.{node_of_use}
-use Rattle.cert_check.specs.Body.{Body, lemma_body, main_body}
-use Rattle.cert_check.specs.Validity.{FitsNode, FitsBranches, IsValidLemma, AreValidLemmas}
-use Rattle.cert_check.specs.Checked.{CheckedClaim, IsChecked}
-use Rattle.cert_check.specs.Expand.{answer_at, expand_node, expand_branches, answers_behind}
-use Rattle.solution_tree.specs.Private.Opened.{lemma_answers, lemma_count, tree_at, uses_below, all_below, lemmas_below}
+use Rattle.cert_check.specs.Validity.{IsValidLemma}
+use Rattle.solution_tree.specs.Private.Opened.{lemmas_below}
 use Rattle.cert_check.proofs.FirstNodes.{longer}
 use Rattle.cert_check.proofs.Spelling.{length-heads_of}
 

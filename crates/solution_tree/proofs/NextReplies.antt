@@ -1,16 +1,8 @@
 -- The replies of a node, one by one: those that are legal are kept.
-use Rattle.std.proofs.Common.{◌≡◌, ℕ, true, false, IsTrue, List, ◌∷◌, ap, ◌∙◌, rules}
-use Rattle.go_points.specs.declared.Turn.{Turn}
-use Rattle.go_points.specs.Ply.{Ply, ply_of}
-use Rattle.target_game.specs.State.{GameState}
-use Rattle.target_game.specs.Next.{next}
-use Rattle.target_game.specs.Legal.{legal}
-use Rattle.target_game.specs.Answers.{AnswerTree, reply}
-use Rattle.proof_cert.specs.Claim.{Node, Branches, branch}
-use Rattle.proof_cert.specs.Certificate.{node_of, replies_of}
+use Rattle.solution_tree.proofs.Common.{◌≡◌, ℕ, true, false, IsTrue, List, ◌∷◌, ap, ◌∙◌, rules, Turn, Ply, ply_of, GameState, next, legal, AnswerTree, reply, Branches, branch, node_of, expand_node, expand_branches, uses_below, all_below}
+use Rattle.proof_cert.specs.Claim.{Node}
+use Rattle.proof_cert.specs.Certificate.{replies_of}
 use Rattle.proof_cert.specs.declared.certificate.Node as claim
-use Rattle.cert_check.specs.Expand.{expand_node, expand_branches}
-use Rattle.solution_tree.specs.Private.Opened.{uses_below, all_below}
 
 kept : (es : List (GameState → AnswerTree)) (t : Ply) (n : Node) (bs : Branches) (s : GameState) → legal s t ≡ true → expand_branches es (branch t n bs) s ≡ reply t (expand_node es n (next s t)) (expand_branches es bs s)
 kept es t n bs s h = search rules

@@ -1,28 +1,11 @@
 -- Where an expansion stands, before and after each of its steps.
-use Rattle.std.proofs.Common.{◌≡◌, ℕ, suc, length, ◌<◌, true, ◌&&◌, IsTrue, List, [], ◌∷◌, ◌++◌, Vec, Box, Global, Bor, Option, Some, None, refl, sym, ap, ◌∙◌, subst, arith}
-use Rattle.std.specs.Prelude.{is_none}
-use Rattle.go_points.specs.declared.Turn.{Turn}
-use Rattle.go_points.specs.Ply.{Ply, ply_of}
-use Rattle.go_points.proofs.Lists.{and_both, and_left, and_right}
-use Rattle.target_game.specs.State.{GameState, Line, start}
-use Rattle.target_game.specs.Legal.{legal}
-use Rattle.target_game.specs.Next.{next}
-use Rattle.target_game.specs.Over.{over}
-use Rattle.target_game.specs.Answers.{AnswerTree, turn, replies, ReplyTrees, none, reply, answers}
+use Rattle.solution_tree.proofs.Common.{◌≡◌, ℕ, suc, length, ◌<◌, true, ◌&&◌, IsTrue, List, [], ◌∷◌, ◌++◌, Vec, Box, Global, Bor, Option, Some, None, refl, sym, ap, ◌∙◌, subst, arith, is_none, Turn, Ply, ply_of, and_both, and_left, and_right, GameState, Line, start, legal, next, over, AnswerTree, turn, replies, ReplyTrees, none, reply, play, node_of_play, CheckedClaim, IsChecked, expand_node, expand_branches, answer_of, replies_of, Answer, OpenTurn, Made, Reply, Expands, all_below, branches_at, closed, expanded, finish, lemma_answers, lemma_count, open_below, played, replies_then, tree_at, turn_of, uses_below}
+use Rattle.target_game.specs.Answers.{answers}
 use Rattle.proof_cert.specs.Certificate as claim
-use Rattle.proof_cert.specs.Claim.{play}
 use Rattle.proof_cert.specs.declared.certificate.Node as node_type
 use Rattle.proof_cert.specs.declared.certificate.Node.TheVariants as node_of_claim
-use Rattle.proof_cert.proofs.Certificates.{node_of_play}
 use Rattle.proof_cert.specs.declared.certificate.Certificate as certificate_type
-use Rattle.cert_check.specs.Checked.{CheckedClaim, IsChecked}
-use Rattle.cert_check.specs.Expand.{expand_node, expand_branches}
-use Rattle.solution_tree.specs.Answer.{answer_of, replies_of}
-use Rattle.solution_tree.specs.declared.answer.Answer.{Answer}
 use Rattle.solution_tree.specs.declared.answer.Answer.TheVariants as code
-use Rattle.solution_tree.specs.declared.opened.OpenTurn.{OpenTurn}
-use Rattle.solution_tree.specs.declared.opened.OpenTurn.TheVariants.{Made, Reply}
-use Rattle.solution_tree.specs.Private.Opened.{Expands, all_below, branches_at, closed, expanded, finish, lemma_answers, lemma_count, open_below, played, replies_then, tree_at, turn_of, uses_below}
 use Rattle.solution_tree.proofs.AnswerTrees.{answer_of_replies, answer_of_turn}
 use Rattle.solution_tree.proofs.Expanding.{reached, reached_game, played_state, played_push, finish_push, then_none, then_then, turn_answers, replies_answer, inner_answers, below_push}
 

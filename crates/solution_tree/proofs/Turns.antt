@@ -1,21 +1,16 @@
 -- A set of turns, and the list that it stands for.
-use Rattle.std.proofs.Common.{◌≡◌, ℕ, ◌*◌, ◌/◌, ◌%◌, Bool, true, false, ◌||◌, if◌then◌else◌, nat_eq, nat_lt, eqb-true, eq-eqb, ltb-true, List, [], ◌∷◌, ◌++◌, refl, sym, ◌∙◌, ap, ap₂, subst, arith}
-use Rattle.std.proofs.lemmas.List.Folds.{list_any-append}
+use Rattle.solution_tree.proofs.Common.{◌≡◌, ℕ, ◌*◌, Bool, true, false, ◌||◌, nat_eq, nat_lt, eq-eqb, List, [], ◌∷◌, ◌++◌, refl, sym, ◌∙◌, ap, subst, arith, list_any-append, Turn, Ply, pass, move, same_ply, holds_ply, ply_of, and_left, and_right, GameState, legal, Tells}
+use Rattle.std.proofs.Common.{◌/◌, ◌%◌, if◌then◌else◌, eqb-true, ltb-true, ap₂}
 use Rattle.std.proofs.lemmas.Nat.{div-mul-add, mod-mul-add}
-use Rattle.go_points.specs.declared.Turn.{Turn}
 use Rattle.go_points.specs.declared.Turn.TheVariants.{Pass, At}
 use Rattle.go_points.specs.Place.{Place, IsOn, on_board, number_of}
-use Rattle.go_points.specs.Ply.{Ply, pass, move, same_ply, holds_ply, ply_of}
 use Rattle.go_points.specs.Points.{same_place, with_place}
 use Rattle.go_points.specs.Equal.{same_place_decides}
-use Rattle.go_points.proofs.Lists.{and_left, and_right}
 use Rattle.go_points.proofs.Membership.{sets_gain}
-use Rattle.target_game.specs.State.{GameState}
-use Rattle.target_game.specs.Legal.{legal, holds_point}
+use Rattle.target_game.specs.Legal.{holds_point}
 use Rattle.target_game.proofs.Playing.{ply_at}
 use Rattle.tsumego_problem.specs.Walked.{StandsOn}
 use Rattle.solution_tree.specs.declared.given.Given.{Given}
-use Rattle.solution_tree.specs.Private.Asked.{Tells}
 use Rattle.go_points.proofs.Anywhere.{same_tests}
 
 -- a turn that stands on the board is at a point of it

@@ -1,17 +1,10 @@
 -- The nodes of an answer tree, one line of turns after another.
-use Rattle.std.proofs.Common.{◌≡◌, ℕ, zero, suc, ◌+◌, ◌<◌, ◌≤◌, length, drop, get_or, refl, sym, ◌∙◌, ap, arith, rules}
+use Rattle.solution_tree.proofs.Common.{◌≡◌, ℕ, zero, suc, ◌+◌, ◌<◌, ◌≤◌, length, drop, get_or, refl, sym, ◌∙◌, ap, arith, rules, nat_tests, append-nil, Colour, Turn, ply_of, AnswerTree, turn, replies, ReplyTrees, none, reply_sizes, Node, tree_then, GameTree, forest_of, rest_of, forest_of_replies, Answer, answer_of, replies_of, is_single}
 use Rattle.std.specs.Prelude.{false, nat_eq, List, [], ◌∷◌, ◌++◌, map}
-use Rattle.std.proofs.lemmas.Bool.Decides.{nat_tests}
-use Rattle.std.proofs.lemmas.List.{append-nil, drop_all}
-use Rattle.go_points.specs.declared.Colour.{Colour}
-use Rattle.go_points.specs.declared.Turn.{Turn}
-use Rattle.go_points.specs.Ply.{ply_of}
-use Rattle.target_game.specs.Answers.{AnswerTree, turn, replies, ReplyTrees, none, answer_size, reply_sizes}
-use Rattle.sgf_text.specs.Trees.{Node, tree_then, GameTree, forest_of}
-use Rattle.tsumego_problem.specs.Canonical.{Rest, rest_of, rest_of_replies, forest_of_replies}
-use Rattle.solution_tree.specs.declared.answer.Answer.{Answer}
-use Rattle.solution_tree.specs.Answer.{answer_of, replies_of}
-use Rattle.solution_tree.specs.Private.Written.{is_one, is_single}
+use Rattle.std.proofs.lemmas.List.{drop_all}
+use Rattle.target_game.specs.Answers.{answer_size}
+use Rattle.tsumego_problem.specs.Canonical.{Rest, rest_of_replies}
+use Rattle.solution_tree.specs.Private.Written.{is_one}
 
 -- ---- one turn alone, or not
 

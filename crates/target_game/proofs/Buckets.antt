@@ -1,16 +1,10 @@
 -- A history is searched for repeats bucket by bucket.
-use Rattle.std.proofs.Common.{◌≡◌, ◌≢◌, ℕ, zero, suc, ◌+◌, ◌-◌, ◌%◌, ◌<◌, ◌≤◌, Bool, true, false, ◌||◌, ◌⊎◌, inl, inr, List, [], ◌∷◌, length, take, get_or, set, replicate, slice_index, None, refl, sym, ◌∙◌, ap, subst, arith}
-use Rattle.std.specs.List.{list_any}
-use Rattle.std.proofs.lemmas.Bool.{cases_eq, cases_lt}
-use Rattle.std.proofs.lemmas.List.{get_or-take, get_or-set_same, get_or-set_other, get_or-replicate, get_or_past, length-replicate, length-take-le, take_more}
-use Rattle.go_points.specs.declared.Cell.{Cell}
-use Rattle.go_points.specs.Grid.{same_cells}
+use Rattle.target_game.proofs.Common.{◌≡◌, ◌≢◌, ℕ, zero, suc, ◌+◌, ◌-◌, ◌%◌, ◌<◌, ◌≤◌, Bool, true, false, ◌||◌, ◌⊎◌, inl, inr, List, [], ◌∷◌, length, take, get_or, set, replicate, None, refl, sym, ◌∙◌, ap, subst, arith, list_any, cases_lt, get_or-set_other, length-replicate, Cell, same_cells, true_or_false, place_in, repeats, no_position, no_element, key_of, bucket_at, bucket_count, AreChained}
+use Rattle.std.proofs.Common.{slice_index}
+use Rattle.std.proofs.lemmas.Bool.{cases_eq}
+use Rattle.std.proofs.lemmas.List.{get_or-take, get_or-set_same, get_or-replicate, get_or_past, length-take-le, take_more}
 use Rattle.go_points.specs.Equal.{same_cells_eq}
-use Rattle.go_points.proofs.Lists.{true_or_false}
-use Rattle.go_turns.specs.History.{place_in, repeats}
-use Rattle.go_turns.proofs.Repeats.{any_none, no_position, no_element, once_more, next_is_new}
-use Rattle.stone_key.specs.Key.{key_of}
-use Rattle.target_game.specs.Private.Buckets.{bucket_at, bucket_count, AreChained}
+use Rattle.go_turns.proofs.Repeats.{any_none, once_more, next_is_new}
 
 zeros : (m k : ℕ) → slice_index (replicate {A = ℕ} m 0) k ≡ 0
 zeros m k = elim (cases_lt k m) [

@@ -1,13 +1,6 @@
 -- What is told of the state after a turn.
-use Rattle.std.proofs.Common.{◌≡◌, Bool, true, false, if◌then◌else◌, Option, Some, None, is_some, refl, subst}
-use Rattle.go_points.specs.Ply.{Ply}
-use Rattle.stone_key.specs.Key.{key_of}
-use Rattle.target_game.specs.declared.child.Child.{Child}
-use Rattle.target_game.specs.State.{GameState}
+use Rattle.target_game.proofs.Common.{◌≡◌, Bool, true, false, if◌then◌else◌, Option, Some, None, is_some, refl, subst, Ply, key_of, Child, GameState, legal, next, over}
 use Rattle.target_game.specs.Child.{child_of}
-use Rattle.target_game.specs.Legal.{legal}
-use Rattle.target_game.specs.Next.{next}
-use Rattle.target_game.specs.Over.{over}
 
 abbrev child_at : GameState → Ply → Child
 child_at s t = record { key = key_of (next s t).colouring; winner = over (next s t) }

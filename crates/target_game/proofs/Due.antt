@@ -1,28 +1,12 @@
 -- The legal turns that are still to come: the moves that are not legal are passed over.
-use Rattle.std.proofs.Common.{◌≡◌, ℕ, zero, suc, ◌+◌, ◌-◌, ◌*◌, ◌<◌, ◌≤◌, Bool, true, false, cond, not, ◌&&◌, ◌||◌, nat_lt, List, [], ◌∷◌, ◌++◌, map, filter, length, Option, Some, None, option_map, refl, sym, ◌∙◌, ap, ap₂, subst, inl, inr, arith}
-use Rattle.std.specs.List.{All, range_with_len}
-use Rattle.std.proofs.lemmas.Bool.{cases_lt, true≢false}
-use Rattle.std.proofs.lemmas.Nat.{mul-add-lt, div_below, mod_below, div-add-mod', div-mul-add, mod-mul-add}
+use Rattle.target_game.proofs.Common.{◌≡◌, ℕ, zero, suc, ◌+◌, ◌-◌, ◌*◌, ◌<◌, ◌≤◌, Bool, true, false, cond, not, ◌&&◌, ◌||◌, nat_lt, List, [], ◌∷◌, ◌++◌, map, filter, length, Option, Some, None, option_map, refl, sym, ◌∙◌, ap, ap₂, subst, inl, inr, arith, All, range_with_len, cases_lt, true≢false, mul-add-lt, div-mul-add, mod-mul-add, length-map, length-append, MAX_SIZE, At, Empty, same_cell, cell_at, after_move, Place, IsOn, number_of, place_of, same_place, holds_place, is_before, IsFirstFrom, Ply, pass, move, ply_of, before, not_before, has_occurred, GameState, Line, legal, legal_turns, holds_point, turn_from, turns_due, Takes, NoneLegal, IsNextMove, line_after}
+use Rattle.std.proofs.lemmas.Nat.{div_below, mod_below, div-add-mod'}
 use Rattle.std.proofs.lemmas.List.Elements.{All-head, All-tail}
-use Rattle.std.proofs.lemmas.List.{length-map, length-append}
 use Rattle.std.proofs.lemmas.List.Sums.{length-filter, count_by-le-length}
 use Rattle.std.proofs.lemmas.List.FromFn.{length-range_with_len}
-use Rattle.go_points.specs.declared.TheConstants.{MAX_SIZE}
 use Rattle.go_points.specs.declared.Turn.{Turn}
-use Rattle.go_points.specs.declared.Turn.TheVariants.{At}
-use Rattle.go_points.specs.declared.Cell.TheVariants.{Empty}
-use Rattle.go_points.specs.Grid.{same_cell, cell_at}
-use Rattle.go_points.specs.Move.{after_move}
-use Rattle.go_points.specs.Place.{Place, IsOn, number_of, place_of}
-use Rattle.go_points.specs.Points.{same_place, holds_place, is_before, IsFirstFrom}
 use Rattle.go_points.specs.Equal.{same_place_decides}
-use Rattle.go_points.specs.Ply.{Ply, pass, move, ply_of}
-use Rattle.go_points.proofs.PlaceSets.{before, not_before}
-use Rattle.go_turns.specs.History.{has_occurred}
-use Rattle.target_game.specs.State.{GameState, Line}
-use Rattle.target_game.specs.Legal.{legal, legal_turns, holds_point}
-use Rattle.target_game.specs.Kept.{turn_from}
-use Rattle.target_game.specs.Left.{turns_from, turns_due, Takes, NoneLegal, IsNextMove, line_after, line_with}
+use Rattle.target_game.specs.Left.{turns_from, line_with}
 use Rattle.target_game.proofs.Playing.{holds_numbered, ply_at, turn_here, turn_later, turn_none}
 
 -- the legal turns from a number on, by whether the move there is legal

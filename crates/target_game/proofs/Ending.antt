@@ -1,22 +1,7 @@
 -- Play ends: no colouring comes back, there are only so many, and two passes in a row end it. So every state has a winner.
-use Rattle.std.proofs.Common.{eq-eqb, ◌≡◌, ℕ, zero, suc, ◌+◌, ◌*◌, ◌<◌, ◌≤◌, Bool, true, false, not, ◌||◌, ◌⊎◌, inl, inr, List, [], ◌∷◌, ◌++◌, map, length, nat_eq, Some, None, refl, ◌∙◌, ap, subst, arith, if◌then◌else◌}
-use Rattle.std.specs.List.{list_any}
-use Rattle.std.proofs.lemmas.List.Folds.{list_any-append}
-use Rattle.go_points.specs.declared.Colour.{Colour}
-use Rattle.go_points.specs.declared.Colour.TheVariants.{Black, White}
-use Rattle.go_points.specs.declared.Cell.{Cell}
-use Rattle.go_points.specs.declared.Cell.TheVariants.{Empty, Stone}
-use Rattle.go_points.specs.Grid.{opponent_of, same_colour, same_cells}
-use Rattle.go_points.specs.Move.{after_move}
-use Rattle.go_points.specs.Ply.{Ply, pass, move}
-use Rattle.go_points.proofs.Lists.{Member, count, count_length, and_right, not_true, true_or_false, any_to, map_member, same_or_more}
+use Rattle.target_game.proofs.Common.{eq-eqb, ◌≡◌, ℕ, zero, suc, ◌+◌, ◌*◌, ◌<◌, ◌≤◌, Bool, true, false, not, ◌||◌, ◌⊎◌, inl, inr, List, [], ◌∷◌, ◌++◌, map, length, nat_eq, Some, None, refl, ◌∙◌, ap, subst, arith, if◌then◌else◌, list_any, list_any-append, Colour, Black, White, Cell, Empty, Stone, opponent_of, same_colour, same_cells, after_move, Ply, pass, move, Member, and_right, not_true, true_or_false, any_to, map_member, has_occurred, GameState, legal, legal_turns, next, over, targets_stand, some_or_each, wins, Wins}
+use Rattle.go_points.proofs.Lists.{count, count_length, same_or_more}
 use Rattle.go_points.proofs.Cells.{same_colour_refl}
-use Rattle.go_turns.specs.History.{has_occurred}
-use Rattle.target_game.specs.State.{GameState}
-use Rattle.target_game.specs.Legal.{legal, legal_turns}
-use Rattle.target_game.specs.Next.{next}
-use Rattle.target_game.specs.Over.{over, targets_stand}
-use Rattle.target_game.specs.Wins.{some_or_each, wins, Wins}
 use Rattle.target_game.proofs.Winning.{over_cases, wins_over, wins_next, wins_by_replies, same_colour_other, append_member, legal_member}
 use Rattle.target_game.proofs.States.{length-after_move, occurred_last}
 

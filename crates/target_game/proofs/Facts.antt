@@ -1,22 +1,11 @@
 -- What every problem keeps, from the refusals that it was asked.
-use Rattle.std.proofs.Common.{◌≡◌, ℕ, zero, suc, ◌*◌, ◌<◌, Bool, true, false, cond, not, ◌&&◌, nat_eq, nat_lt, nat_le, eqb-true, ltb-true, ltb-false, leb-false, List, [], ◌∷◌, map, length, get_or, Option, Some, None, is_none, slice_get, Result, Ok, Err, MatchResult, refl, sym, ◌∙◌, ap, subst, arith}
-use Rattle.std.specs.List.{All, list_all}
-use Rattle.std.proofs.lemmas.Nat.{mul-add-lt}
-use Rattle.std.proofs.lemmas.List.{length-map}
-use Rattle.go_points.specs.declared.Colour.{Colour}
-use Rattle.go_points.specs.declared.Cell.{Cell}
-use Rattle.go_points.specs.declared.Cell.TheVariants.{Empty, Stone}
-use Rattle.go_points.specs.Grid.{same_cell, cell_at, side_of}
-use Rattle.go_points.specs.Liberty.{all_reach_empty}
-use Rattle.go_points.specs.Place.{Place, IsOn, on_board, number_of}
-use Rattle.go_points.specs.Private.Sides.{side_of-whole}
-use Rattle.go_points.proofs.Lists.{and_left, and_right, not_false}
-use Rattle.go_points.proofs.Cells.{same_cell_eq, same_cell_refl, eq_same_cell}
-use Rattle.go_turns.specs.History.{repeats}
+use Rattle.target_game.proofs.Common.{◌≡◌, ℕ, zero, suc, ◌*◌, ◌<◌, Bool, true, false, cond, not, ◌&&◌, nat_eq, nat_lt, eqb-true, ltb-true, ltb-false, List, [], ◌∷◌, map, length, get_or, Option, Some, None, is_none, slice_get, Result, Ok, Err, refl, sym, ◌∙◌, ap, subst, arith, All, list_all, mul-add-lt, length-map, Colour, Cell, Empty, Stone, same_cell, cell_at, side_of, all_reach_empty, Place, IsOn, on_board, number_of, side_of-whole, and_left, and_right, same_cell_eq, same_cell_refl, repeats, MAX_HISTORY, one_colour, problem_on, problem_of}
+use Rattle.std.proofs.Common.{nat_le, leb-false, MatchResult}
+use Rattle.go_points.proofs.Lists.{not_false}
+use Rattle.go_points.proofs.Cells.{eq_same_cell}
 use Rattle.target_game.specs.declared.bad_problem.BadProblem.{BadProblem}
-use Rattle.target_game.specs.declared.TheConstants.{MAX_HISTORY}
 use Rattle.target_game.specs.State.{GameProblem}
-use Rattle.target_game.specs.Problem.{one_colour, first_refusal, refusals, the_colour, unless_refused, problem_on, problem_of}
+use Rattle.target_game.specs.Problem.{first_refusal, refusals, the_colour, unless_refused}
 use Rattle.target_game.specs.Kept.{kept_problem}
 use Rattle.target_game.specs.Laws.{IsProblem}
 use Rattle.target_game.proofs.Loops.{on_first}

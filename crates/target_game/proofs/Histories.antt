@@ -1,10 +1,6 @@
 -- A history of a colouring with others: those of the others that differ from it, one by one.
-use Rattle.std.proofs.Common.{◌≡◌, ℕ, zero, suc, ◌+◌, ◌<◌, Bool, true, false, cond, not, ◌||◌, List, [], ◌∷◌, ◌++◌, drop, length, get_or, filter, refl, sym, ap, ◌∙◌, append_assoc, append-nil, arith}
-use Rattle.std.specs.List.{All}
-use Rattle.std.proofs.Math.Seq.{drop-cons, drop-length}
-use Rattle.go_points.specs.declared.Cell.{Cell}
-use Rattle.go_points.specs.Grid.{same_cells}
-use Rattle.go_turns.specs.History.{has_occurred, repeats}
+use Rattle.target_game.proofs.Common.{◌≡◌, ℕ, zero, suc, ◌+◌, ◌<◌, Bool, true, false, cond, not, ◌||◌, List, [], ◌∷◌, ◌++◌, drop, length, get_or, filter, refl, sym, ap, ◌∙◌, arith, All, drop-cons, drop-length, Cell, same_cells, has_occurred, repeats}
+use Rattle.std.proofs.Common.{append_assoc, append-nil}
 
 abbrev pub differs : List Cell → List Cell → Bool
 differs c d = not (same_cells c d)

@@ -1,19 +1,6 @@
 -- Tests of the elements of a list, one by one: what is still to be tested decides.
-use Rattle.std.proofs.Common.{◌≡◌, ℕ, zero, suc, ◌+◌, ◌*◌, ◌<◌, Bool, true, false, not, ◌&&◌, ◌||◌, nat_eq, nat_lt, ltb-true, slice_get, Err, eq-eqb, eqb-true, List, [], ◌∷◌, drop, length, get_or, cond, map, Some, None, refl, sym, ◌∙◌, ap, ap₂, subst, arith}
-use Rattle.std.specs.List.{All, list_all, list_any}
-use Rattle.std.proofs.Math.Seq.{drop-cons, drop-length}
-use Rattle.go_points.specs.declared.Cell.{Cell}
-use Rattle.go_points.specs.declared.Colour.{Colour}
-use Rattle.go_points.specs.declared.Colour.TheVariants.{Black, White}
-use Rattle.go_points.specs.declared.Cell.TheVariants.{Empty, Stone}
-use Rattle.go_points.specs.Grid.{same_cell, side_of}
-use Rattle.go_points.specs.Place.{Place, IsOn, on_board}
+use Rattle.target_game.proofs.Common.{◌≡◌, ℕ, zero, suc, ◌+◌, ◌*◌, ◌<◌, Bool, true, false, not, ◌&&◌, ◌||◌, nat_eq, nat_lt, ltb-true, slice_get, Err, eq-eqb, eqb-true, List, [], ◌∷◌, drop, length, get_or, cond, map, Some, None, refl, sym, ◌∙◌, ap, ap₂, subst, arith, All, list_all, list_any, drop-cons, drop-length, Cell, Colour, Black, White, Empty, Stone, same_cell, side_of, Place, IsOn, on_board, same_cell_refl, and_left, and_right, BadPlace, one_colour, problem_on, problem_of, side_of-whole}
 use Rattle.go_points.specs.Points.{first_place}
-use Rattle.go_points.proofs.Cells.{same_cell_refl}
-use Rattle.go_points.proofs.Lists.{and_left, and_right}
-use Rattle.target_game.specs.declared.bad_problem.BadProblem.TheVariants.{BadPlace}
-use Rattle.target_game.specs.Problem.{one_colour, problem_on, problem_of}
-use Rattle.go_points.specs.Private.Sides.{side_of-whole}
 
 module _ {A : Type 0} (f : A → Bool) (xs : List A) where
   -- all pass exactly where all from i on do

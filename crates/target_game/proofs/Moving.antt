@@ -1,16 +1,6 @@
 -- With no pass standing nobody loses by moving first.
-use Rattle.std.proofs.Common.{◌≡◌, ℕ, zero, suc, ◌+◌, Bool, true, false, nat_eq, ◌⊎◌, inl, inr, if◌then◌else◌, Some, None, refl, sym, ◌∙◌, ap, ap₂}
-use Rattle.go_points.specs.declared.Colour.{Colour}
-use Rattle.go_points.specs.declared.Colour.TheVariants.{Black, White}
-use Rattle.go_points.specs.Grid.{opponent_of, same_colour}
+use Rattle.target_game.proofs.Common.{◌≡◌, ℕ, zero, suc, ◌+◌, Bool, true, false, nat_eq, ◌⊎◌, inl, inr, if◌then◌else◌, Some, None, refl, sym, ◌∙◌, ap, ap₂, Colour, Black, White, opponent_of, same_colour, Ply, pass, move, any_from, all_at, GameState, legal, legal_turns, next, targets_stand, over, some_or_each, wins, Wins}
 use Rattle.go_points.specs.Equal.{same_colour_refl}
-use Rattle.go_points.specs.Ply.{Ply, pass, move}
-use Rattle.go_points.proofs.Lists.{any_from, all_at}
-use Rattle.target_game.specs.State.{GameState}
-use Rattle.target_game.specs.Legal.{legal, legal_turns}
-use Rattle.target_game.specs.Next.{next}
-use Rattle.target_game.specs.Over.{targets_stand, over}
-use Rattle.target_game.specs.Wins.{some_or_each, wins, Wins}
 use Rattle.target_game.proofs.Winning.{over_cases, wins_over, wins_none, wins_next, wins_by_turn, wins_by_replies, member_legal, legal_member}
 
 other_colour : (x : Colour) → same_colour (opponent_of x) x ≡ false

@@ -1,15 +1,7 @@
 -- The empty points of the region, one after another: those before the next are no legal moves.
-use Rattle.std.proofs.Common.{◌≡◌, ℕ, ◌+◌, ◌-◌, ◌*◌, ◌<◌, ◌≤◌, Bool, true, false, List, map, Option, Some, None, IfSome, IfNone, refl, sym, ◌∙◌, ap, ap₂, inl, inr, arith}
-use Rattle.std.specs.List.{All}
-use Rattle.std.proofs.lemmas.Bool.{cases_lt, true≢false}
-use Rattle.go_points.specs.declared.TheConstants.{MAX_SIZE}
-use Rattle.go_points.specs.declared.Cell.TheVariants.{Empty}
-use Rattle.go_points.specs.Grid.{same_cell, cell_at}
-use Rattle.go_points.specs.Place.{Place, IsOn, number_of, place_of}
-use Rattle.go_points.specs.Points.{is_before, IsFirstFrom, IsFirstAfter}
-use Rattle.go_points.proofs.PlaceSets.{before, not_before}
-use Rattle.target_game.specs.State.{GameState}
-use Rattle.target_game.specs.Left.{NoneLegal, IsNextOpen}
+use Rattle.target_game.proofs.Common.{◌≡◌, ℕ, ◌+◌, ◌-◌, ◌*◌, ◌<◌, ◌≤◌, Bool, true, false, List, map, Option, Some, None, IfSome, IfNone, refl, sym, ◌∙◌, ap, ap₂, inl, inr, arith, All, cases_lt, true≢false, MAX_SIZE, Empty, same_cell, cell_at, Place, IsOn, number_of, place_of, is_before, IsFirstFrom, before, not_before, GameState, NoneLegal}
+use Rattle.go_points.specs.Points.{IsFirstAfter}
+use Rattle.target_game.specs.Left.{IsNextOpen}
 use Rattle.target_game.proofs.Due.{none_yet, none_more, none_joined, at_stone, place_back, on_held, IsNextInside, next_inside, next_outside}
 
 -- the first place of the region after a point is the first from the next number on

@@ -1,30 +1,11 @@
 -- Playing a legal turn on a record, and the legal turns one by one.
-use Rattle.std.proofs.Common.{◌≡◌, ◌≢◌, ℕ, suc, ◌+◌, ◌-◌, ◌*◌, ◌/◌, ◌%◌, ◌<◌, ◌≤◌, Bool, true, false, cond, not, set, ◌&&◌, ◌||◌, nat_eq, nat_lt, eqb-true, eq-eqb, lt-ltb, find, List, [], ◌∷◌, ◌++◌, map, filter, length, Option, Some, None, Ok, is_some, is_none, refl, sym, ◌∙◌, ap, ap₂, subst, arith, if◌then◌else◌}
-use Rattle.std.specs.List.{All, list_all, range_with_len}
-use Rattle.std.proofs.lemmas.Nat.{div-mul-add, mod-mul-add}
-use Rattle.std.proofs.lemmas.List.{map-id, get_or-set_other}
+use Rattle.target_game.proofs.Common.{◌≡◌, ◌≢◌, ℕ, suc, ◌+◌, ◌-◌, ◌*◌, ◌%◌, ◌<◌, ◌≤◌, Bool, true, false, cond, not, set, ◌&&◌, ◌||◌, nat_eq, nat_lt, eqb-true, eq-eqb, lt-ltb, List, [], ◌∷◌, ◌++◌, map, filter, length, Option, Some, None, Ok, is_some, is_none, refl, sym, ◌∙◌, ap, ap₂, subst, arith, if◌then◌else◌, All, list_all, range_with_len, div-mul-add, mod-mul-add, get_or-set_other, get_or-append_seam, Colour, Cell, Empty, Stone, opponent_of, same_cell, same_cells, cell_at, after_move, Place, IsOn, on_board, number_of, same_place, holds_place, At, pass, move, ply_of, and_left, and_right, and_both, not_true, has_occurred, place_in, HasNoneOf, colouring_of, no_position, no_element, key_of, Game, GameState, holds_point, legal, next, over, targets_stand, kept_state, turn_from}
+use Rattle.std.proofs.Common.{◌/◌, find}
+use Rattle.std.proofs.lemmas.List.{map-id}
 use Rattle.std.proofs.lemmas.List.FromFn.{filter_of_map_range_with_len_more}
-use Rattle.std.proofs.Math.Seq.{get_or-append_seam}
-use Rattle.go_points.specs.declared.Colour.{Colour}
-use Rattle.go_points.specs.declared.Cell.{Cell}
-use Rattle.go_points.specs.declared.Cell.TheVariants.{Empty, Stone}
-use Rattle.go_points.specs.Grid.{opponent_of, same_cell, same_cells, cell_at}
-use Rattle.go_points.specs.Move.{after_move}
-use Rattle.go_points.specs.Place.{Place, IsOn, on_board, number_of}
-use Rattle.go_points.specs.Points.{same_place, holds_place}
-use Rattle.go_points.specs.declared.Turn.TheVariants.{At}
-use Rattle.go_points.specs.Ply.{pass, move, ply_of}
-use Rattle.go_points.proofs.Lists.{and_left, and_right, and_both, not_true}
-use Rattle.go_turns.specs.History.{has_occurred, place_in, HasNoneOf}
-use Rattle.go_turns.specs.Record.{Moment, colouring_of, after_play}
-use Rattle.go_turns.proofs.Repeats.{no_position, no_element}
-use Rattle.stone_key.specs.Key.{key_of}
-use Rattle.target_game.specs.State.{Game, GameState}
-use Rattle.target_game.specs.Legal.{holds_point, legal}
-use Rattle.target_game.specs.Next.{next}
-use Rattle.target_game.specs.Over.{over, targets_stand}
+use Rattle.go_turns.specs.Record.{Moment, after_play}
 use Rattle.target_game.proofs.Facts.{map_all}
-use Rattle.target_game.specs.Kept.{kept_state, turn_or_pass, turn_from}
+use Rattle.target_game.specs.Kept.{turn_or_pass}
 
 -- whether a colouring has occurred, by its place
 pub occurred_place : (h : List (List Cell)) (c : List Cell) → not (has_occurred h c) ≡ is_none (place_in h c)

@@ -1,10 +1,5 @@
 -- A group is alive, dead or unsettled, and only one of these.
-use Rattle.std.proofs.Common.{◌≡◌, ◌≤◌, ◌⊎◌, inl, inr, arith}
-use Rattle.go_points.specs.declared.Colour.{Colour}
-use Rattle.go_points.specs.declared.Colour.TheVariants.{Black, White}
-use Rattle.go_points.specs.Grid.{opponent_of}
-use Rattle.target_game.specs.State.{GameState}
-use Rattle.target_game.specs.Wins.{Wins}
+use Rattle.target_game.proofs.Common.{◌≡◌, ◌≤◌, ◌⊎◌, inl, inr, arith, Colour, Black, White, opponent_of, GameState, Wins}
 use Rattle.target_game.specs.Status.{moving, IsAlive, IsDead, IsUnsettled}
 use Rattle.target_game.proofs.Winning.{not_both}
 use Rattle.target_game.proofs.Ending.{winner_exists}

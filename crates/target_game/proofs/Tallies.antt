@@ -1,18 +1,10 @@
 -- The pass over the tree of all legal play, state by state and turn by turn.
-use Rattle.std.proofs.Common.{◌≡◌, ℕ, zero, suc, ◌+◌, ◌-◌, ◌<◌, ◌≤◌, Bool, true, false, cond, not, nat_lt, ltb-true, ltb-false, lt-ltb, List, [], ◌∷◌, sum_by, Option, Some, None, is_some, option_map, Result, Ok, Err, IfOk, ◌⊎◌, inl, inr, if◌then◌else◌, refl, sym, ◌∙◌, ap, ap₂, arith}
+use Rattle.target_game.proofs.Common.{◌≡◌, ℕ, zero, suc, ◌+◌, ◌-◌, ◌<◌, ◌≤◌, Bool, true, false, cond, not, nat_lt, ltb-true, ltb-false, lt-ltb, List, [], ◌∷◌, Option, Some, None, is_some, option_map, Result, Ok, Err, ◌⊎◌, inl, inr, if◌then◌else◌, refl, sym, ◌∙◌, ap, ap₂, arith, Colour, Black, White, same_colour, Ply, GameState, legal_turns, next, over, some_or_each, is_winner, wins, nodes, tally_of, before_turns, with_below, with_turns}
+use Rattle.std.proofs.Common.{sum_by, IfOk}
 use Rattle.std.proofs.lemmas.List.Sums.{sum_by-cons}
-use Rattle.go_points.specs.declared.Colour.{Colour}
-use Rattle.go_points.specs.declared.Colour.TheVariants.{Black, White}
-use Rattle.go_points.specs.Grid.{same_colour}
-use Rattle.go_points.specs.Ply.{Ply}
 use Rattle.target_game.specs.declared.tally.Tally.{Tally}
 use Rattle.target_game.specs.declared.within.Within.TheVariants.{Wins, Neither, Limit}
-use Rattle.target_game.specs.State.{GameState}
-use Rattle.target_game.specs.Legal.{legal_turns}
-use Rattle.target_game.specs.Next.{next}
-use Rattle.target_game.specs.Over.{over}
-use Rattle.target_game.specs.Wins.{some_or_each, is_winner, wins, nodes}
-use Rattle.target_game.specs.Private.Tally.{tally_of, either_or_both, before_turns, with_below, with_turns}
+use Rattle.target_game.specs.Private.Tally.{either_or_both}
 use Rattle.target_game.specs.Within.{decision}
 use Rattle.target_game.proofs.Winning.{over_cases, wins_over, wins_next}
 

@@ -1,27 +1,14 @@
 -- A turn that is tried on a record is made exactly where it is legal.
-use Rattle.std.proofs.Common.{◌≡◌, ℕ, ◌*◌, Bool, true, false, not, ◌&&◌, nat_lt, List, [], ◌∷◌, ◌++◌, map, Option, Some, None, is_some, is_none, if◌then◌else◌, Ok, Err, refl, sym, ◌∙◌, ap, ap₂, subst}
-use Rattle.go_points.specs.declared.Colour.{Colour}
-use Rattle.go_points.specs.declared.Cell.{Cell}
-use Rattle.go_points.specs.declared.Cell.TheVariants.{Empty}
-use Rattle.go_points.specs.Grid.{opponent_of, same_cell, cell_at}
-use Rattle.go_points.specs.Move.{after_move}
-use Rattle.go_points.specs.Place.{Place, IsOn, number_of}
-use Rattle.go_points.specs.Ply.{Ply, pass, move}
+use Rattle.target_game.proofs.Common.{◌≡◌, ℕ, ◌*◌, Bool, true, false, not, ◌&&◌, nat_lt, List, [], ◌∷◌, ◌++◌, map, Option, Some, None, is_some, is_none, if◌then◌else◌, Ok, Err, refl, sym, ◌∙◌, ap, ap₂, subst, Colour, Cell, Empty, opponent_of, same_cell, cell_at, after_move, Place, IsOn, number_of, Ply, pass, move, and_left, and_right, and_both, has_occurred, place_in, colouring_of, play_of, Did, Game, GameState, holds_point, legal, next, kept_game, kept_state, kept_line, line_after, true≢false, get_or-append_seam}
 use Rattle.go_points.proofs.Cells.{opponent_twice}
-use Rattle.go_points.proofs.Lists.{and_left, and_right, and_both}
 use Rattle.go_turns.specs.declared.fault.TurnFault.{TurnFault}
 use Rattle.go_turns.specs.declared.fault.TurnFault.TheVariants.{Occupied, OffBoard}
-use Rattle.go_turns.specs.History.{has_occurred, place_in}
-use Rattle.go_turns.specs.Record.{GameRecord, colouring_of, play_of, stepped, moved, Did}
-use Rattle.target_game.specs.State.{Game, GameState}
-use Rattle.target_game.specs.Legal.{holds_point, legal}
-use Rattle.target_game.specs.Next.{next}
-use Rattle.target_game.specs.Kept.{kept_game, kept_state, kept_before, kept_line}
-use Rattle.target_game.specs.Left.{line_after, is_repeat}
+use Rattle.go_turns.specs.Record.{GameRecord, stepped, moved}
+use Rattle.target_game.specs.Kept.{kept_before}
+use Rattle.target_game.specs.Left.{is_repeat}
 use Rattle.target_game.proofs.Playing.{occurred_place, occurred_is}
 use Rattle.target_game.proofs.Due.{at_repeat, number_on}
-use Rattle.std.proofs.lemmas.Bool.{true≢false, lt-ltb}
-use Rattle.std.proofs.Math.Seq.{get_or-append_seam}
+use Rattle.std.proofs.lemmas.Bool.{lt-ltb}
 
 -- all that is asked of a turn but that it repeats nothing
 abbrev pub IsFree : GameState → Ply → Type 0

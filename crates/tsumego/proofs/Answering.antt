@@ -1,35 +1,20 @@
 -- What is left of a text that was written, and what a claim that was found lets be said.
-use Rattle.std.proofs.Common.{◌≡◌, ℕ, ◌<◌, ◌≤◌, Bool, true, false, List, ◌++◌, length, Option, Some, None, Result, Ok, Err, IsTrue, IsSome, inl, inr, refl, sym, ◌∙◌, ap, subst, ◌⊎◌}
+use Rattle.tsumego.proofs.Common.{◌≡◌, ℕ, ◌<◌, ◌≤◌, Bool, true, false, List, ◌++◌, length, Option, Some, None, Result, Ok, Err, IsTrue, inl, inr, refl, sym, ◌∙◌, ap, subst, ◌⊎◌, MAX_SIZE, GameProblem, start, GameTree, is_tree, tree_text, IsProblem, canonical, solution, claim_of, lines, text, verdict, accepted, expand, Command, is_session, Status, Unanswered, Failed, line, no_memory_text, no_read_text, too_large_text, SolvedBy, MayAnswer, Says, SaysFailure, Tells, has_verdict, one_verdict, Outcome, RanOn, IsSolutionOf, Writes}
+use Rattle.std.proofs.Common.{IsSome}
 use Rattle.std.specs.Prelude.{IsSomeAnd, is_err, OnOk}
-use Rattle.go_points.specs.declared.TheConstants.{MAX_SIZE}
-use Rattle.target_game.specs.State.{GameProblem, start}
-use Rattle.sgf_text.specs.Trees.{GameTree}
-use Rattle.sgf_text.specs.Text.{is_tree, tree_text}
 use Rattle.sgf_text.specs.Laws.{WrittenReads}
 use Rattle.tsumego_problem.specs.Walk.{problem_of, problem_on, problem_node, is_go, board_size, root_of}
-use Rattle.tsumego_problem.specs.Laws.{IsProblem, CanonicalReads, SolutionReads}
-use Rattle.tsumego_problem.specs.Canonical.{canonical, solution}
+use Rattle.tsumego_problem.specs.Laws.{CanonicalReads, SolutionReads}
 use Rattle.proof_cert.specs.Claim.{Claim, IsWithinLimits}
-use Rattle.proof_cert.specs.Certificate.{claim_of}
-use Rattle.proof_cert.specs.Text.{lines, pieces, text, OneClaimOfText}
-use Rattle.cert_check.specs.Verdict.{verdict, accepted}
+use Rattle.proof_cert.specs.Text.{pieces, OneClaimOfText}
 use Rattle.cert_check.specs.Checked.{CheckedClaim, IsChecked}
 use Rattle.cert_check.specs.Lift.{IsLifted}
-use Rattle.cert_check.specs.Expand.{expand}
 use Rattle.cert_check.specs.Laws.{AcceptsValidTexts, ValidClaimsAnswer}
 use Rattle.solution_tree.specs.Laws.{AuditIsExact, ExpansionsAscend}
-use Rattle.tsumego_words.specs.declared.command_line.Command.{Command}
-use Rattle.tsumego_words.specs.CommandLine.{is_session}
-use Rattle.tsumego_replies.specs.declared.status.Status.{Status}
-use Rattle.tsumego_replies.specs.declared.status.Status.TheVariants.{Unanswered, Failed}
-use Rattle.tsumego_replies.specs.Texts.{line, no_memory_text, no_read_text, too_large_text}
-use Rattle.tsumego_replies.specs.Solutions.{IsAccepted, IsProofBy, IsWritten, SolvedBy, MayAnswer}
-use Rattle.tsumego_replies.specs.Answers.{Says, SaysFailure}
-use Rattle.proof_cert.specs.Streamed.{Tells}
-use Rattle.tsumego_replies.proofs.Claims.{are_lines, has_verdict, one_verdict}
-use Rattle.tsumego.specs.Outcome.{Saying, Leaves, HasLeftOn, Outcome, RanOn}
+use Rattle.tsumego_replies.specs.Solutions.{IsAccepted, IsProofBy, IsWritten}
+use Rattle.tsumego_replies.proofs.Claims.{are_lines}
+use Rattle.tsumego.specs.Outcome.{Saying, Leaves, HasLeftOn}
 use Rattle.tsumego.proofs.Running.{explained, may_say}
-use Rattle.tsumego.specs.Private.Written.{IsSolutionOf, Writes}
 
 -- WHAT IS LEFT
 

@@ -1,29 +1,20 @@
 -- What is answered is so.
-use Rattle.std.proofs.Common.{None, ◌≡◌, ℕ, Bool, true, false, cond, nat_lt, nat_eq, List, [], ◌∷◌, ◌++◌, length, drop, append_assoc, inl, inr, refl, sym, ◌∙◌, ap, subst}
+use Rattle.tsumego.proofs.Common.{None, ◌≡◌, ℕ, Bool, true, false, nat_eq, List, [], ◌∷◌, ◌++◌, length, drop, append_assoc, inl, inr, refl, sym, ◌∙◌, ap, subst, Colour, GameProblem, start, decision, Within, GameTree, Verdict, accepted, rejected, tree_text, canonical, solution, Fault, audit, Answered, line, check_answer, within_answer, audit_answer}
+use Rattle.std.proofs.Common.{cond, nat_lt}
 use Rattle.std.specs.Prelude.{slice_index_or, Result, Ok, Err}
-use Rattle.go_points.specs.declared.Colour.{Colour}
 use Rattle.go_points.specs.declared.Colour.TheVariants.{Black, White}
-use Rattle.target_game.specs.State.{GameProblem, start}
 use Rattle.target_game.specs.Wins.{Wins, wins, nodes}
-use Rattle.target_game.specs.Within.{decision}
-use Rattle.target_game.specs.declared.within.Within.{Within}
 use Rattle.target_game.specs.declared.within.Within.TheVariants as within
-use Rattle.sgf_text.specs.Trees.{GameTree}
 use Rattle.tsumego_problem.specs.Walk.{history_limit}
-use Rattle.cert_check.specs.Verdict.{Verdict, accepted, rejected}
 use Rattle.cert_check.proofs.ReadingClaims.{accepted_sides_win}
-use Rattle.sgf_text.specs.Text.{tree_text}
 use Rattle.sgf_text.specs.Grammar.{Reads}
 use Rattle.sgf_text.proofs.Written.{trees_are_read}
-use Rattle.tsumego_problem.specs.Canonical.{canonical, solution}
 use Rattle.target_game.proofs.States.{history_is_a_set}
 use Rattle.tsumego_problem.specs.Below.{Below}
-use Rattle.solution_tree.specs.Audit.{Fault, audit}
 use Rattle.solution_tree.proofs.Sound.{below_wins}
 use Rattle.solution_tree.proofs.Exact.{audit_is_exact}
-use Rattle.tsumego_replies.specs.declared.status.Status.TheVariants.{Answered}
-use Rattle.tsumego_replies.specs.Texts.{line, wins_text, neither_text}
-use Rattle.tsumego_replies.specs.Answers.{Answer, IsRecord, check_answer, within_answer, audit_answer}
+use Rattle.tsumego_replies.specs.Texts.{wins_text, neither_text}
+use Rattle.tsumego_replies.specs.Answers.{Answer, IsRecord}
 use Rattle.tsumego.specs.Laws.{SideWins, WinnerIsTrue, CheckIsTrue, WithinIsTrue, AuditIsTrue, SolveIsTrue, ProofIsTrue}
 use Rattle.tsumego_problem.proofs.Records.{placed, has_problem_node, stands_for}
 use Rattle.tsumego.proofs.Answering.{has_node}

@@ -1,3 +1,4 @@
+pub mod Common
 pub mod Headline
 pub mod Running
 pub mod Answering

@@ -1,24 +1,11 @@
 -- What is written, and what a run has then left.
-use Rattle.std.proofs.Common.{◌≡◌, ℕ, false, List, [], ◌++◌, Option, Some, None, Result, Ok, Err, inl, inr, ◌⊎◌, sym, ◌∙◌, ap, subst}
-use Rattle.go_points.specs.declared.Colour.{Colour}
-use Rattle.target_game.specs.State.{start}
-use Rattle.target_game.specs.Within.{decision}
-use Rattle.target_game.specs.declared.within.Within.{Within as Decision}
+use Rattle.tsumego.proofs.Common.{◌≡◌, ℕ, false, List, [], ◌++◌, Option, Some, None, Result, Ok, Err, inl, inr, ◌⊎◌, sym, ◌∙◌, ap, subst, Colour, start, decision, Within as Decision, Verdict, accepted, rejected, Fault, audit, Command, Check, Audit, Solve, Gtp, Status, Failed, is_session, no_memory_text, no_read_text, Says, SaysFailure, check_answer, audit_answer, within_answer, Tells, Outcome, MaySay, RanOn, Writes, some_bytes}
 use Rattle.target_game.specs.declared.within.Within.TheVariants as decided
-use Rattle.cert_check.specs.Verdict.{Verdict, accepted, rejected}
-use Rattle.solution_tree.specs.Audit.{Fault, audit}
-use Rattle.tsumego_words.specs.declared.command_line.Command.{Command}
-use Rattle.tsumego_words.specs.declared.command_line.Command.TheVariants.{Check, Within, Audit, Solve, Gtp}
-use Rattle.tsumego_replies.specs.declared.status.Status.{Status}
-use Rattle.tsumego_replies.specs.declared.status.Status.TheVariants.{BadWords, Failed}
-use Rattle.tsumego_words.specs.CommandLine.{is_session}
-use Rattle.tsumego_replies.specs.Texts.{no_memory_text, no_read_text}
-use Rattle.tsumego_replies.specs.Answers.{PassesBound, Says, SaysFailure, check_answer, audit_answer, within_answer}
-use Rattle.proof_cert.specs.Streamed.{Tells}
+use Rattle.tsumego_words.specs.declared.command_line.Command.TheVariants.{Within}
+use Rattle.tsumego_replies.specs.declared.status.Status.TheVariants.{BadWords}
+use Rattle.tsumego_replies.specs.Answers.{PassesBound}
 use Rattle.tsumego.specs.Devices.{PassesLimit}
-use Rattle.tsumego.specs.Outcome.{Outcome, Explains, MaySay, RanOn}
-use Rattle.tsumego.specs.Private.Written.{Writes}
-use Rattle.tsumego_replies.proofs.Saying.{some_bytes}
+use Rattle.tsumego.specs.Outcome.{Explains}
 
 -- ---- why a run failed
 

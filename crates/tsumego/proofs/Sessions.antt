@@ -1,22 +1,13 @@
 -- What a run of a session leaves is what the command leaves.
-use Rattle.std.proofs.Common.{◌≡◌, ℕ, ◌<◌, true, false, length, List, [], ◌∷◌, ◌++◌, codes, Option, Some, None, ◌⊎◌, inl, inr, refl, sym, ap, ◌∙◌, subst, arith, append_assoc, append-nil, length-append}
-use Rattle.std.specs.Io.KnownBytes.{Appends}
+use Rattle.tsumego.proofs.Common.{◌≡◌, ℕ, ◌<◌, true, false, length, List, [], ◌∷◌, ◌++◌, codes, Option, Some, None, ◌⊎◌, inl, inr, refl, sym, ap, ◌∙◌, subst, arith, append_assoc, Appends, raw_lines, failure, GtpSession, Answers, Serves, reply, IsRun, HasStoppedOn, first_session, is_session, Command, Check, Audit, Solve, Gtp, Status, Answered, Failed, no_read_text, EndsOn, MaySay, RanOn, Writes}
+use Rattle.std.proofs.Common.{append-nil, length-append}
 use Rattle.std.proofs.KnownBytes.{Appends-trans}
 use Rattle.gtp_core.specs.declared.end.GtpEnd.TheVariants as stop
-use Rattle.gtp_core.specs.Lines.{Request, nothing, bad_line, asks, request_of, raw_lines}
-use Rattle.gtp_core.specs.Words.{failure}
-use Rattle.gtp_core.specs.Session.{GtpSession}
-use Rattle.gtp_core.specs.Serving.{Answers, HadNoMemory, Serves, reply, last_reply}
-use Rattle.gtp_core.specs.Runs.{IsRun, HasRun, HasStoppedOn, first_session, input_limit}
-use Rattle.tsumego_words.specs.CommandLine.{is_session}
-use Rattle.tsumego_words.specs.declared.command_line.Command.{Command}
-use Rattle.tsumego_words.specs.declared.command_line.Command.TheVariants.{Check, Within, Audit, Solve, Gtp}
-use Rattle.tsumego_replies.specs.declared.status.Status.{Status}
-use Rattle.tsumego_replies.specs.declared.status.Status.TheVariants.{Answered, Failed}
-use Rattle.tsumego_replies.specs.Texts.{no_read_text}
+use Rattle.gtp_core.specs.Lines.{Request, nothing, bad_line, asks, request_of}
+use Rattle.gtp_core.specs.Serving.{HadNoMemory, last_reply}
+use Rattle.gtp_core.specs.Runs.{HasRun, input_limit}
+use Rattle.tsumego_words.specs.declared.command_line.Command.TheVariants.{Within}
 use Rattle.gtp_core.proofs.Running.{left_bytes, tells_all}
-use Rattle.tsumego.specs.Outcome.{EndsOn, MaySay, RanOn}
-use Rattle.tsumego.specs.Private.Written.{Writes}
 
 -- every session can serve every line
 served : (s : GtpSession) (line : List ℕ) → (bytes : List ℕ) × (new : GtpSession) × Serves s line (reply bytes) new

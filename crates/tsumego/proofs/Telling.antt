@@ -1,15 +1,12 @@
 -- What a session tells is true.
-use Rattle.std.proofs.Common.{◌≡◌, ℕ, false, nat_eq, eq-eqb, get_or, drop, append_assoc, List, [], ◌∷◌, ◌++◌, codes, Option, None, Some, Ok, inl, inr, refl, sym, ap, ◌∙◌, subst}
-use Rattle.go_points.specs.declared.Colour.{Colour}
-use Rattle.target_game.specs.State.{GameProblem}
+use Rattle.tsumego.proofs.Common.{◌≡◌, ℕ, false, nat_eq, drop, append_assoc, List, [], ◌∷◌, ◌++◌, codes, Option, None, Some, Ok, inl, inr, refl, sym, ap, ◌∙◌, subst, Colour, GameProblem, raw_lines, failure, GtpSession, Answers, Serves, reply, IsRun, first_session}
+use Rattle.std.proofs.Common.{eq-eqb, get_or}
 use Rattle.gtp_core.specs.declared.command.Command.TheVariants.{Solve}
 use Rattle.gtp_core.specs.declared.refusal.Refusal.TheVariants.{NoProblem}
-use Rattle.gtp_core.specs.Lines.{raw_lines}
-use Rattle.gtp_core.specs.Words.{failure, spaced_text, success, turn_text}
+use Rattle.gtp_core.specs.Words.{spaced_text, success, turn_text}
 use Rattle.gtp_core.specs.Commands.{order_of, with_value}
-use Rattle.gtp_core.specs.Session.{GtpSession, problem_at, size_of}
-use Rattle.gtp_core.specs.Serving.{Answers, Meets, MayTell, Serves, due_of, due_or_refusal, tells, reply}
-use Rattle.gtp_core.specs.Runs.{IsRun, first_session}
+use Rattle.gtp_core.specs.Session.{problem_at, size_of}
+use Rattle.gtp_core.specs.Serving.{Meets, MayTell, due_of, due_or_refusal, tells}
 use Rattle.tsumego.specs.Laws.{AllTrue, AnswersTruly, GtpIsTrue, IsTrueOf}
 
 -- texts that begin otherwise are told apart

@@ -1,31 +1,12 @@
 -- Setups: the colouring that a node assigns, and the record that it is set up in.
-use Rattle.std.proofs.Common.{◌≡◌, ℕ, ◌+◌, ◌*◌, ◌<◌, cond, not, List, [], map, length, get_or, set, Option, Some, Result, Ok, Err, is_none, sym, ap, arith, rules}
-use Rattle.std.specs.Prelude.{codes, unwrap_or}
-use Rattle.std.specs.List.{All}
-use Rattle.std.proofs.lemmas.List.FromFn.{fill_by_all, length-map-range_with_len}
-use Rattle.std.proofs.lemmas.List.Quantifiers.{position-Some}
+use Rattle.tsumego_problem.proofs.Common.{◌≡◌, ℕ, ◌+◌, ◌*◌, ◌<◌, cond, List, [], map, length, get_or, Option, Some, Result, Ok, Err, is_none, sym, ap, arith, rules, codes, unwrap_or, All, fill_by_all, position-Some, nat_tests, Colour, Black, White, Cell, Empty, Stone, same_cells_eq, points, cell_at, side_of, same_cells, first_without_liberty, Place, IsOn, number_of, holds_place, place_in, has_occurred, GameRecord, set_up as record_set_up, Did, no_position, no_element, holds_point, holds_numbered, Node, Walk, points_at, assigned, set_to, player_at, has_no_liberty, walk_of, ProblemFault}
+use Rattle.std.proofs.Common.{not, set}
+use Rattle.std.proofs.lemmas.List.FromFn.{length-map-range_with_len}
 use Rattle.std.proofs.Math.Seq.{get_or-append_seam}
-use Rattle.std.proofs.lemmas.Bool.Decides.{nat_tests}
-use Rattle.go_points.specs.declared.Colour.{Colour}
-use Rattle.go_points.specs.declared.Colour.TheVariants.{Black, White}
-use Rattle.go_points.specs.declared.Cell.{Cell}
-use Rattle.go_points.specs.declared.Cell.TheVariants.{Empty, Stone}
-use Rattle.go_points.specs.Equal.{same_cells_eq}
-use Rattle.go_points.specs.Grid.{points, cell_at, side_of, same_cells}
-use Rattle.go_points.specs.Liberty.{first_without_liberty}
-use Rattle.go_points.specs.Place.{Place, IsOn, number_of}
-use Rattle.go_points.specs.Points.{holds_place}
-use Rattle.go_turns.specs.History.{place_in, has_occurred}
-use Rattle.go_turns.specs.Record.{GameRecord, set_up as record_set_up, with_liberties, set_to as moment_set_to, stepped, Did}
+use Rattle.go_turns.specs.Record.{with_liberties, set_to as moment_set_to, stepped}
 use Rattle.go_turns.specs.declared.fault.TurnFault.{TurnFault}
 use Rattle.go_turns.specs.declared.fault.TurnFault.TheVariants as turns
-use Rattle.go_turns.proofs.Repeats.{no_position, no_element}
-use Rattle.target_game.specs.Legal.{holds_point}
-use Rattle.target_game.proofs.Playing.{holds_numbered}
-use Rattle.sgf_text.specs.Trees.{Node}
-use Rattle.tsumego_problem.specs.Walk.{Walk, points_at, assigned, set_to, player_at, has_no_liberty}
-use Rattle.tsumego_problem.specs.Walked.{walk_of, IsSetupFault, IsNoLiberty}
-use Rattle.tsumego_problem.specs.declared.fault.ProblemFault.{ProblemFault}
+use Rattle.tsumego_problem.specs.Walked.{IsSetupFault, IsNoLiberty}
 use Rattle.tsumego_problem.specs.declared.fault.ProblemFault.TheVariants as faults
 
 -- ---- a colouring that is filled point by point

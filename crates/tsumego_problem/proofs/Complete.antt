@@ -1,41 +1,18 @@
 -- A walk that has come to a marked node has asked all that a problem is asked.
-use Rattle.std.proofs.Common.{◌≡◌, ℕ, suc, ◌+◌, ◌-◌, ◌*◌, ◌<◌, ◌≤◌, Bool, true, false, cond, not, ◌&&◌, ◌||◌, nat_eq, nat_lt, nat_le, eqb-true, ltb-true, lt-ltb, List, [], ◌∷◌, map, filter, length, get_or, slice_get, Option, Some, None, option_map, is_none, Result, Ok, Err, refl, sym, ◌∙◌, ap, ap₂, subst, mul-le-mul, arith, rules}
-use Rattle.std.specs.Prelude.{unwrap_or, codes}
-use Rattle.std.specs.List.{All, list_all}
-use Rattle.std.proofs.lemmas.List.Folds.{list_any-append}
+use Rattle.tsumego_problem.proofs.Common.{◌≡◌, ℕ, suc, ◌+◌, ◌-◌, ◌*◌, ◌<◌, ◌≤◌, Bool, true, false, cond, ◌&&◌, ◌||◌, nat_le, eqb-true, ltb-true, List, [], ◌∷◌, map, length, get_or, slice_get, Option, Some, None, option_map, is_none, Result, Ok, Err, refl, sym, ◌∙◌, ap, ap₂, subst, mul-le-mul, arith, rules, unwrap_or, codes, All, list_all, list_any-append, nat_tests, mul-add-lt, Colour, Cell, Empty, Stone, points, cell_at, same_cell, side_of, row_of, column_of, all_reach_empty, Place, IsOn, on_board, number_of, same_cell_refl, length-map, not-false, and_left, and_right, place_in, repeats, holds_point, GameProblem, GameRecord, colouring_of, first_refusal, refusals, problem_of as problem_of_parts, values_at, Node, point_at, inside, rectangle, points_named, points_of_each, points_of, is_empty, is_marked, when, first_fault, node_fault, targets_at, region_at, are_targets, history_limit, walk_of, HasReached, ProblemFault}
+use Rattle.std.proofs.Common.{not, nat_eq, nat_lt, lt-ltb, filter}
 use Rattle.std.proofs.lemmas.List.FromFn.{length-range_with_len}
-use Rattle.std.proofs.lemmas.Bool.Decides.{nat_tests}
-use Rattle.std.proofs.lemmas.Nat.{mul-add-lt}
-use Rattle.go_points.specs.declared.Colour.{Colour}
-use Rattle.go_points.specs.declared.Cell.{Cell}
-use Rattle.go_points.specs.declared.Cell.TheVariants.{Empty, Stone}
-use Rattle.go_points.specs.Grid.{points, cell_at, same_cell, side_of, row_of, column_of}
-use Rattle.go_points.specs.Liberty.{all_reach_empty}
-use Rattle.go_points.specs.Place.{Place, IsOn, on_board, number_of}
 use Rattle.go_points.specs.Private.Sides.{side_of-whole}
-use Rattle.go_points.proofs.Cells.{same_cell_eq, same_cell_refl}
-use Rattle.std.proofs.lemmas.List.{length-map}
-use Rattle.std.proofs.lemmas.Bool.{not-false}
-use Rattle.go_points.proofs.Lists.{and_left, and_right}
-use Rattle.go_turns.specs.History.{place_in, repeats}
+use Rattle.go_points.proofs.Cells.{same_cell_eq}
 use Rattle.go_turns.proofs.Turns.{on_from}
-use Rattle.target_game.specs.Legal.{holds_point}
 use Rattle.target_game.specs.Kept.{kept_problem}
-use Rattle.target_game.specs.State.{GameProblem}
 use Rattle.target_game.specs.declared.TheConstants.{MAX_HISTORY}
 use Rattle.target_game.specs.declared.bad_problem.BadProblem.{BadProblem}
 use Rattle.target_game.specs.declared.bad_problem.BadProblem.TheVariants as bad
-use Rattle.go_turns.specs.Record.{GameRecord, colouring_of}
-use Rattle.target_game.specs.Problem.{first_refusal, refusals, one_colour, problem_on, problem_of as problem_of_parts}
+use Rattle.target_game.specs.Problem.{one_colour, problem_on}
 use Rattle.target_game.proofs.Facts.{made_of}
 use Rattle.target_game.proofs.Loops.{on_first}
 use Rattle.sgf_text.specs.Bytes.{is_lower}
-use Rattle.sgf_text.specs.Nodes.{values_at}
-use Rattle.sgf_text.specs.Trees.{Node}
-use Rattle.tsumego_problem.specs.Values.{point_at, inside, rectangle, points_named, points_of_each, points_of}
-use Rattle.tsumego_problem.specs.Walk.{is_empty, is_marked, when, first_fault, node_fault, targets_at, region_at, are_targets, history_limit}
-use Rattle.tsumego_problem.specs.Walked.{walk_of, HasReached}
-use Rattle.tsumego_problem.specs.declared.fault.ProblemFault.{ProblemFault}
 use Rattle.tsumego_problem.proofs.Making.{stands_at}
 use Rattle.tsumego_problem.proofs.Points.{held}
 

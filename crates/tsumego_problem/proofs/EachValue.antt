@@ -1,21 +1,13 @@
 -- The points of values, one value after another.
-use Rattle.std.specs.List.{All, list_all, range_with_len}
+use Rattle.tsumego_problem.proofs.Common.{All, list_all, range_with_len, with_place, ◌≡◌, ℕ, zero, suc, ◌*◌, ltb-true, ◌+◌, ◌≤◌, ◌<◌, true, false, List, [], ◌∷◌, ◌++◌, drop, length, get_or, map, Option, Some, None, option_map, option_and_then, refl, sym, ◌∙◌, ap, ap₂, subst, arith, map-id, drop-cons, and_parts, nat_tests, points, Place, IsOn, place_of, number_of, holds_point, trim, points_named, points_of_each, points_of, points_in, Adds}
 use Rattle.std.proofs.lemmas.List.FromFn.{map-range_with_len_more}
-use Rattle.go_points.specs.Points.{with_place}
+use Rattle.go_points.specs.Points.{places_that}
 use Rattle.tsumego_problem.proofs.Rectangles.{put}
 use Rattle.tsumego_problem.proofs.Points.{picked_below, picked_again, row_small, column_small}
-use Rattle.std.proofs.Common.{◌≡◌, ℕ, zero, suc, ◌*◌, nat_lt, ltb-true, ◌+◌, ◌≤◌, ◌<◌, true, false, List, [], ◌∷◌, ◌++◌, drop, length, get_or, map, filter, append-nil, append_assoc, Option, Some, None, option_map, option_and_then, refl, sym, ◌∙◌, ap, ap₂, subst, arith, map-id}
-use Rattle.std.proofs.Math.Seq.{drop-cons, drop-length}
+use Rattle.std.proofs.Common.{nat_lt, filter, append-nil, append_assoc}
+use Rattle.std.proofs.Math.Seq.{drop-length}
 use Rattle.std.proofs.lemmas.Nat.{div-add-mod'}
-use Rattle.std.proofs.lemmas.Bool.{and_parts}
-use Rattle.std.proofs.lemmas.Bool.Decides.{nat_tests}
-use Rattle.go_points.specs.Grid.{points}
-use Rattle.go_points.specs.Place.{Place, IsOn, place_of, number_of}
-use Rattle.go_points.specs.Points.{places_that}
 use Rattle.go_points.proofs.PlaceSets.{places_none}
-use Rattle.target_game.specs.Legal.{holds_point}
-use Rattle.tsumego_problem.specs.Values.{trim, points_named, points_of_each, points_of}
-use Rattle.tsumego_problem.specs.Private.Named.{points_in, Adds}
 
 -- the set holds the points of the values before i
 abbrev pub EachFrom : ℕ → List (List ℕ) → ℕ → List Place → Type 0

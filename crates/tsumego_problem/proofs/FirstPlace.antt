@@ -1,10 +1,8 @@
 -- The first place that passes, in a list and in one with more after it.
-use Rattle.std.proofs.Common.{◌≡◌, ℕ, suc, ◌+◌, ◌-◌, Bool, true, false, cond, if◌then◌else◌, List, [], ◌∷◌, ◌++◌, length, take, drop, Option, Some, None, is_some, position, option_map, option_and_then, slice_get, refl, sym, ◌∙◌, ap, arith, rules}
-use Rattle.std.proofs.lemmas.Bool.Decides.{nat_tests}
-use Rattle.std.proofs.lemmas.List.{take_rest}
-use Rattle.sgf_text.specs.Trees.{Node, Forest, GameTree, forest_of}
-use Rattle.tsumego_problem.specs.Walk.{is_marked, usize_of, line_below, main_line, problem_node}
-use Rattle.tsumego_problem.specs.Below.{children_of, below_in, below_line, below_problem}
+use Rattle.tsumego_problem.proofs.Common.{◌≡◌, ℕ, suc, ◌+◌, ◌-◌, Bool, true, false, cond, if◌then◌else◌, List, [], ◌∷◌, ◌++◌, length, take, drop, Option, Some, None, is_some, position, option_map, option_and_then, slice_get, refl, sym, ◌∙◌, ap, arith, rules, nat_tests, take_rest, Node, Forest, GameTree, is_marked, line_below, main_line, problem_node, children_of, below_in, below_line}
+use Rattle.sgf_text.specs.Trees.{forest_of}
+use Rattle.tsumego_problem.specs.Walk.{usize_of}
+use Rattle.tsumego_problem.specs.Below.{below_problem}
 
 module _ {X : Type 0} (f : X → Bool) where
   pub first_place : (x : X) (xs : List X) → position f (x ∷ xs) ≡ cond (f x) (Some 0) (option_map (λ k. 1 + k) (position f xs))

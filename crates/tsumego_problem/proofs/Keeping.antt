@@ -1,25 +1,9 @@
 -- What the walk keeps of its history, and what it has asked when it comes to a marked node.
-use Rattle.std.proofs.Common.{◌≡◌, ℕ, ◌+◌, ◌*◌, Bool, true, false, ◌&&◌, List, [], ◌∷◌, ◌++◌, length, Option, Some, None, Result, Ok, refl, ap, subst, rules, arith}
+use Rattle.tsumego_problem.proofs.Common.{◌≡◌, ℕ, ◌+◌, ◌*◌, Bool, true, false, ◌&&◌, List, [], ◌∷◌, ◌++◌, length, Option, Some, None, Result, Ok, refl, ap, subst, rules, arith, list_all, not-false, nat_tests, Colour, Cell, Empty, same_cell, cell_at, all_reach_empty, after_move, Ply, pass, move, has_occurred, place_in, no_position, same_cells, Node, Walk, is_marked, ◌>>=◌, unless, late_fault, node_fault, joined_by, moved_to, turned, set_to, changed_by, changed, turn_at, has_setup, has_no_liberty, assigned, walk_node, IsHistory, HasReached, walk_to_mark, ProblemFault}
 use Rattle.std.specs.Prelude.{if◌then◌else◌}
-use Rattle.std.specs.List.{list_all}
-use Rattle.std.proofs.lemmas.Bool.{not-false}
-use Rattle.std.proofs.lemmas.Bool.Decides.{nat_tests}
-use Rattle.go_points.specs.declared.Colour.{Colour}
-use Rattle.go_points.specs.declared.Cell.{Cell}
-use Rattle.go_points.specs.declared.Cell.TheVariants.{Empty}
-use Rattle.go_points.specs.Grid.{same_cell, cell_at}
-use Rattle.go_points.specs.Liberty.{all_reach_empty}
-use Rattle.go_points.specs.Move.{after_move}
-use Rattle.go_points.specs.Ply.{Ply, pass, move}
 use Rattle.go_points.proofs.Clearing.{moves_leave_liberties}
-use Rattle.go_turns.specs.History.{has_occurred, place_in}
-use Rattle.go_turns.proofs.Repeats.{once_more, no_position}
-use Rattle.go_points.specs.Grid.{same_cells}
+use Rattle.go_turns.proofs.Repeats.{once_more}
 use Rattle.target_game.proofs.States.{length-after_move}
-use Rattle.sgf_text.specs.Trees.{Node}
-use Rattle.tsumego_problem.specs.Walk.{Walk, is_marked, ◌>>=◌, unless, late_fault, node_fault, joined_by, moved_to, turned, set_to, changed_by, changed, turn_at, has_setup, has_no_liberty, assigned, walk_node}
-use Rattle.tsumego_problem.specs.Walked.{IsHistory, HasReached, walk_to_mark}
-use Rattle.tsumego_problem.specs.declared.fault.ProblemFault.{ProblemFault}
 use Rattle.tsumego_problem.proofs.Assigning.{length_assigned}
 
 bind_ok : {A B : Type 0} (r : Result A ProblemFault) (f : A → Result B ProblemFault) (b : B) → (r >>= f) ≡ Ok b → (a : A) × (r ≡ Ok a) × (f a ≡ Ok b)

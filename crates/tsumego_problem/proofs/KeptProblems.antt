@@ -1,27 +1,11 @@
 -- What the type of problems keeps is what a record's problem is asked.
-use Rattle.std.proofs.Common.{◌≡◌, ◌≢◌, ℕ, zero, suc, ◌+◌, ◌*◌, ◌<◌, ◌≤◌, length, get_or, refl, sym, ◌∙◌, ap, subst, mul-le-mul, eq-eqb, eqb-true, ltb-true, arith, rules}
-use Rattle.std.specs.Prelude.{Bool, true, false, not, ◌&&◌, ◌||◌, ◌==◌, nat_eq, nat_lt, IsTrue, List, [], ◌∷◌, ◌++◌, map, filter, Some}
-use Rattle.std.specs.List.{list_any, list_all, range_with_len, prefix_len, All, AllPairs}
-use Rattle.std.proofs.lemmas.Bool.Decides.{nat_tests}
-use Rattle.std.proofs.lemmas.Bool.{false_from_ne_true, or_parts}
-use Rattle.std.proofs.lemmas.List.Folds.{list_any-append}
-use Rattle.go_points.specs.declared.Colour.{Colour}
-use Rattle.go_points.specs.declared.Cell.{Cell}
-use Rattle.go_points.specs.declared.Cell.TheVariants.{Stone}
-use Rattle.go_points.specs.declared.TheConstants.{MAX_SIZE}
-use Rattle.go_points.specs.Equal.{same_cells_eq}
-use Rattle.go_points.specs.Grid.{points, cell_at, same_cell, same_cells}
-use Rattle.go_points.specs.Liberty.{all_reach_empty}
-use Rattle.go_points.specs.Place.{Place, IsOn, number_of}
+use Rattle.tsumego_problem.proofs.Common.{◌≡◌, ◌≢◌, ℕ, zero, suc, ◌+◌, ◌*◌, ◌<◌, ◌≤◌, length, get_or, refl, sym, ◌∙◌, ap, subst, mul-le-mul, eqb-true, ltb-true, arith, rules, not, ◌==◌, nat_eq, nat_lt, filter, list_any, list_all, range_with_len, prefix_len, All, nat_tests, false_from_ne_true, or_parts, list_any-append, Colour, Cell, Stone, MAX_SIZE, same_cells_eq, points, cell_at, same_cell, same_cells, all_reach_empty, Place, IsOn, number_of, and_left, and_right, has_occurred, place_in, repeats, holds_point, GameProblem, each_new, IsProblem, are_targets, has_no_liberty}
+use Rattle.std.proofs.Common.{eq-eqb}
+use Rattle.std.specs.Prelude.{Bool, true, false, ◌&&◌, ◌||◌, IsTrue, List, [], ◌∷◌, ◌++◌, map, Some}
+use Rattle.std.specs.List.{AllPairs}
 use Rattle.go_points.specs.Points.{is_before, IsPointSet}
-use Rattle.go_points.proofs.Lists.{and_left, and_right}
-use Rattle.go_turns.specs.History.{has_occurred, place_in, repeats}
 use Rattle.target_game.specs.Laws.{IsProblem as Keeps}
-use Rattle.target_game.specs.Legal.{holds_point}
-use Rattle.target_game.specs.State.{GameProblem}
 use Rattle.tsumego_problem.specs.Canonical.{present}
-use Rattle.tsumego_problem.specs.Laws.{each_new, IsProblem}
-use Rattle.tsumego_problem.specs.Walk.{are_targets, has_no_liberty}
 use Rattle.tsumego_problem.proofs.CanonicalRecord.{same_cells_self}
 use Rattle.tsumego_problem.proofs.Making.{colour_standing}
 use Rattle.tsumego_problem.proofs.Points.{same_filter}

@@ -1,22 +1,6 @@
 -- The problem that is made at the end of a walk.
-use Rattle.std.proofs.Common.{◌≡◌, ℕ, zero, suc, ◌<◌, Bool, true, ◌&&◌, ◌||◌, List, [], ◌∷◌, map, length, get_or, Option, Some, None, Ok, refl, sym, ◌∙◌, ap, ap₂, subst, arith, rules}
-use Rattle.std.specs.Prelude.{unwrap_or}
-use Rattle.std.specs.List.{list_any, list_all}
-use Rattle.go_points.specs.declared.Colour.{Colour}
-use Rattle.go_points.specs.declared.Cell.{Cell}
-use Rattle.go_points.specs.declared.Cell.TheVariants.{Stone}
-use Rattle.go_points.specs.Grid.{cell_at, same_cell, same_cells, side_of}
-use Rattle.go_points.specs.Place.{Place, number_of}
-use Rattle.go_points.proofs.Cells.{same_cell_refl}
-use Rattle.go_turns.specs.History.{place_in}
-use Rattle.go_turns.specs.Record.{GameRecord, colouring_of}
-use Rattle.go_turns.proofs.Repeats.{no_element}
-use Rattle.target_game.specs.State.{GameProblem}
-use Rattle.target_game.specs.Problem.{first_refusal, refusals, problem_of as problem_of_parts}
+use Rattle.tsumego_problem.proofs.Common.{◌≡◌, ℕ, zero, suc, ◌<◌, Bool, true, ◌&&◌, ◌||◌, List, [], ◌∷◌, map, length, get_or, Option, Some, None, Ok, refl, sym, ◌∙◌, ap, ap₂, subst, arith, rules, unwrap_or, list_any, list_all, Colour, Cell, Stone, cell_at, same_cell, same_cells, side_of, Place, number_of, same_cell_refl, place_in, GameRecord, colouring_of, no_element, GameProblem, first_refusal, refusals, problem_of as problem_of_parts, Node, targets_at, region_at, colour_of, problem_at, walk_of}
 use Rattle.target_game.proofs.Facts.{facts, unrefused}
-use Rattle.sgf_text.specs.Trees.{Node}
-use Rattle.tsumego_problem.specs.Walk.{targets_at, region_at, colour_of, problem_at}
-use Rattle.tsumego_problem.specs.Walked.{walk_of}
 use Rattle.tsumego_problem.proofs.Assigning.{at_its_place}
 
 same_cells_refl : (c : List Cell) → same_cells c c ≡ true

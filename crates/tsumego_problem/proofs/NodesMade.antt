@@ -1,23 +1,9 @@
 -- The nodes of a canonical record are nodes: each name stands once, and each value ends where it should.
-use Rattle.std.proofs.Common.{◌≡◌, ℕ, ◌+◌, ◌/◌, ◌%◌, ◌^◌, ◌≤◌, ◌<◌, refl, sym, ◌∙◌, ap, arith, rules}
-use Rattle.std.specs.Prelude.{Bool, true, false, not, ◌&&◌, ◌==◌, cond, codes, decimal, List, [], ◌∷◌, ◌++◌, map}
-use Rattle.std.specs.List.{list_any, list_all}
-use Rattle.std.specs.Str.{bytes_eq}
-use Rattle.std.proofs.lemmas.Bool.Decides.{nat_tests}
+use Rattle.tsumego_problem.proofs.Common.{◌≡◌, ℕ, ◌+◌, ◌/◌, ◌%◌, ◌^◌, ◌≤◌, ◌<◌, refl, sym, ◌∙◌, ap, arith, rules, not, ◌==◌, codes, decimal, list_any, list_all, bytes_eq, nat_tests, append-nil, not-true, and_parts, Colour, Black, White, Cell, Empty, Stone, points, holds_point, GameProblem, is_node, is_named, Node, point_value, point_values, property, changed_to, changes, root_node, colour_name, marks, verdict_text}
+use Rattle.std.specs.Prelude.{Bool, true, false, ◌&&◌, cond, List, [], ◌∷◌, ◌++◌, map}
 use Rattle.std.proofs.lemmas.Fmt.{decimal_by_steps}
-use Rattle.std.proofs.lemmas.List.{append-nil}
 use Rattle.std.proofs.lemmas.List.Folds.{list_all-append}
-use Rattle.std.proofs.lemmas.Bool.{not-true, and_parts}
-use Rattle.go_points.specs.declared.Colour.{Colour}
-use Rattle.go_points.specs.declared.Colour.TheVariants.{Black, White}
-use Rattle.go_points.specs.declared.Cell.{Cell}
-use Rattle.go_points.specs.declared.Cell.TheVariants.{Empty, Stone}
-use Rattle.go_points.specs.Grid.{points}
-use Rattle.target_game.specs.Legal.{holds_point}
-use Rattle.target_game.specs.State.{GameProblem}
-use Rattle.sgf_text.specs.Nodes.{is_value, is_ident, is_property, is_node, is_named, are_distinct}
-use Rattle.sgf_text.specs.Trees.{Node}
-use Rattle.tsumego_problem.specs.Canonical.{point_value, point_values, property, changed_to, changes, root_node, colour_name, marks, verdict_text}
+use Rattle.sgf_text.specs.Nodes.{is_value, is_ident, is_property, are_distinct}
 use Rattle.tsumego_problem.proofs.Setup.{in_order}
 
 -- ---- values

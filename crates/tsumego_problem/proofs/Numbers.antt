@@ -1,12 +1,8 @@
 -- Numbers by their digits, one after another.
-use Rattle.std.proofs.Common.{◌≡◌, ◌≢◌, ℕ, ◌+◌, ◌-◌, ◌*◌, ◌≤◌, ◌<◌, true, false, cond, ◌&&◌, nat_le, List, [], ◌∷◌, drop, take, length, get_or, fold, position, Option, Some, None, option_and_then, ap, arith, rules}
-use Rattle.std.specs.List.{list_all, before_first, after_first}
-use Rattle.go_turns.proofs.Repeats.{no_position, no_element}
-use Rattle.std.proofs.Math.Seq.{drop-cons}
-use Rattle.std.proofs.lemmas.Bool.Decides.{nat_tests}
-use Rattle.go_points.specs.declared.TheConstants.{MAX_SIZE}
-use Rattle.tsumego_problem.specs.Values.{is_digit, is_colon, equal, digits_value, number_named, size_named}
-use Rattle.tsumego_problem.specs.Walk.{board_of}
+use Rattle.tsumego_problem.proofs.Common.{◌≡◌, ◌≢◌, ℕ, ◌+◌, ◌-◌, ◌*◌, ◌≤◌, ◌<◌, true, false, cond, ◌&&◌, nat_le, List, [], ◌∷◌, drop, take, length, get_or, position, Option, Some, None, option_and_then, ap, arith, rules, list_all, no_position, no_element, drop-cons, nat_tests, MAX_SIZE, equal, digits_value, number_named, size_named, board_of}
+use Rattle.std.proofs.Common.{fold}
+use Rattle.std.specs.List.{before_first, after_first}
+use Rattle.tsumego_problem.specs.Values.{is_digit, is_colon}
 
 -- the number that m becomes by these digits, and the board of so many rows
 abbrev pub grown : ℕ → List ℕ → ℕ

@@ -1,26 +1,9 @@
 -- The record with which a walk begins.
-use Rattle.std.proofs.Common.{◌≡◌, ℕ, zero, suc, ◌+◌, ◌*◌, ◌<◌, ◌≤◌, Bool, true, false, cond, not, ◌&&◌, ◌||◌, List, [], ◌∷◌, map, length, Option, None, Ok, Err, is_none, replicate, refl, sym, ◌∙◌, ap, ap₂, arith, rules}
-use Rattle.std.specs.Prelude.{codes, unwrap_or}
-use Rattle.std.specs.List.{range_with_len}
+use Rattle.tsumego_problem.proofs.Common.{◌≡◌, ℕ, zero, suc, ◌+◌, ◌*◌, ◌<◌, ◌≤◌, Bool, true, false, cond, ◌&&◌, ◌||◌, List, [], ◌∷◌, map, length, Option, None, Ok, Err, is_none, refl, sym, ◌∙◌, ap, ap₂, arith, rules, codes, unwrap_or, range_with_len, fill_by_all, or_parts, nat_tests, Black, White, Cell, Empty, Stone, points, cell_at, first_without_liberty, Place, GameRecord, opened, Opens, holds_point, values_at, Node, points_of, has, has_turn, has_setup, is_empty, points_at, assigned, opening, turn_at, node_fault, first_fault, when, changed, changed_by, set_to, unless, late_fault, walk_node, ◌>>=◌, walk_of, IsHistory, ProblemFault}
+use Rattle.std.proofs.Common.{not, replicate}
 use Rattle.std.proofs.lemmas.List.{get_or-replicate, length-replicate}
-use Rattle.std.proofs.lemmas.List.FromFn.{fill_by_all, get_or-map-range_with_len}
-use Rattle.std.proofs.lemmas.Bool.{or_parts}
-use Rattle.std.proofs.lemmas.Bool.Decides.{nat_tests}
-use Rattle.go_points.specs.declared.Colour.TheVariants.{Black, White}
-use Rattle.go_points.specs.declared.Cell.{Cell}
-use Rattle.go_points.specs.declared.Cell.TheVariants.{Empty, Stone}
-use Rattle.go_points.specs.Grid.{points, cell_at}
-use Rattle.go_points.specs.Liberty.{first_without_liberty}
-use Rattle.go_points.specs.Place.{Place}
-use Rattle.go_turns.specs.Record.{GameRecord, opened, Opens}
+use Rattle.std.proofs.lemmas.List.FromFn.{get_or-map-range_with_len}
 use Rattle.go_turns.specs.declared.fault.TurnFault.TheVariants as turns
-use Rattle.target_game.specs.Legal.{holds_point}
-use Rattle.sgf_text.specs.Nodes.{values_at}
-use Rattle.sgf_text.specs.Trees.{Node}
-use Rattle.tsumego_problem.specs.Values.{points_of}
-use Rattle.tsumego_problem.specs.Walk.{has, has_turn, has_setup, is_empty, points_at, assigned, opening, turn_at, node_fault, first_fault, when, changed, changed_by, set_to, unless, late_fault, walk_node, ◌>>=◌}
-use Rattle.tsumego_problem.specs.Walked.{walk_of, IsHistory}
-use Rattle.tsumego_problem.specs.declared.fault.ProblemFault.{ProblemFault}
 use Rattle.tsumego_problem.specs.declared.fault.ProblemFault.TheVariants as faults
 use Rattle.tsumego_problem.proofs.Assigning.{left_at}
 use Rattle.tsumego_problem.proofs.Steps.{filter_none}

@@ -1,11 +1,7 @@
 -- The problem of a tree, by its parts.
-use Rattle.std.proofs.Common.{◌≡◌, ℕ, ◌+◌, ◌<◌, Bool, true, false, List, [], ◌∷◌, ◌++◌, length, get_or, Option, Some, None, is_some, Result, Ok, Err, IsTrue, refl, sym, ◌∙◌, ap, ap₂, arith, if◌then◌else◌, IfOk, rules}
-use Rattle.target_game.specs.State.{GameProblem}
-use Rattle.sgf_text.specs.Trees.{Node, GameTree}
+use Rattle.tsumego_problem.proofs.Common.{◌≡◌, ℕ, ◌+◌, ◌<◌, Bool, true, false, List, [], ◌∷◌, ◌++◌, length, get_or, Option, Some, None, is_some, Result, Ok, Err, refl, sym, ◌∙◌, ap, ap₂, arith, if◌then◌else◌, rules, GameProblem, Node, GameTree, Walk, walk_node, ◌>>=◌, is_marked, opening, main_line, line_below, root_of, is_go, board_size, problem_node, problem_at, problem_on, problem_within, walk_to_mark, ProblemFault}
+use Rattle.std.proofs.Common.{IsTrue, IfOk}
 use Rattle.sgf_text.specs.Text.{is_tree}
-use Rattle.tsumego_problem.specs.Walk.{Walk, walk_node, ◌>>=◌, is_marked, opening, main_line, line_below, root_of, is_go, board_size, problem_node, problem_at, problem_on, problem_within}
-use Rattle.tsumego_problem.specs.Walked.{walk_to_mark}
-use Rattle.tsumego_problem.specs.declared.fault.ProblemFault.{ProblemFault}
 use Rattle.tsumego_problem.specs.declared.fault.ProblemFault.TheVariants as faults
 use Rattle.tsumego_problem.proofs.Reading.{after_mark, marked_walk}
 

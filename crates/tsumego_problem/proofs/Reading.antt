@@ -1,10 +1,5 @@
 -- The problem that a walk leads to: marks, and the walk up to the first of them.
-use Rattle.std.proofs.Common.{◌≡◌, ℕ, suc, ◌+◌, Bool, true, false, cond, List, [], ◌∷◌, take, get_or, position, Option, Some, None, option_map, Result, Ok, Err, refl, sym, ◌∙◌, ap, subst, arith}
-use Rattle.target_game.specs.State.{GameProblem}
-use Rattle.sgf_text.specs.Trees.{Node}
-use Rattle.tsumego_problem.specs.Walk.{Walk, is_marked, walk_node, ◌>>=◌, walk, problem_at}
-use Rattle.tsumego_problem.specs.Walked.{walk_to_mark}
-use Rattle.tsumego_problem.specs.declared.fault.ProblemFault.{ProblemFault}
+use Rattle.tsumego_problem.proofs.Common.{◌≡◌, ℕ, suc, ◌+◌, Bool, true, false, cond, List, [], ◌∷◌, take, get_or, position, Option, Some, None, option_map, Result, Ok, Err, refl, sym, ◌∙◌, ap, subst, arith, GameProblem, Node, Walk, is_marked, walk_node, ◌>>=◌, walk, problem_at, walk_to_mark, ProblemFault}
 use Rattle.tsumego_problem.proofs.FirstPlace.{first_place}
 
 -- the walk up to a place is the walk up to the first mark

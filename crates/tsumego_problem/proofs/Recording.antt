@@ -1,22 +1,12 @@
 -- The loops and steps by which a canonical record is made.
-use Rattle.std.proofs.Common.{◌≡◌, ℕ, suc, ◌+◌, ◌-◌, ◌*◌, ◌/◌, ◌%◌, ◌<◌, ◌≤◌, ltb-true, refl, sym, ◌∙◌, ap, ap₂, arith, drop, get_or}
-use Rattle.std.specs.Prelude.{Bool, true, false, not, ◌&&◌, cond, List, [], ◌∷◌, ◌++◌, map, filter, nat_lt}
-use Rattle.std.specs.List.{list_all, range_with_len, All}
-use Rattle.std.proofs.lemmas.List.{append_assoc, append-nil, map-append}
-use Rattle.std.proofs.lemmas.Bool.{lt-ltb, and_parts, and_from}
-use Rattle.std.proofs.lemmas.Nat.{div-mul-add, mod-mul-add}
-use Rattle.std.proofs.lemmas.Bool.Decides.{nat_tests}
-use Rattle.go_points.specs.declared.Cell.{Cell}
-use Rattle.go_points.specs.Grid.{cell_at, same_cell}
+use Rattle.tsumego_problem.proofs.Common.{◌≡◌, ℕ, suc, ◌+◌, ◌-◌, ◌*◌, ◌/◌, ◌%◌, ◌<◌, ◌≤◌, ltb-true, refl, sym, ◌∙◌, ap, ap₂, arith, drop, get_or, not, filter, nat_lt, list_all, range_with_len, All, append_assoc, append-nil, lt-ltb, and_parts, and_from, div-mul-add, mod-mul-add, nat_tests, Cell, cell_at, same_cell, Place, IsOn, on_board, number_of, place_of, holds_place, holds_point, holds_numbered, Node, point_value, point_values, changes_along, history_nodes}
+use Rattle.std.specs.Prelude.{Bool, true, false, ◌&&◌, cond, List, [], ◌∷◌, ◌++◌, map}
+use Rattle.std.proofs.lemmas.List.{map-append}
 use Rattle.go_points.specs.declared.Turn.TheVariants.{At}
 use Rattle.go_points.specs.Ply.{ply_of}
-use Rattle.go_points.specs.Place.{Place, IsOn, on_board, number_of, place_of}
-use Rattle.go_points.specs.Points.{holds_place}
 use Rattle.go_points.specs.Sgf.{sgf_text}
-use Rattle.target_game.specs.Legal.{holds_point}
-use Rattle.target_game.proofs.Playing.{passing_more, holds_numbered}
-use Rattle.sgf_text.specs.Trees.{Node}
-use Rattle.tsumego_problem.specs.Canonical.{point_value, point_values, changes_along, history_nodes, turn_value}
+use Rattle.target_game.proofs.Playing.{passing_more}
+use Rattle.tsumego_problem.specs.Canonical.{turn_value}
 use Rattle.tsumego_problem.proofs.Rectangles.{place_back}
 
 -- ---- the values of the points that pass a test

@@ -1,19 +1,10 @@
 -- Points put into sets, one by one.
-use Rattle.std.proofs.Common.{◌≡◌, ℕ, ◌⊎◌, inl, inr, ◌+◌, ◌*◌, ◌/◌, ◌%◌, ◌≤◌, ◌<◌, Bool, true, false, cond, ◌&&◌, ◌||◌, nat_le, List, [], ◌∷◌, ◌++◌, map-id, append-nil, append_assoc, filter, length, option_and_then, Option, Some, None, option_map, refl, sym, ◌∙◌, ap, ap₂, subst, arith, rules}
-use Rattle.std.specs.List.{range_with_len}
-use Rattle.std.proofs.lemmas.Bool.{false_from_ne_true}
-use Rattle.std.proofs.lemmas.Nat.{div-mul-add, mod-mul-add, mul-add-lt}
+use Rattle.tsumego_problem.proofs.Common.{◌≡◌, ℕ, ◌+◌, ◌*◌, ◌/◌, ◌%◌, ◌≤◌, ◌<◌, Bool, true, false, cond, ◌&&◌, ◌||◌, nat_le, List, [], ◌∷◌, ◌++◌, map-id, length, option_and_then, Option, Some, None, option_map, refl, sym, ◌∙◌, ap, ap₂, subst, arith, rules, range_with_len, false_from_ne_true, div-mul-add, mod-mul-add, mul-add-lt, list_any-append, points, Place, IsOn, place_of, number_of, with_place, MAX_SIZE, nat_tests, inside, point_at, points_named, rectangle, points_in, Adds}
+use Rattle.std.proofs.Common.{◌⊎◌, inl, inr, append-nil, append_assoc, filter}
 use Rattle.std.proofs.lemmas.List.FromFn.{filter_of_map_range_with_len_more}
-use Rattle.std.proofs.lemmas.List.Folds.{list_any-append}
-use Rattle.go_points.specs.Grid.{points}
-use Rattle.go_points.specs.Place.{Place, IsOn, place_of, number_of}
-use Rattle.go_points.specs.Points.{with_place}
 use Rattle.go_points.proofs.PlaceSets.{places_with}
 use Rattle.go_points.specs.Sgf.{sgf_place}
-use Rattle.go_points.specs.declared.TheConstants.{MAX_SIZE}
-use Rattle.std.proofs.lemmas.Bool.Decides.{nat_tests}
-use Rattle.tsumego_problem.specs.Values.{inside, point_at, points_named, rectangle}
-use Rattle.tsumego_problem.specs.Private.Named.{points_in, Gains, Adds}
+use Rattle.tsumego_problem.specs.Private.Named.{Gains}
 
 or_false : (a : Bool) → (a || false) ≡ a
 or_false a = search rules

@@ -1,17 +1,6 @@
 -- Points that two sets share, one point after another.
-use Rattle.std.proofs.Common.{◌≡◌, ℕ, Bool, true, false, not, ◌&&◌, ◌||◌, List, [], ◌∷◌, map, refl, sym, ◌∙◌, ap, subst, arith}
-use Rattle.std.specs.Prelude.{filter, unwrap_or}
-use Rattle.std.specs.List.{All, list_any}
-use Rattle.go_points.specs.Place.{Place, IsOn, number_of}
-use Rattle.go_points.specs.Grid.{points}
-use Rattle.go_points.specs.Points.{holds_place}
-use Rattle.target_game.specs.Legal.{holds_point}
-use Rattle.target_game.proofs.Playing.{holds_numbered}
-use Rattle.target_game.proofs.Loops.{left_on}
-use Rattle.sgf_text.specs.Nodes.{values_at}
-use Rattle.sgf_text.specs.Trees.{Node}
-use Rattle.tsumego_problem.specs.Values.{points_of}
-use Rattle.tsumego_problem.specs.Walk.{has, is_empty, points_at, share_point}
+use Rattle.tsumego_problem.proofs.Common.{◌≡◌, ℕ, Bool, true, false, ◌&&◌, ◌||◌, List, [], ◌∷◌, map, refl, sym, ◌∙◌, ap, subst, arith, filter, unwrap_or, All, list_any, Place, IsOn, number_of, points, holds_place, holds_point, holds_numbered, left_on, values_at, Node, points_of, has, is_empty, points_at, share_point}
+use Rattle.std.proofs.Common.{not}
 
 module _ (n : ℕ) (held : List Place) (numbers : List ℕ) (same : map (number_of n) held ≡ numbers) (on_held : All (IsOn n) held)
     (old new : List Place) (p : Place) (first : old ≡ p ∷ new) (on_old : All (IsOn n) old) (whole : Bool) (had : list_any (holds_point numbers) (map (number_of n) old) ≡ whole) where

@@ -1,27 +1,13 @@
 -- The solution record holds the same problem, and the answer tree stands below its problem node.
-use Rattle.std.proofs.Common.{◌≡◌, ℕ, ◌*◌, ◌≤◌, ◌<◌, refl, ap, rules, arith}
-use Rattle.std.specs.Prelude.{true, false, not, cond, codes, List, [], ◌∷◌, ◌++◌, Option, Some}
-use Rattle.std.specs.List.{list_all}
-use Rattle.std.specs.Str.{bytes_eq}
-use Rattle.std.proofs.lemmas.List.{append_assoc}
-use Rattle.std.proofs.lemmas.Bool.{and_parts, not-true}
-use Rattle.std.proofs.lemmas.Bool.Decides.{nat_tests}
-use Rattle.go_points.specs.declared.TheConstants.{MAX_SIZE}
-use Rattle.go_points.specs.declared.Colour.{Colour}
-use Rattle.go_points.specs.Grid.{opponent_of}
-use Rattle.go_points.specs.Ply.{Ply, move, holds_ply}
-use Rattle.target_game.specs.State.{GameState, GameProblem, start}
+use Rattle.tsumego_problem.proofs.Common.{◌≡◌, ℕ, ◌*◌, ◌≤◌, ◌<◌, refl, ap, rules, arith, not, codes, list_all, bytes_eq, append_assoc, and_parts, not-true, nat_tests, MAX_SIZE, Colour, opponent_of, Ply, move, GameState, GameProblem, start, next, AnswerTree, leaf, turn, replies, none, reply, values_at, is_named, Node, Forest, no_tree, turn_in, is_marked, main_line, line_below, children_of, below_in, below_line, point_value, property, turn_node, past_nodes, marks, verdict_text, solution}
+use Rattle.std.specs.Prelude.{true, false, cond, List, [], ◌∷◌, ◌++◌, Option, Some}
+use Rattle.go_points.specs.Ply.{holds_ply}
 use Rattle.target_game.specs.Legal.{legal, legal_turns}
-use Rattle.target_game.specs.Next.{next}
-use Rattle.target_game.specs.Answers.{AnswerTree, leaf, turn, replies, ReplyTrees, none, reply, turns_of, answers, all_answer}
+use Rattle.target_game.specs.Answers.{ReplyTrees, turns_of, answers, all_answer}
 use Rattle.target_game.proofs.Winning.{answers_turn, answers_replies, all_reply, lists_the_legal}
-use Rattle.sgf_text.specs.Nodes.{values_at, is_named}
-use Rattle.sgf_text.specs.Trees.{Node, Forest, no_tree}
-use Rattle.tsumego_problem.specs.Values.{turn_in}
-use Rattle.tsumego_problem.specs.Walk.{is_marked, main_line, line_below}
 use Rattle.tsumego_problem.specs.Walked.{StandsOn}
-use Rattle.tsumego_problem.specs.Below.{children_of, below_in, below_line, Carries, Shows, ShowsEach}
-use Rattle.tsumego_problem.specs.Canonical.{point_value, property, turn_node, past_nodes, marks, rest_of, rest_of_replies, forest_of_replies, verdict_text, solution}
+use Rattle.tsumego_problem.specs.Below.{Carries, Shows, ShowsEach}
+use Rattle.tsumego_problem.specs.Canonical.{rest_of, rest_of_replies, forest_of_replies}
 use Rattle.tsumego_problem.specs.Laws.{SolutionShows, SolutionReads}
 use Rattle.tsumego_problem.proofs.Points.{trim_two, letter_white, point_reads}
 use Rattle.tsumego_problem.proofs.CanonicalRecord.{SaysMarks, is_problem_node, past_is_unmarked, reads_marked}

@@ -1,19 +1,7 @@
 -- The walk, one node after another.
-use Rattle.std.proofs.Common.{◌≡◌, ◌≢◌, ℕ, suc, ◌+◌, ◌<◌, Bool, true, false, cond, List, ◌∷◌, ◌++◌, drop, map, length, get_or, Option, Some, None, Result, Ok, Err, sym, ◌∙◌, ap, arith}
-use Rattle.std.specs.List.{list_all}
-use Rattle.std.proofs.Math.Seq.{drop-cons}
-use Rattle.std.proofs.lemmas.Bool.Decides.{nat_tests}
-use Rattle.go_points.specs.declared.Cell.{Cell}
-use Rattle.go_points.specs.declared.Cell.TheVariants.{Empty}
-use Rattle.go_points.specs.Grid.{cell_at, same_cell}
-use Rattle.go_points.specs.Place.{Place, number_of}
+use Rattle.tsumego_problem.proofs.Common.{◌≡◌, ◌≢◌, ℕ, suc, ◌+◌, ◌<◌, Bool, true, false, cond, List, ◌∷◌, ◌++◌, drop, map, length, get_or, Option, Some, None, Result, Ok, Err, sym, ◌∙◌, ap, arith, list_all, drop-cons, nat_tests, Cell, Empty, cell_at, same_cell, Place, number_of, same_cell_refl, Node, Walk, are_targets, is_marked, node_fault, late_fault, changed, unless, ◌>>=◌, walk_node, walk_to_mark, ProblemFault}
 use Rattle.go_points.specs.Points.{first_place}
-use Rattle.go_points.proofs.Cells.{same_cell_refl}
 use Rattle.target_game.proofs.Facts.{map_all}
-use Rattle.sgf_text.specs.Trees.{Node}
-use Rattle.tsumego_problem.specs.Walk.{Walk, are_targets, is_marked, node_fault, late_fault, changed, unless, ◌>>=◌, walk_node}
-use Rattle.tsumego_problem.specs.Walked.{walk_to_mark}
-use Rattle.tsumego_problem.specs.declared.fault.ProblemFault.{ProblemFault}
 use Rattle.tsumego_problem.specs.declared.fault.ProblemFault.TheVariants as faults
 
 -- stones of one colour, by the first of them

@@ -1,10 +1,8 @@
 -- What was read of the input so far, a read more.
-use Rattle.std.proofs.Common.{◌≡◌, ℕ, ◌+◌, ◌≤◌, true, List, [], ◌∷◌, ◌++◌, length, take, get_or, Option, ◌∙◌, ap, subst, arith, length-append}
-use Rattle.std.specs.Io.KnownBytes.{Consumes}
+use Rattle.tsumego_replies.proofs.Common.{◌≡◌, ℕ, ◌+◌, ◌≤◌, true, List, [], ◌∷◌, ◌++◌, length, take, Option, ◌∙◌, ap, subst, arith, length-append, Consumes, is_white, AllWhite}
+use Rattle.std.proofs.Common.{get_or}
 use Rattle.std.proofs.KnownBytes.{Consumes-trans}
 use Rattle.std.proofs.lemmas.List.{length-take}
-use Rattle.sgf_text.specs.Bytes.{is_white}
-use Rattle.tsumego_replies.specs.Replies.{AllWhite}
 
 pub asked_more : (a b c : Option (List ℕ)) (bytes old items buf : List ℕ) (n limit : ℕ) → Consumes a b bytes → items ≡ old ++ bytes → Consumes b c (take n buf) → length items + n ≤ limit
     → (all : List ℕ) × Consumes a c all × (length old + length all ≤ limit)

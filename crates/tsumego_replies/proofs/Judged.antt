@@ -1,36 +1,21 @@
 -- What is said of a claim that stands after a record, and what the front of the input decides of the whole.
-use Rattle.std.proofs.Common.{◌≡◌, ℕ, ◌+◌, ◌-◌, ◌<◌, ◌≤◌, Bool, true, false, List, [], ◌∷◌, ◌++◌, length, drop, Option, Some, None, Result, Ok, Err, inl, inr, refl, sym, ◌∙◌, ap, ap₂, subst, arith, append_assoc, append-nil, length-append, if◌then◌else◌}
-use Rattle.std.specs.Prelude.{IfOk, string_bytes}
-use Rattle.std.specs.Io.KnownBytes.{Consumes, IsAtEnd}
+use Rattle.tsumego_replies.proofs.Common.{◌≡◌, ℕ, ◌+◌, ◌-◌, ◌≤◌, Bool, true, false, List, [], ◌∷◌, ◌++◌, length, drop, Option, Some, None, Result, Ok, Err, inl, inr, refl, sym, ◌∙◌, ap, ap₂, subst, arith, length-append, if◌then◌else◌, IfOk, string_bytes, Consumes, IsAtEnd, GameProblem, is_white, GameTree, Refuses, lines, Why, why_value, verdict, Command, Check, Within, Audit, Solve, Gtp, NoRecord, Response, Status, Answered, white_limit, IsRecord, Says, Tells, AllWhite, AsksOn, HasNoRecord, IsReply, IsRejectionOf, IsJudged, IsJudgedAfter, IsCheckedAfter, IsSaidAfter, SaysAfter}
+use Rattle.std.proofs.Common.{◌<◌, append_assoc, append-nil}
 use Rattle.std.proofs.KnownBytes.{Consumes-nil, Keeps-refl}
 use lib.Seq.{drop-append-le}
 use Rattle.go_points.specs.declared.Colour.{Colour}
-use Rattle.target_game.specs.State.{GameProblem}
-use Rattle.sgf_text.specs.Bytes.{is_white}
-use Rattle.sgf_text.specs.Trees.{GameTree}
 use Rattle.sgf_text.specs.Followers.{byte_limit}
 use Rattle.sgf_text.specs.Laws.{FrontsDecide}
 use Rattle.tsumego_problem.specs.Values.{skip_white}
-use Rattle.tsumego_problem.specs.Refusals.{Refuses}
-use Rattle.proof_cert.specs.Text.{lines}
-use Rattle.cert_check.specs.Body.{Why}
-use Rattle.cert_check.specs.Stage.{why_value}
-use Rattle.cert_check.specs.Verdict.{verdict, accepted, rejected}
+use Rattle.cert_check.specs.Verdict.{accepted, rejected}
 use Rattle.cert_check.specs.declared.reject.Reject.{Reject}
-use Rattle.tsumego_words.specs.declared.command_line.Command.{Command}
-use Rattle.tsumego_words.specs.declared.command_line.Command.TheVariants.{Check, Within, Audit, Solve, Gtp}
-use Rattle.tsumego_replies.specs.declared.record.NoRecord.{NoRecord}
 use Rattle.tsumego_replies.specs.declared.record.NoRecord.TheVariants.{Refused, Memory}
 use Rattle.tsumego_replies.specs.declared.reply.Reply.{Reply}
-use Rattle.tsumego_replies.specs.declared.reply.Response.{Response}
-use Rattle.tsumego_replies.specs.declared.status.Status.{Status}
-use Rattle.tsumego_replies.specs.declared.status.Status.TheVariants.{Answered}
 use Rattle.tsumego_replies.specs.Texts.{wins_text}
-use Rattle.tsumego_replies.specs.Bounds.{front_limit, white_limit}
+use Rattle.tsumego_replies.specs.Bounds.{front_limit}
 use Rattle.tsumego_replies.specs.Asking.{MayAsk}
-use Rattle.tsumego_replies.specs.Answers.{IsRecord, Says, JudgesClaim, check_answer, white_before}
-use Rattle.proof_cert.specs.Streamed.{Tells}
-use Rattle.tsumego_replies.specs.Replies.{AllWhite, AsksOn, Decides, HasNoRecord, IsReply, IsReplyAfter, IsRejectionOf, IsJudged, IsJudgedAfter, IsCheckedAfter, IsPastLimit, IsSaidAfter, SaysAfter, claim_verdict}
+use Rattle.tsumego_replies.specs.Answers.{JudgesClaim, check_answer, white_before}
+use Rattle.tsumego_replies.specs.Replies.{Decides, IsReplyAfter, IsPastLimit, claim_verdict}
 use Rattle.tsumego_replies.proofs.Claims.{has_verdict}
 use Rattle.tsumego_replies.proofs.Saying.{some_bytes}
 

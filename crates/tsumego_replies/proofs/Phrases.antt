@@ -1,5 +1,6 @@
 -- Texts that are put together from parts.
-use Rattle.std.proofs.Common.{◌≡◌, ◌≢◌, ℕ, ◌+◌, ◌*◌, ◌/◌, ◌%◌, ◌≤◌, true, cond, List, [], ◌∷◌, ◌++◌, Some, refl, sym, ◌∙◌, ap, ap₂, arith}
+use Rattle.tsumego_replies.proofs.Common.{◌≡◌, ◌≢◌, ℕ, ◌+◌, ◌≤◌, true, List, [], ◌∷◌, ◌++◌, Some, refl, sym, ◌∙◌, ap, ap₂, arith, codes, decimal, problem_refusal, Why, why_value, line, rejected_line_text, rejected_node_text, unknown_text}
+use Rattle.std.proofs.Common.{◌*◌, ◌/◌, ◌%◌, cond}
 use Rattle.std.proofs.lemmas.Bool.{false_from_ne_true}
 use Rattle.std.proofs.lemmas.Nat.{div-mul-add, mod-mul-add}
 use Rattle.go_points.specs.declared.Turn.TheVariants.{At}
@@ -7,23 +8,20 @@ use Rattle.go_points.specs.Place.{Place, IsOn, on_board, number_of}
 use Rattle.go_turns.proofs.Turns.{on_from, is_on_from}
 use Rattle.tsumego_problem.proofs.Rectangles.{place_back}
 use Rattle.proof_cert.specs.Text.{vertex_text}
-use Rattle.std.specs.Prelude.{codes, decimal}
 use Rattle.std.proofs.lemmas.List.{append_assoc}
 use Rattle.go_points.specs.Ply.{ply_of, move}
-use Rattle.tsumego_problem.specs.Refusals.{problem_refusal, cause_text}
+use Rattle.tsumego_problem.specs.Refusals.{cause_text}
 use Rattle.tsumego_problem.specs.declared.fault.TurnFaultCause.{TurnFaultCause}
 use Rattle.tsumego_problem.specs.declared.fault.ProblemFault.TheVariants as faults
 use Rattle.cert_check.specs.declared.reject.Why as stop
 use Rattle.cert_check.specs.declared.reject.Why.TheVariants as stops
-use Rattle.cert_check.specs.Body.{Why}
 use Rattle.cert_check.specs.Body as claim
-use Rattle.cert_check.specs.Stage.{why_value}
 use Rattle.solution_tree.specs.declared.fault.AuditWhy as fault
 use Rattle.solution_tree.specs.declared.fault.AuditWhy.TheVariants as node_faults
 use Rattle.solution_tree.specs.Audit as tree
 use Rattle.solution_tree.specs.Faults as node
 use Rattle.pn_search.specs.declared.verdict.Cause.{Cause}
-use Rattle.tsumego_replies.specs.Texts.{line, claim_fault_text, rejected_line_text, audit_fault_text, rejected_node_text, search_cause_text, unknown_text}
+use Rattle.tsumego_replies.specs.Texts.{claim_fault_text, audit_fault_text, search_cause_text}
 
 pub illegal_phrase : (k : ℕ) (cause : TurnFaultCause) (said : List ℕ) → said ≡ cause_text cause
     → codes "refused: problem 9 illegal turn at node " ++ (decimal k ++ (said ++ 10 ∷ [])) ≡ line (problem_refusal (faults.IllegalTurn k cause))

@@ -1,17 +1,13 @@
 -- What a record that is read, or is not, says of the bytes.
-use Rattle.std.proofs.Common.{◌≡◌, ◌≢◌, ℕ, ◌-◌, List, length, take, drop, Err, Some, inr, refl, arith}
+use Rattle.tsumego_replies.proofs.Common.{◌≡◌, ◌≢◌, ℕ, ◌-◌, List, length, take, drop, Err, Some, inr, refl, arith, GameTree, problem_refusal, history_limit, NoRecord, line, HasNoRecord}
 use Rattle.std.proofs.lemmas.List.{length-drop, take_all}
-use Rattle.sgf_text.specs.Trees.{GameTree}
 use Rattle.sgf_text.specs.Grammar.{Reads}
 use Rattle.sgf_text.specs.Laws.{IsWithin}
-use Rattle.tsumego_problem.specs.Refusals.{problem_refusal}
-use Rattle.tsumego_problem.specs.Walk.{problem_within, history_limit}
+use Rattle.tsumego_problem.specs.Walk.{problem_within}
 use Rattle.tsumego_problem.specs.declared.fault.ProblemFault.{ProblemFault}
 use Rattle.tsumego_problem.specs.declared.fault.ProblemFault.TheVariants as faults
-use Rattle.tsumego_replies.specs.declared.record.NoRecord.{NoRecord}
 use Rattle.tsumego_replies.specs.declared.record.NoRecord.TheVariants as no
-use Rattle.tsumego_replies.specs.Texts.{line}
-use Rattle.tsumego_replies.specs.Replies.{HasNoRecord, IsTold}
+use Rattle.tsumego_replies.specs.Replies.{IsTold}
 
 -- all that stands after a place
 pub all_behind : (n : ℕ) (bytes : List ℕ) → take (length bytes - n) (drop n bytes) ≡ drop n bytes

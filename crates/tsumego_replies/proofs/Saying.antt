@@ -1,19 +1,9 @@
 -- What a call that makes a text or a reply lets be said.
-use Rattle.std.proofs.Common.{◌≡◌, ℕ, false, List, [], ◌++◌, Option, Some, None, Result, Ok, Err, inl, inr, refl, sym, ◌∙◌, ap}
-use Rattle.std.specs.Prelude.{IfOk}
-use Rattle.std.specs.Io.KnownBytes.{Consumes, IsAtEnd}
+use Rattle.tsumego_replies.proofs.Common.{◌≡◌, ℕ, false, List, [], ◌++◌, Option, Some, None, Result, Ok, Err, inl, inr, refl, sym, ◌∙◌, ap, IfOk, Consumes, IsAtEnd, GameProblem, GameTree, Refuses, Command, Check, Within, Audit, Solve, Gtp, Status, line, IsRecord, Says, Tells}
 use Rattle.std.proofs.lemmas.List.{append-nil}
-use Rattle.target_game.specs.State.{GameProblem}
-use Rattle.sgf_text.specs.Trees.{GameTree}
-use Rattle.tsumego_problem.specs.Refusals.{Refuses}
-use Rattle.tsumego_words.specs.declared.command_line.Command.{Command}
-use Rattle.tsumego_words.specs.declared.command_line.Command.TheVariants.{Check, Within, Audit, Solve, Gtp}
-use Rattle.tsumego_replies.specs.declared.status.Status.{Status}
 use Rattle.tsumego_replies.specs.declared.status.Status.TheVariants.{Refused}
 use Rattle.tsumego_words.specs.CommandLine.{is_session}
-use Rattle.tsumego_replies.specs.Texts.{line}
-use Rattle.tsumego_replies.specs.Answers.{IsRecord, RefusedOr, Says}
-use Rattle.proof_cert.specs.Streamed.{Tells}
+use Rattle.tsumego_replies.specs.Answers.{RefusedOr}
 
 -- the bytes that a reader tells, where it tells them
 pub some_bytes : (told : Option (List ℕ)) → (bytes : List ℕ) × Tells told bytes

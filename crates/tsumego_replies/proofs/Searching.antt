@@ -1,18 +1,12 @@
 -- What a search lets be said.
-use Rattle.std.proofs.Common.{◌≡◌, ℕ, Bool, true, false, List, Result, Ok, Err, inl, inr, refl, subst, ◌⊎◌}
-use Rattle.std.specs.Prelude.{IfOk}
-use Rattle.target_game.specs.State.{GameProblem, start}
-use Rattle.sgf_text.specs.Trees.{GameTree}
+use Rattle.tsumego_replies.proofs.Common.{◌≡◌, ℕ, Bool, true, false, List, Result, Ok, Err, inl, inr, refl, subst, IfOk, GameProblem, start, GameTree, Solve, Response, Status, Answered, IsRecord, IsReply}
+use Rattle.std.proofs.Common.{◌⊎◌}
 use Rattle.proof_cert.specs.Certificate.{claim_of}
 use Rattle.cert_check.specs.Expand.{expand}
-use Rattle.tsumego_words.specs.declared.command_line.Command.TheVariants.{Solve}
-use Rattle.tsumego_replies.specs.declared.reply.Response.{Response}
 use Rattle.tsumego_replies.specs.declared.reply.Response.TheVariants.{Text, Solution, TooLong}
-use Rattle.tsumego_replies.specs.declared.status.Status.{Status}
-use Rattle.tsumego_replies.specs.declared.status.Status.TheVariants.{Answered, Unanswered}
+use Rattle.tsumego_replies.specs.declared.status.Status.TheVariants.{Unanswered}
 use Rattle.tsumego_replies.specs.Solutions.{Solved, MayAnswer, Unsolved}
-use Rattle.tsumego_replies.specs.Answers.{IsRecord}
-use Rattle.tsumego_replies.specs.Replies.{IsReply, IsSearched}
+use Rattle.tsumego_replies.specs.Replies.{IsSearched}
 
 -- A search that found a claim, or did not, answers the command.
 pub searched_says : (budget table : ℕ) (proof lift : Bool) (bytes : List ℕ) (tree : GameTree) (n : ℕ) (q : GameProblem) (r : Response) → IsRecord bytes tree n q → IsSearched budget proof lift q r

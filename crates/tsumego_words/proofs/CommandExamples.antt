@@ -1,8 +1,7 @@
 -- Worked examples of the command line, computed by the definitions.
-use Rattle.std.proofs.Common.{◌≡◌, true, false, [], ◌∷◌, Some, None, codes, refl}
+use Rattle.tsumego_words.proofs.Common.{◌≡◌, true, false, [], ◌∷◌, Some, None, codes, refl, command_of}
 use Rattle.clap.proofs.OnLiterals.{clap_on_literals}
 use Rattle.tsumego_words.specs.declared.command_line.Command.TheVariants.{Check, Within, Audit, Solve, Gtp}
-use Rattle.tsumego_words.specs.CommandLine.{command_of}
 
 check_asked : command_of (codes "tsumego" ∷ codes "check" ∷ []) ≡ Some Check
 unfolding clap_on_literals command_of

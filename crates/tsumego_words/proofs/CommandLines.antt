@@ -1,19 +1,15 @@
 -- The command that the words give, by what a parse of them found.
-use Rattle.std.proofs.Common.{◌≡◌, ℕ, ◌^◌, ◌<◌, ◌≤◌, Bool, true, false, cond, ◌&&◌, nat_le, leb-true, le-leb, List, [], ◌∷◌, codes, Option, Some, None, is_some, option_and_then, Result, Ok, Err, inl, inr, refl, sym, ◌∙◌, ap, subst}
-use Rattle.std.specs.Option.{option_map_or}
-use Rattle.std.specs.Str.{bytes_eq}
-use Rattle.std.specs.Str.Parse.{IsNumeral, ParsesBool, ParsesUnsigned, digits_value, without_leading_plus}
-use Rattle.clap.specs.Words.{App, HasKind, HasMatchesOf, Text, ReadsOne, fault_of, is_simple, is_simple_and_free, kind_of, subcommand_of, subcommand_rows_of}
-use Rattle.clap.specs.ValueTests.{is_unsigned_in}
+use Rattle.tsumego_words.proofs.Common.{◌≡◌, ℕ, Bool, true, false, cond, ◌&&◌, List, [], ◌∷◌, codes, Option, Some, None, is_some, option_and_then, inl, inr, refl, sym, ◌∙◌, ap, subst, option_map_or, bytes_eq, ParsesUnsigned, digits_value, without_leading_plus, Text, fault_of, subcommand_of, is_unsigned_in, Unsigned, and_left, and_right, and_both, command_named, command_of, grammar, number_in, unless_faulty}
+use Rattle.std.proofs.Common.{◌^◌, ◌<◌, ◌≤◌, nat_le, leb-true, le-leb, Result, Ok, Err}
+use Rattle.std.specs.Str.Parse.{IsNumeral, ParsesBool}
+use Rattle.clap.specs.Words.{App, HasKind, HasMatchesOf, ReadsOne, is_simple, is_simple_and_free, kind_of, subcommand_rows_of}
 use Rattle.clap.specs.Kinds.{Kinds, IsAmong}
-use Rattle.clap.specs.declared.builder.value_parser.ValueParser.TheVariants.{Unsigned}
 use Rattle.clap.specs.declared.error.Error.{Error}
 use Rattle.clap.specs.declared.error.kind.ErrorKind.TheVariants.{OutOfMemory}
 use Rattle.clap.specs.declared.parser.matches.ArgMatches.{ArgMatches}
 use Rattle.clap.proofs.ValueTestLemmas.{accepts-Accepts, Accepts-accepts}
-use Rattle.go_points.proofs.Lists.{and_left, and_right, and_both}
 use Rattle.sgf_text.proofs.AddedLemmas.{same_name}
-use Rattle.tsumego_words.specs.CommandLine.{HasFault, command_named, command_of, grammar, number_in, unless_faulty}
+use Rattle.tsumego_words.specs.CommandLine.{HasFault}
 use Rattle.tsumego_words.proofs.SubcommandNames.{parse_gives}
 
 -- a number that was read, where it is at least so much and at most so much

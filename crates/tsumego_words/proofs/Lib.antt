@@ -1,3 +1,4 @@
+pub mod Common
 pub mod CommandLines
 pub mod CommandExamples
 pub mod SubcommandWalks

@@ -1,18 +1,11 @@
 -- Words in which a parse finds no fault name a subcommand, and give its command.
-use Rattle.std.proofs.Common.{◌≡◌, ℕ, Bool, true, false, cond, not, ◌&&◌, ◌⊎◌, inl, inr, List, [], ◌∷◌, codes, Option, Some, None, is_some, option_map, option_and_then, refl, sym, ◌∙◌, ap, subst, fold, if◌then◌else◌}
-use Rattle.std.specs.List.{list_any}
-use Rattle.std.specs.Str.{bytes_eq}
-use Rattle.clap.specs.Lexer.{long_of, short_of}
-use Rattle.clap.specs.Words.{Kinds, Row, Rule, Shape, Text, built, fault_of, subcommand_of}
-use Rattle.clap.specs.Kinds.{or_else}
-use Rattle.clap.specs.Walk.{Held, Names, Outcome, done, waits, plain, refused, Waiting, idle, option, positional, Step, next, trailing, subcommand, value, Walk}
-use Rattle.clap.specs.Walk.{after_flag, after_step, answers_to, arg_by_index, arg_by_long, bundle, finished, long_met, long_or_other, nothing_held, plain_word, settled, short_or_plain, subcommand_met, subcommand_or_other, to_positional, walk, walk_from, walked, walked_from, word_met}
-use Rattle.clap.specs.Faults.{check_fault, defaults_fault, entered_fault, other_fault, settle_fault, step_fault, turn_fault, walk_fault, word_fault}
-use Rattle.clap.specs.Takes.{is_given}
-use Rattle.clap.specs.Facts.{explicit_source}
+use Rattle.tsumego_words.proofs.Common.{◌≡◌, ℕ, Bool, true, false, cond, not, ◌&&◌, ◌⊎◌, inl, inr, List, [], ◌∷◌, codes, Option, Some, None, is_some, option_map, option_and_then, refl, sym, ◌∙◌, ap, subst, fold, if◌then◌else◌, list_any, bytes_eq, long_of, short_of, Kinds, Row, Rule, Shape, Text, fault_of, subcommand_of, or_else, Held, Outcome, done, waits, plain, refused, Waiting, idle, option, positional, Step, next, trailing, subcommand, value, Walk, after_flag, after_step, arg_by_index, arg_by_long, bundle, finished, long_met, long_or_other, nothing_held, plain_word, settled, short_or_plain, subcommand_met, subcommand_or_other, to_positional, walk, walk_from, walked_from, word_met, check_fault, defaults_fault, other_fault, settle_fault, step_fault, turn_fault, word_fault, is_given, explicit_source, command_named, command_of, grammar, unless_faulty}
+use Rattle.clap.specs.Words.{built}
+use Rattle.clap.specs.Walk.{Names, answers_to, walked}
+use Rattle.clap.specs.Faults.{entered_fault, walk_fault}
 use Rattle.clap.specs.Simple.{argument_words, entered}
 use Rattle.clap.specs.declared.error.kind.ErrorKind.TheVariants.{DisplayHelp, InvalidSubcommand}
-use Rattle.tsumego_words.specs.CommandLine.{command_named, command_of, grammar, solve_of, unless_faulty, within_of}
+use Rattle.tsumego_words.specs.CommandLine.{solve_of, within_of}
 use Rattle.tsumego_words.proofs.SubcommandWalks.{first_none, then_none}
 use Rattle.tsumego_words.proofs.SubcommandRows.{check_none, solve_found, within_found}
 

@@ -1,28 +1,22 @@
 -- What a parse finds for the numbers of `within` and of `solve`: where it finds no fault, one for each.
-use Rattle.std.proofs.Common.{◌≡◌, ℕ, ◌==◌, Bool, true, false, cond, not, ◌&&◌, ◌||◌, eqb-true, List, [], ◌∷◌, ◌++◌, length, codes, find, slice_get, Option, Some, None, is_some, option_map, option_and_then, ◌⊎◌, inl, inr, refl, sym, ◌∙◌, ap, subst, fold, arith}
-use Rattle.std.specs.List.{list_all, list_any}
-use Rattle.std.specs.Option.{option_map_or}
-use Rattle.std.specs.Str.{bytes_eq}
-use Rattle.std.specs.Str.Parse.{digits_value, without_leading_plus}
+use Rattle.tsumego_words.proofs.Common.{◌≡◌, ℕ, Bool, true, false, cond, not, ◌&&◌, List, [], ◌∷◌, length, codes, find, slice_get, Option, Some, None, is_some, option_map, option_and_then, ◌⊎◌, inl, inr, refl, sym, ◌∙◌, ap, subst, fold, arith, list_any, option_map_or, bytes_eq, digits_value, without_leading_plus, Kinds, Row, Rule, Shape, Text, or_else, Held, finished, nothing_held, settled, used, walk, walk_from, check_fault, defaults_fault, settle_fault, use_fault, is_given, explicit_source, is_unsigned_in, Unsigned, Member, and_left, and_right, and_both, number_in}
+use Rattle.std.proofs.Common.{◌==◌, ◌||◌, eqb-true, ◌++◌}
+use Rattle.std.specs.List.{list_all}
 use Rattle.std.proofs.lemmas.List.Folds.{list_all-append}
-use Rattle.clap.specs.Words.{Kinds, Row, Rule, Shape, Text, new_rule, read_as}
-use Rattle.clap.specs.Kinds.{check_kinds, or_else, range_kinds, value_kinds}
-use Rattle.clap.specs.Walk.{Held, at_row, default_rows, finished, has_row, more_values, nothing_held, reading_by, row_text, rows_after, settled, used, values_or_missing, walk, walk_from, with_default, with_values, without}
-use Rattle.clap.specs.Faults.{check_fault, defaults_fault, level_fault, repeat_fault, set_fault, settle_fault, use_fault, values_fault, walk_fault}
+use Rattle.clap.specs.Words.{new_rule, read_as}
+use Rattle.clap.specs.Kinds.{check_kinds, range_kinds, value_kinds}
+use Rattle.clap.specs.Walk.{at_row, default_rows, has_row, more_values, reading_by, row_text, rows_after, values_or_missing, with_default, with_values, without}
+use Rattle.clap.specs.Faults.{level_fault, repeat_fault, set_fault, values_fault, walk_fault}
 use Rattle.clap.specs.Simple.{filled, help_rule}
-use Rattle.clap.specs.Takes.{is_given}
-use Rattle.clap.specs.Facts.{explicit_source}
-use Rattle.clap.specs.ValueTests.{is_unsigned_in}
 use Rattle.clap.specs.Values.{refused_kind}
 use Rattle.clap.specs.declared.error.kind.ErrorKind.TheVariants.{InvalidValue, WrongNumberOfValues}
 use Rattle.clap.specs.declared.builder.action.ArgAction.TheVariants.{Set}
 use Rattle.clap.specs.declared.builder.value_parser.Reading.{Reading}
 use Rattle.clap.specs.declared.builder.value_parser.Reading.TheVariants.{AsWritten}
-use Rattle.clap.specs.declared.builder.value_parser.ValueParser.TheVariants.{Unsigned}
 use Rattle.clap.specs.declared.parser.matches.ValueSource.{ValueSource}
 use Rattle.clap.specs.declared.parser.matches.ValueSource.TheVariants.{CommandLine, DefaultValue}
-use Rattle.go_points.proofs.Lists.{Member, and_left, and_right, and_both, or_cases, or_left, or_right}
-use Rattle.tsumego_words.specs.CommandLine.{most_entries, most_nodes, most_steps, most_turns, flag_rule, lift_rule, number_in, number_of, proof_rule}
+use Rattle.go_points.proofs.Lists.{or_cases, or_left, or_right}
+use Rattle.tsumego_words.specs.CommandLine.{most_entries, most_nodes, most_steps, most_turns, flag_rule, lift_rule, number_of, proof_rule}
 use Rattle.tsumego_words.proofs.SubcommandWalks.{first_none, then_none, walk_fine, end_fine}
 
 -- a row of this argument has a number that fits first

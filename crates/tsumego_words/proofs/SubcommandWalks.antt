@@ -1,15 +1,10 @@
 -- The walk over the words of a subcommand, which has none of its own: what each use of an argument keeps, the walk keeps.
-use Rattle.std.proofs.Common.{◌≡◌, ℕ, zero, suc, Bool, true, false, cond, ◌&&◌, List, [], ◌∷◌, length, drop, find, slice_get, encode_utf8, Option, Some, None, is_some, inl, inr, if◌then◌else◌, refl, sym, subst, fold}
-use Rattle.std.specs.Option.{option_map_or}
-use Rattle.std.specs.Str.{bytes_eq, chars}
-use Rattle.clap.specs.Lexer.{long_of, short_of}
-use Rattle.clap.specs.Words.{Kinds, Row, Rule, Shape, Text}
-use Rattle.clap.specs.Kinds.{or_else}
-use Rattle.clap.specs.Walk.{Held, Outcome, done, waits, plain, refused, Waiting, idle, option, positional, Step, next, trailing, subcommand, value, Walk}
-use Rattle.clap.specs.Walk.{arg_by_id, arg_by_index, arg_by_long, arg_by_short, after_flag, after_step, attached_value, bundle, bundle_met, bundle_step, flag_met, is_pending, long_met, long_or_other, option_met, option_word, plain_word, reacted, settled, settled_rows, short_met, short_or_plain, subcommand_met, subcommand_or_other, takes_several, takes_values, to_positional, used, used_by_id, walked, walked_from, word_met}
-use Rattle.clap.specs.Faults.{bundle_fault, bundle_step_fault, flag_word_fault, flags_fault, long_fault, option_fault, other_fault, positional_fault, react_fault, settle_fault, short_fault, step_fault, stray_fault, turn_fault, use_fault, walk_fault, word_fault}
+use Rattle.tsumego_words.proofs.Common.{◌≡◌, ℕ, Bool, true, false, cond, ◌&&◌, List, [], ◌∷◌, length, find, slice_get, Option, Some, None, is_some, inl, inr, if◌then◌else◌, refl, sym, subst, fold, option_map_or, bytes_eq, long_of, short_of, Kinds, Row, Rule, Shape, Text, or_else, Held, Outcome, done, waits, plain, refused, Waiting, idle, option, positional, Step, next, trailing, subcommand, value, Walk, arg_by_index, arg_by_long, after_flag, after_step, bundle, long_met, long_or_other, plain_word, settled, short_or_plain, subcommand_met, subcommand_or_other, to_positional, used, walked_from, word_met, other_fault, settle_fault, step_fault, turn_fault, use_fault, word_fault, Member}
+use Rattle.std.proofs.Common.{zero, suc, drop, encode_utf8}
+use Rattle.std.specs.Str.{chars}
+use Rattle.clap.specs.Walk.{arg_by_id, arg_by_short, attached_value, bundle_met, bundle_step, flag_met, is_pending, option_met, option_word, reacted, settled_rows, short_met, takes_several, takes_values, used_by_id, walked}
+use Rattle.clap.specs.Faults.{bundle_fault, bundle_step_fault, flag_word_fault, flags_fault, long_fault, option_fault, positional_fault, react_fault, short_fault, stray_fault, walk_fault}
 use Rattle.clap.specs.declared.error.kind.ErrorKind.TheVariants.{TooManyValues}
-use Rattle.go_points.proofs.Lists.{Member}
 
 -- of two lists of faults, one after the other, neither has any
 pub first_none : (a b : Kinds) → or_else a b ≡ [] → a ≡ []

@@ -1,8 +1,4 @@
-use Rattle.std.proofs.Common.{rules, ◌∙◌, sym, not, List, refl, true, false}
-use Rattle.std.proofs.lemmas.Option.{slice_get_within, get_or_from_slice_get}
-use Rattle.go_points.specs.declared.Cell.{Cell}
-use Rattle.target_game.proofs.Loops.{all_more, all_no, all_yes}
-use Rattle.cert_check.specs.Body.{is_known}
+use Rattle.cert_check.proofs.Common.{rules, ◌∙◌, sym, not, List, refl, true, false, slice_get_within, get_or_from_slice_get, Cell, all_more, all_no, all_yes, is_known}
 use Rattle.cert_check.proofs.Lists.{known_by}
 use Rattle.cert_check.proofs.body_state.none_known.Goals as goal
 

@@ -1,7 +1,4 @@
-use Rattle.std.proofs.Common.{not, List}
-use Rattle.go_points.specs.declared.Cell.{Cell}
-use Rattle.cert_check.specs.Body.{is_known}
-use Rattle.target_game.proofs.Loops.{AllAfter}
+use Rattle.cert_check.proofs.Common.{not, List, Cell, is_known, AllAfter}
 use Rattle.cert_check.proofs.body_state.none_known.Given as goal
 
 abbrev pub invariant-loop-index : goal.invariant-loop-index

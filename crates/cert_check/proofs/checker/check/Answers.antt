@@ -1,9 +1,6 @@
-use Rattle.std.proofs.Common.{refl}
-use Rattle.cert_check.specs.Body.{nowhere}
-use Rattle.cert_check.specs.Parts.{line_values}
+use Rattle.cert_check.proofs.Common.{refl, nowhere, line_values, if_ok_map}
 use Rattle.cert_check.proofs.ReadingClaims.{accepted_sides_win}
 use Rattle.cert_check.proofs.checker.check.Goals as goal
-use Rattle.target_game.proofs.Tallies.{if_ok_map}
 
 pub returns-clause-ok : goal.returns-clause-ok
 returns-clause-ok g c = c.check_by.ensures.ok nowhere (λ d. refl)

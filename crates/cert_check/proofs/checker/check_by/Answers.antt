@@ -1,22 +1,10 @@
-use Rattle.std.proofs.Common.{arith, ◌≡◌, ◌+◌, ℕ, Bool, List, Option, Some, None, Ok, Err, option_map, ap, ◌∙◌, subst}
-use Rattle.target_game.specs.State.{GameProblem}
-use Rattle.proof_cert.specs.Stage.{line_value}
+use Rattle.cert_check.proofs.Common.{arith, ◌≡◌, ◌+◌, ℕ, Bool, List, Option, Some, None, Ok, Err, option_map, ap, ◌∙◌, subst, GameProblem, line_value, SourceFault, Why, Cell, Colour, accepted, AcceptsBy, taken, goes_on, stops, ended, machine_of, IsToldBy, why_value, if_ok_map}
 use Rattle.proof_cert.specs.Given.{lines_counted}
 use Rattle.proof_cert.specs.declared.line.Line as code
-use Rattle.proof_cert.specs.declared.source.SourceFault.{SourceFault}
-use Rattle.cert_check.specs.Body.{Why}
-use Rattle.go_points.specs.declared.Cell.{Cell}
-use Rattle.go_points.specs.declared.Colour.{Colour}
-use Rattle.cert_check.specs.Verdict.{accepted}
-use Rattle.cert_check.specs.Checks.{AcceptsBy}
-use Rattle.cert_check.specs.Private.Machine.{taken, goes_on, stops, ended}
-use Rattle.cert_check.specs.Private.Judging.{machine_of, IsToldBy}
-use Rattle.cert_check.specs.Stage.{why_value}
 use Rattle.cert_check.proofs.Steps.{if_err_map}
 use Rattle.cert_check.proofs.Taking.{never}
 use Rattle.cert_check.proofs.Hearing.{either_way, heard_more, heard_accepts, heard_ends, heard_rejects, heard_fails, heard_reaches, heard_asks, heard_asks_there}
 use Rattle.cert_check.proofs.checker.check_by.Goals as goal
-use Rattle.target_game.proofs.Tallies.{if_ok_map}
 
 pub returns-in-Err-clause-err : goal.returns-in-Err-clause-err
 returns-in-Err-clause-err g c = λ shape told fresh why said.

@@ -1,6 +1,4 @@
-use Rattle.std.proofs.Common.{◌≡◌, suc, None, OnSome}
-use Rattle.cert_check.specs.Private.Heard.{Heard}
-use Rattle.cert_check.specs.Private.Judging.{machine_of, IsReady}
+use Rattle.cert_check.proofs.Common.{◌≡◌, suc, None, OnSome, Heard, machine_of, IsReady}
 use Rattle.cert_check.proofs.checker.check_by.Given as goal
 
 abbrev pub invariant-loop-count : goal.invariant-loop-count

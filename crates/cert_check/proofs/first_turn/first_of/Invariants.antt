@@ -1,7 +1,4 @@
-use Rattle.std.proofs.Common.{◌≡◌, ◌≤◌, ℕ, length, map, []}
-use Rattle.target_game.specs.State.{GameState}
-use Rattle.proof_cert.specs.Certificate.{lemma_of, node_of}
-use Rattle.cert_check.specs.Expand.{answers_behind, expand_node, first_turn_of}
+use Rattle.cert_check.proofs.Common.{◌≡◌, ◌≤◌, ℕ, length, map, [], GameState, lemma_of, node_of, answers_behind, expand_node, first_turn_of}
 use Rattle.cert_check.proofs.FirstNodes.{first_at}
 use Rattle.cert_check.proofs.first_turn.first_of.Given as goal
 

@@ -1,16 +1,8 @@
-use Rattle.std.proofs.Common.{rules, arith, ◌≡◌, ◌≤◌, ◌⊎◌, None, Some, IfOk, IfErr, ◌∙◌, subst, refl}
-use Rattle.go_points.specs.declared.TheConstants.{MAX_SIZE}
-use Rattle.proof_cert.specs.Certificate.{claim_of}
-use Rattle.proof_cert.specs.Held.{Held, held_gives}
+use Rattle.cert_check.proofs.Common.{rules, arith, ◌≡◌, ◌≤◌, ◌⊎◌, None, Some, IfOk, IfErr, ◌∙◌, subst, refl, MAX_SIZE, claim_of, Held, held_gives, Why, why_value, Rejects, IsChecked, verdict_on, Accepts, RejectsAt, FailsAt, if_ok_map}
 use Rattle.cert_check.specs.declared.reject.Why.TheVariants as stops
-use Rattle.cert_check.specs.Body.{Why}
-use Rattle.cert_check.specs.Stage.{why_value, Rejects}
-use Rattle.cert_check.specs.Checked.{IsChecked, verdict_on}
-use Rattle.cert_check.specs.Checks.{Accepts, RejectsAt, FailsAt}
 use Rattle.cert_check.proofs.Steps.{if_err_map, if_err_both}
 use Rattle.cert_check.proofs.Holding.{held_accepted, held_refused}
 use Rattle.cert_check.proofs.held_claim.judge_held.Goals as goal
-use Rattle.target_game.proofs.Tallies.{if_ok_map}
 
 -- the size is that of the problem
 same_size : (c : goal.After-drop-new) → (1 ≤ c.args.problem.now.game.size) × (c.args.problem.now.game.size ≤ MAX_SIZE) × (c.args.certificate.now.size ≡ c.args.problem.now.game.size)

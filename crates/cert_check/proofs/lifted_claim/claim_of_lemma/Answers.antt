@@ -1,9 +1,5 @@
-use Rattle.std.proofs.Common.{◌≡◌, List, ◌++◌, [], ◌∷◌, ap, ◌∙◌, refl}
-use Rattle.target_game.specs.State.{GameProblem, start}
-use Rattle.proof_cert.specs.declared.certificate.Certificate.{Certificate}
+use Rattle.cert_check.proofs.Common.{◌≡◌, List, ◌++◌, [], ◌∷◌, ap, ◌∙◌, refl, GameProblem, start, Certificate, Use, version_for}
 use Rattle.proof_cert.specs.declared.certificate.Lemma.{Lemma}
-use Rattle.proof_cert.specs.declared.certificate.Node.TheVariants.{Use}
-use Rattle.cert_check.specs.Private.Results.{version_for}
 use Rattle.cert_check.proofs.Lifted.{made_claim}
 use Rattle.cert_check.proofs.lifted_claim.claim_of_lemma.Goals as goal
 

@@ -1,16 +1,4 @@
-use Rattle.std.proofs.Common.{◌≡◌, ℕ, ◌+◌, ◌≤◌, ◌⊎◌, inl, inr, List, [], map, filter, length, sym, ap, ◌∙◌, subst, rules, arith}
-use Rattle.go_points.specs.declared.TheConstants.{MAX_SIZE}
-use Rattle.go_points.specs.declared.Cell.{Cell}
-use Rattle.go_turns.specs.History.{has_occurred}
-use Rattle.target_game.specs.Laws.{IsProblem}
-use Rattle.target_game.specs.State.{GameProblem, start}
-use Rattle.proof_cert.specs.Claim.{Claim, node_count}
-use Rattle.proof_cert.specs.Certificate.{claim_of, lemma_of, node_of}
-use Rattle.proof_cert.specs.declared.certificate.Certificate.{Certificate}
-use Rattle.cert_check.specs.Checked.{CheckedClaim, IsChecked}
-use Rattle.cert_check.specs.Lift.{IsLifted, play_results, reply_results}
-use Rattle.cert_check.specs.Private.Results.{is_past, claim_with}
-use Rattle.cert_check.specs.Private.Known.{SameMembers}
+use Rattle.cert_check.proofs.Common.{◌≡◌, ℕ, ◌+◌, ◌≤◌, ◌⊎◌, inl, inr, List, [], map, filter, length, sym, ap, ◌∙◌, subst, rules, arith, MAX_SIZE, Cell, has_occurred, IsProblem, GameProblem, start, Claim, node_count, claim_of, lemma_of, node_of, Certificate, CheckedClaim, IsChecked, IsLifted, play_results, reply_results, is_past, claim_with, SameMembers}
 use Rattle.cert_check.proofs.Lifted.{empty_list, over_cases, under_both, past_nodes, past_listed, lifted, lifted_checked}
 use Rattle.cert_check.proofs.lifted_claim.lift.Goals as goal
 
@@ -43,7 +31,7 @@ made c =
     let size : k.certificate.size ≡ k.problem.game.size = c.winner-winner.ensures.checked.valid.size in
     c.in-Ok-claim_of_lemma.ensures
     ∙ ap (claim_with k.problem k.certificate.winner had absent)
-    (c.in-Ok-copied.ensures k.problem.game.size ∙ ap (λ (d : Certificate). node_of k.problem.game.size d.main) c.certificate-2.ensures ∙ ap (λ (n : ℕ). node_of n k.certificate.main) (sym size))
+    (c.in-Ok-copy.ensures k.problem.game.size ∙ ap (λ (d : Certificate). node_of k.problem.game.size d.main) c.certificate-2.ensures ∙ ap (λ (n : ℕ). node_of n k.certificate.main) (sym size))
 
 pub returns-in-Ok-claim_of_lemma-clause-lifted : goal.returns-in-Ok-claim_of_lemma-clause-lifted
 returns-in-Ok-claim_of_lemma-clause-lifted c =

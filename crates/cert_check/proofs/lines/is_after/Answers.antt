@@ -1,7 +1,4 @@
-use Rattle.std.proofs.Common.{◌≡◌, ◌∙◌, sym, ap, subst, Option, IfSome, length, List}
-use Rattle.std.specs.Ordering.{is_lt}
-use Rattle.go_points.specs.declared.Cell.{Cell}
-use Rattle.cert_check.specs.Verdict.{is_after}
+use Rattle.cert_check.proofs.Common.{◌≡◌, ◌∙◌, sym, ap, subst, Option, IfSome, length, List, is_lt, Cell, is_after}
 use Rattle.cert_check.proofs.Lists.{before_is}
 use Rattle.cert_check.proofs.lines.is_after.Goals as goal
 

@@ -1,7 +1,4 @@
-use Rattle.std.proofs.Common.{rules, refl, sym, ◌∙◌}
-use Rattle.std.proofs.lemmas.Option.{slice_get_within, get_or_from_slice_get}
-use Rattle.go_turns.specs.History.{has_occurred}
-use Rattle.target_game.proofs.Loops.{all_more, all_no, all_yes}
+use Rattle.cert_check.proofs.Common.{rules, refl, sym, ◌∙◌, slice_get_within, get_or_from_slice_get, has_occurred, all_more, all_no, all_yes}
 use Rattle.cert_check.proofs.listed.all_found.Goals as goal
 
 pub loop-index-init : goal.loop-index-init

@@ -1,5 +1,4 @@
-use Rattle.go_turns.specs.History.{has_occurred}
-use Rattle.target_game.proofs.Loops.{AllAfter}
+use Rattle.cert_check.proofs.Common.{has_occurred, AllAfter}
 use Rattle.cert_check.proofs.listed.all_found.Given as goal
 
 abbrev pub invariant-loop-index : goal.invariant-loop-index

@@ -1,5 +1,4 @@
-use Rattle.std.proofs.Common.{rules, ◌+◌, ℕ, nat_eq, sym, ap, ◌∙◌, subst}
-use Rattle.std.proofs.lemmas.Option.{slice_get_within, get_or_from_slice_get}
+use Rattle.cert_check.proofs.Common.{rules, ◌+◌, ℕ, nat_eq, sym, ap, ◌∙◌, subst, slice_get_within, get_or_from_slice_get}
 use Rattle.cert_check.proofs.Ascending.{PassLeft, left_found, left_other, left_done}
 use Rattle.cert_check.proofs.listed.all_passed.Goals as goal
 use Rattle.cert_check.proofs.listed.all_passed.Goals.{then-eq, else-eq}

@@ -1,6 +1,4 @@
-use Rattle.std.proofs.Common.{rules, refl, sym, ◌∙◌}
-use Rattle.std.proofs.lemmas.Option.{slice_get_within, get_or_from_slice_get}
-use Rattle.go_points.specs.Grid.{same_cells}
+use Rattle.cert_check.proofs.Common.{rules, refl, sym, ◌∙◌, slice_get_within, get_or_from_slice_get, same_cells}
 use Rattle.target_game.proofs.Loops.{any_more, any_yes, any_no}
 use Rattle.cert_check.proofs.listed.is_among.Goals as goal
 

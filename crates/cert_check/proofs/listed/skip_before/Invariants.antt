@@ -1,6 +1,4 @@
-use Rattle.std.proofs.Common.{◌≡◌, ◌-◌, List, ◌∷◌, drop, length}
-use Rattle.go_points.specs.declared.Cell.{Cell}
-use Rattle.cert_check.specs.Private.Ascending.{Ascends, apart}
+use Rattle.cert_check.proofs.Common.{◌≡◌, ◌-◌, List, ◌∷◌, drop, length, Cell, Ascends, apart}
 use Rattle.cert_check.proofs.listed.skip_before.Given as goal
 
 abbrev pub invariant-skipping : goal.invariant-skipping

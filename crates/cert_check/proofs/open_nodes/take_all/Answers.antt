@@ -1,14 +1,8 @@
-use Rattle.std.proofs.Common.{◌≡◌, ◌∷◌, Option, Some, option_map, suc, length, reverse, sym, ap, ◌∙◌, subst, rules}
-use Rattle.go_points.specs.declared.Turn.{Turn}
-use Rattle.go_points.specs.Ply.{ply_of}
+use Rattle.cert_check.proofs.Common.{◌≡◌, ◌∷◌, Option, Some, option_map, suc, length, reverse, sym, ap, ◌∙◌, subst, rules, Turn, ply_of, turns_due, turns_begun, all_fault, due_replies, why_value, owing, owed_by}
 use Rattle.target_game.specs.State.{Line}
-use Rattle.target_game.specs.Left.{Takes, turns_due}
-use Rattle.target_game.proofs.Due.{turns_begun}
-use Rattle.cert_check.specs.Body.{all_fault, due_replies}
+use Rattle.target_game.specs.Left.{Takes}
 use Rattle.cert_check.specs.Parts.{ordinary}
-use Rattle.cert_check.specs.Stage.{why_value}
-use Rattle.cert_check.specs.Private.Machine.{owing}
-use Rattle.cert_check.specs.Private.Inside.{reply_at, owed_by}
+use Rattle.cert_check.specs.Private.Inside.{reply_at}
 use Rattle.cert_check.proofs.Replies.{fault_said}
 use Rattle.cert_check.proofs.open_nodes.take_all.Goals as goal
 

@@ -1,5 +1,4 @@
-use Rattle.std.proofs.Common.{◌≡◌, ◌≤◌, length, reverse}
-use Rattle.cert_check.specs.Private.Inside.{Follows, owed_by}
+use Rattle.cert_check.proofs.Common.{◌≡◌, ◌≤◌, length, reverse, Follows, owed_by}
 use Rattle.cert_check.proofs.open_nodes.unwind.Given as goal
 
 abbrev pub invariant-loop-node : goal.invariant-loop-node

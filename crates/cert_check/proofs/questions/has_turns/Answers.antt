@@ -1,7 +1,4 @@
-use Rattle.std.proofs.Common.{◌≡◌, length, ap, ◌∙◌, arith}
-use Rattle.target_game.specs.Left.{turns_due}
-use Rattle.target_game.proofs.Due.{turns_begun}
-use Rattle.cert_check.specs.Body.{due_replies}
+use Rattle.cert_check.proofs.Common.{◌≡◌, length, ap, ◌∙◌, arith, turns_due, turns_begun, due_replies}
 use Rattle.cert_check.proofs.questions.has_turns.Goals as goal
 
 pub loop-taken-init : goal.loop-taken-init

@@ -1,6 +1,4 @@
-use Rattle.std.proofs.Common.{◌≡◌, ◌+◌, length}
-use Rattle.target_game.specs.Left.{turns_due}
-use Rattle.cert_check.specs.Body.{due_replies}
+use Rattle.cert_check.proofs.Common.{◌≡◌, ◌+◌, length, turns_due, due_replies}
 use Rattle.cert_check.proofs.questions.has_turns.Given as goal
 
 abbrev pub invariant-loop-taken : goal.invariant-loop-taken

@@ -1,8 +1,4 @@
-use Rattle.std.proofs.Common.{◌≡◌, ℕ, ◌*◌, ◌<◌, ◌++◌, [], ◌∷◌, List, sym, ap, ◌∙◌, rules}
-use Rattle.go_points.specs.declared.Cell.{Cell}
-use Rattle.target_game.specs.State.{GameState}
-use Rattle.cert_check.specs.Body.{result_of}
-use Rattle.cert_check.specs.Private.Results.{is_past}
+use Rattle.cert_check.proofs.Common.{◌≡◌, ℕ, ◌*◌, ◌<◌, ◌++◌, [], ◌∷◌, List, sym, ap, ◌∙◌, rules, Cell, GameState, result_of, is_past}
 use Rattle.cert_check.proofs.Gathering.{closed_passed, other_passed, past_added, open_by}
 use Rattle.cert_check.proofs.results.add_barred.Goals.{then-is_open+then-is_other_past+in_ok-push, then-is_open+else-is_other_past, else-is_open}
 use Rattle.cert_check.proofs.results.add_barred.Goals as goal

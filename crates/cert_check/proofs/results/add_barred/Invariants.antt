@@ -1,7 +1,4 @@
-use Rattle.std.proofs.Common.{◌≡◌, ◌++◌, map, filter}
-use Rattle.std.specs.List.{range_with_len}
-use Rattle.cert_check.specs.Body.{is_open, result_of}
-use Rattle.cert_check.specs.Private.Results.{is_past}
+use Rattle.cert_check.proofs.Common.{◌≡◌, ◌++◌, map, filter, range_with_len, is_open, result_of, is_past}
 use Rattle.cert_check.proofs.results.add_barred.Given as goal
 
 -- What the points so far give was added.

@@ -1,8 +1,4 @@
-use Rattle.std.proofs.Common.{◌≡◌, List, true, false, not, ◌&&◌, sym, ap, ◌∙◌, rules}
-use Rattle.go_points.specs.declared.Cell.{Cell}
-use Rattle.go_points.specs.Grid.{same_cells}
-use Rattle.go_turns.specs.History.{has_occurred}
-use Rattle.target_game.specs.State.{GameState}
+use Rattle.cert_check.proofs.Common.{◌≡◌, List, true, false, not, ◌&&◌, sym, ap, ◌∙◌, rules, Cell, same_cells, has_occurred, GameState}
 use Rattle.cert_check.proofs.Lists.{known_here}
 use Rattle.cert_check.proofs.results.is_other_past.Goals as goal
 

@@ -1,7 +1,4 @@
-use Rattle.std.proofs.Common.{◌≡◌, length}
-use Rattle.target_game.specs.State.{GameState}
-use Rattle.proof_cert.specs.Certificate.{replies_of}
-use Rattle.cert_check.specs.Private.Results.{ArePlayable, AreOpen, due_at, reversed}
+use Rattle.cert_check.proofs.Common.{◌≡◌, length, GameState, replies_of, ArePlayable, AreOpen, due_at, reversed}
 use Rattle.cert_check.proofs.results.next_reply.Given as goal
 
 -- What is due here, and at the states before, is what was due at first.

@@ -1,13 +1,7 @@
-use Rattle.std.proofs.Common.{◌≡◌, ℕ, ◌+◌, ◌≤◌, List, [], Option, Some, Bor, sym, ap, ◌∙◌, subst, rules, arith}
-use Rattle.target_game.specs.State.{GameProblem, GameState, Line, start}
-use Rattle.proof_cert.specs.declared.certificate.Certificate.{Certificate}
-use Rattle.proof_cert.specs.Claim.{Claim, heads_of, max_nodes}
-use Rattle.proof_cert.specs.Certificate.{claim_of, node_of}
+use Rattle.cert_check.proofs.Common.{◌≡◌, ℕ, ◌+◌, ◌≤◌, List, [], Option, Some, Bor, sym, ap, ◌∙◌, subst, rules, arith, GameProblem, GameState, start, Certificate, Claim, heads_of, max_nodes, claim_of, node_of, Later, main_body, CheckedClaim, Gathered, AreOpen, IsPlayable, gathered, joined, left_at, node_at, of_node, nothing, reversed}
+use Rattle.target_game.specs.State.{Line}
 use Rattle.proof_cert.specs.declared.certificate.Node.{Node}
-use Rattle.cert_check.specs.declared.results.Later.{Later}
-use Rattle.cert_check.specs.Body.{main_body}
-use Rattle.cert_check.specs.Checked.{CheckedClaim}
-use Rattle.cert_check.specs.Private.Results.{Gathered, AreOpen, IsPlayable, IsPlayablePart, gathered, joined, left_at, node_at, of_node, nothing, reversed}
+use Rattle.cert_check.specs.Private.Results.{IsPlayablePart}
 use Rattle.cert_check.proofs.Gathering.{walked, walked_all, walked_less, walk_begins, begins_playable, walk_room}
 use Rattle.cert_check.proofs.results.results_of.Goals as goal
 

@@ -1,8 +1,4 @@
-use Rattle.std.proofs.Common.{◌≡◌, ◌≤◌}
-use Rattle.target_game.specs.State.{start}
-use Rattle.proof_cert.specs.Claim.{node_count, max_nodes}
-use Rattle.proof_cert.specs.Certificate.{claim_of, node_of}
-use Rattle.cert_check.specs.Private.Results.{AreOpen, IsPlayable, gathered, joined, node_at, of_node, reversed}
+use Rattle.cert_check.proofs.Common.{◌≡◌, ◌≤◌, start, node_count, max_nodes, claim_of, node_of, AreOpen, IsPlayable, gathered, joined, node_at, of_node, reversed}
 use Rattle.cert_check.proofs.results.results_of.Given as goal
 
 -- What was gathered, and then what is left, is what the whole tree gives.

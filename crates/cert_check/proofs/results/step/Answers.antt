@@ -1,15 +1,8 @@
-use Rattle.std.proofs.Common.{◌≡◌, ℕ, ◌++◌, [], List, refl, ap, ◌∙◌, rules}
-use Rattle.go_points.specs.declared.Cell.{Cell}
-use Rattle.go_points.specs.Ply.{Ply, ply_of}
+use Rattle.cert_check.proofs.Common.{◌≡◌, ℕ, ◌++◌, [], List, refl, ap, ◌∙◌, rules, Cell, Ply, ply_of, won, by_lemma, node_of, replies_of, node_of_won, node_of_use, node_of_play, node_of_all, gathered, joined, node_at, if_ok_map}
 use Rattle.target_game.specs.State.{Line}
-use Rattle.proof_cert.specs.Claim.{won, by_lemma}
-use Rattle.proof_cert.specs.Certificate.{node_of, replies_of}
-use Rattle.proof_cert.proofs.Certificates.{node_of_won, node_of_use, node_of_play, node_of_all}
-use Rattle.cert_check.specs.Private.Results.{gathered, joined, node_at}
 use Rattle.cert_check.proofs.Gathering.{own_plays, play_made, all_asked, leaf_asked, pass_gives, move_gives, playable_after, playable_play, playable_all}
 use Rattle.cert_check.proofs.results.step.Goals.{in-At+in_ok-push-in-At, in-Pass}
 use Rattle.cert_check.proofs.results.step.Goals as goal
-use Rattle.target_game.proofs.Tallies.{if_ok_map}
 
 pub after-requires-clause-open : goal.after-requires-clause-open
 after-requires-clause-open c = (playable_play c.args.state.now.state c.args.node.now c.in-Play.turn c.in-Play.below c.in-Play.is c.requires.playable).0

@@ -1,5 +1,4 @@
-use Rattle.cert_check.specs.Parts.{line_values}
-use Rattle.cert_check.specs.Checks.{AcceptsBy}
+use Rattle.cert_check.proofs.Common.{line_values, AcceptsBy}
 use Rattle.cert_check.proofs.ShortClaims.{told_wins}
 use Rattle.cert_check.proofs.short.check_short.Goals as goal
 

@@ -1,10 +1,6 @@
-use Rattle.std.proofs.Common.{◌≡◌, [], ◌∷◌, refl, sym, ◌∙◌, ap, subst}
-use Rattle.go_points.specs.Ply.{ply_of}
-use Rattle.target_game.specs.Legal.{legal_turns}
-use Rattle.target_game.specs.Left.{turns_due}
-use Rattle.target_game.specs.State.{GameState, start}
+use Rattle.first_turns.proofs.Common.{◌≡◌, [], ◌∷◌, refl, sym, ◌∙◌, ap, subst, ply_of, legal_turns, turns_due, start, AreJudged}
+use Rattle.target_game.specs.State.{GameState}
 use Rattle.target_game.proofs.Due.{turns_begun}
-use Rattle.first_turns.specs.Judged.{AreJudged}
 use Rattle.first_turns.proofs.Judging.{JudgedBefore, judged_more}
 use Rattle.first_turns.proofs.found.judge_turns.Goals as goal
 

@@ -1,7 +1,4 @@
-use Rattle.std.proofs.Common.{length}
-use Rattle.target_game.specs.Legal.{legal_turns}
-use Rattle.target_game.specs.Left.{turns_due}
-use Rattle.target_game.specs.State.{start}
+use Rattle.first_turns.proofs.Common.{length, legal_turns, turns_due, start}
 use Rattle.first_turns.proofs.Judging.{JudgedBefore}
 use Rattle.first_turns.proofs.found.judge_turns.Given as goal
 

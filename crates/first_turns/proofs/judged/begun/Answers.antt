@@ -1,10 +1,7 @@
-use Rattle.std.proofs.Common.{rules, ◌≡◌, subst}
+use Rattle.first_turns.proofs.Common.{rules, ◌≡◌, subst, Turn, ply_of, GameProblem, start}
 use Rattle.go_points.specs.declared.Colour.{Colour}
-use Rattle.go_points.specs.declared.Turn.{Turn}
-use Rattle.go_points.specs.Ply.{ply_of}
 use Rattle.proof_cert.specs.Certificate.{claim_of}
 use Rattle.target_game.specs.Next.{next}
-use Rattle.target_game.specs.State.{GameProblem, start}
 use Rattle.target_game.specs.Wins.{Wins}
 use Rattle.first_turns.proofs.judged.begun.Goals as goal
 

@@ -1,11 +1,7 @@
-use Rattle.std.proofs.Common.{rules, ◌≡◌, List, [], ◌∷◌, ◌++◌, IfSome, Option, subst, sym, ◌∙◌, ap}
+use Rattle.first_turns.proofs.Common.{rules, ◌≡◌, List, [], ◌∷◌, ◌++◌, IfSome, Option, subst, sym, ◌∙◌, ap, Turn, GameProblem, Later, Position, AreAlong, IsPosition, IsReached}
 use Rattle.std.specs.List.{All}
 use Rattle.std.proofs.lemmas.List.Elements.{All-push}
-use Rattle.go_points.specs.declared.Turn.{Turn}
-use Rattle.target_game.specs.State.{GameProblem}
-use Rattle.first_turns.specs.declared.line.Later.{Later}
-use Rattle.first_turns.specs.declared.line.Position.{Position}
-use Rattle.first_turns.specs.Line.{AreAlong, IsLater, IsPosition, IsReached}
+use Rattle.first_turns.specs.Line.{IsLater}
 use Rattle.first_turns.proofs.Reaching.{along_more, last_more, last_turns}
 use Rattle.first_turns.proofs.line.judge_along.Goals as goal
 

@@ -1,5 +1,4 @@
-use Rattle.std.proofs.Common.{◌≡◌, ◌<◌, [], length}
-use Rattle.first_turns.specs.Line.{AreLater, IsPosition}
+use Rattle.first_turns.proofs.Common.{◌≡◌, ◌<◌, [], length, AreLater, IsPosition}
 use Rattle.first_turns.proofs.Reaching.{last_turns}
 use Rattle.first_turns.proofs.line.judge_along.Given as goal
 

@@ -1,7 +1,4 @@
-use Rattle.std.proofs.Common.{IfSome, Option, subst}
-use Rattle.target_game.specs.State.{GameProblem}
-use Rattle.first_turns.specs.declared.line.Position.{Position}
-use Rattle.first_turns.specs.Line.{IsNext, IsPosition}
+use Rattle.first_turns.proofs.Common.{IfSome, Option, subst, GameProblem, Position, IsNext, IsPosition}
 use Rattle.first_turns.proofs.Reaching.{made_weaker, next_reached}
 use Rattle.first_turns.proofs.line.position_after.Goals as goal
 

@@ -1,5 +1,4 @@
-use Rattle.std.proofs.Common.{◌≡◌, ◌++◌, drop}
-use Rattle.std.specs.Prelude.{string_bytes}
+use Rattle.first_turns.proofs.Common.{◌≡◌, ◌++◌, drop, string_bytes}
 use Rattle.first_turns.specs.Text.{later_lines}
 use Rattle.first_turns.proofs.list.push_later.Given as goal
 

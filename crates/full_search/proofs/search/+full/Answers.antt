@@ -1,18 +1,7 @@
-use Rattle.std.proofs.Common.{◌≡◌, ◌≤◌, ◌+◌, ◌-◌, ℕ, false, None, IfOk, OnOk, refl, ◌∷◌, sym, ap, ◌∙◌, subst, arith}
-use Rattle.go_points.specs.Ply.{ply_of}
-use Rattle.target_game.specs.State.{Line}
-use Rattle.target_game.specs.Legal.{legal_turns}
-use Rattle.target_game.specs.Next.{next}
-use Rattle.target_game.specs.Over.{over}
-use Rattle.target_game.specs.Wins.{nodes}
-use Rattle.target_game.specs.Left.{turns_due}
+use Rattle.full_search.proofs.Common.{◌≡◌, ◌≤◌, ◌+◌, ◌-◌, ℕ, false, None, OnOk, refl, ◌∷◌, sym, ap, ◌∙◌, subst, arith, ply_of, Line, legal_turns, next, over, nodes, turns_due, node_of_won, Node, Tried, Shows, rest, IsFound, IsTurnSeen, nodes_behind}
+use Rattle.std.proofs.Common.{IfOk}
 use Rattle.target_game.proofs.Due.{turns_begun as due_begun}
 use Rattle.target_game.proofs.Tallies.{if_ok_map}
-use Rattle.proof_cert.proofs.Certificates.{node_of_won}
-use Rattle.proof_cert.specs.Claim.{Node}
-use Rattle.full_search.specs.declared.search.Tried.{Tried}
-use Rattle.full_search.specs.Decided.{Shows}
-use Rattle.full_search.specs.Private.Shown.{rest, IsFound, IsTurnSeen, nodes_behind}
 use Rattle.full_search.proofs.Showing.{nodes_some, nodes_then, open_last, shows_won, pass_won, on_ok_any, on_ok_map, turns_begun, turns_more, turns_steps, turns_found}
 use Rattle.full_search.proofs.search.+full.Goals as goal
 

@@ -1,6 +1,5 @@
-use Rattle.std.proofs.Common.{◌≡◌, ◌≤◌, ◌+◌, ◌*◌, length}
-use Rattle.target_game.specs.Left.{turns_due}
-use Rattle.full_search.specs.Private.Shown.{rest}
+use Rattle.full_search.proofs.Common.{◌≡◌, ◌≤◌, ◌+◌, ◌*◌, turns_due, rest}
+use Rattle.std.proofs.Common.{length}
 use Rattle.full_search.proofs.Showing.{TurnsSeen}
 use Rattle.full_search.proofs.search.+full.Given as goal
 

@@ -1,11 +1,6 @@
-use Rattle.std.proofs.Common.{◌+◌, sym, ap, ◌∙◌, subst}
-use Rattle.go_points.specs.declared.Colour.{Colour}
-use Rattle.go_points.specs.Grid.{opponent_of}
-use Rattle.proof_cert.specs.Claim.{Node}
-use Rattle.proof_cert.specs.Certificate.{node_of}
+use Rattle.full_search.proofs.Common.{◌+◌, sym, ap, ◌∙◌, subst, Colour, opponent_of, Node, node_of, Shows}
 use Rattle.proof_cert.specs.declared.certificate.Node.TheVariants.{All}
 use Rattle.proof_cert.proofs.Certificates.{node_of_all}
-use Rattle.full_search.specs.Decided.{Shows}
 use Rattle.full_search.proofs.Showing.{decided_open, decided_lost}
 use Rattle.full_search.proofs.search.decided.Goals as goal
 

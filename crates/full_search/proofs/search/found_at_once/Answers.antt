@@ -1,8 +1,4 @@
-use Rattle.std.proofs.Common.{sym, ◌∙◌, subst}
-use Rattle.proof_cert.specs.Claim.{Node}
-use Rattle.proof_cert.proofs.Certificates.{node_of_won}
-use Rattle.full_search.specs.Decided.{Shows}
-use Rattle.full_search.specs.Private.Shown.{NeitherWins}
+use Rattle.full_search.proofs.Common.{sym, ◌∙◌, subst, Node, node_of_won, Shows, NeitherWins}
 use Rattle.full_search.proofs.Showing.{open_last, shows_won}
 use Rattle.full_search.proofs.search.found_at_once.Goals as goal
 

@@ -1,7 +1,4 @@
-use Rattle.std.proofs.Common.{◌+◌, ◌/◌, ◌≤◌, ◌∙◌, refl, subst}
-use Rattle.target_game.specs.State.{Line, start}
-use Rattle.target_game.specs.Wins.{nodes}
-use Rattle.full_search.specs.Private.Shown.{rest, IsFound}
+use Rattle.full_search.proofs.Common.{◌+◌, ◌/◌, ◌≤◌, ◌∙◌, refl, subst, Line, start, nodes, rest, IsFound}
 use Rattle.full_search.proofs.Deepening.{undecided_more, undecided_end}
 use Rattle.full_search.proofs.search.search_depths.Goals as goal
 

@@ -1,5 +1,4 @@
-use Rattle.std.proofs.Common.{◌≡◌, []}
-use Rattle.target_game.specs.State.{start}
+use Rattle.full_search.proofs.Common.{◌≡◌, [], start}
 use Rattle.full_search.proofs.Deepening.{Undecided}
 use Rattle.full_search.proofs.search.search_depths.Given as goal
 

@@ -1,11 +1,4 @@
-use Rattle.std.proofs.Common.{◌≡◌, sym, ap, ◌∙◌, subst}
-use Rattle.go_points.specs.declared.Colour.{Colour}
-use Rattle.go_points.specs.Grid.{opponent_of}
-use Rattle.go_points.specs.Ply.{ply_of}
-use Rattle.target_game.specs.Next.{next}
-use Rattle.proof_cert.specs.Certificate.{node_of}
-use Rattle.cert_check.proofs.Game.{same_colour-eq}
-use Rattle.full_search.specs.Decided.{Shows}
+use Rattle.full_search.proofs.Common.{◌≡◌, sym, ap, ◌∙◌, subst, Colour, opponent_of, ply_of, next, node_of, same_colour-eq, Shows}
 use Rattle.full_search.proofs.Showing.{other_side, seen_late, seen_reply, found_won, turn_won}
 use Rattle.full_search.proofs.search.with_turn.Goals as goal
 

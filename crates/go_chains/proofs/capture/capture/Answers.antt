@@ -1,11 +1,4 @@
-use Rattle.std.proofs.Common.{rules, ◌≡◌, ◌≢◌, ◌+◌, ◌*◌, ◌≤◌, ◌⊎◌, inl, inr, ℕ, map, take, slice_index, sym, ◌∙◌, ap, subst}
-use Rattle.std.proofs.lemmas.List.{take_all}
-use Rattle.go_points.specs.declared.TheConstants.{MAX_POINTS}
-use Rattle.go_points.specs.declared.Cell.TheVariants.{Stone}
-use Rattle.go_points.specs.Clear.{clear}
-use Rattle.go_points.specs.Grid.{neighbours, cell_at, side_of}
-use Rattle.go_points.specs.Place.{number_of}
-use Rattle.go_chains.specs.Private.Chains.{IsIn, IsSettled, LacksLiberties, LeavesLiberties}
+use Rattle.go_chains.proofs.Common.{rules, ◌≡◌, ◌≢◌, ◌+◌, ◌*◌, ◌≤◌, ◌⊎◌, inl, inr, ℕ, map, take, slice_index, sym, ◌∙◌, ap, subst, take_all, MAX_POINTS, Stone, clear, neighbours, cell_at, side_of, number_of, IsIn, IsSettled, LacksLiberties, LeavesLiberties}
 use Rattle.go_chains.proofs.Beside.{in_more}
 use Rattle.go_chains.proofs.Leaving.{CapturedSoFar, captured_step, captured_end}
 use Rattle.go_chains.proofs.capture.capture.Goals as goal

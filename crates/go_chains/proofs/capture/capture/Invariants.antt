@@ -1,6 +1,4 @@
-use Rattle.std.proofs.Common.{◌≡◌, map, take}
-use Rattle.go_points.specs.Grid.{side_of}
-use Rattle.go_points.specs.Place.{number_of}
+use Rattle.go_chains.proofs.Common.{◌≡◌, map, take, side_of, number_of}
 use Rattle.go_chains.proofs.Leaving.{CapturedSoFar}
 use Rattle.go_chains.proofs.capture.capture.Given as goal
 

@@ -1,9 +1,4 @@
-use Rattle.std.proofs.Common.{rules, ◌≡◌, ◌*◌, ◌≤◌, slice_index, refl, sym, ◌∙◌, ap}
-use Rattle.go_points.specs.declared.Cell.{Cell}
-use Rattle.go_points.specs.declared.Cell.TheVariants.{Stone}
-use Rattle.go_points.specs.declared.TheConstants.{MAX_POINTS}
-use Rattle.go_points.specs.Grid.{same_cell, cell_at, side_of}
-use Rattle.go_points.proofs.Cells.{same_cell_eq, eq_same_cell}
+use Rattle.go_chains.proofs.Common.{rules, ◌≡◌, ◌*◌, ◌≤◌, slice_index, refl, sym, ◌∙◌, ap, Cell, Stone, MAX_POINTS, same_cell, cell_at, side_of, same_cell_eq, eq_same_cell}
 use Rattle.go_chains.proofs.Captures.{clear_rest}
 use Rattle.go_chains.proofs.Leaving.{head_holds, removal_leaves}
 use Rattle.go_chains.proofs.Filling.{headed, not_empty}

@@ -1,10 +1,4 @@
-use Rattle.std.proofs.Common.{◌≡◌, ◌≢◌, ◌+◌, ◌*◌, ◌<◌, ◌≤◌, inl, inr, ℕ, List, slice_index, sym, ◌∙◌, ap, subst, arith}
-use Rattle.std.proofs.lemmas.Bool.{cases_eq}
-use Rattle.std.proofs.lemmas.List.{ext_get_or}
-use Rattle.go_points.specs.declared.Cell.{Cell}
-use Rattle.go_points.specs.declared.Cell.TheVariants.{Empty}
-use Rattle.go_points.specs.Grid.{cell_at, side_of}
-use Rattle.go_chains.specs.Private.Chains.{nowhere, IsSettled}
+use Rattle.go_chains.proofs.Common.{◌≡◌, ◌≢◌, ◌+◌, ◌*◌, ◌<◌, ◌≤◌, inl, inr, ℕ, List, slice_index, sym, ◌∙◌, ap, subst, arith, cases_eq, ext_get_or, Cell, Empty, cell_at, side_of, nowhere, IsSettled}
 use Rattle.go_chains.proofs.Changing.{stays_filled, filled_more, filled_on}
 use Rattle.go_chains.proofs.change.fill_changed.Goals as goal
 

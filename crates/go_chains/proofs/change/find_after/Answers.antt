@@ -1,6 +1,4 @@
-use Rattle.std.proofs.Common.{◌≡◌, ℕ, None, subst}
-use Rattle.go_points.specs.Grid.{side_of}
-use Rattle.go_points.specs.Liberty.{first_without_liberty}
+use Rattle.go_chains.proofs.Common.{◌≡◌, ℕ, None, subst, side_of, first_without_liberty}
 use Rattle.go_chains.proofs.Changed.{all_live}
 use Rattle.go_chains.proofs.change.find_after.Goals as goal
 

@@ -1,7 +1,6 @@
-use Rattle.std.proofs.Common.{rules, ◌≡◌, ◌*◌, ◌<◌, ℕ, Some, sym, ◌∙◌, ap, arith}
-use Rattle.go_points.specs.Grid.{side_of}
-use Rattle.go_points.specs.Place.{number_of}
-use Rattle.go_points.proofs.Liberties.{first_found, first_none}
+use Rattle.go_chains.proofs.Common.{rules, ◌≡◌, ◌*◌, ◌<◌, ℕ, sym, ◌∙◌, ap, arith, side_of, number_of, first_none}
+use Rattle.std.proofs.Common.{Some}
+use Rattle.go_points.proofs.Liberties.{first_found}
 use Rattle.go_chains.proofs.change.find_without_liberty.Goals as goal
 
 pub returns-then-lacks_liberty-clause-found : goal.returns-then-lacks_liberty-clause-found

@@ -1,6 +1,4 @@
-use Rattle.std.proofs.Common.{◌≡◌, ◌<◌, ℕ, false}
-use Rattle.go_points.specs.Grid.{side_of}
-use Rattle.go_points.specs.Liberty.{lacks_liberty}
+use Rattle.go_chains.proofs.Common.{◌≡◌, ◌<◌, ℕ, false, side_of, lacks_liberty}
 use Rattle.go_chains.proofs.change.find_without_liberty.Given as goal
 
 abbrev pub invariant-loop-number : goal.invariant-loop-number

@@ -1,9 +1,4 @@
-use Rattle.std.proofs.Common.{◌≡◌, ℕ, map, take, sym, ◌∙◌, ap, subst}
-use Rattle.std.proofs.lemmas.List.{take_all}
-use Rattle.go_points.specs.Grid.{neighbours, side_of}
-use Rattle.go_points.specs.Place.{number_of}
-use Rattle.go_points.proofs.Cells.{neighbours_member}
-use Rattle.go_chains.specs.Private.Chains.{IsIn}
+use Rattle.go_chains.proofs.Common.{◌≡◌, ℕ, map, take, sym, ◌∙◌, ap, subst, take_all, neighbours, side_of, number_of, neighbours_member, IsIn}
 use Rattle.go_chains.proofs.Counts.{member_in}
 use Rattle.go_chains.proofs.change.live_around.Goals as goal
 

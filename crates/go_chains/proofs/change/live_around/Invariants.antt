@@ -1,8 +1,4 @@
-use Rattle.std.proofs.Common.{◌≡◌, ℕ, false, map, take}
-use Rattle.go_points.specs.Grid.{side_of}
-use Rattle.go_points.specs.Liberty.{lacks_liberty}
-use Rattle.go_points.specs.Place.{number_of}
-use Rattle.go_chains.specs.Private.Chains.{IsIn}
+use Rattle.go_chains.proofs.Common.{◌≡◌, ℕ, false, map, take, side_of, lacks_liberty, number_of, IsIn}
 use Rattle.go_chains.proofs.change.live_around.Given as goal
 
 abbrev pub invariant-loop-neighbour : goal.invariant-loop-neighbour

@@ -1,5 +1,4 @@
-use Rattle.std.proofs.Common.{◌*◌, ◌<◌, inl, inr, ℕ, sym, ◌∙◌, ap, arith}
-use Rattle.go_points.specs.Grid.{cell_at, side_of}
+use Rattle.go_chains.proofs.Common.{◌*◌, ◌<◌, inl, inr, ℕ, sym, ◌∙◌, ap, arith, cell_at, side_of}
 use Rattle.go_chains.proofs.Changed.{LivesAt, lives_on}
 use Rattle.go_chains.proofs.change.live_where_new.Goals as goal
 use Rattle.go_chains.proofs.change.live_where_new.Goals.{else-heads-number-via-then-heads-number+else-not-live_around, else-heads-number-via-else-heads-number}

@@ -1,7 +1,4 @@
-use Rattle.std.proofs.Common.{◌≡◌, ◌⊎◌, ◌+◌, ◌*◌, ◌<◌, inl, inr, ℕ, refl, sym, ◌∙◌, ap, subst, arith}
-use Rattle.go_points.specs.declared.Cell.TheVariants.{Empty}
-use Rattle.go_points.specs.Grid.{cell_at, side_of}
-use Rattle.go_chains.specs.Private.Chains.{IsSettled}
+use Rattle.go_chains.proofs.Common.{◌≡◌, ◌⊎◌, ◌+◌, ◌*◌, ◌<◌, inl, inr, ℕ, refl, sym, ◌∙◌, ap, subst, arith, Empty, cell_at, side_of, IsSettled}
 use Rattle.go_chains.proofs.Changing.{MayStay, stays_more, stays_on}
 use Rattle.go_chains.proofs.change.remove_changed.Goals as goal
 use Rattle.go_chains.proofs.change.remove_changed.Goals.{then-heads-number, else-heads-number}

@@ -1,7 +1,4 @@
-use Rattle.std.proofs.Common.{◌≡◌, ◌-◌, ◌*◌, ◌<◌, ◌⊎◌, ℕ}
-use Rattle.go_points.specs.declared.Cell.TheVariants.{Empty}
-use Rattle.go_points.specs.Grid.{cell_at, side_of}
-use Rattle.go_chains.specs.Private.Chains.{IsSettled}
+use Rattle.go_chains.proofs.Common.{◌≡◌, ◌-◌, ◌*◌, ◌<◌, ◌⊎◌, ℕ, Empty, cell_at, side_of, IsSettled}
 use Rattle.go_chains.proofs.change.remove_changed.Given as goal
 
 abbrev pub invariant-changed : goal.invariant-changed

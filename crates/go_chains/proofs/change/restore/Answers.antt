@@ -1,7 +1,4 @@
-use Rattle.std.proofs.Common.{rules, ◌≡◌, ◌*◌, ◌≤◌, None, sym, ◌∙◌, ap}
-use Rattle.go_points.specs.declared.TheConstants.{MAX_POINTS}
-use Rattle.go_points.specs.Grid.{side_of}
-use Rattle.go_points.specs.Liberty.{first_without_liberty}
+use Rattle.go_chains.proofs.Common.{rules, ◌≡◌, ◌*◌, ◌≤◌, None, sym, ◌∙◌, ap, MAX_POINTS, side_of, first_without_liberty}
 use Rattle.go_chains.proofs.Lacking.{settled_board}
 use Rattle.go_chains.proofs.change.restore.Goals as goal
 

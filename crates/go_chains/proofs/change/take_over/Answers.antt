@@ -1,9 +1,4 @@
-use Rattle.std.proofs.Common.{rules, ◌≡◌, ◌*◌, ◌≤◌, ℕ, List, None, sym, ◌∙◌, ap, subst}
-use Rattle.go_points.specs.declared.Cell.{Cell}
-use Rattle.go_points.specs.declared.TheConstants.{MAX_POINTS}
-use Rattle.go_points.specs.Grid.{side_of}
-use Rattle.go_points.specs.Liberty.{first_without_liberty}
-use Rattle.go_chains.specs.Private.Chains.{IsSettled, TellsLiberties}
+use Rattle.go_chains.proofs.Common.{rules, ◌≡◌, ◌*◌, ◌≤◌, ℕ, List, None, sym, ◌∙◌, ap, subst, Cell, MAX_POINTS, side_of, first_without_liberty, IsSettled, TellsLiberties}
 use Rattle.go_chains.proofs.Lacking.{settled_tells, settled_board, board_none}
 use Rattle.go_chains.proofs.change.take_over.Goals as goal
 

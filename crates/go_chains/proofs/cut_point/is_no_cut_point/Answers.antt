@@ -1,6 +1,4 @@
-use Rattle.std.proofs.Common.{◌≡◌, true, map, sym, ◌∙◌, ap, subst}
-use Rattle.go_points.specs.Grid.{adjacent, neighbours}
-use Rattle.go_points.specs.Place.{number_of}
+use Rattle.go_chains.proofs.Common.{◌≡◌, true, map, sym, ◌∙◌, ap, subst, adjacent, neighbours, number_of}
 use Rattle.go_chains.proofs.Beside.{item_beside}
 use Rattle.go_chains.proofs.cut_point.is_no_cut_point.Goals as goal
 

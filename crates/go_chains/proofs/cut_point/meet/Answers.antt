@@ -1,6 +1,4 @@
-use Rattle.std.proofs.Common.{◌≡◌, inr, true, map, sym, ◌∙◌, ap, subst}
-use Rattle.go_points.specs.Grid.{adjacent, neighbours}
-use Rattle.go_points.specs.Place.{number_of}
+use Rattle.go_chains.proofs.Common.{◌≡◌, inr, true, map, sym, ◌∙◌, ap, subst, adjacent, neighbours, number_of}
 use Rattle.go_chains.proofs.Beside.{item_beside}
 use Rattle.go_chains.proofs.cut_point.meet.Goals as goal
 

@@ -1,9 +1,4 @@
-use Rattle.std.proofs.Common.{◌≡◌, inl, inr, true, map, take, slice_index, sym, ◌∙◌, ap, subst}
-use Rattle.std.proofs.lemmas.List.{take_all}
-use Rattle.go_points.specs.Grid.{neighbours}
-use Rattle.go_points.specs.Place.{number_of}
-use Rattle.go_points.proofs.Cells.{neighbours_member}
-use Rattle.go_chains.specs.Private.Chains.{IsIn, Meet}
+use Rattle.go_chains.proofs.Common.{◌≡◌, inl, inr, true, map, take, slice_index, sym, ◌∙◌, ap, subst, take_all, neighbours, number_of, neighbours_member, IsIn, Meet}
 use Rattle.go_chains.proofs.Beside.{in_more}
 use Rattle.go_chains.proofs.Counts.{member_in}
 use Rattle.go_chains.proofs.cut_point.meet_at.Goals as goal

@@ -1,6 +1,4 @@
-use Rattle.std.proofs.Common.{◌≡◌, ℕ, map, take, slice_index}
-use Rattle.go_points.specs.Place.{number_of}
-use Rattle.go_chains.specs.Private.Chains.{IsIn, Meet}
+use Rattle.go_chains.proofs.Common.{◌≡◌, ℕ, map, take, slice_index, number_of, IsIn, Meet}
 use Rattle.go_chains.proofs.cut_point.meet_at.Given as goal
 
 abbrev pub invariant-loop-neighbour : goal.invariant-loop-neighbour

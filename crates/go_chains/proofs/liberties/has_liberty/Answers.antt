@@ -1,11 +1,4 @@
-use Rattle.std.proofs.Common.{◌≡◌, ℕ, Bool, true, ◌&&◌, map, sym, ◌∙◌, ap, ap₂, subst}
-use Rattle.go_points.specs.declared.Cell.{Cell}
-use Rattle.go_points.specs.declared.Cell.TheVariants.{Empty, Stone}
-use Rattle.go_points.specs.Grid.{same_cell, adjacent, neighbours, cell_at, side_of}
-use Rattle.go_points.specs.Place.{number_of}
-use Rattle.go_points.proofs.Lists.{any_to, or_left, or_right}
-use Rattle.go_points.proofs.Cells.{neighbours_member}
-use Rattle.go_chains.specs.Private.Quiet.{has_more, lets_stay}
+use Rattle.go_chains.proofs.Common.{◌≡◌, ℕ, Bool, true, ◌&&◌, map, sym, ◌∙◌, ap, ap₂, subst, Cell, Empty, Stone, same_cell, adjacent, neighbours, cell_at, side_of, number_of, any_to, or_left, or_right, neighbours_member, has_more, lets_stay}
 use Rattle.go_chains.proofs.Beside.{item_beside}
 use Rattle.go_chains.proofs.liberties.has_liberty.Goals as goal
 

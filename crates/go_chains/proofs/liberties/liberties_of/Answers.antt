@@ -1,11 +1,4 @@
-use Rattle.std.proofs.Common.{◌≡◌, ◌+◌, ◌<◌, ◌≤◌, ℕ, Bool, true, false, ◌&&◌, nat_lt, List, sym, ◌∙◌, ap, ap₂, subst}
-use Rattle.go_points.specs.declared.Cell.{Cell}
-use Rattle.go_points.specs.declared.Cell.TheVariants.{Empty}
-use Rattle.go_points.specs.Grid.{same_cell, cell_at, side_of}
-use Rattle.go_points.specs.Place.{Place, IsOn, number_of, place_of}
-use Rattle.go_points.specs.Points.{with_place}
-use Rattle.go_chains.specs.Private.Chains.{touches}
-use Rattle.go_chains.specs.Private.Quiet.{is_liberty}
+use Rattle.go_chains.proofs.Common.{◌≡◌, ◌+◌, ◌<◌, ◌≤◌, ℕ, Bool, true, false, ◌&&◌, nat_lt, List, sym, ◌∙◌, ap, ap₂, subst, Cell, Empty, same_cell, cell_at, side_of, Place, IsOn, number_of, place_of, with_place, touches, is_liberty}
 use Rattle.go_chains.proofs.Gathering.{HeldSoFar, held_yes, held_no, above, not_above}
 use Rattle.go_chains.proofs.liberties.liberties_of.Goals as goal
 use Rattle.go_chains.proofs.liberties.liberties_of.Goals.{then-is_empty+then-shared-gt0, else-is_empty, else-is_empty-via-then-is_empty+else-shared-gt0, else-is_empty-via-else-is_empty}

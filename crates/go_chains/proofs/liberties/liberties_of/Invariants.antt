@@ -1,5 +1,4 @@
-use Rattle.go_points.specs.Grid.{side_of}
-use Rattle.go_chains.specs.Private.Quiet.{is_liberty}
+use Rattle.go_chains.proofs.Common.{side_of, is_liberty}
 use Rattle.go_chains.proofs.Gathering.{HeldSoFar}
 use Rattle.go_chains.proofs.liberties.liberties_of.Given as goal
 

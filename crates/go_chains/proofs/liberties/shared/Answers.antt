@@ -1,8 +1,4 @@
-use Rattle.std.proofs.Common.{◌≡◌, ℕ, Bool, List, cond, eq-eqb, length, map, take, slice_index, sym, ◌∙◌, ap, arith}
-use Rattle.std.proofs.lemmas.List.{length-map, take_all}
-use Rattle.go_points.specs.Grid.{neighbours}
-use Rattle.go_points.specs.Place.{number_of}
-use Rattle.go_chains.specs.Private.Chains.{total}
+use Rattle.go_chains.proofs.Common.{◌≡◌, ℕ, Bool, List, cond, eq-eqb, length, map, take, slice_index, sym, ◌∙◌, ap, arith, length-map, take_all, neighbours, number_of, total}
 use Rattle.go_chains.proofs.Counts.{is_head, touches_is, neighbours_most}
 use Rattle.go_chains.proofs.Giving.{few}
 use Rattle.go_chains.proofs.Beside.{total_more}

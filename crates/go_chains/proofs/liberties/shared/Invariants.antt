@@ -1,6 +1,4 @@
-use Rattle.std.proofs.Common.{◌≡◌, map, take}
-use Rattle.go_points.specs.Place.{number_of}
-use Rattle.go_chains.specs.Private.Chains.{total}
+use Rattle.go_chains.proofs.Common.{◌≡◌, map, take, number_of, total}
 use Rattle.go_chains.proofs.Counts.{is_head}
 use Rattle.go_chains.proofs.liberties.shared.Given as goal
 

@@ -1,12 +1,4 @@
-use Rattle.std.proofs.Common.{◌≡◌, ℕ, Bool, true, ◌&&◌, not, map, sym, ◌∙◌, ap, ap₂, subst}
-use Rattle.go_points.specs.declared.Colour.{Colour}
-use Rattle.go_points.specs.declared.Cell.{Cell}
-use Rattle.go_points.specs.declared.Cell.TheVariants.{Stone}
-use Rattle.go_points.specs.Grid.{opponent_of, same_cell, adjacent, neighbours, cell_at, side_of}
-use Rattle.go_points.specs.Place.{number_of}
-use Rattle.go_points.proofs.Lists.{any_to}
-use Rattle.go_points.proofs.Cells.{neighbours_member}
-use Rattle.go_chains.specs.Private.Quiet.{has_more, loses_last}
+use Rattle.go_chains.proofs.Common.{◌≡◌, ℕ, Bool, true, ◌&&◌, not, map, sym, ◌∙◌, ap, ap₂, subst, Colour, Cell, Stone, opponent_of, same_cell, adjacent, neighbours, cell_at, side_of, number_of, any_to, neighbours_member, has_more, loses_last}
 use Rattle.go_chains.proofs.Beside.{item_beside}
 use Rattle.go_chains.proofs.liberties.takes_chain.Goals as goal
 

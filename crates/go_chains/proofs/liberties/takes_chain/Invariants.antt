@@ -1,8 +1,4 @@
-use Rattle.std.proofs.Common.{◌≡◌, false, map, take}
-use Rattle.std.specs.List.{list_any}
-use Rattle.go_points.specs.Grid.{side_of}
-use Rattle.go_points.specs.Place.{number_of}
-use Rattle.go_chains.specs.Private.Quiet.{loses_last}
+use Rattle.go_chains.proofs.Common.{◌≡◌, false, map, take, list_any, side_of, number_of, loses_last}
 use Rattle.go_chains.proofs.liberties.takes_chain.Given as goal
 
 -- none so far

@@ -1,10 +1,5 @@
-use Rattle.std.proofs.Common.{rules, ◌≡◌, ◌≢◌, ◌*◌, ◌<◌, ◌≤◌, ℕ, length, slice_index, sym, ◌∙◌, ap, subst}
-use Rattle.go_points.specs.declared.TheConstants.{MAX_POINTS}
-use Rattle.go_points.specs.declared.Cell.TheVariants.{Stone}
-use Rattle.go_points.specs.Grid.{opponent_of, cell_at, side_of}
-use Rattle.go_points.specs.Clear.{clear}
+use Rattle.go_chains.proofs.Common.{rules, ◌≡◌, ◌≢◌, ◌*◌, ◌<◌, ◌≤◌, ℕ, length, slice_index, sym, ◌∙◌, ap, subst, MAX_POINTS, Stone, opponent_of, cell_at, side_of, clear, touches, IsSettled, LacksLiberties, LeavesLiberties}
 use Rattle.go_points.proofs.Moves.{move_made, move_takes}
-use Rattle.go_chains.specs.Private.Chains.{touches, IsSettled, LacksLiberties, LeavesLiberties}
 use Rattle.go_chains.proofs.Playing.{captures_beside, move_ends, move_clears}
 use Rattle.go_chains.proofs.moves.make_move.Goals as goal
 

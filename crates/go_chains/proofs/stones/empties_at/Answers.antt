@@ -1,10 +1,4 @@
-use Rattle.std.proofs.Common.{rules, ◌≡◌, ◌*◌, ◌≤◌, ℕ, Bool, cond, List, length, map, take, sym, ◌∙◌, ap, arith}
-use Rattle.std.proofs.lemmas.List.{length-map, length-take-le}
-use Rattle.go_points.specs.declared.TheConstants.{MAX_POINTS}
-use Rattle.go_points.specs.declared.Cell.{Cell}
-use Rattle.go_points.specs.declared.Cell.TheVariants.{Empty}
-use Rattle.go_points.specs.Grid.{same_cell, cell_at, side_of, neighbours}
-use Rattle.go_points.specs.Place.{number_of}
+use Rattle.go_chains.proofs.Common.{rules, ◌≡◌, ◌*◌, ◌≤◌, ℕ, Bool, cond, List, length, map, take, sym, ◌∙◌, ap, arith, length-map, length-take-le, MAX_POINTS, Cell, Empty, same_cell, cell_at, side_of, neighbours, number_of}
 use Rattle.go_chains.proofs.Totals.{total_most}
 use Rattle.go_chains.proofs.Counts.{neighbours_most, at_most_one}
 use Rattle.go_chains.proofs.Beside.{total_more}

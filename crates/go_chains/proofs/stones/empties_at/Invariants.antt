@@ -1,8 +1,4 @@
-use Rattle.std.proofs.Common.{◌≡◌, ℕ, cond, map, take}
-use Rattle.go_points.specs.declared.Cell.TheVariants.{Empty}
-use Rattle.go_points.specs.Grid.{same_cell, cell_at, side_of}
-use Rattle.go_points.specs.Place.{number_of}
-use Rattle.go_chains.specs.Private.Chains.{total}
+use Rattle.go_chains.proofs.Common.{◌≡◌, ℕ, cond, map, take, Empty, same_cell, cell_at, side_of, number_of, total}
 use Rattle.go_chains.proofs.stones.empties_at.Given as goal
 
 abbrev pub invariant-loop-neighbour : goal.invariant-loop-neighbour

@@ -1,11 +1,4 @@
-use Rattle.std.proofs.Common.{rules, ◌≡◌, ◌+◌, ◌*◌, ◌≤◌, ◌⊎◌, inl, inr, ℕ, true, List, map, take, sym, ◌∙◌, ap, subst}
-use Rattle.std.proofs.lemmas.List.{take_all, get_or-set_same}
-use Rattle.go_points.specs.declared.Cell.{Cell}
-use Rattle.go_points.specs.declared.Cell.TheVariants.{Empty, Stone}
-use Rattle.go_points.specs.declared.TheConstants.{MAX_POINTS}
-use Rattle.go_points.specs.Grid.{adjacent, neighbours, cell_at, side_of}
-use Rattle.go_points.specs.Place.{number_of}
-use Rattle.go_chains.specs.Private.Chains.{IsIn, HasCircles, HasCounts, KeepsTogether, KeepsOthers, nowhere}
+use Rattle.go_chains.proofs.Common.{rules, ◌≡◌, ◌+◌, ◌*◌, ◌≤◌, ◌⊎◌, inl, inr, ℕ, true, List, map, take, sym, ◌∙◌, ap, subst, take_all, get_or-set_same, Cell, Empty, Stone, MAX_POINTS, adjacent, neighbours, cell_at, side_of, number_of, IsIn, HasCircles, HasCounts, KeepsTogether, KeepsOthers, nowhere}
 use Rattle.go_chains.proofs.Beside.{in_more, item_beside}
 use Rattle.go_chains.proofs.Filling.{FilledSoFar, filled_start, filled_step, filled_end}
 use Rattle.go_chains.proofs.stones.fill.Goals as goal

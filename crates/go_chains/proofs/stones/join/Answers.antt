@@ -1,9 +1,4 @@
-use Rattle.std.proofs.Common.{rules, ◌≡◌, ◌*◌, ◌≤◌, slice_index, sym, ◌∙◌, ap}
-use Rattle.go_points.specs.declared.Cell.{Cell}
-use Rattle.go_points.specs.declared.Cell.TheVariants.{Stone}
-use Rattle.go_points.specs.declared.TheConstants.{MAX_POINTS}
-use Rattle.go_points.specs.Grid.{same_cell, cell_at, side_of}
-use Rattle.go_points.proofs.Cells.{same_cell_eq, adjacent_on_board}
+use Rattle.go_chains.proofs.Common.{rules, ◌≡◌, ◌*◌, ◌≤◌, slice_index, sym, ◌∙◌, ap, Cell, Stone, MAX_POINTS, same_cell, cell_at, side_of, same_cell_eq, adjacent_on_board}
 use Rattle.go_chains.proofs.Merging.{merged_others, renamed_from, renamed_other}
 use Rattle.go_chains.proofs.Filling.{bond, headed, not_empty}
 use Rattle.go_chains.proofs.stones.join.Goals as goal

@@ -1,5 +1,4 @@
-use Rattle.std.proofs.Common.{refl, arith}
-use Rattle.go_points.specs.Private.Narrow.{narrow_count}
+use Rattle.go_points.proofs.Common.{refl, arith, narrow_count}
 use Rattle.go_points.proofs.Narrowing.{none_copied, one_copied, all_copied}
 use Rattle.go_points.proofs.point_bits.narrow_bits.Goals as goal
 

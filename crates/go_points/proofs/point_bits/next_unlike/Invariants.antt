@@ -1,5 +1,4 @@
-use Rattle.std.proofs.Common.{ℕ, ◌-◌, ◌<◌, ◌≤◌}
-use Rattle.go_points.specs.Private.Words.{AreAlike}
+use Rattle.go_points.proofs.Common.{ℕ, ◌-◌, ◌<◌, ◌≤◌, AreAlike}
 use Rattle.go_points.proofs.point_bits.next_unlike.Given as goal
 
 abbrev pub invariant-words : goal.invariant-words

@@ -1,6 +1,4 @@
-use Rattle.std.proofs.Common.{ℕ, List, sym, refl, subst, arith}
-use Rattle.std.proofs.lemmas.List.{get_or_past}
-use Rattle.go_points.specs.Private.Words.{word_count}
+use Rattle.go_points.proofs.Common.{ℕ, List, sym, refl, subst, arith, get_or_past, word_count}
 use Rattle.go_points.proofs.Narrowing.{IsCopied, none_copied, one_copied, all_copied}
 use Rattle.go_points.proofs.point_bits.wide_bits.Goals as goal
 

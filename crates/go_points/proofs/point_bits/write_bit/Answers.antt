@@ -1,6 +1,4 @@
-use Rattle.std.proofs.Common.{◌∙◌, sym, true, false, arith}
-use Rattle.go_points.specs.declared.TheConstants.{MAX_POINTS}
-use Rattle.go_points.specs.Private.Words.{word_count}
+use Rattle.go_points.proofs.Common.{◌∙◌, sym, true, false, arith, MAX_POINTS, word_count}
 use Rattle.go_points.proofs.Bits.{bit_put, bit_taken, bit_same, bit_other, words_kept}
 use Rattle.go_points.proofs.point_bits.write_bit.Goals as goal
 

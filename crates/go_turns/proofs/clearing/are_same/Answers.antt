@@ -1,9 +1,5 @@
 -- The derived test of cells is that of the rules.
-use Rattle.std.proofs.Common.{◌≡◌, refl, ◌∙◌}
-use Rattle.go_points.specs.declared.Colour.TheVariants.{Black, White}
-use Rattle.go_points.specs.declared.Cell.{Cell}
-use Rattle.go_points.specs.declared.Cell.TheVariants.{Empty, Stone}
-use Rattle.go_points.specs.Grid.{same_cell}
+use Rattle.go_turns.proofs.Common.{◌≡◌, refl, ◌∙◌, Black, White, Cell, Empty, Stone, same_cell}
 use Rattle.go_points.specs.contracts.CellPartialEq.TheImpl.{eq-value}
 use Rattle.go_turns.proofs.clearing.are_same.Goals as goal
 

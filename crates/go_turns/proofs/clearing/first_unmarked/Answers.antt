@@ -1,11 +1,5 @@
 -- The stone at the point reaches empty exactly where it is marked.
-use Rattle.std.proofs.Common.{◌≡◌, ◌*◌, ◌<◌, not, Some, sym, ◌∙◌, ap, inl, inr, arith, rules}
-use Rattle.std.proofs.lemmas.Bool.{cases_eq}
-use Rattle.go_points.specs.declared.Colour.TheVariants.{Black, White}
-use Rattle.go_points.specs.declared.Cell.TheVariants.{Stone}
-use Rattle.go_points.specs.Grid.{side_of, cell_at}
-use Rattle.go_points.specs.Place.{number_of}
-use Rattle.go_points.specs.Liberty.{lacks_liberty}
+use Rattle.go_turns.proofs.Common.{◌≡◌, ◌*◌, ◌<◌, not, Some, sym, ◌∙◌, ap, inl, inr, arith, rules, cases_eq, Black, White, Stone, side_of, cell_at, number_of, lacks_liberty}
 use Rattle.go_points.proofs.Liberties.{first_found, first_none, lacks_empty}
 use Rattle.go_turns.proofs.Marks.{lacks_stone}
 use Rattle.go_turns.proofs.clearing.first_unmarked.Goals as goal

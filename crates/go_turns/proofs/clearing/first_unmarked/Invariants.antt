@@ -1,6 +1,4 @@
-use Rattle.std.proofs.Common.{◌≡◌, ℕ, ◌<◌, false}
-use Rattle.go_points.specs.Grid.{side_of}
-use Rattle.go_points.specs.Liberty.{lacks_liberty}
+use Rattle.go_turns.proofs.Common.{◌≡◌, ℕ, ◌<◌, false, side_of, lacks_liberty}
 use Rattle.go_turns.proofs.clearing.first_unmarked.Given as goal
 
 -- the stones so far reach empty

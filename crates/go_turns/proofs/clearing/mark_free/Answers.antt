@@ -1,7 +1,4 @@
-use Rattle.std.proofs.Common.{◌≡◌, ℕ, ◌*◌, ◌<◌, length, arith, rules}
-use Rattle.go_points.specs.declared.Cell.TheVariants.{Empty}
-use Rattle.go_points.specs.Grid.{side_of, same_cell, cell_at}
-use Rattle.go_turns.specs.Private.Marks.{is_marked}
+use Rattle.go_turns.proofs.Common.{◌≡◌, ℕ, ◌*◌, ◌<◌, length, arith, rules, Empty, side_of, same_cell, cell_at, is_marked}
 use Rattle.go_turns.proofs.Marks.{sound_start, seeds_start, marks_exact}
 use Rattle.go_turns.proofs.clearing.mark_free.Goals as goal
 

@@ -1,7 +1,4 @@
-use Rattle.std.proofs.Common.{◌≡◌, ℕ, ◌<◌, ◌-◌, length}
-use Rattle.go_points.specs.declared.Cell.TheVariants.{Empty}
-use Rattle.go_points.specs.Grid.{side_of, same_cell, cell_at}
-use Rattle.go_turns.specs.Private.Marks.{is_marked, mark_count, IsSound, HasSeeds}
+use Rattle.go_turns.proofs.Common.{◌≡◌, ℕ, ◌<◌, ◌-◌, length, Empty, side_of, same_cell, cell_at, is_marked, mark_count, IsSound, HasSeeds}
 use Rattle.go_turns.proofs.clearing.mark_free.Given as goal
 
 -- the empty points so far are marked, and no others

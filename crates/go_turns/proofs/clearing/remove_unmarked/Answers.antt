@@ -1,8 +1,4 @@
-use Rattle.std.proofs.Common.{◌≡◌, ◌*◌, ◌<◌, true, false, ◌∙◌, arith, rules}
-use Rattle.go_points.specs.declared.Cell.TheVariants.{Stone}
-use Rattle.go_points.specs.Grid.{side_of, same_cell, cell_at}
-use Rattle.go_points.specs.Place.{number_of}
-use Rattle.go_points.proofs.Cells.{same_cell_eq}
+use Rattle.go_turns.proofs.Common.{◌≡◌, ◌*◌, ◌<◌, true, false, ◌∙◌, arith, rules, Stone, side_of, same_cell, cell_at, number_of, same_cell_eq}
 use Rattle.go_turns.proofs.Removal.{captured_yes, captured_other, captured_marked, cleared_hit, cleared_miss, cleared_all}
 use Rattle.go_turns.proofs.clearing.remove_unmarked.Goals as goal
 use Rattle.go_turns.proofs.clearing.remove_unmarked.Goals.{then-not-marks-number+then-are_same, else-not-marks-number, else-not-marks-number-via-then-not-marks-number+else-are_same, else-not-marks-number-via-else-not-marks-number}

@@ -1,5 +1,4 @@
-use Rattle.std.proofs.Common.{◌≡◌}
-use Rattle.go_points.specs.Grid.{side_of}
+use Rattle.go_turns.proofs.Common.{◌≡◌, side_of}
 use Rattle.go_turns.proofs.Removal.{ClearedSoFar}
 use Rattle.go_turns.proofs.clearing.remove_unmarked.Given as goal
 

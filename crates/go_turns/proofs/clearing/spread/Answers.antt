@@ -1,12 +1,5 @@
 -- A sweep's step: the point is marked, or it stays as it was for one of three reasons.
-use Rattle.std.proofs.Common.{◌≡◌, ◌<◌, true, false, length, rules}
-use Rattle.std.specs.List.{list_any}
-use Rattle.std.proofs.lemmas.Bool.{both_ways}
-use Rattle.go_points.specs.declared.Cell.TheVariants.{Stone}
-use Rattle.go_points.specs.Grid.{side_of, same_cell, cell_at, neighbours}
-use Rattle.go_points.specs.Place.{number_of}
-use Rattle.go_points.proofs.Cells.{same_cell_eq, eq_same_cell}
-use Rattle.go_turns.specs.Private.Marks.{is_marked}
+use Rattle.go_turns.proofs.Common.{◌≡◌, ◌<◌, true, false, length, rules, list_any, both_ways, Stone, side_of, same_cell, cell_at, neighbours, number_of, same_cell_eq, eq_same_cell, is_marked}
 use Rattle.go_turns.proofs.Marks.{spread_hit, spread_miss}
 use Rattle.go_turns.proofs.clearing.spread.Goals as goal
 use Rattle.go_turns.proofs.clearing.spread.Goals.{then-not-marks-number+then-are_same+then-touches, else-not-marks-number, else-not-marks-number-via-then-not-marks-number+then-are_same+else-touches, else-not-marks-number-via-then-not-marks-number+else-are_same, else-not-marks-number-via-else-not-marks-number}

@@ -1,8 +1,5 @@
 -- The marked neighbour is in the list of neighbours.
-use Rattle.std.proofs.Common.{◌≡◌, Bool, true, ℕ, map, sym, ◌∙◌, ap, rules}
-use Rattle.std.specs.List.{list_any}
-use Rattle.go_points.specs.Place.{number_of}
-use Rattle.go_turns.specs.Private.Marks.{is_marked}
+use Rattle.go_turns.proofs.Common.{◌≡◌, Bool, true, ℕ, map, sym, ◌∙◌, ap, rules, list_any, number_of, is_marked}
 use Rattle.go_points.proofs.Anywhere.{any_yes}
 use Rattle.go_turns.proofs.clearing.touches.Goals as goal
 

@@ -1,7 +1,4 @@
-use Rattle.std.proofs.Common.{◌≡◌, false, map, take}
-use Rattle.std.specs.List.{list_any}
-use Rattle.go_points.specs.Place.{number_of}
-use Rattle.go_turns.specs.Private.Marks.{is_marked}
+use Rattle.go_turns.proofs.Common.{◌≡◌, false, map, take, list_any, number_of, is_marked}
 use Rattle.go_turns.proofs.clearing.touches.Given as goal
 
 -- no neighbour so far is marked

@@ -1,7 +1,5 @@
 -- The next colouring of a history without repeats is none of those before it.
-use Rattle.std.proofs.Common.{rules, ◌≡◌, List, take, None, sym, subst}
-use Rattle.go_points.specs.declared.Cell.{Cell}
-use Rattle.go_turns.specs.History.{place_in}
+use Rattle.go_turns.proofs.Common.{rules, ◌≡◌, List, take, None, sym, subst, Cell, place_in}
 use Rattle.go_turns.proofs.Repeats.{next_is_new}
 use Rattle.go_turns.proofs.record.add_all.Goals as goal
 

@@ -1,9 +1,5 @@
 -- One assignment more, or one that the board does not hold.
-use Rattle.std.proofs.Common.{rules, ◌≡◌, ℕ, ◌<◌, length, get_or, sym, ◌∙◌, subst}
-use Rattle.std.proofs.lemmas.Bool.{both_ways}
-use Rattle.go_points.specs.declared.Cell.{Cell}
-use Rattle.go_points.specs.Grid.{side_of}
-use Rattle.go_points.specs.Place.{Place, IsOn}
+use Rattle.go_turns.proofs.Common.{rules, ◌≡◌, ℕ, ◌<◌, length, get_or, sym, ◌∙◌, subst, both_ways, Cell, side_of, Place, IsOn}
 use Rattle.go_turns.proofs.Setups.{more_on, more_assigned, not_all, set_at}
 use Rattle.go_turns.proofs.record.with_cells.Goals as goal
 

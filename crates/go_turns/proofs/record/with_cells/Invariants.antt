@@ -1,7 +1,4 @@
-use Rattle.std.proofs.Common.{◌≡◌, ◌*◌, true, nat_lt, map, take}
-use Rattle.std.specs.List.{list_all}
-use Rattle.go_points.specs.Grid.{side_of}
-use Rattle.go_turns.specs.Record.{numbered, assigned}
+use Rattle.go_turns.proofs.Common.{◌≡◌, ◌*◌, true, nat_lt, map, take, list_all, side_of, numbered, assigned}
 use Rattle.go_turns.proofs.record.with_cells.Given as goal
 
 -- the points so far are on the board, and assigned

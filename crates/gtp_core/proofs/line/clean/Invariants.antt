@@ -1,6 +1,5 @@
-use Rattle.std.proofs.Common.{◌≡◌, ◌≤◌, ◌++◌, drop}
+use Rattle.gtp_core.proofs.Common.{◌≡◌, ◌≤◌, ◌++◌, drop, cleaned}
 use Rattle.arrayvec.specs.ArrayVec.{array_vec_len}
-use Rattle.gtp_core.specs.Lines.{cleaned}
 use Rattle.gtp_core.proofs.line.clean.Given as goal
 
 abbrev pub invariant-loop-place : goal.invariant-loop-place

@@ -1,5 +1,4 @@
-use Rattle.std.proofs.Common.{◌≡◌, drop}
-use Rattle.gtp_core.specs.Lines.{words_of}
+use Rattle.gtp_core.proofs.Common.{◌≡◌, drop, words_of}
 use Rattle.gtp_core.proofs.line.skip_spaces.Given as goal
 
 abbrev pub invariant-loop-start : goal.invariant-loop-start

@@ -1,7 +1,6 @@
-use Rattle.std.proofs.Common.{rules, ◌≡◌, ◌-◌, ◌<◌, ◌∷◌, ℕ, List, length, take, drop, sym, ap, ◌∙◌}
+use Rattle.gtp_core.proofs.Common.{rules, ◌≡◌, ◌-◌, ◌<◌, ◌∷◌, ℕ, List, length, take, drop, sym, ap, ◌∙◌, words_of}
 use Rattle.std.proofs.lemmas.List.{length-drop}
 use Rattle.std.proofs.Math.Seq.{take-length}
-use Rattle.gtp_core.specs.Lines.{words_of}
 use Rattle.gtp_core.proofs.Orders.{first_taken}
 use Rattle.gtp_core.proofs.line.take_word.Goals as goal
 

@@ -1,5 +1,4 @@
-use Rattle.std.proofs.Common.{take}
-use Rattle.gtp_core.specs.Private.Pieces.{HasNone}
+use Rattle.gtp_core.proofs.Common.{take, HasNone}
 use Rattle.gtp_core.proofs.line.word_end.Given as goal
 
 abbrev pub invariant-loop-end : goal.invariant-loop-end

@@ -1,13 +1,5 @@
-use Rattle.std.proofs.Common.{rules, ◌≡◌, ◌∷◌, ◌∙◌, Some}
+use Rattle.gtp_core.proofs.Common.{rules, ◌≡◌, ◌∷◌, ◌∙◌, Some, vertex_named, words_of, place_at, subst, sym, ap, refl, with_place, with_points, All, IsOn}
 use Rattle.go_points.specs.declared.vertex.Vertex.TheVariants.{At}
-use Rattle.go_points.specs.Gtp.{vertex_named}
-use Rattle.gtp_core.specs.Lines.{words_of}
-use Rattle.gtp_core.specs.Words.{place_at}
-use Rattle.std.proofs.Common.{subst, sym, ap, refl}
-use Rattle.go_points.specs.Points.{with_place}
-use Rattle.gtp_core.specs.Commands.{with_points}
-use Rattle.std.specs.List.{All}
-use Rattle.go_points.specs.Place.{IsOn}
 use Rattle.gtp_core.proofs.Orders.{all_with, point_more}
 use Rattle.gtp_core.proofs.order.points_named.Goals as goal
 

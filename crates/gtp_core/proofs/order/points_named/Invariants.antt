@@ -1,8 +1,4 @@
-use Rattle.std.proofs.Common.{◌≡◌, [], length}
-use Rattle.std.specs.List.{All}
-use Rattle.go_points.specs.Place.{IsOn}
-use Rattle.gtp_core.specs.Lines.{words_of}
-use Rattle.gtp_core.specs.Commands.{with_points}
+use Rattle.gtp_core.proofs.Common.{◌≡◌, [], length, All, IsOn, words_of, with_points}
 use Rattle.gtp_core.proofs.order.points_named.Given as goal
 
 abbrev pub invariant-loop-word : goal.invariant-loop-word

@@ -1,6 +1,4 @@
-use Rattle.std.proofs.Common.{rules, ◌≡◌, ◌∙◌, [], ◌∷◌, Some, ap, sym}
-use Rattle.gtp_core.specs.Commands.{with_points}
-use Rattle.gtp_core.specs.Lines.{words_of}
+use Rattle.gtp_core.proofs.Common.{rules, ◌≡◌, ◌∙◌, [], ◌∷◌, Some, ap, sym, with_points, words_of}
 use Rattle.gtp_core.proofs.Orders.{whole_is, whole_region}
 use Rattle.gtp_core.proofs.Sound.{some_named}
 use Rattle.gtp_core.proofs.order.region_order.Goals as goal

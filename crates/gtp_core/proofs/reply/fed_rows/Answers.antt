@@ -1,5 +1,4 @@
-use Rattle.std.proofs.Common.{rules, ◌≡◌, ◌∷◌, ◌++◌, [], ◌*◌, ◌+◌, ◌-◌, ◌∙◌, ap, take, drop}
-use Rattle.gtp_core.specs.Serving.{fed_rows}
+use Rattle.gtp_core.proofs.Common.{rules, ◌≡◌, ◌∷◌, ◌++◌, [], ◌*◌, ◌+◌, ◌-◌, ◌∙◌, ap, take, drop, fed_rows}
 use Rattle.gtp_core.proofs.Orders.{row_more}
 use Rattle.gtp_core.proofs.reply.fed_rows.Goals as goal
 

@@ -1,5 +1,4 @@
-use Rattle.std.proofs.Common.{◌≡◌, ◌-◌, ◌*◌, ◌++◌, drop}
-use Rattle.gtp_core.specs.Serving.{fed_rows}
+use Rattle.gtp_core.proofs.Common.{◌≡◌, ◌-◌, ◌*◌, ◌++◌, drop, fed_rows}
 use Rattle.gtp_core.proofs.reply.fed_rows.Given as goal
 
 abbrev pub invariant-loop-row : goal.invariant-loop-row

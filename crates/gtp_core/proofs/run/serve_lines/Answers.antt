@@ -1,9 +1,5 @@
-use Rattle.std.proofs.Common.{rules, ◌≡◌, Bool, List, ℕ, true, false, subst, sym, ap, ◌∙◌}
+use Rattle.gtp_core.proofs.Common.{rules, ◌≡◌, Bool, List, ℕ, true, false, subst, sym, ap, ◌∙◌, prepend_known, Ending, GtpSession, IsRawLine, IsServed, IsPartServed, IsUnderWay, bounded}
 use Rattle.std.proofs.KnownBytes.{prepend_known-nil}
-use Rattle.std.specs.Io.KnownBytes.{prepend_known}
-use Rattle.gtp_core.specs.declared.input.Ending.{Ending}
-use Rattle.gtp_core.specs.Session.{GtpSession}
-use Rattle.gtp_core.specs.Private.Taking.{IsRawLine, IsServed, IsPartServed, IsUnderWay, bounded}
 use Rattle.gtp_core.proofs.Running.{begins, goes_on, asks_for_line, asks_to_stop, ends_with_input, ends_with_line, read_failed, write_failed}
 use Rattle.gtp_core.proofs.run.serve_lines.Goals as goal
 

@@ -1,9 +1,4 @@
-use Rattle.std.proofs.Common.{rules, ◌≡◌, ◌≤◌, ◌*◌, ◌∷◌, ◌∙◌, [], List, None, replicate, sym, ap, subst}
-use Rattle.go_points.specs.declared.Cell.{Cell}
-use Rattle.go_points.specs.declared.Cell.TheVariants.{Empty}
-use Rattle.go_points.specs.Grid.{side_of}
-use Rattle.go_points.specs.Liberty.{first_without_liberty}
-use Rattle.go_turns.specs.Record.{opened, Opens}
+use Rattle.gtp_core.proofs.Common.{rules, ◌≡◌, ◌≤◌, ◌*◌, ◌∷◌, ◌∙◌, [], List, None, replicate, sym, ap, subst, Cell, Empty, side_of, first_without_liberty, opened, Opens}
 use Rattle.gtp_core.proofs.Orders.{record_is, whole_is}
 use Rattle.gtp_core.proofs.Sound.{SoundOn, new_record_sound, new_session_sound, somewhere_of}
 use Rattle.gtp_core.proofs.session.with_board.Goals as goal

@@ -1,6 +1,4 @@
-use Rattle.std.proofs.Common.{rules, ◌≡◌, ◌++◌, ◌∙◌, ap, sym, codes}
-use Rattle.go_points.specs.Ply.{ply_of}
-use Rattle.gtp_core.specs.Words.{turn_text}
+use Rattle.gtp_core.proofs.Common.{rules, ◌≡◌, ◌++◌, ◌∙◌, ap, sym, codes, ply_of, turn_text}
 use Rattle.gtp_core.proofs.Orders.{turn_written}
 use Rattle.gtp_core.proofs.words.with_turn.Goals.{in-Pass+in_ok-extend_from_slice-in-Pass, in-At+in_ok-extend_from_slice-in-At}
 use Rattle.gtp_core.proofs.words.with_turn.Goals as goal

@@ -1,7 +1,4 @@
-use Rattle.std.proofs.Common.{◌≡◌, ℕ, Some, subst}
-use Rattle.go_points.specs.Grid.{side_of}
-use Rattle.go_points.specs.Liberty.{first_without_liberty}
-use Rattle.go_points.specs.Place.{number_of}
+use Rattle.pass_alive.proofs.Common.{◌≡◌, ℕ, Some, subst, side_of, first_without_liberty, number_of}
 use Rattle.pass_alive.proofs.Connected.{no_stone}
 use Rattle.pass_alive.proofs.areas.areas_of.Goals as goal
 

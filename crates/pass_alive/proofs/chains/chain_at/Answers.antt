@@ -1,8 +1,4 @@
-use Rattle.std.proofs.Common.{◌∙◌, List, sym, ap, subst}
-use Rattle.go_points.specs.Grid.{side_of}
-use Rattle.go_points.specs.Place.{Place, number_of}
-use Rattle.go_points.specs.Points.{with_place}
-use Rattle.go_chains.specs.Joined.{IsChainOf}
+use Rattle.pass_alive.proofs.Common.{◌∙◌, List, sym, ap, subst, side_of, Place, number_of, with_place, IsChainOf}
 use Rattle.pass_alive.proofs.Gathered.{chain_alone}
 use Rattle.pass_alive.proofs.chains.chain_at.Goals as goal
 

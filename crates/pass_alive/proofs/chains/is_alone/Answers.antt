@@ -1,7 +1,4 @@
-use Rattle.std.proofs.Common.{rules, ◌≡◌, ◌≢◌, ℕ, false}
-use Rattle.go_points.specs.Grid.{same_cell, cell_at, side_of}
-use Rattle.go_points.specs.Place.{number_of}
-use Rattle.go_points.proofs.Cells.{eq_same_cell}
+use Rattle.pass_alive.proofs.Common.{rules, ◌≡◌, ◌≢◌, ℕ, false, same_cell, cell_at, side_of, number_of, eq_same_cell}
 use Rattle.pass_alive.proofs.Members.{beside_more, beside_all, beside_those}
 use Rattle.pass_alive.proofs.chains.is_alone.Goals as goal
 

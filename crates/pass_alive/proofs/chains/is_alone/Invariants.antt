@@ -1,6 +1,4 @@
-use Rattle.std.proofs.Common.{◌≢◌, ℕ}
-use Rattle.go_points.specs.Grid.{cell_at, side_of}
-use Rattle.go_points.specs.Place.{number_of}
+use Rattle.pass_alive.proofs.Common.{◌≢◌, ℕ, cell_at, side_of, number_of}
 use Rattle.pass_alive.proofs.Members.{AllBeside}
 use Rattle.pass_alive.proofs.chains.is_alone.Given as goal
 

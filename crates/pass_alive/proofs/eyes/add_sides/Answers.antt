@@ -1,8 +1,4 @@
-use Rattle.std.proofs.Common.{◌+◌, List, sym, ◌∙◌, subst}
-use Rattle.go_points.specs.declared.Cell.TheVariants.{Empty}
-use Rattle.go_points.specs.Grid.{cell_at, side_of}
-use Rattle.go_points.specs.Place.{Place, IsOn, number_of}
-use Rattle.go_points.proofs.Cells.{same_cell_eq, eq_same_cell}
+use Rattle.pass_alive.proofs.Common.{◌+◌, List, sym, ◌∙◌, subst, Empty, cell_at, side_of, Place, IsOn, number_of, same_cell_eq, eq_same_cell}
 use Rattle.pass_alive.proofs.Members.{beside_those, beside_item}
 use Rattle.pass_alive.proofs.Gathered.{SidesSoFar, sides_kept, sides_more, sides_all}
 use Rattle.pass_alive.proofs.Tests.{empty_as}

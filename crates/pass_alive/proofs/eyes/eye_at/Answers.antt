@@ -1,9 +1,4 @@
-use Rattle.std.proofs.Common.{◌≤◌, ℕ, sym, ◌∙◌, ap, subst}
-use Rattle.go_points.specs.declared.TheConstants.{MAX_POINTS}
-use Rattle.go_points.specs.Grid.{side_of}
-use Rattle.go_points.specs.Points.{with_place}
-use Rattle.pass_alive.specs.Sets.{these}
-use Rattle.pass_alive.specs.Private.Areas.{areas_in}
+use Rattle.pass_alive.proofs.Common.{◌≤◌, ℕ, sym, ◌∙◌, ap, subst, MAX_POINTS, side_of, with_place, these, areas_in}
 use Rattle.pass_alive.proofs.Spreading.{in_areas, first_held, first_none, left_on, left_inside, spread_first, spread_more, spread_fails, more_fail, spread_less, spread_all}
 use Rattle.pass_alive.proofs.eyes.eye_at.Goals as goal
 

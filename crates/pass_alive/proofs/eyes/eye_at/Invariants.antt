@@ -1,9 +1,4 @@
-use Rattle.std.proofs.Common.{◌+◌, ◌-◌, ◌*◌, length}
-use Rattle.go_points.specs.declared.TheConstants.{MAX_POINTS}
-use Rattle.go_points.specs.Grid.{side_of}
-use Rattle.go_points.specs.Place.{number_of}
-use Rattle.pass_alive.specs.Sets.{these}
-use Rattle.pass_alive.specs.Private.Areas.{areas_in, AreNoEyes}
+use Rattle.pass_alive.proofs.Common.{◌+◌, ◌-◌, ◌*◌, length, MAX_POINTS, side_of, number_of, these, areas_in, AreNoEyes}
 use Rattle.pass_alive.proofs.Spreading.{Spreading}
 use Rattle.pass_alive.proofs.eyes.eye_at.Given as goal
 

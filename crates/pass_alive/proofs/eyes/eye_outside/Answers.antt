@@ -1,8 +1,4 @@
-use Rattle.std.proofs.Common.{rules, sym, ◌∙◌, ap}
-use Rattle.go_points.specs.Grid.{side_of}
-use Rattle.go_points.specs.Points.{holds_place}
-use Rattle.pass_alive.specs.Sets.{these}
-use Rattle.pass_alive.specs.Private.Areas.{areas_in, IsFreePlace, IsNoEyePlace}
+use Rattle.pass_alive.proofs.Common.{rules, sym, ◌∙◌, ap, side_of, holds_place, these, areas_in, IsFreePlace, IsNoEyePlace}
 use Rattle.pass_alive.proofs.Regions.{place_back}
 use Rattle.pass_alive.proofs.Members.{but_fact, but_more}
 use Rattle.pass_alive.proofs.Spreading.{no_eyes_first}

@@ -1,6 +1,4 @@
-use Rattle.go_points.specs.Grid.{side_of}
-use Rattle.pass_alive.specs.Sets.{these}
-use Rattle.pass_alive.specs.Private.Areas.{areas_in, AreNoEyes, IsNoEyePlace}
+use Rattle.pass_alive.proofs.Common.{side_of, these, areas_in, AreNoEyes, IsNoEyePlace}
 use Rattle.pass_alive.proofs.Members.{AllBut}
 use Rattle.pass_alive.proofs.eyes.eye_outside.Given as goal
 

@@ -1,9 +1,4 @@
-use Rattle.std.proofs.Common.{IsTrue, List, [], sym, ◌∙◌, subst}
-use Rattle.go_points.specs.Place.{Place, number_of}
-use Rattle.go_points.specs.Points.{holds_place}
-use Rattle.go_points.specs.Grid.{side_of}
-use Rattle.pass_alive.specs.Sets.{these}
-use Rattle.pass_alive.specs.Private.Areas.{areas_in, IsEyeOutside, IsNoEye}
+use Rattle.pass_alive.proofs.Common.{IsTrue, List, [], sym, ◌∙◌, subst, Place, number_of, holds_place, side_of, these, areas_in, IsEyeOutside, IsNoEye}
 use Rattle.pass_alive.proofs.Tests.{two_found, none_found, one_found, no_eye_outside, if_some, or_none}
 use Rattle.pass_alive.proofs.eyes.has_two_eyes.Goals as goal
 

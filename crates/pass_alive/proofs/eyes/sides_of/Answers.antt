@@ -1,5 +1,4 @@
-use Rattle.std.proofs.Common.{rules}
-use Rattle.go_points.specs.Grid.{side_of}
+use Rattle.pass_alive.proofs.Common.{rules, side_of}
 use Rattle.pass_alive.proofs.Gathered.{gathering_item, gathering_more}
 use Rattle.pass_alive.proofs.eyes.sides_of.Goals as goal
 

@@ -1,6 +1,4 @@
-use Rattle.std.proofs.Common.{rules, List, sym, subst}
-use Rattle.go_points.specs.Grid.{side_of}
-use Rattle.go_points.specs.Place.{Place}
+use Rattle.pass_alive.proofs.Common.{rules, List, sym, subst, side_of, Place}
 use Rattle.pass_alive.proofs.Members.{but_item}
 use Rattle.pass_alive.proofs.Doubts.{IsTold, DoubtsSoFar, doubts_kept, doubts_more}
 use Rattle.pass_alive.proofs.lasting.doubtful_stones.Goals as goal

@@ -1,9 +1,4 @@
-use Rattle.std.proofs.Common.{◌≡◌, IsTrue, map, sym, ◌∙◌, ap}
-use Rattle.go_points.specs.Grid.{side_of}
-use Rattle.go_points.specs.Place.{number_of, place_of}
-use Rattle.go_points.specs.Points.{holds_place}
-use Rattle.pass_alive.specs.Sets.{these, number_on}
-use Rattle.pass_alive.specs.Private.Areas.{areas_in}
+use Rattle.pass_alive.proofs.Common.{◌≡◌, IsTrue, map, sym, ◌∙◌, ap, side_of, number_of, place_of, holds_place, these, number_on, areas_in}
 use Rattle.pass_alive.proofs.Regions.{place_back, number_low}
 use Rattle.pass_alive.proofs.Sweeps.{judged_before, judged_safe, judged_unsafe}
 use Rattle.pass_alive.proofs.living.drop_chain.Goals as goal

@@ -1,8 +1,4 @@
-use Rattle.std.proofs.Common.{rules, Bool, map, subst}
-use Rattle.go_points.specs.Grid.{side_of}
-use Rattle.go_points.specs.Place.{number_of}
-use Rattle.pass_alive.specs.Sets.{number_on}
-use Rattle.pass_alive.specs.Private.Areas.{areas_in, IsJudged}
+use Rattle.pass_alive.proofs.Common.{rules, Bool, map, subst, side_of, number_of, number_on, areas_in, IsJudged}
 use Rattle.pass_alive.proofs.Members.{but_item}
 use Rattle.pass_alive.proofs.Sweeps.{SafeIfSame, swept_taken, swept_kept}
 use Rattle.pass_alive.proofs.living.drop_unsafe.Goals as goal

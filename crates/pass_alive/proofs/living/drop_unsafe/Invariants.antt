@@ -1,7 +1,4 @@
-use Rattle.std.proofs.Common.{map}
-use Rattle.go_points.specs.Grid.{side_of}
-use Rattle.pass_alive.specs.Sets.{number_on}
-use Rattle.pass_alive.specs.Private.Areas.{areas_in}
+use Rattle.pass_alive.proofs.Common.{map, side_of, number_on, areas_in}
 use Rattle.pass_alive.proofs.Sweeps.{SweptSoFar}
 use Rattle.pass_alive.proofs.living.drop_unsafe.Given as goal
 

@@ -1,8 +1,4 @@
-use Rattle.std.proofs.Common.{inl, inr}
-use Rattle.go_points.specs.Grid.{side_of}
-use Rattle.go_points.specs.Place.{number_of}
-use Rattle.pass_alive.specs.Sets.{these}
-use Rattle.pass_alive.specs.Private.Areas.{areas_in}
+use Rattle.pass_alive.proofs.Common.{inl, inr, side_of, number_of, these, areas_in}
 use Rattle.pass_alive.proofs.Spaces.{near_beside, beside_near, safe_by_sets, areas_by_chain}
 use Rattle.pass_alive.proofs.living.is_safe.Goals as goal
 

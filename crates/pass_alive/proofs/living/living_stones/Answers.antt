@@ -1,7 +1,4 @@
-use Rattle.std.proofs.Common.{Bool, map, subst}
-use Rattle.go_points.specs.Grid.{side_of}
-use Rattle.pass_alive.specs.Sets.{number_on}
-use Rattle.pass_alive.specs.Private.Areas.{areas_in, IsDropped}
+use Rattle.pass_alive.proofs.Common.{Bool, map, subst, side_of, number_on, areas_in, IsDropped}
 use Rattle.pass_alive.proofs.Spreading.{in_areas}
 use Rattle.pass_alive.proofs.Sweeps.{living_first, living_more, living_all, lasts_outside}
 use Rattle.pass_alive.proofs.living.living_stones.Goals as goal

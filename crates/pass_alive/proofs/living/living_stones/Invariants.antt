@@ -1,5 +1,4 @@
-use Rattle.std.proofs.Common.{length}
-use Rattle.go_points.specs.Grid.{side_of}
+use Rattle.pass_alive.proofs.Common.{length, side_of}
 use Rattle.pass_alive.proofs.Sweeps.{LivingSoFar}
 use Rattle.pass_alive.proofs.living.living_stones.Given as goal
 

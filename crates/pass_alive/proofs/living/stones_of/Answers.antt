@@ -1,10 +1,5 @@
-use Rattle.std.proofs.Common.{◌≡◌, ◌+◌, ℕ, Bool, List, sym, ◌∙◌, ap, subst}
-use Rattle.go_points.specs.declared.Cell.{Cell}
-use Rattle.go_points.specs.declared.Cell.TheVariants.{Stone}
-use Rattle.go_points.specs.Grid.{same_cell, cell_at, side_of}
-use Rattle.go_points.specs.Place.{Place, IsOn, number_of, place_of}
-use Rattle.go_points.specs.Points.{with_place}
-use Rattle.go_chains.proofs.Gathering.{HeldSoFar, held_yes, held_no}
+use Rattle.pass_alive.proofs.Common.{◌≡◌, ◌+◌, ℕ, Bool, List, sym, ◌∙◌, ap, subst, Cell, Stone, same_cell, cell_at, side_of, Place, IsOn, number_of, place_of, with_place, HeldSoFar}
+use Rattle.go_chains.proofs.Gathering.{held_yes, held_no}
 use Rattle.pass_alive.proofs.living.stones_of.Goals as goal
 use Rattle.pass_alive.proofs.living.stones_of.Goals.{then-is_stone_of, else-is_stone_of}
 

@@ -1,6 +1,4 @@
-use Rattle.go_points.specs.declared.Cell.TheVariants.{Stone}
-use Rattle.go_points.specs.Grid.{same_cell, cell_at, side_of}
-use Rattle.go_chains.proofs.Gathering.{HeldSoFar}
+use Rattle.pass_alive.proofs.Common.{Stone, same_cell, cell_at, side_of, HeldSoFar}
 use Rattle.pass_alive.proofs.living.stones_of.Given as goal
 
 abbrev pub invariant-loop-number : goal.invariant-loop-number

@@ -1,8 +1,4 @@
-use Rattle.std.proofs.Common.{rules, ◌≡◌, ◌↔◌, IsTrue, List, subst}
-use Rattle.go_points.specs.declared.Cell.{Cell}
-use Rattle.go_points.specs.Grid.{side_of}
-use Rattle.pass_alive.specs.Life.{PassAlive}
-use Rattle.pass_alive.specs.Sets.{game_of}
+use Rattle.pass_alive.proofs.Common.{rules, ◌≡◌, ◌↔◌, IsTrue, List, subst, Cell, side_of, PassAlive, game_of}
 use Rattle.pass_alive.proofs.Shapes.{found_alive}
 use Rattle.pass_alive.proofs.problems.lives_at.Goals as goal
 

@@ -1,6 +1,4 @@
-use Rattle.std.proofs.Common.{◌≡◌}
-use Rattle.std.specs.List.{list_all}
-use Rattle.go_points.specs.Points.{holds_place}
+use Rattle.pass_alive.proofs.Common.{◌≡◌, list_all, holds_place}
 use Rattle.pass_alive.proofs.sets.are_members.Given as goal
 
 abbrev pub invariant-loop-point : goal.invariant-loop-point

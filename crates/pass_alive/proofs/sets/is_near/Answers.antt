@@ -1,11 +1,4 @@
-use Rattle.std.proofs.Common.{◌≡◌, true, false, List, map, take, refl, sym, ◌∙◌, ap, subst}
-use Rattle.std.specs.List.{All, list_any}
-use Rattle.std.proofs.lemmas.List.{take_all}
-use Rattle.go_points.specs.Grid.{adjacent, neighbours}
-use Rattle.go_points.specs.Place.{Place, IsOn, number_of}
-use Rattle.go_points.specs.Points.{holds_place}
-use Rattle.go_chains.proofs.Beside.{item_beside}
-use Rattle.pass_alive.specs.Sets.{these}
+use Rattle.pass_alive.proofs.Common.{◌≡◌, true, false, List, map, take, refl, sym, ◌∙◌, ap, subst, All, list_any, take_all, adjacent, neighbours, Place, IsOn, number_of, holds_place, item_beside, these}
 use Rattle.pass_alive.proofs.Regions.{place_back}
 use Rattle.pass_alive.proofs.Tests.{near_yes, near_no}
 use Rattle.pass_alive.proofs.sets.is_near.Goals as goal

@@ -1,6 +1,4 @@
-use Rattle.std.proofs.Common.{◌≡◌, false, take}
-use Rattle.std.specs.List.{list_any}
-use Rattle.go_points.specs.Points.{holds_place}
+use Rattle.pass_alive.proofs.Common.{◌≡◌, false, take, list_any, holds_place}
 use Rattle.pass_alive.proofs.sets.is_near.Given as goal
 
 -- none so far is in the set

@@ -1,5 +1,4 @@
-use Rattle.std.proofs.Common.{rules, List, sym, subst}
-use Rattle.go_points.specs.Place.{Place}
+use Rattle.pass_alive.proofs.Common.{rules, List, sym, subst, Place}
 use Rattle.pass_alive.proofs.Sweeps.{PutSoFar, put_more}
 use Rattle.pass_alive.proofs.sets.put_in.Goals as goal
 

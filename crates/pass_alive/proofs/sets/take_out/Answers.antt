@@ -1,5 +1,4 @@
-use Rattle.std.proofs.Common.{rules, List, sym, subst}
-use Rattle.go_points.specs.Place.{Place}
+use Rattle.pass_alive.proofs.Common.{rules, List, sym, subst, Place}
 use Rattle.pass_alive.proofs.Sweeps.{TakenSoFar, taken_more}
 use Rattle.pass_alive.proofs.sets.take_out.Goals as goal
 

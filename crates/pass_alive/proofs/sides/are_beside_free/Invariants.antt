@@ -1,7 +1,4 @@
-use Rattle.go_points.specs.Grid.{side_of}
-use Rattle.go_points.specs.Place.{Place, number_of}
-use Rattle.pass_alive.specs.Sets.{these}
-use Rattle.pass_alive.specs.Private.Areas.{IsBesideFree}
+use Rattle.pass_alive.proofs.Common.{side_of, Place, number_of, these, IsBesideFree}
 use Rattle.pass_alive.proofs.Members.{AllBut}
 use Rattle.pass_alive.proofs.sides.are_beside_free.Given as goal
 

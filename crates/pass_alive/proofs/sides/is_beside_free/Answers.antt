@@ -1,10 +1,4 @@
-use Rattle.std.proofs.Common.{◌≡◌, ℕ, IsTrue, refl, sym, ◌∙◌, ap}
-use Rattle.go_points.specs.declared.Cell.TheVariants.{Empty}
-use Rattle.go_points.specs.Grid.{cell_at, side_of}
-use Rattle.go_points.specs.Place.{number_of}
-use Rattle.go_points.specs.Points.{holds_place}
-use Rattle.go_points.proofs.Cells.{same_cell_eq, eq_same_cell}
-use Rattle.pass_alive.specs.Sets.{these}
+use Rattle.pass_alive.proofs.Common.{◌≡◌, ℕ, IsTrue, refl, sym, ◌∙◌, ap, Empty, cell_at, side_of, number_of, holds_place, same_cell_eq, eq_same_cell, these}
 use Rattle.pass_alive.proofs.Regions.{place_back}
 use Rattle.pass_alive.proofs.Members.{beside_more, beside_all, beside_those, beside_item}
 use Rattle.pass_alive.proofs.Tests.{empty_as}

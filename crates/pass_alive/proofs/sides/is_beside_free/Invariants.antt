@@ -1,7 +1,4 @@
-use Rattle.std.proofs.Common.{◌≡◌, ℕ, IsTrue}
-use Rattle.go_points.specs.declared.Cell.TheVariants.{Empty}
-use Rattle.go_points.specs.Grid.{cell_at, side_of}
-use Rattle.pass_alive.specs.Sets.{these}
+use Rattle.pass_alive.proofs.Common.{◌≡◌, ℕ, IsTrue, Empty, cell_at, side_of, these}
 use Rattle.pass_alive.proofs.Members.{AllBeside}
 use Rattle.pass_alive.proofs.sides.is_beside_free.Given as goal
 

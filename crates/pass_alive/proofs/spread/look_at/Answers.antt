@@ -1,8 +1,4 @@
-use Rattle.std.proofs.Common.{ℕ, sym, ◌∙◌, subst}
-use Rattle.go_points.specs.Grid.{side_of}
-use Rattle.go_points.specs.Place.{number_of}
-use Rattle.pass_alive.specs.Sets.{these, IsNear}
-use Rattle.pass_alive.specs.Private.Areas.{areas_in}
+use Rattle.pass_alive.proofs.Common.{ℕ, sym, ◌∙◌, subst, side_of, number_of, these, IsNear, areas_in}
 use Rattle.pass_alive.proofs.Spreading.{in_areas, gap_fails}
 use Rattle.pass_alive.proofs.Regions.{number_low}
 use Rattle.pass_alive.proofs.Tests.{eye_here}

@@ -1,11 +1,5 @@
-use Rattle.std.proofs.Common.{inl, inr, ◌≡◌, ◌≢◌, refl, sym, ◌∙◌, ap, subst₂}
-use Rattle.go_points.specs.declared.Cell.{Cell}
-use Rattle.go_points.specs.declared.Cell.TheVariants.{Stone}
-use Rattle.go_points.specs.Grid.{same_cell, cell_at, side_of}
-use Rattle.go_points.specs.Place.{number_of}
-use Rattle.go_points.specs.Points.{holds_place}
-use Rattle.go_points.proofs.Cells.{same_cell_eq, eq_same_cell}
-use Rattle.pass_alive.specs.Private.Areas.{IsPoint, HasMet}
+use Rattle.pass_alive.proofs.Common.{inl, inr, ◌≡◌, ◌≢◌, refl, sym, ◌∙◌, ap, Cell, Stone, same_cell, cell_at, side_of, number_of, holds_place, same_cell_eq, eq_same_cell, IsPoint, HasMet}
+use Rattle.std.proofs.Common.{subst₂}
 use Rattle.pass_alive.proofs.Regions.{place_back}
 use Rattle.pass_alive.proofs.Spreading.{met_one, with_held}
 use Rattle.pass_alive.proofs.spread.meet.Goals as goal

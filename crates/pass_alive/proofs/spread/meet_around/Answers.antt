@@ -1,7 +1,4 @@
-use Rattle.go_points.specs.Grid.{side_of}
-use Rattle.go_points.specs.Place.{number_of}
-use Rattle.pass_alive.specs.Sets.{these}
-use Rattle.pass_alive.specs.Private.Areas.{IsPoint, IsBesidePoint, IsMetOrWall}
+use Rattle.pass_alive.proofs.Common.{side_of, number_of, these, IsPoint, IsBesidePoint, IsMetOrWall}
 use Rattle.pass_alive.proofs.Members.{beside_first, beside_more, beside_all, beside_those, beside_item}
 use Rattle.pass_alive.proofs.Spreading.{met_none, met_then, met_more, beside_point}
 use Rattle.pass_alive.proofs.spread.meet_around.Goals as goal

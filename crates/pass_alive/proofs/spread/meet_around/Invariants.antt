@@ -1,7 +1,4 @@
-use Rattle.go_points.specs.Grid.{side_of}
-use Rattle.go_points.specs.Place.{number_of}
-use Rattle.pass_alive.specs.Sets.{these}
-use Rattle.pass_alive.specs.Private.Areas.{HasMet, IsBesidePoint, IsMetOrWall}
+use Rattle.pass_alive.proofs.Common.{side_of, number_of, these, HasMet, IsBesidePoint, IsMetOrWall}
 use Rattle.pass_alive.proofs.Members.{AllBeside}
 use Rattle.pass_alive.proofs.spread.meet_around.Given as goal
 

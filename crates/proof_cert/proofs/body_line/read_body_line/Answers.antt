@@ -1,6 +1,4 @@
-use Rattle.std.proofs.Common.{sym, ◌∙◌, codes}
-use Rattle.proof_cert.specs.Lines.{won_line, end_line}
-use Rattle.proof_cert.specs.Text.{after_word}
+use Rattle.proof_cert.proofs.Common.{sym, ◌∙◌, codes, won_line, end_line, after_word}
 use Rattle.proof_cert.proofs.Chains.{body_none, not_whole}
 use Rattle.proof_cert.proofs.Reading.{none_there}
 use Rattle.proof_cert.proofs.body_line.read_body_line.Goals as goal

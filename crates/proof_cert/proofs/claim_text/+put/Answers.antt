@@ -1,9 +1,4 @@
-use Rattle.std.proofs.Common.{◌≡◌, ◌+◌, ◌++◌, Some, true, ap, ◌∙◌, rules, arith, drop, append-nil, length, refl}
-use Rattle.go_points.specs.Ply.{ply_of}
-use Rattle.byte_writer.proofs.TakenLemmas.{put_as, then_put, part_put}
-use Rattle.proof_cert.specs.Lines.{turn_fits, use_line, play_line, all_line, reply_line, node_lines, branch_lines}
-use Rattle.proof_cert.specs.Certificate.{node_of, replies_of}
-use Rattle.proof_cert.specs.Private.Taken.{line_text, lines_text}
+use Rattle.proof_cert.proofs.Common.{◌≡◌, ◌+◌, ◌++◌, Some, true, ap, ◌∙◌, rules, arith, drop, append-nil, length, refl, ply_of, put_as, then_put, part_put, turn_fits, use_line, play_line, all_line, reply_line, node_lines, branch_lines, node_of, replies_of, line_text, lines_text}
 use Rattle.proof_cert.proofs.Spellings.{AreSpelled, won_lines, use_lines, play_lines, all_lines, first_is_spelled, rest_is_spelled, reply_text, reply_is_spelled, below_is_spelled, others_are_spelled}
 use Rattle.proof_cert.proofs.Words.{and_first}
 use Rattle.proof_cert.proofs.claim_text.+put.Goals as goal

@@ -1,8 +1,4 @@
-use Rattle.std.proofs.Common.{drop}
-use Rattle.proof_cert.specs.Lines.{branch_lines}
-use Rattle.proof_cert.specs.Certificate.{replies_of}
-use Rattle.proof_cert.specs.Private.Taken.{lines_text}
-use Rattle.byte_writer.proofs.TakenLemmas.{SoFar}
+use Rattle.proof_cert.proofs.Common.{drop, branch_lines, replies_of, lines_text, SoFar}
 use Rattle.proof_cert.proofs.Spellings.{AreSpelled}
 use Rattle.proof_cert.proofs.claim_text.+put.Given as goal
 

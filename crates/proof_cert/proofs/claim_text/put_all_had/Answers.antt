@@ -1,8 +1,4 @@
-use Rattle.std.proofs.Common.{◌+◌, map, drop, arith}
-use Rattle.proof_cert.specs.Lines.{had_spelled}
-use Rattle.proof_cert.specs.Stage.{version_number}
-use Rattle.proof_cert.specs.Private.Taken.{line_text, lines_text}
-use Rattle.byte_writer.proofs.TakenLemmas.{part_put}
+use Rattle.proof_cert.proofs.Common.{◌+◌, map, drop, arith, had_spelled, version_number, line_text, lines_text, part_put}
 use Rattle.proof_cert.proofs.Spellings.{had_text}
 use Rattle.proof_cert.proofs.claim_text.put_all_had.Goals as goal
 

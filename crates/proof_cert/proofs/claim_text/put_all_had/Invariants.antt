@@ -1,8 +1,4 @@
-use Rattle.std.proofs.Common.{drop, map}
-use Rattle.proof_cert.specs.Lines.{had_spelled}
-use Rattle.proof_cert.specs.Stage.{version_number}
-use Rattle.proof_cert.specs.Private.Taken.{lines_text}
-use Rattle.byte_writer.proofs.TakenLemmas.{SoFar}
+use Rattle.proof_cert.proofs.Common.{drop, map, had_spelled, version_number, lines_text, SoFar}
 use Rattle.proof_cert.proofs.claim_text.put_all_had.Given as goal
 
 abbrev pub invariant-loop-colouring : goal.invariant-loop-colouring

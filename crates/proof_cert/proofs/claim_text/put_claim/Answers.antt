@@ -1,7 +1,4 @@
-use Rattle.byte_writer.proofs.TakenLemmas.{put_as, then_put}
-use Rattle.proof_cert.specs.Lines.{lines_of}
-use Rattle.proof_cert.specs.Certificate.{claim_of}
-use Rattle.proof_cert.specs.Private.Taken.{lines_text}
+use Rattle.proof_cert.proofs.Common.{put_as, then_put, lines_of, claim_of, lines_text}
 use Rattle.proof_cert.proofs.Spellings.{claim_text, main_is_spelled}
 use Rattle.proof_cert.proofs.claim_text.put_claim.Goals as goal
 

@@ -1,8 +1,4 @@
-use Rattle.byte_writer.proofs.TakenLemmas.{put_as, then_put}
-use Rattle.proof_cert.specs.Lines.{lemma_lines}
-use Rattle.proof_cert.specs.Stage.{version_number}
-use Rattle.proof_cert.specs.Certificate.{lemma_of}
-use Rattle.proof_cert.specs.Private.Taken.{lines_text}
+use Rattle.proof_cert.proofs.Common.{put_as, then_put, lemma_lines, version_number, lemma_of, lines_text}
 use Rattle.proof_cert.proofs.Spellings.{lemma_text, body_is_spelled}
 use Rattle.proof_cert.proofs.claim_text.put_lemma.Goals as goal
 

@@ -1,9 +1,4 @@
-use Rattle.std.proofs.Common.{◌+◌, map, drop, arith}
-use Rattle.proof_cert.specs.Lines.{lemma_lines, lemmas_lines}
-use Rattle.proof_cert.specs.Stage.{version_number}
-use Rattle.proof_cert.specs.Certificate.{lemma_of}
-use Rattle.proof_cert.specs.Private.Taken.{lines_text}
-use Rattle.byte_writer.proofs.TakenLemmas.{part_put}
+use Rattle.proof_cert.proofs.Common.{◌+◌, map, drop, arith, lemma_lines, lemmas_lines, version_number, lemma_of, lines_text, part_put}
 use Rattle.proof_cert.proofs.Spellings.{lemmas_text, lemmas_spelled, spelled_rest}
 use Rattle.proof_cert.proofs.claim_text.put_lemmas.Goals as goal
 

@@ -1,11 +1,4 @@
-use Rattle.std.proofs.Common.{drop, map, IsTrue}
-use Rattle.std.specs.List.{list_all}
-use Rattle.proof_cert.specs.Lines.{lemmas_lines}
-use Rattle.proof_cert.specs.Text.{is_spelled}
-use Rattle.proof_cert.specs.Stage.{version_number}
-use Rattle.proof_cert.specs.Certificate.{lemma_of}
-use Rattle.proof_cert.specs.Private.Taken.{lines_text}
-use Rattle.byte_writer.proofs.TakenLemmas.{SoFar}
+use Rattle.proof_cert.proofs.Common.{drop, map, IsTrue, list_all, lemmas_lines, is_spelled, version_number, lemma_of, lines_text, SoFar}
 use Rattle.proof_cert.proofs.claim_text.put_lemmas.Given as goal
 
 abbrev pub invariant-loop-lemma : goal.invariant-loop-lemma

@@ -1,7 +1,4 @@
-use Rattle.std.proofs.Common.{◌+◌, map, drop, arith, Some}
-use Rattle.proof_cert.specs.Lines.{not_line}
-use Rattle.proof_cert.specs.Private.Taken.{line_text, lines_text}
-use Rattle.byte_writer.proofs.TakenLemmas.{part_put}
+use Rattle.proof_cert.proofs.Common.{◌+◌, map, drop, arith, Some, not_line, line_text, lines_text, part_put}
 use Rattle.proof_cert.proofs.Spellings.{not_text}
 use Rattle.proof_cert.proofs.claim_text.put_listed.Goals as goal
 

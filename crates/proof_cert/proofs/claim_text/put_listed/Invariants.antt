@@ -1,7 +1,4 @@
-use Rattle.std.proofs.Common.{drop, map, Some}
-use Rattle.proof_cert.specs.Lines.{not_line}
-use Rattle.proof_cert.specs.Private.Taken.{lines_text}
-use Rattle.byte_writer.proofs.TakenLemmas.{SoFar}
+use Rattle.proof_cert.proofs.Common.{drop, map, Some, not_line, lines_text, SoFar}
 use Rattle.proof_cert.proofs.claim_text.put_listed.Given as goal
 
 abbrev pub invariant-loop-colouring : goal.invariant-loop-colouring

@@ -1,12 +1,7 @@
-use Rattle.std.proofs.Common.{◌≡◌, false, Option, Some, List, ℕ, refl, sym, subst, rules}
+use Rattle.proof_cert.proofs.Common.{◌≡◌, false, Option, Some, List, ℕ, refl, sym, subst, rules, list_all, lines_of, is_spelled, text, claim_of, lines_text}
 use Rattle.std.specs.Prelude.{IsSomeAnd}
-use Rattle.std.specs.List.{list_all}
 use Rattle.std.specs.Io.KnownBytes.{Appends}
-use Rattle.proof_cert.specs.Lines.{lines_of}
-use Rattle.proof_cert.specs.Text.{is_spelled, text}
-use Rattle.proof_cert.specs.Certificate.{claim_of}
 use Rattle.byte_writer.specs.Taken.{TakesPart}
-use Rattle.proof_cert.specs.Private.Taken.{lines_text}
 use Rattle.proof_cert.proofs.Spellings.{AreSpelled, text_is, no_text}
 use Rattle.proof_cert.proofs.claim_text.write_cert.Goals as goal
 

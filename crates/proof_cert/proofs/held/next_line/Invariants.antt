@@ -1,5 +1,4 @@
-use Rattle.std.proofs.Common.{◌≡◌, length}
-use Rattle.proof_cert.specs.Held.{lines_left}
+use Rattle.proof_cert.proofs.Common.{◌≡◌, length, lines_left}
 use Rattle.proof_cert.proofs.held.next_line.Given as goal
 
 abbrev pub invariant-loop-task : goal.invariant-loop-task

@@ -1,6 +1,4 @@
-use Rattle.std.proofs.Common.{sym, ap, ◌∙◌, Some, take, drop, length, ◌-◌, ◌+◌, option_map, Bor, List, ℕ, ◌≡◌}
-use Rattle.std.proofs.lemmas.List.{length-drop}
-use Rattle.std.proofs.Math.Seq.{take-length}
+use Rattle.proof_cert.proofs.Common.{sym, ap, ◌∙◌, Some, take, drop, length, ◌-◌, ◌+◌, option_map, Bor, List, ℕ, ◌≡◌, length-drop, take-length}
 use Rattle.proof_cert.proofs.Reading.{space_found, space_missing}
 use Rattle.proof_cert.proofs.line.parts_at_space.Goals as goal
 

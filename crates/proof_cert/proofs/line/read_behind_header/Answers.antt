@@ -1,7 +1,4 @@
-use Rattle.std.proofs.Common.{sym, ap, ◌∙◌, Option, option_map}
-use Rattle.proof_cert.specs.Lines.{Line}
-use Rattle.proof_cert.specs.Stage.{line_value}
-use Rattle.proof_cert.specs.Text.{line_of, no_header, or_else}
+use Rattle.proof_cert.proofs.Common.{sym, ap, ◌∙◌, Option, option_map, Line, line_value, line_of, no_header, or_else}
 use Rattle.proof_cert.proofs.line.read_behind_header.Goals as goal
 
 pub returns-in-None : goal.returns-in-None

@@ -1,7 +1,4 @@
-use Rattle.std.proofs.Common.{rules, ap, ◌∙◌, ◌≡◌, ◌-◌, List, ℕ, refl, take, drop, length}
-use Rattle.std.proofs.lemmas.List.{length-drop}
-use Rattle.std.proofs.Math.Seq.{take-length}
-use Rattle.proof_cert.specs.Text.{header_rest}
+use Rattle.proof_cert.proofs.Common.{rules, ap, ◌∙◌, ◌≡◌, ◌-◌, List, ℕ, refl, take, drop, length, length-drop, take-length, header_rest}
 use Rattle.proof_cert.proofs.Reading.{header_by}
 use Rattle.proof_cert.proofs.line.read_header.Goals as goal
 

@@ -1,6 +1,4 @@
-use Rattle.std.proofs.Common.{sym, ap, ◌∙◌, option_map, Bor, List, ℕ, codes}
-use Rattle.proof_cert.specs.Lines.{main_line}
-use Rattle.proof_cert.specs.Text.{after_word}
+use Rattle.proof_cert.proofs.Common.{sym, ap, ◌∙◌, option_map, Bor, List, ℕ, codes, main_line, after_word}
 use Rattle.proof_cert.proofs.Chains.{line_tsucert, not_whole, other_none}
 use Rattle.proof_cert.proofs.Reading.{none_there}
 use Rattle.proof_cert.proofs.line.read_other_line.Goals as goal

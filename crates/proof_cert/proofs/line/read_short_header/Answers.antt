@@ -1,6 +1,4 @@
-use Rattle.std.proofs.Common.{sym, ap, ◌∙◌, option_map, Bor, List, ℕ}
-use Rattle.std.specs.Prelude.{option_and_then}
-use Rattle.proof_cert.specs.Text.{header_rest}
+use Rattle.proof_cert.proofs.Common.{sym, ap, ◌∙◌, option_map, Bor, List, ℕ, option_and_then, header_rest}
 use Rattle.proof_cert.proofs.line.read_short_header.Goals as goal
 
 pub returns-in-Some : goal.returns-in-Some

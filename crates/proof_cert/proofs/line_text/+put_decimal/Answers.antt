@@ -1,6 +1,5 @@
-use Rattle.std.proofs.Common.{decimal, arith}
-use Rattle.std.proofs.lemmas.Fmt.{decimal_digit, decimal_step}
-use Rattle.byte_writer.proofs.TakenLemmas.{put_as, then_put}
+use Rattle.proof_cert.proofs.Common.{decimal, arith, decimal_digit, put_as, then_put}
+use Rattle.std.proofs.lemmas.Fmt.{decimal_step}
 use Rattle.proof_cert.proofs.line_text.+put_decimal.Goals as goal
 
 pub returns-then-number-lt10 : goal.returns-then-number-lt10

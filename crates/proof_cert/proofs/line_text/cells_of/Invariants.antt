@@ -1,6 +1,5 @@
-use Rattle.std.proofs.Common.{◌≡◌, take}
+use Rattle.proof_cert.proofs.Common.{◌≡◌, take, text_of}
 use Rattle.arrayvec.specs.ArrayVec.{array_vec_len}
-use Rattle.go_points.specs.Text.{text_of}
 use Rattle.proof_cert.proofs.line_text.cells_of.Given as goal
 
 abbrev pub invariant-loop-number : goal.invariant-loop-number

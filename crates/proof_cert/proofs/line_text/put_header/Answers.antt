@@ -1,5 +1,4 @@
-use Rattle.std.proofs.Common.{◌≡◌, rules}
-use Rattle.byte_writer.proofs.TakenLemmas.{then_put}
+use Rattle.proof_cert.proofs.Common.{◌≡◌, rules, then_put}
 use Rattle.proof_cert.proofs.line_text.put_header.Goals as goal
 
 pub returns : goal.returns

@@ -1,10 +1,4 @@
-use Rattle.std.proofs.Common.{◌≡◌, IsTrue, ap, subst}
-use Rattle.go_points.specs.declared.Turn.{Turn}
-use Rattle.go_points.specs.declared.Turn.TheVariants.{At}
-use Rattle.go_points.specs.Ply.{ply_of}
-use Rattle.byte_writer.proofs.TakenLemmas.{put_as}
-use Rattle.proof_cert.specs.Lines.{turn_fits}
-use Rattle.proof_cert.specs.Text.{vertex_text}
+use Rattle.proof_cert.proofs.Common.{◌≡◌, IsTrue, ap, subst, Turn, At, ply_of, put_as, turn_fits, vertex_text}
 use Rattle.proof_cert.proofs.Vertices.{letters_of}
 use Rattle.proof_cert.proofs.line_text.put_vertex.Goals as goal
 

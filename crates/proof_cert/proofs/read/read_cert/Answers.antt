@@ -1,10 +1,6 @@
-use Rattle.std.proofs.Common.{◌≡◌, Option, Some, None, true, sym, ap, ◌∙◌}
+use Rattle.proof_cert.proofs.Common.{◌≡◌, Option, Some, None, true, sym, ap, ◌∙◌, Source, text, claim_of, Certificate, left_of, claim_read}
 use Rattle.std.specs.Prelude.{option_map}
-use Rattle.proof_cert.specs.Private.Source.{Source, source_of}
-use Rattle.proof_cert.specs.Text.{text}
-use Rattle.proof_cert.specs.Certificate.{claim_of}
-use Rattle.proof_cert.specs.declared.certificate.Certificate.{Certificate}
-use Rattle.proof_cert.specs.Private.Reading.{left_of, claim_read}
+use Rattle.proof_cert.specs.Private.Source.{source_of}
 use Rattle.proof_cert.proofs.ReadTexts.{text_is_read}
 use Rattle.proof_cert.proofs.read.read_cert.Goals as goal
 

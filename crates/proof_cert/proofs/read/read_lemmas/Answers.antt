@@ -1,12 +1,7 @@
-use Rattle.std.proofs.Common.{◌≡◌, ◌+◌, ◌-◌, ◌++◌, ◌∷◌, [], ℕ, Option, Some, None, List, map, length, ap, subst, sym, ◌∙◌, refl, rules, arith}
-use Rattle.std.specs.Prelude.{option_and_then, option_map}
+use Rattle.proof_cert.proofs.Common.{◌≡◌, ◌+◌, ◌-◌, ◌++◌, ◌∷◌, [], ℕ, Option, Some, None, List, map, length, ap, subst, sym, ◌∙◌, refl, rules, arith, option_and_then, line_value, Lemma, lemma_line, lemma_of, Left, with_rest, left_of, line_read, lemma_read, lemmas_read, all_lemmas_read, CountsLemmas}
+use Rattle.std.specs.Prelude.{option_map}
 use Rattle.std.proofs.lemmas.List.{length_push}
-use Rattle.proof_cert.specs.Stage.{line_value}
-use Rattle.proof_cert.specs.Claim.{Lemma}
-use Rattle.proof_cert.specs.Lines.{lemma_line}
-use Rattle.proof_cert.specs.Certificate.{lemma_of}
 use Rattle.proof_cert.specs.declared.certificate.Lemma as code
-use Rattle.proof_cert.specs.Private.Reading.{Left, with_rest, left_of, line_read, lemma_read, lemmas_read, all_lemmas_read, CountsLemmas}
 use Rattle.proof_cert.proofs.ReadTrees.{lemmas_front, no_lemmas_front, lemmas_after, no_lemma, lemma_is_read, lemmas_pushed}
 use Rattle.proof_cert.proofs.ReadCounts.{lemma_counted}
 use Rattle.proof_cert.proofs.read.read_lemmas.Goals as goal

@@ -1,6 +1,4 @@
-use Rattle.std.proofs.Common.{◌≡◌, ◌-◌, map, length}
-use Rattle.proof_cert.specs.Certificate.{lemma_of}
-use Rattle.proof_cert.specs.Private.Reading.{left_of, lemmas_read, all_lemmas_read, CountsLemmas}
+use Rattle.proof_cert.proofs.Common.{◌≡◌, ◌-◌, map, length, lemma_of, left_of, lemmas_read, all_lemmas_read, CountsLemmas}
 use Rattle.proof_cert.proofs.ReadTrees.{lemmas_front}
 use Rattle.proof_cert.proofs.read.read_lemmas.Given as goal
 

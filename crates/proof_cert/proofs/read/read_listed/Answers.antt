@@ -1,7 +1,4 @@
-use Rattle.std.proofs.Common.{◌≡◌, ◌+◌, ◌-◌, ◌≤◌, ◌++◌, ◌∷◌, [], Some, List, ap, sym, ◌∙◌, refl, rules}
-use Rattle.go_points.specs.declared.Cell.{Cell}
-use Rattle.proof_cert.specs.Stage.{line_value}
-use Rattle.proof_cert.specs.Private.Reading.{Left, left_of, line_read, picks, listed_read, list_read}
+use Rattle.proof_cert.proofs.Common.{◌≡◌, ◌+◌, ◌-◌, ◌≤◌, ◌++◌, ◌∷◌, [], Some, List, ap, sym, ◌∙◌, refl, rules, Cell, line_value, Left, left_of, line_read, picks, listed_read, list_read}
 use Rattle.proof_cert.proofs.ReadTrees.{listed_front, no_front, listed_is_read}
 use Rattle.proof_cert.proofs.read.read_listed.Goals as goal
 

@@ -1,6 +1,4 @@
-use Rattle.std.proofs.Common.{◌≡◌, ◌+◌, ◌-◌, length}
-use Rattle.proof_cert.specs.Stage.{line_value}
-use Rattle.proof_cert.specs.Private.Reading.{left_of, picks, listed_read, list_read}
+use Rattle.proof_cert.proofs.Common.{◌≡◌, ◌+◌, ◌-◌, length, line_value, left_of, picks, listed_read, list_read}
 use Rattle.proof_cert.proofs.ReadTrees.{listed_front}
 use Rattle.proof_cert.proofs.read.read_listed.Given as goal
 

@@ -1,9 +1,5 @@
-use Rattle.std.proofs.Common.{rules, arith, ◌≡◌, ◌≤◌, ◌<◌, ◌++◌, [], ◌∷◌, ℕ, List, Option, option_map, length, sym, ap, ◌∙◌, subst, length-append}
-use Rattle.go_points.specs.declared.TheConstants.{MAX_SIZE}
-use Rattle.proof_cert.specs.Lines.{Line}
-use Rattle.proof_cert.specs.Stage.{line_value}
-use Rattle.proof_cert.specs.Streamed.{IsPiece, bytes_left}
-use Rattle.proof_cert.specs.Text.{line_by, lines_by}
+use Rattle.proof_cert.proofs.Common.{rules, arith, ◌≡◌, ◌≤◌, ◌<◌, ◌++◌, [], ◌∷◌, ℕ, List, Option, option_map, length, sym, ap, ◌∙◌, subst, length-append, MAX_SIZE, Line, line_value, bytes_left, line_by, lines_by}
+use Rattle.proof_cert.specs.Streamed.{IsPiece}
 use Rattle.proof_cert.specs.declared.reader_source.Ending.{Ending}
 use Rattle.proof_cert.proofs.Streams.{line_fed, line_cut, line_long, none_left}
 use Rattle.proof_cert.proofs.reader_source.cut_line.Goals as goal

@@ -1,5 +1,4 @@
-use Rattle.std.proofs.Common.{◌≡◌, length}
-use Rattle.proof_cert.specs.Streamed.{HasNoFeed, Uses}
+use Rattle.proof_cert.proofs.Common.{◌≡◌, length, HasNoFeed, Uses}
 use Rattle.proof_cert.proofs.reader_source.read_piece.Given as goal
 
 abbrev pub invariant-loop : goal.invariant-loop

@@ -1,10 +1,6 @@
-use Rattle.std.proofs.Common.{◌+◌, ◌∷◌, ◌∙◌, sym, ap, drop, Option, None, option_map}
-use Rattle.proof_cert.specs.Lines.{Line}
-use Rattle.proof_cert.specs.Stage.{line_value}
-use Rattle.proof_cert.specs.Text.{lines}
+use Rattle.proof_cert.proofs.Common.{◌+◌, ◌∷◌, ◌∙◌, sym, ap, drop, Option, None, option_map, Line, line_value, lines, rest_is}
 use Rattle.proof_cert.proofs.Pieces.{first_read, unended_read, rest_none}
 use Rattle.proof_cert.proofs.source.first_line.Goals as goal
-use Rattle.byte_writer.proofs.TakenLemmas.{rest_is}
 
 pub returns-in-Some-clause-lines : goal.returns-in-Some-clause-lines
 returns-in-Some-clause-lines c =

@@ -1,7 +1,4 @@
-use Rattle.std.proofs.Common.{◌≡◌, drop, map, Some}
-use Rattle.std.specs.List.{list_all}
-use Rattle.proof_cert.specs.Lines.{not_line}
-use Rattle.proof_cert.specs.Text.{is_spelled}
+use Rattle.proof_cert.proofs.Common.{◌≡◌, drop, map, Some, list_all, not_line, is_spelled}
 use Rattle.proof_cert.proofs.spelled.are_spelled_colourings.Given as goal
 
 abbrev pub invariant-loop-colouring : goal.invariant-loop-colouring

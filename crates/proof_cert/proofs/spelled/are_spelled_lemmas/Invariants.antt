@@ -1,9 +1,4 @@
-use Rattle.std.proofs.Common.{◌≡◌, drop, map}
-use Rattle.std.specs.List.{list_all}
-use Rattle.proof_cert.specs.Lines.{lemmas_lines}
-use Rattle.proof_cert.specs.Text.{is_spelled}
-use Rattle.proof_cert.specs.Stage.{version_number}
-use Rattle.proof_cert.specs.Certificate.{lemma_of}
+use Rattle.proof_cert.proofs.Common.{◌≡◌, drop, map, list_all, lemmas_lines, is_spelled, version_number, lemma_of}
 use Rattle.proof_cert.proofs.spelled.are_spelled_lemmas.Given as goal
 
 abbrev pub invariant-loop-lemma : goal.invariant-loop-lemma

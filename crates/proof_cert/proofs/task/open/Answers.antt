@@ -1,11 +1,6 @@
-use Rattle.std.proofs.Common.{◌≡◌, ◌++◌, ◌∷◌, [], Option, IfSome, List, map, option_map, sym, ap, ◌∙◌, subst, rules, append_assoc}
-use Rattle.proof_cert.specs.Lines.{Line, branch_lines, lemma_lines}
-use Rattle.proof_cert.specs.Private.Body.{body_value}
-use Rattle.proof_cert.specs.Stage.{version_number}
-use Rattle.proof_cert.specs.Certificate.{lemma_of, replies_of}
-use Rattle.proof_cert.specs.Held.{spelled_line, task_lines, lines_left}
+use Rattle.proof_cert.proofs.Common.{◌≡◌, ◌++◌, ◌∷◌, [], Option, List, map, option_map, sym, ap, ◌∙◌, subst, rules, append_assoc, Line, branch_lines, lemma_lines, body_value, version_number, lemma_of, replies_of, spelled_line, task_lines, lines_left, Task}
+use Rattle.std.proofs.Common.{IfSome}
 use Rattle.proof_cert.specs.declared.body_line.BodyLine.{BodyLine}
-use Rattle.proof_cert.specs.declared.task.Task.{Task}
 use Rattle.proof_cert.specs.declared.task.Task.TheVariants.{Lemmas}
 use Rattle.proof_cert.proofs.Tasks.{left_pushed, lemmas_first}
 use Rattle.proof_cert.proofs.task.open.Goals as goal

@@ -1,7 +1,5 @@
-use Rattle.std.proofs.Common.{◌≡◌, ◌++◌, ◌∷◌, [], Option, List, map, sym, ap, ◌∙◌, rules, append_assoc}
-use Rattle.proof_cert.specs.Lines.{Line, branch_lines}
-use Rattle.proof_cert.specs.Certificate.{replies_of}
-use Rattle.proof_cert.specs.Held.{spelled_line, reply_lines, task_lines, lines_left}
+use Rattle.proof_cert.proofs.Common.{◌≡◌, ◌++◌, ◌∷◌, [], Option, List, map, sym, ap, ◌∙◌, rules, append_assoc, Line, branch_lines, replies_of, spelled_line, task_lines, lines_left}
+use Rattle.proof_cert.specs.Held.{reply_lines}
 use Rattle.proof_cert.specs.declared.task.Task.TheVariants.{Replies}
 use Rattle.proof_cert.proofs.Tasks.{left_pushed, reply_first}
 use Rattle.proof_cert.proofs.task.open_replies.Goals as goal

@@ -1,7 +1,4 @@
-use Rattle.std.proofs.Common.{◌≡◌, ℕ, take, map}
-use Rattle.go_points.specs.declared.Turn.{Turn}
-use Rattle.proof_cert.specs.Claim.{Node}
-use Rattle.proof_cert.specs.Certificate.{node_of}
+use Rattle.proof_cert.proofs.Common.{◌≡◌, ℕ, take, map, Turn, Node, node_of}
 use Rattle.proof_cert.specs.declared.certificate.Node as code
 use Rattle.proof_cert.proofs.tree_copy.+copy.Given as goal
 

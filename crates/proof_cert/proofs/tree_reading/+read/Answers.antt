@@ -1,10 +1,6 @@
-use Rattle.std.proofs.Common.{◌≡◌, ◌+◌, ◌-◌, ◌++◌, ◌∷◌, [], Option, Some, None, ap, subst, sym, ◌∙◌, rules, arith}
-use Rattle.go_points.specs.Ply.{ply_of}
-use Rattle.go_points.specs.declared.Turn.{Turn}
+use Rattle.proof_cert.proofs.Common.{◌≡◌, ◌+◌, ◌-◌, ◌++◌, ◌∷◌, [], Option, Some, None, ap, subst, sym, ◌∙◌, rules, arith, ply_of, Turn, Branches, node_of, replies_of, with_rest, left_of, reply_read, replies_read, below_read, tree_read, CountsTree, CountsReplies}
 use Rattle.proof_cert.specs.declared.certificate.Node.{Node}
-use Rattle.proof_cert.specs.Claim.{Branches}
-use Rattle.proof_cert.specs.Certificate.{node_of, replies_of}
-use Rattle.proof_cert.specs.Private.Reading.{with_rest, left_of, reply_read, replies_read, below_read, tree_read, reply_value, CountsTree, CountsReplies}
+use Rattle.proof_cert.specs.Private.Reading.{reply_value}
 use Rattle.proof_cert.proofs.ReadTrees.{prepended, reply_is_read, reply_is_missing, replies_are_read, replies_pushed}
 use Rattle.proof_cert.proofs.ReadCounts.{reply_counted}
 use Rattle.proof_cert.proofs.tree_reading.+read.Goals as goal

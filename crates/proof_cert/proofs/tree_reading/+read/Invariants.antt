@@ -1,6 +1,4 @@
-use Rattle.std.proofs.Common.{◌≡◌, ◌+◌, ◌*◌, ◌-◌}
-use Rattle.proof_cert.specs.Certificate.{replies_of}
-use Rattle.proof_cert.specs.Private.Reading.{left_of, replies_read, below_read, tree_read, CountsReplies}
+use Rattle.proof_cert.proofs.Common.{◌≡◌, ◌+◌, ◌*◌, ◌-◌, replies_of, left_of, replies_read, below_read, tree_read, CountsReplies}
 use Rattle.proof_cert.proofs.ReadTrees.{prepended}
 use Rattle.proof_cert.proofs.tree_reading.+read.Given as goal
 

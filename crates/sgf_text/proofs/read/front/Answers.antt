@@ -1,7 +1,6 @@
-use Rattle.std.proofs.Common.{◌≡◌, ap, ◌∙◌, take, length, arith}
+use Rattle.sgf_text.proofs.Common.{◌≡◌, ap, ◌∙◌, take, length, arith, byte_limit}
 use Rattle.std.specs.Prelude.{min}
 use Rattle.std.proofs.lemmas.List.{take_min}
-use Rattle.sgf_text.specs.Followers.{byte_limit}
 use Rattle.sgf_text.proofs.read.front.Goals as goal
 
 pub returns : goal.returns

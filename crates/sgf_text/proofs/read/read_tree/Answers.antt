@@ -1,8 +1,4 @@
-use Rattle.std.proofs.Common.{sym, ap, ◌∙◌, ◌+◌, length, arith}
-use Rattle.std.specs.Prelude.{Err}
-use Rattle.std.proofs.lemmas.List.{length-take}
-use Rattle.sgf_text.specs.declared.fault.SgfFault.TheVariants.{NoTree}
-use Rattle.sgf_text.specs.Followers.{byte_limit}
+use Rattle.sgf_text.proofs.Common.{sym, ap, ◌∙◌, ◌+◌, length, arith, Err, length-take, NoTree, byte_limit}
 use Rattle.sgf_text.proofs.ReadTree.{place_within, read_on, read_fault, read_end, read_cut, read_none, only_err, only_ok}
 use Rattle.sgf_text.proofs.read.read_tree.Goals as goal
 

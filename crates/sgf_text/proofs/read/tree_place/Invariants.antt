@@ -1,5 +1,4 @@
-use Rattle.std.proofs.Common.{◌≡◌, drop}
-use Rattle.sgf_text.specs.Grammar.{tree_place}
+use Rattle.sgf_text.proofs.Common.{◌≡◌, drop, tree_place}
 use Rattle.sgf_text.proofs.PlaceScan.{scan}
 use Rattle.sgf_text.proofs.read.tree_place.Given as goal
 

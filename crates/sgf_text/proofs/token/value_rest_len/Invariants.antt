@@ -1,5 +1,4 @@
-use Rattle.std.proofs.Common.{length, ◌-◌, ◌≡◌, ◌≤◌, ◌+◌, drop}
-use Rattle.std.specs.Prelude.{false}
+use Rattle.sgf_text.proofs.Common.{length, ◌-◌, ◌≡◌, ◌≤◌, ◌+◌, drop, false}
 use Rattle.sgf_text.specs.Tokens.{value_rest_len}
 use Rattle.sgf_text.proofs.token.value_rest_len.Given as goal
 

@@ -1,7 +1,4 @@
-use Rattle.std.proofs.Common.{take}
-use Rattle.std.specs.Prelude.{IsTrue}
-use Rattle.sgf_text.specs.Text.{is_forest}
-use Rattle.sgf_text.specs.Trees.{forest_of}
+use Rattle.sgf_text.proofs.Common.{take, IsTrue, is_forest, forest_of}
 use Rattle.sgf_text.proofs.tree.know_children.Given as goal
 
 abbrev pub invariant-loop-child : goal.invariant-loop-child

@@ -1,7 +1,4 @@
-use Rattle.std.proofs.Common.{take}
-use Rattle.std.specs.Prelude.{IsTrue}
-use Rattle.std.specs.List.{list_all}
-use Rattle.sgf_text.specs.Nodes.{is_node}
+use Rattle.sgf_text.proofs.Common.{take, IsTrue, list_all, is_node}
 use Rattle.sgf_text.proofs.tree.know_nodes.Given as goal
 
 abbrev pub invariant-loop-node : goal.invariant-loop-node

@@ -1,9 +1,5 @@
-use Rattle.std.proofs.Common.{◌≡◌, ◌∷◌, arith, ap, ◌∙◌, sym, subst, take}
-use Rattle.std.specs.Prelude.{flat_map}
-use Rattle.std.proofs.lemmas.List.{append-nil, take_all}
-use Rattle.byte_writer.specs.Taken.{HasPut}
-use Rattle.byte_writer.proofs.TakenLemmas.{then_put, next_put}
-use Rattle.sgf_text.specs.Text.{node_text, tree_text, forest_text}
+use Rattle.sgf_text.proofs.Common.{◌≡◌, ◌∷◌, arith, ap, ◌∙◌, sym, subst, take, flat_map, append-nil, HasPut, then_put, next_put, node_text, tree_text, forest_text}
+use Rattle.std.proofs.lemmas.List.{take_all}
 use Rattle.sgf_text.proofs.TreeTextLemmas.{forest_flat, kid_is_smaller}
 use Rattle.sgf_text.proofs.tree_text.+put_tree.Goals as goal
 

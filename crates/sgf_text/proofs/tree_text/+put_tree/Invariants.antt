@@ -1,8 +1,4 @@
-use Rattle.std.proofs.Common.{◌∷◌, ◌++◌, take}
-use Rattle.std.specs.Prelude.{flat_map}
-use Rattle.byte_writer.specs.Taken.{HasPut}
-use Rattle.sgf_text.specs.Text.{node_text, tree_text}
-use Rattle.sgf_text.specs.Trees.{tree_count}
+use Rattle.sgf_text.proofs.Common.{◌∷◌, ◌++◌, take, flat_map, HasPut, node_text, tree_text, tree_count}
 use Rattle.sgf_text.proofs.tree_text.+put_tree.Given as goal
 
 abbrev pub decreases-put_tree : goal.decreases-put_tree

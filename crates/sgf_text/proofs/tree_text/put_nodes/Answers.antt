@@ -1,6 +1,4 @@
-use Rattle.std.proofs.Common.{arith, []}
-use Rattle.sgf_text.specs.Text.{node_text}
-use Rattle.byte_writer.proofs.TakenLemmas.{next_put}
+use Rattle.sgf_text.proofs.Common.{arith, [], node_text, next_put}
 use Rattle.sgf_text.proofs.tree_text.put_nodes.Goals as goal
 
 pub loop-node-preserved : goal.loop-node-preserved

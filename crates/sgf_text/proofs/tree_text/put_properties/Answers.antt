@@ -1,6 +1,4 @@
-use Rattle.std.proofs.Common.{arith, []}
-use Rattle.sgf_text.specs.Text.{property_text}
-use Rattle.byte_writer.proofs.TakenLemmas.{next_put}
+use Rattle.sgf_text.proofs.Common.{arith, [], property_text, next_put}
 use Rattle.sgf_text.proofs.tree_text.put_properties.Goals as goal
 
 pub loop-property-preserved : goal.loop-property-preserved

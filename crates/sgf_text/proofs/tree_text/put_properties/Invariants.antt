@@ -1,7 +1,4 @@
-use Rattle.std.proofs.Common.{take}
-use Rattle.std.specs.Prelude.{flat_map}
-use Rattle.byte_writer.specs.Taken.{HasPut}
-use Rattle.sgf_text.specs.Text.{property_text}
+use Rattle.sgf_text.proofs.Common.{take, flat_map, HasPut, property_text}
 use Rattle.sgf_text.proofs.tree_text.put_properties.Given as goal
 
 abbrev pub invariant-loop-property : goal.invariant-loop-property

@@ -1,6 +1,4 @@
-use Rattle.std.proofs.Common.{arith, []}
-use Rattle.sgf_text.specs.Text.{value_text}
-use Rattle.byte_writer.proofs.TakenLemmas.{next_put}
+use Rattle.sgf_text.proofs.Common.{arith, [], value_text, next_put}
 use Rattle.sgf_text.proofs.tree_text.put_values.Goals as goal
 
 pub loop-value-preserved : goal.loop-value-preserved

@@ -1,5 +1,4 @@
-use Rattle.std.proofs.Common.{◌≡◌, drop}
-use Rattle.sgf_text.specs.Nodes.{are_distinct}
+use Rattle.sgf_text.proofs.Common.{◌≡◌, drop, are_distinct}
 use Rattle.sgf_text.proofs.well_formed.are_distinct.Given as goal
 
 abbrev pub invariant-loop-at : goal.invariant-loop-at

@@ -1,6 +1,4 @@
-use Rattle.std.proofs.Common.{◌≡◌, drop}
-use Rattle.std.specs.List.{list_all}
-use Rattle.sgf_text.specs.Bytes.{is_upper}
+use Rattle.sgf_text.proofs.Common.{◌≡◌, drop, list_all, is_upper}
 use Rattle.sgf_text.proofs.well_formed.is_ident.Given as goal
 
 abbrev pub invariant-loop-byte : goal.invariant-loop-byte

@@ -1,5 +1,4 @@
-use Rattle.std.proofs.Common.{◌≡◌, drop}
-use Rattle.sgf_text.specs.Nodes.{is_value_after, is_value}
+use Rattle.sgf_text.proofs.Common.{◌≡◌, drop, is_value_after, is_value}
 use Rattle.sgf_text.proofs.well_formed.is_value.Given as goal
 
 abbrev pub invariant-loop-byte : goal.invariant-loop-byte

@@ -1,9 +1,7 @@
-use Rattle.std.proofs.Common.{◌≡◌, ◌+◌, ◌*◌, ℕ, ◌≤◌, ◌^◌, List, ◌++◌, [], ◌∷◌, ap, sym, arith, subst, Option}
+use Rattle.solution_tree.proofs.Common.{◌≡◌, ◌+◌, ◌*◌, ℕ, ◌≤◌, List, ◌++◌, [], ◌∷◌, ap, sym, arith, subst, Option, Turn, reply_sizes, answer_of, replies_of, Answer}
+use Rattle.std.proofs.Common.{◌^◌}
 use Rattle.std.specs.Prelude.{IfNone}
-use Rattle.go_points.specs.declared.Turn.{Turn}
-use Rattle.target_game.specs.Answers.{answer_size, reply_sizes}
-use Rattle.solution_tree.specs.Answer.{answer_of, replies_of}
-use Rattle.solution_tree.specs.declared.answer.Answer.{Answer}
+use Rattle.target_game.specs.Answers.{answer_size}
 use Rattle.solution_tree.proofs.AnswerTrees.{below_turn, below_replies, part_won, part_turn, part_replies, sizes_last, sizes_more, sizes_done, empty_sizes}
 use Rattle.solution_tree.proofs.answer.+size.Goals as goal
 

@@ -1,6 +1,5 @@
-use Rattle.std.proofs.Common.{◌≡◌, ◌+◌, ◌*◌, ℕ, ◌≤◌, drop}
-use Rattle.target_game.specs.Answers.{answer_size, reply_sizes}
-use Rattle.solution_tree.specs.Answer.{answer_of, replies_of}
+use Rattle.solution_tree.proofs.Common.{◌≡◌, ◌+◌, ◌*◌, ℕ, ◌≤◌, drop, reply_sizes, answer_of, replies_of}
+use Rattle.target_game.specs.Answers.{answer_size}
 use Rattle.solution_tree.proofs.answer.+size.Given as goal
 
 -- The turns that were counted and those that are left are all of them.

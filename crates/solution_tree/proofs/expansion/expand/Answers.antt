@@ -1,11 +1,6 @@
-use Rattle.std.proofs.Common.{◌≡◌, ℕ, ◌+◌, ◌<◌, length, List, [], IsTrue, subst, sym, ap, ◌∙◌, arith}
-use Rattle.target_game.specs.State.{GameProblem, Line, start}
-use Rattle.target_game.specs.Answers.{AnswerTree, answers, answer_size}
+use Rattle.solution_tree.proofs.Common.{◌≡◌, ℕ, ◌+◌, ◌<◌, length, List, [], IsTrue, subst, sym, ap, ◌∙◌, arith, GameProblem, Line, start, AnswerTree, OpenTurn, claim_of, node_of, CheckedClaim, Expands, expanded, finish, lemma_count, open_sizes, part_size, part_turns, part_tree, uses_below}
+use Rattle.target_game.specs.Answers.{answers, answer_size}
 use Rattle.proof_cert.specs.declared.certificate.Certificate.{Certificate}
-use Rattle.solution_tree.specs.declared.opened.OpenTurn.{OpenTurn}
-use Rattle.proof_cert.specs.Certificate.{claim_of, node_of}
-use Rattle.cert_check.specs.Checked.{CheckedClaim}
-use Rattle.solution_tree.specs.Private.Opened.{Expands, expanded, finish, lemma_count, open_sizes, part_size, part_turns, part_tree, uses_below}
 use Rattle.solution_tree.proofs.Expanding.{whole_size}
 use Rattle.solution_tree.proofs.Lower.{main_is_below}
 use Rattle.solution_tree.proofs.Standing.{begins}

@@ -1,6 +1,4 @@
-use Rattle.std.proofs.Common.{◌≡◌, ◌+◌, IsTrue}
-use Rattle.proof_cert.specs.Certificate.{node_of}
-use Rattle.solution_tree.specs.Private.Opened.{Expands, lemma_count, open_sizes, tree_at, uses_below}
+use Rattle.solution_tree.proofs.Common.{◌≡◌, ◌+◌, IsTrue, node_of, Expands, lemma_count, open_sizes, tree_at, uses_below}
 use Rattle.solution_tree.proofs.expansion.expand.Given as goal
 
 -- The node belongs below the open turns, and those and the turns that are left are as many as were allowed.

@@ -1,5 +1,4 @@
-use Rattle.sgf_text.specs.Trees.{forest_of}
-use Rattle.solution_tree.specs.Below.{nodes_of}
+use Rattle.solution_tree.proofs.Common.{forest_of, nodes_of}
 use Rattle.solution_tree.proofs.Found.{fault_same}
 use Rattle.solution_tree.proofs.first_line.first_line.Goals as goal
 

@@ -1,7 +1,4 @@
-use Rattle.std.proofs.Common.{◌≡◌}
-use Rattle.sgf_text.specs.Trees.{forest_of, forest_count}
-use Rattle.solution_tree.specs.Audit.{first_line}
-use Rattle.solution_tree.specs.Private.Asked.{follows}
+use Rattle.solution_tree.proofs.Common.{◌≡◌, forest_of, forest_count, first_line, follows}
 use Rattle.solution_tree.proofs.first_line.first_line.Given as goal
 
 abbrev pub invariant-loop-end : goal.invariant-loop-end

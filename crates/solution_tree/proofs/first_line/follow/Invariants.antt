@@ -1,6 +1,4 @@
-use Rattle.std.proofs.Common.{◌≡◌, length}
-use Rattle.solution_tree.specs.Below.{Nodes, sequence}
-use Rattle.solution_tree.specs.Audit.{first_line}
+use Rattle.solution_tree.proofs.Common.{◌≡◌, length, Nodes, sequence, first_line}
 use Rattle.solution_tree.proofs.first_line.follow.Given as goal
 
 abbrev pub invariant-loop-node : goal.invariant-loop-node

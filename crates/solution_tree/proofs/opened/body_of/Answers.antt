@@ -1,8 +1,5 @@
-use Rattle.std.proofs.Common.{◌≡◌, ap, ◌∙◌, arith}
+use Rattle.solution_tree.proofs.Common.{◌≡◌, ap, ◌∙◌, arith, node_of, CheckedClaim, lemma_count}
 use Rattle.std.specs.Prelude.{length}
-use Rattle.proof_cert.specs.Certificate.{node_of}
-use Rattle.cert_check.specs.Checked.{CheckedClaim}
-use Rattle.solution_tree.specs.Private.Opened.{lemma_count}
 use Rattle.solution_tree.proofs.Lower.{used_bounds, next_body, below_more}
 use Rattle.solution_tree.proofs.opened.body_of.Goals as goal
 

@@ -1,7 +1,4 @@
-use Rattle.std.proofs.Common.{◌≡◌, ◌≤◌, IsTrue}
-use Rattle.target_game.specs.State.{GameState}
-use Rattle.proof_cert.specs.Certificate.{node_of}
-use Rattle.solution_tree.specs.Private.Opened.{lemma_count, tree_at, uses_below}
+use Rattle.solution_tree.proofs.Common.{◌≡◌, ◌≤◌, IsTrue, GameState, node_of, lemma_count, tree_at, uses_below}
 use Rattle.solution_tree.proofs.opened.body_of.Given as goal
 
 -- The part is expanded as the node is, and uses lower and lower lemmas.

@@ -1,8 +1,5 @@
-use Rattle.std.proofs.Common.{◌≡◌, ℕ, ◌+◌, ◌++◌, [], ◌∷◌, subst, ap, arith}
+use Rattle.solution_tree.proofs.Common.{◌≡◌, ℕ, ◌+◌, ◌++◌, [], ◌∷◌, subst, ap, arith, CheckedClaim, answer_of, Expands, open_sizes, open_size, part_size, part_tree, part_turns}
 use Rattle.target_game.specs.Answers.{answer_size}
-use Rattle.cert_check.specs.Checked.{CheckedClaim}
-use Rattle.solution_tree.specs.Answer.{answer_of}
-use Rattle.solution_tree.specs.Private.Opened.{Expands, open_sizes, open_size, part_size, part_tree, part_turns}
 use Rattle.solution_tree.proofs.Expanding.{sizes_push}
 use Rattle.solution_tree.proofs.Standing.{made_before, popped}
 use Rattle.solution_tree.proofs.opened.close.Goals as goal

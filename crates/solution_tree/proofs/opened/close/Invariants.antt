@@ -1,7 +1,5 @@
-use Rattle.std.proofs.Common.{◌≡◌, ◌+◌, length}
+use Rattle.solution_tree.proofs.Common.{◌≡◌, ◌+◌, length, answer_of, Expands, open_sizes}
 use Rattle.target_game.specs.Answers.{answer_size}
-use Rattle.solution_tree.specs.Answer.{answer_of}
-use Rattle.solution_tree.specs.Private.Opened.{Expands, open_sizes}
 use Rattle.solution_tree.proofs.opened.close.Given as goal
 
 -- The tree belongs below the turns that are left open, and no turn is lost.

@@ -1,14 +1,5 @@
-use Rattle.std.proofs.Common.{◌≡◌, ◌++◌, List, [], ◌∷◌, IsTrue, subst, sym, ap, arith}
-use Rattle.target_game.specs.State.{Line}
-use Rattle.target_game.specs.Next.{next}
-use Rattle.target_game.specs.Answers.{AnswerTree, replies}
-use Rattle.go_points.specs.Ply.{ply_of}
+use Rattle.solution_tree.proofs.Common.{◌≡◌, ◌++◌, List, [], ◌∷◌, IsTrue, subst, sym, ap, arith, Line, next, AnswerTree, replies, ply_of, CheckedClaim, replies_of, Expands, all_below, branches_at, lemma_answers, lemma_count, open_sizes, replies_then, tree_at, uses_below, OpenTurn, Reply}
 use Rattle.proof_cert.specs.Certificate as claim
-use Rattle.cert_check.specs.Checked.{CheckedClaim}
-use Rattle.solution_tree.specs.Answer.{replies_of}
-use Rattle.solution_tree.specs.Private.Opened.{Expands, all_below, branches_at, lemma_answers, lemma_count, open_sizes, replies_then, tree_at, uses_below}
-use Rattle.solution_tree.specs.declared.opened.OpenTurn.{OpenTurn}
-use Rattle.solution_tree.specs.declared.opened.OpenTurn.TheVariants.{Reply}
 use Rattle.solution_tree.proofs.AnswerTrees.{size_replies}
 use Rattle.solution_tree.proofs.Expanding.{sizes_push}
 use Rattle.solution_tree.proofs.Standing.{no_reply, reply_opened, open_at_replies, size_is}

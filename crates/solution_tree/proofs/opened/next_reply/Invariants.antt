@@ -1,9 +1,5 @@
-use Rattle.std.proofs.Common.{◌≡◌, ℕ, List, length, IsTrue}
-use Rattle.target_game.specs.State.{GameState}
-use Rattle.target_game.specs.Answers.{AnswerTree}
+use Rattle.solution_tree.proofs.Common.{◌≡◌, ℕ, List, length, IsTrue, GameState, AnswerTree, expand_branches, all_below}
 use Rattle.proof_cert.specs.Certificate.{replies_of}
-use Rattle.cert_check.specs.Expand.{expand_branches}
-use Rattle.solution_tree.specs.Private.Opened.{all_below}
 use Rattle.solution_tree.proofs.opened.next_reply.Given as goal
 
 -- The replies that are left are expanded as all of them.

@@ -1,14 +1,5 @@
-use Rattle.std.proofs.Common.{◌≡◌, ℕ, ◌+◌, ◌++◌, List, [], ◌∷◌, IsTrue, subst, sym, ap, ◌∙◌, arith}
-use Rattle.target_game.specs.State.{Line}
-use Rattle.target_game.specs.Next.{next}
-use Rattle.target_game.specs.Answers.{reply_sizes}
-use Rattle.go_points.specs.Ply.{ply_of}
+use Rattle.solution_tree.proofs.Common.{◌≡◌, ℕ, ◌+◌, ◌++◌, List, [], ◌∷◌, IsTrue, subst, sym, ap, ◌∙◌, arith, Line, next, reply_sizes, ply_of, CheckedClaim, replies_of, Expands, lemma_count, open_sizes, part_size, part_turns, tree_at, uses_below, OpenTurn, Made}
 use Rattle.proof_cert.specs.Certificate as claim
-use Rattle.cert_check.specs.Checked.{CheckedClaim}
-use Rattle.solution_tree.specs.Answer.{replies_of}
-use Rattle.solution_tree.specs.Private.Opened.{Expands, lemma_count, open_sizes, part_size, part_turns, tree_at, uses_below}
-use Rattle.solution_tree.specs.declared.opened.OpenTurn.{OpenTurn}
-use Rattle.solution_tree.specs.declared.opened.OpenTurn.TheVariants.{Made}
 use Rattle.solution_tree.proofs.AnswerTrees.{no_sizes}
 use Rattle.solution_tree.proofs.Expanding.{sizes_push}
 use Rattle.solution_tree.proofs.Standing.{turn_opened, play_below}

@@ -1,9 +1,5 @@
-use Rattle.std.proofs.Common.{◌≡◌, subst}
+use Rattle.solution_tree.proofs.Common.{◌≡◌, subst, CheckedClaim, answer_of, Expands, branches_at, closed, OpenTurn}
 use Rattle.proof_cert.specs.Certificate as claim
-use Rattle.cert_check.specs.Checked.{CheckedClaim}
-use Rattle.solution_tree.specs.Answer.{answer_of}
-use Rattle.solution_tree.specs.Private.Opened.{Expands, branches_at, closed}
-use Rattle.solution_tree.specs.declared.opened.OpenTurn.{OpenTurn}
 use Rattle.solution_tree.proofs.Standing.{turn_closed, reply_closed}
 use Rattle.solution_tree.proofs.opened.put_below.Goals as goal
 

@@ -1,7 +1,5 @@
-use Rattle.std.proofs.Common.{ap, ◌∙◌}
-use Rattle.target_game.specs.Left.{turns_due}
+use Rattle.solution_tree.proofs.Common.{ap, ◌∙◌, turns_due, missing}
 use Rattle.target_game.proofs.Due.{turns_begun}
-use Rattle.solution_tree.specs.Audit.{missing}
 use Rattle.solution_tree.proofs.questions.missing_reply.Goals as goal
 
 pub loop-turn-init : goal.loop-turn-init

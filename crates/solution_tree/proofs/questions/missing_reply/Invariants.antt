@@ -1,9 +1,4 @@
-use Rattle.std.proofs.Common.{◌≡◌, List, length}
-use Rattle.go_points.specs.Ply.{Ply}
-use Rattle.target_game.specs.Legal.{legal_turns}
-use Rattle.target_game.specs.Left.{turns_due}
-use Rattle.solution_tree.specs.Private.Asked.{Tells}
-use Rattle.solution_tree.specs.Audit.{missing}
+use Rattle.solution_tree.proofs.Common.{◌≡◌, List, length, Ply, legal_turns, turns_due, Tells, missing}
 use Rattle.solution_tree.proofs.questions.missing_reply.Given as goal
 
 abbrev pub invariant-loop-turn : goal.invariant-loop-turn

@@ -1,9 +1,4 @@
-use Rattle.std.proofs.Common.{◌≡◌, [], List, length}
-use Rattle.go_points.specs.Ply.{Ply}
-use Rattle.sgf_text.specs.Trees.{forest_of}
-use Rattle.solution_tree.specs.Below.{nodes_of}
-use Rattle.solution_tree.specs.Audit.{turns_in}
-use Rattle.solution_tree.specs.Private.Asked.{Tells}
+use Rattle.solution_tree.proofs.Common.{◌≡◌, [], List, length, Ply, forest_of, nodes_of, turns_in, Tells}
 use Rattle.solution_tree.proofs.questions.turns_of_trees.Given as goal
 
 abbrev pub invariant-loop-child : goal.invariant-loop-child

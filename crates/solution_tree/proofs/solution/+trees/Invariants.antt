@@ -1,6 +1,5 @@
-use Rattle.std.proofs.Common.{◌+◌, ◌*◌}
-use Rattle.target_game.specs.Answers.{answer_size, reply_sizes}
-use Rattle.solution_tree.specs.Answer.{answer_of, replies_of}
+use Rattle.solution_tree.proofs.Common.{◌+◌, ◌*◌, reply_sizes, answer_of, replies_of}
+use Rattle.target_game.specs.Answers.{answer_size}
 use Rattle.solution_tree.proofs.Writing.{TreesLeft}
 use Rattle.solution_tree.proofs.solution.+trees.Given as goal
 

@@ -1,7 +1,5 @@
-use Rattle.std.proofs.Common.{◌≤◌}
+use Rattle.solution_tree.proofs.Common.{◌≤◌, rest_of, answer_of}
 use Rattle.target_game.specs.Answers.{answer_size}
-use Rattle.tsumego_problem.specs.Canonical.{rest_of}
-use Rattle.solution_tree.specs.Answer.{answer_of}
 use Rattle.solution_tree.proofs.Writing.{Continues}
 use Rattle.solution_tree.proofs.solution.push_line.Given as goal
 

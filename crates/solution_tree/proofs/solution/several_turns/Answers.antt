@@ -1,8 +1,5 @@
-use Rattle.std.proofs.Common.{◌≡◌, [], true, false, sym, ap, ◌∙◌, arith}
-use Rattle.target_game.specs.Answers.{answer_size, reply_sizes}
-use Rattle.tsumego_problem.specs.Canonical.{rest_of, forest_of_replies}
-use Rattle.solution_tree.specs.Answer.{answer_of, replies_of}
-use Rattle.solution_tree.specs.Private.Written.{is_single}
+use Rattle.solution_tree.proofs.Common.{◌≡◌, [], true, false, sym, ap, ◌∙◌, arith, reply_sizes, rest_of, forest_of_replies, answer_of, replies_of, is_single}
+use Rattle.target_game.specs.Answers.{answer_size}
 use Rattle.solution_tree.proofs.AnswerTrees.{answer_of_won, answer_of_turn, answer_of_replies, size_replies}
 use Rattle.solution_tree.proofs.Writing.{several_rest, no_size}
 use Rattle.solution_tree.proofs.solution.several_turns.Goals as goal

@@ -1,10 +1,5 @@
-use Rattle.std.proofs.Common.{◌≡◌, ◌+◌, length, nat_eq, false, eq-eqb, sym, ap, ◌∙◌, arith}
-use Rattle.std.proofs.lemmas.Bool.Decides.{nat_tests}
-use Rattle.go_points.specs.Ply.{ply_of}
-use Rattle.target_game.specs.Answers.{turn, answer_size}
-use Rattle.tsumego_problem.specs.Canonical.{rest_of}
-use Rattle.solution_tree.specs.Answer.{answer_of}
-use Rattle.solution_tree.specs.Private.Written.{is_single}
+use Rattle.solution_tree.proofs.Common.{◌≡◌, ◌+◌, length, nat_eq, false, eq-eqb, sym, ap, ◌∙◌, arith, nat_tests, ply_of, turn, rest_of, answer_of, is_single}
+use Rattle.target_game.specs.Answers.{answer_size}
 use Rattle.solution_tree.proofs.AnswerTrees.{answer_of_won, answer_of_turn, answer_of_replies, size_turn, size_replies}
 use Rattle.solution_tree.proofs.Writing.{one_reply, only_reply, only_size}
 use Rattle.solution_tree.proofs.solution.single_turn.Goals as goal

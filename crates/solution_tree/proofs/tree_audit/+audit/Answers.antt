@@ -1,14 +1,4 @@
-use Rattle.std.proofs.Common.{rules, arith, ◌≡◌, ◌+◌, ℕ, length, List, [], ◌∷◌, ◌++◌, true, not, ◌||◌, ◌&&◌, inl, inr, None, sym, ap, ◌∙◌, subst}
-use Rattle.go_points.specs.Grid.{same_colour}
-use Rattle.go_points.specs.Ply.{Ply, ply_of, holds_ply}
-use Rattle.go_points.proofs.Lists.{and_right}
-use Rattle.target_game.specs.State.{Line}
-use Rattle.target_game.specs.Next.{next}
-use Rattle.sgf_text.specs.Text.{are_nodes, is_forest}
-use Rattle.sgf_text.specs.Trees.{tree_then, forest_of, forest_count}
-use Rattle.solution_tree.specs.Below.{node_then, nodes_of, count_nodes}
-use Rattle.solution_tree.specs.Audit.{faults_of, faults_below}
-use Rattle.solution_tree.specs.Private.Asked.{follows, IsFound, Tells}
+use Rattle.solution_tree.proofs.Common.{rules, arith, ◌≡◌, ◌+◌, ℕ, length, List, [], ◌∷◌, ◌++◌, true, not, ◌||◌, ◌&&◌, inl, inr, None, sym, ap, ◌∙◌, subst, same_colour, Ply, ply_of, holds_ply, and_right, Line, next, are_nodes, is_forest, tree_then, forest_of, forest_count, node_then, nodes_of, count_nodes, faults_of, faults_below, follows, IsFound, Tells}
 use Rattle.solution_tree.proofs.Found.{new_turn, found_first, opened_child, child_new, child_done, sequence_count}
 use Rattle.solution_tree.proofs.Going.{went_size}
 use Rattle.solution_tree.proofs.tree_audit.+audit.Goals as goal

@@ -1,10 +1,4 @@
-use Rattle.std.proofs.Common.{◌≡◌, ◌≤◌, ◌+◌, ◌*◌, [], List, IsTrue, length}
-use Rattle.go_points.specs.Ply.{Ply}
-use Rattle.sgf_text.specs.Text.{is_forest}
-use Rattle.sgf_text.specs.Trees.{forest_of, forest_count}
-use Rattle.solution_tree.specs.Below.{nodes_of, count_nodes}
-use Rattle.solution_tree.specs.Audit.{faults_below}
-use Rattle.solution_tree.specs.Private.Asked.{Tells}
+use Rattle.solution_tree.proofs.Common.{◌≡◌, ◌≤◌, ◌+◌, ◌*◌, [], List, IsTrue, length, Ply, is_forest, forest_of, forest_count, nodes_of, count_nodes, faults_below, Tells}
 use Rattle.solution_tree.proofs.tree_audit.+audit.Given as goal
 
 abbrev pub decreases-audit_sequence : goal.decreases-audit_sequence

@@ -1,10 +1,4 @@
-use Rattle.std.proofs.Common.{rules, arith, ◌≡◌, ◌+◌, suc, length, ◌∷◌, None, sym, ap, ◌∙◌, subst}
-use Rattle.go_points.specs.Ply.{ply_of}
-use Rattle.target_game.specs.State.{Line}
-use Rattle.target_game.specs.Next.{next}
-use Rattle.solution_tree.specs.Below.{no_node, node_then}
-use Rattle.solution_tree.specs.Audit.{rest_fault, faults_of}
-use Rattle.solution_tree.specs.Private.Asked.{follows}
+use Rattle.solution_tree.proofs.Common.{rules, arith, ◌≡◌, ◌+◌, suc, length, ◌∷◌, None, sym, ap, ◌∙◌, subst, ply_of, Line, next, no_node, node_then, rest_fault, faults_of, follows}
 use Rattle.solution_tree.proofs.Found.{went_on}
 use Rattle.solution_tree.proofs.Going.{leads_more, went_size}
 use Rattle.solution_tree.proofs.tree_audit.audit_nodes.Goals as goal

@@ -1,6 +1,4 @@
-use Rattle.std.proofs.Common.{◌≡◌, ◌+◌, ℕ, length}
-use Rattle.solution_tree.specs.Audit.{faults_of}
-use Rattle.solution_tree.specs.Private.Asked.{follows, Leads}
+use Rattle.solution_tree.proofs.Common.{◌≡◌, ◌+◌, ℕ, length, faults_of, follows, Leads}
 use Rattle.solution_tree.proofs.tree_audit.audit_nodes.Given as goal
 
 abbrev pub invariant-loop-node : goal.invariant-loop-node

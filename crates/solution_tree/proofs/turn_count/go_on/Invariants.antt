@@ -1,8 +1,5 @@
-use Rattle.std.proofs.Common.{◌+◌, ◌≤◌, length, IsTrue}
-use Rattle.target_game.specs.Answers.{reply_sizes}
+use Rattle.solution_tree.proofs.Common.{◌+◌, ◌≤◌, length, IsTrue, reply_sizes, all_below, branches_at, lemma_count, IsPlayed, due}
 use Rattle.proof_cert.specs.Certificate.{replies_of}
-use Rattle.solution_tree.specs.Private.Opened.{all_below, branches_at, lemma_count}
-use Rattle.solution_tree.specs.Private.Counting.{IsPlayed, due}
 use Rattle.solution_tree.proofs.turn_count.go_on.Given as goal
 
 -- What is due here, and at the states before, is no more than was due at first.

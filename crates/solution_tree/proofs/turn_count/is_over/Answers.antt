@@ -1,12 +1,7 @@
-use Rattle.std.proofs.Common.{◌≡◌, ℕ, ◌+◌, ◌≤◌, List, [], Option, Bor, subst, IsTrue, ap, ◌∙◌, arith}
-use Rattle.target_game.specs.State.{GameProblem, Line, start}
+use Rattle.solution_tree.proofs.Common.{◌≡◌, ℕ, ◌+◌, ◌≤◌, List, [], Option, Bor, subst, IsTrue, ap, ◌∙◌, arith, GameProblem, Line, start, node_of, CheckedClaim, Waiting, tree_at, due}
 use Rattle.target_game.specs.Answers.{answer_size}
-use Rattle.proof_cert.specs.Certificate.{node_of}
 use Rattle.proof_cert.specs.declared.certificate.Node.{Node}
-use Rattle.cert_check.specs.Checked.{CheckedClaim}
-use Rattle.solution_tree.specs.declared.turn_count.Waiting.{Waiting}
-use Rattle.solution_tree.specs.Private.Opened.{tree_at}
-use Rattle.solution_tree.specs.Private.Counting.{due, found_below}
+use Rattle.solution_tree.specs.Private.Counting.{found_below}
 use Rattle.solution_tree.proofs.Counted.{count_begins, one_found}
 use Rattle.solution_tree.proofs.turn_count.is_over.Goals as goal
 

@@ -1,8 +1,5 @@
-use Rattle.std.proofs.Common.{◌+◌, ◌≤◌, IsTrue}
+use Rattle.solution_tree.proofs.Common.{◌+◌, ◌≤◌, IsTrue, node_of, expanded, lemma_count, tree_at, uses_below, IsPlayed, due}
 use Rattle.target_game.specs.Answers.{answer_size}
-use Rattle.proof_cert.specs.Certificate.{node_of}
-use Rattle.solution_tree.specs.Private.Opened.{expanded, lemma_count, tree_at, uses_below}
-use Rattle.solution_tree.specs.Private.Counting.{IsPlayed, due}
 use Rattle.solution_tree.proofs.turn_count.is_over.Given as goal
 
 -- The turns that were made are the limit without what is left of it; with those below the node, and those that are due, they are no more than the whole has.

@@ -1,16 +1,6 @@
-use Rattle.std.proofs.Common.{◌≡◌, ℕ, ◌+◌, true, false, List, ◌∷◌, sym, ap, ◌∙◌, subst, rules, arith}
-use Rattle.go_points.specs.declared.Turn.{Turn}
-use Rattle.go_points.specs.Ply.{Ply, ply_of}
-use Rattle.target_game.specs.State.{Line}
-use Rattle.target_game.specs.Left.{line_if}
-use Rattle.target_game.specs.Legal.{legal}
-use Rattle.target_game.specs.Answers.{reply_sizes}
+use Rattle.solution_tree.proofs.Common.{◌≡◌, ℕ, ◌+◌, true, false, List, ◌∷◌, sym, ap, ◌∙◌, subst, rules, arith, Turn, Ply, ply_of, Line, line_if, legal, reply_sizes, CheckedClaim, Waiting, branches_at, lemma_count, IsPlayed, due, with_one}
 use Rattle.proof_cert.specs.Certificate.{replies_of}
 use Rattle.proof_cert.specs.declared.certificate.Node.{Node}
-use Rattle.cert_check.specs.Checked.{CheckedClaim}
-use Rattle.solution_tree.specs.declared.turn_count.Waiting.{Waiting}
-use Rattle.solution_tree.specs.Private.Opened.{branches_at, lemma_count}
-use Rattle.solution_tree.specs.Private.Counting.{IsPlayed, due, with_one}
 use Rattle.solution_tree.proofs.NextReplies.{replies_kept}
 use Rattle.solution_tree.proofs.Counted.{first_below, reply_made, reply_passed}
 use Rattle.solution_tree.proofs.turn_count.make_next.Goals as goal

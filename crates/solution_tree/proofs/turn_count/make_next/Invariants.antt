@@ -1,8 +1,5 @@
-use Rattle.std.proofs.Common.{◌≡◌, ◌+◌, ◌≤◌, length, IsTrue}
-use Rattle.target_game.specs.Answers.{reply_sizes}
+use Rattle.solution_tree.proofs.Common.{◌≡◌, ◌+◌, ◌≤◌, length, IsTrue, reply_sizes, all_below, branches_at, lemma_count, IsPlayed, due}
 use Rattle.proof_cert.specs.Certificate.{replies_of}
-use Rattle.solution_tree.specs.Private.Opened.{all_below, branches_at, lemma_count}
-use Rattle.solution_tree.specs.Private.Counting.{IsPlayed, due}
 use Rattle.solution_tree.proofs.turn_count.make_next.Given as goal
 
 -- Nothing was made, and what is left is no more than all.

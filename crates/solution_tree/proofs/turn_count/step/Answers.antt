@@ -1,11 +1,6 @@
-use Rattle.std.proofs.Common.{◌≡◌, ℕ, ◌+◌, true, List, [], refl, sym, ap, subst, IsTrue, arith}
-use Rattle.target_game.specs.State.{Line}
-use Rattle.target_game.specs.Answers.{answer_size, reply_sizes}
+use Rattle.solution_tree.proofs.Common.{◌≡◌, ℕ, ◌+◌, true, List, [], refl, sym, ap, subst, IsTrue, arith, Line, reply_sizes, CheckedClaim, Waiting, branches_at, lemma_count, tree_at, uses_below, due}
+use Rattle.target_game.specs.Answers.{answer_size}
 use Rattle.proof_cert.specs.Certificate as claim
-use Rattle.cert_check.specs.Checked.{CheckedClaim}
-use Rattle.solution_tree.specs.declared.turn_count.Waiting.{Waiting}
-use Rattle.solution_tree.specs.Private.Opened.{branches_at, lemma_count, tree_at, uses_below}
-use Rattle.solution_tree.specs.Private.Counting.{due}
 use Rattle.solution_tree.proofs.Standing.{play_below}
 use Rattle.solution_tree.proofs.Counted.{all_due, play_made, size_of_none, within_more}
 use Rattle.solution_tree.proofs.turn_count.step.Goals as goal

@@ -1,6 +1,4 @@
-use Rattle.std.proofs.Common.{rules}
-use Rattle.go_points.specs.Grid.{side_of}
-use Rattle.go_points.specs.Place.{IsOn}
+use Rattle.target_game.proofs.Common.{rules, side_of, IsOn}
 use Rattle.target_game.proofs.Loops.{left_on}
 use Rattle.target_game.proofs.questions.all_hold.Goals as goal
 

@@ -1,7 +1,4 @@
-use Rattle.std.proofs.Common.{◌≡◌}
-use Rattle.std.specs.List.{All, list_all}
-use Rattle.go_points.specs.Grid.{same_cell, cell_at, side_of}
-use Rattle.go_points.specs.Place.{Place, IsOn, number_of}
+use Rattle.target_game.proofs.Common.{◌≡◌, All, list_all, same_cell, cell_at, side_of, Place, IsOn, number_of}
 use Rattle.target_game.proofs.questions.all_hold.Given as goal
 
 abbrev pub invariant-loop-point : goal.invariant-loop-point

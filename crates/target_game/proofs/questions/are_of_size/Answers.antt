@@ -1,5 +1,4 @@
-use Rattle.std.proofs.Common.{◌*◌, nat_eq, length, List, sym, arith}
-use Rattle.go_points.specs.declared.Cell.{Cell}
+use Rattle.target_game.proofs.Common.{◌*◌, nat_eq, length, List, sym, arith, Cell}
 use Rattle.target_game.proofs.Loops.{all_no, all_yes, all_sides, differs_in_size}
 use Rattle.target_game.proofs.questions.are_of_size.Goals as goal
 

@@ -1,5 +1,4 @@
-use Rattle.std.proofs.Common.{◌*◌, nat_eq, length, List}
-use Rattle.go_points.specs.declared.Cell.{Cell}
+use Rattle.target_game.proofs.Common.{◌*◌, nat_eq, length, List, Cell}
 use Rattle.target_game.proofs.Loops.{AllAfter}
 use Rattle.target_game.proofs.questions.are_of_size.Given as goal
 

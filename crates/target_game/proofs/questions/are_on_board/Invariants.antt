@@ -1,6 +1,4 @@
-use Rattle.std.proofs.Common.{◌≡◌}
-use Rattle.std.specs.List.{list_all}
-use Rattle.go_points.specs.Place.{on_board}
+use Rattle.target_game.proofs.Common.{◌≡◌, list_all, on_board}
 use Rattle.target_game.proofs.questions.are_on_board.Given as goal
 
 abbrev pub invariant-loop-point : goal.invariant-loop-point

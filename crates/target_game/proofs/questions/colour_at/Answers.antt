@@ -1,6 +1,4 @@
-use Rattle.std.proofs.Common.{sym, ◌∙◌, ap, cond, Some, None}
-use Rattle.go_points.specs.Grid.{cell_at, side_of}
-use Rattle.go_points.specs.Place.{Place, number_of}
+use Rattle.target_game.proofs.Common.{sym, ◌∙◌, ap, cond, Some, None, cell_at, side_of, Place, number_of}
 use Rattle.target_game.proofs.Loops.{colour_is}
 use Rattle.target_game.proofs.questions.colour_at.Goals as goal
 

@@ -1,6 +1,4 @@
-use Rattle.std.proofs.Common.{◌≡◌}
-use Rattle.go_points.specs.Grid.{side_of}
-use Rattle.go_points.specs.Liberty.{all_reach_empty}
+use Rattle.target_game.proofs.Common.{◌≡◌, side_of, all_reach_empty}
 use Rattle.target_game.proofs.Loops.{AllAfter}
 use Rattle.target_game.proofs.questions.have_liberties.Given as goal
 

@@ -1,7 +1,6 @@
-use Rattle.std.proofs.Common.{◌≡◌, ℕ, ◌+◌, ◌%◌, ◌<◌, List, [], get_or, length, length-set, sym, ◌∙◌, ap, arith}
-use Rattle.std.proofs.lemmas.List.{get_or_default, length-replicate}
-use Rattle.go_points.specs.declared.Cell.{Cell}
-use Rattle.target_game.specs.Private.Buckets.{bucket_at, bucket_count, history_most}
+use Rattle.target_game.proofs.Common.{◌≡◌, ℕ, ◌+◌, ◌%◌, ◌<◌, List, [], get_or, length, sym, ◌∙◌, ap, arith, length-replicate, Cell, bucket_at, bucket_count, history_most}
+use Rattle.std.proofs.Common.{length-set}
+use Rattle.std.proofs.lemmas.List.{get_or_default}
 use Rattle.target_game.proofs.Buckets.{none_chained, one_chained, bucket_is, stands_twice, is_once, none_twice}
 use Rattle.target_game.proofs.repeated.stand_twice.Goals as goal
 

@@ -1,6 +1,4 @@
-use Rattle.std.proofs.Common.{◌≡◌, false, length, take}
-use Rattle.go_turns.specs.History.{repeats}
-use Rattle.target_game.specs.Private.Buckets.{AreChained, bucket_count, history_most}
+use Rattle.target_game.proofs.Common.{◌≡◌, false, length, take, repeats, AreChained, bucket_count, history_most}
 use Rattle.target_game.proofs.repeated.stand_twice.Given as goal
 
 abbrev pub invariant-loop-place : goal.invariant-loop-place

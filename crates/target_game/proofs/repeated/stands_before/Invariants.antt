@@ -1,6 +1,4 @@
-use Rattle.std.proofs.Common.{◌≡◌, ℕ, ◌-◌, ◌<◌, ◌≤◌, ◌⊎◌, false, [], get_or}
-use Rattle.go_points.specs.Grid.{same_cells}
-use Rattle.target_game.specs.Private.Buckets.{bucket_at}
+use Rattle.target_game.proofs.Common.{◌≡◌, ℕ, ◌-◌, ◌<◌, ◌≤◌, ◌⊎◌, false, [], get_or, same_cells, bucket_at}
 use Rattle.target_game.proofs.repeated.stands_before.Given as goal
 
 abbrev pub invariant-chain : goal.invariant-chain

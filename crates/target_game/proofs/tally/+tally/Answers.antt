@@ -1,13 +1,4 @@
-use Rattle.std.proofs.Common.{◌≡◌, ◌-◌, suc, is_some, Some, None, option_map, inl, inr, refl, sym, ap, ◌∙◌, arith}
-use Rattle.go_points.specs.declared.Colour.TheVariants.{Black, White}
-use Rattle.go_points.specs.Ply.{ply_of}
-use Rattle.target_game.specs.State.{Line}
-use Rattle.target_game.specs.Legal.{legal_turns}
-use Rattle.target_game.specs.Next.{next}
-use Rattle.target_game.specs.Over.{over}
-use Rattle.target_game.specs.Wins.{is_winner}
-use Rattle.target_game.specs.Private.Tally.{tally_of, before_turns, with_below, with_turns}
-use Rattle.target_game.specs.Left.{turns_due}
+use Rattle.target_game.proofs.Common.{◌≡◌, ◌-◌, suc, is_some, Some, None, option_map, inl, inr, refl, sym, ap, ◌∙◌, arith, Black, White, ply_of, Line, legal_turns, next, over, is_winner, tally_of, before_turns, with_below, with_turns, turns_due}
 use Rattle.target_game.proofs.Due.{turns_begun, went_on, at_end, back_again}
 use Rattle.target_game.proofs.Tallies.{tally_none, tally_last, tally_next, turn_more, turn_past, turns_done, open_state, if_ok_map}
 use Rattle.target_game.proofs.tally.+tally.Goals as goal

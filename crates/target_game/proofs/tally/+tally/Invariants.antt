@@ -1,7 +1,4 @@
-use Rattle.std.proofs.Common.{◌≡◌, ◌+◌, ◌*◌, length}
-use Rattle.target_game.specs.Legal.{legal_turns}
-use Rattle.target_game.specs.Left.{turns_due}
-use Rattle.target_game.specs.Private.Tally.{before_turns, with_turns}
+use Rattle.target_game.proofs.Common.{◌≡◌, ◌+◌, ◌*◌, length, legal_turns, turns_due, before_turns, with_turns}
 use Rattle.target_game.proofs.tally.+tally.Given as goal
 
 abbrev pub decreases-tally_state : goal.decreases-tally_state

@@ -1,12 +1,4 @@
-use Rattle.std.proofs.Common.{◌≡◌, ◌<◌, Some, None, option_map, inr, refl, sym, ◌∙◌, ap, arith}
-use Rattle.go_points.specs.declared.Colour.TheVariants.{Black, White}
-use Rattle.go_points.specs.Ply.{ply_of}
-use Rattle.target_game.specs.Legal.{legal_turns}
-use Rattle.target_game.specs.Left.{turns_due}
-use Rattle.target_game.specs.Next.{next}
-use Rattle.target_game.specs.Over.{over}
-use Rattle.target_game.specs.Wins.{is_winner}
-use Rattle.target_game.specs.Private.Tally.{tally_of, before_turns, with_below, with_turns}
+use Rattle.target_game.proofs.Common.{◌≡◌, ◌<◌, Some, None, option_map, inr, refl, sym, ◌∙◌, ap, arith, Black, White, ply_of, legal_turns, turns_due, next, over, is_winner, tally_of, before_turns, with_below, with_turns}
 use Rattle.target_game.proofs.Due.{turns_begun}
 use Rattle.target_game.proofs.Tallies.{tally_none, tally_last, turn_more, turn_past, turns_done}
 use Rattle.target_game.proofs.Children.{child_winner}

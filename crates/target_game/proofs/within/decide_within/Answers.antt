@@ -1,6 +1,5 @@
-use Rattle.std.proofs.Common.{sym, ap, ◌∙◌}
-use Rattle.target_game.specs.State.{Line, start}
-use Rattle.target_game.specs.Private.Tally.{tally_of}
+use Rattle.target_game.proofs.Common.{sym, ap, ◌∙◌, Line, tally_of}
+use Rattle.target_game.specs.State.{start}
 use Rattle.target_game.proofs.Tallies.{decided, past_decided}
 use Rattle.target_game.proofs.within.decide_within.Goals as goal
 

@@ -1,8 +1,4 @@
-use Rattle.std.proofs.Common.{refl, subst}
-use Rattle.counted_devices.specs.Devices.{HasFailed}
-use Rattle.tsumego_replies.specs.Solutions.{MayAnswer}
-use Rattle.tsumego.specs.Private.Written.{Writes}
-use Rattle.tsumego_replies.specs.Texts.{no_memory_text}
+use Rattle.tsumego.proofs.Common.{refl, subst, HasFailed, MayAnswer, Writes, no_memory_text}
 use Rattle.tsumego.proofs.Answering.{answers_no_failure, left_no_memory, left_said}
 use Rattle.tsumego.proofs.answer.answer.Goals as goal
 

@@ -1,6 +1,4 @@
-use Rattle.std.proofs.Common.{rules, ◌≡◌, ◌≤◌, ◌∙◌, Err, inr, ap}
-use Rattle.go_points.specs.declared.TheConstants.{MAX_SIZE}
-use Rattle.proof_cert.specs.Certificate.{claim_of}
+use Rattle.tsumego.proofs.Common.{rules, ◌≡◌, ◌≤◌, ◌∙◌, Err, inr, ap, MAX_SIZE, claim_of}
 use Rattle.cert_check.specs.declared.lift_fault.Lift.TheVariants.{Limit}
 use Rattle.tsumego.proofs.Answering.{never_accepted}
 use Rattle.tsumego.proofs.answer.said_as_lemma.Goals as goal

@@ -1,14 +1,4 @@
-use Rattle.std.proofs.Common.{◌≡◌, ◌<◌, ◌≤◌, ◌++◌, ◌∙◌, false, length, refl, inl, rules, sym, ap, None, Some, subst, IsTrue}
-use Rattle.go_points.specs.declared.TheConstants.{MAX_SIZE}
-use Rattle.sgf_text.specs.Text.{is_tree, tree_text}
-use Rattle.tsumego_problem.specs.Laws.{IsProblem}
-use Rattle.tsumego_replies.specs.declared.status.Status.TheVariants.{Unanswered}
-use Rattle.tsumego_replies.specs.Texts.{line, too_large_text}
-use Rattle.target_game.specs.State.{start}
-use Rattle.proof_cert.specs.Certificate.{claim_of}
-use Rattle.cert_check.specs.Expand.{expand}
-use Rattle.tsumego_replies.specs.Solutions.{MayAnswer, SolvedBy}
-use Rattle.tsumego.specs.Private.Written.{IsSolutionOf}
+use Rattle.tsumego.proofs.Common.{◌≡◌, ◌<◌, ◌≤◌, ◌++◌, ◌∙◌, false, length, refl, inl, rules, sym, ap, None, Some, subst, IsTrue, MAX_SIZE, is_tree, tree_text, IsProblem, Unanswered, line, too_large_text, start, claim_of, expand, MayAnswer, SolvedBy, IsSolutionOf}
 use Rattle.tsumego.proofs.Answering.{too_large, tree_solves}
 use Rattle.tsumego.proofs.answer.said_as_tree.Goals as goal
 

@@ -1,13 +1,4 @@
-use Rattle.std.proofs.Common.{◌≡◌, ◌≤◌, ◌∙◌, ◌++◌, Bool, true, refl, rules, ap, subst, IsTrue}
-use Rattle.go_points.specs.declared.TheConstants.{MAX_SIZE}
-use Rattle.sgf_text.specs.Text.{is_tree, tree_text}
-use Rattle.tsumego_problem.specs.Laws.{IsProblem}
-use Rattle.tsumego_problem.specs.Canonical.{canonical}
-use Rattle.proof_cert.specs.Certificate.{claim_of}
-use Rattle.proof_cert.specs.Text.{text}
-use Rattle.tsumego_replies.specs.declared.status.Status.TheVariants.{Answered}
-use Rattle.tsumego_replies.specs.Texts.{line}
-use Rattle.tsumego_replies.specs.Solutions.{MayAnswer}
+use Rattle.tsumego.proofs.Common.{◌≡◌, ◌≤◌, ◌∙◌, ◌++◌, Bool, true, refl, rules, ap, subst, IsTrue, MAX_SIZE, is_tree, tree_text, IsProblem, canonical, claim_of, text, Answered, line, MayAnswer}
 use Rattle.tsumego.proofs.Answering.{claim_behind, claim_solves, front_written}
 use Rattle.tsumego.proofs.answer.said_with.Goals as goal
 

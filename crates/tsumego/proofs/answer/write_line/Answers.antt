@@ -1,5 +1,4 @@
-use Rattle.std.proofs.Common.{◌∷◌, []}
-use Rattle.sgf_text.specs.Text.{tree_text}
+use Rattle.tsumego.proofs.Common.{◌∷◌, [], tree_text}
 use Rattle.byte_writer.proofs.TakenLemmas.{front_cut, then_cut}
 use Rattle.tsumego.proofs.answer.write_line.Goals as goal
 

@@ -1,11 +1,5 @@
-use Rattle.std.proofs.Common.{subst, refl, Some}
+use Rattle.tsumego.proofs.Common.{subst, refl, Some, HasStoppedOn, Gtp, Failed, HasFailed, ReadFails, no_memory_text, no_read_text}
 use Rattle.gtp_core.specs.declared.end.GtpEnd.{GtpEnd}
-use Rattle.gtp_core.specs.Runs.{HasStoppedOn}
-use Rattle.tsumego_words.specs.declared.command_line.Command.TheVariants.{Gtp}
-use Rattle.tsumego_replies.specs.declared.status.Status.TheVariants.{Failed}
-use Rattle.counted_devices.specs.Devices.{HasFailed}
-use Rattle.tsumego.specs.Devices.{ReadFails}
-use Rattle.tsumego_replies.specs.Texts.{no_memory_text, no_read_text}
 use Rattle.tsumego.proofs.Running.{ran_no_memory}
 use Rattle.tsumego.proofs.Sessions.{ends_failed, ends_written, session_ends, session_read_fails, session_write_fails, writes_after}
 use Rattle.tsumego.proofs.gtp.serve_gtp.Goals as goal

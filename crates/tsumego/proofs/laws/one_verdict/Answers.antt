@@ -1,6 +1,4 @@
-use Rattle.proof_cert.specs.Text.{lines}
-use Rattle.cert_check.specs.Verdict.{verdict}
-use Rattle.tsumego_replies.proofs.Claims.{has_verdict, one_verdict}
+use Rattle.tsumego.proofs.Common.{lines, verdict, has_verdict, one_verdict}
 use Rattle.tsumego.proofs.laws.one_verdict.Goals as goal
 
 pub returns : goal.returns

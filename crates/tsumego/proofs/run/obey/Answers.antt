@@ -1,16 +1,8 @@
-use Rattle.std.proofs.Common.{◌≡◌, subst, refl, inl, inr, sym, ◌∙◌, Some}
-use Rattle.tsumego_words.specs.declared.command_line.Command.{Command}
-use Rattle.tsumego_words.specs.declared.command_line.Command.TheVariants.{Gtp}
+use Rattle.tsumego.proofs.Common.{◌≡◌, subst, refl, inl, inr, sym, ◌∙◌, Some, Command, Gtp, HasFailed, ReadFails, EndsOn, RanOn, Writes, no_memory_text, no_read_text, some_bytes}
 use Rattle.tsumego_replies.specs.Asking.{MayAsk}
-use Rattle.counted_devices.specs.Devices.{HasFailed}
-use Rattle.tsumego.specs.Devices.{ReadFails}
-use Rattle.tsumego.specs.Outcome.{EndsOn, RanOn}
 use Rattle.tsumego.proofs.Sessions.{ends_other, is_gtp}
 use Rattle.std.specs.Prelude.{string_bytes}
 use Rattle.tsumego_replies.specs.Replies.{IsReply}
-use Rattle.tsumego.specs.Private.Written.{Writes}
-use Rattle.tsumego_replies.specs.Texts.{no_memory_text, no_read_text}
-use Rattle.tsumego_replies.proofs.Saying.{some_bytes}
 use Rattle.tsumego.proofs.Running.{passes_limit, ran_said, ran_no_memory, ran_no_read}
 use Rattle.tsumego.proofs.Answering.{ran_left}
 use Rattle.tsumego.proofs.run.obey.Goals as goal

@@ -1,8 +1,6 @@
-use Rattle.std.proofs.Common.{sym, subst, refl, map}
+use Rattle.tsumego.proofs.Common.{sym, subst, refl, HasFailed, ReadFails, no_memory_text}
+use Rattle.std.proofs.Common.{map}
 use Rattle.tsumego_words.specs.CommandLine.{command_of, IsWordsFault}
-use Rattle.counted_devices.specs.Devices.{HasFailed}
-use Rattle.tsumego.specs.Devices.{ReadFails}
-use Rattle.tsumego_replies.specs.Texts.{no_memory_text}
 use Rattle.tsumego_replies.proofs.Judged.{may_ask_nothing}
 use Rattle.tsumego.proofs.Running.{ran_no_words, ran_no_memory}
 use Rattle.tsumego.proofs.Sessions.{ends_wordless, ends_written}

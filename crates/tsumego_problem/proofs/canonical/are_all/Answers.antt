@@ -1,6 +1,4 @@
-use Rattle.std.proofs.Common.{◌*◌, ◌<◌, map, ◌∙◌, arith}
-use Rattle.go_points.specs.Place.{number_of}
-use Rattle.target_game.specs.Legal.{holds_point}
+use Rattle.tsumego_problem.proofs.Common.{◌*◌, ◌<◌, map, ◌∙◌, arith, number_of, holds_point}
 use Rattle.tsumego_problem.proofs.Recording.{all_hit, all_miss, held_at}
 use Rattle.tsumego_problem.proofs.canonical.are_all.Goals as goal
 

@@ -1,6 +1,4 @@
-use Rattle.std.proofs.Common.{◌*◌, map}
-use Rattle.go_points.specs.Place.{number_of}
-use Rattle.target_game.specs.Legal.{holds_point}
+use Rattle.tsumego_problem.proofs.Common.{◌*◌, map, number_of, holds_point}
 use Rattle.tsumego_problem.proofs.Recording.{AllFrom}
 use Rattle.tsumego_problem.proofs.canonical.are_all.Given as goal
 

@@ -1,5 +1,4 @@
-use Rattle.std.proofs.Common.{ap, ◌∙◌}
-use Rattle.sgf_text.specs.Nodes.{is_node}
+use Rattle.tsumego_problem.proofs.Common.{ap, ◌∙◌, is_node}
 use Rattle.tsumego_problem.proofs.NodesMade.{marks_are_node}
 use Rattle.tsumego_problem.proofs.canonical.marks_node.Goals as goal
 

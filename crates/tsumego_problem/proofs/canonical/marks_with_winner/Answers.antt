@@ -1,7 +1,4 @@
-use Rattle.std.proofs.Common.{ap, ap₂, ◌∙◌, ◌++◌, ◌∷◌, []}
-use Rattle.std.specs.Prelude.{codes}
-use Rattle.sgf_text.specs.Nodes.{is_node}
-use Rattle.tsumego_problem.specs.Canonical.{property}
+use Rattle.tsumego_problem.proofs.Common.{ap, ap₂, ◌∙◌, ◌++◌, ◌∷◌, [], codes, is_node, property}
 use Rattle.tsumego_problem.proofs.NodesMade.{winner_is_node}
 use Rattle.tsumego_problem.proofs.canonical.marks_with_winner.Goals as goal
 

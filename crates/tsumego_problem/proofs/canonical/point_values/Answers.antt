@@ -1,7 +1,4 @@
-use Rattle.std.proofs.Common.{rules, map, sym, subst}
-use Rattle.go_points.specs.Place.{IsOn, number_of}
-use Rattle.target_game.proofs.Loops.{left_on}
-use Rattle.tsumego_problem.specs.Canonical.{point_values}
+use Rattle.tsumego_problem.proofs.Common.{rules, map, sym, subst, IsOn, number_of, left_on, point_values}
 use Rattle.tsumego_problem.proofs.Recording.{ValuesLeft, value_more}
 use Rattle.tsumego_problem.proofs.canonical.point_values.Goals as goal
 

@@ -1,7 +1,4 @@
-use Rattle.std.proofs.Common.{map}
-use Rattle.std.specs.List.{All}
-use Rattle.go_points.specs.Place.{IsOn, number_of}
-use Rattle.tsumego_problem.specs.Canonical.{point_values}
+use Rattle.tsumego_problem.proofs.Common.{map, All, IsOn, number_of, point_values}
 use Rattle.tsumego_problem.proofs.Recording.{ValuesLeft}
 use Rattle.tsumego_problem.proofs.canonical.point_values.Given as goal
 

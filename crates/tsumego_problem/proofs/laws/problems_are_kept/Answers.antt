@@ -1,5 +1,4 @@
-use Rattle.std.proofs.Common.{◌≤◌, subst}
-use Rattle.go_points.specs.declared.TheConstants.{MAX_SIZE}
+use Rattle.tsumego_problem.proofs.Common.{◌≤◌, subst, MAX_SIZE}
 use Rattle.tsumego_problem.proofs.KeptProblems.{problem_kept, set_picked}
 use Rattle.tsumego_problem.proofs.laws.problems_are_kept.Goals as goal
 

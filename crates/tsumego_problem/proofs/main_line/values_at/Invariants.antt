@@ -1,5 +1,4 @@
-use Rattle.std.proofs.Common.{◌≡◌, drop}
-use Rattle.sgf_text.specs.Nodes.{values_at}
+use Rattle.tsumego_problem.proofs.Common.{◌≡◌, drop, values_at}
 use Rattle.tsumego_problem.proofs.main_line.values_at.Given as goal
 
 abbrev pub invariant-loop-property : goal.invariant-loop-property

@@ -1,7 +1,4 @@
-use Rattle.std.proofs.Common.{◌≡◌, ◌+◌, ◌*◌, ◌<◌, ◌&&◌, nat_le, sym, ◌∙◌, ap, subst, arith}
-use Rattle.go_points.specs.Place.{Place, number_of}
-use Rattle.go_points.specs.Points.{with_place}
-use Rattle.tsumego_problem.specs.Values.{inside}
+use Rattle.tsumego_problem.proofs.Common.{◌≡◌, ◌+◌, ◌*◌, ◌<◌, ◌&&◌, nat_le, sym, ◌∙◌, ap, subst, arith, Place, number_of, with_place, inside}
 use Rattle.tsumego_problem.proofs.Rectangles.{GainedBelow, gained_hit, gained_miss, inside_by}
 use Rattle.tsumego_problem.proofs.named_points.add_inside.Goals as goal
 use Rattle.tsumego_problem.proofs.named_points.add_inside.Goals.{then-is_inside, else-is_inside}

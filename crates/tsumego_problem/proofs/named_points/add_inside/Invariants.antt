@@ -1,5 +1,4 @@
-use Rattle.go_points.specs.Place.{number_of}
-use Rattle.tsumego_problem.specs.Values.{inside}
+use Rattle.tsumego_problem.proofs.Common.{number_of, inside}
 use Rattle.tsumego_problem.proofs.Rectangles.{GainedBelow}
 use Rattle.tsumego_problem.proofs.named_points.add_inside.Given as goal
 

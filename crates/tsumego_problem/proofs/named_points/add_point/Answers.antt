@@ -1,6 +1,4 @@
-use Rattle.std.proofs.Common.{sym, ◌∙◌, subst, true}
-use Rattle.tsumego_problem.specs.Values.{points_named}
-use Rattle.tsumego_problem.specs.Private.Named.{Adds}
+use Rattle.tsumego_problem.proofs.Common.{sym, ◌∙◌, subst, true, points_named, Adds}
 use Rattle.tsumego_problem.proofs.Rectangles.{adds_point}
 use Rattle.tsumego_problem.proofs.named_points.add_point.Goals as goal
 

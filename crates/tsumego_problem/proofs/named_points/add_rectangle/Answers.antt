@@ -1,8 +1,5 @@
-use Rattle.std.proofs.Common.{true, false, cond, Some, None, filter, refl, sym, ◌∙◌, ap, subst}
-use Rattle.go_points.specs.Grid.{points}
-use Rattle.go_points.specs.Place.{number_of}
-use Rattle.tsumego_problem.specs.Values.{inside}
-use Rattle.tsumego_problem.specs.Private.Named.{Adds}
+use Rattle.tsumego_problem.proofs.Common.{true, false, cond, Some, None, refl, sym, ◌∙◌, ap, subst, points, number_of, inside, Adds}
+use Rattle.std.proofs.Common.{filter}
 use Rattle.tsumego_problem.proofs.Rectangles.{corners}
 use Rattle.tsumego_problem.proofs.named_points.add_rectangle.Goals as goal
 

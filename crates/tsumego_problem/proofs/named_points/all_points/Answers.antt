@@ -1,8 +1,4 @@
-use Rattle.std.proofs.Common.{◌≡◌, ◌∙◌, ◌*◌, ◌<◌, ap, subst, sym, arith}
-use Rattle.std.specs.List.{range_with_len, All}
-use Rattle.go_points.specs.Grid.{points}
-use Rattle.go_points.specs.Place.{IsOn}
-use Rattle.tsumego_problem.specs.Private.Named.{points_in}
+use Rattle.tsumego_problem.proofs.Common.{◌≡◌, ◌∙◌, ◌*◌, ◌<◌, ap, subst, sym, arith, range_with_len, All, points, IsOn, points_in}
 use Rattle.tsumego_problem.proofs.EachValue.{none_in, one_in, all_in, in_board}
 use Rattle.tsumego_problem.proofs.named_points.all_points.Goals as goal
 

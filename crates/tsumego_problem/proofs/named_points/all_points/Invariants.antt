@@ -1,6 +1,4 @@
-use Rattle.std.proofs.Common.{◌≡◌}
-use Rattle.std.specs.List.{range_with_len}
-use Rattle.tsumego_problem.specs.Private.Named.{points_in}
+use Rattle.tsumego_problem.proofs.Common.{◌≡◌, range_with_len, points_in}
 use Rattle.tsumego_problem.proofs.named_points.all_points.Given as goal
 
 abbrev pub invariant-loop-number : goal.invariant-loop-number

@@ -1,6 +1,4 @@
-use Rattle.std.proofs.Common.{true, sym, subst, arith}
-use Rattle.tsumego_problem.specs.Values.{trim, points_named}
-use Rattle.tsumego_problem.specs.Private.Named.{Adds}
+use Rattle.tsumego_problem.proofs.Common.{true, sym, subst, arith, trim, points_named, Adds}
 use Rattle.tsumego_problem.proofs.EachValue.{each_start, each_more, each_end, each_on}
 use Rattle.tsumego_problem.proofs.named_points.read_points.Goals as goal
 

@@ -1,7 +1,5 @@
-use Rattle.std.proofs.Common.{◌≡◌, ◌∙◌, ◌*◌, ◌<◌, ap, subst, rules}
+use Rattle.tsumego_problem.proofs.Common.{◌≡◌, ◌∙◌, ◌*◌, ◌<◌, ap, subst, rules, cell_at, number_of}
 use Rattle.std.specs.Prelude.{slice_set}
-use Rattle.go_points.specs.Grid.{cell_at}
-use Rattle.go_points.specs.Place.{number_of}
 use Rattle.tsumego_problem.proofs.Assigning.{FilledTo, left_at, filled_more, assigned_all, left_by_sets}
 use Rattle.tsumego_problem.proofs.node_change.assigned.Goals as goal
 

@@ -1,8 +1,4 @@
-use Rattle.std.proofs.Common.{◌∙◌, ap, sym, subst, Ok, Err}
-use Rattle.std.specs.Prelude.{unwrap_or}
-use Rattle.go_turns.specs.Record.{colouring_of, set_up, Did}
-use Rattle.tsumego_problem.specs.Walk.{assigned, set_to, has_no_liberty}
-use Rattle.tsumego_problem.specs.Walked.{walk_of}
+use Rattle.tsumego_problem.proofs.Common.{◌∙◌, ap, sym, subst, Ok, Err, unwrap_or, colouring_of, set_up, Did, assigned, set_to, has_no_liberty, walk_of}
 use Rattle.tsumego_problem.proofs.Assigning.{set_up_fine, set_up_refused, setup_refusal}
 use Rattle.tsumego_problem.proofs.node_change.set_up.Goals as goal
 

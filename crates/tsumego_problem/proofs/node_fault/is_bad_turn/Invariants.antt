@@ -1,7 +1,6 @@
+use Rattle.tsumego_problem.proofs.Common.{values_at, turn_in}
 use Rattle.std.specs.Prelude.{is_none}
 use Rattle.target_game.proofs.Loops.{AnyAfter}
-use Rattle.sgf_text.specs.Nodes.{values_at}
-use Rattle.tsumego_problem.specs.Values.{turn_in}
 use Rattle.tsumego_problem.proofs.node_fault.is_bad_turn.Given as goal
 
 abbrev pub invariant-loop-value : goal.invariant-loop-value

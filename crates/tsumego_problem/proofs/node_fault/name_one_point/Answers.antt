@@ -1,5 +1,4 @@
-use Rattle.std.proofs.Common.{rules}
-use Rattle.tsumego_problem.specs.Walk.{points_at, share_point}
+use Rattle.tsumego_problem.proofs.Common.{rules, points_at, share_point}
 use Rattle.tsumego_problem.proofs.Sharing.{shared_here, not_shared_here, on_rest}
 use Rattle.tsumego_problem.proofs.node_fault.name_one_point.Goals as goal
 

@@ -1,8 +1,4 @@
-use Rattle.std.proofs.Common.{◌≡◌, map}
-use Rattle.std.specs.List.{All, list_any}
-use Rattle.go_points.specs.Place.{IsOn, number_of}
-use Rattle.target_game.specs.Legal.{holds_point}
-use Rattle.tsumego_problem.specs.Walk.{points_at, share_point}
+use Rattle.tsumego_problem.proofs.Common.{◌≡◌, map, All, list_any, IsOn, number_of, holds_point, points_at, share_point}
 use Rattle.tsumego_problem.proofs.node_fault.name_one_point.Given as goal
 
 abbrev pub invariant-loop-point : goal.invariant-loop-point

@@ -1,10 +1,4 @@
-use Rattle.std.proofs.Common.{◌≡◌, ◌∷◌, [], Ok, Err, None, Some, map, length, sym, ◌∙◌, ap, subst}
-use Rattle.go_points.specs.declared.Colour.TheVariants.{Black}
-use Rattle.go_points.specs.declared.Cell.TheVariants.{Empty}
-use Rattle.go_points.specs.Grid.{points}
-use Rattle.go_points.specs.Liberty.{first_without_liberty}
-use Rattle.go_turns.specs.Record.{opened, Opens}
-use Rattle.tsumego_problem.specs.Walk.{assigned, history_limit}
+use Rattle.tsumego_problem.proofs.Common.{◌≡◌, ◌∷◌, [], Ok, Err, None, Some, map, length, sym, ◌∙◌, ap, subst, Black, Empty, points, first_without_liberty, opened, Opens, assigned, history_limit}
 use Rattle.tsumego_problem.proofs.Opening.{no_stones, opened_walk, opened_history, opened_refused, first_refused}
 use Rattle.tsumego_problem.proofs.Assigning.{length_assigned}
 use Rattle.tsumego_problem.proofs.read.open.Goals as goal

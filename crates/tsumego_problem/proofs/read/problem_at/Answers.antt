@@ -1,8 +1,4 @@
-use Rattle.std.proofs.Common.{sym, ◌∙◌, ap, ap₂}
-use Rattle.std.specs.Prelude.{unwrap_or}
-use Rattle.go_points.specs.Grid.{side_of}
-use Rattle.go_turns.specs.History.{place_in}
-use Rattle.target_game.specs.Problem.{problem_of}
+use Rattle.tsumego_problem.proofs.Common.{sym, ◌∙◌, ap, ap₂, unwrap_or, side_of, place_in, problem_of}
 use Rattle.tsumego_problem.proofs.Making.{problem_made}
 use Rattle.tsumego_problem.proofs.Complete.{problem_is_made, not_refused}
 use Rattle.tsumego_problem.proofs.read.problem_at.Goals as goal

@@ -1,8 +1,5 @@
-use Rattle.std.proofs.Common.{◌≡◌, Some, sym, ◌∙◌, ap}
-use Rattle.tsumego_problem.specs.Walk.{history_limit, root_of, is_go, board_size, problem_within, opening, main_line, walk_node, problem_at}
-use Rattle.tsumego_problem.specs.Walked.{walk_of, walk_to_mark}
+use Rattle.tsumego_problem.proofs.Common.{◌≡◌, Some, sym, ◌∙◌, ap, history_limit, root_of, is_go, board_size, problem_within, opening, main_line, walk_node, problem_at, walk_of, walk_to_mark, Black}
 use Rattle.tsumego_problem.proofs.Problems.{some_node, root_is, walk_leads, walk_refuses, root_refuses, led_to}
-use Rattle.go_points.specs.declared.Colour.TheVariants.{Black}
 use Rattle.tsumego_problem.proofs.Keeping.{has_reached}
 use Rattle.tsumego_problem.proofs.read.read_problem.Goals as goal
 

@@ -1,6 +1,4 @@
-use Rattle.std.proofs.Common.{ap, ◌∙◌}
-use Rattle.sgf_text.specs.Nodes.{is_node}
-use Rattle.tsumego_problem.specs.Canonical.{changes}
+use Rattle.tsumego_problem.proofs.Common.{ap, ◌∙◌, is_node, changes}
 use Rattle.tsumego_problem.proofs.NodesMade.{alone, changes_are_node}
 use Rattle.tsumego_problem.proofs.setup_nodes.changes_node.Goals as goal
 

@@ -1,6 +1,4 @@
-use Rattle.std.proofs.Common.{◌≡◌, ◌<◌, ◌^◌, ap, ◌∙◌, arith}
-use Rattle.sgf_text.specs.Nodes.{is_node}
-use Rattle.tsumego_problem.specs.Canonical.{root_node}
+use Rattle.tsumego_problem.proofs.Common.{◌≡◌, ◌<◌, ◌^◌, ap, ◌∙◌, arith, is_node, root_node}
 use Rattle.tsumego_problem.proofs.NodesMade.{root_made, root_is_node}
 use Rattle.tsumego_problem.proofs.Opening.{no_stones}
 use Rattle.tsumego_problem.proofs.setup_nodes.root_node.Goals as goal

@@ -1,7 +1,4 @@
-use Rattle.std.proofs.Common.{◌≡◌, ◌≤◌, drop, option_and_then}
-use Rattle.go_points.specs.declared.TheConstants.{MAX_SIZE}
-use Rattle.tsumego_problem.specs.Values.{digits_value}
-use Rattle.tsumego_problem.specs.Walk.{board_of}
+use Rattle.tsumego_problem.proofs.Common.{◌≡◌, ◌≤◌, drop, option_and_then, MAX_SIZE, digits_value, board_of}
 use Rattle.tsumego_problem.proofs.Numbers.{board_from}
 use Rattle.tsumego_problem.proofs.sizes.read_digits.Given as goal
 

@@ -1,7 +1,4 @@
-use Rattle.std.proofs.lemmas.List.{take_rest}
-use Rattle.std.proofs.Common.{sym, ◌∙◌, ap, option_and_then, take, ◌+◌}
-use Rattle.tsumego_problem.specs.Walk.{board_of}
-use Rattle.tsumego_problem.specs.Values.{size_named, number_named, equal}
+use Rattle.tsumego_problem.proofs.Common.{take_rest, sym, ◌∙◌, ap, option_and_then, take, ◌+◌, board_of, size_named, number_named, equal}
 use Rattle.tsumego_problem.proofs.Numbers.{with_colon, without_colon}
 use Rattle.tsumego_problem.proofs.sizes.read_size.Goals as goal
 

@@ -1,5 +1,4 @@
-use Rattle.std.proofs.Common.{◌≡◌, drop}
-use Rattle.tsumego_problem.specs.Values.{skip_white}
+use Rattle.tsumego_problem.proofs.Common.{◌≡◌, drop, skip_white}
 use Rattle.tsumego_problem.proofs.values.skip_white.Given as goal
 
 abbrev pub invariant-loop-start : goal.invariant-loop-start

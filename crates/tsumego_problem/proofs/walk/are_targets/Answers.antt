@@ -1,5 +1,4 @@
-use Rattle.go_points.specs.Grid.{side_of}
-use Rattle.std.proofs.Common.{rules, sym, ◌∙◌}
+use Rattle.tsumego_problem.proofs.Common.{side_of, rules, sym, ◌∙◌}
 use Rattle.tsumego_problem.proofs.Walking.{targets_hold}
 use Rattle.tsumego_problem.proofs.walk.are_targets.Goals as goal
 

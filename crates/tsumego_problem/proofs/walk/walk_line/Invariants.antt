@@ -1,7 +1,4 @@
-use Rattle.std.proofs.Common.{◌≡◌, Some}
-use Rattle.sgf_text.specs.Trees.{tree_count}
-use Rattle.tsumego_problem.specs.Walk.{main_line, history_limit}
-use Rattle.tsumego_problem.specs.Walked.{walk_of, walk_to_mark}
+use Rattle.tsumego_problem.proofs.Common.{◌≡◌, Some, tree_count, main_line, history_limit, walk_of, walk_to_mark}
 use Rattle.tsumego_problem.proofs.walk.walk_line.Given as goal
 
 abbrev pub invariant-loop-next : goal.invariant-loop-next

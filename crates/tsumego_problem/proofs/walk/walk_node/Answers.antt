@@ -1,6 +1,4 @@
-use Rattle.std.proofs.Common.{Some, sym, ◌∙◌}
-use Rattle.tsumego_problem.specs.Walk.{history_limit}
-use Rattle.tsumego_problem.specs.Walked.{walk_of}
+use Rattle.tsumego_problem.proofs.Common.{Some, sym, ◌∙◌, history_limit, walk_of}
 use Rattle.tsumego_problem.proofs.Walking.{walked_on, walked_to}
 use Rattle.tsumego_problem.proofs.walk.walk_node.Goals as goal
 

@@ -1,6 +1,4 @@
-use Rattle.std.proofs.Common.{◌≡◌, ◌+◌, Some}
-use Rattle.tsumego_problem.specs.Walk.{main_line, line_below, history_limit}
-use Rattle.tsumego_problem.specs.Walked.{walk_of, walk_to_mark}
+use Rattle.tsumego_problem.proofs.Common.{◌≡◌, ◌+◌, Some, main_line, line_below, history_limit, walk_of, walk_to_mark}
 use Rattle.tsumego_problem.proofs.Walking.{left_of}
 use Rattle.tsumego_problem.proofs.walk.walk_sequence.Given as goal
 

@@ -1,8 +1,6 @@
-use Rattle.std.proofs.Common.{rules, ◌≡◌, ◌+◌, ◌-◌, ◌≤◌, [], length, Some, subst, arith}
-use Rattle.std.specs.Prelude.{IfOk, string_bytes}
+use Rattle.tsumego_replies.proofs.Common.{rules, ◌≡◌, ◌+◌, ◌-◌, ◌≤◌, [], length, Some, subst, arith, IfOk, string_bytes, white_limit, IsJudgedAfter}
 use Rattle.tsumego_replies.specs.declared.input.White.{White}
-use Rattle.tsumego_replies.specs.Bounds.{white_limit}
-use Rattle.tsumego_replies.specs.Replies.{IsJudgedAfter, IsPastWhite}
+use Rattle.tsumego_replies.specs.Replies.{IsPastWhite}
 use Rattle.tsumego_replies.proofs.Judged.{claim_held, claim_read, claim_missing, past_held, past_read}
 use Rattle.tsumego_replies.proofs.claim.judge.Goals as goal
 

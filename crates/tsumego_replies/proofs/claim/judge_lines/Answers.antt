@@ -1,9 +1,6 @@
-use Rattle.std.proofs.Common.{◌≡◌, ◌∙◌, ap, subst}
-use Rattle.std.specs.Prelude.{string_bytes, IfOk}
+use Rattle.tsumego_replies.proofs.Common.{◌≡◌, ◌∙◌, ap, subst, string_bytes, IfOk, Answered, IsRejectionOf}
 use Rattle.proof_cert.specs.Streamed.{streamed_of, reader_gives}
 use Rattle.cert_check.specs.Checks.{Accepts, RejectsAt}
-use Rattle.tsumego_replies.specs.declared.status.Status.TheVariants.{Answered}
-use Rattle.tsumego_replies.specs.Replies.{IsRejectionOf}
 use Rattle.tsumego_replies.proofs.Judged.{accepted_after, rejected_after}
 use Rattle.tsumego_replies.proofs.claim.judge_lines.Goals as goal
 

@@ -1,6 +1,4 @@
-use Rattle.std.proofs.Common.{◌≡◌, ℕ, List, length}
-use Rattle.std.specs.Io.KnownBytes.{Consumes}
-use Rattle.tsumego_replies.specs.Replies.{AllWhite}
+use Rattle.tsumego_replies.proofs.Common.{◌≡◌, ℕ, List, length, Consumes, AllWhite}
 use Rattle.tsumego_replies.proofs.input.read_past_white.Given as goal
 
 -- all that was read is white space

@@ -1,5 +1,4 @@
-use Rattle.std.proofs.Common.{◌≡◌, ◌≤◌, ◌-◌, ◌++◌, ℕ, List, length}
-use Rattle.std.specs.Io.KnownBytes.{Consumes}
+use Rattle.tsumego_replies.proofs.Common.{◌≡◌, ◌≤◌, ◌-◌, ◌++◌, ℕ, List, length, Consumes}
 use Rattle.tsumego_replies.proofs.input.read_to_limit.Given as goal
 
 -- what has been read so far stands after what was there

@@ -1,6 +1,4 @@
-use Rattle.std.specs.Prelude.{IfOk}
-use Rattle.std.proofs.Common.{subst}
-use Rattle.tsumego_replies.specs.Replies.{IsSaidAfter}
+use Rattle.tsumego_replies.proofs.Common.{IfOk, subst, IsSaidAfter}
 use Rattle.tsumego_replies.proofs.reply.as_response.Goals as goal
 
 pub returns-in-Ok-Some : goal.returns-in-Ok-Some

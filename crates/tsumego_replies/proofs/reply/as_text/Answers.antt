@@ -1,6 +1,4 @@
-use Rattle.std.specs.Prelude.{IfOk, string_bytes}
-use Rattle.std.proofs.Common.{subst}
-use Rattle.tsumego_replies.specs.Replies.{SaysAfter}
+use Rattle.tsumego_replies.proofs.Common.{IfOk, string_bytes, subst, SaysAfter}
 use Rattle.tsumego_replies.proofs.reply.as_text.Goals as goal
 
 pub returns-in-Ok : goal.returns-in-Ok

@@ -1,6 +1,4 @@
-use Rattle.std.proofs.Common.{subst}
-use Rattle.std.specs.Prelude.{string_bytes}
-use Rattle.tsumego_replies.specs.Replies.{HasNoRecord}
+use Rattle.tsumego_replies.proofs.Common.{subst, string_bytes, HasNoRecord}
 use Rattle.tsumego_replies.proofs.Saying.{refused_says}
 use Rattle.tsumego_replies.proofs.reply.refused.Goals as goal
 

@@ -1,13 +1,9 @@
-use Rattle.std.proofs.Common.{◌≡◌, ◌++◌, sym, subst}
-use Rattle.std.specs.Prelude.{IfOk, string_bytes}
-use Rattle.target_game.specs.State.{start}
+use Rattle.tsumego_replies.proofs.Common.{◌≡◌, ◌++◌, sym, subst, IfOk, string_bytes, start, history_limit, Says, AsksOn, IsJudged, IsReply, IsSaidAfter}
 use Rattle.target_game.specs.Within.{decision}
 use Rattle.solution_tree.specs.Audit.{audit}
-use Rattle.tsumego_problem.specs.Walk.{history_limit}
-use Rattle.tsumego_replies.specs.Answers.{Says, audit_answer, within_answer}
+use Rattle.tsumego_replies.specs.Answers.{audit_answer, within_answer}
 use Rattle.tsumego_problem.proofs.Records.{has_problem_node}
 use Rattle.tsumego_replies.proofs.Recording.{all_behind}
-use Rattle.tsumego_replies.specs.Replies.{AsksOn, IsJudged, IsReply, IsSaidAfter}
 use Rattle.tsumego_replies.proofs.Saying.{said_of_record, some_bytes}
 use Rattle.tsumego_replies.proofs.Searching.{searched_for}
 use Rattle.tsumego_replies.proofs.Judged.{asks_behind, asks_no_more, record_more, none_after, said_after, replied_after, judged_after}

@@ -1,8 +1,6 @@
-use Rattle.std.proofs.Common.{◌≡◌, ◌++◌, ◌∷◌, [], Some}
-use Rattle.std.specs.Prelude.{codes, decimal, string_bytes}
+use Rattle.tsumego_replies.proofs.Common.{◌≡◌, ◌++◌, ◌∷◌, [], Some, codes, decimal, string_bytes, rejected_node_text}
 use Rattle.solution_tree.specs.Audit.{Why}
 use Rattle.solution_tree.specs.Faults.{why_value}
-use Rattle.tsumego_replies.specs.Texts.{rejected_node_text}
 use Rattle.tsumego_replies.proofs.Phrases.{rejected_node_phrase}
 use Rattle.tsumego_replies.proofs.Saying.{said_for}
 use Rattle.tsumego_replies.proofs.texts.node_reject_text.Goals as goal

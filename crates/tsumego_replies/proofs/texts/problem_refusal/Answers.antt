@@ -1,7 +1,4 @@
-use Rattle.std.proofs.Common.{◌∙◌, ◌++◌, ◌∷◌, [], sym, ap}
-use Rattle.std.specs.Prelude.{codes, decimal, string_bytes}
-use Rattle.tsumego_problem.specs.Refusals.{problem_refusal}
-use Rattle.tsumego_replies.specs.Texts.{line}
+use Rattle.tsumego_replies.proofs.Common.{◌∙◌, ◌++◌, ◌∷◌, [], sym, ap, codes, decimal, string_bytes, problem_refusal, line}
 use Rattle.tsumego_replies.proofs.Phrases.{illegal_phrase}
 use Rattle.tsumego_replies.proofs.Saying.{said_so}
 use Rattle.tsumego_replies.proofs.texts.problem_refusal.Goals as goal

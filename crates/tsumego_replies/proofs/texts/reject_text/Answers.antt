@@ -1,8 +1,4 @@
-use Rattle.std.proofs.Common.{◌≡◌, ◌++◌, ◌∷◌, [], Some}
-use Rattle.std.specs.Prelude.{codes, decimal, string_bytes}
-use Rattle.cert_check.specs.Body.{Why}
-use Rattle.cert_check.specs.Stage.{why_value}
-use Rattle.tsumego_replies.specs.Texts.{rejected_line_text}
+use Rattle.tsumego_replies.proofs.Common.{◌≡◌, ◌++◌, ◌∷◌, [], Some, codes, decimal, string_bytes, Why, why_value, rejected_line_text}
 use Rattle.tsumego_replies.proofs.Phrases.{rejected_phrase}
 use Rattle.tsumego_replies.proofs.Saying.{said_for}
 use Rattle.tsumego_replies.proofs.texts.reject_text.Goals as goal

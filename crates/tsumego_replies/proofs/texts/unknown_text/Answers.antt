@@ -1,6 +1,4 @@
-use Rattle.std.proofs.Common.{◌++◌, ◌∷◌, []}
-use Rattle.std.specs.Prelude.{codes, decimal, string_bytes}
-use Rattle.tsumego_replies.specs.Texts.{unknown_text}
+use Rattle.tsumego_replies.proofs.Common.{◌++◌, ◌∷◌, [], codes, decimal, string_bytes, unknown_text}
 use Rattle.tsumego_replies.proofs.Phrases.{unknown_phrase}
 use Rattle.tsumego_replies.proofs.Saying.{said_so}
 use Rattle.tsumego_replies.proofs.texts.unknown_text.Goals as goal

@@ -1,8 +1,4 @@
-use Rattle.std.proofs.Common.{Some, None, codes, ap, ◌∙◌, false}
-use Rattle.std.specs.Option.{option_map_or}
-use Rattle.std.specs.Str.{bytes_eq}
-use Rattle.clap.specs.Words.{found_of, one_text}
-use Rattle.clap.proofs.WalkLemmas.{one_text-rows}
+use Rattle.tsumego_words.proofs.Common.{Some, None, codes, ap, ◌∙◌, false, option_map_or, bytes_eq, found_of, one_text, one_text-rows}
 use Rattle.tsumego_words.proofs.CommandLines.{reads_flag}
 use Rattle.tsumego_words.proofs.command_line.flag.Goals as goal
 

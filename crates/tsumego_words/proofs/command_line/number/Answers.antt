@@ -1,8 +1,5 @@
-use Rattle.std.proofs.Common.{Some, None, option_and_then, sym, ap, ◌∙◌, arith}
-use Rattle.std.specs.Str.Parse.{ParsesUnsigned, ExplainsUnsignedError, HasUnsignedDigitsIfOk}
-use Rattle.clap.specs.Words.{found_of, one_text}
-use Rattle.clap.proofs.WalkLemmas.{one_text-rows}
-use Rattle.tsumego_words.specs.CommandLine.{number_in}
+use Rattle.tsumego_words.proofs.Common.{Some, None, option_and_then, sym, ap, ◌∙◌, arith, ParsesUnsigned, found_of, one_text, one_text-rows, number_in}
+use Rattle.std.specs.Str.Parse.{ExplainsUnsignedError, HasUnsignedDigitsIfOk}
 use Rattle.tsumego_words.proofs.CommandLines.{reads_number, fits_between, not_between}
 use Rattle.tsumego_words.proofs.command_line.number.Goals as goal
 

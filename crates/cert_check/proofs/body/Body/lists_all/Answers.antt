@@ -1,7 +1,4 @@
-use Rattle.std.proofs.Common.{rules, ◌≡◌, Option, None, List, sym, ap, ◌∙◌}
-use Rattle.std.specs.List.{list_all}
-use Rattle.go_points.specs.declared.Cell.{Cell}
-use Rattle.cert_check.specs.Body.{is_listed}
+use Rattle.cert_check.proofs.Common.{rules, ◌≡◌, Option, None, List, sym, ap, ◌∙◌, list_all, Cell, is_listed}
 use Rattle.cert_check.proofs.Lists.{all_free}
 use Rattle.cert_check.proofs.body.Body.lists_all.Goals as goal
 

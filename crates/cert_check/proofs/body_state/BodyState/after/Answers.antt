@@ -1,9 +1,5 @@
-use Rattle.std.proofs.Common.{rules, ◌≡◌, List, [], ◌∷◌, ◌++◌, length, reverse, subst, sym, ap, ◌∙◌}
-use Rattle.go_points.specs.declared.Cell.{Cell}
-use Rattle.go_points.specs.Ply.{Ply, ply_of}
+use Rattle.cert_check.proofs.Common.{rules, ◌≡◌, List, [], ◌∷◌, ◌++◌, length, reverse, subst, sym, ap, ◌∙◌, Cell, Ply, ply_of, next, AreKnown, HasStart}
 use Rattle.target_game.specs.State.{Line}
-use Rattle.target_game.specs.Next.{next}
-use Rattle.cert_check.specs.Private.Known.{AreKnown, HasStart}
 use Rattle.cert_check.proofs.Known.{one_known_more, start_more}
 use Rattle.cert_check.proofs.body_state.BodyState.after.Goals as goal
 

@@ -1,7 +1,5 @@
-use Rattle.std.proofs.Common.{rules, ◌≡◌, List, [], ◌∷◌, ◌++◌, length, reverse, subst, sym}
-use Rattle.go_points.specs.declared.Cell.{Cell}
-use Rattle.target_game.specs.State.{Game, Line, state_with}
-use Rattle.cert_check.specs.Private.Known.{AreKnown, HasStart}
+use Rattle.cert_check.proofs.Common.{rules, ◌≡◌, List, [], ◌∷◌, ◌++◌, length, reverse, subst, sym, Cell, Game, state_with, AreKnown, HasStart}
+use Rattle.target_game.specs.State.{Line}
 use Rattle.cert_check.proofs.Known.{with_known, start_with}
 use Rattle.cert_check.proofs.body_state.BodyState.at_with.Goals as goal
 

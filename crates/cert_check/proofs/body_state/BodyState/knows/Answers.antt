@@ -1,8 +1,6 @@
-use Rattle.std.proofs.Common.{◌≡◌, ◌∙◌, List, sym, ap, true, slice_get}
-use Rattle.go_points.specs.declared.Cell.{Cell}
+use Rattle.cert_check.proofs.Common.{◌≡◌, ◌∙◌, List, sym, ap, true, Cell, is_known, is_it}
+use Rattle.std.proofs.Common.{slice_get}
 use Rattle.target_game.specs.State.{Line}
-use Rattle.cert_check.specs.Body.{is_known}
-use Rattle.cert_check.specs.Private.Ascending.{is_it}
 use Rattle.cert_check.proofs.Known.{known_at}
 use Rattle.cert_check.proofs.Lists.{known_here}
 use Rattle.cert_check.proofs.body_state.BodyState.knows.Goals as goal

@@ -1,6 +1,4 @@
-use Rattle.std.proofs.Common.{rules, ◌∙◌, sym, refl}
-use Rattle.target_game.proofs.Loops.{all_more, all_no, all_yes}
-use Rattle.cert_check.specs.Body.{is_known}
+use Rattle.cert_check.proofs.Common.{rules, ◌∙◌, sym, refl, all_more, all_no, all_yes, is_known}
 use Rattle.cert_check.proofs.body_state.BodyState.knows_all.Goals as goal
 
 pub loop-colouring-init : goal.loop-colouring-init

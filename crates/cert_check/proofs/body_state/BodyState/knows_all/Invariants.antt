@@ -1,5 +1,4 @@
-use Rattle.cert_check.specs.Body.{is_known}
-use Rattle.target_game.proofs.Loops.{AllAfter}
+use Rattle.cert_check.proofs.Common.{is_known, AllAfter}
 use Rattle.cert_check.proofs.body_state.BodyState.knows_all.Given as goal
 
 abbrev pub invariant-loop-colouring : goal.invariant-loop-colouring

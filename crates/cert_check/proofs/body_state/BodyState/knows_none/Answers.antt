@@ -1,9 +1,5 @@
-use Rattle.std.proofs.Common.{◌≡◌, Bool, true, false, not, ◌&&◌, List, take, drop, sym, ap, ◌∙◌}
-use Rattle.std.specs.List.{list_all}
-use Rattle.go_points.specs.declared.Cell.{Cell}
+use Rattle.cert_check.proofs.Common.{◌≡◌, Bool, true, false, not, ◌&&◌, List, take, drop, sym, ap, ◌∙◌, list_all, Cell, is_known, apart}
 use Rattle.target_game.specs.State.{Line}
-use Rattle.cert_check.specs.Body.{is_known}
-use Rattle.cert_check.specs.Private.Ascending.{apart}
 use Rattle.cert_check.proofs.Known.{none_of_both, none_of_known, rest_whole}
 use Rattle.cert_check.proofs.body_state.BodyState.knows_none.Goals as goal
 

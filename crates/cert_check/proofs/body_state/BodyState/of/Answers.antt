@@ -1,8 +1,5 @@
-use Rattle.std.proofs.Common.{rules, ◌≡◌, ◌<◌, ◌∙◌, List, [], length, reverse, subst, sym, ap}
-use Rattle.go_points.specs.declared.Cell.{Cell}
-use Rattle.go_turns.specs.History.{has_occurred}
-use Rattle.target_game.specs.State.{GameProblem, Line, start}
-use Rattle.cert_check.specs.Private.Known.{AreKnown, HasStart, SameMembers}
+use Rattle.cert_check.proofs.Common.{rules, ◌≡◌, ◌<◌, ◌∙◌, List, [], length, reverse, subst, sym, ap, Cell, has_occurred, GameProblem, start, AreKnown, HasStart, SameMembers}
+use Rattle.target_game.specs.State.{Line}
 use Rattle.cert_check.proofs.Known.{start_known, start_whole}
 use Rattle.cert_check.proofs.body_state.BodyState.of.Goals as goal
 

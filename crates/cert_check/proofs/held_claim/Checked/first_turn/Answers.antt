@@ -1,11 +1,5 @@
-use Rattle.std.proofs.Common.{◌≡◌, ◌<◌, List, [], length, map, option_map, ap, ◌∙◌, subst}
-use Rattle.go_points.specs.Ply.{ply_of}
-use Rattle.target_game.specs.State.{GameProblem, start}
-use Rattle.proof_cert.specs.Claim.{Claim}
-use Rattle.proof_cert.specs.Certificate.{claim_of, lemma_of, node_of}
-use Rattle.proof_cert.specs.declared.certificate.Certificate.{Certificate}
+use Rattle.cert_check.proofs.Common.{◌≡◌, ◌<◌, List, [], length, map, option_map, ap, ◌∙◌, subst, ply_of, GameProblem, start, Claim, claim_of, lemma_of, node_of, Certificate, answers_behind, expand_node, first_turn, first_turn_of}
 use Rattle.proof_cert.specs.declared.certificate.Lemma as code
-use Rattle.cert_check.specs.Expand.{answers_behind, expand_node, first_turn, first_turn_of}
 use Rattle.cert_check.proofs.FirstNodes.{first_is, first_due, first_wins}
 use Rattle.cert_check.proofs.held_claim.Checked.first_turn.Goals as goal
 

@@ -1,10 +1,4 @@
-use Rattle.std.proofs.Common.{sym, subst}
-use Rattle.go_points.specs.declared.Colour.{Colour}
-use Rattle.target_game.specs.State.{start}
-use Rattle.target_game.specs.Wins.{Wins}
-use Rattle.proof_cert.specs.Certificate.{claim_of}
-use Rattle.cert_check.specs.Meaning.{KeepsPromises, height_of}
-use Rattle.cert_check.specs.Checked.{CheckedClaim}
+use Rattle.cert_check.proofs.Common.{sym, subst, Colour, start, Wins, claim_of, KeepsPromises, height_of, CheckedClaim}
 use Rattle.cert_check.proofs.Soundness.{valid_claims_win}
 use Rattle.cert_check.proofs.held_claim.Checked.winner.Goals as goal
 

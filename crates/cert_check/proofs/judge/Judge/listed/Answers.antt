@@ -1,10 +1,5 @@
-use Rattle.std.proofs.Common.{arith, rules, ◌≡◌, ◌-◌, ◌+◌, ◌++◌, [], ◌∷◌, true, false, nat_lt, length, sym, ap, ◌∙◌, lt-ltb}
-use Rattle.std.specs.Prelude.{slice_get}
-use Rattle.proof_cert.specs.Claim.{max_listed}
-use Rattle.cert_check.specs.Body.{list_order}
-use Rattle.cert_check.specs.Private.Machine.{last_of, listing_not}
-use Rattle.cert_check.specs.Private.Judging.{machine_of, heading_of, lemma_of, listed_more}
-use Rattle.cert_check.specs.Verdict.{is_after}
+use Rattle.cert_check.proofs.Common.{arith, rules, ◌≡◌, ◌-◌, ◌+◌, ◌++◌, [], ◌∷◌, true, false, nat_lt, length, sym, ap, ◌∙◌, lt-ltb, slice_get, max_listed, list_order, last_of, listing_not, machine_of, heading_of, listed_more, is_after}
+use Rattle.cert_check.specs.Private.Judging.{lemma_of}
 use Rattle.cert_check.proofs.Judging.{last_get, last_fits, listed_barred, listed_ready, listed_goes}
 use Rattle.cert_check.proofs.Replies.{stops_said}
 use Rattle.cert_check.proofs.judge.Judge.listed.Goals as goal

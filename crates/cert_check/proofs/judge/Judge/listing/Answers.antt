@@ -1,5 +1,4 @@
-use Rattle.std.proofs.Common.{option_map, sym, ap, ◌∙◌}
-use Rattle.proof_cert.specs.Stage.{line_value}
+use Rattle.cert_check.proofs.Common.{option_map, sym, ap, ◌∙◌, line_value}
 use Rattle.cert_check.specs.Parts.{listed_value}
 use Rattle.cert_check.proofs.Steps.{takes_as}
 use Rattle.cert_check.proofs.Judging.{first_line}

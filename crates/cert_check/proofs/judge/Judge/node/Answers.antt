@@ -1,10 +1,4 @@
-use Rattle.std.proofs.Common.{arith, rules, ◌≡◌, suc, ◌+◌, option_map, sym, ap, ◌∙◌}
-use Rattle.proof_cert.specs.Stage.{line_value}
-use Rattle.cert_check.specs.Body.{limit}
-use Rattle.cert_check.specs.Stage.{why_value}
-use Rattle.cert_check.specs.Parts.{node_value}
-use Rattle.cert_check.specs.declared.judge.Judge.{Judge}
-use Rattle.target_game.specs.State.{Game}
+use Rattle.cert_check.proofs.Common.{arith, rules, ◌≡◌, suc, ◌+◌, option_map, sym, ap, ◌∙◌, line_value, limit, why_value, node_value, Judge, Game}
 use Rattle.cert_check.proofs.Judging.{node_line_is, node_full, node_off, node_on}
 use Rattle.cert_check.proofs.Replies.{stops_said}
 use Rattle.cert_check.proofs.judge.Judge.node.Goals as goal

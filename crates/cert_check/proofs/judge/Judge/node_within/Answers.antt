@@ -1,7 +1,5 @@
-use Rattle.std.proofs.Common.{◌≡◌, subst, sym}
-use Rattle.proof_cert.specs.Lines.{Line, use_line}
-use Rattle.cert_check.specs.Parts.{node_value}
-use Rattle.cert_check.specs.Private.Judging.{answering, TakesNodeIn}
+use Rattle.cert_check.proofs.Common.{◌≡◌, subst, sym, Line, use_line, node_value, answering}
+use Rattle.cert_check.specs.Private.Judging.{TakesNodeIn}
 use Rattle.cert_check.proofs.judge.Judge.node_within.Goals as goal
 
 pub returns-then-rests_on_shape-clause-taken : goal.returns-then-rests_on_shape-clause-taken

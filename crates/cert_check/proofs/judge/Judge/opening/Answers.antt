@@ -1,5 +1,4 @@
-use Rattle.std.proofs.Common.{rules, ◌≡◌, ◌*◌, length}
-use Rattle.go_points.specs.Private.Sides.{side_of-whole}
+use Rattle.cert_check.proofs.Common.{rules, ◌≡◌, ◌*◌, length, side_of-whole}
 use Rattle.cert_check.proofs.judge.Judge.opening.Goals as goal
 
 pub lemma-requires-clause-size : goal.lemma-requires-clause-size

@@ -1,6 +1,4 @@
-use Rattle.std.proofs.Common.{ap, sym, subst, ◌∙◌}
-use Rattle.go_turns.specs.History.{repeats}
-use Rattle.cert_check.specs.Private.Ascending.{Ascends}
+use Rattle.cert_check.proofs.Common.{ap, sym, subst, ◌∙◌, repeats, Ascends}
 use Rattle.cert_check.proofs.Ascending.{ascends_once}
 use Rattle.cert_check.proofs.judge.Judge.remember.Goals as goal
 

@@ -1,7 +1,4 @@
-use Rattle.std.proofs.Common.{rules, ◌≡◌, true, sym, subst}
-use Rattle.proof_cert.specs.Lines.{line_fits}
-use Rattle.proof_cert.specs.Stage.{line_value}
-use Rattle.cert_check.specs.Private.Judging.{IsReadyFor, AwaitsNode}
+use Rattle.cert_check.proofs.Common.{rules, ◌≡◌, true, sym, subst, line_fits, line_value, IsReadyFor, AwaitsNode}
 use Rattle.cert_check.specs.declared.judge.Phase.{Phase}
 use Rattle.cert_check.proofs.Steps.{takes_as}
 use Rattle.cert_check.proofs.Judging.{body_line}

@@ -1,5 +1,4 @@
-use Rattle.std.proofs.Common.{rules, ◌≡◌, ◌≤◌, ℕ, List, get_or, length, subst, sym, eq-eqb}
-use Rattle.std.specs.List.{Contains}
+use Rattle.cert_check.proofs.Common.{rules, ◌≡◌, ◌≤◌, ℕ, List, get_or, length, subst, sym, eq-eqb, Contains}
 use Rattle.cert_check.proofs.Places.{has_place, stands_within, stands_itself}
 use Rattle.cert_check.proofs.lemma_set.LemmaSet.holds.Goals as goal
 

@@ -1,5 +1,4 @@
-use Rattle.std.proofs.Common.{rules, ◌≡◌, ◌<◌, ◌++◌, [], ◌∷◌, ℕ, List, length, set, subst, sym}
-use Rattle.cert_check.specs.Private.Places.{ArePlaced}
+use Rattle.cert_check.proofs.Common.{rules, ◌≡◌, ◌<◌, ◌++◌, [], ◌∷◌, ℕ, List, length, set, subst, sym, ArePlaced}
 use Rattle.cert_check.proofs.Places.{still_placed, one_placed_more}
 use Rattle.cert_check.proofs.lemma_set.LemmaSet.insert.Goals as goal
 

@@ -1,8 +1,4 @@
-use Rattle.std.proofs.Common.{rules, ◌≡◌, ◌*◌, ◌≤◌, None, List, subst}
-use Rattle.go_points.specs.declared.Cell.{Cell}
-use Rattle.go_points.specs.declared.TheConstants.{MAX_POINTS}
-use Rattle.go_points.specs.Grid.{side_of}
-use Rattle.go_points.specs.Liberty.{first_without_liberty}
+use Rattle.go_chains.proofs.Common.{rules, ◌≡◌, ◌*◌, ◌≤◌, None, List, subst, Cell, MAX_POINTS, side_of, first_without_liberty}
 use Rattle.go_chains.proofs.Lacking.{board_none}
 use Rattle.go_chains.proofs.chain_board.ChainBoard.colouring.Goals as goal
 

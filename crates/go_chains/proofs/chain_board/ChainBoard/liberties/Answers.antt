@@ -1,10 +1,4 @@
-use Rattle.std.proofs.Common.{◌≡◌, ◌≢◌, ◌*◌, ◌<◌, ℕ, List, slice_index, ◌∙◌, ap, subst}
-use Rattle.go_points.specs.declared.Cell.{Cell}
-use Rattle.go_points.specs.declared.TheConstants.{MAX_POINTS}
-use Rattle.go_points.specs.Grid.{side_of}
-use Rattle.go_points.specs.Place.{number_of}
-use Rattle.go_chains.specs.Joined.{HoldsThose, AreLibertiesOf}
-use Rattle.go_chains.specs.Private.Quiet.{is_liberty}
+use Rattle.go_chains.proofs.Common.{◌≡◌, ◌≢◌, ◌*◌, ◌<◌, ℕ, List, slice_index, ◌∙◌, ap, subst, Cell, MAX_POINTS, side_of, number_of, HoldsThose, AreLibertiesOf, is_liberty}
 use Rattle.go_chains.proofs.Gathering.{liberties_are}
 use Rattle.go_chains.proofs.chain_board.ChainBoard.liberties.Goals as goal
 

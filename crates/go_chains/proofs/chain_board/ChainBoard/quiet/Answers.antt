@@ -1,12 +1,4 @@
-use Rattle.std.proofs.Common.{rules, ◌≡◌, ◌*◌, ◌<◌, ◌≤◌, ◌↔◌, IsTrue, ℕ, Bool, true, false, not, List, slice_set, refl, sym, ◌∙◌, ap, subst}
-use Rattle.std.specs.List.{list_any}
-use Rattle.go_points.specs.declared.Cell.{Cell}
-use Rattle.go_points.specs.declared.Cell.TheVariants.{Empty, Stone}
-use Rattle.go_points.specs.declared.TheConstants.{MAX_POINTS}
-use Rattle.go_points.specs.Grid.{neighbours, cell_at, side_of}
-use Rattle.go_points.specs.Place.{number_of}
-use Rattle.go_points.specs.Move.{after_move}
-use Rattle.go_chains.specs.Private.Quiet.{loses_last, lets_stay}
+use Rattle.go_chains.proofs.Common.{rules, ◌≡◌, ◌*◌, ◌<◌, ◌≤◌, ◌↔◌, IsTrue, ℕ, Bool, true, false, not, List, slice_set, refl, sym, ◌∙◌, ap, subst, list_any, Cell, Empty, Stone, MAX_POINTS, neighbours, cell_at, side_of, number_of, after_move, loses_last, lets_stay}
 use Rattle.go_chains.proofs.Lacking.{settled_tells}
 use Rattle.go_chains.proofs.Quietness.{quiet_is}
 use Rattle.go_chains.proofs.chain_board.ChainBoard.quiet.Goals as goal

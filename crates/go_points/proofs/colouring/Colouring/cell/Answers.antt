@@ -1,5 +1,4 @@
-use Rattle.std.proofs.Common.{◌∙◌, sym, refl, true, false}
-use Rattle.go_points.specs.Points.{has_bit}
+use Rattle.go_points.proofs.Common.{◌∙◌, sym, refl, true, false, has_bit}
 use Rattle.go_points.proofs.Packing.{room_packed, cell_packed}
 use Rattle.go_points.proofs.colouring.Colouring.cell.Goals as goal
 

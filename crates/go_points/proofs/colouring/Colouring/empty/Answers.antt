@@ -1,7 +1,4 @@
-use Rattle.std.proofs.Common.{◌≤◌, ◌∙◌, ap₂, sym, subst, replicate, arith, List, ℕ}
-use Rattle.go_points.specs.declared.TheConstants.{MAX_SIZE}
-use Rattle.go_points.specs.Packed.{packed_cells, packed_side, IsPacked}
-use Rattle.go_points.specs.Private.Words.{word_count}
+use Rattle.go_points.proofs.Common.{◌≤◌, ◌∙◌, ap₂, sym, subst, replicate, arith, List, ℕ, MAX_SIZE, packed_cells, packed_side, IsPacked, word_count}
 use Rattle.go_points.proofs.Packing.{no_cells, empty_cells}
 use Rattle.go_points.proofs.colouring.Colouring.empty.Goals as goal
 

@@ -1,5 +1,4 @@
-use Rattle.std.proofs.Common.{ℕ, ◌*◌, ◌<◌, ◌∙◌, ap, sym, subst}
-use Rattle.go_points.specs.Grid.{cell_at}
+use Rattle.go_points.proofs.Common.{ℕ, ◌*◌, ◌<◌, ◌∙◌, ap, sym, subst, cell_at}
 use Rattle.go_points.proofs.Packing.{side_packed, on_packed, same_number, colouring_packed}
 use Rattle.go_points.proofs.colouring.Colouring.get.Goals as goal
 

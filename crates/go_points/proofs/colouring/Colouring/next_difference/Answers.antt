@@ -1,6 +1,4 @@
-use Rattle.std.proofs.Common.{◌≡◌, ℕ, ◌*◌, ◌<◌, sym, ◌∙◌, ap, subst, arith}
-use Rattle.go_points.specs.Grid.{cell_at}
-use Rattle.go_points.specs.Packed.{IsPacked, packed_cells}
+use Rattle.go_points.proofs.Common.{◌≡◌, ℕ, ◌*◌, ◌<◌, sym, ◌∙◌, ap, subst, arith, cell_at, IsPacked, packed_cells}
 use Rattle.go_points.proofs.Packing.{side_packed}
 use Rattle.go_points.proofs.Unlike.{cells_alike, alike_cells}
 use Rattle.go_points.proofs.colouring.Colouring.next_difference.Goals as goal

@@ -1,6 +1,4 @@
-use Rattle.std.proofs.Common.{ℕ, ◌*◌, ◌<◌, ◌∙◌, not, List, ap, ap₂, set, sym}
-use Rattle.go_points.specs.declared.Cell.{Cell}
-use Rattle.go_points.specs.Packed.{packed_side}
+use Rattle.go_points.proofs.Common.{ℕ, ◌*◌, ◌<◌, ◌∙◌, not, List, ap, ap₂, set, sym, Cell, packed_side}
 use Rattle.go_points.proofs.Packing.{side_packed, on_packed, same_number, IsWrittenAt, written_packed, written_cells, stone_test, black_test}
 use Rattle.go_points.proofs.colouring.Colouring.set.Goals as goal
 

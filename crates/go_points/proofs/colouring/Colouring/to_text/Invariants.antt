@@ -1,5 +1,4 @@
-use Rattle.std.proofs.Common.{◌≡◌, take}
-use Rattle.go_points.specs.Text.{text_of}
+use Rattle.go_points.proofs.Common.{◌≡◌, take, text_of}
 use Rattle.go_points.proofs.colouring.Colouring.to_text.Given as goal
 
 abbrev pub invariant-loop-number : goal.invariant-loop-number

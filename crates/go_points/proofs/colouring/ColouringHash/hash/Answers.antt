@@ -1,8 +1,7 @@
-use Rattle.std.proofs.Common.{◌≡◌, ◌++◌, List, ℕ, sym, ◌∙◌, ap, ap₂}
+use Rattle.go_points.proofs.Common.{◌≡◌, ◌++◌, List, ℕ, sym, ◌∙◌, ap, ap₂, stone_words, black_words, stones_back, blacks_back}
 use Rattle.std.specs.List.{fold}
 use Rattle.std.specs.Hash as fed
 use Rattle.std.proofs.lemmas.List.Sums.{fold-append}
-use Rattle.go_points.specs.Packed.{stone_words, black_words, stones_back, blacks_back}
 use Rattle.go_points.proofs.colouring.ColouringHash.hash.Goals as goal
 
 pub returns : goal.returns

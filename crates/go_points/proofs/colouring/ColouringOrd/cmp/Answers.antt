@@ -1,10 +1,4 @@
-use Rattle.std.proofs.Common.{◌≡◌, ◌≢◌, ℕ, ◌*◌, ◌<◌, ◌≤◌, ◌⊎◌, length, Less, Equal, Greater, refl, sym, ◌∙◌, ap, ap₂, arith}
-use Rattle.std.specs.Ordering.{nat_cmp}
-use Rattle.go_points.specs.declared.Colour.TheVariants.{Black, White}
-use Rattle.go_points.specs.declared.Cell.{Cell}
-use Rattle.go_points.specs.declared.Cell.TheVariants.{Empty, Stone}
-use Rattle.go_points.specs.Grid.{cell_at}
-use Rattle.go_points.specs.Text.{cell_code}
+use Rattle.go_points.proofs.Common.{◌≡◌, ◌≢◌, ℕ, ◌*◌, ◌<◌, ◌≤◌, ◌⊎◌, length, Less, Equal, Greater, refl, sym, ◌∙◌, ap, ap₂, arith, nat_cmp, Black, White, Cell, Empty, Stone, cell_at, cell_code}
 use Rattle.go_points.specs.contracts.CellOrd.TheImpl.{cmp-value}
 use Rattle.go_points.proofs.Comparing.{order_at, order_whole, one_cell_more}
 use Rattle.go_points.proofs.colouring.ColouringOrd.cmp.Goals as goal

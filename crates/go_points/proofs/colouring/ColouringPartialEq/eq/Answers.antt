@@ -1,6 +1,4 @@
-use Rattle.std.proofs.Common.{◌≡◌, Bool, true, false, not, nat_eq, eqb-true, eq-eqb, refl, sym, ◌∙◌}
-use Rattle.std.specs.Cmp.Lexicographic.{pointwise}
-use Rattle.go_points.specs.Grid.{same_cells}
+use Rattle.go_points.proofs.Common.{◌≡◌, Bool, true, false, not, nat_eq, eqb-true, eq-eqb, refl, sym, ◌∙◌, pointwise, same_cells}
 use Rattle.go_points.proofs.Comparing.{all_same, size_same, stones_same, blacks_same, unlike, words_decide}
 use Rattle.go_points.proofs.colouring.ColouringPartialEq.eq.Goals as goal
 

@@ -1,7 +1,4 @@
-use Rattle.std.proofs.Common.{◌≤◌, List, ℕ, sym, ◌∙◌, ap₂, subst}
-use Rattle.go_points.specs.declared.point_bits.TheConstants.{NARROW_SIZE}
-use Rattle.go_points.specs.Packed.{packed_cells}
-use Rattle.go_points.specs.Private.Narrow.{narrow_count, first_words, IsNarrow}
+use Rattle.go_points.proofs.Common.{◌≤◌, List, ℕ, sym, ◌∙◌, ap₂, subst, NARROW_SIZE, packed_cells, narrow_count, first_words, IsNarrow}
 use Rattle.go_points.proofs.Packing.{side_packed}
 use Rattle.go_points.proofs.Narrowing.{narrowed, narrow_cells}
 use Rattle.go_points.proofs.narrow_colouring.NarrowColouring.of.Goals as goal

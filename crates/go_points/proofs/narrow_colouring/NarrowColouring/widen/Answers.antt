@@ -1,7 +1,4 @@
-use Rattle.std.proofs.Common.{List, ℕ, sym, ◌∙◌, ap₂, subst}
-use Rattle.go_points.specs.Packed.{packed_cells, IsPacked}
-use Rattle.go_points.specs.Private.Narrow.{first_words}
-use Rattle.go_points.specs.Private.Words.{word_count}
+use Rattle.go_points.proofs.Common.{List, ℕ, sym, ◌∙◌, ap₂, subst, packed_cells, IsPacked, first_words, word_count}
 use Rattle.go_points.proofs.Narrowing.{widened, wide_cells}
 use Rattle.go_points.proofs.narrow_colouring.NarrowColouring.widen.Goals as goal
 

@@ -1,9 +1,6 @@
-use Rattle.std.proofs.Common.{◌≡◌, Some, sym, ◌∙◌, ap, arith}
-use Rattle.go_points.specs.declared.TheConstants.{MAX_SIZE, MAX_POINTS}
-use Rattle.go_points.specs.Points.{has_bit, first_place}
+use Rattle.go_points.proofs.Common.{◌≡◌, Some, sym, ◌∙◌, ap, arith, MAX_SIZE, MAX_POINTS, has_bit, first_place, word_count}
 use Rattle.go_points.proofs.Counting.{none_more, lowest_on, first_bit, no_first}
 use Rattle.go_points.proofs.PlaceSets.{is_point_set}
-use Rattle.go_points.specs.Private.Words.{word_count}
 use Rattle.go_points.proofs.point_set.PointSet.first.Goals as goal
 
 pub point_with-requires : goal.point_with-requires

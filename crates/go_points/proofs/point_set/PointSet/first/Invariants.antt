@@ -1,5 +1,4 @@
-use Rattle.std.proofs.Common.{◌≡◌, ℕ, ◌*◌, ◌<◌, false}
-use Rattle.go_points.specs.Points.{has_bit}
+use Rattle.go_points.proofs.Common.{◌≡◌, ℕ, ◌*◌, ◌<◌, false, has_bit}
 use Rattle.go_points.proofs.point_set.PointSet.first.Given as goal
 
 abbrev pub invariant-loop-index : goal.invariant-loop-index

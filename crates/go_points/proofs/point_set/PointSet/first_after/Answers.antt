@@ -1,5 +1,4 @@
-use Rattle.std.proofs.Common.{subst}
-use Rattle.go_points.specs.Points.{IsFirstAfter}
+use Rattle.go_points.proofs.Common.{subst, IsFirstAfter}
 use Rattle.go_points.proofs.Onward.{first_place_after}
 use Rattle.go_points.proofs.point_set.PointSet.first_after.Goals as goal
 

@@ -1,9 +1,4 @@
-use Rattle.std.proofs.Common.{◌*◌, Some, None, sym, subst, arith}
-use Rattle.std.proofs.lemmas.Nat.{div-add-mod', mod_below}
-use Rattle.go_points.specs.declared.TheConstants.{MAX_SIZE, MAX_POINTS}
-use Rattle.go_points.specs.Place.{place_of}
-use Rattle.go_points.specs.Points.{has_bit, IsFirstFrom, places_that}
-use Rattle.go_points.specs.Private.Words.{word_count}
+use Rattle.go_points.proofs.Common.{◌*◌, Some, None, sym, subst, arith, div-add-mod', mod_below, MAX_SIZE, MAX_POINTS, place_of, has_bit, IsFirstFrom, places_that, word_count}
 use Rattle.go_points.proofs.Onward.{first_in_front, first_in_word, first_on, first_place_from, no_place_from, none_here, none_further}
 use Rattle.go_points.proofs.PlaceSets.{is_point_set}
 use Rattle.go_points.proofs.point_set.PointSet.first_at.Goals as goal

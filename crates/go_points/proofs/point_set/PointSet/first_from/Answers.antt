@@ -1,5 +1,4 @@
-use Rattle.std.proofs.Common.{subst}
-use Rattle.go_points.specs.Points.{IsFirstFrom}
+use Rattle.go_points.proofs.Common.{subst, IsFirstFrom}
 use Rattle.go_points.proofs.point_set.PointSet.first_from.Goals as goal
 
 pub returns : goal.returns

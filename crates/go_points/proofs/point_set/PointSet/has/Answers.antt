@@ -1,7 +1,4 @@
-use Rattle.std.proofs.Common.{sym, ◌∙◌, ap₂}
-use Rattle.go_points.specs.declared.TheConstants.{MAX_SIZE}
-use Rattle.go_points.specs.Points.{has_bit, holds_place}
-use Rattle.go_points.specs.Private.Inverses.{holds_that}
+use Rattle.go_points.proofs.Common.{sym, ◌∙◌, ap₂, MAX_SIZE, has_bit, holds_place, holds_that}
 use Rattle.go_points.proofs.Bits.{bit_read}
 use Rattle.go_points.proofs.point_set.PointSet.has.Goals as goal
 

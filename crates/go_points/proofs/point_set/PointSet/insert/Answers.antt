@@ -1,9 +1,6 @@
-use Rattle.std.proofs.Common.{◌*◌, ◌/◌, ◌%◌, ◌^◌, true, bit_or, get_or, set, ◌∙◌, ap₂, arith}
-use Rattle.go_points.specs.declared.TheConstants.{MAX_SIZE, MAX_POINTS}
-use Rattle.go_points.specs.Points.{has_bit, with_place}
+use Rattle.go_points.proofs.Common.{◌*◌, ◌/◌, ◌%◌, ◌^◌, true, bit_or, get_or, set, ◌∙◌, ap₂, arith, MAX_SIZE, MAX_POINTS, has_bit, with_place, word_count}
 use Rattle.go_points.proofs.Bits.{bit_put, bit_same, bit_other, words_kept}
 use Rattle.go_points.proofs.PlaceSets.{places_with}
-use Rattle.go_points.specs.Private.Words.{word_count}
 use Rattle.go_points.proofs.point_set.PointSet.insert.Goals as goal
 
 pub invariant_of-self : goal.invariant_of-self

@@ -1,9 +1,6 @@
-use Rattle.std.proofs.Common.{◌≡◌, ◌+◌, ◌*◌, length, sym, ◌∙◌, ap, arith}
-use Rattle.go_points.specs.declared.TheConstants.{MAX_SIZE}
-use Rattle.go_points.specs.Points.{has_bit}
+use Rattle.go_points.proofs.Common.{◌≡◌, ◌+◌, ◌*◌, length, sym, ◌∙◌, ap, arith, MAX_SIZE, has_bit, word_count}
 use Rattle.go_points.proofs.Counting.{bits_below, no_bits_below, bits_few, bits_more, bits_all, places_few}
 use Rattle.go_points.proofs.PlaceSets.{is_point_set}
-use Rattle.go_points.specs.Private.Words.{word_count}
 use Rattle.go_points.proofs.point_set.PointSet.len.Goals as goal
 
 pub loop-index-init : goal.loop-index-init

@@ -1,7 +1,4 @@
-use Rattle.std.proofs.Common.{replicate, sym, ◌∙◌, ap, subst}
-use Rattle.go_points.specs.declared.TheConstants.{MAX_SIZE, MAX_POINTS}
-use Rattle.go_points.specs.Points.{has_bit, places_of}
-use Rattle.go_points.specs.Private.Words.{word_count, IsWords}
+use Rattle.go_points.proofs.Common.{replicate, sym, ◌∙◌, ap, subst, MAX_SIZE, MAX_POINTS, has_bit, places_of, word_count, IsWords}
 use Rattle.go_points.proofs.Bits.{no_bit, words_of_zeros}
 use Rattle.go_points.proofs.PlaceSets.{places_none}
 use Rattle.go_points.proofs.point_set.PointSet.new.Goals as goal

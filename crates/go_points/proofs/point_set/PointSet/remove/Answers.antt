@@ -1,9 +1,6 @@
-use Rattle.std.proofs.Common.{◌-◌, ◌*◌, ◌/◌, ◌%◌, ◌^◌, false, bit_and, get_or, set, ◌∙◌, ap₂, arith}
-use Rattle.go_points.specs.declared.TheConstants.{MAX_SIZE, MAX_POINTS}
-use Rattle.go_points.specs.Points.{has_bit, without_place}
+use Rattle.go_points.proofs.Common.{◌-◌, ◌*◌, ◌/◌, ◌%◌, ◌^◌, false, bit_and, get_or, set, ◌∙◌, ap₂, arith, MAX_SIZE, MAX_POINTS, has_bit, without_place, word_count}
 use Rattle.go_points.proofs.Bits.{bit_taken, bit_same, bit_other, words_kept}
 use Rattle.go_points.proofs.PlaceSets.{places_without}
-use Rattle.go_points.specs.Private.Words.{word_count}
 use Rattle.go_points.proofs.point_set.PointSet.remove.Goals as goal
 
 pub invariant_of-self : goal.invariant_of-self

@@ -1,11 +1,7 @@
-use Rattle.std.proofs.Common.{◌≡◌, ℕ, List, Bool, true, false, nat_eq, eqb-true, eq-eqb, refl, sym, ◌∙◌, ap}
-use Rattle.std.specs.Cmp.Lexicographic.{pointwise, pointwise_decides}
-use Rattle.go_points.specs.declared.TheConstants.{MAX_SIZE, MAX_POINTS}
-use Rattle.go_points.specs.Place.{Place}
-use Rattle.go_points.specs.Points.{same_places, places_of}
-use Rattle.go_points.specs.Private.Words.{word_count, IsWords, words_of}
+use Rattle.go_points.proofs.Common.{◌≡◌, ℕ, List, Bool, true, false, nat_eq, eqb-true, eq-eqb, refl, sym, ◌∙◌, ap, pointwise, pointwise_decides, MAX_SIZE, MAX_POINTS, Place, places_of, word_count, IsWords, same_place_decides}
+use Rattle.go_points.specs.Points.{same_places}
+use Rattle.go_points.specs.Private.Words.{words_of}
 use Rattle.go_points.specs.Private.Inverses.{words_back}
-use Rattle.go_points.specs.Equal.{same_place_decides}
 use Rattle.go_points.proofs.point_set.PointSetPartialEq.eq.Goals as goal
 
 same_tests : (a b : Bool) → (a ≡ true → b ≡ true) → (b ≡ true → a ≡ true) → a ≡ b

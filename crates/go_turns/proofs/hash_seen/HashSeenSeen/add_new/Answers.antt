@@ -1,8 +1,5 @@
-use Rattle.std.proofs.Common.{◌≡◌, false, sym, ◌∙◌, ap₂}
-use Rattle.std.specs.List.{list_any}
-use Rattle.go_points.specs.Grid.{same_cells}
+use Rattle.go_turns.proofs.Common.{◌≡◌, false, sym, ◌∙◌, ap₂, list_any, same_cells, place_in}
 use Rattle.go_points.proofs.Lists.{not_true}
-use Rattle.go_turns.specs.History.{place_in}
 use Rattle.go_turns.proofs.Buckets.{low_here, lowered, one_joined}
 use Rattle.go_turns.proofs.Repeats.{no_position}
 use Rattle.go_turns.proofs.Keyed.{joins_last, still_once}

@@ -1,6 +1,4 @@
-use Rattle.std.proofs.Common.{◌≡◌, List, [], ◌∷◌, ◌++◌, None, ◌∙◌, ap, ap₂}
-use Rattle.go_points.specs.declared.Cell.{Cell}
-use Rattle.go_turns.specs.History.{place_in, repeats}
+use Rattle.go_turns.proofs.Common.{◌≡◌, List, [], ◌∷◌, ◌++◌, None, ◌∙◌, ap, ap₂, Cell, place_in, repeats}
 use Rattle.go_turns.proofs.Buckets.{low_here, lowered, one_joined}
 use Rattle.go_turns.proofs.Repeats.{once_more}
 use Rattle.go_turns.proofs.Keyed.{goes_last}

@@ -1,7 +1,4 @@
-use Rattle.std.proofs.Common.{◌≤◌, ◌%◌, ℕ, length, slice_index, List, subst, arith}
-use Rattle.go_points.specs.declared.Cell.{Cell}
-use Rattle.go_turns.specs.History.{HasNoneOf}
-use Rattle.go_turns.specs.Private.Buckets.{bucket_count}
+use Rattle.go_turns.proofs.Common.{◌≤◌, ◌%◌, ℕ, length, slice_index, List, subst, arith, Cell, HasNoneOf, bucket_count}
 use Rattle.go_turns.proofs.Buckets.{has_none}
 use Rattle.go_turns.proofs.hash_seen.HashSeenSeen.may_hold.Goals as goal
 

@@ -1,6 +1,4 @@
-use Rattle.std.proofs.Common.{◌≡◌, ◌-◌, ◌∙◌, ap, length, take, List, arith}
-use Rattle.std.specs.Option.{IsSome}
-use Rattle.go_points.specs.declared.Cell.{Cell}
+use Rattle.go_turns.proofs.Common.{◌≡◌, ◌-◌, ◌∙◌, ap, length, take, List, arith, IsSome, Cell}
 use Rattle.go_turns.proofs.Buckets.{in_front, raised}
 use Rattle.go_turns.proofs.Keyed.{not_popped, popped, rest_is_once}
 use Rattle.go_turns.proofs.hash_seen.HashSeenSeen.take_last.Goals as goal

@@ -1,6 +1,5 @@
 -- The new colouring is none of those before.
-use Rattle.std.proofs.Common.{◌∙◌, ap}
-use Rattle.go_turns.specs.History.{repeats}
+use Rattle.go_turns.proofs.Common.{◌∙◌, ap, repeats}
 use Rattle.go_turns.proofs.Repeats.{once_more}
 use Rattle.go_turns.proofs.list_seen.ListSeenSeen.add.Goals as goal
 

@@ -1,6 +1,5 @@
 -- The new colouring is none of those before.
-use Rattle.std.proofs.Common.{◌≡◌, None, sym, ◌∙◌, ap}
-use Rattle.go_turns.specs.History.{place_in, repeats}
+use Rattle.go_turns.proofs.Common.{◌≡◌, None, sym, ◌∙◌, ap, place_in, repeats}
 use Rattle.go_turns.proofs.Repeats.{once_more}
 use Rattle.go_turns.proofs.list_seen.ListSeenSeen.add_new.Goals as goal
 

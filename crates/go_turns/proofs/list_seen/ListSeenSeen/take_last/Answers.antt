@@ -1,5 +1,4 @@
-use Rattle.std.proofs.Common.{◌-◌, ◌∙◌, ap}
-use Rattle.go_turns.specs.History.{repeats}
+use Rattle.go_turns.proofs.Common.{◌-◌, ◌∙◌, ap, repeats}
 use Rattle.go_turns.proofs.Repeats.{once_in_front}
 use Rattle.go_turns.proofs.list_seen.ListSeenSeen.take_last.Goals as goal
 

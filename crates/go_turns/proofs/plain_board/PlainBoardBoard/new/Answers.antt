@@ -1,6 +1,4 @@
-use Rattle.std.proofs.Common.{◌*◌, ◌∙◌, ap}
-use Rattle.go_points.specs.Grid.{side_of}
-use Rattle.go_points.specs.Liberty.{first_without_liberty}
+use Rattle.go_turns.proofs.Common.{◌*◌, ◌∙◌, ap, side_of, first_without_liberty}
 use Rattle.go_points.proofs.Liberties.{no_stones}
 use Rattle.go_turns.proofs.plain_board.PlainBoardBoard.new.Goals as goal
 

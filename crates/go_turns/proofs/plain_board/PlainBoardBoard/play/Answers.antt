@@ -1,8 +1,6 @@
 -- The cells go through the three steps of a move.
-use Rattle.std.proofs.Common.{◌∙◌, ap}
-use Rattle.go_points.specs.Grid.{side_of}
-use Rattle.go_points.specs.Place.{number_of}
-use Rattle.go_points.specs.Move.{after_move, taken_by_move}
+use Rattle.go_turns.proofs.Common.{◌∙◌, ap, side_of, number_of, after_move}
+use Rattle.go_points.specs.Move.{taken_by_move}
 use Rattle.go_points.proofs.Moves.{move_made, move_leaves, move_takes}
 use Rattle.go_turns.proofs.plain_board.PlainBoardBoard.play.Goals as goal
 

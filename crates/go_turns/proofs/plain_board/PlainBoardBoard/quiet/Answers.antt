@@ -1,10 +1,5 @@
-use Rattle.std.proofs.Common.{rules, ◌≡◌, ◌↔◌, IsTrue, ℕ, true, false, is_none, Some, None, List, slice_set, refl, sym, ◌∙◌, ap, subst}
-use Rattle.go_points.specs.declared.Cell.{Cell}
-use Rattle.go_points.specs.declared.Cell.TheVariants.{Stone}
-use Rattle.go_points.specs.Grid.{side_of}
-use Rattle.go_points.specs.Place.{number_of}
-use Rattle.go_points.specs.Liberty.{first_without_liberty}
-use Rattle.go_points.specs.Move.{after_move}
+use Rattle.go_turns.proofs.Common.{rules, ◌≡◌, ℕ, true, false, Some, None, List, refl, sym, ◌∙◌, ap, subst, Cell, Stone, side_of, number_of, first_without_liberty, after_move}
+use Rattle.std.proofs.Common.{◌↔◌, IsTrue, is_none, slice_set}
 use Rattle.go_points.proofs.Quiet.{quiet_none}
 use Rattle.go_turns.proofs.plain_board.PlainBoardBoard.quiet.Goals as goal
 

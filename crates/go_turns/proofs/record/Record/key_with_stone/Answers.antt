@@ -1,13 +1,5 @@
 -- The key with one stone more, on the size of the present colouring.
-use Rattle.std.proofs.Common.{◌≡◌, ◌*◌, ◌+◌, ◌<◌, ℕ, [], List, get_or, length, set, bit_xor, refl, sym, ap, ap₂, ◌∙◌, subst}
-use Rattle.std.proofs.lemmas.Option.{get_or_from_slice_get}
-use Rattle.go_points.specs.declared.Cell.{Cell}
-use Rattle.go_points.specs.declared.Cell.TheVariants.{Empty, Stone}
-use Rattle.go_points.specs.Grid.{cell_at, side_of}
-use Rattle.go_points.specs.Place.{IsOn, number_of}
-use Rattle.go_points.proofs.Sides.{number_below}
-use Rattle.stone_key.specs.Key.{key_of, word_for, word_after}
-use Rattle.go_turns.specs.Record.{GameRecord, colouring_of}
+use Rattle.go_turns.proofs.Common.{◌≡◌, ◌*◌, ◌+◌, ◌<◌, ℕ, [], List, get_or, length, set, bit_xor, refl, sym, ap, ap₂, ◌∙◌, subst, get_or_from_slice_get, Cell, Empty, Stone, cell_at, side_of, IsOn, number_of, number_below, key_of, word_for, word_after, GameRecord, colouring_of}
 use Rattle.go_turns.proofs.StoneKeys.{key_with}
 use Rattle.go_turns.proofs.record.Record.key_with_stone.Goals as goal
 

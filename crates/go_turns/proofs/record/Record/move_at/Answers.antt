@@ -1,18 +1,5 @@
 -- The step that is kept, and the colouring that joins the history.
-use Rattle.std.proofs.Common.{◌≡◌, ◌*◌, ◌<◌, ◌++◌, [], ◌∷◌, List, map, reverse, take, true, Some, None, Ok, Err, sym, ◌∙◌, ap, subst, arith}
-use Rattle.std.proofs.lemmas.List.{take_at}
-use Rattle.go_points.specs.declared.Cell.{Cell}
-use Rattle.go_points.specs.declared.Cell.TheVariants.{Empty}
-use Rattle.go_points.specs.Grid.{side_of, same_cell, cell_at}
-use Rattle.go_points.specs.Liberty.{first_without_liberty}
-use Rattle.go_points.specs.Place.{IsOn, number_of}
-use Rattle.go_points.specs.Move.{after_move}
-use Rattle.go_points.specs.Ply.{move}
-use Rattle.go_points.proofs.Sides.{number_below}
-use Rattle.go_turns.specs.declared.record.Step.{Step}
-use Rattle.go_turns.specs.History.{place_in}
-use Rattle.go_turns.specs.Record.{Moment, GameRecord, colouring_of, play_of, Did}
-use Rattle.go_turns.specs.Private.Steps.{CanStand, IsAt, IsNotAdded}
+use Rattle.go_turns.proofs.Common.{◌≡◌, ◌*◌, ◌<◌, ◌++◌, [], ◌∷◌, List, map, reverse, take, true, Some, None, Ok, Err, sym, ◌∙◌, ap, subst, arith, take_at, Cell, Empty, side_of, same_cell, cell_at, first_without_liberty, IsOn, number_of, after_move, move, number_below, Step, place_in, Moment, GameRecord, colouring_of, play_of, Did, CanStand, IsAt, IsNotAdded}
 use Rattle.go_turns.proofs.Steps.{can_stand, at_end, fit_longer, fit_push, earlier_split}
 use Rattle.go_turns.proofs.Turns.{did_move, did_not_move, found_at, was_empty, was_moved}
 use Rattle.go_turns.proofs.record.Record.move_at.Given.{Over}

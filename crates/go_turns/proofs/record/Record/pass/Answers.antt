@@ -1,9 +1,6 @@
 -- The step that is kept.
-use Rattle.std.proofs.Common.{◌≡◌, ◌++◌, [], ◌∷◌, length, sym, ◌∙◌, ap, arith}
+use Rattle.go_turns.proofs.Common.{◌≡◌, ◌++◌, [], ◌∷◌, length, sym, ◌∙◌, ap, arith, side_of, Step, CanStand}
 use Rattle.std.proofs.lemmas.List.{length-append}
-use Rattle.go_points.specs.Grid.{side_of}
-use Rattle.go_turns.specs.declared.record.Step.{Step}
-use Rattle.go_turns.specs.Private.Steps.{CanStand}
 use Rattle.go_turns.proofs.Steps.{can_stand, fit_push}
 use Rattle.go_turns.proofs.Turns.{was_pushed}
 use Rattle.go_turns.proofs.record.Record.pass.Goals as goal

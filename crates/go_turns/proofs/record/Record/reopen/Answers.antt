@@ -1,12 +1,6 @@
 -- The point that the board names is that of the definition.
-use Rattle.std.proofs.Common.{◌≡◌, ℕ, [], ◌∷◌, List, map, reverse, take, Some, None, Err, refl, sym, ◌∙◌, ap, subst}
-use Rattle.go_points.specs.declared.Cell.{Cell}
-use Rattle.go_points.specs.Grid.{side_of}
-use Rattle.go_points.specs.Place.{Place, IsOn, number_of}
-use Rattle.go_points.specs.Liberty.{first_without_liberty}
-use Rattle.go_turns.specs.declared.fault.TurnFault.TheVariants.{NoLiberty}
-use Rattle.go_turns.specs.declared.record.Step.{Step}
-use Rattle.go_turns.specs.Record.{Moment, GameRecord, opened, reopened, Did}
+use Rattle.go_turns.proofs.Common.{◌≡◌, ℕ, [], ◌∷◌, List, map, reverse, take, Some, None, Err, refl, sym, ◌∙◌, ap, subst, Cell, side_of, Place, IsOn, number_of, first_without_liberty, NoLiberty, Step, Moment, GameRecord, reopened, Did}
+use Rattle.go_turns.specs.Record.{opened}
 use Rattle.go_turns.proofs.Openings.{reopens_refused}
 use Rattle.go_turns.proofs.record.Record.reopen.Goals as goal
 

@@ -1,14 +1,5 @@
 -- The step that is kept, and the colouring that has its place in the history.
-use Rattle.std.proofs.Common.{◌≡◌, ℕ, ◌++◌, [], ◌∷◌, List, map, reverse, take, Some, None, Ok, Err, sym, ◌∙◌, ap, subst, arith}
-use Rattle.go_points.specs.declared.Cell.{Cell}
-use Rattle.go_points.specs.Grid.{side_of}
-use Rattle.go_points.specs.Place.{Place, IsOn, number_of}
-use Rattle.go_points.specs.Liberty.{first_without_liberty}
-use Rattle.go_turns.specs.declared.fault.TurnFault.TheVariants.{NoLiberty}
-use Rattle.go_turns.specs.declared.record.Step.{Step}
-use Rattle.go_turns.specs.History.{place_in}
-use Rattle.go_turns.specs.Record.{Moment, GameRecord, set_up, Did}
-use Rattle.go_turns.specs.Private.Steps.{CanStand}
+use Rattle.go_turns.proofs.Common.{◌≡◌, ℕ, ◌++◌, [], ◌∷◌, List, map, reverse, take, Some, None, Ok, Err, sym, ◌∙◌, ap, subst, arith, Cell, side_of, Place, IsOn, number_of, first_without_liberty, NoLiberty, Step, place_in, Moment, GameRecord, set_up, Did, CanStand}
 use Rattle.go_turns.proofs.Steps.{can_stand, fit_push, earlier_split}
 use Rattle.go_turns.proofs.Setups.{joined_at, joined_front, joined_fit, did_smother, did_set}
 use Rattle.go_turns.proofs.record.Record.set_up.Goals as goal

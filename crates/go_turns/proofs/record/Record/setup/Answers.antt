@@ -1,9 +1,5 @@
 -- The points make a colouring, and the record is set up to it.
-use Rattle.std.proofs.Common.{◌≡◌, ℕ, ◌*◌, List, map, nat_lt, true, sym, ◌∙◌, ap, subst}
-use Rattle.std.specs.List.{list_all}
-use Rattle.go_points.specs.declared.Cell.{Cell}
-use Rattle.go_points.specs.Grid.{side_of}
-use Rattle.go_turns.specs.Record.{GameRecord, colouring_of, numbered, assigned, Did}
+use Rattle.go_turns.proofs.Common.{◌≡◌, ℕ, ◌*◌, List, map, nat_lt, true, sym, ◌∙◌, ap, subst, list_all, Cell, side_of, GameRecord, colouring_of, numbered, assigned, Did}
 use Rattle.go_turns.proofs.Setups.{setup_is}
 use Rattle.go_turns.proofs.record.Record.setup.Goals as goal
 

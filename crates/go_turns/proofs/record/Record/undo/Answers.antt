@@ -1,11 +1,5 @@
 -- The history is cut to what the step keeps, and the colouring at its place is taken over.
-use Rattle.std.proofs.Common.{◌≡◌, ◌≤◌, ◌++◌, [], ◌∷◌, ℕ, List, length, map, reverse, take, None, Ok, sym, ap, ◌∙◌, subst, arith}
-use Rattle.go_points.specs.declared.Cell.{Cell}
-use Rattle.go_points.specs.Grid.{side_of}
-use Rattle.go_points.specs.Liberty.{first_without_liberty}
-use Rattle.go_turns.specs.declared.record.Step.{Step}
-use Rattle.go_turns.specs.Record.{Moment, GameRecord, undo_of, DidWithoutMemory}
-use Rattle.go_turns.specs.Private.Steps.{CanStand, IsAt, StepsFit}
+use Rattle.go_turns.proofs.Common.{◌≡◌, ◌≤◌, ◌++◌, [], ◌∷◌, ℕ, List, length, map, reverse, take, None, Ok, sym, ap, ◌∙◌, subst, arith, Cell, side_of, first_without_liberty, Step, Moment, GameRecord, undo_of, DidWithoutMemory, CanStand, IsAt, StepsFit}
 use Rattle.go_turns.proofs.Steps.{fit_pop, last_stands, last_few, below_last, earlier_split}
 use Rattle.go_turns.proofs.Turns.{did_undo}
 use Rattle.go_turns.proofs.record.Record.undo.Goals as goal

@@ -1,11 +1,6 @@
 -- The point that the board names is that of the definition.
-use Rattle.std.proofs.Common.{◌≡◌, List, [], None, Err, slice_index_or, sym, ◌∙◌, subst}
-use Rattle.std.proofs.lemmas.List.{get_or_default}
-use Rattle.go_points.specs.declared.Cell.{Cell}
-use Rattle.go_points.specs.Grid.{side_of}
-use Rattle.go_points.specs.Liberty.{first_without_liberty}
-use Rattle.go_turns.specs.declared.fault.TurnFault.TheVariants.{NoLiberty}
-use Rattle.go_turns.specs.Record.{Moment, with_liberties, Opens}
+use Rattle.go_turns.proofs.Common.{◌≡◌, List, [], None, Err, sym, ◌∙◌, subst, get_or_default, Cell, side_of, first_without_liberty, NoLiberty, Moment, with_liberties, Opens}
+use Rattle.std.proofs.Common.{slice_index_or}
 use Rattle.go_turns.proofs.Openings.{opens_refused}
 use Rattle.go_turns.proofs.record.Record.with_history.Goals as goal
 

@@ -1,6 +1,5 @@
 -- The copy holds the colouring, since it was compared.
-use Rattle.std.proofs.Common.{◌≡◌, sym, ◌∙◌}
-use Rattle.go_points.specs.Equal.{same_cells_eq}
+use Rattle.go_turns.proofs.Common.{◌≡◌, sym, ◌∙◌, same_cells_eq}
 use Rattle.go_turns.proofs.spares.Spares.take_latest.Goals as goal
 
 pub returns-then-eq : goal.returns-then-eq

@@ -1,6 +1,4 @@
-use Rattle.std.proofs.Common.{◌≡◌, ℕ, List}
-use Rattle.gtp_core.specs.Private.Pieces.{HasNone}
-use Rattle.gtp_core.specs.Private.Taking.{Gives, bounded, kept}
+use Rattle.gtp_core.proofs.Common.{◌≡◌, ℕ, List, HasNone, Gives, bounded, kept}
 use Rattle.gtp_core.proofs.input.Input.next_line.Given as goal
 
 abbrev pub invariant-loop-byte : goal.invariant-loop-byte

@@ -1,11 +1,4 @@
-use Rattle.std.proofs.Common.{rules, ◌≡◌, Some, Ok, sym, subst}
-use Rattle.go_points.specs.Ply.{ply_of}
-use Rattle.go_turns.specs.Record.{Did, play_of}
-use Rattle.gtp_core.specs.declared.search.Found.TheVariants.{Win}
-use Rattle.gtp_core.specs.Session.{GtpSession, problem_at}
-use Rattle.gtp_core.specs.Words.{success, turn_text}
-use Rattle.gtp_core.specs.Serving.{IsPlayed, MayPlay, reply}
-use Rattle.gtp_core.specs.Private.Following.{IsFoundAt}
+use Rattle.gtp_core.proofs.Common.{rules, ◌≡◌, Some, Ok, sym, subst, ply_of, Did, play_of, Win, GtpSession, problem_at, success, turn_text, IsPlayed, MayPlay, reply, IsFoundAt}
 use Rattle.gtp_core.proofs.Sound.{play_keeps, with_turns_sound}
 use Rattle.gtp_core.proofs.Telling.{did_play, pass_may, turn_played, win_may}
 use Rattle.gtp_core.proofs.session.Session.genmove.Goals.{in-Some-Win, in_default}

@@ -1,5 +1,4 @@
-use Rattle.std.proofs.Common.{rules, ◌≡◌, subst}
-use Rattle.std.specs.Prelude.{IfOk}
+use Rattle.gtp_core.proofs.Common.{rules, ◌≡◌, subst, IfOk}
 use Rattle.gtp_core.specs.declared.session.TheConstants.{FIRST_SIZE}
 use Rattle.gtp_core.specs.Session.{new_session}
 use Rattle.gtp_core.proofs.session.Session.new.Goals as goal

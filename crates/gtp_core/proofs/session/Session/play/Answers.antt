@@ -1,8 +1,5 @@
-use Rattle.std.proofs.Common.{◌≡◌, sym, subst}
-use Rattle.go_points.specs.Ply.{ply_of}
-use Rattle.go_turns.specs.Record.{play_of}
+use Rattle.gtp_core.proofs.Common.{◌≡◌, sym, subst, ply_of, play_of, IsSound}
 use Rattle.gtp_core.specs.Private.Following.{IsKnown}
-use Rattle.gtp_core.specs.Private.Sound.{IsSound}
 use Rattle.gtp_core.proofs.Sound.{play_keeps, turn_refused, with_turns_sound}
 use Rattle.gtp_core.proofs.session.Session.play.Goals as goal
 

@@ -1,12 +1,4 @@
-use Rattle.std.proofs.Common.{◌≡◌, ◌∙◌, ℕ, List, Option, sym, ap, ap₂, subst}
-use Rattle.std.specs.Prelude.{unwrap_or, IfSome}
-use Rattle.std.specs.Result.{result_ok}
-use Rattle.go_points.specs.declared.Cell.{Cell}
-use Rattle.go_points.specs.Grid.{side_of}
-use Rattle.go_turns.specs.History.{place_in}
-use Rattle.target_game.specs.Problem.{problem_of}
-use Rattle.gtp_core.specs.Session.{GtpSession, board_of, problem_at}
-use Rattle.gtp_core.specs.Private.Sound.{IsSound}
+use Rattle.gtp_core.proofs.Common.{◌≡◌, ◌∙◌, ℕ, List, Option, sym, ap, ap₂, subst, unwrap_or, IfSome, result_ok, Cell, side_of, place_in, problem_of, GtpSession, board_of, problem_at, IsSound}
 use Rattle.gtp_core.proofs.Sound.{problem_is, problem_placed, problem_size}
 use Rattle.gtp_core.proofs.session.Session.problem.Goals as goal
 

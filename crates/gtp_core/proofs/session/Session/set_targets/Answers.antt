@@ -1,10 +1,6 @@
-use Rattle.std.proofs.Common.{◌≡◌, ◌∙◌, ℕ, false, List, is_some, IfOk, map, sym, ap, ap₂, subst}
-use Rattle.go_points.specs.declared.Cell.{Cell}
-use Rattle.go_points.specs.Grid.{cell_at}
-use Rattle.go_points.specs.Place.{number_of}
+use Rattle.gtp_core.proofs.Common.{◌≡◌, ◌∙◌, ℕ, false, List, is_some, map, sym, ap, ap₂, subst, Cell, cell_at, number_of, GtpSession, stones_at, Meets, reply, target_due}
+use Rattle.std.proofs.Common.{IfOk}
 use Rattle.target_game.specs.Problem.{one_colour}
-use Rattle.gtp_core.specs.Session.{GtpSession, stones_at}
-use Rattle.gtp_core.specs.Serving.{Meets, reply, target_due}
 use Rattle.gtp_core.proofs.Telling.{targets_refused}
 use Rattle.gtp_core.proofs.session.Session.set_targets.Goals as goal
 

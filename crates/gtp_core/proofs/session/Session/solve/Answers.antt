@@ -1,9 +1,4 @@
-use Rattle.std.proofs.Common.{◌∙◌, ap, subst, sym, Some}
-use Rattle.std.specs.Prelude.{IfOk}
-use Rattle.gtp_core.specs.declared.refusal.Refusal.TheVariants.{NoProblem}
-use Rattle.gtp_core.specs.Private.Following.{IsFoundAt}
-use Rattle.gtp_core.specs.Serving.{Meets, due_or_refusal, reply, tells}
-use Rattle.gtp_core.specs.Session.{GtpSession, problem_at}
+use Rattle.gtp_core.proofs.Common.{◌∙◌, ap, subst, sym, Some, IfOk, NoProblem, IsFoundAt, Meets, due_or_refusal, reply, tells, GtpSession, problem_at}
 use Rattle.gtp_core.proofs.Telling.{loss_told, unknown_told}
 use Rattle.gtp_core.proofs.session.Session.solve.Goals as goal
 

@@ -1,7 +1,4 @@
-use Rattle.std.proofs.Common.{sym, ap, ◌∙◌, Option, option_map, codes}
-use Rattle.proof_cert.specs.Lines.{Line, use_line}
-use Rattle.proof_cert.specs.Stage.{line_value}
-use Rattle.proof_cert.specs.Text.{after_word, at_end, line_of, no_header, or_else}
+use Rattle.proof_cert.proofs.Common.{sym, ap, ◌∙◌, Option, option_map, codes, Line, use_line, line_value, after_word, at_end, line_of, no_header, or_else}
 use Rattle.proof_cert.proofs.line.Line.from_short_text.Goals as goal
 
 pub returns-in-None : goal.returns-in-None

@@ -1,7 +1,4 @@
-use Rattle.std.proofs.Common.{◌≡◌, ◌+◌, ◌-◌, ◌++◌, ◌∙◌, sym, take, drop, subst, arith, Some, Ok, refl}
-use Rattle.proof_cert.specs.Private.Body.{body_value}
-use Rattle.proof_cert.specs.Streamed.{Unread, IsRead}
-use Rattle.proof_cert.specs.Text.{line_by}
+use Rattle.proof_cert.proofs.Common.{◌≡◌, ◌+◌, ◌-◌, ◌++◌, ◌∙◌, sym, take, drop, subst, arith, Some, Ok, refl, body_value, Unread, IsRead, line_by}
 use Rattle.proof_cert.proofs.Streams.{line_read}
 use Rattle.proof_cert.proofs.told_bytes.ToldBytes.body_line.Goals as goal
 

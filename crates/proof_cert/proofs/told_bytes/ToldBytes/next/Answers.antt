@@ -1,5 +1,4 @@
-use Rattle.std.proofs.Common.{◌+◌, ◌++◌, [], ◌∷◌, get_or, take, drop, subst, arith}
-use Rattle.proof_cert.specs.Streamed.{Unread, Uses}
+use Rattle.proof_cert.proofs.Common.{◌+◌, ◌++◌, [], ◌∷◌, get_or, take, drop, subst, arith, Unread, Uses}
 use Rattle.proof_cert.proofs.Streams.{byte_held}
 use Rattle.proof_cert.proofs.told_bytes.ToldBytes.next.Goals as goal
 

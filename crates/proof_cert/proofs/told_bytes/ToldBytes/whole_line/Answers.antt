@@ -1,7 +1,4 @@
-use Rattle.std.proofs.Common.{rules, ◌+◌, ◌++◌, ◌∙◌, sym, take, drop, subst, arith, option_map, Some, Ok, Err}
-use Rattle.proof_cert.specs.Stage.{line_value}
-use Rattle.proof_cert.specs.Streamed.{Unread, IsRead}
-use Rattle.proof_cert.specs.declared.source.SourceFault.TheVariants.{Malformed}
+use Rattle.proof_cert.proofs.Common.{rules, ◌+◌, ◌++◌, ◌∙◌, sym, take, drop, subst, arith, option_map, Some, Ok, Err, line_value, Unread, IsRead, Malformed}
 use Rattle.proof_cert.proofs.Streams.{line_read, line_unread}
 use Rattle.proof_cert.proofs.told_bytes.ToldBytes.whole_line.Goals as goal
 

@@ -1,10 +1,5 @@
-use Rattle.std.proofs.Common.{◌≡◌, ◌<◌, ◌≤◌, ◌-◌, [], ◌∷◌, ◌++◌, length, sym, ap, ◌∙◌, subst, rules}
-use Rattle.std.specs.BTreeMap.{Updates}
-use Rattle.sgf_text.specs.Bytes.{bytes_order}
-use Rattle.std.specs.Prelude.{position, drop, Some, None}
-use Rattle.std.specs.Str.{bytes_eq}
-use Rattle.sgf_text.specs.Nodes.{is_named}
-use Rattle.sgf_text.specs.OpenTrees.{ArePlaces, added, names_of}
+use Rattle.sgf_text.proofs.Common.{◌≡◌, ◌<◌, ◌≤◌, ◌-◌, [], ◌∷◌, ◌++◌, length, sym, ap, ◌∙◌, subst, rules, Updates, bytes_order, position, Some, None, bytes_eq, is_named, ArePlaces, added, names_of}
+use Rattle.std.specs.Prelude.{drop}
 use Rattle.sgf_text.proofs.AddedLemmas.{property, added_none, appended_at, on_ok_map}
 use Rattle.sgf_text.proofs.FewNames.{names_set_behind, places_noted}
 use Rattle.sgf_text.proofs.open_node.OpenNode.add.Goals as goal

@@ -1,8 +1,5 @@
-use Rattle.std.proofs.Common.{◌≡◌, ◌+◌, sym, ap, ◌∙◌, rules}
-use Rattle.std.specs.Prelude.{position, take, drop, Some, None, option_map}
-use Rattle.std.specs.Str.{bytes_eq}
-use Rattle.sgf_text.specs.Nodes.{is_named}
-use Rattle.sgf_text.specs.OpenTrees.{names_of}
+use Rattle.sgf_text.proofs.Common.{◌≡◌, ◌+◌, sym, ap, ◌∙◌, rules, position, Some, None, option_map, bytes_eq, is_named, names_of}
+use Rattle.std.specs.Prelude.{take, drop}
 use Rattle.sgf_text.proofs.FewNames.{place_behind}
 use Rattle.sgf_text.proofs.open_node.OpenNode.place_of.Goals as goal
 

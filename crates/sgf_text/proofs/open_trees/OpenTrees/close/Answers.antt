@@ -1,9 +1,6 @@
-use Rattle.std.proofs.Common.{sym, ap, ◌∙◌, subst}
-use Rattle.std.specs.Prelude.{IsTrue, reverse, [], ◌∷◌}
+use Rattle.sgf_text.proofs.Common.{sym, ap, ◌∙◌, subst, IsTrue, AfterChild, is_tree, Parser, with_child}
+use Rattle.std.specs.Prelude.{reverse, [], ◌∷◌}
 use Rattle.std.proofs.lemmas.List.{reverse-append}
-use Rattle.sgf_text.specs.declared.followers.ParserState.TheVariants.{AfterChild}
-use Rattle.sgf_text.specs.Text.{is_tree}
-use Rattle.sgf_text.specs.OpenTrees.{Parser, with_child}
 use Rattle.sgf_text.proofs.OpenSound.{tree_good, ended_outer}
 use Rattle.sgf_text.proofs.open_trees.OpenTrees.close.Goals as goal
 

@@ -1,8 +1,4 @@
-use Rattle.std.proofs.Common.{◌≡◌, sym, ap, ◌∙◌, subst}
-use Rattle.std.specs.Prelude.{IsTrue}
-use Rattle.sgf_text.specs.declared.followers.ParserState.TheVariants.{AfterValue}
-use Rattle.sgf_text.specs.Nodes.{is_node}
-use Rattle.sgf_text.specs.OpenTrees.{Parser, added, IsSoundNode, IsSoundProperty}
+use Rattle.sgf_text.proofs.Common.{◌≡◌, sym, ap, ◌∙◌, subst, IsTrue, AfterValue, is_node, Parser, added, IsSoundNode, IsSoundProperty}
 use Rattle.sgf_text.proofs.OpenSound.{value_node}
 use Rattle.sgf_text.proofs.open_trees.OpenTrees.end_node.Goals as goal
 use Rattle.sgf_text.proofs.open_trees.OpenTrees.end_node.Goals.{in-AfterSemicolon, in-AfterValue+in_ok-end_property-in-AfterValue}

@@ -1,6 +1,5 @@
-use Rattle.std.proofs.Common.{rules, arith, ◌≡◌, ◌<◌, length, ◌+◌, ◌-◌, false, ◌∷◌, get_or, take, drop, sym, ◌∙◌, ap}
-use Rattle.sgf_text.specs.Bytes.{is_white}
-use Rattle.sgf_text.specs.Tokens.{tokens_after}
+use Rattle.sgf_text.proofs.Common.{rules, arith, ◌≡◌, ◌<◌, length, ◌+◌, ◌-◌, ◌∷◌, get_or, take, drop, sym, ◌∙◌, ap, is_white, tokens_after}
+use Rattle.std.proofs.Common.{false}
 use Rattle.sgf_text.proofs.TokenLemmas.{tokens_step}
 use Rattle.sgf_text.proofs.text_tokens.TextTokensIterator.next.Goals as goal
 use Rattle.sgf_text.proofs.text_tokens.TextTokensIterator.next.Goals.{then-loop-self-test+else-is_white, else-loop-self-test}

@@ -1,5 +1,4 @@
-use Rattle.std.proofs.Common.{length, ◌-◌, ◌≡◌, ◌≤◌, drop}
-use Rattle.sgf_text.specs.Tokens.{tokens_after}
+use Rattle.sgf_text.proofs.Common.{length, ◌-◌, ◌≡◌, ◌≤◌, drop, tokens_after}
 use Rattle.sgf_text.proofs.text_tokens.TextTokensIterator.next.Given as goal
 
 abbrev pub invariant-loop-self : goal.invariant-loop-self

@@ -1,9 +1,5 @@
-use Rattle.std.proofs.Common.{◌≡◌, ◌∷◌, [], List, ap, sym, ◌∙◌, subst, filter}
-use Rattle.std.specs.List.{All}
+use Rattle.target_game.proofs.Common.{◌≡◌, ◌∷◌, [], List, ap, sym, ◌∙◌, subst, filter, All, Cell, side_of, repeats}
 use Rattle.std.specs.Prelude.{slice_index_or}
-use Rattle.go_points.specs.declared.Cell.{Cell}
-use Rattle.go_points.specs.Grid.{side_of}
-use Rattle.go_turns.specs.History.{repeats}
 use Rattle.target_game.proofs.Histories.{differs, once_with, all_with}
 use Rattle.target_game.proofs.state.State.at_with.Goals as goal
 

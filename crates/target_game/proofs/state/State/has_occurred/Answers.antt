@@ -1,5 +1,4 @@
-use Rattle.std.proofs.Common.{rules, ◌≡◌, ◌∙◌, ap, is_some}
-use Rattle.go_turns.specs.History.{place_in}
+use Rattle.target_game.proofs.Common.{rules, ◌≡◌, ◌∙◌, ap, is_some, place_in}
 use Rattle.target_game.proofs.Playing.{occurred_is}
 use Rattle.target_game.proofs.state.State.has_occurred.Goals as goal
 

@@ -1,10 +1,4 @@
-use Rattle.std.proofs.Common.{◌≡◌, ◌&&◌, ◌∙◌, sym, ap, subst}
-use Rattle.go_points.specs.declared.Cell.TheVariants.{Empty}
-use Rattle.go_points.specs.Grid.{cell_at, same_cell}
-use Rattle.go_points.specs.Place.{IsOn, number_of}
-use Rattle.go_turns.specs.Record.{colouring_of}
-use Rattle.target_game.specs.State.{Line}
-use Rattle.target_game.specs.Legal.{holds_point}
+use Rattle.target_game.proofs.Common.{◌≡◌, ◌&&◌, ◌∙◌, sym, ap, subst, Empty, cell_at, same_cell, IsOn, number_of, colouring_of, Line, holds_point}
 use Rattle.target_game.proofs.Playing.{open_is, closed_is}
 use Rattle.target_game.proofs.state.State.is_open.Goals as goal
 

@@ -1,7 +1,4 @@
-use Rattle.std.proofs.Common.{sym, ap, ◌∙◌, not, ◌<◌, ◌*◌}
-use Rattle.std.proofs.lemmas.Nat.{mul-add-lt}
-use Rattle.go_points.specs.Place.{number_of}
-use Rattle.go_turns.specs.History.{has_occurred}
+use Rattle.target_game.proofs.Common.{sym, ap, ◌∙◌, not, ◌<◌, ◌*◌, mul-add-lt, number_of, has_occurred}
 use Rattle.target_game.proofs.Playing.{legal_open}
 use Rattle.target_game.proofs.state.State.may_fill.Goals as goal
 

@@ -1,13 +1,5 @@
 -- A quiet move whose key tells that it is legal.
-use Rattle.std.proofs.Common.{◌≡◌, ◌<◌, ◌*◌, true, not, if◌then◌else◌, Some, None, sym, ◌∙◌, ap}
-use Rattle.std.proofs.lemmas.Nat.{mul-add-lt}
-use Rattle.go_points.specs.Place.{number_of}
-use Rattle.go_points.specs.Ply.{move}
-use Rattle.stone_key.specs.Key.{key_of}
-use Rattle.target_game.specs.declared.child.Child.{Child}
-use Rattle.target_game.specs.Legal.{legal}
-use Rattle.target_game.specs.Next.{next}
-use Rattle.target_game.specs.Over.{over}
+use Rattle.target_game.proofs.Common.{◌≡◌, ◌<◌, ◌*◌, true, not, if◌then◌else◌, Some, None, sym, ◌∙◌, ap, mul-add-lt, number_of, move, key_of, Child, legal, next, over}
 use Rattle.target_game.proofs.Playing.{legal_open}
 use Rattle.target_game.proofs.state.State.move_child.Goals as goal
 

@@ -1,12 +1,5 @@
 -- A quiet move with a key that no colouring has.
-use Rattle.std.proofs.Common.{◌≡◌, ℕ, set, sym, ◌∙◌, ap, subst}
-use Rattle.go_points.specs.declared.Cell.TheVariants.{Stone}
-use Rattle.go_points.specs.Place.{number_of}
-use Rattle.go_points.specs.Move.{after_move}
-use Rattle.go_turns.specs.History.{HasNoneOf}
-use Rattle.go_turns.specs.Record.{colouring_of}
-use Rattle.stone_key.specs.Key.{key_of}
-use Rattle.target_game.specs.State.{Line}
+use Rattle.target_game.proofs.Common.{◌≡◌, ℕ, set, sym, ◌∙◌, ap, subst, Stone, number_of, after_move, HasNoneOf, colouring_of, key_of, Line}
 use Rattle.target_game.specs.Private.NewKey.{IsNewKey}
 use Rattle.target_game.proofs.Playing.{new_by_key}
 use Rattle.target_game.proofs.state.State.new_key.Goals as goal

@@ -1,8 +1,4 @@
-use Rattle.std.proofs.Common.{◌+◌, ℕ, Some, None, sym, ap, subst, ◌∙◌}
-use Rattle.go_points.specs.declared.Turn.TheVariants.{At}
-use Rattle.go_points.specs.Place.{number_of}
-use Rattle.go_points.specs.Ply.{pass, ply_of}
-use Rattle.target_game.specs.Left.{Takes}
+use Rattle.target_game.proofs.Common.{◌+◌, ℕ, Some, None, sym, ap, subst, ◌∙◌, At, number_of, pass, ply_of, Takes}
 use Rattle.target_game.proofs.Due.{taken_move, taken_pass}
 use Rattle.target_game.proofs.state.State.next_child.Goals as goal
 

@@ -1,9 +1,4 @@
-use Rattle.std.proofs.Common.{◌≡◌, ℕ, true, false, map, refl, sym, ap, ◌∙◌, subst, arith}
-use Rattle.std.specs.List.{All}
-use Rattle.go_points.specs.declared.Cell.TheVariants.{Empty}
-use Rattle.go_points.specs.Grid.{same_cell, cell_at}
-use Rattle.go_points.specs.Place.{IsOn, number_of}
-use Rattle.target_game.specs.State.{Line}
+use Rattle.target_game.proofs.Common.{◌≡◌, ℕ, true, false, map, refl, sym, ap, ◌∙◌, subst, arith, All, Empty, same_cell, cell_at, IsOn, number_of, Line}
 use Rattle.target_game.proofs.Due.{next_inside, next_outside, none_yet}
 use Rattle.target_game.proofs.OpenPoints.{past_stone}
 use Rattle.target_game.proofs.state.State.next_open.Goals as goal

@@ -1,10 +1,4 @@
-use Rattle.std.proofs.Common.{◌≡◌, ◌≤◌, ◌+◌, ◌*◌, ℕ, true, false, map, refl, sym, ap, ◌∙◌, subst, arith}
-use Rattle.std.specs.List.{All}
-use Rattle.go_points.specs.declared.Cell.TheVariants.{Empty}
-use Rattle.go_points.specs.declared.TheConstants.{MAX_SIZE}
-use Rattle.go_points.specs.Grid.{same_cell, cell_at}
-use Rattle.go_points.specs.Place.{IsOn, number_of}
-use Rattle.target_game.specs.State.{Line}
+use Rattle.target_game.proofs.Common.{◌≡◌, ◌≤◌, ◌+◌, ◌*◌, ℕ, true, false, map, refl, sym, ap, ◌∙◌, subst, arith, All, Empty, MAX_SIZE, same_cell, cell_at, IsOn, number_of, Line}
 use Rattle.target_game.proofs.OpenPoints.{onward_inside, onward_outside}
 use Rattle.target_game.proofs.Due.{number_on, none_joined, none_more, none_yet, at_stone}
 use Rattle.target_game.proofs.state.State.open_after.Goals as goal

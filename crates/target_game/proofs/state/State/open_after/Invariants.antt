@@ -1,6 +1,4 @@
-use Rattle.std.proofs.Common.{◌≤◌, ◌+◌, ◌-◌, ◌*◌}
-use Rattle.go_points.specs.Place.{IsOn, number_of}
-use Rattle.target_game.specs.Left.{NoneLegal}
+use Rattle.target_game.proofs.Common.{◌≤◌, ◌+◌, ◌-◌, ◌*◌, IsOn, number_of, NoneLegal}
 use Rattle.target_game.proofs.state.State.open_after.Given as goal
 
 -- the points after the first one, up to this one, are no legal moves

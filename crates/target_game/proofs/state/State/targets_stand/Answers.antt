@@ -1,10 +1,4 @@
-use Rattle.std.proofs.Common.{rules, ◌≡◌, ◌∙◌, sym, ap, subst, true, false}
-use Rattle.go_points.specs.declared.Cell.TheVariants.{Stone}
-use Rattle.go_points.specs.Grid.{cell_at, same_cell}
-use Rattle.go_points.specs.Place.{Place, IsOn, number_of}
-use Rattle.go_turns.specs.Record.{colouring_of}
-use Rattle.target_game.specs.State.{Line}
-use Rattle.target_game.specs.Over.{targets_stand}
+use Rattle.target_game.proofs.Common.{rules, ◌≡◌, ◌∙◌, sym, ap, subst, true, false, Stone, cell_at, same_cell, Place, IsOn, number_of, colouring_of, Line, targets_stand}
 use Rattle.target_game.proofs.Loops.{left_on}
 use Rattle.target_game.proofs.Playing.{stand_is, stand_no, stand_yes}
 use Rattle.target_game.proofs.state.State.targets_stand.Goals as goal

@@ -1,9 +1,4 @@
-use Rattle.std.proofs.Common.{◌≡◌}
-use Rattle.std.specs.List.{All, list_all}
-use Rattle.go_points.specs.declared.Cell.TheVariants.{Stone}
-use Rattle.go_points.specs.Grid.{cell_at, same_cell}
-use Rattle.go_points.specs.Place.{Place, IsOn, number_of}
-use Rattle.go_turns.specs.Record.{colouring_of}
+use Rattle.target_game.proofs.Common.{◌≡◌, All, list_all, Stone, cell_at, same_cell, Place, IsOn, number_of, colouring_of}
 use Rattle.target_game.proofs.state.State.targets_stand.Given as goal
 
 abbrev pub invariant-loop-point : goal.invariant-loop-point

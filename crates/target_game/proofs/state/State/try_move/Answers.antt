@@ -1,14 +1,4 @@
-use Rattle.std.proofs.Common.{◌≡◌, ℕ, ◌&&◌, true, false, Ok, Err, sym, ap, subst, ◌∙◌}
-use Rattle.go_points.specs.declared.Turn.TheVariants.{At}
-use Rattle.go_points.specs.declared.Cell.TheVariants.{Empty}
-use Rattle.go_points.specs.Grid.{same_cell, cell_at}
-use Rattle.go_points.specs.Place.{IsOn, number_of}
-use Rattle.go_points.specs.Ply.{move, ply_of}
-use Rattle.go_turns.specs.Record.{Did, play_of}
-use Rattle.target_game.specs.State.{Line}
-use Rattle.target_game.specs.Legal.{legal, holds_point}
-use Rattle.target_game.specs.Left.{line_after}
-use Rattle.target_game.specs.Kept.{kept_line, kept_game}
+use Rattle.target_game.proofs.Common.{◌≡◌, ℕ, ◌&&◌, true, false, Ok, Err, sym, ap, subst, ◌∙◌, At, Empty, same_cell, cell_at, IsOn, number_of, move, ply_of, Did, play_of, Line, legal, holds_point, line_after, kept_line, kept_game}
 use Rattle.target_game.proofs.Playing.{ply_at}
 use Rattle.target_game.proofs.Tried.{tried_yes, tried_no, tried_line, free_move}
 use Rattle.target_game.proofs.state.State.try_move.Goals as goal

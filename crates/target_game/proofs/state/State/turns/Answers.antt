@@ -1,8 +1,4 @@
-use Rattle.std.proofs.Common.{◌≡◌, ◌*◌, ◌++◌, ◌≤◌, length, map, ap, ◌∙◌, arith}
-use Rattle.std.proofs.lemmas.List.{length-map, length-append}
-use Rattle.go_points.specs.Ply.{ply_of}
-use Rattle.target_game.specs.Legal.{legal_turns}
-use Rattle.target_game.specs.Left.{turns_due}
+use Rattle.target_game.proofs.Common.{◌≡◌, ◌*◌, ◌++◌, ◌≤◌, length, map, ap, ◌∙◌, arith, length-map, length-append, ply_of, legal_turns, turns_due}
 use Rattle.target_game.proofs.Due.{turns_begun, turns_few, some_taken}
 use Rattle.target_game.proofs.state.State.turns.Goals as goal
 

@@ -1,7 +1,4 @@
-use Rattle.std.proofs.Common.{◌≡◌, ◌++◌, length, map}
-use Rattle.go_points.specs.Ply.{ply_of}
-use Rattle.target_game.specs.Legal.{legal_turns}
-use Rattle.target_game.specs.Left.{turns_due}
+use Rattle.target_game.proofs.Common.{◌≡◌, ◌++◌, length, map, ply_of, legal_turns, turns_due}
 use Rattle.target_game.proofs.state.State.turns.Given as goal
 
 abbrev pub invariant-loop-turn : goal.invariant-loop-turn

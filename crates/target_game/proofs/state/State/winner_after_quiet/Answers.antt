@@ -1,8 +1,5 @@
 -- A move that changes no other point leaves the targets where they are.
-use Rattle.std.proofs.Common.{◌≡◌, true, sym, ◌∙◌, ap, set}
-use Rattle.go_points.specs.declared.Cell.TheVariants.{Stone}
-use Rattle.go_points.specs.Place.{number_of}
-use Rattle.target_game.specs.Over.{over, targets_stand}
+use Rattle.target_game.proofs.Common.{◌≡◌, true, sym, ◌∙◌, ap, set, Stone, number_of, over, targets_stand}
 use Rattle.target_game.proofs.Playing.{still_stand, winner_is}
 use Rattle.target_game.proofs.state.State.winner_after_quiet.Goals as goal
 

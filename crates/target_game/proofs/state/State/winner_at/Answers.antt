@@ -1,12 +1,4 @@
-use Rattle.std.proofs.Common.{rules, ℕ, ◌≡◌, ◌∙◌, sym, ap, subst, None, Some, true, false}
-use Rattle.std.specs.List.{list_all}
-use Rattle.go_points.specs.declared.Cell.TheVariants.{Stone}
-use Rattle.go_points.specs.declared.Colour.{Colour}
-use Rattle.go_points.specs.Grid.{side_of, cell_at, same_cell}
-use Rattle.go_points.specs.Place.{number_of}
-use Rattle.target_game.specs.State.{Line}
-use Rattle.target_game.specs.Over.{over}
-use Rattle.target_game.specs.Kept.{kept_state, kept_game}
+use Rattle.target_game.proofs.Common.{rules, ℕ, ◌≡◌, ◌∙◌, sym, ap, subst, None, Some, true, false, list_all, Stone, Colour, side_of, cell_at, same_cell, number_of, Line, over, kept_state, kept_game}
 use Rattle.target_game.proofs.Playing.{stand_is, winner_is}
 use Rattle.target_game.proofs.state.State.winner_at.Goals as goal
 

@@ -211,7 +211,7 @@ impl Board {
     }
 
     /// The word of a stone of this side at the place.
-    fn word(&self, side: Side, place: usize) -> u64 {
+    pub(crate) fn word(&self, side: Side, place: usize) -> u64 {
         match self.spots.get(place) {
             Some(spot) => match side {
                 Side::Attacker => spot.attacker,

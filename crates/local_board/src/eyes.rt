@@ -6,7 +6,7 @@
 
 use crate::board::Board;
 use crate::place_set::PlaceSet;
-use crate::position::{Position, Side};
+use crate::position::Position;
 
 /// A guess about the defender's eyes when he is to move.
 #[derive(Clone, Copy, Debug, PartialEq, Eq)]
@@ -33,8 +33,9 @@ struct Reach {
     empty: PlaceSet,
     /// All places that the defender can ever come to.
     inside: PlaceSet,
-    /// The attacker's stones that can never be taken, or can be connected to such stones.
+    /// The attacker's stones that can never be taken, or can be connected to such stones, and all places beside them.
     permanent: PlaceSet,
+    near: PlaceSet,
     /// Points inside where a stone of the attacker cannot be taken.
     safe: PlaceSet,
     /// Points that are in pairs.
@@ -65,6 +66,7 @@ impl Board {
             empty: self.empty(position),
             inside,
             permanent,
+            near,
             safe: inside.and(self.lasting.attacker.or(near)),
             used: PlaceSet::empty(),
         };
@@ -96,28 +98,31 @@ impl Board {
 
     /// Finds the attacker's chains that can be connected to stones which cannot be taken.
     fn connect(&self, reach: &mut Reach) {
-        let stones = reach.position.attacker.and(reach.inside);
+        let attacker = reach.position.attacker;
+        let stones = attacker.and(reach.inside);
         let mut rest = stones.places();
         for _ in 0..u64::MAX {
             let Some(at) = rest.take() else {
                 return;
             };
-            let chain = self.chain(reach.position.attacker, at);
+            let (chain, near) = self.chain_and_near(attacker, at);
             rest.skip(chain);
-            let pair = self.connecting_pair(reach, chain);
+            let pair = self.connecting_pair(reach, chain, near);
             if !pair.is_empty() {
                 reach.used = reach.used.or(pair);
                 reach.permanent = reach.permanent.or(chain);
-                let near = self.lasting.attacker.or(self.beside(reach.permanent));
-                reach.safe = reach.inside.and(near).minus(reach.permanent);
+                reach.near = reach.near.or(near);
+                let safe = self.lasting.attacker.or(reach.near);
+                reach.safe = reach.inside.and(safe).minus(reach.permanent);
                 rest = stones.minus(reach.permanent).places();
             }
         }
     }
 
-    /// Two points, either of which connects the chain. The set is empty if there are no two such points.
-    fn connecting_pair(&self, reach: &Reach, chain: PlaceSet) -> PlaceSet {
-        let liberties = self.beside(chain).and(reach.empty).minus(reach.used);
+    /// Two points, either of which connects the chain, which has these places beside its stones. The set is empty if there are no
+    /// two such points.
+    fn connecting_pair(&self, reach: &Reach, chain: PlaceSet, near: PlaceSet) -> PlaceSet {
+        let liberties = near.and(reach.empty).minus(reach.used);
         let safe = liberties.and(reach.safe);
         if safe.has_several() {
             return safe.lowest_two();
@@ -138,41 +143,53 @@ impl Board {
     /// points beside them are handled first.
     fn points_left(&self, reach: &mut Reach) -> PlaceSet {
         let hits = reach.safe.and(reach.empty);
-        let [one, two, three, four] = self.counted_beside(hits.minus(reach.used));
-        let _some = one;
         let eyes = reach
             .inside
             .minus(reach.safe)
             .minus(reach.position.defender)
             .minus(reach.permanent);
-        let mut left = eyes.minus(two);
-        let fewest = eyes.and(two).minus(three);
-        let more = eyes.and(three).minus(four);
-        let most = eyes.and(four);
-        for points in [fewest, more, most] {
+        let free = hits.minus(reach.used);
+        let several = eyes.and(self.beside_several(free));
+        let mut left = eyes.minus(several);
+        for points in self.by_count(several, free) {
             left = left.or(self.pair_off(reach, hits, points));
         }
         left
     }
 
-    /// The points that have at least one of these beside them, and those that have at least two, three and four.
-    fn counted_beside(&self, hits: PlaceSet) -> [PlaceSet; 4] {
+    /// The places that have several of these beside them.
+    fn beside_several(&self, places: PlaceSet) -> PlaceSet {
         let mut one = PlaceSet::empty();
+        let mut several = PlaceSet::empty();
+        let mut rest = places.places();
+        for _ in 0..u64::MAX {
+            let Some(at) = rest.take() else {
+                return several;
+            };
+            let near = self.near(at);
+            several = several.or(one.and(near));
+            one = one.or(near);
+        }
+        several
+    }
+
+    /// Of these points, each of which has several of `hits` beside it: those that have two, three and four.
+    fn by_count(&self, points: PlaceSet, hits: PlaceSet) -> [PlaceSet; 3] {
         let mut two = PlaceSet::empty();
         let mut three = PlaceSet::empty();
         let mut four = PlaceSet::empty();
-        let mut rest = hits.places();
+        let mut rest = points.places();
         for _ in 0..u64::MAX {
             let Some(at) = rest.take() else {
-                return [one, two, three, four];
+                break;
             };
-            let near = self.near(at);
-            four = four.or(three.and(near));
-            three = three.or(two.and(near));
-            two = two.or(one.and(near));
-            one = one.or(near);
+            match self.near(at).and(hits).len() {
+                2 => two = two.with(at),
+                3 => three = three.with(at),
+                _ => four = four.with(at),
+            }
         }
-        [one, two, three, four]
+        [two, three, four]
     }
 
     /// Takes a pair beside each of these points, and returns the points that have none.
@@ -291,10 +308,5 @@ impl Board {
             Some(at) => stones.len() == 2 && !self.near(at).meets(stones),
             None => false,
         }
-    }
-
-    /// The attacker's stones that can never be taken.
-    pub(crate) fn attacker_permanent(&self, position: Position) -> PlaceSet {
-        self.permanent(position.attacker, Side::Attacker)
     }
 }

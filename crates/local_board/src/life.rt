@@ -118,14 +118,28 @@ impl Board {
     /// is based on lasting liberties only.
     pub(crate) fn good(&self, defender: PlaceSet, empty: PlaceSet, asked: PlaceSet) -> PlaceSet {
         let lasting = self.permanent(defender, Side::Defender);
-        let Some(mut eyes) = self.eye_spaces(defender, empty) else {
+        let mut eyes = Parts::none();
+        if !self.find_eyes(defender, empty, &mut eyes) {
             return lasting;
-        };
-        let Some(mut chains) = self.chains_of(defender, lasting) else {
+        }
+        self.good_among(defender, lasting, asked, &mut eyes)
+    }
+
+    /// The defender's stones that can never be taken, if these can be eyes. It is apart from `good`, which makes no room for chains
+    /// where there are no eyes.
+    fn good_among(
+        &self,
+        defender: PlaceSet,
+        lasting: PlaceSet,
+        asked: PlaceSet,
+        eyes: &mut Parts,
+    ) -> PlaceSet {
+        let mut chains = Parts::none();
+        if !self.find_chains(defender, lasting, &mut chains) {
             return lasting;
-        };
+        }
         for _ in 0..=ROOM {
-            match self.spoil_chains(&mut chains, &mut eyes, asked) {
+            match self.spoil_chains(&mut chains, eyes, asked) {
                 Some(true) => {}
                 Some(false) => return lasting.or(good_places(&chains)),
                 None => return lasting,
@@ -134,10 +148,9 @@ impl Board {
         lasting
     }
 
-    /// The areas that can be eyes: all their points are beside stones of the defender. `None` if there are fewer than two of them,
-    /// or more than are looked at.
-    fn eye_spaces(&self, defender: PlaceSet, empty: PlaceSet) -> Option<Parts> {
-        let mut eyes = Parts::none();
+    /// Adds the areas that can be eyes: all their points are beside stones of the defender. Returns whether there are two of them or
+    /// more, and no more than are looked at.
+    fn find_eyes(&self, defender: PlaceSet, empty: PlaceSet, eyes: &mut Parts) -> bool {
         let candidates = self.beside(defender).minus(self.lasting.attacker);
         let mut rest = candidates.places();
         for _ in 0..u64::MAX {
@@ -149,28 +162,27 @@ impl Board {
             let beside = near.minus(area);
             if beside.is_within(defender) && area.meets(empty) && area.len() <= MAX_EYE {
                 if !eyes.add(area, beside) {
-                    return None;
+                    return false;
                 }
             }
         }
-        if eyes.count < 2 { None } else { Some(eyes) }
+        eyes.count >= 2
     }
 
-    /// The defender's chains except these. `None` if there are more than are looked at.
-    fn chains_of(&self, defender: PlaceSet, lasting: PlaceSet) -> Option<Parts> {
-        let mut chains = Parts::none();
+    /// Adds the defender's chains except these. Returns whether there are no more than are looked at.
+    fn find_chains(&self, defender: PlaceSet, lasting: PlaceSet, chains: &mut Parts) -> bool {
         let mut rest = defender.minus(lasting).places();
         for _ in 0..u64::MAX {
             let Some(at) = rest.take() else {
-                return Some(chains);
+                return true;
             };
             let (chain, near) = self.chain_and_near(defender, at);
             rest.skip(chain);
             if !chains.add(chain, near.minus(chain)) {
-                return None;
+                return false;
             }
         }
-        None
+        false
     }
 
     /// Marks the chains that do not have two eyes as bad, and the eyes beside them. Returns whether there were any, or `None` if

@@ -10,11 +10,20 @@ use crate::position::{Position, Side};
 use std::alloc::{AllocError, Global};
 
 /// The entries of the tables.
+const HELD: usize = 256;
+
 const REACHED: usize = 256;
 
 const LIVING: usize = 4_096;
 
 const ASKED: usize = 4_096;
+
+/// The permanent ones of the attacker's stones.
+#[derive(Clone, Copy)]
+struct Held {
+    attacker: PlaceSet,
+    permanent: PlaceSet,
+}
 
 /// What depends only on the attacker's permanent stones.
 #[derive(Clone, Copy)]
@@ -42,6 +51,7 @@ struct Asked {
 #[derive(Drop)]
 pub struct Shapes {
     pub board: Board,
+    held: Vec<Option<Held>>,
     reached: Vec<Option<Reached>>,
     living: Vec<Option<Living>>,
     asked: Vec<Option<Asked>>,
@@ -52,10 +62,14 @@ impl Shapes {
     pub fn of(alloc: Global, board: Board) -> Result<Shapes, AllocError> {
         let mut shapes = Shapes {
             board,
+            held: Vec::new(alloc),
             reached: Vec::new(alloc),
             living: Vec::new(alloc),
             asked: Vec::new(alloc),
         };
+        for _ in 0..HELD {
+            shapes.held.push(None)?;
+        }
         for _ in 0..REACHED {
             shapes.reached.push(None)?;
         }
@@ -110,9 +124,27 @@ impl Shapes {
         eyes
     }
 
+    /// The permanent ones of the attacker's stones.
+    fn permanent(&mut self, attacker: PlaceSet) -> PlaceSet {
+        let slot = attacker.mixed() as usize % HELD;
+        if let Some(Some(known)) = self.held.get(slot).copied() {
+            if known.attacker == attacker {
+                return known.permanent;
+            }
+        }
+        let permanent = self.board.permanent(attacker, Side::Attacker);
+        if slot < self.held.len() {
+            self.held[slot] = Some(Held {
+                attacker,
+                permanent,
+            });
+        }
+        permanent
+    }
+
     /// What depends only on the attacker's permanent stones.
     fn reached_by(&mut self, position: Position) -> Reached {
-        let permanent = self.board.permanent(position.attacker, Side::Attacker);
+        let permanent = self.permanent(position.attacker);
         let slot = permanent.mixed() as usize % REACHED;
         if let Some(Some(known)) = self.reached.get(slot).copied() {
             if known.permanent == permanent {

@@ -7,10 +7,10 @@ use crate::position::{Position, Side};
 /// What is known of the chains of a side.
 #[derive(Clone, Copy)]
 struct Liberties {
-    /// The liberties of chains that have only one.
+    /// The liberties of chains that can be taken and have only one.
     last: PlaceSet,
-    /// The stones of these chains.
-    weak: PlaceSet,
+    /// The places beside the stones of all other chains.
+    strong: PlaceSet,
 }
 
 impl Board {
@@ -102,18 +102,18 @@ impl Board {
         own: Liberties,
         other: Liberties,
     ) -> PlaceSet {
-        let strong = self.all_beside(position.of(side).minus(own.weak));
-        let safe = open.or(self.lasting.of(side)).or(strong);
+        let safe = open.or(self.lasting.of(side)).or(own.strong);
         self.empty(position).minus(other.last).and(safe)
     }
 
-    /// What is known of the chains of this side that can be taken.
+    /// What is known of the chains of this side.
     fn liberties(&self, own: PlaceSet, empty: PlaceSet, side: Side) -> Liberties {
+        let lasting = self.lasting.of(side);
         let mut found = Liberties {
             last: PlaceSet::empty(),
-            weak: PlaceSet::empty(),
+            strong: PlaceSet::empty(),
         };
-        let mut rest = own.minus(self.permanent(own, side)).places();
+        let mut rest = own.places();
         for _ in 0..u64::MAX {
             let Some(at) = rest.take() else {
                 return found;
@@ -121,8 +121,9 @@ impl Board {
             let (chain, near) = self.chain_and_near(own, at);
             rest.skip(chain);
             let liberties = near.and(empty);
-            if !liberties.has_several() {
-                found.weak = found.weak.or(chain);
+            if liberties.has_several() || chain.meets(lasting) {
+                found.strong = found.strong.or(near);
+            } else {
                 found.last = found.last.or(liberties);
             }
         }
@@ -145,6 +146,25 @@ impl Board {
         if after == position { None } else { Some(after) }
     }
 
+    /// The key of that position, from the key of this one.
+    pub fn played_key(
+        &self,
+        position: Position,
+        key: u64,
+        side: Side,
+        place: usize,
+        plain: PlaceSet,
+    ) -> Option<u64> {
+        if plain.has(place) {
+            return Some(key ^ self.word(side, place));
+        }
+        let after = self.after(position, side, place);
+        if after == position {
+            return None;
+        }
+        Some(self.key_from(position, key, after))
+    }
+
     /// The places where the attacker takes a target at once.
     pub fn takes(&self, position: Position) -> PlaceSet {
         let empty = self.empty(position);
@@ -154,13 +174,32 @@ impl Board {
             let Some(at) = rest.take() else {
                 return found;
             };
-            let (chain, near) = self.chain_and_near(position.defender, at);
+            let (chain, liberties) = self.few_liberties(position.defender, empty, at);
             rest.skip(chain);
-            let liberties = near.and(empty);
-            if !chain.meets(self.lasting.defender) && !liberties.has_several() {
-                found = found.or(liberties.and(self.region));
-            }
+            found = found.or(liberties.and(self.region));
         }
         found
+    }
+
+    /// The only liberty of the defender's chain at this place, and the chain. If the chain has more liberties, or can never be
+    /// taken, the set of liberties is empty, and only the part of the chain that was looked at is there.
+    fn few_liberties(&self, own: PlaceSet, empty: PlaceSet, place: usize) -> (PlaceSet, PlaceSet) {
+        let mut chain = PlaceSet::empty().with(place);
+        let mut front = chain.places();
+        let mut liberties = PlaceSet::empty();
+        for _ in 0..u64::MAX {
+            let Some(at) = front.take() else {
+                break;
+            };
+            let near = self.near(at);
+            liberties = liberties.or(near.and(empty));
+            if liberties.has_several() || self.lasting.defender.has(at) {
+                return (chain, PlaceSet::empty());
+            }
+            let more = near.and(own).minus(chain);
+            chain = chain.or(more);
+            front.add(more);
+        }
+        (chain, liberties)
     }
 }

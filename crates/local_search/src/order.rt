@@ -8,8 +8,9 @@ use crate::frame::State;
 use crate::search::Search;
 use crate::smaller::Smaller;
 use local_board::{Side, Step};
-use state_proofs::{Answers, Below, Refusal, Shared, Stop, steps_for_smaller, used_by};
+use state_proofs::{Answers, Below, Proofs, Refusal, Shared, Stop, steps_for_smaller};
 use std::alloc::{AllocError, Global};
+use std::mem;
 use std::num::NonZeroUsize;
 use target_game::Problem;
 
@@ -85,9 +86,11 @@ impl Proving {
         let Some(proof) = self.finish.search.proofs.get(best) else {
             return Err(Stop::Refused(Refusal::Fault));
         };
-        let (proofs, root) = used_by(alloc, &self.finish.search.proofs, best)?;
+        let winner = proof.winner;
+        let mut proofs = mem::replace(&mut self.finish.search.proofs, Proofs::new(alloc));
+        let root = proofs.keep_used(alloc, best)?;
         Ok(Shared {
-            winner: proof.winner,
+            winner,
             proofs,
             root,
         })

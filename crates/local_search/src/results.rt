@@ -18,6 +18,13 @@ pub(crate) struct TurnResults {
     places: usize,
 }
 
+/// The rows of the tallies of a side's turns after a last turn, and in all.
+#[derive(Clone, Copy)]
+pub(crate) struct TurnRows {
+    after: usize,
+    all: usize,
+}
+
 /// The greatest number of tries that a tally keeps.
 const MAX_TRIED: u32 = 200;
 
@@ -48,31 +55,35 @@ impl TurnResults {
         }
     }
 
-    /// The index of the tally of the side's turn in this row.
-    fn index(&self, side: Side, row: usize, step: Step) -> usize {
+    /// The index of the first tally of this row of the side's turns.
+    fn row(&self, side: Side, row: usize) -> usize {
         let width = self.places.saturating_add(2);
         let first = match side {
             Side::Attacker => 0,
             Side::Defender => width,
         };
-        first
-            .saturating_add(row)
-            .saturating_mul(width)
-            .saturating_add(self.column(step))
+        first.saturating_add(row).saturating_mul(width)
     }
 
-    fn get(&self, side: Side, row: usize, step: Step) -> Tally {
-        match self.tallies.get(self.index(side, row, step)) {
+    fn at(&self, row: usize, step: Step) -> Tally {
+        match self.tallies.get(row.saturating_add(self.column(step))) {
             Some(tally) => *tally,
             None => Tally { won: 0, tried: 0 },
         }
     }
 
-    /// How unlikely the side's turn after the last one is to win, in eighths: eight times the square root of one half divided by
-    /// the chance.
-    pub(crate) fn weight(&self, side: Side, step: Step, last: Step) -> u32 {
-        let after = self.get(side, self.column(last), step);
-        let all = self.get(side, self.places.saturating_add(1), step);
+    /// Where the tallies of the side's turns after the last one are.
+    pub(crate) fn rows(&self, side: Side, last: Step) -> TurnRows {
+        TurnRows {
+            after: self.row(side, self.column(last)),
+            all: self.row(side, self.places.saturating_add(1)),
+        }
+    }
+
+    /// How unlikely a turn is to win, in eighths: eight times the square root of one half divided by the chance.
+    pub(crate) fn weight(&self, rows: TurnRows, step: Step) -> u32 {
+        let after = self.at(rows.after, step);
+        let all = self.at(rows.all, step);
         let known = all.tried.saturating_add(4);
         let chance = after.tried.saturating_add(4).saturating_mul(known);
         let won = after
@@ -84,13 +95,13 @@ impl TurnResults {
 
     /// Notes whether the side's turn after the last one has won.
     pub(crate) fn learn(&mut self, side: Side, step: Step, last: Step, won: bool) {
-        let own = self.column(last);
-        self.note(side, own, step, won);
-        self.note(side, self.places.saturating_add(1), step, won);
+        let rows = self.rows(side, last);
+        self.note(rows.after, step, won);
+        self.note(rows.all, step, won);
     }
 
-    fn note(&mut self, side: Side, row: usize, step: Step, won: bool) {
-        let at = self.index(side, row, step);
+    fn note(&mut self, row: usize, step: Step, won: bool) {
+        let at = row.saturating_add(self.column(step));
         if at < self.tallies.len() {
             let tally = self.tallies[at];
             let more = if won { 1 } else { 0 };

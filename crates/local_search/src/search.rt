@@ -16,12 +16,18 @@ use crate::results::TurnResults;
 use crate::steps::Steps;
 use go_points::Colour;
 use local_board::{Board, Position, Shapes, Side, Step};
-use pn_table::{Key, Table};
-use state_proofs::{Branch, Form, MAX_LINE, MoverNumbers, Past, Proofs, Refusal, Stop, Thresholds};
+use pn_table::{Key, Numbers, Table};
+use state_proofs::{
+    Branch, Form, MAX_LINE, Marks, MoverNumbers, Past, Proofs, Refusal, Stop, Thresholds,
+};
 use std::alloc::{AllocError, Global};
 use std::num::NonZeroUsize;
 use stone_key::key_of;
 use target_game::Problem;
+
+/// For how many positions there is room among those whose numbers were stored. If there are more, more of them are looked for in
+/// vain.
+const STORED: usize = 130_000;
 
 /// A search on a board of at most 128 points that can change.
 #[derive(Drop)]
@@ -40,7 +46,9 @@ pub(crate) struct Search {
     pub(crate) room: u32,
     /// Whether a state where the defender lives by his shape is a leaf of the proof, and is not played out.
     pub(crate) has_leaves: bool,
-    pub(crate) table: Table,
+    table: Table,
+    /// The positions whose numbers were stored: most new states are not among them, and need not be looked for in the table.
+    stored: Marks,
     pub(crate) kept: KeptMoves,
     pub(crate) results: TurnResults,
     pub(crate) frames: Vec<Frame>,
@@ -61,6 +69,8 @@ impl Search {
     ) -> Result<(Search, State), AllocError> {
         let (board, position) = Board::of(alloc, problem)?;
         let places = board.len();
+        let mut stored = Marks::new(alloc);
+        stored.make_room(capacity.get().min(STORED))?;
         let search = Search {
             shapes: Shapes::of(alloc, board)?,
             proofs: Proofs::new(alloc),
@@ -73,6 +83,7 @@ impl Search {
             room: 0,
             has_leaves: false,
             table: Table::with_capacity(alloc, capacity)?,
+            stored,
             kept: KeptMoves::new(alloc),
             results: TurnResults::of(alloc, places)?,
             frames: Vec::new(alloc),
@@ -156,6 +167,15 @@ impl Search {
     pub(crate) fn proof_after(&self, key: Key) -> Option<u32> {
         self.proofs
             .find(key, &self.past, self.turns.saturating_add(1))
+    }
+
+    /// The numbers of the state, if the table has them.
+    pub(crate) fn look(&mut self, key: Key) -> Option<Numbers> {
+        if self.stored.may_have(key.position) {
+            self.table.look(key)
+        } else {
+            None
+        }
     }
 
     /// The proof of a state one turn further that holds there, and who wins by it.
@@ -267,6 +287,7 @@ impl Search {
     fn leave_open(&mut self, frame: Frame, numbers: MoverNumbers) {
         let key = frame.state.key;
         let is_attacker = key.mover == self.attacker;
+        self.stored.mark(key.position);
         // If memory is refused, the table does without.
         let _stored = self.table.store(key, numbers.for_table(is_attacker));
         let _left = self.leave(frame, Outcome::Open(numbers.turned()));

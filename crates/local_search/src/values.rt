@@ -2,7 +2,7 @@
 
 use crate::expanding::step_at;
 use crate::finish::Finish;
-use crate::frame::{State, after_step};
+use crate::frame::{State, after_move, after_step};
 use local_board::{PlaceSet, Room, Side, Step};
 
 /// A number that grows by this much for each point of room, and where it stops.
@@ -98,11 +98,9 @@ impl Finish {
     /// Whether the state after the side's move at this place has no proof yet.
     fn is_new_after(&self, state: State, side: Side, place: usize, plain: PlaceSet) -> bool {
         let board = &self.search.shapes.board;
-        match board.played(state.position, side, place, plain) {
-            Some(position) => {
-                let after = self.search.moved(state, position);
-                !self.search.proofs.knows(after.key)
-            }
+        let key = state.key.position;
+        match board.played_key(state.position, key, side, place, plain) {
+            Some(position) => !self.search.proofs.knows(after_move(state.key, position)),
             None => false,
         }
     }

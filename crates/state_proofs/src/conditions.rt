@@ -1,43 +1,48 @@
 //! The conditions of a proof on the past, made of those of the proofs below it.
 
 use crate::proof::{Below, Branch, Results, Span};
-use crate::proofs::{Proofs, number_of};
+use crate::proofs::Proofs;
 use std::alloc::AllocError;
 
 impl Proofs {
-    /// Gathers the lists of what is below the branches.
-    fn gather(&mut self, branches: &[Branch], is_had: bool) -> Result<(), AllocError> {
+    /// Gathers the positions that what is below the branches needs.
+    fn gather_had(&mut self, branches: &[Branch]) -> Result<(), AllocError> {
         self.gathered.clear();
         for branch in branches {
             if let Below::Proof(number) = branch.below {
                 if let Some(proof) = self.get(number) {
-                    if is_had {
-                        self.gather_span(proof.had)?;
-                    } else {
-                        self.gather_results(proof.not)?;
-                    }
+                    self.gathered.join(self.lists.get(proof.had))?;
                 }
             }
         }
         Ok(())
     }
 
-    /// Adds the positions of this part to those that are gathered.
-    fn gather_span(&mut self, span: Span) -> Result<(), AllocError> {
-        for place in span.from..span.to {
-            if let Some(position) = self.positions.get(place as usize).copied() {
-                self.gathered.push(position)?;
+    /// Gathers the results below the branches.
+    fn gather_not(&mut self, branches: &[Branch]) -> Result<(), AllocError> {
+        self.gathered.clear();
+        let mut last = Span::none();
+        for branch in branches {
+            let not = self.results_below(*branch);
+            // Proofs beside each other often share their list.
+            if not.listed != last {
+                self.gathered.join(self.lists.get(not.listed))?;
+                last = not.listed;
             }
+            self.gathered.join(self.lists.get(not.more))?;
         }
         Ok(())
     }
 
-    fn gather_results(&mut self, results: Results) -> Result<(), AllocError> {
-        self.gather_span(results.listed)?;
-        if let Some(position) = results.another {
-            self.gathered.push(position)?;
+    /// The results of the proof below the branch.
+    fn results_below(&self, branch: Branch) -> Results {
+        match branch.below {
+            Below::Won => Results::none(),
+            Below::Proof(number) => match self.get(number) {
+                Some(proof) => proof.not,
+                None => Results::none(),
+            },
         }
-        Ok(())
     }
 
     /// The results of the proofs below the branches, and this one.
@@ -46,46 +51,73 @@ impl Proofs {
         branches: &[Branch],
         reached: Option<u64>,
     ) -> Result<Results, AllocError> {
-        if let Some(not) = self.shared_results(branches, reached) {
-            return Ok(not);
+        if let Some(below) = self.results_of_one(branches) {
+            let Some(position) = reached else {
+                return Ok(below);
+            };
+            if self.has_result(below, position) {
+                return Ok(below);
+            }
+            if below.more.len() == 0 {
+                let listed = below.listed;
+                let more = self.lists.add(&[position])?;
+                return Ok(Results { listed, more });
+            }
         }
-        self.gather(branches, false)?;
+        self.gather_not(branches)?;
         if let Some(position) = reached {
-            self.gathered.push(position)?;
+            self.gathered.add(position)?;
         }
-        Ok(Results {
-            listed: self.add_gathered()?,
-            another: None,
-        })
+        self.add_results(branches)
     }
 
-    /// The results that the branches have, and another, if no list has to be made of them.
-    fn shared_results(&self, branches: &[Branch], another: Option<u64>) -> Option<Results> {
-        let below = self.results_of_one(branches)?;
-        if below.another.is_none() {
-            return Some(Results {
-                listed: below.listed,
-                another,
-            });
+    fn has_result(&self, results: Results, position: u64) -> bool {
+        let listed = self.lists.get(results.listed);
+        let more = self.lists.get(results.more);
+        listed.binary_search(&position).is_ok() || more.binary_search(&position).is_ok()
+    }
+
+    /// The results that are gathered, all those below the branches among them. They are those of one branch if these are as many,
+    /// and the longest list of a branch is not kept again if little is added to it.
+    fn add_results(&mut self, branches: &[Branch]) -> Result<Results, AllocError> {
+        let count = self.gathered.as_slice().len();
+        let longest = self.longest_below(branches);
+        if longest.len() == count {
+            return Ok(longest);
         }
-        if another.is_none() || another == below.another {
-            return Some(below);
+        let listed = longest.listed;
+        if count.saturating_sub(listed.len()) <= listed.len() / 2 {
+            self.gathered.leave_out(self.lists.get(listed))?;
+            let more = self.lists.add(self.gathered.as_slice())?;
+            return Ok(Results { listed, more });
         }
-        None
+        let listed = self.lists.add(self.gathered.as_slice())?;
+        let more = Span::none();
+        Ok(Results { listed, more })
+    }
+
+    /// The results below a branch that has the most of them.
+    fn longest_below(&self, branches: &[Branch]) -> Results {
+        let mut longest = Results::none();
+        for branch in branches {
+            let not = self.results_below(*branch);
+            if not.len() > longest.len() {
+                longest = not;
+            }
+        }
+        longest
     }
 
     /// The results below the branches, if at most one of the branches has any.
     pub(crate) fn results_of_one(&self, branches: &[Branch]) -> Option<Results> {
         let mut found = Results::none();
         for branch in branches {
-            if let Below::Proof(number) = branch.below {
-                let not = self.get(number)?.not;
-                if !not.is_empty() {
-                    if !found.is_empty() {
-                        return None;
-                    }
-                    found = not;
+            let not = self.results_below(*branch);
+            if not.len() > 0 {
+                if found.len() > 0 {
+                    return None;
                 }
+                found = not;
             }
         }
         Some(found)
@@ -97,19 +129,11 @@ impl Proofs {
         branches: &[Branch],
         barred: &[u64],
     ) -> Result<Span, AllocError> {
-        self.gather(branches, true)?;
-        self.gathered.extend_from_slice(barred)?;
-        self.gathered.retain(|position| *position != present);
-        self.add_gathered()
-    }
-
-    /// Adds the gathered positions, ascending and each once.
-    fn add_gathered(&mut self) -> Result<Span, AllocError> {
-        self.gathered.sort_unstable();
-        self.gathered.dedup();
-        let from = number_of(self.positions.len())?;
-        self.positions.extend_from_slice(self.gathered.as_slice())?;
-        let to = number_of(self.positions.len())?;
-        Ok(Span { from, to })
+        self.gather_had(branches)?;
+        for position in barred {
+            self.gathered.add(*position)?;
+        }
+        self.gathered.remove(present);
+        self.lists.add(self.gathered.as_slice())
     }
 }

@@ -5,7 +5,9 @@
 
 mod answers;
 mod conditions;
+mod gathered;
 mod line;
+mod lists;
 mod marks;
 mod numbers;
 mod past;
@@ -32,4 +34,3 @@ pub use refusal::Refusal;
 pub use shared::Shared;
 pub use sharing::share;
 pub use stop::Stop;
-pub use used::used_by;

@@ -40,23 +40,35 @@ pub(crate) struct Span {
     pub(crate) to: u32,
 }
 
-/// Results of moves, ascending, and one more. If all except that one are those of one proof below, they are not listed again.
+impl Span {
+    /// A part without elements.
+    pub(crate) fn none() -> Span {
+        Span { from: 0, to: 0 }
+    }
+
+    pub(crate) fn len(self) -> usize {
+        self.to.saturating_sub(self.from) as usize
+    }
+}
+
+/// Results of moves, in two lists that ascend and have none in common. The first may be that of a proof below; then what is not in
+/// it is little.
 #[derive(Clone, Copy)]
 pub(crate) struct Results {
     pub(crate) listed: Span,
-    pub(crate) another: Option<u64>,
+    pub(crate) more: Span,
 }
 
 impl Results {
     pub(crate) fn none() -> Results {
         Results {
-            listed: Span { from: 0, to: 0 },
-            another: None,
+            listed: Span::none(),
+            more: Span::none(),
         }
     }
 
-    pub(crate) fn is_empty(self) -> bool {
-        self.listed.from >= self.listed.to && self.another.is_none()
+    pub(crate) fn len(self) -> usize {
+        self.listed.len().saturating_add(self.more.len())
     }
 }
 
@@ -66,6 +78,8 @@ pub struct Proof {
     pub key: Key,
     pub winner: Colour,
     pub form: Form,
+    /// Whether its state was expanded, rather than only settled by a question.
+    pub is_expanded: bool,
     pub(crate) branches: Span,
     /// The results of the winner's moves: none of them may have occurred.
     pub(crate) not: Results,
@@ -75,13 +89,59 @@ pub struct Proof {
     pub turns: u64,
     /// The number of turns of the longest line of play below.
     pub depth: u32,
-    /// Whether its state was expanded, rather than only settled by a question.
-    pub is_expanded: bool,
-    /// An earlier proof of the same state.
-    pub(crate) next: Option<u32>,
+    /// An earlier proof of the same state, or `NO_PROOF`.
+    next: u32,
 }
 
+/// The number of no proof.
+const NO_PROOF: u32 = u32::MAX;
+
 impl Proof {
+    /// The proof with these lists. `next` is an earlier one of the same state.
+    pub(crate) fn of(
+        settled: Settled,
+        branches: Span,
+        not: Results,
+        had: Span,
+        size: TreeSize,
+        next: Option<u32>,
+    ) -> Proof {
+        Proof {
+            key: settled.key,
+            winner: settled.winner,
+            form: settled.form,
+            is_expanded: settled.is_expanded,
+            branches,
+            not,
+            had,
+            turns: size.turns,
+            depth: size.depth,
+            next: next.unwrap_or(NO_PROOF),
+        }
+    }
+
+    /// The earlier proof of the same state.
+    pub(crate) fn next(self) -> Option<u32> {
+        if self.next == NO_PROOF {
+            None
+        } else {
+            Some(self.next)
+        }
+    }
+
+    /// The proof with another earlier proof of the same state.
+    pub(crate) fn after(self, next: Option<u32>) -> Proof {
+        Proof {
+            next: next.unwrap_or(NO_PROOF),
+            ..self
+        }
+    }
+
+    /// The proof with its branches at another place.
+    pub(crate) fn with_branches(self, branches: Span) -> Proof {
+        Proof { branches, ..self }
+    }
+
     /// What it settles, for another proof of the same state, which was expanded.
     pub fn settled(self) -> Settled {
         Settled {

@@ -3,6 +3,8 @@
 //! A proof is never changed, and uses only lower ones. A wrong number in it could at worst lead to a claim that the checker
 //! refuses, so numbers are tested where they are used, and nothing is promised about them.
 
+use crate::gathered::Gathered;
+use crate::lists::Lists;
 use crate::marks::Marks;
 use crate::past::Past;
 use crate::proof::{Below, Branch, Proof, Results, Settled, Span, TreeSize};
@@ -24,15 +26,15 @@ const FEW: usize = 512;
 /// All proofs, lower ones first.
 #[derive(Drop)]
 pub struct Proofs {
-    proofs: Vec<Proof>,
+    pub(crate) proofs: Vec<Proof>,
     /// The latest proof of a state.
     latest: IndexMap<Key, u32>,
     /// The positions of the states that have a proof.
     marks: Marks,
-    branches: Vec<Branch>,
-    pub(crate) positions: Vec<u64>,
-    /// The positions of a list that is being made.
-    pub(crate) gathered: Vec<u64>,
+    pub(crate) branches: Vec<Branch>,
+    /// The conditions on the past, and one that is being made.
+    pub(crate) lists: Lists,
+    pub(crate) gathered: Gathered,
 }
 
 impl Proofs {
@@ -42,8 +44,8 @@ impl Proofs {
             latest: IndexMap::new(alloc),
             marks: Marks::new(alloc),
             branches: Vec::new(alloc),
-            positions: Vec::new(alloc),
-            gathered: Vec::new(alloc),
+            lists: Lists::new(alloc),
+            gathered: Gathered::new(alloc),
         }
     }
 
@@ -101,18 +103,14 @@ impl Proofs {
 
     /// The positions that must have occurred, ascending.
     pub fn had(&self, proof: Proof) -> &[u64] {
-        part(self.positions.as_slice(), proof.had)
+        self.lists.get(proof.had)
     }
 
     /// Whether the proof holds with this past.
     fn holds(&self, proof: Proof, past: &Past) -> bool {
-        if let Some(another) = proof.not.another {
-            if past.has(another) {
-                return false;
-            }
-        }
-        past.has_all(self.had(proof))
-            && !past.has_any(part(self.positions.as_slice(), proof.not.listed))
+        !past.has_any(self.lists.get(proof.not.more))
+            && past.has_all(self.had(proof))
+            && !past.has_any(self.lists.get(proof.not.listed))
     }
 
     /// Whether the proof with this number holds with this past.
@@ -148,7 +146,7 @@ impl Proofs {
                 found = next;
                 least = proof.turns;
             }
-            next = proof.next;
+            next = proof.next();
         }
         found
     }
@@ -175,9 +173,8 @@ impl Proofs {
         turns: u64,
         depth: u32,
     ) -> Result<u32, AllocError> {
-        let none = Span { from: 0, to: 0 };
         let size = TreeSize { turns, depth };
-        self.add_with(settled, &[], Results::none(), none, size)
+        self.add_with(settled, &[], Results::none(), Span::none(), size)
     }
 
     /// Adds the proof of a state that is a leaf of short claims, and returns its number. It holds with any past.
@@ -199,18 +196,8 @@ impl Proofs {
         let from = number_of(self.branches.len())?;
         self.branches.extend_from_slice(branches)?;
         let to = number_of(self.branches.len())?;
-        let proof = Proof {
-            key: settled.key,
-            winner: settled.winner,
-            form: settled.form,
-            branches: Span { from, to },
-            not,
-            had,
-            turns: size.turns,
-            depth: size.depth,
-            is_expanded: settled.is_expanded,
-            next: self.latest.get(&settled.key).copied(),
-        };
+        let next = self.latest.get(&settled.key).copied();
+        let proof = Proof::of(settled, Span { from, to }, not, had, size, next);
         self.proofs.push(proof)?;
         self.latest.insert(settled.key, number)?;
         Ok(number)
@@ -231,59 +218,9 @@ impl Proofs {
         Ok(())
     }
 
-    /// Adds a copy of a proof of another list, with these branches, and returns its number.
-    pub(crate) fn add_copy(
-        &mut self,
-        others: &Proofs,
-        proof: Proof,
-        branches: &[Branch],
-    ) -> Result<u32, AllocError> {
-        let not = Results {
-            listed: self.copied_list(others, proof, branches)?,
-            another: proof.not.another,
-        };
-        let had = self.add_positions(others.had(proof))?;
-        let settled = Settled {
-            key: proof.key,
-            winner: proof.winner,
-            form: proof.form,
-            is_expanded: proof.is_expanded,
-        };
-        let size = TreeSize {
-            turns: proof.turns,
-            depth: proof.depth,
-        };
-        self.add_with(settled, branches, not, had, size)
-    }
-
-    /// A copy of the results of a proof of another list: those of a proof below, if they are the same.
-    fn copied_list(
-        &mut self,
-        others: &Proofs,
-        proof: Proof,
-        branches: &[Branch],
-    ) -> Result<Span, AllocError> {
-        let listed = proof.not.listed;
-        if let Some(below) = others.results_of_one(others.branches(proof)) {
-            if below.listed == listed {
-                if let Some(copied) = self.results_of_one(branches) {
-                    return Ok(copied.listed);
-                }
-            }
-        }
-        self.add_positions(part(others.positions.as_slice(), listed))
-    }
-
-    fn add_positions(&mut self, positions: &[u64]) -> Result<Span, AllocError> {
-        let from = number_of(self.positions.len())?;
-        self.positions.extend_from_slice(positions)?;
-        let to = number_of(self.positions.len())?;
-        Ok(Span { from, to })
-    }
-
     /// Whether a proof of the state can be found.
     pub fn knows(&self, key: Key) -> bool {
-        self.latest.contains_key(&key)
+        self.may_have(key.position) && self.latest.contains_key(&key)
     }
 
     /// Hides all proofs: none is found any more.
@@ -300,7 +237,7 @@ impl Proofs {
                 .saturating_sub(1)
                 .saturating_sub(back - first);
             if let Some(proof) = self.at(place) {
-                match proof.next {
+                match proof.next() {
                     Some(before) => {
                         self.latest.insert(proof.key, before)?;
                     }
@@ -317,9 +254,19 @@ impl Proofs {
     pub fn show(&mut self, place: usize) -> Result<(), AllocError> {
         let number = number_of(place)?;
         if place < self.proofs.len() {
-            let key = self.proofs[place].key;
-            self.proofs[place].next = self.latest.get(&key).copied();
-            self.latest.insert(key, number)?;
+            let proof = self.proofs[place];
+            let before = self.latest.get(&proof.key).copied();
+            self.proofs[place] = proof.after(before);
+            self.latest.insert(proof.key, number)?;
+        }
+        Ok(())
+    }
+
+    /// Makes all proofs findable.
+    pub(crate) fn show_all(&mut self) -> Result<(), AllocError> {
+        self.hide_all();
+        for place in 0..self.proofs.len() {
+            self.show(place)?;
         }
         Ok(())
     }
@@ -353,7 +300,7 @@ pub(crate) fn number_of(place: usize) -> Result<u32, AllocError> {
 }
 
 /// The part of the list.
-fn part<T>(all: &[T], span: Span) -> &[T] {
+pub(crate) fn part<T>(all: &[T], span: Span) -> &[T] {
     let from = span.from as usize;
     let to = span.to as usize;
     if from <= to && to <= all.len() {

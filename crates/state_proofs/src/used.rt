@@ -1,31 +1,32 @@
 //! The proofs that a proof uses.
 
-use crate::proof::{Below, Branch, Proof};
-use crate::proofs::Proofs;
+use crate::proof::{Below, Branch, Proof, Span};
+use crate::proofs::{Proofs, number_of};
 use crate::refusal::Refusal;
 use std::alloc::{AllocError, Global};
 
-/// A copy of some proofs that is being made.
+/// The numbers that proofs get when those that are not used are left out.
 #[derive(Drop)]
-struct Copying {
-    copied: Proofs,
-    /// For each proof, whether it is used, and its number in the copy.
+struct Numbers {
+    /// For each proof, whether it is used, and its new number.
     is_used: Vec<bool>,
     numbers: Vec<u32>,
-    branches: Vec<Branch>,
+    /// How many proofs and branches are used.
+    proofs: usize,
+    branches: usize,
 }
 
-impl Copying {
-    fn of(alloc: Global, count: usize) -> Result<Copying, AllocError> {
-        let mut is_used = Vec::with_capacity(alloc, count)?;
-        for _ in 0..count {
-            is_used.push(false)?;
-        }
-        Ok(Copying {
-            copied: Proofs::new(alloc),
+impl Numbers {
+    fn of(alloc: Global, count: usize) -> Result<Numbers, AllocError> {
+        let mut is_used = Vec::new(alloc);
+        is_used.resize(count, false)?;
+        let mut numbers = Vec::new(alloc);
+        numbers.resize(count, 0)?;
+        Ok(Numbers {
             is_used,
-            numbers: Vec::with_capacity(alloc, count)?,
-            branches: Vec::new(alloc),
+            numbers,
+            proofs: 0,
+            branches: 0,
         })
     }
 
@@ -60,59 +61,67 @@ impl Copying {
         }
     }
 
-    /// Copies the proof, if it is used.
-    fn copy(&mut self, proofs: &Proofs, place: usize) -> Result<(), AllocError> {
-        if !self.uses(place) {
-            return self.numbers.push(0).map_err(|_refused| AllocError);
-        }
+    /// Moves the proof down to its new place, with its branches. The lower ones have been moved.
+    fn move_down(&mut self, proofs: &mut Proofs, place: usize) -> Result<(), AllocError> {
         let Some(proof) = proofs.at(place) else {
             return Err(AllocError);
         };
-        self.renumber(proofs, proof)?;
-        let number = self
-            .copied
-            .add_copy(proofs, proof, self.branches.as_slice())?;
-        self.numbers.push(number)?;
-        Ok(())
-    }
-
-    /// Lists the branches of the proof with the numbers of the copy.
-    fn renumber(&mut self, proofs: &Proofs, proof: Proof) -> Result<(), AllocError> {
-        self.branches.clear();
-        for branch in proofs.branches(proof) {
-            let below = match branch.below {
-                Below::Won => Below::Won,
-                Below::Proof(number) => match self.numbers.get(number as usize).copied() {
-                    Some(number) => Below::Proof(number),
-                    None => return Err(AllocError),
-                },
-            };
-            let turn = branch.turn;
-            self.branches.push(Branch { turn, below })?;
+        let number = number_of(self.proofs)?;
+        let from = number_of(self.branches)?;
+        for index in 0..proofs.branches(proof).len() {
+            if let Some(branch) = proofs.branch(proof, index) {
+                self.move_branch(proofs, branch);
+            }
         }
+        let to = number_of(self.branches)?;
+        if place < self.numbers.len() {
+            self.numbers[place] = number;
+        }
+        if self.proofs < proofs.proofs.len() {
+            proofs.proofs[self.proofs] = proof.with_branches(Span { from, to });
+        }
+        self.proofs = self.proofs.saturating_add(1);
         Ok(())
     }
 
-    /// The copy, and the number of the proof that was copied last.
-    fn into_copy(self) -> Proofs {
-        let Copying { copied, .. } = self;
-        copied
+    /// Moves the branch down, with the new number of what is below it.
+    fn move_branch(&mut self, proofs: &mut Proofs, branch: Branch) {
+        let turn = branch.turn;
+        let below = match branch.below {
+            Below::Won => Below::Won,
+            Below::Proof(number) => Below::Proof(self.new_number(number)),
+        };
+        if self.branches < proofs.branches.len() {
+            proofs.branches[self.branches] = Branch { turn, below };
+        }
+        self.branches = self.branches.saturating_add(1);
+    }
+
+    fn new_number(&self, number: u32) -> u32 {
+        match self.numbers.get(number as usize).copied() {
+            Some(number) => number,
+            None => 0,
+        }
     }
 }
 
-/// The proofs that this one uses, with this one as the last. The time is linear in the number of all proofs.
-pub fn used_by(alloc: Global, proofs: &Proofs, root: u32) -> Result<(Proofs, u32), Refusal> {
-    if root as usize >= proofs.len() {
-        return Err(Refusal::Fault);
+impl Proofs {
+    /// Leaves out all proofs that this one does not use, and returns its new number: it is the last. All that are left can be found.
+    /// The time is linear in the number of all proofs. After a refusal the proofs are of no use.
+    pub fn keep_used(&mut self, alloc: Global, root: u32) -> Result<u32, Refusal> {
+        if root as usize >= self.len() {
+            return Err(Refusal::Fault);
+        }
+        let mut numbers = Numbers::of(alloc, self.len())?;
+        numbers.mark_below(self, root as usize);
+        for place in 0..=(root as usize) {
+            if numbers.uses(place) {
+                numbers.move_down(self, place)?;
+            }
+        }
+        self.proofs.truncate(numbers.proofs);
+        self.branches.truncate(numbers.branches);
+        self.show_all()?;
+        Ok(numbers.new_number(root))
     }
-    let mut copying = Copying::of(alloc, proofs.len())?;
-    copying.mark_below(proofs, root as usize);
-    for place in 0..=(root as usize) {
-        copying.copy(proofs, place)?;
-    }
-    let number = match copying.numbers.get(root as usize).copied() {
-        Some(number) => number,
-        None => return Err(Refusal::Fault),
-    };
-    Ok((copying.into_copy(), number))
 }

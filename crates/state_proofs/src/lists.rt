@@ -1,0 +1,84 @@
+//! Lists of positions, ascending and each position once. A list that is equal to one that was added lately is not kept again: of
+//! the conditions of proofs most are.
+
+use crate::proof::Span;
+use crate::proofs::{number_of, part};
+use std::alloc::{AllocError, Global};
+
+/// For how many lists there is room at first, a power of two.
+const FEW: usize = 1_024;
+
+/// The lists, one after the other.
+#[derive(Drop)]
+pub(crate) struct Lists {
+    positions: Vec<u64>,
+    /// The latest list for each number that lists are mixed to. Lists may share a number, so each is compared.
+    latest: Vec<Span>,
+    count: usize,
+}
+
+impl Lists {
+    pub(crate) fn new(alloc: Global) -> Lists {
+        Lists {
+            positions: Vec::new(alloc),
+            latest: Vec::new(alloc),
+            count: 0,
+        }
+    }
+
+    pub(crate) fn get(&self, list: Span) -> &[u64] {
+        part(self.positions.as_slice(), list)
+    }
+
+    /// Adds the list, unless an equal one is found, and returns where it is.
+    pub(crate) fn add(&mut self, list: &[u64]) -> Result<Span, AllocError> {
+        if list.is_empty() {
+            return Ok(Span::none());
+        }
+        self.make_room()?;
+        let slot = mixed(list) as usize & self.latest.len().saturating_sub(1);
+        if let Some(known) = self.latest.get(slot).copied() {
+            if known.len() == list.len() && is_same(self.get(known), list) {
+                return Ok(known);
+            }
+        }
+        let from = number_of(self.positions.len())?;
+        self.positions.extend_from_slice(list)?;
+        let to = number_of(self.positions.len())?;
+        let added = Span { from, to };
+        if slot < self.latest.len() {
+            self.latest[slot] = added;
+        }
+        self.count = self.count.saturating_add(1);
+        Ok(added)
+    }
+
+    /// Makes room for twice as many lists if there is none. Then no older list is found any more.
+    fn make_room(&mut self) -> Result<(), AllocError> {
+        if self.count < self.latest.len() {
+            return Ok(());
+        }
+        let room = self.latest.len().saturating_mul(2).max(FEW);
+        self.latest.clear();
+        self.latest.resize(room, Span::none())
+    }
+}
+
+/// A number for the list, that of a set: the exclusive or of its positions, which are well mixed.
+fn mixed(list: &[u64]) -> u64 {
+    let mut number = 0;
+    for position in list {
+        number ^= *position;
+    }
+    number
+}
+
+/// Whether the lists, which are of one length, are equal.
+fn is_same(one: &[u64], other: &[u64]) -> bool {
+    for place in 0..one.len() {
+        if place < other.len() && one[place] != other[place] {
+            return false;
+        }
+    }
+    true
+}

@@ -2,7 +2,7 @@
 
 use crate::claim_size::{NodeCount, may_fit};
 use crate::tree::Writer;
-use go_points::{Colour, Colouring};
+use go_points::Colouring;
 use indexmap::IndexMap;
 use pn_table::Key;
 use proof_cert::{Certificate, Lemma, MAX_LEMMAS, MAX_LISTED, Version};
@@ -178,11 +178,12 @@ impl Walk {
         Ok(())
     }
 
-    /// Walks over the proof and everything below it. The walk is borrowed, so no exit from the loop has to account for dropping it.
+    /// Walks over the proof and everything below it; `bodies` writes the bodies. The walk is borrowed, so no exit from the loop has to
+    /// account for dropping it.
     fn make_lemmas(
         &mut self,
         alloc: Global,
-        problem: &Problem,
+        bodies: &mut Writer,
         proofs: &Proofs,
         root: u32,
     ) -> Result<(), Refusal> {
@@ -193,7 +194,7 @@ impl Walk {
             };
             match proofs.branch(visit.proof, visit.next) {
                 Some(branch) => self.follow(proofs, branch)?,
-                None => self.leave(alloc, problem, proofs, visit)?,
+                None => self.leave(alloc, bodies, proofs, visit)?,
             }
         }
         Err(Refusal::Fault)
@@ -249,13 +250,13 @@ impl Walk {
     fn leave(
         &mut self,
         alloc: Global,
-        problem: &Problem,
+        bodies: &mut Writer,
         proofs: &Proofs,
         visit: Visit,
     ) -> Result<(), Refusal> {
         self.visits.pop();
         if self.is_lemma(proofs, visit.proof) {
-            self.add_lemma(alloc, problem, proofs, visit)?;
+            self.add_lemma(alloc, bodies, proofs, visit)?;
         }
         self.line.back();
         self.occurred.truncate(self.line.past().len());
@@ -286,19 +287,18 @@ impl Walk {
     fn add_lemma(
         &mut self,
         alloc: Global,
-        problem: &Problem,
+        bodies: &mut Writer,
         proofs: &Proofs,
         visit: Visit,
     ) -> Result<(), Refusal> {
         let key = visit.proof.key;
         let root = self.line.play().colouring();
-        let Some(play) = Play::at(alloc, problem, &root, key.mover, key.passes) else {
+        if !bodies.begin_lemma(alloc, visit.proof, &root) {
             return Err(Refusal::Memory);
-        };
-        let mut writer = Writer::of_lemma(alloc, play, visit.proof);
-        let body = writer.write(alloc, proofs, &self.lemmas, visit.number)?;
+        }
+        let body = bodies.write(alloc, proofs, &self.lemmas, visit.number)?;
         let had = self.had(alloc, proofs, visit.proof)?;
-        let absent = writer.absent();
+        let absent = bodies.take_absent(alloc, &self.lemmas)?;
         let own = had.len().saturating_add(absent.len());
         let listed = self.lemmas.listed.saturating_add(own);
         if self.lemmas.made.len() >= MAX_LEMMAS || listed > MAX_LISTED as usize {
@@ -329,15 +329,16 @@ impl Walk {
 fn lemmas_of(
     alloc: Global,
     problem: &Problem,
-    proofs: &Proofs,
-    root: u32,
+    shared: &Shared,
     choice: Choice,
 ) -> Result<Lemmas, Refusal> {
-    let mut walk = Walk::new(alloc, problem, proofs, root, choice)?;
-    if !may_fit(walk.count_nodes(alloc, proofs, root)?) {
+    let root = shared.root;
+    let mut walk = Walk::new(alloc, problem, &shared.proofs, root, choice)?;
+    if !may_fit(walk.count_nodes(alloc, &shared.proofs, root)?) {
         return Err(Refusal::Limit);
     }
-    walk.make_lemmas(alloc, problem, proofs, root)?;
+    let mut bodies = Writer::of_main(alloc, Play::of(alloc, problem)?, shared.winner);
+    walk.make_lemmas(alloc, &mut bodies, &shared.proofs, root)?;
     Ok(walk.into_lemmas())
 }
 
@@ -350,7 +351,7 @@ pub fn claim_with_lemmas(
     shared: &Shared,
     choice: Choice,
 ) -> Result<Certificate, Refusal> {
-    let lemmas = lemmas_of(alloc, problem, &shared.proofs, shared.root, choice)?;
+    let lemmas = lemmas_of(alloc, problem, shared, choice)?;
     claim(alloc, problem, shared, lemmas)
 }
 

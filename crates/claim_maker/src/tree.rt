@@ -4,7 +4,8 @@ use crate::claim::Lemmas;
 use go_points::{Colour, Colouring, Turn};
 use proof_cert::{MAX_NODES, Node};
 use state_proofs::{Below, Branch, Form, Play, Proof, Proofs, Refusal};
-use std::alloc::Global;
+use std::alloc::{AllocError, Global};
+use std::mem;
 
 /// The number of a leaf in the place of that of a lemma, which are counted from 1: the defender lives there by the shape of his
 /// stones.
@@ -31,11 +32,14 @@ pub(crate) struct Writer {
     /// The nodes that are written, each with the turn before it.
     written: Vec<(Turn, Node)>,
     nodes: u64,
-    /// For a lemma, the results of the winner's moves, and the lists of the lemmas that are used.
+    /// For a lemma, the results of the winner's moves.
     absent: Vec<Colouring>,
+    /// For a lemma, the numbers of the lemmas that are used, as often as they are.
+    used: Vec<u32>,
 }
 
 impl Writer {
+    /// The writer of the main tree. `begin_lemma` makes it one of the body of a lemma.
     pub(crate) fn of_main(alloc: Global, play: Play, winner: Colour) -> Writer {
         Writer {
             play,
@@ -45,28 +49,41 @@ impl Writer {
             written: Vec::new(alloc),
             nodes: 0,
             absent: Vec::new(alloc),
+            used: Vec::new(alloc),
         }
     }
 
-    /// The writer of the body of this proof's lemma. What the proof needs to have occurred is known there.
-    pub(crate) fn of_lemma(alloc: Global, play: Play, proof: Proof) -> Writer {
-        Writer {
-            play,
-            winner: proof.winner,
-            lemma: Some(proof),
-            visits: Vec::new(alloc),
-            written: Vec::new(alloc),
-            nodes: 0,
-            absent: Vec::new(alloc),
-        }
+    /// Begins the body of this proof's lemma, at the proof's state, and returns whether there is one with this colouring. What the
+    /// proof needs to have occurred is known there.
+    pub(crate) fn begin_lemma(&mut self, alloc: Global, proof: Proof, root: &Colouring) -> bool {
+        self.winner = proof.winner;
+        self.lemma = Some(proof);
+        self.visits.clear();
+        self.written.clear();
+        self.nodes = 0;
+        self.absent.clear();
+        self.used.clear();
+        self.play
+            .restart(alloc, root, proof.key.mover, proof.key.passes)
     }
 
-    /// The list of a lemma whose body is written: ascending, each colouring once.
-    pub(crate) fn absent(self) -> Vec<Colouring> {
-        let mut absent = self.absent;
+    /// The list of the lemma whose body has been written: ascending, each colouring once. It has what the lemmas that are used list.
+    pub(crate) fn take_absent(
+        &mut self,
+        alloc: Global,
+        lemmas: &Lemmas,
+    ) -> Result<Vec<Colouring>, AllocError> {
+        self.used.sort_unstable();
+        self.used.dedup();
+        let mut absent = mem::replace(&mut self.absent, Vec::new(alloc));
+        for number in self.used.as_slice() {
+            if let Some(lemma) = lemmas.get(*number) {
+                absent.extend_from_slice(lemma.absent.as_slice())?;
+            }
+        }
         absent.sort_unstable();
         absent.dedup();
-        absent
+        Ok(absent)
     }
 
     /// The tree of the proof, with uses of these lemmas below its first node. Refused if it would have more than the greatest
@@ -156,7 +173,7 @@ impl Writer {
             Below::Proof(number) => match lemmas.of_proof(number) {
                 None => self.enter(proofs, number),
                 Some(lemma) => {
-                    self.list_lemma(lemmas, lemma)?;
+                    self.list_lemma(lemma)?;
                     self.write_leaf(branch.turn, Node::Use(lemma))
                 }
             },
@@ -194,12 +211,10 @@ impl Writer {
         Ok(())
     }
 
-    /// Lists what the lemma that is used lists.
-    fn list_lemma(&mut self, lemmas: &Lemmas, number: u32) -> Result<(), Refusal> {
+    /// Notes that the lemma is used, whose list is part of that of a lemma which uses it.
+    fn list_lemma(&mut self, number: u32) -> Result<(), Refusal> {
         if self.lemma.is_some() {
-            if let Some(lemma) = lemmas.get(number) {
-                self.absent.extend_from_slice(lemma.absent.as_slice())?;
-            }
+            self.used.push(number)?;
         }
         Ok(())
     }

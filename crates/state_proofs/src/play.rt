@@ -69,6 +69,24 @@ impl Play {
         }
     }
 
+    /// Starts again at the state with only this colouring in its history, and returns whether there is one; if not, no turn can be
+    /// taken back any more. The board is changed only where the colouring differs, which is faster than `at`.
+    pub fn restart(
+        &mut self,
+        alloc: Global,
+        colouring: &Colouring,
+        mover: Colour,
+        passes: u8,
+    ) -> bool {
+        self.made = 0;
+        if colouring.size() != self.state.size() || passes > 1 {
+            return false;
+        }
+        self.state
+            .restart(alloc, colouring, mover, passes as u64)
+            .is_ok()
+    }
+
     /// Makes the turn if nobody has won and it is legal, and returns whether it was made.
     pub fn go(&mut self, turn: Turn) -> Result<bool, AllocError> {
         if self.state.over().is_some() || self.made == usize::MAX {

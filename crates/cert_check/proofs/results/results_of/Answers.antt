@@ -44,7 +44,7 @@ pub step-requires-clause-opened : goal.step-requires-clause-opened
 step-requires-clause-opened c = c.loop-barred.invariant.2
 
 -- what was gathered in the end
-all_gathered : (c : goal.After-drop-past-inside-in_default-5) → gathered c.step.new.plays.items c.step.new.barred.items (c.loop-barred.nodes + 1) ≡ whole c.args.checked.now
+all_gathered : (c : goal.After-drop-past-inside-in_default-6) → gathered c.step.new.plays.items c.step.new.barred.items (c.loop-barred.nodes + 1) ≡ whole c.args.checked.now
 all_gathered c =
     let k : CheckedClaim = c.args.checked.now in
     let past : c.in_ok-past.past.state ≡ start k.problem = ap (λ (l : Line). l.state) (start_is k c.problem-problem.result.now c.in_ok-past.past c.problem-problem.ensures c.in_ok-past.ensures) in

@@ -21,7 +21,7 @@ use crate::open_nodes::{Due, MOST_OPEN};
 use crate::reject::{Reject, Why};
 use arrayvec::ArrayVec;
 use go_points::{Colour, Colouring, ColouringList};
-use pass_alive::lives_at;
+use pass_alive::lives_on;
 use proof_cert::{Line, Version};
 use std::alloc::{AllocError, Global};
 use target_game::{Problem, TurnsLeft};
@@ -162,7 +162,7 @@ impl<'p> Judge<'p> {
         if !rests_on_shape(&node) {
             return false;
         }
-        lives_at(self.problem, &self.state.play().colouring())
+        lives_on(self.problem, self.state.play().board())
     }
 
     /// Takes the next line of a claim of this kind.

@@ -17,9 +17,6 @@ const MANY: u32 = 4;
 /// The most that a chain counts whose last liberty is one point.
 const MOST_BESIDE: u32 = 4;
 
-/// What a chain weighs that a move takes off. Fewer than so many chains of its own colour are beside a point.
-const TAKEN: u8 = 8;
-
 /// The head of an empty point, and of one beyond the edge.
 const NOWHERE: u16 = MAX_POINTS as u16;
 
@@ -99,7 +96,8 @@ fn is_bridged(heads: &[u16], size: Size, number: usize, head: u16) -> bool
     false
 }
 
-// How many stones the chains have that a stone of the colour would join, at most.
+// How many stones the chains have that a stone of the colour would join, at most. Not inlined, since most moves join none.
+#[inline(never)]
 fn joined_stones(
     colouring: &KeyedColouring,
     heads: &[u16],
@@ -130,7 +128,8 @@ fn joined_stones(
     }
 }
 
-// How many stones the chains of the colour have that have their last liberty at the point, at most.
+// How many stones the chains of the colour have that have their last liberty at the point, at most. Not inlined, as that.
+#[inline(never)]
 fn taken_stones(
     colouring: &KeyedColouring,
     next: &[u16],
@@ -147,46 +146,25 @@ fn taken_stones(
     stones
 }
 
-// Whether a stone of the colour joins or takes chains of many stones, where the chains beside it have this weight together. Not
-// inlined, since most moves do neither.
-#[inline(never)]
-fn has_many(
-    colouring: &KeyedColouring,
-    heads: &[u16],
-    next: &[u16],
-    counts: &[u32],
-    beside: [u16; 4],
-    weights: u8,
-    colour: Colour,
-    number: usize,
-) -> bool
-    requires heads_full { length heads.now ≡ MAX_POINTS }
-    requires on { number < side_of colouring.now * side_of colouring.now }
-{
-    (weights % TAKEN > 1 && joined_stones(colouring, heads, next, beside, colour, number) > MANY)
-        || (weights >= TAKEN
-            && taken_stones(colouring, next, counts, beside, colour.opponent()) > MANY)
+// How many points beside the one with these heads beside it hold a stone of the colour.
+fn count_own(colouring: &KeyedColouring, beside: [u16; 4], colour: Colour) -> u32 {
+    let mut count = 0u32;
+    for head in beside {
+        if is_of(colouring, head, colour) {
+            count = count.saturating_add(1);
+        }
+    }
+    count
 }
 
-// What a chain beside the point weighs: 1 if the stone put down there joins it, and `TAKEN` if it takes it off.
-fn weight(
-    colouring: &KeyedColouring,
-    counts: &[u32],
-    beside: [u16; 4],
-    colour: Colour,
-    head: u16,
-) -> u8
-    ensures { result ≤ 8 }
-{
-    if head == NOWHERE {
-        0
-    } else if is_of(colouring, head, colour) {
-        1
-    } else if has_last(beside, counts, head) {
-        TAKEN
-    } else {
-        0
+// Whether a stone of the colour takes a chain beside it.
+fn takes_any(colouring: &KeyedColouring, counts: &[u32], beside: [u16; 4], colour: Colour) -> bool {
+    for head in beside {
+        if is_of(colouring, head, colour.opponent()) && has_last(beside, counts, head) {
+            return true;
+        }
     }
+    false
 }
 
 /// Whether a move at an empty point may cost more to take back than a copy of the board. Most moves join and take nothing, which a
@@ -205,13 +183,8 @@ pub(crate) fn is_costly(
     let size = colouring.size();
     let number = point.number(size);
     let beside = heads_beside(heads, size, point, number);
-    let [above, left, right, below] = beside;
-    let weights = weight(colouring, counts, beside, colour, above)
-        + weight(colouring, counts, beside, colour, left)
-        + weight(colouring, counts, beside, colour, right)
-        + weight(colouring, counts, beside, colour, below);
-    weights > 1
-        && has_many(
-            colouring, heads, next, counts, beside, weights, colour, number,
-        )
+    (count_own(colouring, beside, colour) > 1
+        && joined_stones(colouring, heads, next, beside, colour, number) > MANY)
+        || (takes_any(colouring, counts, beside, colour)
+            && taken_stones(colouring, next, counts, beside, colour.opponent()) > MANY)
 }

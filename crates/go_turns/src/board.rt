@@ -26,6 +26,10 @@ pub trait Board: Drop {
     fn copy(&self) -> Self
         ensures { content result ≡ content self.now };
 
+    /// Takes over the content of the other board.
+    fn copy_from(&mut self, other: &Self)
+        ensures { content self.new ≡ content other.now };
+
     fn size(&self) -> Size
         ensures value { result ≡ side_of (content self.now) };
 

@@ -15,6 +15,10 @@ impl Board for ChainBoard {
         self.copy()
     }
 
+    fn copy_from(&mut self, other: &ChainBoard) {
+        self.copy_from(other);
+    }
+
     fn size(&self) -> Size {
         self.size()
     }

@@ -40,6 +40,10 @@ impl Board for PlainBoard {
         *self
     }
 
+    fn copy_from(&mut self, other: &PlainBoard) {
+        self.colouring = other.colouring;
+    }
+
     fn size(&self) -> Size {
         self.colouring.size()
     }

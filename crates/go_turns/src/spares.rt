@@ -23,10 +23,12 @@ struct Spare<B: Board> {
     depth: usize,
 }
 
-/// Copies of the board, the latest last.
+/// Copies of the board, the latest last. The memory of those that are forgotten is kept for later ones.
 #[derive(Drop)]
 pub(crate) struct Spares<B: Board> {
     spares: Vec<Spare<B>>,
+    /// How many are not forgotten.
+    count: usize,
 }
 
 impl<B: Board> Spares<B> {
@@ -34,12 +36,13 @@ impl<B: Board> Spares<B> {
     pub(crate) fn new(alloc: Global) -> Spares<B> {
         Spares {
             spares: Vec::new(alloc),
+            count: 0,
         }
     }
 
     /// Forgets all copies.
     pub(crate) fn clear(&mut self) {
-        self.spares.clear();
+        self.count = 0;
     }
 
     /// Keeps a copy of the board if a move at the point is costly to take back. Not inlined: with the question in it a move got
@@ -53,23 +56,37 @@ impl<B: Board> Spares<B> {
         }
     }
 
-    // Keeps a copy of the board. If memory is refused, there is none. Not inlined: its caller would fill the room for the copy on
-    // each of its ways.
-    #[inline(never)]
+    // Keeps a copy of the board.
     fn keep(&mut self, board: &B, depth: usize) {
-        if self.spares.len() >= MAX_SPARES {
-            self.spares.clear();
+        if self.count >= MAX_SPARES {
+            self.count = 0;
         }
-        let copy = board.copy();
-        let _kept = self.spares.push(Spare { board: copy, depth });
+        let place = self.count;
+        if place < self.spares.len() {
+            self.spares[place].board.copy_from(board);
+            self.spares[place].depth = depth;
+            self.count = place + 1;
+        } else {
+            self.add(board, depth);
+        }
     }
 
-    // Whether the latest copy was made at this depth. Steps are taken back latest first, each with its copy, so if there is one of
+    // Keeps a copy of the board in new memory. If that is refused, there is no copy. Not inlined: its caller would fill the room for
+    // the copy on each of its ways.
+    #[inline(never)]
+    fn add(&mut self, board: &B, depth: usize) {
+        let board = board.copy();
+        if self.spares.push(Spare { board, depth }).is_ok() {
+            self.count = self.spares.len();
+        }
+    }
+
+    // The latest copy, if it was made at this depth. Steps are taken back latest first, each with its copy, so if there is one of
     // this depth it is the latest.
-    fn is_at(&self, depth: usize) -> bool {
-        match self.spares.last() {
-            Some(spare) => spare.depth == depth,
-            None => false,
+    fn at(&self, depth: usize) -> Option<&Spare<B>> {
+        match self.spares.get(self.count.checked_sub(1)?) {
+            Some(spare) if spare.depth == depth => Some(spare),
+            _ => None,
         }
     }
 
@@ -79,28 +96,15 @@ impl<B: Board> Spares<B> {
         requires liberties { first_without_liberty (side_of wanted.now) wanted.now ≡ None }
         ensures { B.content board.new ≡ wanted.now }
     {
-        if self.is_at(depth) {
-            self.take_latest(board, wanted);
-        } else {
-            board.restore(wanted);
-        }
-    }
-
-    // Lets the board hold the colouring, by the latest copy, if it holds that. The copy is then forgotten. Not inlined, as `keep`.
-    #[inline(never)]
-    fn take_latest(&mut self, board: &mut B, wanted: &Colouring)
-        requires size { side_of wanted.now ≡ side_of (B.content board.old) }
-        requires liberties { first_without_liberty (side_of wanted.now) wanted.now ≡ None }
-        ensures { B.content board.new ≡ wanted.now }
-    {
-        let Some(spare) = self.spares.pop() else {
+        let Some(spare) = self.at(depth) else {
             board.restore(wanted);
             return;
         };
         if spare.board.colouring() == *wanted {
-            *board = spare.board;
+            board.copy_from(&spare.board);
         } else {
             board.restore(wanted);
         }
+        self.count = self.count.saturating_sub(1);
     }
 }

@@ -14,5 +14,5 @@ mod spread;
 
 pub use areas::areas_of;
 pub use living::{is_pass_alive, living_stones};
-pub use problems::lives_at;
+pub use problems::{lives_at, lives_on};
 pub use sets::{are_members, is_near, put_in};

@@ -352,6 +352,13 @@ impl<B: Board, S: Seen> State<B, S> {
         self.mover = self.mover.opponent();
     }
 
+    /// The board, which holds the colouring.
+    pub fn board(&self) -> &B
+        ensures { B.content result.now ≡ self.now.state.colouring }
+    {
+        self.played.board()
+    }
+
     pub fn colouring(&self) -> Colouring
         ensures { result ≡ self.now.state.colouring }
     {

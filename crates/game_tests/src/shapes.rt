@@ -18,7 +18,7 @@ fn shapes(
 ) -> (Shapes, Position) {
     let given = problem(rt, alloc, 5, &[text], Colour::White, target, region);
     let (board, position) = Board::of(alloc, &given).expect(rt, "memory");
-    (Shapes::of(alloc, board).expect(rt, "memory"), position)
+    (Shapes::of(alloc, board), position)
 }
 
 fn is_alive(rt: &impl Abort, alloc: Global, text: &str, target: &str, region: &str) -> bool {

@@ -30,6 +30,8 @@ pub struct Board {
     pub(crate) all: PlaceSet,
     pub(crate) region: PlaceSet,
     pub(crate) targets: PlaceSet,
+    /// One target of each chain that has any in the problem's position. Stones of one chain stay on one chain.
+    pub(crate) heads: PlaceSet,
     /// Places where a stone of a side can never be taken: beside them is an empty point that does not change, or a stone of the
     /// side that does not change.
     pub(crate) lasting: Position,
@@ -50,12 +52,14 @@ impl Board {
             all: PlaceSet::empty(),
             region: PlaceSet::empty(),
             targets: PlaceSet::empty(),
+            heads: PlaceSet::empty(),
             lasting: Position::empty(),
         };
         board.add_places(changing.as_slice())?;
         board.add_spots(problem, changing.as_slice())?;
         board.add_lasting(problem);
         let position = board.position_of(problem);
+        board.heads = board.heads_of(position.defender);
         Ok((board, position))
     }
 
@@ -165,6 +169,20 @@ impl Board {
             }
         }
         position
+    }
+
+    /// One target of each chain of these stones that has any.
+    fn heads_of(&self, defender: PlaceSet) -> PlaceSet {
+        let mut heads = PlaceSet::empty();
+        let mut rest = self.targets.and(defender).places();
+        for _ in 0..u64::MAX {
+            let Some(at) = rest.take() else {
+                return heads;
+            };
+            heads = heads.with(at);
+            rest.skip(self.chain(defender, at));
+        }
+        heads
     }
 
     /// How many places there are.

@@ -101,6 +101,8 @@ impl Board {
         let attacker = reach.position.attacker;
         let stones = attacker.and(reach.inside);
         let mut rest = stones.places();
+        // What is beside the chains that could not be connected. If another chain is connected, they may be, if they touch.
+        let mut near_others = PlaceSet::empty();
         for _ in 0..u64::MAX {
             let Some(at) = rest.take() else {
                 return;
@@ -108,13 +110,18 @@ impl Board {
             let (chain, near) = self.chain_and_near(attacker, at);
             rest.skip(chain);
             let pair = self.connecting_pair(reach, chain, near);
-            if !pair.is_empty() {
-                reach.used = reach.used.or(pair);
-                reach.permanent = reach.permanent.or(chain);
-                reach.near = reach.near.or(near);
-                let safe = self.lasting.attacker.or(reach.near);
-                reach.safe = reach.inside.and(safe).minus(reach.permanent);
+            if pair.is_empty() {
+                near_others = near_others.or(near);
+                continue;
+            }
+            reach.used = reach.used.or(pair);
+            reach.permanent = reach.permanent.or(chain);
+            reach.near = reach.near.or(near);
+            let safe = self.lasting.attacker.or(reach.near);
+            reach.safe = reach.inside.and(safe).minus(reach.permanent);
+            if near_others.meets(near) {
                 rest = stones.minus(reach.permanent).places();
+                near_others = PlaceSet::empty();
             }
         }
     }

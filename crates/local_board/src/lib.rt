@@ -8,6 +8,7 @@
 mod board;
 mod changing;
 mod eyes;
+mod latest;
 mod life;
 mod place_set;
 mod position;

@@ -6,7 +6,7 @@
 
 use crate::board::Board;
 use crate::place_set::PlaceSet;
-use crate::position::{Position, Side};
+use crate::position::Side;
 
 /// The greatest number of eyes, and of chains, that are looked at.
 const ROOM: usize = 40;
@@ -31,6 +31,23 @@ struct Parts {
     count: usize,
 }
 
+/// The eyes and the chains of one question. They are made anew for each, in the same memory: a function fills its own large values
+/// before it begins, which would take longer than most questions.
+#[derive(Clone, Copy)]
+pub(crate) struct LifeParts {
+    eyes: Parts,
+    chains: Parts,
+}
+
+impl LifeParts {
+    pub(crate) fn none() -> LifeParts {
+        LifeParts {
+            eyes: Parts::none(),
+            chains: Parts::none(),
+        }
+    }
+}
+
 impl Parts {
     fn none() -> Parts {
         let part = Part {
@@ -42,6 +59,10 @@ impl Parts {
             parts: [part; ROOM],
             count: 0,
         }
+    }
+
+    fn clear(&mut self) {
+        self.count = 0;
     }
 
     /// Adds one more, and returns whether there was room.
@@ -86,72 +107,114 @@ impl Parts {
     }
 }
 
+/// What is known of the defender's stones when their chains have been found.
+#[derive(Clone, Copy)]
+struct Stones {
+    /// The stones on chains with a lasting liberty.
+    lasting: PlaceSet,
+    /// The places beside stones, and stones.
+    near: PlaceSet,
+}
+
 impl Board {
     /// Whether no target can ever be taken, whatever the attacker plays: each is on a chain with a lasting liberty, or on one of a
     /// set of chains each of which has two eyes that only chains of the set surround.
-    pub(crate) fn lives(&self, defender: PlaceSet, empty: PlaceSet) -> bool {
-        let rest = self.stones_in_question(defender);
-        rest.is_empty()
-            || !rest
-                .minus(self.good(defender, empty, rest))
-                .meets(self.targets)
+    pub(crate) fn lives(&self, defender: PlaceSet, parts: &mut LifeParts) -> bool {
+        let Some(stones) = self.find_chains(defender, &mut parts.chains) else {
+            return false;
+        };
+        let asked = self.heads.and(defender).minus(stones.lasting);
+        asked.is_empty()
+            || self.may_have_eyes(defender, asked, &parts.chains)
+                && self.find_eyes(defender, stones, &mut parts.eyes)
+                && self.are_good(asked, parts)
     }
 
-    /// The stones on chains with a target that have no lasting liberty.
-    fn stones_in_question(&self, defender: PlaceSet) -> PlaceSet {
+    /// The defender's stones that can never be taken.
+    pub(crate) fn good(&self, defender: PlaceSet, parts: &mut LifeParts) -> PlaceSet {
+        let Some(stones) = self.find_chains(defender, &mut parts.chains) else {
+            return self.permanent(defender, Side::Defender);
+        };
+        if self.find_eyes(defender, stones, &mut parts.eyes)
+            && self.are_good(PlaceSet::empty(), parts)
+        {
+            stones.lasting.or(good_places(&parts.chains))
+        } else {
+            stones.lasting
+        }
+    }
+
+    /// Finds the defender's chains without a lasting liberty. `None` if they are more than are looked at.
+    fn find_chains(&self, defender: PlaceSet, chains: &mut Parts) -> Option<Stones> {
+        chains.clear();
+        let mut stones = Stones {
+            lasting: PlaceSet::empty(),
+            near: PlaceSet::empty(),
+        };
+        let mut rest = defender.places();
+        for _ in 0..u64::MAX {
+            let Some(at) = rest.take() else {
+                return Some(stones);
+            };
+            let (chain, near) = self.chain_and_near(defender, at);
+            rest.skip(chain);
+            stones.near = stones.near.or(near);
+            if chain.meets(self.lasting.defender) {
+                stones.lasting = stones.lasting.or(chain);
+            } else if !chains.add(chain, near.minus(chain)) {
+                return None;
+            }
+        }
+        None
+    }
+
+    /// Whether each chain with one of these stones may have two eyes.
+    fn may_have_eyes(&self, defender: PlaceSet, asked: PlaceSet, chains: &Parts) -> bool {
+        for index in 0..ROOM {
+            if index >= chains.count {
+                return true;
+            }
+            let chain = chains.parts[index];
+            if chain.places.meets(asked) && !self.may_have_two_eyes(defender, chain.beside) {
+                return false;
+            }
+        }
+        true
+    }
+
+    /// Whether two areas can be eyes of a chain that has these places beside it: all points of an eye are among them, and beside
+    /// the eye are only stones of the defender.
+    fn may_have_two_eyes(&self, defender: PlaceSet, beside: PlaceSet) -> bool {
+        let own = beside.minus(self.lasting.attacker);
+        let eyes = own.minus(self.connected(self.open_places(own, defender), own));
+        match eyes.first() {
+            Some(at) => self.chain(eyes, at) != eyes,
+            None => false,
+        }
+    }
+
+    /// Those of these places that have others beside them than these and the defender's stones.
+    fn open_places(&self, places: PlaceSet, defender: PlaceSet) -> PlaceSet {
+        let closed = places.or(defender);
         let mut found = PlaceSet::empty();
-        let mut rest = defender.and(self.targets).places();
+        let mut rest = places.places();
         for _ in 0..u64::MAX {
             let Some(at) = rest.take() else {
                 return found;
             };
-            let chain = self.chain(defender, at);
-            rest.skip(chain);
-            if !chain.meets(self.lasting.defender) {
-                found = found.or(chain);
+            if !self.near(at).is_within(closed) {
+                found = found.with(at);
             }
         }
         found
     }
 
-    /// The defender's stones that can never be taken. As soon as a chain with one of the targets asked about drops out, the answer
-    /// is based on lasting liberties only.
-    pub(crate) fn good(&self, defender: PlaceSet, empty: PlaceSet, asked: PlaceSet) -> PlaceSet {
-        let lasting = self.permanent(defender, Side::Defender);
-        let mut eyes = Parts::none();
-        if !self.find_eyes(defender, empty, &mut eyes) {
-            return lasting;
-        }
-        self.good_among(defender, lasting, asked, &mut eyes)
-    }
-
-    /// The defender's stones that can never be taken, if these can be eyes. It is apart from `good`, which makes no room for chains
-    /// where there are no eyes.
-    fn good_among(
-        &self,
-        defender: PlaceSet,
-        lasting: PlaceSet,
-        asked: PlaceSet,
-        eyes: &mut Parts,
-    ) -> PlaceSet {
-        let mut chains = Parts::none();
-        if !self.find_chains(defender, lasting, &mut chains) {
-            return lasting;
-        }
-        for _ in 0..=ROOM {
-            match self.spoil_chains(&mut chains, eyes, asked) {
-                Some(true) => {}
-                Some(false) => return lasting.or(good_places(&chains)),
-                None => return lasting,
-            }
-        }
-        lasting
-    }
-
-    /// Adds the areas that can be eyes: all their points are beside stones of the defender. Returns whether there are two of them or
-    /// more, and no more than are looked at.
-    fn find_eyes(&self, defender: PlaceSet, empty: PlaceSet, eyes: &mut Parts) -> bool {
-        let candidates = self.beside(defender).minus(self.lasting.attacker);
+    /// Finds the areas that can be eyes: all their points are beside stones of the defender. One of them is empty, since stones of the
+    /// attacker that filled an area would have no liberty. Returns whether there are two areas or more, and no more than are looked
+    /// at.
+    fn find_eyes(&self, defender: PlaceSet, stones: Stones, eyes: &mut Parts) -> bool {
+        eyes.clear();
+        let candidates = stones.near.minus(defender).minus(self.lasting.attacker);
         let mut rest = candidates.places();
         for _ in 0..u64::MAX {
             let Some(at) = rest.take() else {
@@ -160,7 +223,7 @@ impl Board {
             let (area, near) = self.chain_and_near(candidates, at);
             rest.skip(area);
             let beside = near.minus(area);
-            if beside.is_within(defender) && area.meets(empty) && area.len() <= MAX_EYE {
+            if beside.is_within(defender) && area.len() <= MAX_EYE {
                 if !eyes.add(area, beside) {
                     return false;
                 }
@@ -169,47 +232,39 @@ impl Board {
         eyes.count >= 2
     }
 
-    /// Adds the defender's chains except these. Returns whether there are no more than are looked at.
-    fn find_chains(&self, defender: PlaceSet, lasting: PlaceSet, chains: &mut Parts) -> bool {
-        let mut rest = defender.minus(lasting).places();
-        for _ in 0..u64::MAX {
-            let Some(at) = rest.take() else {
-                return true;
-            };
-            let (chain, near) = self.chain_and_near(defender, at);
-            rest.skip(chain);
-            if !chains.add(chain, near.minus(chain)) {
-                return false;
+    /// Leaves out the chains that do not have two eyes, until all that are left have. Returns whether those with the stones that are
+    /// asked about are left.
+    fn are_good(&self, asked: PlaceSet, parts: &mut LifeParts) -> bool {
+        for _ in 0..=ROOM {
+            match spoil_chains(&mut parts.chains, &mut parts.eyes, asked) {
+                Some(true) => {}
+                Some(false) => return true,
+                None => return false,
             }
         }
         false
     }
+}
 
-    /// Marks the chains that do not have two eyes as bad, and the eyes beside them. Returns whether there were any, or `None` if
-    /// one of them has a target that is asked about.
-    fn spoil_chains(&self, chains: &mut Parts, eyes: &mut Parts, asked: PlaceSet) -> Option<bool> {
-        let mut has_changed = false;
-        for index in 0..ROOM {
-            if index >= chains.count {
-                return Some(has_changed);
-            }
-            let chain = chains.parts[index];
-            if chain.is_good && !eyes.has_two_within(chain.beside) {
-                if chain.places.and(asked).meets(self.targets) {
-                    return None;
-                }
-                chains.parts[index].is_good = false;
-                has_changed = true;
-                eyes.spoil_beside(chain.places);
-            }
+/// Marks the chains that do not have two eyes as bad, and the eyes beside them. Returns whether there were any, or `None` if one of
+/// them has a stone that is asked about.
+fn spoil_chains(chains: &mut Parts, eyes: &mut Parts, asked: PlaceSet) -> Option<bool> {
+    let mut has_changed = false;
+    for index in 0..ROOM {
+        if index >= chains.count {
+            return Some(has_changed);
         }
-        Some(has_changed)
+        let chain = chains.parts[index];
+        if chain.is_good && !eyes.has_two_within(chain.beside) {
+            if chain.places.meets(asked) {
+                return None;
+            }
+            chains.parts[index].is_good = false;
+            has_changed = true;
+            eyes.spoil_beside(chain.places);
+        }
     }
-
-    /// Whether the targets are there and live by their shape.
-    pub(crate) fn is_alive(&self, position: Position) -> bool {
-        !self.is_taken(position) && self.lives(position.defender, self.empty(position))
-    }
+    Some(has_changed)
 }
 
 /// The places of the good parts.

@@ -97,6 +97,9 @@ impl PlaceSet {
 
     /// How many places it has.
     pub fn len(self) -> u32 {
+        if self.high == 0 {
+            return self.low.count_ones();
+        }
         self.low.count_ones() + self.high.count_ones()
     }
 

@@ -70,6 +70,11 @@ impl Position {
         Position::made(side, self.of(side).with(place), self.of(side.other()))
     }
 
+    /// A number that is well mixed. Equal positions have the same number.
+    pub(crate) fn mixed(self) -> u64 {
+        self.attacker.mixed() ^ self.defender.mixed() >> 7
+    }
+
     /// The places where either side has a stone.
     pub fn stones(self) -> PlaceSet {
         self.attacker.or(self.defender)

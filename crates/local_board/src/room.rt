@@ -1,6 +1,7 @@
 //! How much is left to play.
 
 use crate::board::Board;
+use crate::life::LifeParts;
 use crate::place_set::PlaceSet;
 use crate::position::{Position, Side};
 
@@ -27,10 +28,10 @@ impl Board {
     /// How much a living defender has left to do. First the sum of the points of the areas between his chains, less one for each
     /// area (if the attacker has lasting stones, only the empty points of the region), the attacker's moves, the defender's chains,
     /// and his stones that can be taken; then the attacker's moves alone.
-    pub fn room_of_life(&self, position: Position) -> Room {
+    pub(crate) fn room_of_life(&self, position: Position, parts: &mut LifeParts) -> Room {
         let defender = position.defender;
         let moves = self.count_moves(position, Side::Attacker);
-        let good = self.good(defender, self.empty(position), PlaceSet::empty());
+        let good = self.good(defender, parts);
         let whole = self
             .points_of_areas(position)
             .saturating_add(moves)
@@ -116,13 +117,12 @@ impl Board {
     fn fewest_liberties(&self, position: Position) -> u32 {
         let empty = self.empty(position);
         let mut fewest: u32 = 99;
-        let mut rest = self.targets.and(position.defender).places();
+        let mut rest = self.heads.and(position.defender).places();
         for _ in 0..u64::MAX {
             let Some(at) = rest.take() else {
                 return fewest;
             };
             let chain = self.chain(position.defender, at);
-            rest.skip(chain);
             if !chain.meets(self.lasting.defender) {
                 fewest = fewest.min(self.beside(chain).and(empty).len());
             }

@@ -169,21 +169,20 @@ impl Board {
     pub fn takes(&self, position: Position) -> PlaceSet {
         let empty = self.empty(position);
         let mut found = PlaceSet::empty();
-        let mut rest = self.targets.and(position.defender).places();
+        let mut rest = self.heads.and(position.defender).places();
         for _ in 0..u64::MAX {
             let Some(at) = rest.take() else {
                 return found;
             };
-            let (chain, liberties) = self.few_liberties(position.defender, empty, at);
-            rest.skip(chain);
-            found = found.or(liberties.and(self.region));
+            let last = self.last_liberty(position.defender, empty, at);
+            found = found.or(last.and(self.region));
         }
         found
     }
 
-    /// The only liberty of the defender's chain at this place, and the chain. If the chain has more liberties, or can never be
-    /// taken, the set of liberties is empty, and only the part of the chain that was looked at is there.
-    fn few_liberties(&self, own: PlaceSet, empty: PlaceSet, place: usize) -> (PlaceSet, PlaceSet) {
+    /// The only liberty of the defender's chain at this place. The set is empty if the chain has more liberties, or can never be
+    /// taken.
+    fn last_liberty(&self, own: PlaceSet, empty: PlaceSet, place: usize) -> PlaceSet {
         let mut chain = PlaceSet::empty().with(place);
         let mut front = chain.places();
         let mut liberties = PlaceSet::empty();
@@ -194,12 +193,12 @@ impl Board {
             let near = self.near(at);
             liberties = liberties.or(near.and(empty));
             if liberties.has_several() || self.lasting.defender.has(at) {
-                return (chain, PlaceSet::empty());
+                return PlaceSet::empty();
             }
             let more = near.and(own).minus(chain);
             chain = chain.or(more);
             front.add(more);
         }
-        (chain, liberties)
+        liberties
     }
 }

@@ -233,7 +233,7 @@ fn find_living(
         };
         if own != Some(step_at(place)) && lives_after(finish, state, place) {
             let after = finish.search.after_move_at(state, Side::Defender, place);
-            let room = finish.search.shapes.board.room_of_life(after.position);
+            let room = finish.search.shapes.room_of_life(after.position);
             best.add(place, room);
             found = found.with(place);
         }

@@ -12,10 +12,13 @@ const ROOM: usize = 1_000_000;
 /// A turn of a state, and the position after it.
 #[derive(Clone, Copy)]
 pub(crate) struct KeptMove {
-    pub(crate) step: Step,
     pub(crate) position: u64,
+    pub(crate) step: Step,
     /// How many points are left there where the defender could have an eye, if that was asked.
     pub(crate) many: Option<u8>,
+    /// Whether the questions about the state after it were asked, and nothing was certain. Few of them depend on the past, so they
+    /// are not asked again.
+    pub(crate) was_open: bool,
 }
 
 /// The turns of a state, in the newer list.
@@ -93,6 +96,7 @@ impl KeptMoves {
             step,
             position: kept.position,
             many: kept.many,
+            was_open: kept.was_open,
         })?;
         Ok(())
     }
@@ -120,11 +124,13 @@ impl KeptMoves {
         from: usize,
         step: Step,
         many: Option<u8>,
+        is_open: bool,
     ) -> usize {
         for place in from..state.count {
             let at = state.first.saturating_add(place);
             if at < self.moves.len() && self.moves[at].step == step {
                 self.moves[at].many = many;
+                self.moves[at].was_open = is_open;
                 return place + 1;
             }
         }

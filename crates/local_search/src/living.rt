@@ -69,7 +69,7 @@ impl Finish {
     {
         let mut best = Turned::worst();
         if lives {
-            best.room = self.search.shapes.board.room_of_life(state.position);
+            best.room = self.search.shapes.room_of_life(state.position);
             let passed = self.search.after(state, Step::Pass);
             best.value = self.value(passed, best.room.whole, u64::MAX);
         }
@@ -98,7 +98,7 @@ impl Finish {
         if !self.search.shapes.is_alive(after.position) {
             return None;
         }
-        let room = self.search.shapes.board.room_of_life(after.position);
+        let room = self.search.shapes.room_of_life(after.position);
         Some(Turned {
             step: step_at(place),
             value: self.value(after, room.whole, most),

@@ -13,10 +13,12 @@ pub(crate) struct Parent {
     pub(crate) state: State,
     /// For each side, the places where a stone is put down and nothing else changes.
     pub(crate) plain: Position,
-    /// The places where one more stone could make the defender live, if the attacker had no stones.
+    /// The places where one more stone makes the defender live.
     lives: Option<PlaceSet>,
     /// The attacker's turns that kill, or nearly kill, if the defender has passed.
     kills: Option<PlaceSet>,
+    /// The place of the turn that settled a child last. It often settles the next one, too, and is tried first.
+    settled_by: Option<usize>,
 }
 
 /// An answer.
@@ -45,6 +47,7 @@ impl Parent {
             plain,
             lives: None,
             kills: None,
+            settled_by: None,
         }
     }
 }
@@ -111,7 +114,7 @@ impl Search {
         } else {
             self.living_places(parent)
         };
-        !at.is_empty() && self.next_turn(child, Side::Defender, at).is_some()
+        self.is_settled_next(parent, child, Side::Defender, at)
     }
 
     /// Whether the attacker has a turn here after which the defender cannot have two eyes.
@@ -121,7 +124,24 @@ impl Search {
         } else {
             self.killing_places(parent)
         };
-        !at.is_empty() && self.next_turn(child, Side::Attacker, at).is_some()
+        self.is_settled_next(parent, child, Side::Attacker, at)
+    }
+
+    /// Whether the side has a turn at one of these places after which the child of the parent is certain.
+    fn is_settled_next(
+        &mut self,
+        parent: &mut Parent,
+        child: State,
+        side: Side,
+        at: PlaceSet,
+    ) -> bool {
+        match self.next_turn(child, side, at, parent.settled_by) {
+            Some(place) => {
+                parent.settled_by = Some(place);
+                true
+            }
+            None => false,
+        }
     }
 
     /// The turn by which the attacker takes a target at once.
@@ -160,11 +180,11 @@ impl Search {
     pub(crate) fn lives_by_shape(&mut self, position: Position) -> bool {
         self.asks_life
             && self.shapes.is_alive(position)
-            && (self.room == 0 || self.shapes.board.room_of_life(position).whole < self.room)
+            && (self.room == 0 || self.shapes.room_of_life(position).whole < self.room)
     }
 
-    /// The places where one more stone could make the defender live, if the attacker had no stones. No such place is missed: if a
-    /// turn of the attacker takes nothing, the defender still has these stones after it, and the attacker's stones never help him.
+    /// The places where one more stone makes the defender live, if the attacker takes nothing before it: then the defender still has
+    /// these stones, and whether they live does not depend on the attacker's.
     fn living_places(&mut self, parent: &mut Parent) -> PlaceSet {
         if let Some(places) = parent.lives {
             return places;
@@ -220,14 +240,30 @@ impl Search {
         }
     }
 
-    /// The side's first turn at one of these places after which the state is certain, and whose result has not occurred.
-    fn next_turn(&mut self, state: State, side: Side, at: PlaceSet) -> Option<NextTurn> {
+    /// A place among these where the side has a turn after which the state is certain, and whose result has not occurred. The place
+    /// `first` is tried before the others.
+    fn next_turn(
+        &mut self,
+        state: State,
+        side: Side,
+        at: PlaceSet,
+        first: Option<usize>,
+    ) -> Option<usize> {
         let empty = self.shapes.board.empty(state.position);
-        let mut rest = empty.and(self.shapes.board.region()).and(at).places();
+        let mut rest = empty.and(self.shapes.board.region()).and(at);
+        if let Some(place) = first {
+            if rest.has(place) {
+                if self.certain_turn(state, side, place).is_some() {
+                    return first;
+                }
+                rest = rest.minus(PlaceSet::empty().with(place));
+            }
+        }
+        let mut rest = rest.places();
         for _ in 0..u64::MAX {
             let place = rest.take()?;
-            if let Some(turn) = self.certain_turn(state, side, place) {
-                return Some(turn);
+            if self.certain_turn(state, side, place).is_some() {
+                return Some(place);
             }
         }
         None
@@ -252,6 +288,10 @@ impl Search {
 
     /// The side's turn at this place, if the state is certain after it and its result has not occurred.
     fn certain_turn(&mut self, state: State, side: Side, place: usize) -> Option<NextTurn> {
+        // Mostly this tells what the position after the turn would, which costs more.
+        if side == Side::Defender && !self.shapes.may_live(state.position.defender.with(place)) {
+            return None;
+        }
         let position = self.shapes.board.after(state.position, side, place);
         if position == state.position || !self.is_certain(side, position) {
             return None;
@@ -268,12 +308,11 @@ impl Search {
     }
 
     /// The turn with what it leaves to play.
-    fn weigh_turn(&self, turn: NextTurn, side: Side, place: usize) -> NextTurn {
+    fn weigh_turn(&mut self, turn: NextTurn, side: Side, place: usize) -> NextTurn {
         let position = turn.state.position;
-        let board = &self.shapes.board;
         let room = match side {
-            Side::Defender => board.room_of_life(position),
-            Side::Attacker => board.room_of_death(position, place),
+            Side::Defender => self.shapes.room_of_life(position),
+            Side::Attacker => self.shapes.board.room_of_death(position, place),
         };
         NextTurn { room, ..turn }
     }

@@ -72,7 +72,7 @@ impl Search {
         let mut stored = Marks::new(alloc);
         stored.make_room(capacity.get().min(STORED))?;
         let search = Search {
-            shapes: Shapes::of(alloc, board)?,
+            shapes: Shapes::of(alloc, board),
             proofs: Proofs::new(alloc),
             past: past_of(alloc, problem)?,
             turns: 0,

@@ -81,7 +81,8 @@ impl Writer {
                 absent.extend_from_slice(lemma.absent.as_slice())?;
             }
         }
-        absent.sort_unstable();
+        // The lists that are joined ascend, so a sort that finds what is in order has little to do.
+        absent.sort()?;
         absent.dedup();
         Ok(absent)
     }

@@ -7,6 +7,8 @@ mod expect;
 #[cfg(test)]
 mod few_turns;
 #[cfg(test)]
+mod found_proofs;
+#[cfg(test)]
 mod known_lemmas;
 #[cfg(test)]
 mod listed_moves;

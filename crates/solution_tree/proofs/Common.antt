@@ -13,7 +13,7 @@ pub use Rattle.go_points.specs.declared.Colour.{Colour}
 pub use Rattle.go_points.specs.declared.Turn.{Turn}
 pub use Rattle.target_game.proofs.Winning.{lists_the_legal, same_ply_eq}
 pub use Rattle.target_game.specs.Answers.{AnswerTree, reply_sizes, replies, reply, turn, ReplyTrees, none, leaf, each_once, same_plies, turns_of}
-pub use Rattle.target_game.specs.Left.{line_if, turns_due}
+pub use Rattle.target_game.specs.Left.{turns_due}
 pub use Rattle.target_game.specs.Legal.{legal}
 unfoldable pub use Rattle.target_game.specs.Legal.{legal_turns}
 pub use Rattle.target_game.specs.Next.{next}
@@ -38,10 +38,8 @@ unfoldable pub use Rattle.solution_tree.specs.Answer.{answer_of}
 pub use Rattle.solution_tree.specs.Audit.{faults_below, faults_of, first_line, missing, rest_fault, Fault, Why, at_or, audit, has_children, has_several, reply_missing, reply_twice, turns_in, with_turn, after_turn, ask, is_new, not_won, reply_fault, several_answers, then_all, turn_fault, unless_fault}
 pub use Rattle.solution_tree.specs.Below.{nodes_of, node_then, Nodes, count_nodes, no_node, carried, sequence, nodes_below, nodes_in}
 pub use Rattle.solution_tree.specs.Private.Asked.{follows, Tells, IsFound, Leads}
-pub use Rattle.solution_tree.specs.Private.Counting.{due, IsPlayed, with_one}
-pub use Rattle.solution_tree.specs.Private.Opened.{lemma_count, uses_below, tree_at, all_below, branches_at, Expands, open_sizes, expanded, lemma_answers, closed, finish, part_size, part_turns, replies_then, open_below, open_size, part_tree, played, turn_of}
+pub use Rattle.solution_tree.specs.Private.Opened.{lemma_count, uses_below, tree_at, all_below, branches_at, expanded, lemma_answers, AreOpen, CanGoOn, CanOpen, Goes, closed, due, later_of, replies_then, whole}
 pub use Rattle.solution_tree.specs.Private.Written.{is_single}
 pub use Rattle.solution_tree.specs.declared.answer.Answer.{Answer}
 pub use Rattle.solution_tree.specs.declared.opened.OpenTurn.{OpenTurn}
 pub use Rattle.solution_tree.specs.declared.opened.OpenTurn.TheVariants.{Made, Reply}
-pub use Rattle.solution_tree.specs.declared.turn_count.Waiting.{Waiting}

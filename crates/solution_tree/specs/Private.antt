@@ -2,4 +2,3 @@
 pub mod Asked
 pub mod Opened
 pub mod Written
-pub mod Counting

@@ -11,7 +11,6 @@ mod opened;
 mod questions;
 mod solution;
 mod tree_audit;
-mod turn_count;
 
 pub use answer::Answer;
 pub use expansion::expand;

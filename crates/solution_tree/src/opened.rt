@@ -1,19 +1,18 @@
-//! An expansion under way. The turns whose trees are not finished are on a stack of its own, so no line of play is too long.
+//! A walk through the tree that a checked claim gives. The turns whose trees are not finished are on a stack of its own, so no line
+//! of play is too long. One walk only counts turns and another one keeps the finished trees too.
 
-ghost use Rattle.std.specs.Prelude.{◌≡◌, ◌+◌, ℕ, List, [], ◌∷◌, IsTrue, IsFalse, IfOk, IfNone, IfSome};
+ghost use Rattle.std.specs.Prelude.{◌≡◌, ◌+◌, ℕ, [], ◌∷◌, ◌++◌, true, None, IsTrue, IsFalse, IfOk, OnOk};
 ghost use Rattle.go_points.specs.Ply.{ply_of};
-ghost use Rattle.target_game.specs.Answers.{AnswerTree, none, reply, replies, answer_size, reply_sizes};
-ghost use Rattle.target_game.specs.Legal.{legal};
-ghost use Rattle.target_game.specs.Next.{next};
+ghost use Rattle.target_game.specs.Answers.{turn as then_turn, replies, answer_size, reply_sizes};
+ghost use Rattle.target_game.specs.Over.{over};
 ghost use Rattle.target_game.specs.State.{GameState};
-ghost use Rattle.cert_check.specs.Expand.{expand_node, expand_branches};
 ghost use Rattle.proof_cert.specs.Certificate as claim;
 ghost use Rattle.solution_tree.specs.Answer.{answer_of, replies_of};
-ghost use Rattle.solution_tree.specs.Private.Opened.{Expands, IfFinished, all_below, branches_at, closed, is_use, lemma_count, open_below, open_size, open_sizes, part_below, part_size, part_tree, part_turns, replies_then, tree_at, uses_below};
+ghost use Rattle.solution_tree.specs.Private.Opened.{AreOpen, CanGoOn, CanOpen, Goes, IfFinished, MakesNext, branches_at, closed, due, is_use, later_of, lemma_count, replies_then, tree_at, uses_below, whole};
 
 use crate::answer::Answer;
 use cert_check::Checked;
-use go_points::{Size, Turn};
+use go_points::Turn;
 use proof_cert::Node;
 use std::alloc::{AllocError, Global};
 use target_game::PlayState;
@@ -42,7 +41,7 @@ pub(crate) enum Part<'a> {
 
 /// The node, or the body of the lemma if the node uses one.
 #[tactic(auto, using(proof_cert::proofs::Certificates::node_of_won, proof_cert::proofs::Certificates::node_of_play, proof_cert::proofs::Certificates::node_of_all))]
-pub(crate) fn body_of<'a>(checked: &'a Checked, node: &'a Node) -> &'a Node
+fn body_of<'a>(checked: &'a Checked, node: &'a Node) -> &'a Node
     requires { IsTrue (uses_below (lemma_count checked.now)
         (claim.node_of checked.now.certificate.size node.now)) }
     ensures same { (s : GameState)
@@ -70,42 +69,28 @@ pub(crate) fn body_of<'a>(checked: &'a Checked, node: &'a Node) -> &'a Node
     }
 }
 
-/// The first legal one of the replies, and the replies after it.
+/// Makes the first legal one of the replies, and returns it with the replies after it.
 #[tactic(auto, using(crate::proofs::NextReplies::replies_kept, crate::proofs::NextReplies::replies_left_out, crate::proofs::NextReplies::reply_below))]
-fn next_reply<'a>(
-    state: &PlayState,
+fn make_next<'a>(
+    state: &mut PlayState,
     replies: &'a [(Turn, Node)],
-) -> Option<(&'a (Turn, Node), &'a [(Turn, Node)])>
-    ensures none { IfNone result ((es : List (GameState → AnswerTree))
-        → expand_branches es (claim.replies_of state.now.state.game.size replies.now)
-        state.now.state ≡ none) }
-    ensures some { IfSome result (λ r. (es : List (GameState → AnswerTree))
-        → expand_branches es (claim.replies_of state.now.state.game.size replies.now)
-        state.now.state ≡ reply (ply_of state.now.state.game.size r.0.now.0)
-        (expand_node es (claim.node_of state.now.state.game.size r.0.now.1)
-        (next state.now.state (ply_of state.now.state.game.size r.0.now.0)))
-        (expand_branches es (claim.replies_of state.now.state.game.size r.1.now)
-        state.now.state)) }
-    ensures legal { IfSome result
-        (λ r. IsTrue (legal state.now.state (ply_of state.now.state.game.size r.0.now.0))) }
-    ensures below { IfSome result (λ r. (m : ℕ)
-        → IsTrue (all_below m (claim.replies_of state.now.state.game.size replies.now))
-        → IsTrue (uses_below m (claim.node_of state.now.state.game.size r.0.now.1))
-        × IsTrue (all_below m (claim.replies_of state.now.state.game.size r.1.now))) }
+) -> Result<Option<(&'a (Turn, Node), &'a [(Turn, Node)])>, AllocError>
+    requires { over state.old.state ≡ None }
+    ensures { IfOk result (λ found. MakesNext state.old replies.now found state.new) }
 {
     let mut rest = replies;
     loop {
         let Some((reply, others)) = rest.split_first() else {
-            return None;
+            return Ok(None);
         };
-        if state.is_legal(reply.0) {
-            return Some((reply, others));
+        if state.try_after(reply.0)? {
+            return Ok(Some((reply, others)));
         }
         rest = others;
     }
 }
 
-/// Opens the next legal reply. If there is none, the tree of the replies is finished.
+/// Makes the next legal reply. If there is none, the tree of the replies is finished.
 fn go_on<'a>(
     checked: &Checked,
     state: &mut PlayState,
@@ -113,61 +98,51 @@ fn go_on<'a>(
     done: Vec<(Turn, Answer)>,
     later: &'a [(Turn, Node)],
 ) -> Result<Part<'a>, AllocError>
-    requires stands { Expands checked.now opened.old.items state.old
+    requires turns { AreOpen checked.now opened.old.items state.old }
+    requires later { CanGoOn checked.now state.old.state
+        (claim.replies_of checked.now.certificate.size later.now) }
+    ensures goes { IfOk result (λ p. Goes true checked.now
+        (whole checked.now opened.old.items state.old
         (replies (replies_then (replies_of checked.now.certificate.size done.items)
         (branches_at checked.now (claim.replies_of checked.now.certificate.size later.now)
-        state.old.state))) }
-    requires below { IsTrue
-        (all_below (lemma_count checked.now)
-        (claim.replies_of checked.now.certificate.size later.now)) }
-    ensures stands { IfOk result
-        (λ p. Expands checked.now opened.new.items state.new
-        (part_tree checked.now p state.new.state)) }
-    ensures below { IfOk result (λ p. IsTrue (part_below checked.now p)) }
-    ensures size { IfOk result
-        (λ p. open_sizes checked.now.certificate.size opened.new.items
-        + part_size checked.now.certificate.size p
-        ≡ open_sizes checked.now.certificate.size opened.old.items
-        + reply_sizes (replies_of checked.now.certificate.size done.items) + part_turns p) }
+        state.old.state))))
+        (reply_sizes (branches_at checked.now
+        (claim.replies_of checked.now.certificate.size later.now) state.old.state)
+        + due checked.now opened.old.items state.old)
+        p opened.new.items state.new) }
     ensures finished { IfOk result (λ p. IfFinished p (opened.new.items ≡ opened.old.items)) }
 {
-    let Some((reply, others)) = next_reply(state, later) else {
+    let Some((reply, others)) = make_next(state, later)? else {
         return Ok(Part::Finished(Answer::Replies(done)));
     };
-    let turn = reply.0;
     opened.push(OpenTurn::Reply {
         done,
         turn: reply.0,
         later: others,
     })?;
-    state.after(turn)?;
     Ok(Part::Claimed(&reply.1))
 }
 
-/// Opens the node's first turn. If it has none, its tree is finished.
-#[tactic(auto, using(proof_cert::proofs::Certificates::node_of_won, proof_cert::proofs::Certificates::node_of_use, proof_cert::proofs::Certificates::node_of_all, crate::proofs::AnswerTrees::answer_of_won, crate::proofs::AnswerTrees::size_won))]
-pub(crate) fn open_node<'a>(
+/// Makes the node's first turn. If it has none, its tree is finished.
+#[tactic(auto, using(proof_cert::proofs::Certificates::node_of_use))]
+fn open_node<'a>(
     alloc: Global,
     checked: &Checked,
     node: &'a Node,
     state: &mut PlayState,
     opened: &mut Vec<OpenTurn<'a>>,
 ) -> Result<Part<'a>, AllocError>
-    requires stands { Expands checked.now opened.old.items state.old
-        (tree_at checked.now (claim.node_of checked.now.certificate.size node.now)
-        state.old.state) }
-    requires below { IsTrue
-        (uses_below (lemma_count checked.now)
-        (claim.node_of checked.now.certificate.size node.now)) }
+    requires turns { AreOpen checked.now opened.old.items state.old }
+    requires node { CanOpen checked.now state.old.state
+        (claim.node_of checked.now.certificate.size node.now) }
     requires no_use { IsFalse (is_use (claim.node_of checked.now.certificate.size node.now)) }
-    ensures stands { IfOk result
-        (λ p. Expands checked.now opened.new.items state.new
-        (part_tree checked.now p state.new.state)) }
-    ensures below { IfOk result (λ p. IsTrue (part_below checked.now p)) }
-    ensures size { IfOk result
-        (λ p. open_sizes checked.now.certificate.size opened.new.items
-        + part_size checked.now.certificate.size p
-        ≡ open_sizes checked.now.certificate.size opened.old.items + part_turns p) }
+    ensures { IfOk result (λ p. Goes true checked.now
+        (whole checked.now opened.old.items state.old (tree_at checked.now
+        (claim.node_of checked.now.certificate.size node.now) state.old.state))
+        (answer_size (tree_at checked.now
+        (claim.node_of checked.now.certificate.size node.now) state.old.state)
+        + due checked.now opened.old.items state.old)
+        p opened.new.items state.new) }
 {
     match node {
         Node::Won => Ok(Part::Finished(Answer::Won)),
@@ -181,25 +156,81 @@ pub(crate) fn open_node<'a>(
     }
 }
 
-/// Closes the open turns above a finished tree, up to one that has a further reply.
-pub(crate) fn close<'a>(
+/// The turn with the tree below it, if trees are kept; otherwise any tree that takes no memory more.
+fn with_turn(alloc: Global, keep: bool, turn: Turn, below: Answer) -> Result<Answer, AllocError>
+    ensures { IfOk result (λ a. IsTrue keep → (n : ℕ)
+        → answer_of n a ≡ then_turn (ply_of n turn) (answer_of n below)) }
+{
+    if !keep {
+        return Ok(below);
+    }
+    Ok(Answer::Turn(turn, Box::new(alloc, below)?))
+}
+
+/// Adds the reply with the tree below it, if trees are kept.
+fn add_reply(
+    keep: bool,
+    done: &mut Vec<(Turn, Answer)>,
+    turn: Turn,
+    below: Answer,
+) -> Result<(), AllocError>
+    ensures { OnOk result (IsTrue keep → done.new.items ≡ done.old.items ++ (turn, below) ∷ []) }
+{
+    if !keep {
+        return Ok(());
+    }
+    done.push((turn, below))?;
+    Ok(())
+}
+
+/// Puts a finished tree below the turn that was made last, at the state before that turn.
+fn put_below<'a>(
     alloc: Global,
+    keep: bool,
+    checked: &Checked,
+    last: OpenTurn<'a>,
+    tree: Answer,
+    state: &mut PlayState,
+    opened: &mut Vec<OpenTurn<'a>>,
+) -> Result<Part<'a>, AllocError>
+    requires turns { AreOpen checked.now opened.old.items state.old }
+    requires last { CanGoOn checked.now state.old.state (later_of checked.now last) }
+    ensures goes { IfOk result (λ p. Goes keep checked.now
+        (whole checked.now opened.old.items state.old
+        (closed checked.now last.entry state.old.state
+        (answer_of checked.now.certificate.size tree)))
+        (reply_sizes (branches_at checked.now (later_of checked.now last.entry) state.old.state)
+        + due checked.now opened.old.items state.old)
+        p opened.new.items state.new) }
+    ensures finished { IfOk result (λ p. IfFinished p (opened.new.items ≡ opened.old.items)) }
+{
+    match last {
+        OpenTurn::Made(turn) => Ok(Part::Finished(with_turn(alloc, keep, turn, tree)?)),
+        OpenTurn::Reply {
+            mut done,
+            turn,
+            later,
+        } => {
+            add_reply(keep, &mut done, turn, tree)?;
+            go_on(checked, state, opened, done, later)
+        }
+    }
+}
+
+/// Takes back the turns above a finished tree, up to one that has a further reply, which is made.
+fn close<'a>(
+    alloc: Global,
+    keep: bool,
     checked: &Checked,
     finished: Answer,
     state: &mut PlayState,
     opened: &mut Vec<OpenTurn<'a>>,
 ) -> Result<Part<'a>, AllocError>
-    requires stands { Expands checked.now opened.old.items state.old
-        (answer_of checked.now.certificate.size finished) }
-    ensures stands { IfOk result
-        (λ p. Expands checked.now opened.new.items state.new
-        (part_tree checked.now p state.new.state)) }
-    ensures below { IfOk result (λ p. IsTrue (part_below checked.now p)) }
-    ensures size { IfOk result
-        (λ p. open_sizes checked.now.certificate.size opened.new.items
-        + part_size checked.now.certificate.size p
-        ≡ open_sizes checked.now.certificate.size opened.old.items
-        + answer_size (answer_of checked.now.certificate.size finished) + part_turns p) }
+    requires { AreOpen checked.now opened.old.items state.old }
+    ensures goes { IfOk result (λ p. Goes keep checked.now
+        (whole checked.now opened.old.items state.old
+        (answer_of checked.now.certificate.size finished))
+        (due checked.now opened.old.items state.old) p opened.new.items state.new) }
     ensures finished { IfOk result (λ p. IfFinished p (opened.new.items ≡ [])) }
 {
     let mut tree = finished;
@@ -208,47 +239,37 @@ pub(crate) fn close<'a>(
             return Ok(Part::Finished(tree));
         };
         state.back();
-        match put_below(alloc, checked, last, tree, state, opened)? {
+        match put_below(alloc, keep, checked, last, tree, state, opened)? {
             Part::Finished(finished) => tree = finished,
             part => return Ok(part),
         }
     }
 }
 
-/// Puts a finished tree below the turn that was opened last, at the state before that turn.
-#[tactic(auto, using(crate::proofs::AnswerTrees::size_turn, crate::proofs::AnswerTrees::sizes_last))]
-fn put_below<'a>(
+/// Walks from a node to the next turn, below which it has to go on, or to the end of the whole tree.
+pub(crate) fn step<'a>(
     alloc: Global,
-    checked: &Checked,
-    last: OpenTurn<'a>,
-    tree: Answer,
+    keep: bool,
+    checked: &'a Checked,
+    node: &'a Node,
     state: &mut PlayState,
     opened: &mut Vec<OpenTurn<'a>>,
 ) -> Result<Part<'a>, AllocError>
-    requires stands { Expands checked.now opened.old.items state.old
-        (closed checked.now last state.old.state (answer_of checked.now.certificate.size tree)) }
-    requires below { IsTrue (open_below checked.now (last ∷ [])) }
-    ensures stands { IfOk result
-        (λ p. Expands checked.now opened.new.items state.new
-        (part_tree checked.now p state.new.state)) }
-    ensures below { IfOk result (λ p. IsTrue (part_below checked.now p)) }
-    ensures size { IfOk result
-        (λ p. open_sizes checked.now.certificate.size opened.new.items
-        + part_size checked.now.certificate.size p
-        ≡ open_sizes checked.now.certificate.size opened.old.items
-        + open_size checked.now.certificate.size last.entry
-        + answer_size (answer_of checked.now.certificate.size tree) + part_turns p) }
-    ensures finished { IfOk result (λ p. IfFinished p (opened.new.items ≡ opened.old.items)) }
+    requires turns { AreOpen checked.now opened.old.items state.old }
+    requires node { CanOpen checked.now state.old.state
+        (claim.node_of checked.now.certificate.size node.now) }
+    ensures goes { IfOk result (λ p. Goes keep checked.now
+        (whole checked.now opened.old.items state.old (tree_at checked.now
+        (claim.node_of checked.now.certificate.size node.now) state.old.state))
+        (answer_size (tree_at checked.now
+        (claim.node_of checked.now.certificate.size node.now) state.old.state)
+        + due checked.now opened.old.items state.old)
+        p opened.new.items state.new) }
+    ensures finished { IfOk result (λ p. IfFinished p (opened.new.items ≡ [])) }
 {
-    match last {
-        OpenTurn::Made(turn) => Ok(Part::Finished(Answer::Turn(turn, Box::new(alloc, tree)?))),
-        OpenTurn::Reply {
-            mut done,
-            turn,
-            later,
-        } => {
-            done.push((turn, tree))?;
-            go_on(checked, state, opened, done, later)
-        }
+    let node = body_of(checked, node);
+    match open_node(alloc, checked, node, state, opened)? {
+        Part::Finished(tree) => close(alloc, keep, checked, tree, state, opened),
+        part => Ok(part),
     }
 }

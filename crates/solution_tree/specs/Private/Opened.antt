@@ -1,16 +1,21 @@
--- The state of an expansion: the turns whose trees are not finished, from the first to the latest. No public clause rests on these
--- definitions.
+-- The state of a walk through a claim's tree: the turns whose trees are not finished. No public clause rests on these definitions.
 --     expanded k      the answer tree that a checked claim gives at its problem's start
---     whole k turns a      the same tree, if a is below the last of the open turns
---     Expands k turns line a      the expansion is at this line of play, and a is what belongs there
+--     whole k turns line a      the tree at the first state of the line, if a is below the last of the open turns
+--     due k turns line      how many turns are still to be made below the states before
+--     Goes keep k whole size part turns line      the walk has come to this part, of a whole tree of this size
 --     uses_below m n      each lemma that the tree n uses has a number from 1 to m
-use Rattle.std.specs.Prelude.{◌≡◌, ℕ, ◌+◌, Bool, true, false, ◌&&◌, nat_le, List, [], ◌∷◌, IsTrue, length}
-use Rattle.go_points.specs.Ply.{Ply, ply_of}
+use Rattle.std.specs.Prelude.{◌≡◌, ℕ, ◌+◌, Bool, true, false, ◌&&◌, nat_le, List, [], ◌∷◌, Option, Some, None, IsTrue, length, reverse}
+use Rattle.std.specs.Borrow.{Bor}
+use Rattle.go_points.specs.declared.Turn.{Turn}
+use Rattle.go_points.specs.Ply.{ply_of}
 use Rattle.target_game.specs.State.{GameState, Line, start}
+use Rattle.target_game.specs.Left.{line_after}
 use Rattle.target_game.specs.Next.{next}
-use Rattle.target_game.specs.Answers.{AnswerTree, turn, replies, ReplyTrees, none, reply, answer_size, reply_sizes, answers}
+use Rattle.target_game.specs.Over.{over}
+use Rattle.target_game.specs.Answers.{AnswerTree, turn, replies, ReplyTrees, none, reply, answer_size, reply_sizes, answers, all_answer}
 use Rattle.proof_cert.specs.Claim.{Node, won, by_lemma, play, all, Branches, no_branch, branch, Lemma}
 use Rattle.proof_cert.specs.Certificate as claim
+use Rattle.proof_cert.specs.declared.certificate.Node as code
 use Rattle.cert_check.specs.Checked.{CheckedClaim}
 use Rattle.cert_check.specs.Expand.{expand, expand_node, expand_branches, answers_behind}
 use Rattle.solution_tree.specs.Answer.{answer_of, replies_of}
@@ -38,9 +43,12 @@ abbrev pub replies_then : ReplyTrees → ReplyTrees → ReplyTrees
 replies_then none rs = rs
 replies_then (reply t a more) rs = reply t a (replies_then more rs)
 
-abbrev pub turn_of : ℕ → OpenTurn → Ply
-turn_of n (Made t) = ply_of n t
-turn_of n (Reply done t later) = ply_of n t
+-- ---- the open turns
+
+-- what follows an open turn at its state
+abbrev pub later_of : CheckedClaim → OpenTurn → Branches
+later_of k (Made t) = no_branch
+later_of k (Reply done t later) = claim.replies_of k.certificate.size later.now
 
 -- the tree at the state of an open turn, if a is below that turn
 abbrev pub closed : CheckedClaim → OpenTurn → GameState → AnswerTree → AnswerTree
@@ -48,26 +56,25 @@ closed k (Made t) s a = turn (ply_of k.certificate.size t) a
 closed k (Reply done t later) s a =
     replies (replies_then (replies_of k.certificate.size done.items) (reply (ply_of k.certificate.size t) a (branches_at k (claim.replies_of k.certificate.size later.now) s)))
 
-abbrev pub finish : CheckedClaim → List OpenTurn → GameState → AnswerTree → AnswerTree
-finish k [] s a = a
-finish k (o ∷ os) s a = closed k o s (finish k os (next s (turn_of k.certificate.size o)) a)
+abbrev pub latest_first : List OpenTurn → List OpenTurn
+latest_first os = reverse os
 
-abbrev pub whole : CheckedClaim → List OpenTurn → AnswerTree → AnswerTree
-whole k os a = finish k os (start k.problem) a
+-- the open turns, latest first, each with the state that it was made at
+abbrev pub finish : CheckedClaim → List OpenTurn → List GameState → AnswerTree → AnswerTree
+finish k [] ss a = a
+finish k (o ∷ os) [] a = a
+finish k (o ∷ os) (s ∷ ss) a = finish k os ss (closed k o s a)
 
--- the line of play that the open turns make
-abbrev pub played : ℕ → List OpenTurn → Line → Line
-played n [] line = line
-played n (o ∷ os) line = played n os (record { state = next line.state (turn_of n o); before = line.state ∷ line.before })
+abbrev pub due_before : CheckedClaim → List OpenTurn → List GameState → ℕ
+due_before k [] ss = 0
+due_before k (o ∷ os) [] = 0
+due_before k (o ∷ os) (s ∷ ss) = reply_sizes (branches_at k (later_of k o) s) + due_before k os ss
 
--- how many turns are finished, or open
-abbrev pub open_size : ℕ → OpenTurn → ℕ
-open_size n (Made t) = 1
-open_size n (Reply done t later) = 1 + reply_sizes (replies_of n done.items)
+abbrev pub whole : CheckedClaim → List OpenTurn → Line → AnswerTree → AnswerTree
+whole k os line a = finish k (latest_first os) line.before a
 
-abbrev pub open_sizes : ℕ → List OpenTurn → ℕ
-open_sizes n [] = 0
-open_sizes n (o ∷ os) = open_size n o + open_sizes n os
+abbrev pub due : CheckedClaim → List OpenTurn → Line → ℕ
+due k os line = due_before k (latest_first os) line.before
 
 -- ---- the lemmas that a tree uses
 
@@ -90,46 +97,66 @@ lemmas_below m (l ∷ ls) = uses_below m l.body && lemmas_below (m + 1) ls
 abbrev pub lemma_count : CheckedClaim → ℕ
 lemma_count k = length k.certificate.lemmas.items
 
--- what still follows the open turns uses only the claim's lemmas
-abbrev pub open_below : CheckedClaim → List OpenTurn → Bool
-open_below k [] = true
-open_below k (Made t ∷ os) = open_below k os
-open_below k (Reply done t later ∷ os) = all_below (lemma_count k) (claim.replies_of k.certificate.size later.now) && open_below k os
+-- ---- the state of the walk
 
--- ---- the state of the expansion
+-- a node, or the replies that are left, can be played through at a state
+pub record CanOpen (k : CheckedClaim) (s : GameState) (n : Node) : Type 0 where
+  pub size : s.game.size ≡ k.certificate.size
+  pub lemmas : IsTrue (uses_below (lemma_count k) n)
+  pub answers : IsTrue (answers (claim.claim_of k.certificate).winner s (tree_at k n s))
 
--- The line of play is that of the open turns; with the tree a below the last of them, the whole is the expansion, which is an
--- answer tree; and the boards have one size.
-pub record Expands (k : CheckedClaim) (turns : List OpenTurn) (line : Line) (a : AnswerTree) : Type 0 where
-  pub play : line ≡ played k.certificate.size turns (record { state = start k.problem; before = [] })
-  pub tree : whole k turns a ≡ expanded k
-  pub lemmas : IsTrue (open_below k turns)
-  pub size : k.problem.game.size ≡ k.certificate.size
-  pub stands : IsTrue (answers (claim.claim_of k.certificate).winner (start k.problem) (expanded k))
+pub record CanGoOn (k : CheckedClaim) (s : GameState) (bs : Branches) : Type 0 where
+  pub size : s.game.size ≡ k.certificate.size
+  pub lemmas : IsTrue (all_below (lemma_count k) bs)
+  pub going : over s ≡ None
+  pub answers : IsTrue (all_answer (claim.claim_of k.certificate).winner s (branches_at k bs s))
 
--- what a part of the claim, or a finished tree, is at a state
+abbrev pub AllGoOn : CheckedClaim → List OpenTurn → List GameState → Type 0
+AllGoOn k [] ss = Unit {0}
+AllGoOn k (o ∷ os) [] = ⊥
+AllGoOn k (o ∷ os) (s ∷ ss) = CanGoOn k s (later_of k o) × AllGoOn k os ss
+
+abbrev pub AreOpen : CheckedClaim → List OpenTurn → Line → Type 0
+AreOpen k os line = AllGoOn k (latest_first os) line.before
+
+-- what a part of the claim, or a finished tree, is at a state, and how many turns it is
+abbrev pub CanStand : CheckedClaim → Part → GameState → Type 0
+CanStand k (part.Claimed node) s = CanOpen k s (claim.node_of k.certificate.size node.now)
+CanStand k (part.Finished a) s = Unit {0}
+
 abbrev pub part_tree : CheckedClaim → Part → GameState → AnswerTree
 part_tree k (part.Claimed node) s = tree_at k (claim.node_of k.certificate.size node.now) s
 part_tree k (part.Finished a) s = answer_of k.certificate.size a
 
-abbrev pub part_below : CheckedClaim → Part → Bool
-part_below k (part.Claimed node) = uses_below (lemma_count k) (claim.node_of k.certificate.size node.now)
-part_below k (part.Finished a) = true
+-- a turn was made to come to a part of the claim
+abbrev pub part_size : CheckedClaim → Part → GameState → ℕ
+part_size k (part.Claimed node) s = 1 + answer_size (tree_at k (claim.node_of k.certificate.size node.now) s)
+part_size k (part.Finished a) s = 0
 
--- the turns of a finished tree
-abbrev pub part_size : ℕ → Part → ℕ
-part_size n (part.Claimed node) = 0
-part_size n (part.Finished a) = answer_size (answer_of n a)
+-- The walk has come to a part, with these open turns and this line of play. With the part below them, the whole is this tree, if
+-- finished trees are kept; and this many turns were still to be made.
+pub record Goes (keep : Bool) (k : CheckedClaim) (tree : AnswerTree) (size : ℕ) (p : Part) (os : List OpenTurn) (line : Line) : Type 0 where
+  pub turns : AreOpen k os line
+  pub stands : CanStand k p line.state
+  pub is : IsTrue keep → whole k os line (part_tree k p line.state) ≡ tree
+  pub left : part_size k p line.state + due k os line ≡ size
 
--- a turn was opened to come to a part of the claim
-abbrev pub part_turns : Part → ℕ
-part_turns (part.Claimed node) = 1
-part_turns (part.Finished a) = 0
-
--- a finished tree leaves the open turns as they were, and all are closed below it
+-- a finished tree leaves the open turns as they were, or all are closed below it
 abbrev pub IfFinished : Part → Type 0 → Type 0
 IfFinished (part.Claimed node) claim = Unit {0}
 IfFinished (part.Finished a) claim = claim
+
+-- The first legal one of the replies was made, and is what they are expanded to, with those after it; or there is none.
+pub record MakesReply (line : Line) (rs : List (Turn × code.Node)) (r : Turn × code.Node) (others : List (Turn × code.Node)) (after : Line) : Type 0 where
+  pub made : after ≡ line_after line (ply_of line.state.game.size r.0)
+  pub first : (es : List (GameState → AnswerTree)) → expand_branches es (claim.replies_of line.state.game.size rs) line.state
+      ≡ reply (ply_of line.state.game.size r.0) (expand_node es (claim.node_of line.state.game.size r.1) (next line.state (ply_of line.state.game.size r.0))) (expand_branches es (claim.replies_of line.state.game.size others) line.state)
+  pub below : (m : ℕ) → IsTrue (all_below m (claim.replies_of line.state.game.size rs)) → IsTrue (uses_below m (claim.node_of line.state.game.size r.1)) × IsTrue (all_below m (claim.replies_of line.state.game.size others))
+
+abbrev pub MakesNext : Line → List (Turn × code.Node) → Option (Bor (Turn × code.Node) × Bor (List (Turn × code.Node))) → Line → Type 0
+MakesNext line rs None after =
+    (after ≡ line) × ((es : List (GameState → AnswerTree)) → expand_branches es (claim.replies_of line.state.game.size rs) line.state ≡ none)
+MakesNext line rs (Some r) after = MakesReply line rs r.0.now r.1.now after
 
 abbrev pub is_use : Node → Bool
 is_use won = false

@@ -1,34 +1,27 @@
-use Rattle.solution_tree.proofs.Common.{◌≡◌, ℕ, ◌+◌, ◌++◌, [], ◌∷◌, subst, ap, arith, CheckedClaim, answer_of, Expands, open_sizes, open_size, part_size, part_tree, part_turns}
-use Rattle.target_game.specs.Answers.{answer_size}
-use Rattle.solution_tree.proofs.Expanding.{sizes_push}
-use Rattle.solution_tree.proofs.Standing.{made_before, popped}
+use Rattle.solution_tree.proofs.Common.{arith, refl, subst, CheckedClaim, Goes, answer_of, due, whole}
+use Rattle.solution_tree.proofs.Expanding.{closed_on, made_before, taken_back}
 use Rattle.solution_tree.proofs.opened.close.Goals as goal
 
+pub loop-last-init : goal.loop-last-init
+loop-last-init c = record { turns = c.requires; stands = tt; is = λ h. refl; left = omega arith }
+
 pub back-requires : goal.back-requires
-back-requires c =
-    made_before c.args.checked.now c.pop.new.self.items c.loop-last.opened.items c.loop-last.state c.in-Some.last (answer_of c.args.checked.now.certificate.size c.loop-last.tree) c.in-Some.ensures.items c.loop-last.invariant.0
+back-requires c = made_before c.args.checked.now c.pop.new.self.items c.loop-last.opened.items c.in-Some.last c.loop-last.state c.in-Some.ensures.items c.loop-last.invariant.turns
 
-pub put_below-requires-clause-stands : goal.put_below-requires-clause-stands
-put_below-requires-clause-stands c =
-    (popped c.args.checked.now c.pop.new.self.items c.loop-last.state c.in-Some.last (answer_of c.args.checked.now.certificate.size c.loop-last.tree) c.back.new.self c.back.ensures c.loop-last.opened.items c.in-Some.ensures.items c.loop-last.invariant.0).0
+pub put_below-requires-clause-turns : goal.put_below-requires-clause-turns
+put_below-requires-clause-turns c =
+    (taken_back c.args.checked.now c.pop.new.self.items c.back.new.self c.in-Some.last c.loop-last.opened.items c.loop-last.state c.in-Some.ensures.items c.back.ensures c.loop-last.invariant.turns).1
 
-pub put_below-requires-clause-below : goal.put_below-requires-clause-below
-put_below-requires-clause-below c =
-    (popped c.args.checked.now c.pop.new.self.items c.loop-last.state c.in-Some.last (answer_of c.args.checked.now.certificate.size c.loop-last.tree) c.back.new.self c.back.ensures c.loop-last.opened.items c.in-Some.ensures.items c.loop-last.invariant.0).1
+pub put_below-requires-clause-last : goal.put_below-requires-clause-last
+put_below-requires-clause-last c =
+    (taken_back c.args.checked.now c.pop.new.self.items c.back.new.self c.in-Some.last c.loop-last.opened.items c.loop-last.state c.in-Some.ensures.items c.back.ensures c.loop-last.invariant.turns).0
 
 pub loop-last-preserved : goal.loop-last-preserved
 loop-last-preserved c =
     let k : CheckedClaim = c.args.checked.now in
-    let n : ℕ = k.certificate.size in
-    let lost : open_sizes n c.loop-last.opened.items ≡ open_sizes n (c.pop.new.self.items ++ c.in-Some.last ∷ []) = ap (open_sizes n) c.in-Some.ensures.items in
-    let size : open_sizes n c.put_below.new.opened.items + answer_size (answer_of n c.in-Finished.finished) ≡ open_sizes n c.pop.new.self.items + open_size n c.in-Some.last + answer_size (answer_of n c.loop-last.tree) + 0 =
-    subst (λ p. open_sizes n c.put_below.new.opened.items + part_size n p ≡ open_sizes n c.pop.new.self.items + open_size n c.in-Some.last + answer_size (answer_of n c.loop-last.tree) + part_turns p) c.in-Finished.is c.in_ok-part.ensures.size in (
-      subst (λ p. Expands k c.put_below.new.opened.items c.put_below.new.state (part_tree k p c.put_below.new.state.state)) c.in-Finished.is c.in_ok-part.ensures.stands,
-      omega (arith, lost, size, sizes_push n c.pop.new.self.items c.in-Some.last, c.loop-last.invariant.1),
-    )
+    subst (λ p. Goes c.args.keep k (whole k c.args.opened.now.items c.args.state.now (answer_of k.certificate.size c.args.finished)) (due k c.args.opened.now.items c.args.state.now) p c.put_below.new.opened.items c.put_below.new.state) c.in-Finished.is
+    (closed_on c.args.keep k c.pop.new.self.items c.loop-last.opened.items c.in-Some.last c.loop-last.state c.back.new.self c.loop-last.tree _ _ _ _ _ c.in-Some.ensures.items c.back.ensures c.loop-last.invariant c.in_ok-part.ensures.goes)
 
-pub returns-in_default-2-clause-size : goal.returns-in_default-2-clause-size
-returns-in_default-2-clause-size c =
-    let n : ℕ = c.args.checked.now.certificate.size in
-    let lost : open_sizes n c.loop-last.opened.items ≡ open_sizes n (c.pop.new.self.items ++ c.in-Some.last ∷ []) = ap (open_sizes n) c.in-Some.ensures.items in
-    omega (arith, lost, c.in_ok-part.ensures.size, sizes_push n c.pop.new.self.items c.in-Some.last, c.loop-last.invariant.1)
+pub returns-in_default-2-clause-goes : goal.returns-in_default-2-clause-goes
+returns-in_default-2-clause-goes c =
+    closed_on c.args.keep c.args.checked.now c.pop.new.self.items c.loop-last.opened.items c.in-Some.last c.loop-last.state c.back.new.self c.loop-last.tree _ _ _ _ _ c.in-Some.ensures.items c.back.ensures c.loop-last.invariant c.in_ok-part.ensures.goes

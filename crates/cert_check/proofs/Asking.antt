@@ -1,5 +1,5 @@
 -- A line asks about shape at one colouring at most: the present one.
-use Rattle.cert_check.proofs.Common.{◌≡◌, ℕ, zero, suc, ◌&&◌, nat_lt, Bool, true, false, List, [], Option, Some, None, IsTrue, refl, sym, ap, ◌∙◌, if◌then◌else◌, is_none, Cell, same_colour, Ply, pass, move, ply_of, GameState, over, Head, Line, header_line, lemma_line, had_line, not_line, main_line, won_line, use_line, play_line, all_line, reply_line, end_line, line_fits, had_of, not_of, Judge, NodeLine, Won, Play, All, Body, lemma_not_lower, ask, nowhere, lemma_start, lives, use_fault, head_fault, lemma_at, node_value, Machine, Heading, Owed, reply_due, body_of, counted, node_taken, not_taken, had_taken, phase_taken, taken, node_fault, IsReady, IsReadyFor, machine_of, heading_of, phase_held, answering}
+use Rattle.cert_check.proofs.Common.{◌≡◌, ℕ, zero, suc, ◌&&◌, nat_lt, Bool, true, false, List, Option, Some, None, IsTrue, refl, sym, ap, ◌∙◌, if◌then◌else◌, is_none, Cell, same_colour, Ply, pass, move, ply_of, GameState, over, Head, Line, use_line, play_line, line_fits, had_of, not_of, Judge, NodeLine, Won, Play, All, Body, lemma_not_lower, ask, nowhere, lemma_start, lives, use_fault, head_fault, lemma_at, node_value, Machine, Heading, Owed, reply_due, body_of, counted, node_taken, not_taken, had_taken, phase_taken, taken, node_fault, IsReady, IsReadyFor, machine_of, heading_of, phase_held, answering, []}
 use Rattle.std.proofs.Common.{◌↔◌}
 use Rattle.target_game.specs.State as State
 use Rattle.cert_check.specs.declared.judge.Phase.{Phase}
@@ -13,23 +13,9 @@ module _ (shape : List Cell → Bool) (b : Bool) (m : Machine) (f : Heading) whe
   node_asks : (inside : Option Head) (d : ℕ) (s : GameState) (os : List Owed) (l : Line) → (l ≡ use_line 0 → shape s.colouring ≡ b) → node_taken shape m f inside d s os l ≡ node_taken (answering b) m f inside d s os l
   node_asks None d s os (use_line zero) h = ap (λ t. counted m d (ask ((is_none (over s) && nat_lt s.passes 2) && (same_colour s.game.defender f.winner && t)) lemma_not_lower None) (reply_due f None os)) (h refl)
   node_asks (Some g) d s os (use_line zero) h = ap (λ t. counted m d (ask ((is_none (over s) && nat_lt s.passes 2) && (same_colour s.game.defender f.winner && t)) lemma_not_lower None) (reply_due f (Some g) os)) (h refl)
-  node_asks None d s os (use_line (suc i)) h = refl
-  node_asks (Some g) d s os (use_line (suc i)) h = refl
-  node_asks None d s os won_line h = refl
-  node_asks (Some g) d s os won_line h = refl
-  node_asks None d s os (play_line pass) h = refl
-  node_asks (Some g) d s os (play_line pass) h = refl
   node_asks None d s os (play_line (move p)) h = refl
   node_asks (Some g) d s os (play_line (move p)) h = refl
-  node_asks None d s os (all_line k) h = refl
-  node_asks (Some g) d s os (all_line k) h = refl
-  node_asks inside d s os (header_line v n x) h = refl
-  node_asks inside d s os (lemma_line mv ps c) h = refl
-  node_asks inside d s os (had_line c) h = refl
-  node_asks inside d s os (not_line c) h = refl
-  node_asks inside d s os main_line h = refl
-  node_asks inside d s os (reply_line t) h = refl
-  node_asks inside d s os end_line h = refl
+  node_asks _ d s os _ h = refl
 
 module _ (shape : List Cell → Bool) (b : Bool) (j : Judge) (l : Line) (same : l ≡ use_line 0 → shape j.state.state.colouring ≡ b) where
   not_asks : j.state.state.colouring ≡ j.root → (o : Option (List Cell))
@@ -43,24 +29,14 @@ module _ (shape : List Cell → Bool) (b : Bool) (j : Judge) (l : Line) (same : 
   had_asks root (Some c) = refl
 
   phase_asks : (p : Phase) → IsReadyFor j p → phase_taken shape j.problem.now (machine_of j) (phase_held j p) (Some l) ≡ phase_taken (answering b) j.problem.now (machine_of j) (phase_held j p) (Some l)
-  phase_asks phases.Header ready = refl
-  phase_asks phases.Opening ready = refl
   phase_asks phases.ListingHad ready = had_asks (ap (λ (st : State.Line). st.state.colouring) ready.state) (had_of (Some l))
   phase_asks phases.Listing ready = not_asks (ap (λ (st : State.Line). st.state.colouring) ready.state) (not_of (Some l))
   phase_asks (phases.Body w dues.Node) ready = node_asks shape b (machine_of j) (heading_of j) _ _ j.state.state _ l same
-  phase_asks (phases.Body w (dues.Reply t left)) ready = refl
-  phase_asks (phases.Body w dues.End) ready = refl
-  phase_asks phases.Done ready = refl
+  phase_asks _ ready = refl
 
   none_asks : (p : Phase) → phase_taken shape j.problem.now (machine_of j) (phase_held j p) None ≡ phase_taken (answering b) j.problem.now (machine_of j) (phase_held j p) None
-  none_asks phases.Header = refl
-  none_asks phases.Opening = refl
-  none_asks phases.ListingHad = refl
-  none_asks phases.Listing = refl
   none_asks (phases.Body w dues.Node) = refl
-  none_asks (phases.Body w (dues.Reply t left)) = refl
-  none_asks (phases.Body w dues.End) = refl
-  none_asks phases.Done = refl
+  none_asks _ = refl
 
   pub asks_once : IsReady j → taken shape j.problem.now (machine_of j) (Some l) ≡ taken (answering b) j.problem.now (machine_of j) (Some l)
   asks_once ready = at (line_fits j.problem.now.game.size l)
@@ -89,19 +65,14 @@ use_ordinary b s (suc i) none = refl
 -- the other nodes say nothing of shape
 pub other_fault : (b : Bool) (f : Heading) (inside : Option Head) (s : GameState) (n : ℕ) (k : NodeLine) → (node_value n k ≡ use_line 0 → ⊥) → node_fault (body_of nowhere f inside) s (node_value n k) ≡ node_fault (body_of (answering b) f inside) s (node_value n k)
 other_fault b f inside s n (Use zero) other = absurd (other refl)
-other_fault b f None s n (Use (suc i)) other = refl
-other_fault b f (Some g) s n (Use (suc i)) other = refl
+other_fault b f inside s n (Play t) other = turns inside (ply_of n t)
+  where
+    turns : (o : Option Head) (u : Ply) → node_fault (body_of nowhere f o) s (play_line u) ≡ node_fault (body_of (answering b) f o) s (play_line u)
+    turns None pass = refl
+    turns (Some g) pass = refl
+    turns None (move p) = refl
+    turns (Some g) (move p) = refl
 other_fault b f None s n Won other = refl
-other_fault b f (Some g) s n Won other = refl
+other_fault b f None s n (Use (suc i)) other = refl
 other_fault b f None s n (All k) other = refl
-other_fault b f (Some g) s n (All k) other = refl
-other_fault b f None s n (Play t) other = turns (ply_of n t)
-  where
-    turns : (u : Ply) → node_fault (body_of nowhere f None) s (play_line u) ≡ node_fault (body_of (answering b) f None) s (play_line u)
-    turns pass = refl
-    turns (move p) = refl
-other_fault b f (Some g) s n (Play t) other = turns (ply_of n t)
-  where
-    turns : (u : Ply) → node_fault (body_of nowhere f (Some g)) s (play_line u) ≡ node_fault (body_of (answering b) f (Some g)) s (play_line u)
-    turns pass = refl
-    turns (move p) = refl
+other_fault b f _ s n _ other = refl

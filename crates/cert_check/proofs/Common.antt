@@ -64,7 +64,7 @@ pub use Rattle.cert_check.specs.Private.Ascending.{Ascends, apart, is_it}
 pub use Rattle.cert_check.specs.Private.Heard.{Heard}
 pub use Rattle.cert_check.specs.Private.Inside.{node_fault, owed_by, Follows, Inside, node_next, phase_of}
 pub use Rattle.cert_check.specs.Private.Judging.{machine_of, heading_of, answering, AwaitsNode, IsReady, IsReadyFor, IsToldBy, had_more, listed_more, phase_held}
-pub use Rattle.cert_check.specs.Private.Known.{AreKnown, HasStart, SameMembers}
+pub use Rattle.cert_check.specs.Private.Known.{AreKnown, HasStart, IsKept, SameMembers}
 pub use Rattle.cert_check.specs.Private.Machine.{Machine, goes_on, stops, taken, Heading, last_of, node_taken, Owed, Phase, body_of, goes_if, had_taken, listing_had, listing_not, not_taken, phase_taken, AfterLine, after_step, begun, reply_due, verdict_from, counted, done, end_taken, ended, ended_at, header, header_taken, listed_taken, node_due, opening, opening_taken, owing, reply_taken, there}
 pub use Rattle.cert_check.specs.Private.Places.{ArePlaced}
 pub use Rattle.cert_check.specs.Private.Results.{is_past, gathered, joined, node_at, reversed, AreOpen, IsPlayable, of_node, ArePlayable, Gathered, claim_with, due_at, left_at, nothing, version_for}

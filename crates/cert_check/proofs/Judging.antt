@@ -1,5 +1,5 @@
 -- What the judge does with a line, as the machine does it.
-use Rattle.cert_check.proofs.Common.{◌≡◌, ℕ, suc, ◌+◌, ◌-◌, ◌*◌, Bool, true, false, ◌&&◌, nat_lt, nat_le, List, [], ◌∷◌, ◌++◌, length, Option, Some, None, IfSome, refl, sym, ap, ◌∙◌, subst, arith, if◌then◌else◌, slice_get, is_lt, Ordering, Less, Equal, Greater, Cell, text_order, GameProblem, All-push, side_of-whole, Head, max_nodes, max_depth, max_listed, Line, header_line, lemma_line, had_line, not_line, main_line, won_line, use_line, play_line, all_line, reply_line, end_line, line_fits, had_of, not_of, Judge, NodeLine, Why, limit, list_order, ask, lemma_start, is_after, Machine, Heading, Phase, goes_on, stops, goes_if, last_of, listed_taken, listing_had, listing_not, had_taken, not_taken, phase_taken, taken, body_of, node_taken, Inside, phase_of, owed_by, node_fault, node_next, head_of, node_value, machine_of, heading_of, phase_held, AwaitsNode, answering, had_more, listed_more, Ascends}
+use Rattle.cert_check.proofs.Common.{◌≡◌, ℕ, suc, ◌+◌, ◌-◌, ◌*◌, ◌<◌, Bool, true, false, ◌&&◌, nat_lt, nat_le, List, [], ◌∷◌, ◌++◌, length, Option, Some, None, IfSome, refl, sym, ap, ap₂, ◌∙◌, subst, arith, lt-ltb, if◌then◌else◌, slice_get, is_lt, Ordering, Less, Equal, Greater, Cell, text_order, GameProblem, All-push, side_of-whole, Head, max_nodes, max_depth, max_listed, Line, had_line, not_line, won_line, use_line, play_line, all_line, line_fits, had_of, not_of, Judge, NodeLine, Why, limit, list_order, ask, lemma_start, is_after, Machine, Heading, Phase, goes_on, stops, goes_if, last_of, listed_taken, listing_had, listing_not, had_taken, not_taken, phase_taken, taken, body_of, node_taken, Inside, phase_of, owed_by, node_fault, node_next, head_of, node_value, machine_of, heading_of, phase_held, AwaitsNode, answering, had_more, listed_more, Ascends}
 use Rattle.std.specs.Prelude.{reverse}
 use Rattle.target_game.specs.State as State
 use Rattle.std.specs.List.{All}
@@ -14,7 +14,7 @@ use Rattle.cert_check.specs.Private.Judging.{GoesOn, IsBehind, lemma_of, within_
 use Rattle.cert_check.proofs.Ascending.{ascends_more}
 use Rattle.cert_check.proofs.Lists.{before_is}
 use Rattle.cert_check.proofs.Machines.{last_pushed}
-use Rattle.cert_check.proofs.Replies.{line_on, line_off, line_full, room_is}
+use Rattle.cert_check.proofs.Replies.{line_on, line_off, line_full, room_is, stops_said}
 
 -- LISTS
 
@@ -25,16 +25,7 @@ last_get (c ∷ d ∷ cs) = ap (slice_get (c ∷ d ∷ cs)) (let e : length (c �
 
 listed_none : (l : Line) → listed_line l ≡ None → not_of (Some l) ≡ None
 listed_none (not_line c) e = absurd (cc)
-listed_none (header_line v n x) e = refl
-listed_none (lemma_line m p c) e = refl
-listed_none (had_line c) e = refl
-listed_none main_line e = refl
-listed_none won_line e = refl
-listed_none (use_line j) e = refl
-listed_none (play_line t) e = refl
-listed_none (all_line m) e = refl
-listed_none (reply_line t) e = refl
-listed_none end_line e = refl
+listed_none _ e = refl
 
 -- a line that is no colouring begins the body
 pub first_line : (alive : Bool) (j : Judge) (l : Line) → AwaitsList j → listed_line l ≡ None → list_here alive j l ≡ node_here alive j Lemma l
@@ -45,16 +36,7 @@ first_line alive j l h none =
 
 had_none : (l : Line) → had_line_of l ≡ None → had_of (Some l) ≡ None
 had_none (had_line c) e = absurd (cc)
-had_none (not_line c) e = refl
-had_none (header_line v n x) e = refl
-had_none (lemma_line m p c) e = refl
-had_none main_line e = refl
-had_none won_line e = refl
-had_none (use_line j) e = refl
-had_none (play_line t) e = refl
-had_none (all_line m) e = refl
-had_none (reply_line t) e = refl
-had_none end_line e = refl
+had_none _ e = refl
 
 -- what a line makes of the machine does not depend on which list was due
 module _ (shape : List Cell → Bool) (q : GameProblem) (f : Heading) (h : Head) (p r : Phase) (place nodes listed : ℕ) where
@@ -66,16 +48,7 @@ module _ (shape : List Cell → Bool) (q : GameProblem) (f : Heading) (h : Head)
 
   node_same : (l : Line) → node_taken shape m f (Some h) 1 (lemma_start q.game h) [] l ≡ node_taken shape n f (Some h) 1 (lemma_start q.game h) [] l
   node_same won_line = refl
-  node_same (use_line j) = refl
-  node_same (play_line t) = refl
-  node_same (all_line k) = refl
-  node_same (had_line c) = refl
-  node_same (not_line c) = refl
-  node_same (header_line v k x) = refl
-  node_same (lemma_line k d c) = refl
-  node_same main_line = refl
-  node_same (reply_line t) = refl
-  node_same end_line = refl
+  node_same _ = refl
 
   not_same : (l : Line) (o : Option (List Cell)) → not_taken shape q m f h (Some l) o ≡ not_taken shape q n f h (Some l) o
   not_same l None = node_same l
@@ -88,17 +61,20 @@ behind_had alive j v l none rest =
     ∙ not_same (answering alive) j.problem.now (heading_of j) (lemma_of j) (phase_held j j.phase) (phase_held (record j { state = v.state; phase = v.phase }) v.phase) j.place j.node_count j.listed_count l (not_of (Some l))
     ∙ sym (ap (λ (x : Judge). list_here alive x l) rest)
 
--- a line of a list, by its questions
-module _ (m : Machine) (last : Option (List Cell)) (c : List Cell) (p : Phase) (few : nat_lt m.listed max_listed ≡ true) where
-  pub listed_passed : is_after last c ≡ true → listed_taken m last c p ≡ goes_on (record m { phase = p; place = suc m.place; listed = suc m.listed })
-  listed_passed after =
-      ap (λ b. goes_if m.place (ask b limit (ask (is_after last c) list_order None)) (record m { phase = p; place = suc m.place; listed = suc m.listed })) few
-      ∙ ap (λ b. goes_if m.place (ask b list_order None) (record m { phase = p; place = suc m.place; listed = suc m.listed })) after
+-- a line of a list, by its questions: `o` is the last colouring, and `r` whether this one is after it
+module _ (m : Machine) (cs : List (List Cell)) (c : List Cell) (p : Phase) {o : Option (List Cell)} {r : Bool} (last : o ≡ slice_get cs (length cs - 1)) (asked : r ≡ is_after o c) (few : m.listed < max_listed) where
+  by_last : (b : Bool) → r ≡ b → listed_taken m (last_of cs) c p ≡ goes_if m.place (ask b list_order None) (record m { phase = p; place = suc m.place; listed = suc m.listed })
+  by_last b is =
+      let room : nat_lt m.listed max_listed ≡ true = lt-ltb m.listed max_listed few in
+      let after : is_after (last_of cs) c ≡ b = ap (λ (d : Option (List Cell)). is_after d c) (sym (last ∙ last_get cs)) ∙ sym asked ∙ is in
+      ap (λ (d : Bool). goes_if m.place (ask d limit (ask (is_after (last_of cs) c) list_order None)) (record m { phase = p; place = suc m.place; listed = suc m.listed })) room
+      ∙ ap (λ (d : Bool). goes_if m.place (ask d list_order None) (record m { phase = p; place = suc m.place; listed = suc m.listed })) after
 
-  pub listed_barred : is_after last c ≡ false → listed_taken m last c p ≡ stops m.place list_order
-  listed_barred after =
-      ap (λ b. goes_if m.place (ask b limit (ask (is_after last c) list_order None)) (record m { phase = p; place = suc m.place; listed = suc m.listed })) few
-      ∙ ap (λ b. goes_if m.place (ask b list_order None) (record m { phase = p; place = suc m.place; listed = suc m.listed })) after
+  listed_passed : r ≡ true → listed_taken m (last_of cs) c p ≡ goes_on (record m { phase = p; place = suc m.place; listed = suc m.listed })
+  listed_passed is = by_last true is
+
+  pub listed_barred : r ≡ false → (w : Why) → Some list_order ≡ Some w → listed_taken m (last_of cs) c p ≡ stops m.place w
+  listed_barred is w said = by_last false is ∙ stops_said m.place list_order w said
 
 -- NODES
 
@@ -107,13 +83,7 @@ node_line_is won_line k e = cc
 node_line_is (use_line j) k e = cc
 node_line_is (play_line t) k e = cc
 node_line_is (all_line m) k e = cc
-node_line_is (not_line c) k e = absurd (cc)
-node_line_is (header_line v n x) k e = absurd (cc)
-node_line_is (lemma_line m p c) k e = absurd (cc)
-node_line_is (had_line c) k e = absurd (cc)
-node_line_is main_line k e = absurd (cc)
-node_line_is (reply_line t) k e = absurd (cc)
-node_line_is end_line k e = absurd (cc)
+node_line_is _ k e = absurd (cc)
 
 module _ (alive : Bool) (j : Judge) (within : Within) (l : Line) (k : NodeLine) (ready : AwaitsNode j Node) (is : l ≡ node_value j.state.state.game.size k) where
   room_here : (b : Bool) → b ≡ (nat_lt j.node_count max_nodes && nat_le (length j.open_nodes.items + 1) max_depth) → (nat_lt j.node_count max_nodes && nat_le (suc (length j.state.before)) max_depth) ≡ b
@@ -178,52 +148,40 @@ listed_behind c (Some d) long after = go (text_order d c) (before_is d c long �
     go Equal e = absurd (cc)
     go Greater e = absurd (cc)
 
-module _ (j : Judge) (c : List Cell) (v : Judge) (count : ℕ) (phase : j.phase ≡ Listing) (pushed : v.list ≡ j.list ++ c ∷ []) where
-  pub listed_ready : AwaitsList j → length c ≡ j.problem.now.game.size * j.problem.now.game.size → is_after (last_of j.list) c ≡ true → IsBehind (record j { list = v.list; listed_count = count })
-  listed_ready h fits after =
-      subst (λ p. IsBehindFor (record j { list = v.list; listed_count = count }) p) (sym phase)
-      (record {
-        state = h.state;
-        closed = h.closed;
-        passed = h.passed;
-        fits = subst (λ o. IfSome o (λ d. length d ≡ j.problem.now.game.size * j.problem.now.game.size)) (sym (ap last_of pushed ∙ last_pushed j.list c)) fits;
-        ascends =
-            subst Ascends (sym pushed)
-            (ascends_more j.list c h.ascends (listed_behind c (last_of j.list) (last_fits j.list c (j.problem.now.game.size * j.problem.now.game.size) (last_of j.list) (sym (last_get j.list)) fits h.fits) after));
-      })
+-- a list with one more colouring of the board, after the last one
+list_more : (cs more : List (List Cell)) (c : List Cell) (n : ℕ) → more ≡ cs ++ c ∷ [] → Ascends cs → IfSome (last_of cs) (λ d. length d ≡ n) → length c ≡ n → is_after (last_of cs) c ≡ true → IfSome (last_of more) (λ d. length d ≡ n) × Ascends more
+list_more cs more c n pushed up fit long after = (
+  subst (λ o. IfSome o (λ d. length d ≡ n)) (sym (ap last_of pushed ∙ last_pushed cs c)) long,
+  subst Ascends (sym pushed) (ascends_more cs c up (listed_behind c (last_of cs) (last_fits cs c n (last_of cs) (sym (last_get cs)) long fit) after)),
+)
 
-  pub listed_goes : nat_lt j.listed_count max_listed ≡ true → is_after (last_of j.list) c ≡ true → count ≡ suc j.listed_count
-      → GoesOn j (record j { list = v.list; listed_count = count }) (listed_taken (machine_of j) (last_of j.list) c (listing_not (heading_of j) (listed_more (lemma_of j) c)))
-  listed_goes few after counted =
-      listed_passed (machine_of j) (last_of j.list) c (listing_not (heading_of j) (listed_more (lemma_of j) c)) few after
-      ∙ sym (
-      ap (λ p. goes_on (record { phase = phase_held (record j { list = v.list; listed_count = count }) p; place = suc j.place; nodes = j.node_count; listed = count })) phase
-      ∙ ap (λ cs. goes_on (record { phase = listing_not (heading_of j) (head_of j.mover j.passes j.root j.had.items cs); place = suc j.place; nodes = j.node_count; listed = count })) pushed
-      ∙ ap (λ n. goes_on (record { phase = listing_not (heading_of j) (head_of j.mover j.passes j.root j.had.items (j.list ++ c ∷ [])); place = suc j.place; nodes = j.node_count; listed = n })) counted)
+module _ (j : Judge) (c : List Cell) (v : Judge) (count : ℕ) (counted : count ≡ suc j.listed_count) {o : Option (List Cell)} {r : Bool} (asked : r ≡ is_after o c) (few : j.listed_count < max_listed) (after : r ≡ true) (fits : length c ≡ j.problem.now.game.size * j.problem.now.game.size) where
+  pub listed_goes : o ≡ slice_get j.list (length j.list - 1) → j.phase ≡ Listing → v.list ≡ j.list ++ c ∷ [] → AwaitsList j
+      → IsBehind (record j { list = v.list; listed_count = count }) × GoesOn j (record j { list = v.list; listed_count = count }) (listed_taken (machine_of j) (last_of j.list) c (listing_not (heading_of j) (listed_more (lemma_of j) c)))
+  listed_goes last phase pushed h =
+      let more = list_more j.list v.list c _ pushed h.ascends h.fits fits (ap (λ d. is_after d c) (sym (last ∙ last_get j.list)) ∙ sym asked ∙ after) in (
+        subst (IsBehindFor (record j { list = v.list; listed_count = count })) (sym phase) (record { state = h.state; closed = h.closed; passed = h.passed; fits = more.0; ascends = more.1 }),
+        listed_passed (machine_of j) j.list c _ last asked few after
+            ∙ sym (ap₂ (λ (p : Phase) (n : ℕ). goes_on (record { phase = p; place = suc j.place; nodes = j.node_count; listed = n }))
+            (ap (phase_held (record j { list = v.list; listed_count = count })) phase ∙ ap (λ cs. listing_not (heading_of j) (head_of j.mover j.passes j.root j.had.items cs)) pushed) counted),
+      )
 
-module _ (j : Judge) (c : List Cell) (v : Judge) (count : ℕ) (phase : j.phase ≡ ListingHad) (pushed : v.had.items ≡ j.had.items ++ c ∷ []) where
-  pub had_ready : AwaitsHad j → length c ≡ j.problem.now.game.size * j.problem.now.game.size → is_after (last_of j.had.items) c ≡ true → IsBehind (record j { had = v.had; listed_count = count })
-  had_ready h fits after =
-      subst (λ p. IsBehindFor (record j { had = v.had; listed_count = count }) p) (sym phase)
-      (record {
-        state = h.state;
-        root = h.root;
-        few = h.few;
-        closed = h.closed;
-        passed = h.passed;
-        list = h.list;
-        sizes = subst (All (λ d. side_of d ≡ j.problem.now.game.size)) (sym pushed) (All-push (λ d. side_of d ≡ j.problem.now.game.size) j.had.items c h.sizes (side_of-whole c j.problem.now.game.size fits));
-        fits = subst (λ o. IfSome o (λ d. length d ≡ j.problem.now.game.size * j.problem.now.game.size)) (sym (ap last_of pushed ∙ last_pushed j.had.items c)) fits;
-        ascends =
-            subst Ascends (sym pushed)
-            (ascends_more j.had.items c h.ascends (listed_behind c (last_of j.had.items) (last_fits j.had.items c (j.problem.now.game.size * j.problem.now.game.size) (last_of j.had.items) (sym (last_get j.had.items)) fits h.fits) after));
-      })
-
-  pub had_goes : nat_lt j.listed_count max_listed ≡ true → is_after (last_of j.had.items) c ≡ true → count ≡ suc j.listed_count
-      → GoesOn j (record j { had = v.had; listed_count = count }) (listed_taken (machine_of j) (last_of j.had.items) c (listing_had (heading_of j) (had_more (lemma_of j) c)))
-  had_goes few after counted =
-      listed_passed (machine_of j) (last_of j.had.items) c (listing_had (heading_of j) (had_more (lemma_of j) c)) few after
-      ∙ sym (
-      ap (λ p. goes_on (record { phase = phase_held (record j { had = v.had; listed_count = count }) p; place = suc j.place; nodes = j.node_count; listed = count })) phase
-      ∙ ap (λ cs. goes_on (record { phase = listing_had (heading_of j) (head_of j.mover j.passes j.root cs j.list); place = suc j.place; nodes = j.node_count; listed = count })) pushed
-      ∙ ap (λ n. goes_on (record { phase = listing_had (heading_of j) (head_of j.mover j.passes j.root (j.had.items ++ c ∷ []) j.list); place = suc j.place; nodes = j.node_count; listed = n })) counted)
+  pub had_goes : o ≡ slice_get j.had.items (length j.had.items - 1) → j.phase ≡ ListingHad → v.had.items ≡ j.had.items ++ c ∷ [] → AwaitsHad j
+      → IsBehind (record j { had = v.had; listed_count = count }) × GoesOn j (record j { had = v.had; listed_count = count }) (listed_taken (machine_of j) (last_of j.had.items) c (listing_had (heading_of j) (had_more (lemma_of j) c)))
+  had_goes last phase pushed h =
+      let more = list_more j.had.items v.had.items c _ pushed h.ascends h.fits fits (ap (λ d. is_after d c) (sym (last ∙ last_get j.had.items)) ∙ sym asked ∙ after) in (
+        subst (IsBehindFor (record j { had = v.had; listed_count = count })) (sym phase) (record {
+          state = h.state;
+          root = h.root;
+          few = h.few;
+          closed = h.closed;
+          passed = h.passed;
+          list = h.list;
+          sizes = subst (All (λ d. side_of d ≡ j.problem.now.game.size)) (sym pushed) (All-push (λ d. side_of d ≡ j.problem.now.game.size) j.had.items c h.sizes (side_of-whole c j.problem.now.game.size fits));
+          fits = more.0;
+          ascends = more.1;
+        }),
+        listed_passed (machine_of j) j.had.items c _ last asked few after
+            ∙ sym (ap₂ (λ (p : Phase) (n : ℕ). goes_on (record { phase = p; place = suc j.place; nodes = j.node_count; listed = n }))
+            (ap (phase_held (record j { had = v.had; listed_count = count })) phase ∙ ap (λ cs. listing_had (heading_of j) (head_of j.mover j.passes j.root cs j.list)) pushed) counted),
+      )

@@ -1,10 +1,11 @@
 -- What is known at a state, by the list that a body keeps of it.
-use Rattle.cert_check.proofs.Common.{◌≡◌, ℕ, zero, suc, ◌+◌, ◌-◌, ◌<◌, ◌≤◌, arith, take, drop, Bool, true, false, not, ◌&&◌, ◌||◌, List, [], ◌∷◌, ◌++◌, length, reverse, filter, cond, slice_index_or, refl, sym, ap, ap₂, ◌∙◌, subst, list_all, reverse-append, Colour, Cell, same_cells, same_cells_eq, same_cells_symm, Ply, pass, move, has_occurred, Game, GameState, GameProblem, start, state_alone, state_with, next, is_known, Ascends, apart, is_it, SameMembers, AreKnown, HasStart, or_left}
+use Rattle.cert_check.proofs.Common.{◌≡◌, ℕ, zero, suc, ◌+◌, ◌-◌, ◌<◌, ◌≤◌, arith, take, drop, Bool, true, false, not, ◌&&◌, ◌||◌, List, [], ◌∷◌, ◌++◌, length, reverse, filter, cond, slice_index_or, refl, sym, ap, ap₂, ◌∙◌, subst, list_all, reverse-append, Colour, Cell, same_cells, same_cells_eq, same_cells_symm, Ply, pass, move, has_occurred, Game, GameState, GameProblem, start, state_alone, state_with, next, is_known, Ascends, apart, is_it, SameMembers, AreKnown, HasStart, IsKept, or_left}
 use Rattle.std.proofs.Common.{slice_get}
 use Rattle.std.proofs.lemmas.List.{take-append-drop, take-append-le, length-append, length-drop}
 use Rattle.std.proofs.lemmas.List.Folds.{list_all-append, list_any-append}
 use Rattle.std.proofs.Math.Seq.{take-append_seam, take-length}
 use Rattle.go_points.specs.Equal.{same_cells_refl}
+use Rattle.target_game.specs.State as State
 use Rattle.cert_check.specs.Private.Known.{IsKnownAt}
 use Rattle.cert_check.proofs.Apart.{apart_turned}
 use Rattle.cert_check.proofs.Ascending.{any_at}
@@ -34,14 +35,20 @@ turned (d ∷ cs) c =
 
 -- WHERE A BODY BEGINS
 
-pub start_known : (q : GameProblem) (cs : List (List Cell)) → q.place < length q.history → SameMembers cs q.history → AreKnown (reverse cs) (start q) []
-start_known q cs low is = record {
-  same = λ c. turned cs c ∙ is c;
-  present = any_at (same_cells (slice_index_or q.history q.place [])) q.history q.place [] low (same_cells_refl (slice_index_or q.history q.place []));
-}
+pub start_kept : (q : GameProblem) (cs : List (List Cell)) (l : State.Line) → l ≡ record { state = start q; before = [] } → q.place < length q.history → SameMembers cs q.history → Ascends cs → IsKept cs (length cs) l
+start_kept q cs l is low same up = subst (IsKept cs (length cs)) (sym is) (
+  record {
+    same = λ c. turned cs c ∙ same c;
+    present = any_at (same_cells (slice_index_or q.history q.place [])) q.history q.place [] low (same_cells_refl (slice_index_or q.history q.place []));
+  },
+  record { ascends = subst Ascends (sym (take-length cs)) up; room = omega arith },
+)
 
-pub alone_known : (g : Game) (root : List Cell) (mover : Colour) (passes : ℕ) → AreKnown (root ∷ []) (state_alone g root mover passes) []
-alone_known g root mover passes = record { same = λ c. refl; present = or_left (same_cells root root) false (same_cells_refl root) }
+pub alone_kept : (g : Game) (root : List Cell) (mover : Colour) (passes : ℕ) (cs : List (List Cell)) (l : State.Line) → l ≡ record { state = state_alone g root mover passes; before = [] } → cs ≡ root ∷ [] → IsKept cs 0 l
+alone_kept g root mover passes cs l is one = subst (IsKept cs 0) (sym is) (subst (λ ds. IsKept ds 0 (record { state = state_alone g root mover passes; before = [] })) (sym one) (
+  record { same = λ c. refl; present = or_left (same_cells root root) false (same_cells_refl root) },
+  record { ascends = tt; room = omega arith },
+))
 
 -- the others that differ from the root, beside it
 beside : (root : List Cell) (others : List (List Cell)) (c : List Cell) → has_occurred (root ∷ filter (λ d. not (same_cells root d)) others) c ≡ has_occurred (root ∷ others) c
@@ -66,16 +73,22 @@ beside root (d ∷ others) c = at (same_cells root d) refl (beside root others c
         ∙ ap (λ b. same_cells c d || b) h
         ∙ swap (same_cells c d) (same_cells c root) (has_occurred others c)
 
-pub with_known : (g : Game) (root : List Cell) (others known : List (List Cell)) (mover : Colour) (passes : ℕ) → known ≡ others ++ root ∷ [] → AreKnown (reverse known) (state_with g root others mover passes) []
-with_known g root others known mover passes is = record {
-  same = λ c.
-      turned known c ∙ ap (λ ds. has_occurred ds c) is
-      ∙ list_any-append (same_cells c) others (root ∷ [])
-      ∙ or_swap (has_occurred others c) (has_occurred (root ∷ []) c)
-      ∙ ap (λ b. b || has_occurred others c) (or_end (same_cells c root))
-      ∙ sym (beside root others c);
-  present = or_left (same_cells root root) _ (same_cells_refl root);
-}
+pub with_kept : (g : Game) (root : List Cell) (others known : List (List Cell)) (mover : Colour) (passes : ℕ) (l : State.Line) → l ≡ record { state = state_with g root others mover passes; before = [] } → known ≡ others ++ root ∷ [] → Ascends others → IsKept known (length others) l
+with_kept g root others known mover passes l here is up = subst (IsKept known (length others)) (sym here) (
+  record {
+    same = λ c.
+        turned known c ∙ ap (λ ds. has_occurred ds c) is
+        ∙ list_any-append (same_cells c) others (root ∷ [])
+        ∙ or_swap (has_occurred others c) (has_occurred (root ∷ []) c)
+        ∙ ap (λ b. b || has_occurred others c) (or_end (same_cells c root))
+        ∙ sym (beside root others c);
+    present = or_left (same_cells root root) _ (same_cells_refl root);
+  },
+  record {
+    ascends = subst Ascends (sym (ap (take (length others)) is ∙ take-append_seam others (root ∷ []))) up;
+    room = omega (arith, ap length is, length-append others (root ∷ []));
+  },
+)
 
 -- ONE TURN MORE
 
@@ -102,30 +115,17 @@ known_next cs s (move p) h =
           ∙ or_left (has_occurred (new ∷ []) new) (has_occurred s.history new) (or_left (same_cells new new) false (same_cells_refl new));
     }
 
-pub one_known_more : (known more : List (List Cell)) (s : GameState) (before : List GameState) (t : Ply) → more ≡ known ++ (next s t).colouring ∷ [] → AreKnown (reverse known) s before → AreKnown (reverse more) (next s t) (s ∷ before)
-one_known_more known more s before t is h =
-    subst (λ cs. AreKnown cs (next s t) (s ∷ before)) (sym (ap reverse is ∙ reverse-append known ((next s t).colouring ∷ [])))
-    (known_next (reverse known) s t (at_once (reverse known) s before h), h)
-
--- THE FRONT OF THE LIST
-
-pub start_alone : (c : List Cell) → HasStart (c ∷ []) 0 0
-start_alone c = record { ascends = tt; room = omega arith }
-
-pub start_whole : (cs : List (List Cell)) → Ascends cs → HasStart cs (length cs) 0
-start_whole cs up = record { ascends = subst Ascends (sym (take-length cs)) up; room = omega arith }
-
-pub start_with : (others known : List (List Cell)) (root : List Cell) → known ≡ others ++ root ∷ [] → Ascends others → HasStart known (length others) 0
-start_with others known root is up = record {
-  ascends = subst Ascends (sym (ap (take (length others)) is ∙ take-append_seam others (root ∷ []))) up;
-  room = omega (arith, ap length is, length-append others (root ∷ []));
-}
-
-pub start_more : (known more : List (List Cell)) (c : List Cell) (fixed turns : ℕ) → more ≡ known ++ c ∷ [] → HasStart known fixed turns → HasStart more fixed (suc turns)
-start_more known more c fixed turns is h = record {
-  ascends = subst Ascends (sym (ap (take fixed) is ∙ take-append-le fixed known (c ∷ []) (omega (arith, h.room)))) h.ascends;
-  room = omega (arith, h.room, ap length is, length-append known (c ∷ []));
-}
+pub one_kept_more : (known more : List (List Cell)) (fixed : ℕ) (l m : State.Line) (t : Ply) (c : List Cell) → m ≡ record { state = next l.state t; before = l.state ∷ l.before } → c ≡ m.state.colouring → more ≡ known ++ c ∷ [] → IsKept known fixed l → IsKept more fixed m
+one_kept_more known more fixed l m t c made result is h =
+    let present : c ≡ (next l.state t).colouring = result ∙ ap (λ (k : State.Line). k.state.colouring) made in
+    let pushed : more ≡ known ++ (next l.state t).colouring ∷ [] = is ∙ ap (λ d. known ++ d ∷ []) present in
+    subst (IsKept more fixed) (sym made) (
+      subst (λ cs. AreKnown cs (next l.state t) (l.state ∷ l.before)) (sym (ap reverse pushed ∙ reverse-append known ((next l.state t).colouring ∷ []))) (known_next (reverse known) l.state t (at_once (reverse known) l.state l.before h.0), h.0),
+      record {
+        ascends = subst Ascends (sym (ap (take fixed) is ∙ take-append-le fixed known (c ∷ []) (omega (arith, h.1.room)))) h.1.ascends;
+        room = omega (arith, h.1.room, ap length is, length-append known (c ∷ []));
+      },
+    )
 
 pub start_less : (known less : List (List Cell)) (c : List Cell) (fixed turns : ℕ) → known ≡ less ++ c ∷ [] → HasStart known fixed (suc turns) → HasStart less fixed turns
 start_less known less c fixed turns is h =
@@ -141,7 +141,7 @@ same_apart : (cs h ys : List (List Cell)) → SameMembers cs h → apart ys cs �
 same_apart cs h [] same = refl
 same_apart cs h (y ∷ ys) same = ap₂ (λ a b. not a && b) (same y) (same_apart cs h ys same)
 
-pub none_of_known : (known list : List (List Cell)) (s : GameState) (before : List GameState) → AreKnown (reverse known) s before → apart known list ≡ list_all (λ c. not (is_known s c)) list
+none_of_known : (known list : List (List Cell)) (s : GameState) (before : List GameState) → AreKnown (reverse known) s before → apart known list ≡ list_all (λ c. not (is_known s c)) list
 none_of_known known list s before h =
     apart_turned known list ∙ same_apart known s.history list (λ c. sym (turned known c) ∙ (at_once (reverse known) s before h).same c)
 
@@ -149,8 +149,12 @@ none_of_known known list s before h =
 pub rest_whole : (fixed : ℕ) (known : List (List Cell)) → take (length known - fixed) (drop fixed known) ≡ drop fixed known
 rest_whole fixed known = ap (λ n. take n (drop fixed known)) (sym (length-drop fixed known)) ∙ take-length (drop fixed known)
 
-pub none_of_both : (fixed : ℕ) (known list : List (List Cell)) → (apart (take fixed known) list && apart (drop fixed known) list) ≡ apart known list
-none_of_both fixed known list = sym (list_all-append (λ x. not (has_occurred list x)) (take fixed known) (drop fixed known)) ∙ ap (λ ds. apart ds list) (take-append-drop fixed known)
+pub none_of_both : (fixed : ℕ) (whole known list : List (List Cell)) (l m : State.Line) (front : Bool) → whole ≡ known → l ≡ m → front ≡ apart (take fixed whole) list → IsKept known fixed l → (front && apart (drop fixed whole) list) ≡ list_all (λ c. not (is_known m.state c)) list
+none_of_both fixed whole known list l m front same here is h =
+    ap (λ b. b && apart (drop fixed whole) list) is
+    ∙ sym (list_all-append (λ x. not (has_occurred list x)) (take fixed whole) (drop fixed whole)) ∙ ap (λ ds. apart ds list) (take-append-drop fixed whole ∙ same)
+    ∙ none_of_known known list l.state l.before h.0
+    ∙ ap (λ (k : State.Line). list_all (λ c. not (is_known k.state c)) list) here
 
 -- what stands on the list is known
 pub known_at : (known : List (List Cell)) (k : ℕ) (c : List Cell) (s : GameState) (before : List GameState) → AreKnown (reverse known) s before → is_it (slice_get known k) c ≡ true → is_known s c ≡ true

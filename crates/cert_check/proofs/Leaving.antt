@@ -1,5 +1,5 @@
 -- How many lines the parts of a claim leave.
-use Rattle.cert_check.proofs.Common.{ℕ, zero, suc, Bool, true, false, nat_eq, nat_lt, List, [], ◌∷◌, ◌++◌, length, Option, Some, None, arith, le_refl, if◌then◌else◌, Colour, Cell, Game, Head, max_listed, Line, header_line, lemma_line, had_line, not_line, main_line, won_line, use_line, play_line, all_line, reply_line, end_line, had_of, not_of, Why, limit, list_order, ask, lemma_body_by, lemma_start, Cursor, Judged, fine, faulty, then_judge, asked, judge_node, judge_end, judge_end_line, is_after, with_first, judge_list, judge_had, judge_not, judge_lemma, lemma_fault, judge_opening, judge_lemmas}
+use Rattle.cert_check.proofs.Common.{ℕ, suc, Bool, true, false, nat_eq, nat_lt, List, [], ◌∷◌, ◌++◌, length, Option, Some, None, arith, le_refl, if◌then◌else◌, Colour, Cell, Game, Head, max_listed, Line, lemma_line, main_line, end_line, had_of, not_of, Why, limit, list_order, ask, lemma_body_by, lemma_start, Cursor, Judged, fine, faulty, then_judge, asked, judge_node, judge_end, judge_end_line, is_after, with_first, judge_list, judge_had, judge_not, judge_lemma, lemma_fault, judge_opening, judge_lemmas}
 use Rattle.cert_check.proofs.Bounds.{reading, Leaves, Leaves-more, Leaves-then, Leaves-node}
 
 Leaves-first : (c : List Cell) (j : Judged (List (List Cell))) (n : ℕ) → Leaves j n → Leaves (with_first c j) n
@@ -34,21 +34,11 @@ Leaves-end r = at r.rest r.place r.nodes r.listed
   where
     line : (l : Line) (ls : List (Option Line)) (p k i : ℕ) → Leaves (judge_end_line (reading (Some l ∷ ls) p k i) l (reading ls (suc p) k i)) (suc (length ls))
     line end_line ls p k i = omega arith
-    line (header_line v n x) ls p k i = tt
-    line (lemma_line m a c) ls p k i = tt
-    line (had_line c) ls p k i = tt
-    line (not_line c) ls p k i = tt
-    line main_line ls p k i = tt
-    line won_line ls p k i = tt
-    line (use_line j) ls p k i = tt
-    line (play_line t) ls p k i = tt
-    line (all_line m) ls p k i = tt
-    line (reply_line t) ls p k i = tt
+    line _ ls p k i = tt
 
     at : (ls : List (Option Line)) (p k i : ℕ) → Leaves (judge_end (reading ls p k i)) (length ls)
-    at [] p k i = tt
-    at (None ∷ ls) p k i = tt
     at (Some l ∷ ls) p k i = line l ls p k i
+    at _ p k i = tt
 
 pub Leaves-lemma : (shape : List Cell → Bool) (m : ℕ) (g : Game) (v : ℕ) (x : Colour) (heads : List Head) (mover : Colour) (passes : ℕ) (root : List Cell) (r : Cursor) → Leaves (judge_lemma shape m g v x heads mover passes root r) (length r.rest)
 Leaves-lemma shape m g v x heads mover passes root r =
@@ -60,9 +50,6 @@ Leaves-lemma shape m g v x heads mover passes root r =
     (λ _ r3 le3. Leaves-then (judge_end r3) (λ _ r4. fine hd r4) (length r3.rest) (length r.rest) (Leaves-end r3) (λ _ r4 le4. omega arith))))
 
 pub Leaves-lemmas_at : (shape : List Cell → Bool) (m : ℕ) (g : Game) (v : ℕ) (x : Colour) (heads : List Head) (ls : List (Option Line)) (p k i : ℕ) → Leaves (judge_lemmas shape m g v x heads (reading ls p k i)) (length ls)
-Leaves-lemmas_at shape zero g v x heads ls p k i = tt
-Leaves-lemmas_at shape (suc m) g v x heads [] p k i = tt
-Leaves-lemmas_at shape (suc m) g v x heads (None ∷ ls) p k i = tt
 Leaves-lemmas_at shape (suc m) g v x heads (Some l ∷ ls) p k i = at l (λ hd r2. Leaves-lemmas_at shape m g v x (heads ++ hd ∷ []) r2.rest r2.place r2.nodes r2.listed)
   where
     at : (y : Line) → ((hd : Head) (r2 : Cursor) → Leaves (judge_lemmas shape m g v x (heads ++ hd ∷ []) r2) (length r2.rest)) → Leaves (judge_opening g heads (reading (Some l ∷ ls) p k i) (λ mover passes root r1. then_judge (judge_lemma shape m g v x heads mover passes root r1) (λ hd r2. judge_lemmas shape m g v x (heads ++ hd ∷ []) r2)) y (reading ls (suc p) k i)) (suc (length ls))
@@ -74,12 +61,5 @@ Leaves-lemmas_at shape (suc m) g v x heads (Some l ∷ ls) p k i = at l (λ hd r
             Leaves-then (judge_lemma shape m g v x heads mover passes root (reading ls (suc p) k i)) (λ hd r2. judge_lemmas shape m g v x (heads ++ hd ∷ []) r2) (length ls) (suc (length ls)) (Leaves-lemma shape m g v x heads mover passes root (reading ls (suc p) k i))
             (λ hd r2 le2. Leaves-more (judge_lemmas shape m g v x (heads ++ hd ∷ []) r2) (length r2.rest) (suc (length ls)) (omega arith) (below hd r2))
         after (Some w) = tt
-    at (header_line w n y) below = tt
-    at (had_line c) below = tt
-    at (not_line c) below = tt
-    at won_line below = tt
-    at (use_line j) below = tt
-    at (play_line t) below = tt
-    at (all_line n) below = tt
-    at (reply_line t) below = tt
-    at end_line below = tt
+    at _ below = tt
+Leaves-lemmas_at shape _ g v x heads _ p k i = tt

@@ -64,7 +64,7 @@ pub empty_list : {A : Type 0} (xs : List A) → length xs ≡ 0 → xs ≡ []
 empty_list [] e = refl
 empty_list (x ∷ xs) e = absurd (omega (arith, e))
 
-pub over_cases : (a b : ℕ) → (nat_le max_nodes a || nat_lt max_listed b) ≡ true → (max_nodes ≤ a) ⊎ (max_listed < b)
+over_cases : (a b : ℕ) → (nat_le max_nodes a || nat_lt max_listed b) ≡ true → (max_nodes ≤ a) ⊎ (max_listed < b)
 over_cases a b h = side (or_cases (nat_le max_nodes a) (nat_lt max_listed b) h)
   where
     side : IsTrue (nat_le max_nodes a) ⊎ IsTrue (nat_lt max_listed b) → (max_nodes ≤ a) ⊎ (max_listed < b)
@@ -75,7 +75,7 @@ neither : (a b : Bool) → (a || b) ≡ false → (a ≡ false) × (b ≡ false)
 neither true b h = absurd (cc)
 neither false b h = (refl, h)
 
-pub under_both : (a b : ℕ) → (nat_le max_nodes a || nat_lt max_listed b) ≡ false → (a < max_nodes) × (b ≤ max_listed)
+under_both : (a b : ℕ) → (nat_le max_nodes a || nat_lt max_listed b) ≡ false → (a < max_nodes) × (b ≤ max_listed)
 under_both a b h =
     let r = neither (nat_le max_nodes a) (nat_lt max_listed b) h in
     (leb-false max_nodes a r.0, ltb-false max_listed b r.1)
@@ -110,10 +110,18 @@ tested f (d ∷ cs) c = at (f d) refl (same_cells c d) refl (tested f cs c)
 
 -- THE LISTS
 
-module _ (q : GameProblem) (z : Claim) (sound : IsProblem q) (had absent : List (List Cell))
-    (had_up : Ascends had) (absent_up : Ascends absent)
-    (had_same : SameMembers had (filter (is_past (start q)) (reply_results (start q) z.main)))
-    (absent_same : SameMembers absent (play_results (start q) z.main)) where
+module _ (z : Claim) {p q : GameProblem} (had absent : List (List Cell)) {barred plays : List (List Cell)} (problem : p ≡ q) (problem_sound : IsProblem p)
+    (barred_is : barred ≡ filter (is_past (start q)) (reply_results (start q) z.main)) (plays_are : plays ≡ play_results (start q) z.main)
+    (had_up : Ascends had) (had_sorted : SameMembers had barred) (absent_up : Ascends absent) (absent_sorted : SameMembers absent plays) where
+  sound : IsProblem q
+  sound = subst IsProblem problem problem_sound
+
+  had_same : SameMembers had (filter (is_past (start q)) (reply_results (start q) z.main))
+  had_same c = had_sorted c ∙ ap (λ (l : List (List Cell)). has_occurred l c) barred_is
+
+  absent_same : SameMembers absent (play_results (start q) z.main)
+  absent_same c = absent_sorted c ∙ ap (λ (l : List (List Cell)). has_occurred l c) plays_are
+
   abbrev most : ℕ
   most = q.game.size * q.game.size
 
@@ -177,7 +185,7 @@ module _ (q : GameProblem) (z : Claim) (sound : IsProblem q) (had absent : List 
       same_list h.absent absent (ascends_is most h.absent (long_left most absent h.absent same absent_long) l.absent_order) absent_up same
 
   -- a limit is passed by each lifted claim, where it is passed by this one
-  pub past_nodes : max_nodes ≤ node_count z.main → (y : Claim) → IsLifted q z y → IsWithinLimits y → ⊥
+  past_nodes : max_nodes ≤ node_count z.main → (y : Claim) → IsLifted q z y → IsWithinLimits y → ⊥
   past_nodes big y l limits =
       let item : Lemma = record { head = l.head; body = z.main } in
       let whole : sum_by (λ (m : Lemma). node_count m.body) (item ∷ []) + 1 ≤ max_nodes =
@@ -185,7 +193,7 @@ module _ (q : GameProblem) (z : Claim) (sound : IsProblem q) (had absent : List 
       let sum = sum_by-cons (λ (m : Lemma). node_count m.body) item [] in
       absurd (omega (arith, big, whole, sum))
 
-  pub past_listed : max_listed < length had + length absent → (y : Claim) → IsLifted q z y → IsWithinLimits y → ⊥
+  past_listed : max_listed < length had + length absent → (y : Claim) → IsLifted q z y → IsWithinLimits y → ⊥
   past_listed big y l limits =
       let item : Lemma = record { head = l.head; body = z.main } in
       let whole : sum_by listed_count (item ∷ []) ≤ max_listed = subst (λ (ls : List Lemma). sum_by listed_count ls ≤ max_listed) l.lemmas limits.listed in
@@ -193,6 +201,13 @@ module _ (q : GameProblem) (z : Claim) (sound : IsProblem q) (had absent : List 
       let hads : length l.head.had ≡ length had = ap length (only_had l.head l.lifted) in
       let absents : length l.head.absent ≡ length absent = ap length (only_absent l.head l.lifted) in
       absurd (omega (arith, big, whole, sum, hads, absents))
+
+  pub past_limit : (a b : ℕ) → a ≡ node_count z.main → b ≡ length had + length absent → (nat_le max_nodes a || nat_lt max_listed b) ≡ true → (y : Claim) → IsLifted q z y → IsWithinLimits y → ⊥
+  past_limit a b nodes listed passes = at (over_cases a b passes)
+    where
+      at : (max_nodes ≤ a) ⊎ (max_listed < b) → (y : Claim) → IsLifted q z y → IsWithinLimits y → ⊥
+      at (inl over) = past_nodes (omega (arith, over, nodes))
+      at (inr over) = past_listed (omega (arith, over, listed))
 
   -- IT IS VALID
 
@@ -216,7 +231,13 @@ module _ (q : GameProblem) (z : Claim) (sound : IsProblem q) (had absent : List 
   not_fitting [] long = tt
   not_fitting (c ∷ cs) long = (eq-eqb (length c) most (long c (inl refl)), not_fitting cs (λ d m. long d (inr m)))
 
-  module _ (checked : IsChecked q z) (none : z.lemmas ≡ []) (low : 1 ≤ q.game.size) (high : q.game.size ≤ MAX_SIZE) (small : node_count z.main < max_nodes) (few : length had + length absent ≤ max_listed) (law : LiftedClaimsAreRight) where
+  module _ (checked : IsChecked q z) (none : z.lemmas ≡ []) (low : 1 ≤ q.game.size) (high : q.game.size ≤ MAX_SIZE) (a b : ℕ) (counted : a ≡ node_count z.main) (added : b ≡ length had + length absent) (room : (nat_le max_nodes a || nat_lt max_listed b) ≡ false) (law : LiftedClaimsAreRight) where
+    small : node_count z.main < max_nodes
+    small = let under = (under_both a b room).0 in omega (arith, counted, under)
+
+    few : length had + length absent ≤ max_listed
+    few = let under = (under_both a b room).1 in omega (arith, added, under)
+
     abbrev item : Lemma
     item = record { head = head; body = z.main }
 

@@ -1,5 +1,5 @@
 -- Judging a claim a line at a time gives its verdict.
-use Rattle.cert_check.proofs.Common.{◌≡◌, ℕ, zero, suc, ◌≤◌, Bool, true, false, ◌&&◌, ◌||◌, nat_eq, nat_lt, nat_le, List, [], ◌∷◌, ◌++◌, map, length, Option, Some, None, refl, sym, ap, ◌∙◌, arith, le_refl, append_assoc, append-nil, if◌then◌else◌, Colour, Cell, Ply, Game, GameState, GameProblem, start, next, Head, max_nodes, max_depth, max_listed, Line, header_line, lemma_line, had_line, not_line, main_line, won_line, use_line, play_line, all_line, reply_line, end_line, fitting, had_of, not_of, Body, Why, malformed, size_differs, limit, list_order, ask, due_replies, won_fault, play_fault, use_fault, all_fault, reply_fault, lemma_body_by, lemma_start, main_body_by, Cursor, Judged, fine, faulty, then_judge, read_line, asked, judge_reply, judge_end, judge_end_line, judge_had, judge_not, judge_lemma, lemma_fault, judge_opening, is_after, with_first, judge_claim, judge_node, judge_lemmas, judge_list, judge_header, verdict_of, OpenNode, awaited, owed, resume, opened, Owed, Heading, Phase, header, opening, listing_had, listing_not, node_due, reply_due, done, Machine, AfterLine, goes_on, stops, begun, body_of, owing, goes_if, there, node_taken, reply_taken, end_taken, last_of, opening_taken, listed_taken, header_taken, not_taken, had_taken, phase_taken, taken, ended_at, after_step, verdict_from}
+use Rattle.cert_check.proofs.Common.{◌≡◌, ℕ, zero, suc, ◌≤◌, Bool, true, false, ◌&&◌, ◌||◌, nat_eq, nat_lt, nat_le, List, [], ◌∷◌, ◌++◌, map, length, Option, Some, None, refl, sym, ap, ◌∙◌, arith, le_refl, append_assoc, append-nil, if◌then◌else◌, Colour, Cell, Ply, Game, GameState, GameProblem, start, next, Head, max_nodes, max_depth, max_listed, Line, header_line, lemma_line, main_line, won_line, use_line, play_line, all_line, reply_line, end_line, fitting, had_of, not_of, Body, Why, malformed, size_differs, limit, list_order, ask, due_replies, won_fault, play_fault, use_fault, all_fault, reply_fault, lemma_body_by, lemma_start, main_body_by, Cursor, Judged, fine, faulty, then_judge, read_line, asked, judge_reply, judge_end, judge_end_line, judge_had, judge_not, judge_lemma, lemma_fault, judge_opening, is_after, with_first, judge_claim, judge_node, judge_lemmas, judge_list, judge_header, verdict_of, OpenNode, awaited, owed, resume, opened, Owed, Heading, Phase, header, opening, listing_had, listing_not, node_due, reply_due, done, Machine, AfterLine, goes_on, stops, begun, body_of, owing, goes_if, there, node_taken, reply_taken, end_taken, last_of, opening_taken, listed_taken, header_taken, not_taken, had_taken, phase_taken, taken, ended_at, after_step, verdict_from}
 use Rattle.cert_check.specs.Private.Machine.{closed, first_of, lists_due, first_taken, LinesJudged}
 use Rattle.cert_check.proofs.Bounds.{reading, Leaves, Leaves-then, then_same, same_node, Leaves-asked, Leaves-node}
 use Rattle.cert_check.proofs.Resuming.{resume_laws, then_then}
@@ -58,13 +58,8 @@ ends_replies shape q f inside [] p k i = refl
 ends_replies shape q f inside (o ∷ os) p k i = refl
 
 ends : (shape : List Cell → Bool) (q : GameProblem) (ph : Phase) (p k i : ℕ) → verdict_of (phase_on shape q ph (reading [] p k i)) ≡ ended_at p ph
-ends shape q header p k i = refl
-ends shape q (opening f) p k i = refl
-ends shape q (listing_had f h) p k i = refl
-ends shape q (listing_not f h) p k i = refl
-ends shape q (node_due f inside d s os) p k i = refl
 ends shape q (reply_due f inside os) p k i = ap verdict_of (ends_replies shape q f inside os p k i)
-ends shape q (done x) p k i = refl
+ends shape q _ p k i = refl
 
 -- BODIES
 
@@ -88,34 +83,20 @@ module _ (shape : List Cell → Bool) (q : GameProblem) (f : Heading) (inside : 
   abbrev counted_fault : ℕ → Option Why → Option Why
   counted_fault d fault = ask (nat_lt k max_nodes && nat_le d max_depth) limit fault
 
-  pub node_line_on : (d : ℕ) (s : GameState) (os : List Owed) (l : Line) → then_judge (then_judge (opened (body_of shape f inside) d s (reading (Some l ∷ ls) p k i) l (reading ls (suc p) k i)) (λ more r2. resume (body_of shape f inside) (more ++ opens os) r2)) after ≡ step_on shape q (node_taken shape now f inside d s os l) ls
-  node_line_on d s os won_line = at (counted_fault d (won_fault (body_of shape f inside) s))
-    where
-      at : (o : Option Why) → then_judge (then_judge (then_judge (asked p o (reading ls (suc p) (suc k) i)) (λ _ r'. fine [] r')) (λ more r2. resume (body_of shape f inside) (more ++ opens os) r2)) after ≡ step_on shape q (goes_if p o (record { phase = reply_due f inside os; place = suc p; nodes = suc k; listed = i })) ls
-      at None = refl
-      at (Some why) = refl
-  node_line_on d s os (use_line j) = at (counted_fault d (use_fault (body_of shape f inside) s j))
-    where
-      at : (o : Option Why) → then_judge (then_judge (then_judge (asked p o (reading ls (suc p) (suc k) i)) (λ _ r'. fine [] r')) (λ more r2. resume (body_of shape f inside) (more ++ opens os) r2)) after ≡ step_on shape q (goes_if p o (record { phase = reply_due f inside os; place = suc p; nodes = suc k; listed = i })) ls
-      at None = refl
-      at (Some why) = refl
-  node_line_on d s os (play_line t) = at (counted_fault d (play_fault (body_of shape f inside) s t))
-    where
-      at : (o : Option Why) → then_judge (then_judge (then_judge (asked p o (reading ls (suc p) (suc k) i)) (λ _ r'. fine (awaited (suc d) (next s t) ∷ []) r')) (λ more r2. resume (body_of shape f inside) (more ++ opens os) r2)) after ≡ step_on shape q (goes_if p o (record { phase = node_due f inside (suc d) (next s t) os; place = suc p; nodes = suc k; listed = i })) ls
-      at None = refl
-      at (Some why) = refl
-  node_line_on d s os (all_line m) = at (counted_fault d (all_fault (body_of shape f inside) s m))
-    where
-      at : (o : Option Why) → then_judge (then_judge (then_judge (asked p o (reading ls (suc p) (suc k) i)) (λ _ r'. fine (owed d s (due_replies s) ∷ []) r')) (λ more r2. resume (body_of shape f inside) (more ++ opens os) r2)) after ≡ step_on shape q (goes_if p o (record { phase = reply_due f inside (owing d s (due_replies s) os); place = suc p; nodes = suc k; listed = i })) ls
-      at None = ap (λ j. then_judge j after) (owing_opens (body_of shape f inside) d s (due_replies s) os (reading ls (suc p) (suc k) i))
-      at (Some why) = refl
-  node_line_on d s os (header_line v n x) = refl
-  node_line_on d s os (lemma_line m ps c) = refl
-  node_line_on d s os (had_line c) = refl
-  node_line_on d s os (not_line c) = refl
-  node_line_on d s os main_line = refl
-  node_line_on d s os (reply_line t) = refl
-  node_line_on d s os end_line = refl
+  -- a node's line, by what it leaves open
+  opens_on : (os : List Owed) (o : Option Why) (more : List OpenNode) (next_phase : Phase) → then_judge (resume (body_of shape f inside) (more ++ opens os) (reading ls (suc p) (suc k) i)) after ≡ phase_on shape q next_phase (reading ls (suc p) (suc k) i)
+      → then_judge (then_judge (then_judge (asked p o (reading ls (suc p) (suc k) i)) (λ _ r'. fine more r')) (λ ps r2. resume (body_of shape f inside) (ps ++ opens os) r2)) after ≡ step_on shape q (goes_if p o (record { phase = next_phase; place = suc p; nodes = suc k; listed = i })) ls
+  opens_on os None more next_phase h = h
+  opens_on os (Some why) more next_phase h = refl
+
+  node_line_on : (d : ℕ) (s : GameState) (os : List Owed) (l : Line) → then_judge (then_judge (opened (body_of shape f inside) d s (reading (Some l ∷ ls) p k i) l (reading ls (suc p) k i)) (λ more r2. resume (body_of shape f inside) (more ++ opens os) r2)) after ≡ step_on shape q (node_taken shape now f inside d s os l) ls
+  node_line_on d s os won_line = opens_on os (counted_fault d (won_fault (body_of shape f inside) s)) [] (reply_due f inside os) refl
+  node_line_on d s os (use_line j) = opens_on os (counted_fault d (use_fault (body_of shape f inside) s j)) [] (reply_due f inside os) refl
+  node_line_on d s os (play_line t) = opens_on os (counted_fault d (play_fault (body_of shape f inside) s t)) (awaited (suc d) (next s t) ∷ []) (node_due f inside (suc d) (next s t) os) refl
+  node_line_on d s os (all_line m) =
+      opens_on os (counted_fault d (all_fault (body_of shape f inside) s m)) (owed d s (due_replies s) ∷ []) (reply_due f inside (owing d s (due_replies s) os))
+      (ap (λ j. then_judge j after) (owing_opens (body_of shape f inside) d s (due_replies s) os (reading ls (suc p) (suc k) i)))
+  node_line_on d s os _ = refl
 
   pub node_on : (d : ℕ) (s : GameState) (os : List Owed) (l : Option Line) → body_on shape q f inside (awaited d s ∷ opens os) (reading (l ∷ ls) p k i) ≡ step_on shape q (there now l (node_taken shape now f inside d s os)) ls
   node_on d s os None = refl
@@ -132,16 +113,7 @@ module _ (shape : List Cell → Bool) (q : GameProblem) (f : Heading) (inside : 
           (then_ext (judge_node (length ls) (body_of shape f inside) (suc o.depth) (next o.state o.due) (reading ls (suc p) k i)) (λ _ r'. resume (body_of shape f inside) (owed o.depth o.state o.others ∷ opens os) r') (λ _ r'. resume (body_of shape f inside) (opens (owing o.depth o.state o.others os)) r')
           (λ _ r'. owing_opens (body_of shape f inside) o.depth o.state o.others os r'))
       at (Some why) = refl
-  reply_line_on o os (header_line v n x) = refl
-  reply_line_on o os (lemma_line m ps c) = refl
-  reply_line_on o os (had_line c) = refl
-  reply_line_on o os (not_line c) = refl
-  reply_line_on o os main_line = refl
-  reply_line_on o os won_line = refl
-  reply_line_on o os (use_line j) = refl
-  reply_line_on o os (play_line t) = refl
-  reply_line_on o os (all_line m) = refl
-  reply_line_on o os end_line = refl
+  reply_line_on o os _ = refl
 
   pub reply_on : (o : Owed) (os : List Owed) (l : Option Line) → body_on shape q f inside (opens (o ∷ os)) (reading (l ∷ ls) p k i) ≡ step_on shape q (there now l (reply_taken now f inside o os)) ls
   reply_on o os None = refl
@@ -155,16 +127,7 @@ module _ (shape : List Cell → Bool) (q : GameProblem) (f : Heading) (inside : 
 
   end_line_on : (l : Line) → then_judge (judge_end_line (reading (Some l ∷ ls) p k i) l (reading ls (suc p) k i)) (λ _ r2. behind shape q f inside r2) ≡ step_on shape q (end_taken now f inside l) ls
   end_line_on end_line = closed_on inside (reading ls (suc p) k i)
-  end_line_on (header_line v n x) = refl
-  end_line_on (lemma_line m ps c) = refl
-  end_line_on (had_line c) = refl
-  end_line_on (not_line c) = refl
-  end_line_on main_line = refl
-  end_line_on won_line = refl
-  end_line_on (use_line j) = refl
-  end_line_on (play_line t) = refl
-  end_line_on (all_line m) = refl
-  end_line_on (reply_line t) = refl
+  end_line_on _ = refl
 
   pub end_on : (l : Option Line) → body_on shape q f inside [] (reading (l ∷ ls) p k i) ≡ step_on shape q (there now l (end_taken now f inside)) ls
   end_on None = refl
@@ -277,35 +240,22 @@ opening_same : (g : Game) (heads : List Head) (before : Cursor) (go go' : Colour
     → judge_opening g heads before go l r ≡ judge_opening g heads before go' l r
 opening_same g heads before go go' (lemma_line mover passes root) r h =
     then_same (asked before.place (lemma_fault g heads root) r) (λ _ r'. go mover passes root r') (λ _ r'. go' mover passes root r') (length r.rest) (Leaves-asked before.place _ r) (λ _ r' le. h mover passes root r' le)
-opening_same g heads before go go' main_line r h = refl
-opening_same g heads before go go' (header_line v n y) r h = refl
-opening_same g heads before go go' (had_line c) r h = refl
-opening_same g heads before go go' (not_line c) r h = refl
-opening_same g heads before go go' won_line r h = refl
-opening_same g heads before go go' (use_line j) r h = refl
-opening_same g heads before go go' (play_line t) r h = refl
-opening_same g heads before go go' (all_line m) r h = refl
-opening_same g heads before go go' (reply_line t) r h = refl
-opening_same g heads before go go' end_line r h = refl
+opening_same g heads before go go' _ r h = refl
 
 -- a lemma after its first line, and the lemmas after it
 abbrev lemma_and : (List Cell → Bool) → ℕ → Game → ℕ → Colour → List Head → Colour → ℕ → List Cell → Cursor → Judged (List Head)
 lemma_and shape m g v x heads mover passes root r1 = then_judge (judge_lemma shape m g v x heads mover passes root r1) (λ h r2. judge_lemmas shape m g v x (heads ++ h ∷ []) r2)
 
 lemmas_same_at : (shape : List Cell → Bool) (m n : ℕ) (g : Game) (v : ℕ) (x : Colour) (heads : List Head) (ls : List (Option Line)) (p k i : ℕ) → length ls ≤ m → length ls ≤ n → judge_lemmas shape m g v x heads (reading ls p k i) ≡ judge_lemmas shape n g v x heads (reading ls p k i)
-lemmas_same_at shape zero zero g v x heads ls p k i h h' = refl
-lemmas_same_at shape zero (suc n) g v x heads [] p k i h h' = refl
 lemmas_same_at shape zero (suc n) g v x heads (l ∷ ls) p k i h h' = absurd (omega arith)
-lemmas_same_at shape (suc m) zero g v x heads [] p k i h h' = refl
 lemmas_same_at shape (suc m) zero g v x heads (l ∷ ls) p k i h h' = absurd (omega arith)
-lemmas_same_at shape (suc m) (suc n) g v x heads [] p k i h h' = refl
-lemmas_same_at shape (suc m) (suc n) g v x heads (None ∷ ls) p k i h h' = refl
 lemmas_same_at shape (suc m) (suc n) g v x heads (Some l ∷ ls) p k i h h' =
     opening_same g heads (reading (Some l ∷ ls) p k i) (lemma_and shape m g v x heads) (lemma_and shape n g v x heads) l (reading ls (suc p) k i)
     (λ mover passes root r1 le.
     ap (λ j. then_judge j (λ hd r2. judge_lemmas shape m g v x (heads ++ hd ∷ []) r2)) (lemma_same shape m n g v x heads mover passes root r1 (omega arith) (omega arith))
     ∙ then_same (judge_lemma shape n g v x heads mover passes root r1) (λ hd r2. judge_lemmas shape m g v x (heads ++ hd ∷ []) r2) (λ hd r2. judge_lemmas shape n g v x (heads ++ hd ∷ []) r2) (length r1.rest) (Leaves-lemma shape n g v x heads mover passes root r1)
     (λ hd r2 less. lemmas_same_at shape m n g v x (heads ++ hd ∷ []) r2.rest r2.place r2.nodes r2.listed (omega arith) (omega arith)))
+lemmas_same_at shape _ _ g v x heads _ p k i h h' = refl
 
 lemmas_same : (shape : List Cell → Bool) (m n : ℕ) (g : Game) (v : ℕ) (x : Colour) (heads : List Head) (r : Cursor) → length r.rest ≤ m → length r.rest ≤ n → judge_lemmas shape m g v x heads r ≡ judge_lemmas shape n g v x heads r
 lemmas_same shape m n g v x heads r h h' = lemmas_same_at shape m n g v x heads r.rest r.place r.nodes r.listed h h'
@@ -365,15 +315,7 @@ module _ (shape : List Cell → Bool) (q : GameProblem) (f : Heading) (ls : List
       at (Some why) = refl
   opening_line_on main_line =
       sym (then_then (judge_node (length ls) (main_body_by shape f.winner f.heads) 1 (start q) (reading ls (suc p) k i)) (λ _ r'. fine tt r') (λ _ r3. then_judge (judge_end r3) (λ _ r4. behind shape q f None r4)))
-  opening_line_on (header_line v n y) = refl
-  opening_line_on (had_line c) = refl
-  opening_line_on (not_line c) = refl
-  opening_line_on won_line = refl
-  opening_line_on (use_line j) = refl
-  opening_line_on (play_line t) = refl
-  opening_line_on (all_line m) = refl
-  opening_line_on (reply_line t) = refl
-  opening_line_on end_line = refl
+  opening_line_on _ = refl
 
   pub opening_on : (l : Option Line) → lemmas_on shape q f (reading (l ∷ ls) p k i) ≡ step_on shape q (there at_opening l (opening_taken q at_opening f)) ls
   opening_on None = refl
@@ -392,16 +334,7 @@ module _ (shape : List Cell → Bool) (q : GameProblem) (ls : List (Option Line)
           ≡ step_on shape q (goes_if 1 o (record { phase = opening (record { version = v; winner = x; heads = [] }); place = suc p; nodes = k; listed = i })) ls
       at None = refl
       at (Some why) = refl
-  header_line_on (lemma_line mover passes root) = refl
-  header_line_on main_line = refl
-  header_line_on (had_line c) = refl
-  header_line_on (not_line c) = refl
-  header_line_on won_line = refl
-  header_line_on (use_line j) = refl
-  header_line_on (play_line t) = refl
-  header_line_on (all_line m) = refl
-  header_line_on (reply_line t) = refl
-  header_line_on end_line = refl
+  header_line_on _ = refl
 
   pub header_taken_on : (l : Option Line) → header_on shape q (reading (l ∷ ls) p k i) ≡ step_on shape q (there at_header l (header_taken q at_header)) ls
   header_taken_on None = refl
@@ -444,24 +377,14 @@ Leaves-header : (g : Game) (l : Line) (r : Cursor) → Leaves (judge_header g l 
 Leaves-header g (header_line v n x) r =
     Leaves-then (asked 1 (ask (nat_eq v 1 || nat_eq v 2) malformed (ask (nat_eq n g.size) size_differs None)) r) (λ _ r'. fine (v, x) r') (length r.rest) (length r.rest) (Leaves-asked 1 _ r)
     (λ _ r' le. le)
-Leaves-header g (lemma_line mover passes root) r = tt
-Leaves-header g main_line r = tt
-Leaves-header g (had_line c) r = tt
-Leaves-header g (not_line c) r = tt
-Leaves-header g won_line r = tt
-Leaves-header g (use_line j) r = tt
-Leaves-header g (play_line t) r = tt
-Leaves-header g (all_line m) r = tt
-Leaves-header g (reply_line t) r = tt
-Leaves-header g end_line r = tt
+Leaves-header g _ r = tt
 
 -- the whole claim, by the recursion
 claim_on : (shape : List Cell → Bool) (q : GameProblem) (ls : List (Option Line)) (p k i : ℕ) → judge_claim shape q (reading ls p k i) ≡ header_on shape q (reading ls p k i)
-claim_on shape q [] p k i = refl
-claim_on shape q (None ∷ ls) p k i = refl
 claim_on shape q (Some l ∷ ls) p k i =
     then_same (judge_header q.game l (reading ls (suc p) k i)) (claim_behind shape q (suc (length ls))) (λ head r2. lemmas_on shape q (record { version = head.0; winner = head.1; heads = [] }) r2) (length ls) (Leaves-header q.game l (reading ls (suc p) k i))
     (λ head r2 le. claim_same shape q (suc (length ls)) head r2 (omega arith))
+claim_on shape q _ p k i = refl
 
 pub lines_judged : LinesJudged
 lines_judged shape q ls = ap verdict_of (claim_on shape q (map (fitting q.game.size) ls) 1 0 0) ∙ lines_verdict shape q begun ls

@@ -1,10 +1,9 @@
 -- A line of a body, as the machine takes it, by what the program found.
-use Rattle.cert_check.proofs.Common.{◌≡◌, ℕ, suc, ◌+◌, Bool, true, false, List, [], ◌∷◌, Option, Some, None, IsTrue, refl, sym, ap, ◌∙◌, arith, option_map, length, nat_lt, nat_le, ◌&&◌, ply_of, Cell, Turn, Game, GameState, legal, Head, max_nodes, max_depth, NodeLine, Won, Play, All, Body, Why, limit, replies_differ, ask, reply_fault, why_value, Machine, Heading, Phase, goes_on, stops, goes_if, Owed, body_of, counted, node_taken, node_value, Inside, Follows, phase_of, node_fault, node_next}
+use Rattle.cert_check.proofs.Common.{◌≡◌, ℕ, suc, ◌+◌, Bool, true, false, List, [], ◌∷◌, Option, Some, None, IsTrue, refl, sym, ap, ◌∙◌, arith, option_map, length, nat_lt, nat_le, ◌&&◌, ply_of, Cell, Turn, Game, GameState, legal, Head, max_nodes, max_depth, NodeLine, Won, Body, Why, limit, replies_differ, ask, reply_fault, why_value, Machine, Heading, Phase, goes_on, stops, goes_if, Owed, body_of, counted, node_taken, node_value, Inside, Follows, phase_of, node_fault, node_next}
 use Rattle.std.specs.Prelude.{reverse}
 use Rattle.std.proofs.lemmas.List.{length-reverse}
 use Rattle.target_game.specs.declared.turns_left.TurnsLeft.{TurnsLeft}
 use Rattle.cert_check.specs.declared.reject.Why as code
-use Rattle.cert_check.specs.declared.lines.NodeLine.TheVariants.{Use}
 use Rattle.cert_check.proofs.Due.{turns_apart, legal_fits}
 
 -- another turn than the one that is due
@@ -29,9 +28,7 @@ fault_said n f why o same is p said = at o (sym same ∙ ap (option_map (why_val
 pub node_taken_is : (shape : List Cell → Bool) (m : Machine) (f : Heading) (inside : Option Head) (d : ℕ) (s : GameState) (os : List Owed) (n : ℕ) (k : NodeLine)
     → node_taken shape m f inside d s os (node_value n k) ≡ counted m d (node_fault (body_of shape f inside) s (node_value n k)) (phase_of f inside (node_next d s os (node_value n k)))
 node_taken_is shape m f inside d s os n Won = refl
-node_taken_is shape m f inside d s os n (Use j) = refl
-node_taken_is shape m f inside d s os n (Play t) = refl
-node_taken_is shape m f inside d s os n (All k) = refl
+node_taken_is shape m f inside d s os n _ = refl
 
 -- there are as many open nodes as turns that were made
 pub follows_length : (g : Game) (before : List GameState) (ns : List TurnsLeft) → Follows g before ns → length before ≡ length ns

@@ -37,16 +37,14 @@ pub(crate) struct BodyState {
 }
 
 impl Model for BodyState {
-    ghost use Rattle.std.specs.Prelude.{length, reverse};
     ghost use Rattle.target_game.specs.State.{Line};
-    ghost use Rattle.cert_check.specs.Private.Known.{AreKnown, HasStart};
+    ghost use Rattle.cert_check.specs.Private.Known.{IsKept};
 
     ghost Value = { Line };
 
     ghost view = { λ a. a.state };
 
-    ghost invariant = { λ a. AreKnown (reverse a.known.items) a.state.state a.state.before
-        × HasStart a.known.items a.fixed (length a.state.before) };
+    ghost invariant = { λ a. IsKept a.known.items a.fixed a.state };
 }
 
 impl BodyState {

@@ -6,7 +6,7 @@ ghost use Rattle.proof_cert.specs.Lines.{use_line};
 ghost use Rattle.proof_cert.specs.Stage.{line_value};
 ghost use Rattle.cert_check.specs.Private.Ascending.{Ascends};
 ghost use Rattle.cert_check.specs.Body.{lives, nowhere};
-ghost use Rattle.cert_check.specs.Private.Judging.{AwaitsNode, answering, body_here, heading_of, lemma_of, machine_of, node_here, reply_here, within_of, Takes, TakesNodeIn};
+ghost use Rattle.cert_check.specs.Private.Judging.{AwaitsNode, ChangesBody, answering, body_here, heading_of, lemma_of, machine_of, node_here, reply_here, within_of, Takes, TakesNodeIn};
 ghost use Rattle.cert_check.specs.Private.Machine.{body_of, end_taken, goes_on, moved, opening};
 ghost use Rattle.cert_check.specs.Parts.{node_value};
 ghost use Rattle.cert_check.specs.declared.judge.Within.{Within as SpecWithin};
@@ -73,12 +73,7 @@ impl<'p> Judge<'p> {
     fn node_within(&mut self, within: Within, node: NodeLine, alive: bool) -> Result<Due, Why>
         requires ready { AwaitsNode self.old Node }
         requires room { length self.old.open_nodes.items < 2000 }
-        ensures rest { self.new
-            ≡ record self.old {
-              state = self.new.state;
-              open_nodes = self.new.open_nodes;
-              passed = self.new.passed;
-            } }
+        ensures rest { ChangesBody self.old self.new }
         ensures taken { TakesNodeIn self.old within (answering alive)
             (node_value self.old.state.state.game.size node) self.new result }
     {
@@ -95,8 +90,7 @@ impl<'p> Judge<'p> {
     fn by_shape(&mut self, alive: bool) -> Result<Due, Why>
         requires ready { AwaitsNode self.old Node }
         requires room { length self.old.open_nodes.items < 2000 }
-        ensures rest { self.new
-            ≡ record self.old { state = self.new.state; open_nodes = self.new.open_nodes } }
+        ensures rest { ChangesBody self.old self.new }
         ensures taken { (within : SpecWithin) → TakesNodeIn self.old within (answering alive)
             (use_line 0) self.new result }
     {
@@ -124,12 +118,7 @@ impl<'p> Judge<'p> {
     fn node_of_lemma(&mut self, node: NodeLine) -> Result<Due, Why>
         requires ready { AwaitsNode self.old Node }
         requires room { length self.old.open_nodes.items < 2000 }
-        ensures rest { self.new
-            ≡ record self.old {
-              state = self.new.state;
-              open_nodes = self.new.open_nodes;
-              passed = self.new.passed;
-            } }
+        ensures rest { ChangesBody self.old self.new }
         ensures taken { TakesNodeIn self.old Lemma nowhere
             (node_value self.old.state.state.game.size node) self.new result }
     {
@@ -147,12 +136,7 @@ impl<'p> Judge<'p> {
     fn node_of_main(&mut self, node: NodeLine) -> Result<Due, Why>
         requires ready { AwaitsNode self.old Node }
         requires room { length self.old.open_nodes.items < 2000 }
-        ensures rest { self.new
-            ≡ record self.old {
-              state = self.new.state;
-              open_nodes = self.new.open_nodes;
-              passed = self.new.passed;
-            } }
+        ensures rest { ChangesBody self.old self.new }
         ensures taken { TakesNodeIn self.old Main nowhere
             (node_value self.old.state.state.game.size node) self.new result }
     {

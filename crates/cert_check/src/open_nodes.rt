@@ -1,13 +1,13 @@
 //! The open nodes of a body: the replies of each that are still to come, and the turns that are to be taken back.
 
-ghost use Rattle.std.specs.Prelude.{◌≡◌, ◌<◌, ◌∷◌, suc, length, reverse, None, Some, IfErr, OnOk};
+ghost use Rattle.std.specs.Prelude.{◌≡◌, ◌∷◌, suc, length, reverse, None, Some, IfErr, OnOk};
 ghost use Rattle.std.specs.List.{All};
 ghost use Rattle.go_points.specs.Ply.{ply_of};
 ghost use Rattle.target_game.specs.Next.{next};
 ghost use Rattle.target_game.specs.Left.{turns_due};
 ghost use Rattle.proof_cert.specs.Lines.{won_line, use_line, play_line, all_line};
 ghost use Rattle.cert_check.specs.Body.{Why as SpecWhy, reply_fault};
-ghost use Rattle.cert_check.specs.Private.Inside.{Follows, MayBeMade, inside_of, owed_by, reply_at, TakesNode};
+ghost use Rattle.cert_check.specs.Private.Inside.{Follows, HasRoom, MayBeMade, inside_of, owed_by, reply_at, TakesNode};
 ghost use Rattle.cert_check.specs.Private.Machine.{owing};
 ghost use Rattle.cert_check.specs.Parts.{IsJudged, PassesOn, node_value, ordinary};
 ghost use Rattle.cert_check.specs.Stage.{why_value};
@@ -106,9 +106,7 @@ fn take_won(
     state: &mut BodyState,
     open_nodes: &mut ArrayVec<TurnsLeft, MOST_OPEN>,
 ) -> Result<Due, Why>
-    requires follows { Follows state.old.state.game state.old.before
-        (reverse open_nodes.old.items) }
-    requires room { length open_nodes.old.items < 2000 }
+    requires { HasRoom state.old open_nodes.old.items }
     ensures { TakesNode (ordinary body.now) (won_line)
         state.old open_nodes.old.items state.new open_nodes.new.items result }
 {
@@ -126,9 +124,7 @@ fn take_use(
     passed: &mut LemmaSet,
     lemma: u32,
 ) -> Result<Due, Why>
-    requires follows { Follows state.old.state.game state.old.before
-        (reverse open_nodes.old.items) }
-    requires room { length open_nodes.old.items < 2000 }
+    requires room { HasRoom state.old open_nodes.old.items }
     requires passed { All (PassesOn (ordinary body.now)) passed.old }
     ensures passed { All (PassesOn (ordinary body.now)) passed.new }
     ensures taken { TakesNode (ordinary body.now) (use_line lemma)
@@ -150,9 +146,7 @@ fn take_play(
     open_nodes: &mut ArrayVec<TurnsLeft, MOST_OPEN>,
     turn: Turn,
 ) -> Result<Due, Why>
-    requires follows { Follows state.old.state.game state.old.before
-        (reverse open_nodes.old.items) }
-    requires room { length open_nodes.old.items < 2000 }
+    requires { HasRoom state.old open_nodes.old.items }
     ensures { TakesNode (ordinary body.now) (play_line (ply_of state.old.state.game.size turn))
         state.old open_nodes.old.items state.new open_nodes.new.items result }
 {
@@ -173,9 +167,7 @@ fn take_all(
     open_nodes: &mut ArrayVec<TurnsLeft, MOST_OPEN>,
     replies: u32,
 ) -> Result<Due, Why>
-    requires follows { Follows state.old.state.game state.old.before
-        (reverse open_nodes.old.items) }
-    requires room { length open_nodes.old.items < 2000 }
+    requires { HasRoom state.old open_nodes.old.items }
     ensures { TakesNode (ordinary body.now) (all_line replies)
         state.old open_nodes.old.items state.new open_nodes.new.items result }
 {
@@ -197,9 +189,7 @@ pub(crate) fn take_node(
     passed: &mut LemmaSet,
     node: NodeLine,
 ) -> Result<Due, Why>
-    requires follows { Follows state.old.state.game state.old.before
-        (reverse open_nodes.old.items) }
-    requires room { length open_nodes.old.items < 2000 }
+    requires room { HasRoom state.old open_nodes.old.items }
     requires passed { All (PassesOn (ordinary body.now)) passed.old }
     ensures passed { All (PassesOn (ordinary body.now)) passed.new }
     ensures taken { TakesNode (ordinary body.now) (node_value state.old.state.game.size node)

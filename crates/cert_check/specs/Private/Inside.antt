@@ -33,6 +33,10 @@ Follows g [] (n ∷ ns) = ⊥
 Follows g (s ∷ before) [] = ⊥
 Follows g (s ∷ before) (n ∷ ns) = (over s ≡ None) × (s.game ≡ g) × Follows g before ns
 
+-- one turn more may be made
+abbrev pub HasRoom : State.Line → List TurnsLeft → Type 0
+HasRoom l opened = Follows l.state.game l.before (reverse opened) × (length opened < 2000)
+
 -- THE LINE THAT IS DUE
 
 -- in a body: a node at a depth and a state, or a reply (or `end`), with the nodes that are open round it

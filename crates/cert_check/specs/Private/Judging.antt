@@ -144,6 +144,10 @@ GoesOnOrStops old new step (Err why) = StopsFor old step why
 abbrev pub Takes : {A : Type 0} → Judge → Judge → AfterLine → Result A stop.Why → Type 0
 Takes old new step r = (new.place ≡ old.place) × (new.problem ≡ old.problem) × GoesOnOrStops old new step r
 
+-- a call that changes no more than a node in a body may
+abbrev pub ChangesBody : Judge → Judge → Type 0
+ChangesBody old new = new ≡ record old { state = new.state; open_nodes = new.open_nodes; passed = new.passed }
+
 -- A call for the line of a node in a body: the node has no fault there and this line is due after it, or the fault is the node's.
 pub record NodeGoesOn (old : Judge) (within : Within) (shape : List Cell → Bool) (l : Read.Line) (new : Judge) (due : Due) : Type 0 where
   pub ready : AwaitsNode new due

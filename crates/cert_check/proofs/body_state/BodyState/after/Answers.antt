@@ -1,19 +1,8 @@
-use Rattle.cert_check.proofs.Common.{rules, ◌≡◌, List, [], ◌∷◌, ◌++◌, length, reverse, subst, sym, ap, ◌∙◌, Cell, Ply, ply_of, next, AreKnown, HasStart}
-use Rattle.target_game.specs.State.{Line}
-use Rattle.cert_check.proofs.Known.{one_known_more, start_more}
+use Rattle.cert_check.proofs.Common.{rules, ◌≡◌, [], ◌∷◌, ◌++◌, ply_of}
+use Rattle.cert_check.proofs.Known.{one_kept_more}
 use Rattle.cert_check.proofs.body_state.BodyState.after.Goals as goal
 
 pub invariant_of-self-else-is_err : goal.invariant_of-self-else-is_err
 invariant_of-self-else-is_err c =
-    let l : Line = c.self.inside.state in
-    let t : Ply = ply_of l.state.game.size c.args.turn in
-    let cs : List (List Cell) = c.self.inside.known.items in
-    let ds : List (List Cell) = c.push.new.self.items in
-    let is : c.after.new.self ≡ record { state = next l.state t; before = l.state ∷ l.before } = c.in_ok-after.ensures.ok in
-    let present : c.colouring.result ≡ (next l.state t).colouring = c.colouring.ensures ∙ ap (λ (m : Line). m.state.colouring) is in
-    let pushed : ds ≡ cs ++ c.colouring.result ∷ [] = search rules in (
-      subst (λ (m : Line). AreKnown (reverse ds) m.state m.before) (sym is)
-          (one_known_more cs ds l.state l.before t (pushed ∙ ap (λ d. cs ++ d ∷ []) present) c.self.invariant.0),
-      subst (λ (m : Line). HasStart ds c.self.inside.fixed (length m.before)) (sym is)
-          (start_more cs ds c.colouring.result c.self.inside.fixed (length l.before) pushed c.self.invariant.1),
-    )
+    let pushed : c.push.new.self.items ≡ c.self.inside.known.items ++ c.colouring.result ∷ [] = search rules in
+    one_kept_more _ _ c.self.inside.fixed c.self.inside.state _ (ply_of c.self.inside.state.state.game.size c.args.turn) _ c.in_ok-after.ensures.ok c.colouring.ensures pushed c.self.invariant

@@ -3,7 +3,7 @@
 use crate::smaller::Smaller;
 use go_points::Turn;
 use pn_table::Key;
-use state_proofs::{Below, Branch, Move, Proof, key_after, move_of};
+use state_proofs::{Below, Branch, Move, Proof, key_after_move, key_after_pass, move_of};
 use std::alloc::AllocError;
 
 /// A question about a turn.
@@ -41,7 +41,7 @@ impl Smaller {
                 is_barred,
                 wins,
             } = played;
-            let key = key_after(end, Turn::At(point), position);
+            let key = key_after_move(end, position);
             if wins && attacks && !is_barred {
                 return self.ask_alone(first, Turn::At(point), key);
             }
@@ -50,7 +50,7 @@ impl Smaller {
                 self.ask_turn(own, Turn::At(point), key)?;
             }
         }
-        let key = key_after(end, Turn::Pass, end.position);
+        let key = key_after_pass(end);
         if key.passes < 2 {
             let own = self.search.proofs.branch(proof, 0);
             return self.ask_turn(own, Turn::Pass, key);
@@ -101,7 +101,8 @@ impl Smaller {
     }
 
     /// Lists the positions of the moves that the proof leaves out, which are barred here.
-    pub(crate) fn list_barred(&mut self, proof: Proof) -> Result<(), AllocError> {
+    pub(crate) fn list_left_out(&mut self, proof: Proof) -> Result<(), AllocError> {
+        self.search.line.list_moves(&mut self.search.moves)?;
         for place in 0..self.search.moves.len() {
             let Some(played) = self.search.moves.get(place).copied() else {
                 return Ok(());
@@ -109,7 +110,7 @@ impl Smaller {
             let position = played.position;
             let left_out = self.leaves_out(proof, played);
             if left_out {
-                self.barred.push(position)?;
+                self.search.barred.push(position)?;
             }
         }
         Ok(())

@@ -18,7 +18,7 @@ use go_points::{Colour, Turn};
 use pn_table::{Key, Table};
 use state_proofs::{
     Below, Branch, Form, Line, MAX_LINE, Move, MoverNumbers, Proofs, Refusal, Stop, Thresholds,
-    key_after,
+    key_after, part_from,
 };
 use std::alloc::{AllocError, Global};
 use std::num::NonZeroUsize;
@@ -121,10 +121,15 @@ impl Search {
         Err(Stop::Steps)
     }
 
+    /// The proof of a state one turn further that holds there.
+    pub(crate) fn proof_after(&self, key: Key) -> Option<u32> {
+        let line = self.line.len().saturating_add(1);
+        self.proofs.find(key, self.line.past(), line)
+    }
+
     /// The proof of a state one turn further that holds there, and who wins by it.
     pub(crate) fn proved(&self, key: Key) -> Option<(Colour, u32)> {
-        let line = self.line.len().saturating_add(1);
-        let number = self.proofs.find(key, self.line.past(), line)?;
+        let number = self.proof_after(key)?;
         let proof = self.proofs.get(number)?;
         Some((proof.winner, number))
     }
@@ -144,11 +149,7 @@ impl Search {
 
     /// The children of the frame, which is the last.
     pub(crate) fn children_of(&self, frame: Frame) -> &[Child] {
-        if frame.first <= self.children.len() {
-            &self.children[frame.first..]
-        } else {
-            &self.children[..0]
-        }
+        part_from(self.children.as_slice(), frame.first)
     }
 
     /// Settles the last frame, leaves it, or goes down from it.

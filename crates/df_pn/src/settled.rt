@@ -3,7 +3,7 @@
 use crate::frame::{Child, Frame, Outcome, winning_child};
 use crate::search::Search;
 use go_points::{Colour, Turn};
-use state_proofs::{Branch, Form, Settled};
+use state_proofs::{Branch, Form, Settled, list_barred};
 use std::alloc::AllocError;
 
 impl Search {
@@ -16,12 +16,12 @@ impl Search {
     ) -> Result<u32, AllocError> {
         self.branches.clear();
         self.barred.clear();
-        let mut result = None;
+        let mut reached = None;
         match form {
             Form::Turn => {
                 if let Some(child) = winning_child(self.children_of(frame), &self.proofs) {
                     if child.turn != Turn::Pass {
-                        result = Some(child.position);
+                        reached = Some(child.position);
                     }
                     self.add_branch(child)?;
                 }
@@ -34,17 +34,14 @@ impl Search {
                 }
                 if frame.is_barred {
                     self.line.list_moves(&mut self.moves)?;
-                    self.list_barred()?;
+                    list_barred(self.moves.as_slice(), &mut self.barred)?;
                 }
             }
         }
-        let settled = Settled {
-            key: frame.key,
-            winner,
-            form,
-            is_expanded: true,
-        };
-        self.add_proof(settled, result)
+        let settled = Settled::expanded(frame.key, winner, form);
+        let branches = self.branches.as_slice();
+        let barred = self.barred.as_slice();
+        self.proofs.add(settled, branches, reached, barred)
     }
 
     /// Adds the branch to a settled child.
@@ -59,25 +56,5 @@ impl Search {
                 Ok(())
             }
         }
-    }
-
-    /// Lists the positions that are barred among the moves.
-    fn list_barred(&mut self) -> Result<(), AllocError> {
-        for place in 0..self.moves.len() {
-            let found = self.moves[place];
-            if found.is_barred {
-                self.barred.push(found.position)?;
-            }
-        }
-        Ok(())
-    }
-
-    fn add_proof(&mut self, settled: Settled, reached: Option<u64>) -> Result<u32, AllocError> {
-        self.proofs.add(
-            settled,
-            self.branches.as_slice(),
-            reached,
-            self.barred.as_slice(),
-        )
     }
 }

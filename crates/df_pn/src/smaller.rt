@@ -7,45 +7,15 @@ ghost use Rattle.std.specs.Prelude.{◌≤◌};
 
 use crate::asked::{Asked, Question};
 use crate::search::Search;
-use go_points::{Colour, Turn};
-use indexmap::IndexMap;
-use state_proofs::{Below, Branch, Form, Proof, Refusal, Stop};
+use state_proofs::{Below, Form, MAX_TRIED, Refusal, Stop, Visit, Visits};
 use std::alloc::{AllocError, Global};
-
-/// A proof of at most this many turns is left as it is.
-const FEW_TURNS: u64 = 2;
-
-/// In a proof of more turns than this, the winner's other turns are searched, each with at most this many steps.
-const MAX_TRIED: u64 = 20;
-
-/// A state of the line whose proof is being made smaller.
-#[derive(Clone, Copy)]
-struct Visit {
-    /// The proof that is walked, and its number.
-    number: u32,
-    proof: Proof,
-    /// The place of the turn that the next question is about.
-    next: usize,
-    /// Where its turns, its new branches and its barred positions begin.
-    asked: usize,
-    made: usize,
-    barred: usize,
-    /// If the mover wins, the best turn that gives a smaller tree than the proof's own, with the position after it and the turns of
-    /// its tree.
-    best: Option<(Branch, u64)>,
-    least: u64,
-}
 
 /// The rounds over a proof.
 #[derive(Drop)]
 pub(crate) struct Smaller {
     pub(crate) search: Search,
-    visits: Vec<Visit>,
+    visits: Visits,
     pub(crate) asked: Vec<Asked>,
-    made: Vec<Branch>,
-    pub(crate) barred: Vec<u64>,
-    /// What each proof of the round has become.
-    better: IndexMap<u32, u32>,
 }
 
 impl Smaller {
@@ -53,11 +23,8 @@ impl Smaller {
     pub(crate) fn of(alloc: Global, search: Search) -> Smaller {
         Smaller {
             search,
-            visits: Vec::new(alloc),
+            visits: Visits::new(alloc),
             asked: Vec::new(alloc),
-            made: Vec::new(alloc),
-            barred: Vec::new(alloc),
-            better: IndexMap::new(alloc),
         }
     }
 
@@ -68,13 +35,13 @@ impl Smaller {
     {
         let mut root = root;
         for _ in 0..u64::MAX {
-            let before = self.turns_of(root);
+            let before = self.search.proofs.turns_of(root);
             let found = self.round(root, left);
             self.search.line.back_to(0);
             let Ok(next) = found else {
                 return root;
             };
-            let after = self.turns_of(next);
+            let after = self.search.proofs.turns_of(next);
             if after <= before {
                 root = next;
             }
@@ -85,19 +52,12 @@ impl Smaller {
         root
     }
 
-    fn turns_of(&self, number: u32) -> u64 {
-        self.search.proofs.turns_below(Below::Proof(number))
-    }
-
     /// One round from the first state. Returns its proof after the round.
     fn round(&mut self, root: u32, left: &mut u64) -> Result<u32, Refusal>
         ensures { left.new ≤ left.old }
     {
         self.visits.clear();
         self.asked.clear();
-        self.made.clear();
-        self.barred.clear();
-        self.better.clear();
         let mut done = self.enter(root, left)?;
         for _ in 0..u64::MAX {
             if let Some(number) = done {
@@ -117,7 +77,7 @@ impl Smaller {
     fn go_on(&mut self, left: &mut u64) -> Result<Option<u32>, Refusal>
         ensures { left.new ≤ left.old }
     {
-        let Some(visit) = self.visits.last().copied() else {
+        let Some(visit) = self.visits.last() else {
             return Err(Refusal::Fault);
         };
         let Some(asked) = self.asked.get(visit.next).copied() else {
@@ -125,7 +85,7 @@ impl Smaller {
         };
         match asked.question {
             Question::Known(below) => {
-                self.take(visit, asked, below)?;
+                self.take(asked, below)?;
                 Ok(None)
             }
             Question::Smaller(number) => {
@@ -133,19 +93,9 @@ impl Smaller {
                 self.enter(number, left)
             }
             Question::Wins => {
-                self.ask_another(visit, asked, left)?;
+                self.ask_another(visit.proof.turns, asked, left)?;
                 Ok(None)
             }
-        }
-    }
-
-    /// The better proof that this one became in the round, if it holds at the end of the line.
-    fn known(&self, number: u32) -> Option<u32> {
-        let better = self.better.get(&number).copied()?;
-        if self.search.proofs.holds_at(better, self.search.line.past()) {
-            Some(better)
-        } else {
-            None
         }
     }
 
@@ -156,60 +106,48 @@ impl Smaller {
         let Some(proof) = self.search.proofs.get(number) else {
             return Err(Refusal::Fault);
         };
-        if proof.turns <= FEW_TURNS || *left == 0 {
+        if *left == 0 {
             return Ok(Some(number));
         }
-        if let Some(better) = self.known(number) {
-            return Ok(Some(better));
+        let past = self.search.line.past();
+        if let Some(known) = self.visits.known(&self.search.proofs, past, number) {
+            return Ok(Some(known));
         }
         *left -= 1;
         self.search.line.list_moves(&mut self.search.moves)?;
-        let visit = Visit {
-            number,
-            proof,
-            next: self.asked.len(),
-            asked: self.asked.len(),
-            made: self.made.len(),
-            barred: self.barred.len(),
-            best: None,
-            least: proof.turns,
-        };
+        let first = self.asked.len();
         match proof.form {
             Form::Turn => self.list_turns(proof)?,
-            _ => {
-                self.list_replies(proof)?;
-                self.list_barred(proof)?;
-            }
+            _ => self.list_replies(proof)?,
         }
-        self.visits.push(visit)?;
+        self.visits.enter(number, proof, first)?;
         Ok(None)
     }
 
-    /// Asks whether the winner wins by another turn than the proof's own.
-    fn ask_another(&mut self, visit: Visit, asked: Asked, left: &mut u64) -> Result<(), Refusal>
+    /// Asks whether the winner wins by another turn than the proof's own, which has this many turns.
+    fn ask_another(&mut self, turns: u64, asked: Asked, left: &mut u64) -> Result<(), Refusal>
         ensures { left.new ≤ left.old }
     {
-        let turns = visit.proof.turns;
         let tried = asked;
-        if let Some((winner, number)) = self.found_after(turns, tried, left)? {
-            if winner == visit.proof.winner {
-                return self.take(visit, asked, Below::Proof(number));
+        if let Some(number) = self.found_after(turns, tried, left)? {
+            if self.visits.wins_by(&self.search.proofs, number) {
+                return self.take(asked, Below::Proof(number));
             }
         }
-        self.pass_on();
+        self.visits.pass_on();
         Ok(())
     }
 
-    /// Who wins after the turn, and by which proof: one that is known, or, in a proof of many turns, one that a few steps find.
+    /// A proof of the state after the turn: one that is known, or, in a proof of many turns, one that a few steps find.
     fn found_after(
         &mut self,
         turns: u64,
         asked: Asked,
         left: &mut u64,
-    ) -> Result<Option<(Colour, u32)>, Refusal>
+    ) -> Result<Option<u32>, Refusal>
         ensures { left.new ≤ left.old }
     {
-        if let Some(found) = self.search.proved(asked.key) {
+        if let Some(found) = self.search.proof_after(asked.key) {
             return Ok(Some(found));
         }
         if turns <= MAX_TRIED {
@@ -219,7 +157,7 @@ impl Smaller {
     }
 
     /// Searches the state after the turn for a few steps.
-    fn try_turn(&mut self, asked: Asked, left: &mut u64) -> Result<Option<(Colour, u32)>, Refusal>
+    fn try_turn(&mut self, asked: Asked, left: &mut u64) -> Result<Option<u32>, Refusal>
         ensures { left.new ≤ left.old }
     {
         self.search.line.go(asked.turn, asked.key)?;
@@ -227,10 +165,7 @@ impl Smaller {
         let found = self.search.settle(floor, left);
         self.search.line.back();
         match found {
-            Ok(number) => match self.search.proofs.get(number) {
-                Some(proof) => Ok(Some((proof.winner, number))),
-                None => Err(Refusal::Fault),
-            },
+            Ok(number) => Ok(Some(number)),
             Err(Stop::Steps) => Ok(None),
             Err(Stop::Refused(Refusal::Limit)) => Ok(None),
             Err(Stop::Refused(refusal)) => Err(refusal),
@@ -239,103 +174,34 @@ impl Smaller {
 
     /// Takes the proof of the state after the turn that the question was about, or a smaller one that was made elsewhere.
     fn take_smallest(&mut self, number: u32) -> Result<(), Refusal> {
-        let Some(visit) = self.visits.last().copied() else {
+        let Some(visit) = self.visits.last() else {
             return Err(Refusal::Fault);
         };
         let Some(asked) = self.asked.get(visit.next).copied() else {
             return Err(Refusal::Fault);
         };
-        let smallest = match self.search.proved(asked.key) {
-            Some((winner, other))
-                if winner == visit.proof.winner && self.turns_of(other) < self.turns_of(number) => {
-                other
-            }
-            _ => number,
-        };
-        self.take(visit, asked, Below::Proof(smallest))
+        let other = self.search.proof_after(asked.key);
+        let smallest = self.visits.smaller(&self.search.proofs, number, other);
+        self.take(asked, Below::Proof(smallest))
     }
 
     /// Takes this for the turn that the question was about.
-    fn take(&mut self, visit: Visit, asked: Asked, below: Below) -> Result<(), Refusal> {
-        let branch = Branch {
-            turn: asked.turn,
-            below,
-        };
-        match visit.proof.form {
-            Form::Turn => self.prefer(visit, branch, asked.key.position),
-            _ => self.made.push(branch)?,
-        }
-        self.pass_on();
+    fn take(&mut self, asked: Asked, below: Below) -> Result<(), Refusal> {
+        let turn = asked.turn;
+        let position = asked.key.position;
+        self.visits
+            .take(&self.search.proofs, turn, below, position)?;
         Ok(())
-    }
-
-    /// Prefers the winner's turn, if it gives a smaller tree than those before.
-    fn prefer(&mut self, visit: Visit, branch: Branch, position: u64) {
-        let turns = self
-            .search
-            .proofs
-            .turns_below(branch.below)
-            .saturating_add(1);
-        let last = self.visits.len().saturating_sub(1);
-        if turns < visit.least && last < self.visits.len() {
-            self.visits[last].least = turns;
-            self.visits[last].best = Some((branch, position));
-        }
-    }
-
-    /// Goes on to the next question of the last state.
-    fn pass_on(&mut self) {
-        let last = self.visits.len().saturating_sub(1);
-        if last < self.visits.len() {
-            self.visits[last].next = self.visits[last].next.saturating_add(1);
-        }
     }
 
     /// Removes the last state, all of whose questions are answered, and returns its proof.
     fn leave(&mut self, visit: Visit) -> Result<u32, AllocError> {
-        let before = visit.number;
-        let asked = visit.asked;
-        let made = visit.made;
-        let barred = visit.barred;
-        let number = self.proof_of(visit)?;
-        self.better.insert(before, number)?;
-        self.better.insert(number, number)?;
-        self.asked.truncate(asked);
-        self.made.truncate(made);
-        self.barred.truncate(barred);
-        self.visits.pop();
-        Ok(number)
-    }
-
-    /// The proof of the last state by what was taken.
-    fn proof_of(&mut self, visit: Visit) -> Result<u32, AllocError> {
-        match visit.proof.form {
-            Form::Turn => self.with_turn(visit),
-            _ => self.with_replies(visit),
+        self.asked.truncate(visit.first);
+        self.search.barred.clear();
+        if self.visits.has_new_replies(&self.search.proofs) {
+            self.list_left_out(visit.proof)?;
         }
-    }
-
-    fn with_turn(&mut self, visit: Visit) -> Result<u32, AllocError> {
-        let number = visit.number;
-        let settled = visit.proof.settled();
-        let Some((branch, position)) = visit.best else {
-            return Ok(number);
-        };
-        let is_move = branch.turn != Turn::Pass;
-        let reached = if is_move { Some(position) } else { None };
-        self.search.proofs.add(settled, &[branch], reached, &[])
-    }
-
-    fn with_replies(&mut self, visit: Visit) -> Result<u32, AllocError> {
-        if visit.made > self.made.len() || visit.barred > self.barred.len() {
-            return Err(AllocError);
-        }
-        let made = &self.made[visit.made..];
-        if self.search.proofs.has_same_below(visit.proof, made) {
-            return Ok(visit.number);
-        }
-        let settled = visit.proof.settled();
-        let barred = &self.barred[visit.barred..];
-        self.search.proofs.add(settled, made, None, barred)
+        self.visits
+            .leave(&mut self.search.proofs, self.search.barred.as_slice())
     }
 }

@@ -5,9 +5,9 @@ ghost use Rattle.std.specs.Prelude.{◌≡◌};
 use crate::expanding::step_at;
 use crate::finish::Finish;
 use crate::frame::State;
-use crate::smaller::{Smaller, Visit};
+use crate::smaller::Smaller;
 use local_board::{PlaceSet, Room, Side, Step};
-use state_proofs::{Below, Branch};
+use state_proofs::{Below, Branch, Proof};
 use std::alloc::AllocError;
 
 /// A question about a turn.
@@ -75,15 +75,15 @@ impl Smaller {
     pub(crate) fn list_turns(
         &mut self,
         finish: &mut Finish,
-        visit: &Visit,
+        state: State,
+        proof: Proof,
     ) -> Result<(), AllocError>
         ensures steps { finish.new.search.steps ≡ finish.old.search.steps }
     {
-        let state = visit.state;
-        if let Some((step, after)) = ending_turn(finish, visit) {
+        if let Some((step, after)) = ending_turn(finish, state) {
             return self.ask(step, after, Question::Known(Below::Won));
         }
-        let own = finish.search.proofs.branch(visit.proof, 0);
+        let own = finish.search.proofs.branch(proof, 0);
         let Some(own) = own else {
             return Ok(());
         };
@@ -92,8 +92,8 @@ impl Smaller {
             let after = finish.search.after(state, step);
             self.ask(step, after, question_below(own))?;
         }
-        let living = self.list_living(finish, visit, own_step)?;
-        self.list_others(finish, visit, own_step, living)
+        let living = self.list_living(finish, state, own_step)?;
+        self.list_others(finish, state, own_step, living)
     }
 
     fn ask(&mut self, step: Step, after: State, question: Question) -> Result<(), AllocError> {
@@ -109,22 +109,20 @@ impl Smaller {
     fn list_living(
         &mut self,
         finish: &mut Finish,
-        visit: &Visit,
+        state: State,
         own: Option<Step>,
     ) -> Result<PlaceSet, AllocError>
         ensures steps { finish.new.search.steps ≡ finish.old.search.steps }
     {
-        if finish.search.side(visit.proof.winner) == Side::Attacker {
+        if finish.search.side(state.key.mover) == Side::Attacker {
             return Ok(PlaceSet::empty());
         }
         let mut best = LivingTurns::none();
-        let found = find_living(finish, visit.state, own, &mut best);
+        let found = find_living(finish, state, own, &mut best);
         for index in 0..MAX_LIVING {
             if index < best.count {
                 let place = best.places[index];
-                let after = finish
-                    .search
-                    .after_move_at(visit.state, Side::Defender, place);
+                let after = finish.search.after_move_at(state, Side::Defender, place);
                 self.ask(step_at(place), after, Question::Lives)?;
             }
         }
@@ -135,11 +133,10 @@ impl Smaller {
     fn list_others(
         &mut self,
         finish: &Finish,
-        visit: &Visit,
+        state: State,
         own: Option<Step>,
         living: PlaceSet,
     ) -> Result<(), AllocError> {
-        let state = visit.state;
         let side = finish.search.side(state.key.mover);
         let mut rest = finish.playable(state).minus(living).places();
         for _ in 0..u64::MAX {
@@ -165,11 +162,12 @@ impl Smaller {
     pub(crate) fn list_replies(
         &mut self,
         finish: &Finish,
-        visit: &Visit,
+        state: State,
+        proof: Proof,
     ) -> Result<(), AllocError> {
-        for place in 0..finish.search.proofs.branches(visit.proof).len() {
-            if let Some(branch) = finish.search.proofs.branch(visit.proof, place) {
-                self.list_reply(finish, visit.state, branch)?;
+        for place in 0..finish.search.proofs.branches(proof).len() {
+            if let Some(branch) = finish.search.proofs.branch(proof, place) {
+                self.list_reply(finish, state, branch)?;
             }
         }
         Ok(())
@@ -202,8 +200,7 @@ fn question_below(branch: Branch) -> Question {
 }
 
 /// The turn by which the winner, who is to move, ends the game at once.
-fn ending_turn(finish: &Finish, visit: &Visit) -> Option<(Step, State)> {
-    let state = visit.state;
+fn ending_turn(finish: &Finish, state: State) -> Option<(Step, State)> {
     if finish.search.side(state.key.mover) == Side::Defender {
         if state.key.passes == 0 {
             return None;

@@ -11,7 +11,7 @@ use crate::frame::State;
 use crate::search::Search;
 use go_points::Colour;
 use local_board::{Side, Step};
-use state_proofs::{Below, Branch, Form, Proof, Refusal, Settled, Stop};
+use state_proofs::{Below, Branch, Form, Proof, Refusal, Settled, Stop, part_from};
 use std::alloc::{AllocError, Global};
 
 /// The greatest number of steps of a search if the rule for playing out has no turn.
@@ -81,7 +81,6 @@ pub(crate) struct Finish {
     visits: Vec<Visit>,
     pub(crate) due: Vec<Due>,
     made: Vec<Branch>,
-    barred: Vec<u64>,
     /// The proofs that short searches made, by their places in the list. They may use what is known only by shape.
     pub(crate) helped: Vec<(usize, usize)>,
 }
@@ -93,7 +92,6 @@ impl Finish {
             visits: Vec::new(alloc),
             due: Vec::new(alloc),
             made: Vec::new(alloc),
-            barred: Vec::new(alloc),
             helped: Vec::new(alloc),
         }
     }
@@ -319,12 +317,9 @@ impl Finish {
 
     /// Makes the proof of the last state by the branches that were kept.
     fn leave(&mut self, visit: Visit) -> Result<Entered, Stop> {
-        self.barred.clear();
+        self.search.barred.clear();
         if visit.form == Form::Replies && visit.is_barred {
-            self.search.barred.clear();
             self.search.list_barred(visit.state)?;
-            self.barred
-                .extend_from_slice(self.search.barred.as_slice())?;
         }
         let reached = self.reached_by(visit);
         let number = self.add(visit, reached)?;
@@ -348,19 +343,11 @@ impl Finish {
         }
     }
 
-    fn add(&mut self, visit: Visit, reached: Option<u64>) -> Result<u32, Refusal> {
-        if visit.made > self.made.len() {
-            return Err(Refusal::Fault);
-        }
-        let settled = Settled {
-            key: visit.state.key,
-            winner: visit.winner,
-            form: visit.form,
-            is_expanded: true,
-        };
-        let made = &self.made[visit.made..];
-        let barred = self.barred.as_slice();
-        Ok(self.search.proofs.add(settled, made, reached, barred)?)
+    fn add(&mut self, visit: Visit, reached: Option<u64>) -> Result<u32, AllocError> {
+        let settled = Settled::expanded(visit.state.key, visit.winner, visit.form);
+        let made = part_from(self.made.as_slice(), visit.made);
+        let barred = self.search.barred.as_slice();
+        self.search.proofs.add(settled, made, reached, barred)
     }
 
     /// Searches the last state for a few steps, when the rule has no turn, and makes the attacker's proof that is found.

@@ -4,7 +4,7 @@ use crate::numbers::Count;
 use go_points::Colour;
 use local_board::{Position, Step};
 use pn_table::Key;
-use state_proofs::{MoverNumbers, Thresholds};
+use state_proofs::{MoverNumbers, Thresholds, key_after_move, key_after_pass};
 
 /// A state: the places of its stones, and its key.
 #[derive(Clone, Copy)]
@@ -99,29 +99,11 @@ pub(crate) fn standing_of(children: &[Child]) -> Standing {
     }
 }
 
-/// The key of a state after a pass.
-pub(crate) fn after_pass(key: Key) -> Key {
-    Key {
-        position: key.position,
-        mover: key.mover.opponent(),
-        passes: key.passes.saturating_add(1),
-    }
-}
-
-/// The key of a state after a move to this position.
-pub(crate) fn after_move(key: Key, position: u64) -> Key {
-    Key {
-        position,
-        mover: key.mover.opponent(),
-        passes: 0,
-    }
-}
-
 /// The key of a state after this turn, which leads to this position.
 pub(crate) fn after_step(key: Key, step: Step, position: u64) -> Key {
     match step {
-        Step::Pass => after_pass(key),
-        Step::At(_) => after_move(key, position),
+        Step::Pass => key_after_pass(key),
+        Step::At(_) => key_after_move(key, position),
     }
 }
 

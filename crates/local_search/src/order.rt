@@ -8,7 +8,7 @@ use crate::frame::State;
 use crate::search::Search;
 use crate::smaller::Smaller;
 use local_board::{Side, Step};
-use state_proofs::{Answers, Below, Proofs, Refusal, Shared, Stop, steps_for_smaller};
+use state_proofs::{Answers, Proofs, Refusal, Shared, Stop, steps_for_smaller};
 use std::alloc::{AllocError, Global};
 use std::mem;
 use std::num::NonZeroUsize;
@@ -130,7 +130,7 @@ impl Proving {
     }
 
     fn turns_of(&self, number: u32) -> u64 {
-        self.finish.search.proofs.turns_below(Below::Proof(number))
+        self.finish.search.proofs.turns_of(number)
     }
 
     /// A smaller proof than this one, if the steps that may be made find one.

@@ -3,9 +3,10 @@
 //! A question makes no state and is not a step. What is answered by shape is played out at the end, and a wrong guess costs steps
 //! but never gives a wrong answer.
 
-use crate::frame::{Reason, State, after_move};
+use crate::frame::{Reason, State};
 use crate::search::Search;
 use local_board::{PlaceSet, Position, Room, Side, Step};
+use state_proofs::key_after_move;
 
 /// A state that is expanded, and the questions that are asked once for all its children.
 #[derive(Clone, Copy)]
@@ -172,7 +173,7 @@ impl Search {
             .key_from(state.position, state.key.position, position);
         State {
             position,
-            key: after_move(state.key, number),
+            key: key_after_move(state.key, number),
         }
     }
 

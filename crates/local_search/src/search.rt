@@ -18,7 +18,7 @@ use go_points::Colour;
 use local_board::{Board, Position, Shapes, Side, Step};
 use pn_table::{Key, Numbers, Table};
 use state_proofs::{
-    Branch, Form, MAX_LINE, Marks, MoverNumbers, Past, Proofs, Refusal, Stop, Thresholds,
+    Branch, Form, MAX_LINE, Marks, MoverNumbers, Past, Proofs, Refusal, Stop, Thresholds, part_from,
 };
 use std::alloc::{AllocError, Global};
 use std::num::NonZeroUsize;
@@ -74,7 +74,7 @@ impl Search {
         let search = Search {
             shapes: Shapes::of(alloc, board),
             proofs: Proofs::new(alloc),
-            past: past_of(alloc, problem)?,
+            past: Past::of(alloc, problem)?,
             turns: 0,
             attacker: problem.defender().opponent(),
             steps: Steps { left, floor: 0 },
@@ -209,11 +209,7 @@ impl Search {
 
     /// The children of the frame, which is the last.
     pub(crate) fn children_of(&self, frame: Frame) -> &[Child] {
-        if frame.first <= self.children.len() {
-            &self.children[frame.first..]
-        } else {
-            &self.children[..0]
-        }
+        part_from(self.children.as_slice(), frame.first)
     }
 
     /// Settles the last frame, leaves it, or goes down from it. Returns the proof of the first state if that is settled.
@@ -319,15 +315,6 @@ impl Search {
         self.go(step, child.key.position)?;
         self.expand(below, step, count.thresholds_below(frame.thresholds))
     }
-}
-
-/// What has occurred before the problem.
-fn past_of(alloc: Global, problem: &Problem) -> Result<Past, AllocError> {
-    let mut past = Past::new(alloc);
-    for colouring in problem.history() {
-        past.add(key_of(colouring))?;
-    }
-    Ok(past)
 }
 
 /// The state of the problem.

@@ -45,13 +45,10 @@ impl Search {
                 self.list_barred(frame.state)?;
             }
         }
-        let settled = Settled {
-            key: frame.state.key,
-            winner,
-            form,
-            is_expanded: true,
-        };
-        Ok(self.add_proof(settled, reached)?)
+        let settled = Settled::expanded(frame.state.key, winner, form);
+        let branches = self.branches.as_slice();
+        let barred = self.barred.as_slice();
+        Ok(self.proofs.add(settled, branches, reached, barred)?)
     }
 
     /// Adds the branch to a settled child of the state.
@@ -90,19 +87,6 @@ impl Search {
             }
         }
         Ok(())
-    }
-
-    pub(crate) fn add_proof(
-        &mut self,
-        settled: Settled,
-        reached: Option<u64>,
-    ) -> Result<u32, AllocError> {
-        self.proofs.add(
-            settled,
-            self.branches.as_slice(),
-            reached,
-            self.barred.as_slice(),
-        )
     }
 
     /// The proof of a state one turn after the end of the line that a question has settled. Its state has not been expanded.
@@ -228,7 +212,7 @@ fn cost(child: Child, reason: Reason, proofs: &Proofs, has_leaves: bool) -> u64 
         Reason::Over => 1,
         Reason::Alive if has_leaves => 2,
         Reason::Passes | Reason::Takes => 3,
-        Reason::Proof(number) => proofs.turns_below(Below::Proof(number)).saturating_add(2),
+        Reason::Proof(number) => proofs.turns_of(number).saturating_add(2),
         _ => 1_000,
     }
 }

@@ -2,8 +2,9 @@
 
 use crate::expanding::step_at;
 use crate::finish::Finish;
-use crate::frame::{State, after_move, after_step};
+use crate::frame::State;
 use local_board::{PlaceSet, Room, Side, Step};
+use state_proofs::key_after_move;
 
 /// A number that grows by this much for each point of room, and where it stops.
 #[derive(Clone, Copy)]
@@ -98,9 +99,10 @@ impl Finish {
     /// Whether the state after the side's move at this place has no proof yet.
     fn is_new_after(&self, state: State, side: Side, place: usize, plain: PlaceSet) -> bool {
         let board = &self.search.shapes.board;
+        let proofs = &self.search.proofs;
         let key = state.key.position;
         match board.played_key(state.position, key, side, place, plain) {
-            Some(position) => !self.search.proofs.knows(after_move(state.key, position)),
+            Some(position) => !proofs.knows(key_after_move(state.key, position)),
             None => false,
         }
     }
@@ -139,10 +141,7 @@ impl Finish {
         if side == Side::Attacker || state.key.passes > 0 {
             return best;
         }
-        let after = State {
-            position: state.position,
-            key: after_step(state.key, Step::Pass, state.key.position),
-        };
+        let after = self.search.after(state, Step::Pass);
         match self.known_proof(state, after) {
             Some((number, turns)) if turns < least => Some((Step::Pass, number)),
             _ => best,

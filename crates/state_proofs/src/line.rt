@@ -6,7 +6,6 @@ use crate::refusal::Refusal;
 use go_points::Turn;
 use pn_table::Key;
 use std::alloc::{AllocError, Global};
-use stone_key::key_of;
 use target_game::Problem;
 
 /// What taking back a turn of the line restores.
@@ -29,10 +28,7 @@ pub struct Line {
 impl Line {
     /// The line without turns.
     pub fn of(alloc: Global, problem: &Problem) -> Result<Line, AllocError> {
-        let mut past = Past::new(alloc);
-        for colouring in problem.history() {
-            past.add(key_of(colouring))?;
-        }
+        let past = Past::of(alloc, problem)?;
         let play = Play::of(alloc, problem)?;
         let end = play.key();
         Ok(Line {
@@ -110,17 +106,5 @@ impl Line {
 
     pub fn play(&self) -> &Play {
         &self.play
-    }
-}
-
-/// The key of the state after a turn at this one.
-pub fn key_after(key: Key, turn: Turn, position: u64) -> Key {
-    Key {
-        position,
-        mover: key.mover.opponent(),
-        passes: match turn {
-            Turn::Pass => key.passes.saturating_add(1),
-            Turn::At(_) => 0,
-        },
     }
 }

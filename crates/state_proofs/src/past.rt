@@ -2,6 +2,8 @@
 
 use indexmap::IndexSet;
 use std::alloc::{AllocError, Global};
+use stone_key::key_of;
+use target_game::Problem;
 
 /// How many groups of positions are counted.
 const GROUPS: usize = 1024;
@@ -20,6 +22,16 @@ fn group_of(position: u64) -> usize {
 }
 
 impl Past {
+    /// What has occurred before the problem.
+    pub fn of(alloc: Global, problem: &Problem) -> Result<Past, AllocError> {
+        let mut past = Past::new(alloc);
+        for colouring in problem.history() {
+            past.add(key_of(colouring))?;
+        }
+        Ok(past)
+    }
+
+    /// No positions.
     pub fn new(alloc: Global) -> Past {
         Past {
             positions: IndexSet::new(alloc),

@@ -208,6 +208,16 @@ fn move_at(state: &PlayState, point: Point) -> Move
     }
 }
 
+/// Adds the positions after those of the moves that are barred.
+pub fn list_barred(moves: &[Move], barred: &mut Vec<u64>) -> Result<(), AllocError> {
+    for played in moves {
+        if played.is_barred {
+            barred.push(played.position)?;
+        }
+    }
+    Ok(())
+}
+
 /// The move of this turn. `None` if it is a pass.
 pub fn move_of(moves: &[Move], turn: Turn) -> Option<Move> {
     let Turn::At(point) = turn else {

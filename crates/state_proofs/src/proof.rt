@@ -144,12 +144,7 @@ impl Proof {
 
     /// What it settles, for another proof of the same state, which was expanded.
     pub fn settled(self) -> Settled {
-        Settled {
-            key: self.key,
-            winner: self.winner,
-            form: self.form,
-            is_expanded: true,
-        }
+        Settled::expanded(self.key, self.winner, self.form)
     }
 }
 
@@ -161,6 +156,18 @@ pub struct Settled {
     pub form: Form,
     /// Whether the state was expanded.
     pub is_expanded: bool,
+}
+
+impl Settled {
+    /// A state that was expanded.
+    pub fn expanded(key: Key, winner: Colour, form: Form) -> Settled {
+        Settled {
+            key,
+            winner,
+            form,
+            is_expanded: true,
+        }
+    }
 }
 
 /// How large the tree of a proof is.

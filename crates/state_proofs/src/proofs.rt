@@ -66,10 +66,15 @@ impl Proofs {
     pub fn turns_below(&self, below: Below) -> u64 {
         match below {
             Below::Won => 0,
-            Below::Proof(number) => match self.get(number) {
-                Some(proof) => proof.turns,
-                None => 0,
-            },
+            Below::Proof(number) => self.turns_of(number),
+        }
+    }
+
+    /// The turns of the proof with this number.
+    pub fn turns_of(&self, number: u32) -> u64 {
+        match self.get(number) {
+            Some(proof) => proof.turns,
+            None => 0,
         }
     }
 
@@ -296,6 +301,15 @@ pub(crate) fn number_of(place: usize) -> Result<u32, AllocError> {
     match u32::try_from(place) {
         Ok(number) => Ok(number),
         Err(_) => Err(AllocError),
+    }
+}
+
+/// The part of the list from this place on.
+pub fn part_from<T>(all: &[T], from: usize) -> &[T] {
+    if from <= all.len() {
+        &all[from..]
+    } else {
+        &all[..0]
     }
 }
 

@@ -4,9 +4,9 @@
 //! a new one. Each new proof has the conditions of the place where it is made.
 
 use crate::line::Line;
-use crate::play::{Move, move_of};
+use crate::play::{Move, list_barred, move_of};
 use crate::proof::{Below, Branch, Form, Proof, Settled};
-use crate::proofs::Proofs;
+use crate::proofs::{Proofs, part_from};
 use crate::refusal::Refusal;
 use crate::shared::Shared;
 use go_points::Turn;
@@ -107,12 +107,7 @@ impl Sharing {
         };
         self.line.list_moves(&mut self.moves)?;
         let visit = Visit {
-            settled: Settled {
-                key: self.line.end(),
-                winner: proof.winner,
-                form: proof.form,
-                is_expanded: true,
-            },
+            settled: Settled::expanded(self.line.end(), proof.winner, proof.form),
             reached: None,
             next: self.due.len(),
             due: self.due.len(),
@@ -123,7 +118,7 @@ impl Sharing {
             Form::Turn => self.list_turn(proof)?,
             Form::Replies => {
                 self.list_replies(proof)?;
-                self.list_barred()?;
+                list_barred(self.moves.as_slice(), &mut self.barred)?;
                 None
             }
             Form::Alive => None,
@@ -153,17 +148,6 @@ impl Sharing {
                 if !is_barred(self.moves.as_slice(), branch.turn) {
                     self.due.push(branch)?;
                 }
-            }
-        }
-        Ok(())
-    }
-
-    /// Lists the positions that are barred here.
-    fn list_barred(&mut self) -> Result<(), AllocError> {
-        for place in 0..self.moves.len() {
-            let played = self.moves[place];
-            if played.is_barred {
-                self.barred.push(played.position)?;
             }
         }
         Ok(())
@@ -224,17 +208,14 @@ impl Sharing {
     }
 
     fn add(&mut self, visit: Visit) -> Result<u32, AllocError> {
-        if visit.made > self.made.len() || visit.barred > self.barred.len() {
-            return Err(AllocError);
-        }
         if visit.settled.form == Form::Alive {
             return self.shared.add_leaf(visit.settled);
         }
         self.shared.add(
             visit.settled,
-            &self.made[visit.made..],
+            part_from(self.made.as_slice(), visit.made),
             visit.reached,
-            &self.barred[visit.barred..],
+            part_from(self.barred.as_slice(), visit.barred),
         )
     }
 }

@@ -77,10 +77,7 @@ impl Proving {
             Answers::First | Answers::Short => first,
             Answers::Small => {
                 let used = before.saturating_sub(self.finish.search.steps.left);
-                let floor = self.finish.search.steps.begin(steps_for_smaller(used));
-                let best = self.smaller(alloc, first);
-                self.finish.search.steps.end(floor);
-                best
+                self.small(alloc, first, used)?
             }
         };
         let Some(proof) = self.finish.search.proofs.get(best) else {
@@ -127,6 +124,18 @@ impl Proving {
             return Ok(search.proof_by_shape(start, Side::Defender)?);
         }
         search.settle(start, Step::Pass)
+    }
+
+    /// A small answer, with some more steps than the first answer took. If that one is too large for a claim, it stays as it is: its
+    /// tree might become smaller, but hardly the number of its states.
+    fn small(&mut self, alloc: Global, first: u32, used: u64) -> Result<u32, Stop> {
+        if self.finish.search.proofs.is_too_large(alloc, first)? {
+            return Ok(first);
+        }
+        let floor = self.finish.search.steps.begin(steps_for_smaller(used));
+        let best = self.smaller(alloc, first);
+        self.finish.search.steps.end(floor);
+        Ok(best)
     }
 
     fn turns_of(&self, number: u32) -> u64 {

@@ -37,4 +37,5 @@ pub use refusal::Refusal;
 pub use shared::Shared;
 pub use sharing::share;
 pub use stop::Stop;
+pub use used::MAX_STATES;
 pub use visits::{MAX_TRIED, Visit, Visits};

@@ -267,9 +267,10 @@ impl Proofs {
         Ok(())
     }
 
-    /// Makes all proofs findable.
+    /// Makes all proofs findable, with no more memory than that needs.
     pub(crate) fn show_all(&mut self) -> Result<(), AllocError> {
         self.hide_all();
+        self.latest.shrink_to_fit();
         for place in 0..self.proofs.len() {
             self.show(place)?;
         }

@@ -5,6 +5,9 @@ use crate::proofs::{Proofs, number_of};
 use crate::refusal::Refusal;
 use std::alloc::{AllocError, Global};
 
+/// The greatest number of states of an answer from which a claim is made: the claim of a larger one passes a limit.
+pub const MAX_STATES: usize = 130_000;
+
 /// The numbers that proofs get when those that are not used are left out.
 #[derive(Drop)]
 struct Numbers {
@@ -30,6 +33,13 @@ impl Numbers {
         })
     }
 
+    /// The numbers of the proofs, of which those are used that this one uses.
+    fn below(alloc: Global, proofs: &Proofs, root: u32) -> Result<Numbers, AllocError> {
+        let mut numbers = Numbers::of(alloc, proofs.len())?;
+        numbers.mark_below(proofs, root as usize);
+        Ok(numbers)
+    }
+
     fn uses(&self, place: usize) -> bool {
         self.is_used.get(place).copied() == Some(true)
     }
@@ -38,6 +48,14 @@ impl Numbers {
         if place < self.is_used.len() {
             self.is_used[place] = true;
         }
+    }
+
+    fn count_used(&self) -> usize {
+        let mut count: usize = 0;
+        for is_used in self.is_used.as_slice() {
+            count = count.saturating_add(*is_used as usize);
+        }
+        count
     }
 
     /// Marks what the marked proofs up to the root use. A proof uses only lower ones.
@@ -106,14 +124,21 @@ impl Numbers {
 }
 
 impl Proofs {
-    /// Leaves out all proofs that this one does not use, and returns its new number: it is the last. All that are left can be found.
-    /// The time is linear in the number of all proofs. After a refusal the proofs are of no use.
+    /// Whether this proof has too many states for a claim to be made of it. The time is linear in the number of all proofs.
+    pub fn is_too_large(&self, alloc: Global, root: u32) -> Result<bool, AllocError> {
+        if self.get(root).is_none() {
+            return Ok(false);
+        }
+        Ok(Numbers::below(alloc, self, root)?.count_used() > MAX_STATES)
+    }
+
+    /// Leaves out all proofs that this one does not use, with their memory, and returns its new number: it is the last. All that are
+    /// left can be found. The time is linear in the number of all proofs. After a refusal the proofs are of no use.
     pub fn keep_used(&mut self, alloc: Global, root: u32) -> Result<u32, Refusal> {
         if root as usize >= self.len() {
             return Err(Refusal::Fault);
         }
-        let mut numbers = Numbers::of(alloc, self.len())?;
-        numbers.mark_below(self, root as usize);
+        let mut numbers = Numbers::below(alloc, self, root)?;
         for place in 0..=(root as usize) {
             if numbers.uses(place) {
                 numbers.move_down(self, place)?;
@@ -121,6 +146,8 @@ impl Proofs {
         }
         self.proofs.truncate(numbers.proofs);
         self.branches.truncate(numbers.branches);
+        self.proofs.shrink_to_fit();
+        self.branches.shrink_to_fit();
         self.show_all()?;
         Ok(numbers.new_number(root))
     }

@@ -1,9 +1,12 @@
 -- Full search depth by depth.
-use Rattle.full_search.proofs.Common.{◌≡◌, ℕ, ◌+◌, ◌-◌, ◌*◌, ◌/◌, ◌<◌, ◌≤◌, ◌⊎◌, inl, inr, false, IsTrue, arith, Colour, GameState, wins, nodes, Node, node_count, rest, NeitherWins}
+use Rattle.full_search.proofs.Common.{◌≡◌, ℕ, ◌+◌, ◌-◌, ◌*◌, ◌/◌, ◌<◌, ◌≤◌, ◌⊎◌, inl, inr, false, None, IsTrue, ap, ◌∙◌, arith, opponent_of, Colour, GameState, start, over, wins, nodes, Node, node_count, rest, NeitherWins}
+use Rattle.std.proofs.Common.{Some, nat_eq, ne_eqb, ap₂, if◌then◌else◌}
 use Rattle.std.proofs.Math.Nat.{mul-le-mul, mul-le-mul_left, lt-mul-div-succ}
+use Rattle.target_game.specs.State.{GameProblem}
+use Rattle.target_game.specs.Laws.{IsProblem}
 use Rattle.proof_cert.specs.Claim.{max_nodes}
 use Rattle.full_search.specs.Decided.{NoneWithin, IsFirst}
-use Rattle.full_search.proofs.Showing.{nodes_within}
+use Rattle.full_search.proofs.Showing.{nodes_within, nodes_first, open_last}
 
 -- neither side wins within less than k turns, and each depth had no more steps than its tree has states
 pub record Undecided (s : GameState) (k steps left : ℕ) : Type 0 where
@@ -61,3 +64,56 @@ none_within_large x s n steps h few large y j low w =
     let b = nodes_within s h.turns j le in
     let c : 1 * nodes s j ≤ (j + 1) * nodes s j = mul-le-mul (omega arith) (omega arith) in
     omega arith
+
+-- with two steps or more, none is made within 0 turns, and one is within 1
+pub record Begun (k steps left : ℕ) : Type 0 where
+  pub first : k ≤ 1 → steps ≤ left + k
+  pub later : 2 ≤ k → 2 ≤ steps → left < steps
+
+pub begun_after : (k steps left now room : ℕ) → Begun k steps left → left ≤ steps → now ≤ left → room ≡ steps / (k + 1) → (1 ≤ k → 1 ≤ rest left room → now < left) → 1 ≤ k → 2 ≤ steps → now < steps
+begun_after k steps left now room h fewer less is made some two =
+    let split : (k ≡ 1) ⊎ (2 ≤ k) = grind (arith, some) in
+    elim split [
+      | inl one ↦
+          let first = h.first (omega (arith, one)) in
+          let at : room ≡ steps / (1 + 1) = is ∙ ap (λ (j : ℕ). steps / (j + 1)) one in
+          let half : 1 ≤ room = omega (arith, at, two) in
+          let low : 1 ≤ rest left room = omega (arith, first, one, two, half) in
+          let a = made some low in
+          omega (arith, a, fewer)
+      | inr more ↦ let a = h.later more two in omega (arith, a, less)
+    ]
+
+pub begun_more : (s : GameState) (k steps left now room : ℕ) → Begun k steps left → left ≤ steps → now ≤ left → left ≤ now + nodes s k → room ≡ steps / (k + 1) → (1 ≤ k → 1 ≤ rest left room → now < left) → Begun (k + 1) steps now
+begun_more s k steps left now room h fewer less steps_made is made = record {
+  first = λ low.
+      let zero_turns : k ≡ 0 = omega (arith, low) in
+      let a = h.first (omega (arith, zero_turns)) in
+      let b : nodes s k ≡ 1 = ap (nodes s) zero_turns ∙ nodes_first s in
+      omega (arith, a, b, steps_made, zero_turns);
+  later = λ high two. begun_after k steps left now room h fewer less is made (omega (arith, high)) two;
+}
+
+-- nobody has won where a problem starts
+pub starts_open : (q : GameProblem) → IsProblem q → over (start q) ≡ None
+starts_open q h =
+    let few : nat_eq q.passes 2 ≡ false = ne_eqb q.passes 2 (λ e. omega (arith, e, h.passes)) in
+    ap₂ (λ b c. if b then (if c then Some q.game.defender else None) else Some (opponent_of q.game.defender)) h.stones few
+
+-- a win is not found within 0 turns, nor are steps or room missed there
+pub won_later : (x : Colour) (s : GameState) (k : ℕ) → over s ≡ None → IsTrue (wins x s k) → 1 ≤ k
+won_later x s k nobody w =
+    let split : (k ≡ 0) ⊎ (1 ≤ k) = grind arith in
+    elim split [ inl e ↦ absurd (cc (open_last s nobody x, ap (wins x s) e, w)) | inr some ↦ some ]
+
+pub out_later : (s : GameState) (k steps left room : ℕ) → Begun k steps left → room ≡ steps / (k + 1) → rest left room < nodes s k → 2 ≤ steps → 1 ≤ k
+out_later s k steps left room h is out two =
+    let split : (k ≡ 0) ⊎ (1 ≤ k) = grind arith in
+    elim split [
+      | inl e ↦
+          let one : nodes s k ≡ 1 = ap (nodes s) e ∙ nodes_first s in
+          let first = h.first (omega (arith, e)) in
+          let at : room ≡ steps / (0 + 1) = is ∙ ap (λ (j : ℕ). steps / (j + 1)) e in
+          absurd (omega (arith, one, first, at, out, two, e))
+      | inr some ↦ some
+    ]

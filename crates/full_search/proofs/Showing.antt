@@ -31,7 +31,7 @@ use Rattle.full_search.specs.Private.Shown.{AllShow, AreSeen, IsWonBy}
 
 -- THE NUMBER OF STATES
 
-nodes_first : (s : GameState) → nodes s 0 ≡ 1
+pub nodes_first : (s : GameState) → nodes s 0 ≡ 1
 unfolding nodes
 nodes_first s = refl
 

@@ -3,7 +3,7 @@
 //! One pass over the states finds who wins and keeps the tree that shows it. It holds one path of play with the replies that were
 //! answered on it. A win within a few turns, in a small tree of play, is found whatever the search by proof numbers would do.
 
-ghost use Rattle.std.specs.Prelude.{◌≡◌, ◌+◌, ◌≤◌, ◌&&◌, ◌-◌, ℕ, nat_eq, IsTrue, OnOk, IfOk, None};
+ghost use Rattle.std.specs.Prelude.{◌≡◌, ◌+◌, ◌≤◌, ◌<◌, ◌&&◌, ◌-◌, ℕ, nat_eq, IsTrue, OnOk, IfOk, None};
 ghost use Rattle.go_points.specs.Grid.{same_colour};
 ghost use Rattle.go_points.specs.Ply.{ply_of, pass};
 ghost use Rattle.target_game.specs.State.{GameState, start};
@@ -18,6 +18,9 @@ use go_points::{Colour, Turn};
 use proof_cert::Node;
 use std::alloc::{AllocError, Global};
 use target_game::{PlayState, Problem, TurnsLeft};
+
+/// The greatest number of turns within which a win is searched for.
+const MAX_TURNS: u32 = 200;
 
 /// What full search of a state found.
 #[derive(Drop)]
@@ -45,8 +48,8 @@ pub(crate) struct Tried {
 /// All legal play is searched within 0, 1, 2 and so on turns, starting again for each number. A step is one expansion, which tries
 /// all turns of a state; `floor` steps are left alone, and `left` falls by the steps that were made. The search within k turns ends
 /// as soon as k + 1 times the number of states that it has met is more than the steps: from there on no win is promised to be
-/// found. If memory is refused, some steps are gone, and nothing more is promised. One path of play and the tree that is found are
-/// held in memory.
+/// found. With two steps or more at least one is made. If memory is refused, some steps are gone, and nothing more is promised. One
+/// path of play and the tree that is found are held in memory.
 pub fn first_win(
     alloc: Global,
     problem: &Problem,
@@ -56,6 +59,7 @@ pub fn first_win(
     requires { floor ≤ left.old }
     ensures fewer { left.new ≤ left.old }
     ensures floor { floor ≤ left.new }
+    ensures begun { OnOk result (2 ≤ left.old - floor → left.new < left.old) }
     ensures decided { IfOk result (λ r. IsDecided (start problem.now) (left.old - floor) r) }
 {
     let mut own = *left - floor;
@@ -71,11 +75,14 @@ fn search_depths(
     left: &mut u64,
 ) -> Result<Option<(Colour, Node)>, AllocError>
     ensures fewer { left.new ≤ left.old }
+    ensures begun { OnOk result (2 ≤ left.old → left.new < left.old) }
     ensures decided { IfOk result (λ r. IsDecided (start problem.now) left.old r) }
 {
+    // For the proof: nobody has won where a problem starts.
+    prove!(problem.place() < problem.history().len());
     let mut state = PlayState::of(alloc, problem)?;
     let steps = *left;
-    for turns in 0..201u32 {
+    for turns in 0..MAX_TURNS + 1 {
         let mut room = steps / (turns as u64 + 1);
         match search_state(alloc, &mut state, turns, left, &mut room)? {
             Found::Wins(winner, tree) => return Ok(Some((winner, tree))),
@@ -102,6 +109,9 @@ fn search_state(
     ensures steps { OnOk result (left.old ≤ left.new + nodes state.old.state turns) }
     ensures met { OnOk result
         (rest left.old room.old ≤ rest left.new room.new + nodes state.old.state turns) }
+    ensures begun { OnOk result
+        (over state.old.state ≡ None → 1 ≤ turns → 1 ≤ rest left.old room.old
+        → left.new < left.old) }
     ensures found { IfOk result (λ f. IsFound state.old.state turns (rest left.old room.old) f) }
 {
     if let Some(winner) = state.over() {

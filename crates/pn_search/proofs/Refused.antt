@@ -34,3 +34,10 @@ pub steps_above_floor : (budget : ℕ) → budget - (budget - full_steps budget)
 steps_above_floor budget =
     let a : full_steps budget ≤ budget / 10 = min-le_left (budget / 10) 10000000 in
     omega (arith, a)
+
+-- full search has two steps or more if the budget has twenty
+pub begun_above_floor : (left full budget : ℕ) → left ≡ budget → full ≡ full_steps budget → 20 ≤ budget → 2 ≤ left - (left - full)
+begun_above_floor left full budget all is many =
+    let tenth : 2 ≤ full_steps budget = grind (arith, many) in
+    let most : full_steps budget ≤ budget / 10 = min-le_left (budget / 10) 10000000 in
+    omega (arith, all, is, tenth, most)

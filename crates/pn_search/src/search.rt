@@ -1,6 +1,6 @@
 //! The search for a checked claim.
 
-ghost use Rattle.std.specs.Prelude.{◌≡◌, ◌≢◌, ◌≤◌, IfOk, IfErr};
+ghost use Rattle.std.specs.Prelude.{◌≡◌, ◌≢◌, ◌≤◌, ◌<◌, IfOk, IfErr};
 ghost use Rattle.pn_search.specs.Search.{IfWins, IfUnknown, IsHard, cause_told, full_steps};
 ghost use Rattle.pn_search.specs.Private.Confirmable.{IsConfirmable};
 ghost use Rattle.state_proofs.specs.declared.stop.Stop.TheVariants as stops;
@@ -13,18 +13,18 @@ use full_search::first_win;
 use go_points::{Colour, MAX_SIZE};
 use local_board::{MAX_PLACES, count_changing};
 use proof_cert::{Certificate, Node, Version};
-use state_proofs::{Answers, Refusal, Shared, Stop};
+use state_proofs::{Answers, MAX_STATES, Refusal, Shared, Stop};
 use std::alloc::Global;
 use target_game::Problem;
 
 /// The greatest number of steps of full search.
 const MAX_FULL_STEPS: u64 = 10_000_000;
 
-/// The greatest number of states of an answer from which a claim is made: the claim of a larger one passes a limit.
-pub(crate) const MAX_STATES: usize = 130_000;
-
 /// How many sizes of lemmas are tried, from the least on.
 const LEMMA_SIZES: u32 = 4;
+
+/// Each size of lemmas that is tried is so many times the one before.
+const SIZE_STEP: u64 = 16;
 
 /// A checked claim, or why there is none, with the problem handed back.
 type Found = Result<Checked, (Problem, Cause)>;
@@ -39,6 +39,8 @@ pub fn solve(alloc: Global, problem: Problem, budget: Budget) -> Verdict
     ensures kept { IfUnknown result (λ rest cause steps. rest ≡ problem) }
     ensures most { IfUnknown result (λ rest cause steps. steps ≤ budget.steps) }
     ensures all { IfUnknown result (λ rest cause steps. cause ≡ Steps → steps ≡ budget.steps) }
+    ensures begun { IfUnknown result (λ rest cause steps. cause ≢ Memory
+        → 20 ≤ budget.steps → 1 ≤ steps) }
     ensures hard { IfUnknown result (λ rest cause steps. cause ≢ Memory
         → IsHard problem budget.steps) }
 {
@@ -52,6 +54,8 @@ pub fn solve_for(alloc: Global, problem: Problem, budget: Budget, answers: Answe
     ensures kept { IfUnknown result (λ rest cause steps. rest ≡ problem) }
     ensures most { IfUnknown result (λ rest cause steps. steps ≤ budget.steps) }
     ensures all { IfUnknown result (λ rest cause steps. cause ≡ Steps → steps ≡ budget.steps) }
+    ensures begun { IfUnknown result (λ rest cause steps. cause ≢ Memory
+        → 20 ≤ budget.steps → 1 ≤ steps) }
     ensures hard { IfUnknown result (λ rest cause steps. cause ≢ Memory
         → IsHard problem budget.steps) }
 {
@@ -86,6 +90,7 @@ fn searched(
     ensures err { IfErr result (λ r. r.0 ≡ problem) }
     ensures fewer { left.new ≤ left.old }
     ensures all { IfErr result (λ r. r.1 ≡ Steps → left.new ≡ 0) }
+    ensures begun { IfErr result (λ r. r.1 ≢ Memory → 20 ≤ budget.steps → left.new < left.old) }
     ensures hard { IfErr result (λ r. r.1 ≢ Memory → IsHard problem budget.steps) }
 {
     let floor = *left - steps_of_full_search(budget.steps);
@@ -254,11 +259,7 @@ fn confirmed_in_sizes(
 
 /// The next size of lemmas that is tried.
 fn larger(least: u64) -> u64 {
-    if least == 0 {
-        16
-    } else {
-        least.saturating_mul(16)
-    }
+    least.max(1).saturating_mul(SIZE_STEP)
 }
 
 /// The claim of the proofs without lemmas.

@@ -5,14 +5,14 @@
 ghost use Rattle.std.specs.Prelude.{◌≡◌, ◌≢◌, ◌≤◌, IfErr};
 ghost use Rattle.pn_search.specs.declared.verdict.Cause.TheVariants.{Steps, Memory};
 
-use crate::search::{MAX_STATES, cause_of_refusal, cause_of_stop, proofs_of, steps_of_full_search};
+use crate::search::{cause_of_refusal, cause_of_stop, proofs_of, steps_of_full_search};
 use crate::verdict::{Budget, Cause};
 use claim_maker::{Choice, Pasts, claim_with_lemmas, claim_without_lemmas};
 use full_search::first_win;
 use go_points::Colour;
 use local_board::{MAX_PLACES, count_changing};
 use proof_cert::{Certificate, Node, Version};
-use state_proofs::{Answers, Refusal, Shared};
+use state_proofs::{Answers, MAX_STATES, Refusal, Shared};
 use std::alloc::Global;
 use target_game::Problem;
 

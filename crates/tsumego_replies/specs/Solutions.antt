@@ -92,10 +92,11 @@ MayAnswer false lift k status text =
 MayAnswer true lift k status text = (status ≡ Answered) × IsProofBy lift k.problem (claim_of k.certificate) text
 
 -- A search with this budget may end for this cause after this many steps: no more than it had, and all of them if they are the
--- cause. Unless the cause is memory, the problem is hard.
+-- cause. Unless the cause is memory, the problem is hard, and of a budget of twenty steps or more at least one was made.
 pub record MayBeUnknown (q : GameProblem) (budget : ℕ) (cause : Cause) (count : ℕ) : Type 0 where
   pub most : count ≤ budget
   pub all : cause ≡ Steps → count ≡ budget
+  pub begun : cause ≢ Memory → 20 ≤ budget → 1 ≤ count
   pub hard : cause ≢ Memory → IsHard q budget
 
 abbrev pub Unsolved : ℕ → Bool → GameProblem → List ℕ → Type 0

@@ -1,4 +1,4 @@
-use Rattle.full_search.proofs.Common.{◌≡◌, ◌≤◌, ◌+◌, ◌-◌, ℕ, false, None, OnOk, refl, ◌∷◌, sym, ap, ◌∙◌, subst, arith, ply_of, Line, legal_turns, next, over, nodes, turns_due, node_of_won, Node, Tried, Shows, rest, IsFound, IsTurnSeen, nodes_behind}
+use Rattle.full_search.proofs.Common.{◌≡◌, ◌≤◌, ◌<◌, ◌+◌, ◌-◌, ℕ, false, None, OnOk, refl, ◌∷◌, sym, ap, ◌∙◌, subst, arith, ply_of, Line, legal_turns, next, over, nodes, turns_due, node_of_won, Node, Tried, Shows, rest, IsFound, IsTurnSeen, nodes_behind}
 use Rattle.std.proofs.Common.{IfOk}
 use Rattle.target_game.proofs.Due.{turns_begun as due_begun}
 use Rattle.target_game.proofs.Tallies.{if_ok_map}
@@ -72,6 +72,21 @@ search_state-returns-clause-met t c =
     let one : rest c.args.left.now c.args.room.now ≡ rest (c.args.left.now - 1) (c.args.room.now - 1) + 1 = omega (arith, c.if-left-eq0.false, c.if-room-eq0.false) in
     on_ok_map c.search_turns.result _ _ (λ h. omega (arith, h, all, one))
     (subst (λ (v : Line). OnOk c.search_turns.result (rest (c.args.left.now - 1) (c.args.room.now - 1) ≤ rest c.search_turns.new.left c.search_turns.new.room + nodes_behind v.state (c.args.turns - 1) (legal_turns v.state))) c.in_ok-pass_wins.ensures.state c.search_turns.ensures.met)
+
+pub search_state-returns-in-Some-clause-begun : goal.search_state-returns-in-Some-clause-begun
+search_state-returns-in-Some-clause-begun t c = λ nobody. absurd (cc (c.over.ensures, c.in-Some.is, nobody))
+
+pub search_state-returns-then-branch-clause-begun : goal.search_state-returns-then-branch-clause-begun
+search_state-returns-then-branch-clause-begun t c =
+    let s = c.args.state.now.state in
+    on_ok_any c.won_by.result (over s ≡ None → 1 ≤ c.args.turns → 1 ≤ rest c.args.left.now c.args.room.now → c.args.left.now - 1 < c.args.left.now)
+    (λ nobody some low. omega (arith, c.if-left-eq0.false))
+
+pub search_state-returns-clause-begun : goal.search_state-returns-clause-begun
+search_state-returns-clause-begun t c =
+    let s = c.args.state.now.state in
+    on_ok_any c.search_turns.result (over s ≡ None → 1 ≤ c.args.turns → 1 ≤ rest c.args.left.now c.args.room.now → c.search_turns.new.left < c.args.left.now)
+    (λ nobody some low. omega (arith, c.if-left-eq0.false, c.search_turns.ensures.fewer))
 
 pub search_state-returns-clause-found : goal.search_state-returns-clause-found
 search_state-returns-clause-found t c =

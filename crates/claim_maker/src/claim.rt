@@ -1,21 +1,12 @@
-//! The claim of shared proofs: lemmas for the states that occur at several places, and the main tree.
+//! The claim of shared proofs: lemmas for proofs that are used several times, and the main tree.
 
-use crate::claim_size::{NodeCount, may_fit};
+use crate::lemma_choice::{LemmaChoice, may_fit};
 use crate::tree::Writer;
 use go_points::Colouring;
-use indexmap::IndexMap;
-use pn_table::Key;
 use proof_cert::{Certificate, Lemma, MAX_LEMMAS, MAX_LISTED, Version};
-use state_proofs::{Below, Branch, Form, Line, Play, Proof, Proofs, Refusal, Shared};
+use state_proofs::{Below, Branch, Line, Play, Proof, Proofs, Refusal, Shared};
 use std::alloc::{AllocError, Global};
 use target_game::Problem;
-
-/// At how many places a state occurs.
-#[derive(Clone, Copy, Debug, PartialEq, Eq)]
-enum Places {
-    One,
-    Several,
-}
 
 /// Which proofs may become lemmas.
 #[derive(Clone, Copy, Debug, PartialEq, Eq)]
@@ -26,12 +17,37 @@ pub enum Pasts {
     None,
 }
 
-/// Which proofs become lemmas.
+/// How many nodes a lemma has to save for each colouring that it has: its root, and those that it lists. It saves the nodes of its
+/// body for each branch that leads to its proof but one. On 19 rows a colouring takes as many bytes as some twenty nodes, and each
+/// use of a lemma compares lists.
+#[derive(Clone, Copy, Debug, PartialEq, Eq)]
+pub enum Saving {
+    /// Any number.
+    Any,
+    /// At least one for every two colourings.
+    Half,
+    /// At least four.
+    Four,
+}
+
+impl Saving {
+    /// The greatest number of colourings of a lemma that saves so many nodes, if there is one.
+    pub(crate) fn most_colourings(self, saved: u64) -> Option<u64> {
+        match self {
+            Saving::Any => None,
+            Saving::Half => Some(saved.saturating_mul(2)),
+            Saving::Four => Some(saved / 4),
+        }
+    }
+}
+
+/// Which of the proofs that are used several times become lemmas.
 #[derive(Clone, Copy)]
 pub struct Choice {
     pub pasts: Pasts,
     /// The least number of turns that such a proof must have.
     pub least: u64,
+    pub saving: Saving,
 }
 
 /// The lemmas, and the proof of each.
@@ -60,64 +76,15 @@ impl Lemmas {
     }
 }
 
-/// At how many places each state of the proofs occurs. The root uses all of these proofs.
-fn count_places(
-    alloc: Global,
-    proofs: &Proofs,
-    root: u32,
-) -> Result<IndexMap<Key, Places>, AllocError> {
-    let mut places = IndexMap::new(alloc);
-    if let Some(proof) = proofs.get(root) {
-        places.insert(proof.key, Places::One)?;
-    }
-    for number in 0..proofs.len() {
-        if let Some(proof) = proofs.at(number) {
-            count_places_below(proofs, proof, &mut places)?;
-        }
-    }
-    Ok(places)
-}
-
-/// Counts one more place for each state below a branch of the proof.
-fn count_places_below(
-    proofs: &Proofs,
-    proof: Proof,
-    places: &mut IndexMap<Key, Places>,
-) -> Result<(), AllocError> {
-    for branch in proofs.branches(proof) {
-        count_place(proofs, branch.below, places)?;
-    }
-    Ok(())
-}
-
-/// Counts one more place.
-fn count_place(
-    proofs: &Proofs,
-    below: Below,
-    places: &mut IndexMap<Key, Places>,
-) -> Result<(), AllocError> {
-    if let Below::Proof(number) = below {
-        if let Some(proof) = proofs.get(number) {
-            let count = match places.get(&proof.key) {
-                None => Places::One,
-                Some(_) => Places::Several,
-            };
-            places.insert(proof.key, count)?;
-        }
-    }
-    Ok(())
-}
-
 /// The walk over the proofs that makes the lemmas. Each proof is met once, lower ones first.
 #[derive(Drop)]
 struct Walk {
     line: Line,
-    places: IndexMap<Key, Places>,
     /// The colourings that have occurred at the end of the line, in the order of the line's past.
     occurred: Vec<Colouring>,
     /// Whether a proof was met.
     met: Vec<bool>,
-    choice: Choice,
+    choice: LemmaChoice,
     visits: Vec<Visit>,
     lemmas: Lemmas,
 }
@@ -135,8 +102,7 @@ impl Walk {
         alloc: Global,
         problem: &Problem,
         proofs: &Proofs,
-        root: u32,
-        choice: Choice,
+        choice: LemmaChoice,
     ) -> Result<Walk, AllocError> {
         let mut met = Vec::with_capacity(alloc, proofs.len())?;
         let mut numbers = Vec::with_capacity(alloc, proofs.len())?;
@@ -146,7 +112,6 @@ impl Walk {
         }
         Ok(Walk {
             line: Line::of(alloc, problem)?,
-            places: count_places(alloc, proofs, root)?,
             occurred: problem.history().to_vec(alloc)?,
             met,
             choice,
@@ -226,26 +191,6 @@ impl Walk {
         self.enter(proofs, number)
     }
 
-    /// Whether the proof is to be a lemma: its state occurs at several places, and it is one of those that are chosen. A leaf is
-    /// none.
-    fn is_lemma(&self, proofs: &Proofs, proof: Proof) -> bool {
-        proof.form != Form::Alive
-            && proof.turns >= self.choice.least
-            && (self.choice.pasts == Pasts::Needed || !proofs.needs_a_past(proof))
-            && matches!(self.places.get(&proof.key), Some(Places::Several))
-    }
-
-    /// How many nodes the claim would have at most.
-    fn count_nodes(&self, alloc: Global, proofs: &Proofs, root: u32) -> Result<u64, AllocError> {
-        let mut count = NodeCount::new(alloc, proofs)?;
-        for number in 0..proofs.len() {
-            if let Some(proof) = proofs.at(number) {
-                count.add(proofs, proof, self.is_lemma(proofs, proof))?;
-            }
-        }
-        Ok(count.of_claim(root))
-    }
-
     /// Leaves the last proof, all of whose branches were followed, and makes its lemma if it is to be one.
     fn leave(
         &mut self,
@@ -255,7 +200,7 @@ impl Walk {
         visit: Visit,
     ) -> Result<(), Refusal> {
         self.visits.pop();
-        if self.is_lemma(proofs, visit.proof) {
+        if self.choice.is_lemma(visit.number) {
             self.add_lemma(alloc, bodies, proofs, visit)?;
         }
         self.line.back();
@@ -333,18 +278,18 @@ fn lemmas_of(
     choice: Choice,
 ) -> Result<Lemmas, Refusal> {
     let root = shared.root;
-    let mut walk = Walk::new(alloc, problem, &shared.proofs, root, choice)?;
-    if !may_fit(walk.count_nodes(alloc, &shared.proofs, root)?) {
+    let chosen = LemmaChoice::new(alloc, &shared.proofs, choice)?;
+    if !may_fit(chosen.nodes_of_claim(root)) {
         return Err(Refusal::Limit);
     }
+    let mut walk = Walk::new(alloc, problem, &shared.proofs, chosen)?;
     let mut bodies = Writer::of_main(alloc, Play::of(alloc, problem)?, shared.winner);
     walk.make_lemmas(alloc, &mut bodies, &shared.proofs, root)?;
     Ok(walk.into_lemmas())
 }
 
-/// The claim of the proof, in which each state that occurs at several places is a lemma for each of its proofs that is chosen. The
-/// others are written in line. A lemma needs the same colourings to have occurred as its proof. Refused if it would pass the limits
-/// of claims.
+/// The claim of the proof, in which those that are chosen are lemmas. The others are written in line wherever they are used. A lemma
+/// needs the same colourings to have occurred as its proof. Refused if it would pass the limits of claims.
 pub fn claim_with_lemmas(
     alloc: Global,
     problem: &Problem,

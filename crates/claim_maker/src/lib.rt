@@ -4,9 +4,10 @@
 #![tactic(auto)]
 
 mod claim;
-mod claim_size;
 mod full_tree;
+mod lemma_choice;
+mod list_length;
 mod tree;
 
-pub use claim::{Choice, Pasts, claim_with_lemmas, claim_without_lemmas};
+pub use claim::{Choice, Pasts, Saving, claim_with_lemmas, claim_without_lemmas};
 pub use full_tree::share_tree;

@@ -5,7 +5,6 @@ use go_points::{Colour, Colouring, Turn};
 use proof_cert::{MAX_NODES, Node};
 use state_proofs::{Below, Branch, Form, Play, Proof, Proofs, Refusal};
 use std::alloc::{AllocError, Global};
-use std::mem;
 
 /// The number of a leaf in the place of that of a lemma, which are counted from 1: the defender lives there by the shape of his
 /// stones.
@@ -68,6 +67,7 @@ impl Writer {
     }
 
     /// The list of the lemma whose body has been written: ascending, each colouring once. It has what the lemmas that are used list.
+    /// The lists that are joined have many colourings in common, so what is joined is copied to a list with no room to spare.
     pub(crate) fn take_absent(
         &mut self,
         alloc: Global,
@@ -75,16 +75,15 @@ impl Writer {
     ) -> Result<Vec<Colouring>, AllocError> {
         self.used.sort_unstable();
         self.used.dedup();
-        let mut absent = mem::replace(&mut self.absent, Vec::new(alloc));
         for number in self.used.as_slice() {
             if let Some(lemma) = lemmas.get(*number) {
-                absent.extend_from_slice(lemma.absent.as_slice())?;
+                self.absent.extend_from_slice(lemma.absent.as_slice())?;
             }
         }
         // The lists that are joined ascend, so a sort that finds what is in order has little to do.
-        absent.sort()?;
-        absent.dedup();
-        Ok(absent)
+        self.absent.sort()?;
+        self.absent.dedup();
+        self.absent.as_slice().to_vec(alloc)
     }
 
     /// The tree of the proof, with uses of these lemmas below its first node. Refused if it would have more than the greatest

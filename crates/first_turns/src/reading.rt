@@ -3,7 +3,7 @@
 use crate::claim::turn_before;
 use crate::judged::problem_after;
 use go_points::Turn;
-use pn_search::Budget;
+use pn_search::{Audience, Budget};
 use sgf_text::Tree;
 use short_proofs::{Proved, Reading, prove, reading_of};
 use std::alloc::{AllocError, Global};
@@ -25,7 +25,7 @@ pub(crate) fn reading_by(
     let Some(later) = problem_after(alloc, problem, &state, turn)? else {
         return Ok(None);
     };
-    match prove(alloc, &later, budget)? {
+    match prove(alloc, &later, Audience::Readers, budget)? {
         Proved::Wins {
             winner,
             turn: _,

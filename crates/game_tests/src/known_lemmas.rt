@@ -1,8 +1,8 @@
 //! Claims of given trees whose lemmas are known beforehand, and one whose lemma needs what was played above it.
 
 use crate::expect::{expect_same, expect_that};
-use crate::proof_numbers::{ALL, WITHOUT_PASTS, accepted, found, found_plainly, problem};
-use claim_maker::{Choice, claim_with_lemmas, share_tree};
+use crate::proof_numbers::{ALL, WITHOUT_PASTS, accepted, found, found_plainly, problem, saving};
+use claim_maker::{Choice, Saving, claim_with_lemmas, share_tree};
 use go_points::Colour;
 use proof_cert::{Certificate, Version, read_cert, write_cert};
 use std::alloc::Global;
@@ -70,6 +70,34 @@ fn a_lemma_lists_the_results_of_the_winners_moves(rt: HostRuntime) {
         reply cc\nplay pass\nall 2\nreply bc\nuse 1\nreply pass\nwon\n\
         reply pass\nplay pass\nwon\nend\n";
     becomes(&rt, alloc, eye, ALL, tree.as_bytes(), expected.as_bytes());
+}
+
+// The body of the lemma above has four nodes, which it saves once, and it has two colourings: its root and the one that it lists.
+#[test]
+fn a_lemma_has_to_save_nodes_for_its_colourings(rt: HostRuntime) {
+    let alloc = rt.alloc();
+    let lemma = "play aa\nall 1\nreply pass\nplay pass\nwon\n";
+    let main = |body: &str| {
+        format!(in alloc;
+            "main\nall 3\n\
+            reply bc\nplay pass\nall 2\nreply cc\n{body}reply pass\nwon\n\
+            reply cc\nplay pass\nall 2\nreply bc\n{body}reply pass\nwon\n\
+            reply pass\nplay pass\nwon\nend\n"
+        )
+    };
+    let in_line = main(lemma).expect(&rt, "memory");
+    let tree = format!(in alloc; "tsucert 1 3 W\n{in_line}").expect(&rt, "memory");
+    let used = main("use 1\n").expect(&rt, "memory");
+    let expected = format!(in alloc;
+        "tsucert 1 3 W\nlemma W 0 .O.O...XX\nnot OO.O...XX\n{lemma}end\n{used}"
+    ).expect(&rt, "memory");
+    for (least, text) in [
+        (Saving::Half, expected.as_bytes()),
+        (Saving::Four, tree.as_bytes()),
+    ] {
+        let eye = problem(&rt, alloc, 3, &[".O.O....."], Colour::Black, "ba", "aabccc");
+        becomes(&rt, alloc, eye, saving(least), tree.as_bytes(), text);
+    }
 }
 
 // White always passes. Black may play at two of cb, bc and cc, and never at the third, since that has occurred. Each pair is

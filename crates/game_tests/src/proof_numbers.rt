@@ -3,7 +3,7 @@
 use crate::expect::{expect_same, expect_that};
 use crate::positions::{Position, problem_of};
 use cert_check::check_held;
-use claim_maker::{Choice, Pasts, claim_with_lemmas, claim_without_lemmas};
+use claim_maker::{Choice, Pasts, Saving, claim_with_lemmas, claim_without_lemmas};
 use df_pn::Search;
 use go_points::Colour;
 use local_search::prove;
@@ -94,19 +94,25 @@ pub fn accepted(rt: &impl Abort, alloc: Global, problem: &Problem, claim: Certif
     lemmas
 }
 
-// All proofs of states that occur at several places; or only those of them that need no past.
+// All proofs that are used several times; or only those of them that need no past.
 pub const ALL: Choice = Choice {
     pasts: Pasts::Needed,
     least: 0,
+    saving: Saving::Any,
 };
 
 pub const WITHOUT_PASTS: Choice = Choice {
     pasts: Pasts::None,
-    least: 0,
+    ..ALL
 };
 
-// Expects this side to win, and the claims with all lemmas, with those that need no past, and without any to be accepted. Returns
-// how many lemmas there are.
+// Those that save so much.
+pub fn saving(saving: Saving) -> Choice {
+    Choice { saving, ..ALL }
+}
+
+// Expects this side to win, and the claims with lemmas, chosen in each way, and without any to be accepted. Returns how many lemmas
+// there are if all that can be are.
 fn wins(rt: &impl Abort, alloc: Global, problem: &Problem, winner: Colour, table: usize) -> usize {
     let shared = found(rt, alloc, problem, table);
     expect_same(rt, shared.winner, winner);
@@ -121,7 +127,21 @@ fn wins(rt: &impl Abort, alloc: Global, problem: &Problem, winner: Colour, table
         }
         Err(_) => panic!(rt; "a claim with lemmas"),
     }
-    match claim_with_lemmas(alloc, problem, &shared, ALL) {
+    for least in [Saving::Half, Saving::Four] {
+        let _some = with_lemmas(rt, alloc, problem, &shared, saving(least));
+    }
+    with_lemmas(rt, alloc, problem, &shared, ALL)
+}
+
+// How many lemmas the claim has, which the checker has to accept.
+fn with_lemmas(
+    rt: &impl Abort,
+    alloc: Global,
+    problem: &Problem,
+    shared: &Shared,
+    choice: Choice,
+) -> usize {
+    match claim_with_lemmas(alloc, problem, shared, choice) {
         Ok(claim) => accepted(rt, alloc, problem, claim),
         Err(_) => panic!(rt; "a claim with lemmas"),
     }
@@ -245,6 +265,42 @@ fn six_points_in_a_corner_are_the_movers(rt: HostRuntime) {
             expect_that(&rt, wins(&rt, alloc, &corner, mover, table) > 0);
         }
     }
+}
+
+// How many colourings the claim with such lemmas lists.
+fn listed(
+    rt: &impl Abort,
+    alloc: Global,
+    problem: &Problem,
+    shared: &Shared,
+    choice: Choice,
+) -> usize {
+    match claim_with_lemmas(alloc, problem, shared, choice) {
+        Ok(claim) => count_listed(&claim),
+        Err(_) => panic!(rt; "a claim with lemmas"),
+    }
+}
+
+// How many colourings the claim lists.
+pub fn count_listed(claim: &Certificate) -> usize {
+    let mut count: usize = 0;
+    for lemma in claim.lemmas.as_slice() {
+        count = count
+            .saturating_add(lemma.had.len())
+            .saturating_add(lemma.absent.len());
+    }
+    count
+}
+
+// A lemma passes on the lists of those that it uses, so many lemmas list far more than they save.
+#[test]
+fn lemmas_that_list_more_than_they_save_stay_in_line(rt: HostRuntime) {
+    let alloc = rt.alloc();
+    let corner = six_points(&rt, alloc, Colour::Black);
+    let shared = found(&rt, alloc, &corner, 10_000);
+    let all = listed(&rt, alloc, &corner, &shared, ALL);
+    let best = listed(&rt, alloc, &corner, &shared, saving(Saving::Half));
+    expect_that(&rt, best < all);
 }
 
 // Whether an earlier proof is of the same state.

@@ -2,13 +2,13 @@
 
 use crate::expect::{expect_same, expect_that};
 use crate::positions::{Position, points, problem_of};
-use crate::proof_numbers::{accepted, problem, six_points};
+use crate::proof_numbers::{accepted, count_listed, problem, six_points};
 use claim_maker::claim_without_lemmas;
 use full_search::first_win;
 use go_chains::ChainBoard;
 use go_points::{Colour, Turn};
 use pass_alive::is_pass_alive;
-use pn_search::{Budget, Cause, find_short};
+use pn_search::{Audience, Budget, Cause, find_short};
 use proof_cert::{Certificate, Node};
 use state_proofs::{
     Answers, Below, Branch, Form, Line, Play, Proofs, Settled, Shared, Stop, share,
@@ -25,10 +25,20 @@ fn budget(rt: &impl Abort, steps: u64) -> Budget {
     }
 }
 
-// The claim that is found with these steps, and how many are left.
+// The claim for readers that is found with these steps, and how many are left.
 fn found(rt: &impl Abort, alloc: Global, problem: &Problem, steps: u64) -> (Certificate, u64) {
+    found_for(rt, alloc, problem, Audience::Readers, steps)
+}
+
+fn found_for(
+    rt: &impl Abort,
+    alloc: Global,
+    problem: &Problem,
+    audience: Audience,
+    steps: u64,
+) -> (Certificate, u64) {
     let mut left = steps;
-    match find_short(alloc, problem, budget(rt, steps), &mut left) {
+    match find_short(alloc, problem, audience, budget(rt, steps), &mut left) {
         Ok(claim) => (claim, left),
         Err(_) => panic!(rt; "a claim"),
     }
@@ -37,7 +47,7 @@ fn found(rt: &impl Abort, alloc: Global, problem: &Problem, steps: u64) -> (Cert
 // Expects that with these steps of a budget nothing is found for want of steps, and that none is left.
 fn runs_out(rt: &impl Abort, alloc: Global, problem: &Problem, budget: Budget, steps: u64) {
     let mut left = steps;
-    match find_short(alloc, problem, budget, &mut left) {
+    match find_short(alloc, problem, Audience::Judge, budget, &mut left) {
         Ok(_) => panic!(rt; "no claim"),
         Err(cause) => expect_same(rt, cause, Cause::Steps),
     }
@@ -213,6 +223,20 @@ fn the_defender_lives_at_each_leaf(rt: HostRuntime) {
     let (claim, _left) = found(&rt, alloc, &dying, 2_000);
     expect_same(&rt, claim.winner, Colour::Black);
     expect_same(&rt, all_leaves(&rt, alloc, &dying, &claim), 0);
+}
+
+// The same steps find the same proof. Of the lemmas for readers, those that list more than they save are not in the judge's claim.
+#[test]
+fn a_claim_for_the_judge_lists_less(rt: HostRuntime) {
+    let alloc = rt.alloc();
+    let dying = six_points(&rt, alloc, Colour::Black);
+    let (shown, left) = found_for(&rt, alloc, &dying, Audience::Readers, 2_000);
+    let (judged, left_too) = found_for(&rt, alloc, &dying, Audience::Judge, 2_000);
+    expect_same(&rt, left_too, left);
+    expect_same(&rt, judged.winner, shown.winner);
+    expect_that(&rt, count_listed(&judged) < count_listed(&shown));
+    let _few = accepted(&rt, alloc, &dying, judged);
+    let _many = accepted(&rt, alloc, &dying, shown);
 }
 
 // Three expansions are too few to show that six points are dead: White has more replies than that. A budget of more steps than are

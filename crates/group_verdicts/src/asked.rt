@@ -5,7 +5,7 @@ ghost use Rattle.target_game.specs.State.{start};
 ghost use Rattle.target_game.specs.Wins.{Wins};
 
 use go_points::{Colour, Turn};
-use pn_search::{Budget, Cause};
+use pn_search::{Audience, Budget, Cause};
 use proof_cert::Certificate;
 use short_proofs::{Proved, prove};
 use std::alloc::{AllocError, Global};
@@ -28,7 +28,7 @@ pub(crate) struct Asked {
 pub(crate) fn ask(alloc: Global, problem: Problem, budget: Budget) -> Result<Asked, AllocError>
     ensures { IfOk result (λ a. a.problem ≡ problem) }
 {
-    match prove(alloc, &problem, budget)? {
+    match prove(alloc, &problem, Audience::Judge, budget)? {
         Proved::Wins {
             winner,
             turn,

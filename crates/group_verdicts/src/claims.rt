@@ -6,7 +6,7 @@ use crate::lines::{colour_name, push_point};
 use crate::table::Table;
 use cert_check::Checked;
 use go_points::Colour;
-use pn_search::{Budget, Verdict, solve};
+use pn_search::{Audience, Budget, Verdict, solve};
 use proof_cert::{CertWrite, Certificate, write_cert, write_short};
 use sgf_text::{WriteFault, write_bytes, write_tree};
 use short_proofs::{Proved, prove};
@@ -133,7 +133,7 @@ fn find_claim(
     length: Length,
 ) -> Result<Option<Claim>, AllocError> {
     match length {
-        Length::Short => match prove(alloc, problem, budget)? {
+        Length::Short => match prove(alloc, problem, Audience::Judge, budget)? {
             Proved::Wins {
                 winner: _,
                 turn: _,

@@ -6,6 +6,6 @@ mod short;
 mod verdict;
 
 pub use search::{solve, solve_for};
-pub use short::find_short;
+pub use short::{Audience, find_short};
 pub use state_proofs::Answers;
 pub use verdict::{Budget, Cause, Verdict};

@@ -8,7 +8,7 @@ ghost use Rattle.pn_search.specs.declared.verdict.Cause.TheVariants.{Steps, Memo
 
 use crate::verdict::{Budget, Cause, Verdict};
 use cert_check::{Checked, Why, check_held};
-use claim_maker::{Choice, Pasts, claim_with_lemmas, claim_without_lemmas, share_tree};
+use claim_maker::{Choice, Pasts, Saving, claim_with_lemmas, claim_without_lemmas, share_tree};
 use full_search::first_win;
 use go_points::{Colour, MAX_SIZE};
 use local_board::{MAX_PLACES, count_changing};
@@ -20,11 +20,33 @@ use target_game::Problem;
 /// The greatest number of steps of full search.
 const MAX_FULL_STEPS: u64 = 10_000_000;
 
-/// How many sizes of lemmas are tried, from the least on.
-const LEMMA_SIZES: u32 = 4;
+/// The least number of turns of a lemma: a smaller one is shorter where it is used.
+pub(crate) const LEMMA_TURNS: u64 = 3;
 
-/// Each size of lemmas that is tried is so many times the one before.
-const SIZE_STEP: u64 = 16;
+/// The choices of lemmas that are tried, in this order, until the checker accepts a claim: those that make the shortest claims in the
+/// least time, those that list little, all, which make the fewest nodes, and those that need no past.
+const CHOICES: [Choice; 4] = [
+    Choice {
+        pasts: Pasts::Needed,
+        least: LEMMA_TURNS,
+        saving: Saving::Half,
+    },
+    Choice {
+        pasts: Pasts::Needed,
+        least: LEMMA_TURNS,
+        saving: Saving::Four,
+    },
+    Choice {
+        pasts: Pasts::Needed,
+        least: 0,
+        saving: Saving::Any,
+    },
+    Choice {
+        pasts: Pasts::None,
+        least: LEMMA_TURNS,
+        saving: Saving::Half,
+    },
+];
 
 /// A checked claim, or why there is none, with the problem handed back.
 type Found = Result<Checked, (Problem, Cause)>;
@@ -196,14 +218,14 @@ fn confirmed(alloc: Global, problem: Problem, winner: Colour, main: Node) -> Fou
 {
     match share_tree(alloc, &problem, winner, &main) {
         Err(_) => confirmed_plainly(alloc, problem, winner, main),
-        Ok(shared) => match confirmed_by_lemmas(alloc, problem, &shared, 1) {
+        Ok(shared) => match confirmed_with_lemmas(alloc, problem, &shared, CHOICES[0]) {
             Ok(checked) => Ok(checked),
             Err((problem, _)) => confirmed_plainly(alloc, problem, winner, main),
         },
     }
 }
 
-/// The claim of the proofs with lemmas, if the checker accepts it, otherwise without.
+/// The claim of the proofs with lemmas, in the first of the choices for which the checker accepts it, otherwise without.
 fn confirmed_in_turn(alloc: Global, problem: Problem, shared: Shared) -> Found
     ensures ok { IfOk result (λ c. c.problem ≡ problem) }
     ensures err { IfErr result (λ r. r.0 ≡ problem) }
@@ -212,54 +234,14 @@ fn confirmed_in_turn(alloc: Global, problem: Problem, shared: Shared) -> Found
     if shared.proofs.len() > MAX_STATES {
         return Err((problem, Cause::Limit));
     }
-    match confirmed_by_lemmas(alloc, problem, &shared, LEMMA_SIZES) {
-        Ok(checked) => Ok(checked),
-        Err((problem, _)) => confirmed_without_lemmas(alloc, problem, &shared),
-    }
-}
-
-/// The claim of the proofs with lemmas, if the checker accepts it: with lemmas that may need a past, otherwise with only the
-/// others.
-fn confirmed_by_lemmas(alloc: Global, problem: Problem, shared: &Shared, sizes: u32) -> Found
-    ensures ok { IfOk result (λ c. c.problem ≡ problem) }
-    ensures err { IfErr result (λ r. r.0 ≡ problem) }
-    ensures cause { IfErr result (λ r. r.1 ≢ Steps) }
-{
-    match confirmed_in_sizes(alloc, problem, shared, Pasts::Needed, sizes) {
-        Ok(checked) => Ok(checked),
-        Err((problem, _)) => confirmed_in_sizes(alloc, problem, shared, Pasts::None, sizes),
-    }
-}
-
-/// The claim of the proofs with lemmas of one kind, if the checker accepts it. If the claim would pass a limit, only larger proofs
-/// become lemmas.
-fn confirmed_in_sizes(
-    alloc: Global,
-    problem: Problem,
-    shared: &Shared,
-    pasts: Pasts,
-    sizes: u32,
-) -> Found
-    ensures ok { IfOk result (λ c. c.problem ≡ problem) }
-    ensures err { IfErr result (λ r. r.0 ≡ problem) }
-    ensures cause { IfErr result (λ r. r.1 ≢ Steps) }
-{
     let mut rest = problem;
-    let mut least = 0;
-    for _ in 0..sizes {
-        match confirmed_with_lemmas(alloc, rest, shared, Choice { pasts, least }) {
+    for choice in CHOICES {
+        match confirmed_with_lemmas(alloc, rest, &shared, choice) {
             Ok(checked) => return Ok(checked),
-            Err((problem, Cause::Limit)) => rest = problem,
-            Err((problem, cause)) => return Err((problem, cause)),
+            Err((problem, _)) => rest = problem,
         }
-        least = larger(least);
     }
-    Err((rest, Cause::Limit))
-}
-
-/// The next size of lemmas that is tried.
-fn larger(least: u64) -> u64 {
-    least.max(1).saturating_mul(SIZE_STEP)
+    confirmed_without_lemmas(alloc, rest, &shared)
 }
 
 /// The claim of the proofs without lemmas.

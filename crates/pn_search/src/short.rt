@@ -5,9 +5,11 @@
 ghost use Rattle.std.specs.Prelude.{◌≡◌, ◌≢◌, ◌≤◌, IfErr};
 ghost use Rattle.pn_search.specs.declared.verdict.Cause.TheVariants.{Steps, Memory};
 
-use crate::search::{cause_of_refusal, cause_of_stop, proofs_of, steps_of_full_search};
+use crate::search::{
+    LEMMA_TURNS, cause_of_refusal, cause_of_stop, proofs_of, steps_of_full_search,
+};
 use crate::verdict::{Budget, Cause};
-use claim_maker::{Choice, Pasts, claim_with_lemmas, claim_without_lemmas};
+use claim_maker::{Choice, Pasts, Saving, claim_with_lemmas, claim_without_lemmas};
 use full_search::first_win;
 use go_points::Colour;
 use local_board::{MAX_PLACES, count_changing};
@@ -16,8 +18,24 @@ use state_proofs::{Answers, MAX_STATES, Refusal, Shared};
 use std::alloc::Global;
 use target_game::Problem;
 
-/// The least numbers of turns of a lemma that are tried. A turn to a leaf is two nodes, and is written again wherever it occurs.
-const LEMMA_TURNS: [u64; 4] = [3, 16, 256, 4_096];
+/// Whom a short claim is for, which decides what its lemmas have to save.
+#[derive(Clone, Copy, Debug, PartialEq, Eq)]
+pub enum Audience {
+    /// The judge. With few lists a claim is short, and takes him little time and memory.
+    Judge,
+    /// Readers. What is shown of a claim goes on at a lemma only once, so all that can be are lemmas.
+    Readers,
+}
+
+impl Audience {
+    /// What a lemma has to save, in the order in which it is tried until a claim passes no limit.
+    fn savings(self) -> [Saving; 3] {
+        match self {
+            Audience::Judge => [Saving::Half, Saving::Four, Saving::Any],
+            Audience::Readers => [Saving::Any, Saving::Half, Saving::Four],
+        }
+    }
+}
 
 /// Searches for a short claim of either side: by proof numbers where few points can change, since the leaves make its trees shorter
 /// than those of full search, and else as `solve` does, with a tenth of the steps for full search first. At most `left` steps are
@@ -25,6 +43,7 @@ const LEMMA_TURNS: [u64; 4] = [3, 16, 256, 4_096];
 pub fn find_short(
     alloc: Global,
     problem: &Problem,
+    audience: Audience,
     budget: Budget,
     left: &mut u64,
 ) -> Result<Certificate, Cause>
@@ -43,7 +62,7 @@ pub fn find_short(
         }
     }
     match proofs_of(alloc, problem, budget, Answers::Short, left) {
-        Ok(shared) => claim_of_proofs(alloc, problem, &shared),
+        Ok(shared) => claim_of_proofs(alloc, problem, audience, &shared),
         Err(stop) => Err(cause_of_stop(stop)),
     }
 }
@@ -60,15 +79,24 @@ fn claim_of_tree(alloc: Global, problem: &Problem, winner: Colour, main: Node) -
 }
 
 /// The claim of the proofs with lemmas, or without any if each such claim would pass a limit.
-fn claim_of_proofs(alloc: Global, problem: &Problem, shared: &Shared) -> Result<Certificate, Cause>
+fn claim_of_proofs(
+    alloc: Global,
+    problem: &Problem,
+    audience: Audience,
+    shared: &Shared,
+) -> Result<Certificate, Cause>
     ensures cause { IfErr result (λ cause. cause ≢ Steps) }
 {
     if shared.proofs.len() > MAX_STATES {
         return Err(Cause::Limit);
     }
-    for least in LEMMA_TURNS {
-        let pasts = Pasts::Needed;
-        match claim_with_lemmas(alloc, problem, shared, Choice { pasts, least }) {
+    for saving in audience.savings() {
+        let choice = Choice {
+            pasts: Pasts::Needed,
+            least: LEMMA_TURNS,
+            saving,
+        };
+        match claim_with_lemmas(alloc, problem, shared, choice) {
             Ok(certificate) => return Ok(certificate),
             Err(Refusal::Limit) => {}
             Err(refusal) => return Err(cause_of_refusal(refusal)),

@@ -4,7 +4,7 @@ use crate::judged::judged;
 use crate::proof::{Proved, prove};
 use crate::reading::{Reading, find_reading};
 use crate::words::{Request, read_request};
-use pn_search::{Budget, Cause};
+use pn_search::{Audience, Budget, Cause};
 use proof_cert::{Certificate, write_short};
 use sgf_text::{Tree, WriteFault, read_tree, write_bytes, write_tree};
 use std::alloc::{AllocError, Global};
@@ -89,7 +89,7 @@ fn budget_of(steps: u64) -> Result<Budget, AllocError> {
 
 /// The record of the problem and a short claim, or why there is none.
 fn proved(alloc: Global, problem: &Problem, budget: Budget) -> Result<Output, AllocError> {
-    match prove(alloc, problem, budget)? {
+    match prove(alloc, problem, Audience::Judge, budget)? {
         Proved::Wins {
             winner: _,
             turn: _,

@@ -9,7 +9,7 @@ use crate::first_turn::first_turn;
 use cert_check::{Why, check, check_short};
 use go_points::{Colour, Turn};
 use pass_alive::lives_at;
-use pn_search::{Budget, Cause, find_short};
+use pn_search::{Audience, Budget, Cause, find_short};
 use proof_cert::{Certificate, HeldSource, Node, ReaderSource, Version, write_short};
 use std::alloc::{AllocError, Global};
 use target_game::Problem;
@@ -31,16 +31,21 @@ pub enum Proved {
     },
 }
 
-/// Searches for a short claim of either side that its judge accepts. It fails only if memory is refused. The same problem and
-/// budget give the same answer.
-pub fn prove(alloc: Global, problem: &Problem, budget: Budget) -> Result<Proved, AllocError>
+/// Searches for a short claim of either side that its judge accepts. It fails only if memory is refused. The same problem, audience
+/// and budget give the same answer.
+pub fn prove(
+    alloc: Global,
+    problem: &Problem,
+    audience: Audience,
+    budget: Budget,
+) -> Result<Proved, AllocError>
     ensures { IfOk result (HasWinner (start problem.now)) }
 {
     if lives_at(problem, problem.colouring()) {
         return judged(alloc, problem, living(alloc, problem), 0);
     }
     let mut left = budget.steps;
-    match find_short(alloc, problem, budget, &mut left) {
+    match find_short(alloc, problem, audience, budget, &mut left) {
         Ok(certificate) => judged(alloc, problem, certificate, budget.steps - left),
         Err(Cause::Memory) => Err(AllocError),
         Err(cause) => Ok(Proved::Unknown {

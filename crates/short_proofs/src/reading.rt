@@ -10,7 +10,7 @@ use crate::reading_record::record_of;
 use crate::shown::{Note, Shown};
 use crate::walk::is_shown;
 use go_points::{Colour, Turn};
-use pn_search::{Budget, Cause};
+use pn_search::{Audience, Budget, Cause};
 use proof_cert::Certificate;
 use sgf_text::{Tree, write_tree};
 use std::alloc::{AllocError, Global};
@@ -55,7 +55,7 @@ pub fn find_reading(
 ) -> Result<Reading, AllocError>
     ensures { IfOk result (HasNamedWinner (start problem.now)) }
 {
-    let proved = prove(alloc, problem, budget)?;
+    let proved = prove(alloc, problem, Audience::Readers, budget)?;
     of_proved(alloc, problem, proved, most)
 }
 

@@ -14,8 +14,8 @@ const TAKEN_KO: &str = "(;FF[4]GM[1]SZ[3]AB[ba][ab]AW[ca][bb];AW[aa]AE[ba];PL[B]
 const TAKEN_KO_LIFTED: &str =
     "(;FF[4]GM[1]SZ[3]AB[ba][ab]AW[ca][bb];AW[aa]AE[ba];PL[B]TR[aa]SQ[ba])\ntsucert 2 3 W\nlemma B 0 O.OXO....\nhad .XOXO....\nall 1\nreply pass\nplay pass\nwon\nend\nmain\nuse 1\nend\n";
 
-// Black may play at aa, at ca, or pass, and White may only pass: both orders meet.
-const TWO_ORDERS: &str = "(;SZ[5]AB[ba][da][ab][bb][cb][db]AW[ee]PL[B]TR[ee]SQ[aa][ca])";
+// Black may play at aa, at ca, at ea, or pass, and White may only pass: the orders of two moves meet, and a third may follow.
+const ORDERS: &str = "(;SZ[5]AB[ba][da][ab][bb][cb][db][eb]AW[ee]PL[B]TR[ee]SQ[aa][ca][ea])";
 
 // Expects `solve --proof --lift` to write this text for the record, and `check` to accept it for the side.
 fn lifts(rt: &impl Abort, alloc: Global, record: &str, text: &str, winner: &str) {
@@ -42,7 +42,6 @@ fn a_move_of_the_winner(rt: HostRuntime) {
     );
 }
 
-// The lemma needs a past that this record does not have.
 // This many empty cells of a claim.
 fn empty_cells(rt: &impl Abort, alloc: Global, count: usize) -> String {
     let mut cells = String::new(alloc);
@@ -75,6 +74,7 @@ fn boards_of_every_width_are_lifted(rt: HostRuntime) {
     }
 }
 
+// The lemma needs a past that this record does not have.
 #[test]
 fn a_lifted_claim_is_refused_without_its_past(rt: HostRuntime) {
     let alloc = rt.alloc();
@@ -109,17 +109,10 @@ fn the_flag_does_nothing_without_a_proof(rt: HostRuntime) {
 fn a_claim_that_has_lemmas_is_written_as_it_is(rt: HostRuntime) {
     let alloc = rt.alloc();
     let words = &["tsumego", "solve", "--proof"];
-    let (status, written) = outcome(alloc, words, TWO_ORDERS.as_bytes());
+    let (status, written) = outcome(alloc, words, ORDERS.as_bytes());
     expect_status(&rt, status, Status::Answered);
     let text = String::from_utf8(written).ok().expect(&rt, "a text");
     expect_that(&rt, text.as_str().contains("\nuse 1\n"));
     expect_that(&rt, !text.as_str().ends_with("main\nuse 1\nend\n"));
-    answers(
-        &rt,
-        alloc,
-        LIFTED,
-        TWO_ORDERS,
-        Status::Answered,
-        text.as_str(),
-    );
+    answers(&rt, alloc, LIFTED, ORDERS, Status::Answered, text.as_str());
 }

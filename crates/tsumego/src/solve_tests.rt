@@ -124,14 +124,14 @@ fn what_is_written_is_accepted(rt: HostRuntime) {
     }
 }
 
-// States that occur at several places become lemmas.
+// States with three turns or more that occur at several places become lemmas: here those after two of Black's three moves.
 #[test]
 fn a_written_claim_shares_its_states(rt: HostRuntime) {
     let claim = written(
         &rt,
         rt.alloc(),
         &["tsumego", "solve", "--proof"],
-        "(;SZ[5]AB[ba][da][ab][bb][cb][db]AW[ee]PL[B]TR[ee]SQ[aa][ca])",
+        "(;SZ[5]AB[ba][da][ab][bb][cb][db][eb]AW[ee]PL[B]TR[ee]SQ[aa][ca][ea])",
     );
     expect_that(&rt, claim.as_str().contains("\nlemma "));
 }

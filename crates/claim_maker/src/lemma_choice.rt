@@ -1,0 +1,164 @@
+//! Which proofs become lemmas: those that save more nodes than their lists cost.
+
+use crate::claim::{Choice, Pasts};
+use crate::list_length::ListLength;
+use proof_cert::MAX_NODES;
+use state_proofs::{Below, Form, Proof, Proofs};
+use std::alloc::{AllocError, Global};
+
+/// A claim that is counted to have more nodes is not begun. The count has all replies, and the past may bar some, so it may be too
+/// large, but hardly twice as large.
+const MOST_COUNTED: u64 = 2 * MAX_NODES as u64;
+
+/// Whether a claim with so many nodes may be begun.
+pub(crate) fn may_fit(nodes: u64) -> bool {
+    nodes <= MOST_COUNTED
+}
+
+/// The lemmas that were chosen, from the lowest proof up.
+#[derive(Drop)]
+pub(crate) struct LemmaChoice {
+    choice: Choice,
+    is_lemma: Vec<bool>,
+    /// For each proof, how many branches lead to it.
+    uses: Vec<u32>,
+    /// For each proof, how many nodes stand for it where it is used: one for a lemma, and all of its tree for another.
+    nodes: Vec<u64>,
+    /// How many nodes the bodies of all lemmas have.
+    bodies: u64,
+    list_length: ListLength,
+}
+
+impl LemmaChoice {
+    /// Chooses among all proofs. Below each that is used several times it walks no further than until the list is known to be too
+    /// long.
+    pub(crate) fn new(
+        alloc: Global,
+        proofs: &Proofs,
+        choice: Choice,
+    ) -> Result<LemmaChoice, AllocError> {
+        let mut made = LemmaChoice {
+            choice,
+            is_lemma: Vec::with_capacity(alloc, proofs.len())?,
+            uses: count_uses(alloc, proofs)?,
+            nodes: Vec::with_capacity(alloc, proofs.len())?,
+            bodies: 0,
+            list_length: ListLength::new(alloc, proofs)?,
+        };
+        for place in 0..proofs.len() {
+            if let Some(proof) = proofs.at(place) {
+                made.add(proofs, place, proof)?;
+            }
+        }
+        Ok(made)
+    }
+
+    /// Whether the proof becomes a lemma.
+    pub(crate) fn is_lemma(&self, number: u32) -> bool {
+        self.is_lemma.get(number as usize).copied() == Some(true)
+    }
+
+    /// How many nodes the claim of this proof has at most.
+    pub(crate) fn nodes_of_claim(&self, root: u32) -> u64 {
+        self.bodies.saturating_add(self.nodes_for(root))
+    }
+
+    /// Chooses whether the next proof, at this place, becomes a lemma.
+    fn add(&mut self, proofs: &Proofs, place: usize, proof: Proof) -> Result<(), AllocError> {
+        let own = self.nodes_of_tree(proofs, proof);
+        let is_lemma = self.may_be_lemma(proofs, place, proof)
+            && self.pays(proofs, place, proof, own)?;
+        if is_lemma {
+            self.bodies = self.bodies.saturating_add(own);
+        }
+        self.nodes.push(if is_lemma { 1 } else { own })?;
+        self.is_lemma.push(is_lemma)?;
+        Ok(())
+    }
+
+    /// Whether the proof is used several times, and is of the kind that is chosen. A leaf is no lemma.
+    fn may_be_lemma(&self, proofs: &Proofs, place: usize, proof: Proof) -> bool {
+        self.uses_of(place) > 1
+            && proof.form != Form::Alive
+            && proof.turns >= self.choice.least
+            && (self.choice.pasts == Pasts::Needed || !proofs.needs_a_past(proof))
+    }
+
+    /// Whether the lemma saves enough nodes for the colourings that it has: its root and its lists. Its body has `own` nodes.
+    fn pays(
+        &mut self,
+        proofs: &Proofs,
+        place: usize,
+        proof: Proof,
+        own: u64,
+    ) -> Result<bool, AllocError> {
+        let saved = own.saturating_mul(self.uses_of(place).saturating_sub(1) as u64);
+        let Some(most) = self.choice.saving.most_colourings(saved) else {
+            return Ok(true);
+        };
+        let first = (proofs.had(proof).len() as u64).saturating_add(1);
+        if first > most {
+            return Ok(false);
+        }
+        let listed = self.list_length.count(proofs, proof, most - first)?;
+        Ok(listed <= most - first)
+    }
+
+    fn uses_of(&self, place: usize) -> u32 {
+        match self.uses.get(place).copied() {
+            Some(uses) => uses,
+            None => 0,
+        }
+    }
+
+    /// The nodes of a proof's tree.
+    fn nodes_of_tree(&self, proofs: &Proofs, proof: Proof) -> u64 {
+        let mut nodes: u64 = 1;
+        for branch in proofs.branches(proof) {
+            nodes = nodes.saturating_add(self.nodes_below(branch.below));
+        }
+        nodes
+    }
+
+    /// The nodes of what is below a turn.
+    fn nodes_below(&self, below: Below) -> u64 {
+        match below {
+            Below::Won => 1,
+            Below::Proof(number) => self.nodes_for(number),
+        }
+    }
+
+    /// How many nodes stand for this proof where it is used. A proof uses only lower ones, which are counted before it.
+    fn nodes_for(&self, number: u32) -> u64 {
+        match self.nodes.get(number as usize).copied() {
+            Some(nodes) => nodes,
+            None => 0,
+        }
+    }
+}
+
+/// For each proof, how many branches lead to it.
+fn count_uses(alloc: Global, proofs: &Proofs) -> Result<Vec<u32>, AllocError> {
+    let mut uses = Vec::with_capacity(alloc, proofs.len())?;
+    for _ in 0..proofs.len() {
+        uses.push(0)?;
+    }
+    for place in 0..proofs.len() {
+        if let Some(proof) = proofs.at(place) {
+            count_uses_below(proofs, proof, &mut uses);
+        }
+    }
+    Ok(uses)
+}
+
+/// Counts one more use of each proof below a branch of this one.
+fn count_uses_below(proofs: &Proofs, proof: Proof, uses: &mut Vec<u32>) {
+    for branch in proofs.branches(proof) {
+        if let Below::Proof(number) = branch.below {
+            let place = number as usize;
+            if place < uses.len() {
+                uses[place] = uses[place].saturating_add(1);
+            }
+        }
+    }
+}

@@ -26,6 +26,9 @@ use target_game::{AtFault, PlayState, Problem, State};
 /// If a body begins with more colourings than this, none of them is looked up by its key: a claim can give one key to thousands.
 const FEW: usize = 64;
 
+/// To look a colouring up, which needs its key, takes as long as to search the list for so many others, or longer.
+const SEARCHES: usize = 8;
+
 /// A state of a body. What is known there is also kept in a list: first what the body begins with, `fixed` colourings in the order
 /// of their texts, and then a lemma's root and the results of the turns, the latest last. The lists of a lemma ascend as well, so
 /// they are compared with what a body begins with in one pass over both, whatever the keys.
@@ -223,7 +226,7 @@ impl BodyState {
     {
         let known = self.known.as_slice();
         let path = &known[self.fixed..];
-        if self.fixed <= FEW && list.len() <= path.len() {
+        if self.fixed <= FEW && list.len() <= path.len() / SEARCHES {
             return none_known(&self.state, list);
         }
         are_apart(&known[..self.fixed], list) && none_stands_on(path, list)

@@ -1,10 +1,11 @@
 //! Which proof of a state is found, if there are several.
 
 use crate::expect::{expect_optional_count, expect_that};
-use go_points::Colour;
+use go_points::{Colour, Turn};
 use pn_table::Key;
-use state_proofs::{Form, Past, Proofs, Settled};
+use state_proofs::{Below, Branch, Form, Past, Proofs, Settled};
 use std::alloc::Global;
+use std::process::Abort;
 
 fn state(position: u64) -> Settled {
     Settled {
@@ -20,8 +21,30 @@ fn state(position: u64) -> Settled {
 }
 
 fn found(alloc: Global, proofs: &Proofs, position: u64) -> Option<usize> {
-    let number = proofs.find(state(position).key, &Past::new(alloc), 0)?;
+    found_with(proofs, &Past::new(alloc), position)
+}
+
+fn found_with(proofs: &Proofs, past: &Past, position: u64) -> Option<usize> {
+    let number = proofs.find(state(position).key, past, 0)?;
     Some(number as usize)
+}
+
+// One proof, of the state 7: a turn that wins at once, with what must not have occurred, and what must have.
+fn one_proof(rt: &impl Abort, alloc: Global, reached: Option<u64>, barred: &[u64]) -> Proofs {
+    let mut proofs = Proofs::new(alloc);
+    let wins = Branch {
+        turn: Turn::Pass,
+        below: Below::Won,
+    };
+    expect_that(rt, proofs.add(state(7), &[wins], reached, barred).is_ok());
+    proofs
+}
+
+// Expects the proof to be found, or not, if this position has occurred.
+fn expect_found(rt: &impl Abort, alloc: Global, proofs: &Proofs, occurred: u64, wanted: bool) {
+    let mut past = Past::new(alloc);
+    expect_that(rt, past.add(occurred).is_ok());
+    expect_that(rt, found_with(proofs, &past, 7).is_some() == wanted);
 }
 
 #[test]
@@ -48,4 +71,40 @@ fn a_hidden_proof_is_not_found(rt: HostRuntime) {
     expect_optional_count(&rt, found(alloc, &proofs, 7), Some(1));
     proofs.hide_all();
     expect_optional_count(&rt, found(alloc, &proofs, 7), None);
+}
+
+// Of a result that must not have occurred only the upper half of the key is held, so the proof is not found either if a position
+// with the same half has occurred.
+#[test]
+fn a_result_must_not_have_occurred(rt: HostRuntime) {
+    let alloc = rt.alloc();
+    let proofs = one_proof(&rt, alloc, Some(3 << 32 | 1), &[]);
+    expect_optional_count(&rt, found(alloc, &proofs, 7), Some(0));
+    expect_found(&rt, alloc, &proofs, 3 << 32 | 1, false);
+    expect_found(&rt, alloc, &proofs, 3 << 32 | 2, false);
+    expect_found(&rt, alloc, &proofs, 4 << 32 | 1, true);
+}
+
+// A position that must have occurred is compared whole.
+#[test]
+fn a_barred_position_must_have_occurred(rt: HostRuntime) {
+    let alloc = rt.alloc();
+    let proofs = one_proof(&rt, alloc, None, &[3 << 32 | 1]);
+    expect_optional_count(&rt, found(alloc, &proofs, 7), None);
+    expect_found(&rt, alloc, &proofs, 3 << 32 | 1, true);
+    expect_found(&rt, alloc, &proofs, 3 << 32 | 2, false);
+}
+
+// Two positions have the same half of their keys: what the one bars stays barred when the other is taken off.
+#[test]
+fn positions_are_taken_off_one_by_one(rt: HostRuntime) {
+    let alloc = rt.alloc();
+    let proofs = one_proof(&rt, alloc, Some(3 << 32 | 1), &[]);
+    let mut past = Past::new(alloc);
+    expect_that(&rt, past.add(3 << 32 | 4).is_ok());
+    expect_that(&rt, past.add(3 << 32 | 5).is_ok());
+    past.take_last();
+    expect_optional_count(&rt, found_with(&proofs, &past, 7), None);
+    past.take_last();
+    expect_optional_count(&rt, found_with(&proofs, &past, 7), Some(0));
 }

@@ -1,23 +1,11 @@
 //! The conditions of a proof on the past, made of those of the proofs below it.
 
+use crate::fingerprint::fingerprint_of;
 use crate::proof::{Below, Branch, Results, Span};
 use crate::proofs::Proofs;
 use std::alloc::AllocError;
 
 impl Proofs {
-    /// Gathers the positions that what is below the branches needs.
-    fn gather_had(&mut self, branches: &[Branch]) -> Result<(), AllocError> {
-        self.gathered.clear();
-        for branch in branches {
-            if let Below::Proof(number) = branch.below {
-                if let Some(proof) = self.get(number) {
-                    self.gathered.join(self.lists.get(proof.had))?;
-                }
-            }
-        }
-        Ok(())
-    }
-
     /// Gathers the results below the branches.
     fn gather_not(&mut self, branches: &[Branch]) -> Result<(), AllocError> {
         self.gathered.clear();
@@ -55,26 +43,27 @@ impl Proofs {
             let Some(position) = reached else {
                 return Ok(below);
             };
-            if self.has_result(below, position) {
+            let fingerprint = fingerprint_of(position);
+            if self.has_result(below, fingerprint) {
                 return Ok(below);
             }
             if below.more.len() == 0 {
                 let listed = below.listed;
-                let more = self.lists.add(&[position])?;
+                let more = self.lists.add(&[fingerprint])?;
                 return Ok(Results { listed, more });
             }
         }
         self.gather_not(branches)?;
         if let Some(position) = reached {
-            self.gathered.add(position)?;
+            self.gathered.add(fingerprint_of(position))?;
         }
         self.add_results(branches)
     }
 
-    fn has_result(&self, results: Results, position: u64) -> bool {
+    fn has_result(&self, results: Results, fingerprint: u32) -> bool {
         let listed = self.lists.get(results.listed);
         let more = self.lists.get(results.more);
-        listed.binary_search(&position).is_ok() || more.binary_search(&position).is_ok()
+        listed.binary_search(&fingerprint).is_ok() || more.binary_search(&fingerprint).is_ok()
     }
 
     /// The results that are gathered, all those below the branches among them. They are those of one branch if these are as many,
@@ -123,17 +112,42 @@ impl Proofs {
         Some(found)
     }
 
+    /// The positions that the proofs below the branches need, and the barred ones, without the present one.
     pub(crate) fn add_had(
         &mut self,
         present: u64,
         branches: &[Branch],
         barred: &[u64],
     ) -> Result<Span, AllocError> {
-        self.gather_had(branches)?;
-        for position in barred {
-            self.gathered.add(*position)?;
+        self.needed.begin();
+        let mut longest = Span::none();
+        for branch in branches {
+            let had = self.had_below(*branch);
+            self.needed.add_list(had)?;
+            if had.len() > longest.len() {
+                longest = had;
+            }
         }
-        self.gathered.remove(present);
-        self.lists.add(self.gathered.as_slice())
+        self.add_barred(barred)?;
+        self.needed.remove(present);
+        self.needed.keep(longest)
+    }
+
+    fn add_barred(&mut self, barred: &[u64]) -> Result<(), AllocError> {
+        for position in barred {
+            self.needed.add(*position)?;
+        }
+        Ok(())
+    }
+
+    /// What the proof below the branch needs.
+    fn had_below(&self, branch: Branch) -> Span {
+        match branch.below {
+            Below::Won => Span::none(),
+            Below::Proof(number) => match self.get(number) {
+                Some(proof) => proof.had,
+                None => Span::none(),
+            },
+        }
     }
 }

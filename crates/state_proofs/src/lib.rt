@@ -5,11 +5,13 @@
 
 mod answers;
 mod conditions;
+mod fingerprint;
 mod gathered;
 mod keys;
 mod line;
 mod lists;
 mod marks;
+mod needed;
 mod numbers;
 mod past;
 mod play;

@@ -1,5 +1,5 @@
-//! Lists of positions, ascending and each position once. A list that is equal to one that was added lately is not kept again: of
-//! the conditions of proofs most are.
+//! Lists of fingerprints, ascending and each once. A list that is equal to one that was added lately is not kept again: of the
+//! conditions of proofs most are.
 
 use crate::proof::Span;
 use crate::proofs::{number_of, part};
@@ -11,7 +11,7 @@ const FEW: usize = 1_024;
 /// The lists, one after the other.
 #[derive(Drop)]
 pub(crate) struct Lists {
-    positions: Vec<u64>,
+    fingerprints: Vec<u32>,
     /// The latest list for each number that lists are mixed to. Lists may share a number, so each is compared.
     latest: Vec<Span>,
     count: usize,
@@ -20,18 +20,18 @@ pub(crate) struct Lists {
 impl Lists {
     pub(crate) fn new(alloc: Global) -> Lists {
         Lists {
-            positions: Vec::new(alloc),
+            fingerprints: Vec::new(alloc),
             latest: Vec::new(alloc),
             count: 0,
         }
     }
 
-    pub(crate) fn get(&self, list: Span) -> &[u64] {
-        part(self.positions.as_slice(), list)
+    pub(crate) fn get(&self, list: Span) -> &[u32] {
+        part(self.fingerprints.as_slice(), list)
     }
 
     /// Adds the list, unless an equal one is found, and returns where it is.
-    pub(crate) fn add(&mut self, list: &[u64]) -> Result<Span, AllocError> {
+    pub(crate) fn add(&mut self, list: &[u32]) -> Result<Span, AllocError> {
         if list.is_empty() {
             return Ok(Span::none());
         }
@@ -42,9 +42,9 @@ impl Lists {
                 return Ok(known);
             }
         }
-        let from = number_of(self.positions.len())?;
-        self.positions.extend_from_slice(list)?;
-        let to = number_of(self.positions.len())?;
+        let from = number_of(self.fingerprints.len())?;
+        self.fingerprints.extend_from_slice(list)?;
+        let to = number_of(self.fingerprints.len())?;
         let added = Span { from, to };
         if slot < self.latest.len() {
             self.latest[slot] = added;
@@ -64,17 +64,17 @@ impl Lists {
     }
 }
 
-/// A number for the list, that of a set: the exclusive or of its positions, which are well mixed.
-fn mixed(list: &[u64]) -> u64 {
+/// A number for the list, that of a set: the exclusive or of its fingerprints, which are well mixed.
+fn mixed(list: &[u32]) -> u32 {
     let mut number = 0;
-    for position in list {
-        number ^= *position;
+    for fingerprint in list {
+        number ^= *fingerprint;
     }
     number
 }
 
 /// Whether the lists, which are of one length, are equal.
-fn is_same(one: &[u64], other: &[u64]) -> bool {
+fn is_same(one: &[u32], other: &[u32]) -> bool {
     for place in 0..one.len() {
         if place < other.len() && one[place] != other[place] {
             return false;

@@ -51,8 +51,8 @@ impl Span {
     }
 }
 
-/// Results of moves, in two lists that ascend and have none in common. The first may be that of a proof below; then what is not in
-/// it is little.
+/// The fingerprints of results of moves, in two lists that ascend and have none in common. The first may be that of a proof below;
+/// then what is not in it is little.
 #[derive(Clone, Copy)]
 pub(crate) struct Results {
     pub(crate) listed: Span,

@@ -6,6 +6,7 @@
 use crate::gathered::Gathered;
 use crate::lists::Lists;
 use crate::marks::Marks;
+use crate::needed::Needed;
 use crate::past::Past;
 use crate::proof::{Below, Branch, Proof, Results, Settled, Span, TreeSize};
 use indexmap::IndexMap;
@@ -32,9 +33,11 @@ pub struct Proofs {
     /// The positions of the states that have a proof.
     marks: Marks,
     pub(crate) branches: Vec<Branch>,
-    /// The conditions on the past, and one that is being made.
+    /// The results that must not have occurred, and a list of them that is being made.
     pub(crate) lists: Lists,
     pub(crate) gathered: Gathered,
+    /// The positions that must have occurred.
+    pub(crate) needed: Needed,
 }
 
 impl Proofs {
@@ -46,6 +49,7 @@ impl Proofs {
             branches: Vec::new(alloc),
             lists: Lists::new(alloc),
             gathered: Gathered::new(alloc),
+            needed: Needed::new(alloc),
         }
     }
 
@@ -108,14 +112,14 @@ impl Proofs {
 
     /// The positions that must have occurred, ascending.
     pub fn had(&self, proof: Proof) -> &[u64] {
-        self.lists.get(proof.had)
+        self.needed.get(proof.had)
     }
 
     /// Whether the proof holds with this past.
     fn holds(&self, proof: Proof, past: &Past) -> bool {
-        !past.has_any(self.lists.get(proof.not.more))
+        !past.may_have_any(self.lists.get(proof.not.more))
             && past.has_all(self.had(proof))
-            && !past.has_any(self.lists.get(proof.not.listed))
+            && !past.may_have_any(self.lists.get(proof.not.listed))
     }
 
     /// Whether the proof with this number holds with this past.

@@ -1,0 +1,77 @@
+//! The positions that must have occurred, for each proof that leaves out a move which the past bars. Few proofs have any.
+
+use crate::proof::Span;
+use crate::proofs::{number_of, part};
+use std::alloc::{AllocError, Global};
+
+/// The lists of all proofs, one after the other, and one that is being made.
+#[derive(Drop)]
+pub(crate) struct Needed {
+    positions: Vec<u64>,
+    /// Ascending, and each position once.
+    made: Vec<u64>,
+}
+
+impl Needed {
+    pub(crate) fn new(alloc: Global) -> Needed {
+        Needed {
+            positions: Vec::new(alloc),
+            made: Vec::new(alloc),
+        }
+    }
+
+    pub(crate) fn get(&self, list: Span) -> &[u64] {
+        part(self.positions.as_slice(), list)
+    }
+
+    /// Begins a list.
+    pub(crate) fn begin(&mut self) {
+        self.made.clear();
+    }
+
+    /// Adds the position to the list that is being made.
+    pub(crate) fn add(&mut self, position: u64) -> Result<(), AllocError> {
+        match self.made.binary_search(&position) {
+            Ok(_) => Ok(()),
+            Err(place) => {
+                if place <= self.made.len() {
+                    self.made.insert(place, position)?;
+                }
+                Ok(())
+            }
+        }
+    }
+
+    /// Adds the positions of another list.
+    pub(crate) fn add_list(&mut self, list: Span) -> Result<(), AllocError> {
+        for place in list.from..list.to {
+            if let Some(position) = self.positions.get(place as usize).copied() {
+                self.add(position)?;
+            }
+        }
+        Ok(())
+    }
+
+    /// Takes the position out of the list that is being made.
+    pub(crate) fn remove(&mut self, position: u64) {
+        if let Ok(place) = self.made.binary_search(&position) {
+            if place < self.made.len() {
+                self.made.remove(place);
+            }
+        }
+    }
+
+    /// Keeps the list that was made, and returns where it is. If it is this other one, that is not kept again.
+    pub(crate) fn keep(&mut self, other: Span) -> Result<Span, AllocError> {
+        if self.made.is_empty() {
+            return Ok(Span::none());
+        }
+        if self.made.as_slice() == self.get(other) {
+            return Ok(other);
+        }
+        let from = number_of(self.positions.len())?;
+        self.positions.extend_from_slice(self.made.as_slice())?;
+        let to = number_of(self.positions.len())?;
+        Ok(Span { from, to })
+    }
+}

@@ -9,16 +9,47 @@ use std::mem;
 /// How many moves a list holds before the next is begun.
 const ROOM: usize = 1_000_000;
 
+/// What was found of the state after a turn.
+#[derive(Clone, Copy, Debug, PartialEq, Eq)]
+pub(crate) enum Noted {
+    Nothing,
+    /// How many points are left there where the defender could have an eye.
+    Eyes(u8),
+    /// The questions were asked, and nothing was certain. Few of them depend on the past, so they are not asked again.
+    Open,
+    OpenWithEyes(u8),
+}
+
+impl Noted {
+    pub(crate) fn of(many: Option<u8>, is_open: bool) -> Noted {
+        match many {
+            Some(many) if is_open => Noted::OpenWithEyes(many),
+            Some(many) => Noted::Eyes(many),
+            None if is_open => Noted::Open,
+            None => Noted::Nothing,
+        }
+    }
+
+    /// How many points for eyes are left, if that was asked.
+    pub(crate) fn many(self) -> Option<u8> {
+        match self {
+            Noted::Eyes(many) | Noted::OpenWithEyes(many) => Some(many),
+            Noted::Nothing | Noted::Open => None,
+        }
+    }
+
+    /// Whether nothing was certain.
+    pub(crate) fn is_open(self) -> bool {
+        matches!(self, Noted::Open | Noted::OpenWithEyes(_))
+    }
+}
+
 /// A turn of a state, and the position after it.
 #[derive(Clone, Copy)]
 pub(crate) struct KeptMove {
     pub(crate) position: u64,
     pub(crate) step: Step,
-    /// How many points are left there where the defender could have an eye, if that was asked.
-    pub(crate) many: Option<u8>,
-    /// Whether the questions about the state after it were asked, and nothing was certain. Few of them depend on the past, so they
-    /// are not asked again.
-    pub(crate) was_open: bool,
+    pub(crate) noted: Noted,
 }
 
 /// The turns of a state, in the newer list.
@@ -95,8 +126,7 @@ impl KeptMoves {
         self.moves.push(KeptMove {
             step,
             position: kept.position,
-            many: kept.many,
-            was_open: kept.was_open,
+            noted: kept.noted,
         })?;
         Ok(())
     }
@@ -116,21 +146,18 @@ impl KeptMoves {
         self.moves.get(state.first.saturating_add(place)).copied()
     }
 
-    /// Notes how many points for eyes are left after the state's turn, which is looked for from this place on. Returns the place
-    /// after it.
+    /// Notes what was found of the state after this turn, which is looked for from this place on. Returns the place after it.
     pub(crate) fn note(
         &mut self,
         state: KeptState,
         from: usize,
         step: Step,
-        many: Option<u8>,
-        is_open: bool,
+        noted: Noted,
     ) -> usize {
         for place in from..state.count {
             let at = state.first.saturating_add(place);
             if at < self.moves.len() && self.moves[at].step == step {
-                self.moves[at].many = many;
-                self.moves[at].was_open = is_open;
+                self.moves[at].noted = noted;
                 return place + 1;
             }
         }

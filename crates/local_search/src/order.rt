@@ -72,7 +72,7 @@ impl Proving {
     fn prove(&mut self, alloc: Global, answers: Answers) -> Result<Shared, Stop> {
         self.finish.search.has_leaves = answers == Answers::Short;
         let before = self.finish.search.steps.left;
-        let first = self.first()?;
+        let first = self.first(alloc)?;
         let best = match answers {
             Answers::First | Answers::Short => first,
             Answers::Small => {
@@ -94,22 +94,29 @@ impl Proving {
     }
 
     /// The first whole proof. If a state that was taken for dead is not dead, everything is searched again without that question.
-    fn first(&mut self) -> Result<u32, Stop> {
-        if let Some(number) = self.find()? {
+    fn first(&mut self, alloc: Global) -> Result<u32, Stop> {
+        if let Some(number) = self.find(alloc)? {
             return Ok(number);
         }
         self.finish.search.asks_death = false;
         self.finish.search.forget();
-        match self.find()? {
+        match self.find(alloc)? {
             Some(number) => Ok(number),
             None => Err(Stop::Refused(Refusal::Fault)),
         }
     }
 
     /// Searches, and makes what is found whole. `None` if that fails.
-    fn find(&mut self) -> Result<Option<u32>, Stop> {
-        let found = self.settle()?;
-        self.finish.search.proofs.hide_all();
+    fn find(&mut self, alloc: Global) -> Result<Option<u32>, Stop> {
+        let settled = self.settle()?;
+        let proofs = &mut self.finish.search.proofs;
+        let found = if self.whole.is_empty() {
+            // Of the search only the tree that was found is still wanted.
+            proofs.keep_tree(alloc, settled)?
+        } else {
+            proofs.hide_all();
+            settled
+        };
         let from = self.finish.search.proofs.len();
         let made = self.finish.make(self.start, Goal::Whole(found))?;
         self.whole.push((from, self.finish.search.proofs.len()))?;
@@ -147,7 +154,7 @@ impl Proving {
         let mut best = first;
         for room in ROOMS {
             if (room == 0) == (self.turns_of(best) <= LARGE) {
-                best = self.with_room(room, best);
+                best = self.with_room(alloc, room, best);
             }
         }
         self.finish.search.asks_life = false;
@@ -159,13 +166,13 @@ impl Proving {
     }
 
     /// The smaller of this proof and the one that a search with this little room finds with a third of the steps that may be made.
-    fn with_room(&mut self, room: u32, best: u32) -> u32 {
+    fn with_room(&mut self, alloc: Global, room: u32, best: u32) -> u32 {
         let third = self.finish.search.steps.rest() / 3;
         let floor = self.finish.search.steps.begin(third);
         self.finish.search.asks_death = room != 0;
         self.finish.search.room = room;
         self.finish.search.forget();
-        let found = self.find();
+        let found = self.find(alloc);
         self.finish.search.room = 0;
         self.finish.search.steps.end(floor);
         match found {

@@ -1,17 +1,65 @@
 //! The conditions of a proof on the past, made of those of the proofs below it.
 
 use crate::fingerprint::fingerprint_of;
-use crate::proof::{Below, Branch, Results, Span};
-use crate::proofs::Proofs;
+use crate::proof::{Below, Branch, Conditions, Proof, Results, Span};
+use crate::proofs::{Proofs, number_of};
 use std::alloc::AllocError;
 
 impl Proofs {
+    /// The conditions of the proof.
+    pub(crate) fn conditions_of(&self, proof: Proof) -> Conditions {
+        self.conditions_at(proof.conditions())
+    }
+
+    fn conditions_at(&self, number: Option<u32>) -> Conditions {
+        let Some(number) = number else {
+            return Conditions::none();
+        };
+        match self.conditions.get(number as usize).copied() {
+            Some(conditions) => conditions,
+            None => Conditions::none(),
+        }
+    }
+
+    /// The conditions of the proof below the branch.
+    fn conditions_below(&self, branch: Branch) -> Conditions {
+        self.conditions_at(self.number_below(branch))
+    }
+
+    /// The number of the conditions of the proof below the branch.
+    fn number_below(&self, branch: Branch) -> Option<u32> {
+        match branch.below {
+            Below::Won => None,
+            Below::Proof(number) => self.get(number)?.conditions(),
+        }
+    }
+
+    /// Keeps these conditions of a proof with these branches, and returns their number, if there are any. Those of a proof below
+    /// are not kept again.
+    pub(crate) fn keep_conditions(
+        &mut self,
+        branches: &[Branch],
+        conditions: Conditions,
+    ) -> Result<Option<u32>, AllocError> {
+        if conditions.are_none() {
+            return Ok(None);
+        }
+        for branch in branches {
+            if self.conditions_below(*branch) == conditions {
+                return Ok(self.number_below(*branch));
+            }
+        }
+        let number = number_of(self.conditions.len())?;
+        self.conditions.push(conditions)?;
+        Ok(Some(number))
+    }
+
     /// Gathers the results below the branches.
     fn gather_not(&mut self, branches: &[Branch]) -> Result<(), AllocError> {
         self.gathered.clear();
         let mut last = Span::none();
         for branch in branches {
-            let not = self.results_below(*branch);
+            let not = self.conditions_below(*branch).not;
             // Proofs beside each other often share their list.
             if not.listed != last {
                 self.gathered.join(self.lists.get(not.listed))?;
@@ -20,17 +68,6 @@ impl Proofs {
             self.gathered.join(self.lists.get(not.more))?;
         }
         Ok(())
-    }
-
-    /// The results of the proof below the branch.
-    fn results_below(&self, branch: Branch) -> Results {
-        match branch.below {
-            Below::Won => Results::none(),
-            Below::Proof(number) => match self.get(number) {
-                Some(proof) => proof.not,
-                None => Results::none(),
-            },
-        }
     }
 
     /// The results of the proofs below the branches, and this one.
@@ -48,9 +85,8 @@ impl Proofs {
                 return Ok(below);
             }
             if below.more.len() == 0 {
-                let listed = below.listed;
                 let more = self.lists.add(&[fingerprint])?;
-                return Ok(Results { listed, more });
+                return Ok(Results { more, ..below });
             }
         }
         self.gather_not(branches)?;
@@ -61,9 +97,7 @@ impl Proofs {
     }
 
     fn has_result(&self, results: Results, fingerprint: u32) -> bool {
-        let listed = self.lists.get(results.listed);
-        let more = self.lists.get(results.more);
-        listed.binary_search(&fingerprint).is_ok() || more.binary_search(&fingerprint).is_ok()
+        self.lists.has(results.listed, fingerprint) || self.lists.has(results.more, fingerprint)
     }
 
     /// The results that are gathered, all those below the branches among them. They are those of one branch if these are as many,
@@ -89,7 +123,7 @@ impl Proofs {
     fn longest_below(&self, branches: &[Branch]) -> Results {
         let mut longest = Results::none();
         for branch in branches {
-            let not = self.results_below(*branch);
+            let not = self.conditions_below(*branch).not;
             if not.len() > longest.len() {
                 longest = not;
             }
@@ -101,7 +135,7 @@ impl Proofs {
     pub(crate) fn results_of_one(&self, branches: &[Branch]) -> Option<Results> {
         let mut found = Results::none();
         for branch in branches {
-            let not = self.results_below(*branch);
+            let not = self.conditions_below(*branch).not;
             if not.len() > 0 {
                 if found.len() > 0 {
                     return None;
@@ -122,7 +156,7 @@ impl Proofs {
         self.needed.begin();
         let mut longest = Span::none();
         for branch in branches {
-            let had = self.had_below(*branch);
+            let had = self.conditions_below(*branch).had;
             self.needed.add_list(had)?;
             if had.len() > longest.len() {
                 longest = had;
@@ -138,16 +172,5 @@ impl Proofs {
             self.needed.add(*position)?;
         }
         Ok(())
-    }
-
-    /// What the proof below the branch needs.
-    fn had_below(&self, branch: Branch) -> Span {
-        match branch.below {
-            Below::Won => Span::none(),
-            Below::Proof(number) => match self.get(number) {
-                Some(proof) => proof.had,
-                None => Span::none(),
-            },
-        }
     }
 }

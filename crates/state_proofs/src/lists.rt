@@ -30,6 +30,11 @@ impl Lists {
         part(self.fingerprints.as_slice(), list)
     }
 
+    /// Whether the fingerprint is in the list.
+    pub(crate) fn has(&self, list: Span, fingerprint: u32) -> bool {
+        self.get(list).binary_search(&fingerprint).is_ok()
+    }
+
     /// Adds the list, unless an equal one is found, and returns where it is.
     pub(crate) fn add(&mut self, list: &[u32]) -> Result<Span, AllocError> {
         if list.is_empty() {

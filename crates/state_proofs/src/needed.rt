@@ -61,12 +61,26 @@ impl Needed {
         }
     }
 
+    // Whether the list that was made is this one.
+    fn is_made(&self, list: Span) -> bool {
+        let positions = self.get(list);
+        if positions.len() != self.made.len() {
+            return false;
+        }
+        for place in 0..positions.len() {
+            if place < self.made.len() && positions[place] != self.made[place] {
+                return false;
+            }
+        }
+        true
+    }
+
     /// Keeps the list that was made, and returns where it is. If it is this other one, that is not kept again.
     pub(crate) fn keep(&mut self, other: Span) -> Result<Span, AllocError> {
         if self.made.is_empty() {
             return Ok(Span::none());
         }
-        if self.made.as_slice() == self.get(other) {
+        if self.is_made(other) {
             return Ok(other);
         }
         let from = number_of(self.positions.len())?;

@@ -53,7 +53,7 @@ impl Span {
 
 /// The fingerprints of results of moves, in two lists that ascend and have none in common. The first may be that of a proof below;
 /// then what is not in it is little.
-#[derive(Clone, Copy)]
+#[derive(Clone, Copy, PartialEq, Eq)]
 pub(crate) struct Results {
     pub(crate) listed: Span,
     pub(crate) more: Span,
@@ -72,6 +72,30 @@ impl Results {
     }
 }
 
+/// What the past must be like for a proof to hold.
+#[derive(Clone, Copy, PartialEq, Eq)]
+pub(crate) struct Conditions {
+    /// The results of the winner's moves: none of them may have occurred.
+    pub(crate) not: Results,
+    /// The results of moves that the proof leaves out, ascending: all of them must have occurred.
+    pub(crate) had: Span,
+}
+
+impl Conditions {
+    /// No conditions.
+    pub(crate) fn none() -> Conditions {
+        Conditions {
+            not: Results::none(),
+            had: Span::none(),
+        }
+    }
+
+    /// Whether any past will do.
+    pub(crate) fn are_none(self) -> bool {
+        self.not.len() == 0 && self.had.len() == 0
+    }
+}
+
 /// A settled state.
 #[derive(Clone, Copy)]
 pub struct Proof {
@@ -81,28 +105,28 @@ pub struct Proof {
     /// Whether its state was expanded, rather than only settled by a question.
     pub is_expanded: bool,
     pub(crate) branches: Span,
-    /// The results of the winner's moves: none of them may have occurred.
-    pub(crate) not: Results,
-    /// The results of moves that the proof leaves out, ascending: all of them must have occurred.
-    pub(crate) had: Span,
+    /// The number of its conditions, or `NO_CONDITIONS`.
+    conditions: u32,
     /// The turns of the answer tree; the greatest number also stands for more.
     pub turns: u64,
     /// The number of turns of the longest line of play below.
     pub depth: u32,
-    /// An earlier proof of the same state, or `NO_PROOF`.
+    /// An earlier proof of a state with the same position, or `NO_PROOF`.
     next: u32,
 }
 
 /// The number of no proof.
 const NO_PROOF: u32 = u32::MAX;
 
+/// The number of no conditions.
+const NO_CONDITIONS: u32 = u32::MAX;
+
 impl Proof {
-    /// The proof with these lists. `next` is an earlier one of the same state.
+    /// The proof with these branches, under the conditions with this number. `next` is an earlier one of the same position.
     pub(crate) fn of(
         settled: Settled,
         branches: Span,
-        not: Results,
-        had: Span,
+        conditions: Option<u32>,
         size: TreeSize,
         next: Option<u32>,
     ) -> Proof {
@@ -112,15 +136,23 @@ impl Proof {
             form: settled.form,
             is_expanded: settled.is_expanded,
             branches,
-            not,
-            had,
+            conditions: conditions.unwrap_or(NO_CONDITIONS),
             turns: size.turns,
             depth: size.depth,
             next: next.unwrap_or(NO_PROOF),
         }
     }
 
-    /// The earlier proof of the same state.
+    /// The number of its conditions, if there are any.
+    pub(crate) fn conditions(self) -> Option<u32> {
+        if self.conditions == NO_CONDITIONS {
+            None
+        } else {
+            Some(self.conditions)
+        }
+    }
+
+    /// The earlier proof of the same position.
     pub(crate) fn next(self) -> Option<u32> {
         if self.next == NO_PROOF {
             None
@@ -129,10 +161,18 @@ impl Proof {
         }
     }
 
-    /// The proof with another earlier proof of the same state.
+    /// The proof with another earlier proof of the same position.
     pub(crate) fn after(self, next: Option<u32>) -> Proof {
         Proof {
             next: next.unwrap_or(NO_PROOF),
+            ..self
+        }
+    }
+
+    /// The proof with no conditions.
+    pub(crate) fn without_conditions(self) -> Proof {
+        Proof {
+            conditions: NO_CONDITIONS,
             ..self
         }
     }

@@ -8,7 +8,7 @@ use crate::lists::Lists;
 use crate::marks::Marks;
 use crate::needed::Needed;
 use crate::past::Past;
-use crate::proof::{Below, Branch, Proof, Results, Settled, Span, TreeSize};
+use crate::proof::{Below, Branch, Conditions, Proof, Settled, Span, TreeSize};
 use indexmap::IndexMap;
 use pn_table::Key;
 use std::alloc::{AllocError, Global};
@@ -28,11 +28,13 @@ const FEW: usize = 512;
 #[derive(Drop)]
 pub struct Proofs {
     pub(crate) proofs: Vec<Proof>,
-    /// The latest proof of a state.
-    latest: IndexMap<Key, u32>,
+    /// The latest proof of a state with the position. Some states share a position, so a chain of proofs is looked through.
+    latest: IndexMap<u64, u32>,
     /// The positions of the states that have a proof.
     marks: Marks,
     pub(crate) branches: Vec<Branch>,
+    /// The conditions of proofs, by their numbers.
+    pub(crate) conditions: Vec<Conditions>,
     /// The results that must not have occurred, and a list of them that is being made.
     pub(crate) lists: Lists,
     pub(crate) gathered: Gathered,
@@ -47,6 +49,7 @@ impl Proofs {
             latest: IndexMap::new(alloc),
             marks: Marks::new(alloc),
             branches: Vec::new(alloc),
+            conditions: Vec::new(alloc),
             lists: Lists::new(alloc),
             gathered: Gathered::new(alloc),
             needed: Needed::new(alloc),
@@ -107,19 +110,20 @@ impl Proofs {
 
     /// Whether the proof leaves out a move that the past bars.
     pub fn needs_a_past(&self, proof: Proof) -> bool {
-        proof.had.from < proof.had.to
+        self.conditions_of(proof).had.len() > 0
     }
 
     /// The positions that must have occurred, ascending.
     pub fn had(&self, proof: Proof) -> &[u64] {
-        self.needed.get(proof.had)
+        self.needed.get(self.conditions_of(proof).had)
     }
 
     /// Whether the proof holds with this past.
     fn holds(&self, proof: Proof, past: &Past) -> bool {
-        !past.may_have_any(self.lists.get(proof.not.more))
-            && past.has_all(self.had(proof))
-            && !past.may_have_any(self.lists.get(proof.not.listed))
+        let conditions = self.conditions_of(proof);
+        !past.may_have_any(self.lists.get(conditions.not.more))
+            && past.has_all(self.needed.get(conditions.had))
+            && !past.may_have_any(self.lists.get(conditions.not.listed))
     }
 
     /// Whether the proof with this number holds with this past.
@@ -140,7 +144,7 @@ impl Proofs {
         if !self.may_have(key.position) {
             return None;
         }
-        let mut next = self.latest.get(&key).copied();
+        let mut next = self.latest.get(&key.position).copied();
         let mut found = None;
         let mut least = u64::MAX;
         for _ in 0..self.proofs.len() {
@@ -148,7 +152,8 @@ impl Proofs {
                 return found;
             };
             let proof = self.get(number)?;
-            if (found.is_none() || proof.turns < least)
+            if proof.key == key
+                && (found.is_none() || proof.turns < least)
                 && line.saturating_add(proof.depth as usize) <= MAX_LINE
                 && self.holds(proof, past)
             {
@@ -171,8 +176,9 @@ impl Proofs {
     ) -> Result<u32, AllocError> {
         let not = self.add_not(branches, reached)?;
         let had = self.add_had(settled.key.position, branches, barred)?;
+        let conditions = self.keep_conditions(branches, Conditions { not, had })?;
         let size = self.size_above(branches);
-        self.add_with(settled, branches, not, had, size)
+        self.add_with(settled, branches, conditions, size)
     }
 
     /// Adds a proof without branches whose tree is estimated to have this many turns and this depth, and returns its number.
@@ -183,7 +189,7 @@ impl Proofs {
         depth: u32,
     ) -> Result<u32, AllocError> {
         let size = TreeSize { turns, depth };
-        self.add_with(settled, &[], Results::none(), Span::none(), size)
+        self.add_with(settled, &[], None, size)
     }
 
     /// Adds the proof of a state that is a leaf of short claims, and returns its number. It holds with any past.
@@ -191,13 +197,12 @@ impl Proofs {
         self.add_by_shape(settled, LEAF_TURNS, LEAF_DEPTH)
     }
 
-    /// Adds the proof with these lists.
+    /// Adds the proof with these branches, under the conditions with this number.
     fn add_with(
         &mut self,
         settled: Settled,
         branches: &[Branch],
-        not: Results,
-        had: Span,
+        conditions: Option<u32>,
         size: TreeSize,
     ) -> Result<u32, AllocError> {
         let number = number_of(self.proofs.len())?;
@@ -205,10 +210,11 @@ impl Proofs {
         let from = number_of(self.branches.len())?;
         self.branches.extend_from_slice(branches)?;
         let to = number_of(self.branches.len())?;
-        let next = self.latest.get(&settled.key).copied();
-        let proof = Proof::of(settled, Span { from, to }, not, had, size, next);
+        let position = settled.key.position;
+        let next = self.latest.get(&position).copied();
+        let proof = Proof::of(settled, Span { from, to }, conditions, size, next);
         self.proofs.push(proof)?;
-        self.latest.insert(settled.key, number)?;
+        self.latest.insert(position, number)?;
         Ok(number)
     }
 
@@ -229,7 +235,23 @@ impl Proofs {
 
     /// Whether a proof of the state can be found.
     pub fn knows(&self, key: Key) -> bool {
-        self.may_have(key.position) && self.latest.contains_key(&key)
+        if !self.may_have(key.position) {
+            return false;
+        }
+        let mut next = self.latest.get(&key.position).copied();
+        for _ in 0..self.proofs.len() {
+            let Some(number) = next else {
+                return false;
+            };
+            let Some(proof) = self.get(number) else {
+                return false;
+            };
+            if proof.key == key {
+                return true;
+            }
+            next = proof.next();
+        }
+        false
     }
 
     /// Hides all proofs: none is found any more.
@@ -248,10 +270,10 @@ impl Proofs {
             if let Some(proof) = self.at(place) {
                 match proof.next() {
                     Some(before) => {
-                        self.latest.insert(proof.key, before)?;
+                        self.latest.insert(proof.key.position, before)?;
                     }
                     None => {
-                        self.latest.swap_remove(&proof.key);
+                        self.latest.swap_remove(&proof.key.position);
                     }
                 }
             }
@@ -264,17 +286,22 @@ impl Proofs {
         let number = number_of(place)?;
         if place < self.proofs.len() {
             let proof = self.proofs[place];
-            let before = self.latest.get(&proof.key).copied();
+            let before = self.latest.get(&proof.key.position).copied();
             self.proofs[place] = proof.after(before);
-            self.latest.insert(proof.key, number)?;
+            self.latest.insert(proof.key.position, number)?;
         }
         Ok(())
     }
 
-    /// Makes all proofs findable, with no more memory than that needs.
-    pub(crate) fn show_all(&mut self) -> Result<(), AllocError> {
+    /// Hides all proofs, and gives back the memory by which they are found.
+    pub(crate) fn drop_index(&mut self) {
         self.hide_all();
         self.latest.shrink_to_fit();
+    }
+
+    /// Makes all proofs findable, with no more memory than that needs.
+    pub(crate) fn show_all(&mut self) -> Result<(), AllocError> {
+        self.drop_index();
         for place in 0..self.proofs.len() {
             self.show(place)?;
         }

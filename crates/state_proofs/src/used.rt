@@ -1,5 +1,7 @@
 //! The proofs that a proof uses.
 
+use crate::lists::Lists;
+use crate::needed::Needed;
 use crate::proof::{Below, Branch, Proof, Span};
 use crate::proofs::{Proofs, number_of};
 use crate::refusal::Refusal;
@@ -135,6 +137,27 @@ impl Proofs {
     /// Leaves out all proofs that this one does not use, with their memory, and returns its new number: it is the last. All that are
     /// left can be found. The time is linear in the number of all proofs. After a refusal the proofs are of no use.
     pub fn keep_used(&mut self, alloc: Global, root: u32) -> Result<u32, Refusal> {
+        let root = self.leave_out_unused(alloc, root)?;
+        self.show_all()?;
+        Ok(root)
+    }
+
+    /// Leaves only the tree of this proof, whose number it returns: the proofs that it uses, without the conditions under which they
+    /// hold. None of them can be found. The time is linear in the number of all proofs. After a refusal the proofs are of no use.
+    pub fn keep_tree(&mut self, alloc: Global, root: u32) -> Result<u32, Refusal> {
+        let root = self.leave_out_unused(alloc, root)?;
+        self.drop_index();
+        for place in 0..self.proofs.len() {
+            self.proofs[place] = self.proofs[place].without_conditions();
+        }
+        self.conditions = Vec::new(alloc);
+        self.lists = Lists::new(alloc);
+        self.needed = Needed::new(alloc);
+        Ok(root)
+    }
+
+    /// Leaves out all proofs that this one does not use, with their memory, and returns its new number.
+    fn leave_out_unused(&mut self, alloc: Global, root: u32) -> Result<u32, Refusal> {
         if root as usize >= self.len() {
             return Err(Refusal::Fault);
         }
@@ -148,7 +171,6 @@ impl Proofs {
         self.branches.truncate(numbers.branches);
         self.proofs.shrink_to_fit();
         self.branches.shrink_to_fit();
-        self.show_all()?;
         Ok(numbers.new_number(root))
     }
 }

@@ -26,7 +26,10 @@ pub fn prove(
         return Err(Stop::Refused(Refusal::Memory));
     };
     let before = *left;
-    let found = search.settle(0, left)?;
+    let found = match search.settle(0, left) {
+        Ok(found) => found,
+        Err(stop) => return Err(stop),
+    };
     let used = before - *left;
     let mut smaller = Smaller::of(alloc, search);
     let root = match answers {

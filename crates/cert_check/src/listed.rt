@@ -31,7 +31,7 @@ fn is_among(colouring: &Colouring, list: &ColouringList) -> bool
     ensures { result ≡ has_occurred list.now colouring.now }
 {
     for index in 0..list.len() {
-        if *colouring == list.at(index) {
+        if list.is_at(index, colouring) {
             return true;
         }
     }
@@ -97,7 +97,7 @@ fn all_passed(few: &ColouringList, list: &ColouringList) -> bool
         if wanted == few.len() {
             return true;
         }
-        if few.at(wanted) == list.at(index) {
+        if list.is_at(index, &few.at(wanted)) {
             wanted += 1;
         }
     }

@@ -20,7 +20,7 @@ first_at : (count : ℕ) (w : List ℕ) (j : ℕ) → j < count → get_or (firs
 unfolding first_words
 first_at count w j low = get_or-map-range_with_len (λ j. get_or w j 0) 0 count j j 0 low (omega arith)
 
-wide_at : (w : List ℕ) → length w ≡ narrow_count → (j : ℕ) → get_or (first_words word_count w) j 0 ≡ get_or w j 0
+pub wide_at : (w : List ℕ) → length w ≡ narrow_count → (j : ℕ) → get_or (first_words word_count w) j 0 ≡ get_or w j 0
 wide_at w long j = elim (cases_lt j word_count) [
   | inl on ↦ first_at word_count w j on
   | inr off ↦ get_or_past (first_words word_count w) j 0 (omega (arith, off, first_length word_count w)) ∙ sym (get_or_past w j 0 (omega (arith, off, long)))

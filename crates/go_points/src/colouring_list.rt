@@ -1,6 +1,8 @@
 //! A list of colourings. Those of at most 19 rows take less room.
 
-ghost use Rattle.std.specs.Prelude.{◌≡◌, ◌<◌, ◌++◌, ◌-◌, ◌∷◌, [], OnErr, OnOk, Some, length, slice_get};
+ghost use Rattle.std.specs.Prelude.{◌≡◌, ◌<◌, ◌++◌, ◌-◌, ◌∷◌, [], List, OnErr, OnOk, Some, length, slice_get};
+ghost use Rattle.go_points.specs.Grid.{same_cells};
+ghost use Rattle.go_points.specs.declared.Cell.{Cell};
 
 use crate::colouring::Colouring;
 use crate::narrow_colouring::{NarrowColouring, is_narrow};
@@ -51,6 +53,18 @@ impl ColouringList {
             return self.narrow[index].widen();
         }
         self.wide[index - self.narrow.len()]
+    }
+
+    /// Whether the colouring at an index of the list is this one. It is not made wide where its first words tell.
+    pub fn is_at(&self, index: usize, colouring: &Colouring) -> bool
+        requires { index < length self.now }
+        ensures { (found : List Cell) → slice_get self.now index ≡ Some found
+            → result ≡ same_cells colouring.now found }
+    {
+        if index < self.narrow.len() {
+            return self.narrow[index].is(colouring);
+        }
+        *colouring == self.wide[index - self.narrow.len()]
     }
 
     /// The colouring at this index, if there is one.

@@ -1,11 +1,11 @@
 //! A colouring of at most 19 rows, in as many words as it needs.
 
 ghost use Rattle.std.specs.Prelude.{◌≡◌, ◌≤◌, nat_le};
-ghost use Rattle.go_points.specs.Grid.{side_of};
+ghost use Rattle.go_points.specs.Grid.{same_cells, side_of};
 ghost use Rattle.go_points.specs.declared.point_bits.TheConstants.{NARROW_SIZE};
 
 use crate::colouring::Colouring;
-use crate::point_bits::{NARROW_SIZE, NarrowBits, narrow_bits, wide_bits};
+use crate::point_bits::{NARROW_SIZE, NarrowBits, are_unlike, narrow_bits, wide_bits};
 use crate::size::Size;
 use std::marker::Model;
 
@@ -57,5 +57,18 @@ impl NarrowColouring {
             stones: wide_bits(&self.stones),
             blacks: wide_bits(&self.blacks),
         }
+    }
+
+    /// Whether this is the colouring. Most others are told apart by the first words that differ.
+    pub(crate) fn is(&self, colouring: &Colouring) -> bool
+        ensures { result ≡ same_cells colouring.now self.now }
+    {
+        if are_unlike(&self.stones, &colouring.stones) {
+            return false;
+        }
+        if are_unlike(&self.blacks, &colouring.blacks) {
+            return false;
+        }
+        *colouring == self.widen()
     }
 }

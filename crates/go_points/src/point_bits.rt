@@ -1,6 +1,6 @@
 //! One bit for each point of the widest board, in fixed words.
 
-ghost use Rattle.std.specs.Prelude.{◌≡◌, ◌≢◌, ◌<◌, ◌≤◌, ◌*◌, ℕ, replicate};
+ghost use Rattle.std.specs.Prelude.{◌≡◌, ◌≢◌, ◌<◌, ◌≤◌, ◌*◌, ℕ, replicate, true};
 ghost use Rattle.std.specs.Int.{bit_at};
 ghost use Rattle.go_points.specs.declared.TheConstants.{MAX_POINTS};
 ghost use Rattle.go_points.specs.Points.{has_bit};
@@ -50,6 +50,18 @@ pub(crate) fn wide_bits(bits: &NarrowBits) -> PointBits
         wide[index] = bits[index];
     }
     wide
+}
+
+/// Whether the first words differ from those of the other set, each followed by words without a bit.
+pub(crate) fn are_unlike(narrow: &NarrowBits, bits: &PointBits) -> bool
+    ensures { result ≡ true → first_words word_count narrow.now ≢ bits.now }
+{
+    for index in 0..NARROW_WORDS {
+        if narrow[index] != bits[index] {
+            return true;
+        }
+    }
+    false
 }
 
 pub(crate) fn read_bit(bits: &PointBits, bit: usize) -> bool

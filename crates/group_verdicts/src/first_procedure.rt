@@ -181,17 +181,7 @@ pub(crate) fn first_procedure<N: Write>(
             notes,
         )?;
         course.no_natural = is_off;
-        let kind = bound_of_kind(
-            alloc,
-            group,
-            table,
-            first,
-            count,
-            natural,
-            &mut course,
-            notes,
-        )?;
-        let bound = bound_of_hard(
+        let (kind, bound) = bounds(
             alloc,
             group,
             table,
@@ -207,6 +197,53 @@ pub(crate) fn first_procedure<N: Write>(
         }
     }
     Ok(course.finding(group.order.len() <= SIZES[0]))
+}
+
+/// The answers if weak walls fall, and if the defender is shut in. If the natural walls are unknown here, only the side for which
+/// they spoke before can still be sure: the walls that speak against it are asked first, and the others only if it may be.
+fn bounds<N: Write>(
+    alloc: Global,
+    group: &Group,
+    table: &mut Table,
+    first: Side,
+    hard: Walls,
+    count: usize,
+    natural: Option<Side>,
+    course: &mut Course,
+    notes: &mut N,
+) -> Result<(Option<Side>, Option<Side>), AllocError> {
+    let before = if natural.is_some() {
+        None
+    } else {
+        course.natural
+    };
+    if before == Some(Side::Defender) {
+        let bound = bound_of_hard(
+            alloc, group, table, first, hard, count, natural, course, notes,
+        )?;
+        if !may_be_sure(Side::Defender, bound, course.sure) {
+            return Ok((None, bound));
+        }
+        let kind = bound_of_kind(alloc, group, table, first, count, natural, course, notes)?;
+        return Ok((kind, bound));
+    }
+    let kind = bound_of_kind(alloc, group, table, first, count, natural, course, notes)?;
+    if before == Some(Side::Attacker) && !may_be_sure(Side::Attacker, kind, course.sure) {
+        return Ok((kind, None));
+    }
+    let bound = bound_of_hard(
+        alloc, group, table, first, hard, count, natural, course, notes,
+    )?;
+    Ok((kind, bound))
+}
+
+/// Whether the side may surely win, if this is the answer with the walls that speak against it: then it wins there, or they are
+/// unknown and it surely won at the size before.
+fn may_be_sure(side: Side, bound: Option<Side>, before: Option<Side>) -> bool {
+    match bound {
+        Some(winner) => winner.is(side),
+        None => is_won_by(side, before),
+    }
 }
 
 /// The answer if weak walls fall, unless the natural walls spoke for the defender.

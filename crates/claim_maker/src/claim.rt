@@ -175,7 +175,7 @@ impl Walk {
         if last < self.visits.len() {
             self.visits[last].next = self.visits[last].next.saturating_add(1);
         }
-        let Below::Proof(number) = branch.below else {
+        let Below::Proof(number) = branch.below() else {
             return Ok(());
         };
         if self.met.get(number as usize).copied() != Some(false) {
@@ -184,7 +184,7 @@ impl Walk {
         let Some(proof) = proofs.get(number) else {
             return Err(Refusal::Fault);
         };
-        self.line.go(branch.turn, proof.key)?;
+        self.line.go(branch.turn, proof.key())?;
         if self.line.past().len() > self.occurred.len() {
             self.occurred.push(self.line.play().colouring())?;
         }
@@ -236,7 +236,7 @@ impl Walk {
         proofs: &Proofs,
         visit: Visit,
     ) -> Result<(), Refusal> {
-        let key = visit.proof.key;
+        let key = visit.proof.key();
         let root = self.line.play().colouring();
         if !bodies.begin_lemma(alloc, visit.proof, &root) {
             return Err(Refusal::Memory);

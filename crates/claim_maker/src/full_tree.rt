@@ -53,7 +53,7 @@ fn branch_by(
     }
     let noted = note_tree(alloc, proofs, play, winner, below)?;
     play.back();
-    Ok(Branch { turn, below: noted })
+    Ok(Branch::of(turn, noted))
 }
 
 /// Adds the proof of the state by these branches.

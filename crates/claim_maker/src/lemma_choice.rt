@@ -115,7 +115,7 @@ impl LemmaChoice {
     fn nodes_of_tree(&self, proofs: &Proofs, proof: Proof) -> u64 {
         let mut nodes: u64 = 1;
         for branch in proofs.branches(proof) {
-            nodes = nodes.saturating_add(self.nodes_below(branch.below));
+            nodes = nodes.saturating_add(self.nodes_below(branch.below()));
         }
         nodes
     }
@@ -154,7 +154,7 @@ fn count_uses(alloc: Global, proofs: &Proofs) -> Result<Vec<u32>, AllocError> {
 /// Counts one more use of each proof below a branch of this one.
 fn count_uses_below(proofs: &Proofs, proof: Proof, uses: &mut Vec<u32>) {
     for branch in proofs.branches(proof) {
-        if let Below::Proof(number) = branch.below {
+        if let Below::Proof(number) = branch.below() {
             let place = number as usize;
             if place < uses.len() {
                 uses[place] = uses[place].saturating_add(1);

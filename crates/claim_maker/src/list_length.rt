@@ -59,7 +59,7 @@ impl ListLength {
             if proof.form == Form::Turn && branch.turn != Turn::Pass {
                 listed = 1;
             }
-            if let Below::Proof(number) = branch.below {
+            if let Below::Proof(number) = branch.below() {
                 self.meet(number)?;
             }
         }

@@ -62,8 +62,8 @@ impl Writer {
         self.nodes = 0;
         self.absent.clear();
         self.used.clear();
-        self.play
-            .restart(alloc, root, proof.key.mover, proof.key.passes)
+        let key = proof.key();
+        self.play.restart(alloc, root, key.mover, key.passes)
     }
 
     /// The list of the lemma whose body has been written: ascending, each colouring once. It has what the lemmas that are used list.
@@ -168,7 +168,7 @@ impl Writer {
             return Ok(());
         }
         self.list_result(visit, branch.turn)?;
-        match branch.below {
+        match branch.below() {
             Below::Won => self.write_leaf(branch.turn, Node::Won),
             Below::Proof(number) => match lemmas.of_proof(number) {
                 None => self.enter(proofs, number),
@@ -205,7 +205,7 @@ impl Writer {
 
     /// Lists the colouring that the winner's move has led to.
     fn list_result(&mut self, visit: Visit, turn: Turn) -> Result<(), Refusal> {
-        if self.lemma.is_some() && turn != Turn::Pass && visit.proof.key.mover == self.winner {
+        if self.lemma.is_some() && turn != Turn::Pass && visit.proof.key().mover == self.winner {
             self.absent.push(self.play.colouring())?;
         }
         Ok(())

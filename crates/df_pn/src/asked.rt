@@ -75,7 +75,7 @@ impl Smaller {
     /// Lists a turn of the winner, which may be the proof's own.
     fn ask_turn(&mut self, own: Option<Branch>, turn: Turn, key: Key) -> Result<(), AllocError> {
         let question = match own {
-            Some(own) if own.turn == turn => match own.below {
+            Some(own) if own.turn == turn => match own.below() {
                 Below::Won => Question::Known(Below::Won),
                 Below::Proof(number) => Question::Smaller(number),
             },
@@ -129,10 +129,10 @@ impl Smaller {
             Some(played) => !played.is_barred,
             None => true,
         };
-        let (key, question) = match branch.below {
+        let (key, question) = match branch.below() {
             Below::Proof(number) => match self.search.proofs.get(number) {
-                Some(proof) if is_legal => (proof.key, Question::Smaller(number)),
-                _ => (end, Question::Known(branch.below)),
+                Some(proof) if is_legal => (proof.key(), Question::Smaller(number)),
+                _ => (end, Question::Known(branch.below())),
             },
             Below::Won => (end, Question::Known(Below::Won)),
         };

@@ -49,10 +49,7 @@ impl Search {
         match child.outcome {
             Outcome::Open(_) => Ok(()),
             Outcome::Wins(below) | Outcome::Loses(below) => {
-                self.branches.push(Branch {
-                    turn: child.turn,
-                    below,
-                })?;
+                self.branches.push(Branch::of(child.turn, below))?;
                 Ok(())
             }
         }

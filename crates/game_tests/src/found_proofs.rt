@@ -32,10 +32,7 @@ fn found_with(proofs: &Proofs, past: &Past, position: u64) -> Option<usize> {
 // One proof, of the state 7: a turn that wins at once, with what must not have occurred, and what must have.
 fn one_proof(rt: &impl Abort, alloc: Global, reached: Option<u64>, barred: &[u64]) -> Proofs {
     let mut proofs = Proofs::new(alloc);
-    let wins = Branch {
-        turn: Turn::Pass,
-        below: Below::Won,
-    };
+    let wins = Branch::of(Turn::Pass, Below::Won);
     expect_that(rt, proofs.add(state(7), &[wins], reached, barred).is_ok());
     proofs
 }

@@ -310,7 +310,7 @@ fn is_proved_before(proofs: &Proofs, place: usize) -> bool {
     };
     for earlier in 0..place {
         if let Some(other) = proofs.at(earlier) {
-            if other.key == proof.key {
+            if other.key() == proof.key() {
                 return true;
             }
         }

@@ -290,10 +290,7 @@ fn a_leaf_is_shared(rt: HostRuntime) {
         is_expanded: false,
     };
     let number = proofs.add_leaf(leaf).expect(&rt, "memory");
-    let branch = Branch {
-        turn: Turn::At(point),
-        below: Below::Proof(number),
-    };
+    let branch = Branch::of(Turn::At(point), Below::Proof(number));
     let settled = Settled {
         key: first,
         winner: Colour::White,

@@ -193,7 +193,7 @@ impl Smaller {
 
 /// The question about a turn that the proof has.
 fn question_below(branch: Branch) -> Question {
-    match branch.below {
+    match branch.below() {
         Below::Won => Question::Known(Below::Won),
         Below::Proof(number) => Question::Smaller(number),
     }

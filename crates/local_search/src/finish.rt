@@ -193,7 +193,7 @@ impl Finish {
                 return Ok(());
             }
         }
-        let goal = match branch.below {
+        let goal = match branch.below() {
             Below::Won => Goal::Won,
             Below::Proof(number) => Goal::Whole(number),
         };
@@ -264,7 +264,7 @@ impl Finish {
     /// Keeps the branch of the last state, and goes on to its next turn if one more is needed.
     fn keep(&mut self, step: Step, below: Below) -> Result<(), AllocError> {
         let turn = self.search.shapes.board.turn(step);
-        self.made.push(Branch { turn, below })?;
+        self.made.push(Branch::of(turn, below))?;
         let end = self.due.len();
         let last = self.visits.len().saturating_sub(1);
         if last < self.visits.len() {

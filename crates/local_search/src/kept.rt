@@ -7,7 +7,7 @@ use std::alloc::{AllocError, Global};
 use std::mem;
 
 /// How many moves a list holds before the next is begun.
-const ROOM: usize = 1_000_000;
+const ROOM: usize = 400_000;
 
 /// What was found of the state after a turn.
 #[derive(Clone, Copy, Debug, PartialEq, Eq)]
@@ -63,7 +63,6 @@ pub(crate) struct KeptState {
 /// older held is forgotten.
 #[derive(Drop)]
 pub(crate) struct KeptMoves {
-    alloc: Global,
     states: IndexMap<Key, KeptState>,
     moves: Vec<KeptMove>,
     older_states: IndexMap<Key, KeptState>,
@@ -73,7 +72,6 @@ pub(crate) struct KeptMoves {
 impl KeptMoves {
     pub(crate) fn new(alloc: Global) -> KeptMoves {
         KeptMoves {
-            alloc,
             states: IndexMap::new(alloc),
             moves: Vec::new(alloc),
             older_states: IndexMap::new(alloc),
@@ -113,8 +111,10 @@ impl KeptMoves {
     /// Begins the turns of a state, and returns the place of the first of them.
     pub(crate) fn begin(&mut self) -> usize {
         if self.moves.len() >= ROOM {
-            self.older_moves = mem::replace(&mut self.moves, Vec::new(self.alloc));
-            self.older_states = mem::replace(&mut self.states, IndexMap::new(self.alloc));
+            mem::swap(&mut self.moves, &mut self.older_moves);
+            mem::swap(&mut self.states, &mut self.older_states);
+            self.moves.clear();
+            self.states.clear();
         }
         self.moves.len()
     }

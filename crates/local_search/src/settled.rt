@@ -14,7 +14,7 @@ use std::alloc::AllocError;
 const MOST_DOUBLINGS: u32 = 14;
 
 /// The depth that a proof by shape counts for.
-const DEPTH_BY_SHAPE: u32 = 30;
+const DEPTH_BY_SHAPE: u16 = 30;
 
 impl Search {
     /// Makes the proof of the last frame.
@@ -67,7 +67,7 @@ impl Search {
             }
         };
         let turn = self.shapes.board.turn(step);
-        self.branches.push(Branch { turn, below })?;
+        self.branches.push(Branch::of(turn, below))?;
         Ok(())
     }
 
@@ -113,10 +113,7 @@ impl Search {
         state: State,
         is_expanded: bool,
     ) -> Result<u32, AllocError> {
-        let branch = Branch {
-            turn: Turn::Pass,
-            below: Below::Won,
-        };
+        let branch = Branch::of(Turn::Pass, Below::Won);
         let settled = Settled {
             key: state.key,
             winner: self.colour(Side::Defender),
@@ -148,10 +145,7 @@ impl Search {
             Some(place) => step_at(place),
             None => Step::Pass,
         };
-        let branch = Branch {
-            turn: self.shapes.board.turn(step),
-            below: Below::Won,
-        };
+        let branch = Branch::of(self.shapes.board.turn(step), Below::Won);
         let after = Some(after.key.position);
         Ok(self.proofs.add(settled, &[branch], after, &[])?)
     }
@@ -166,10 +160,8 @@ impl Search {
             Some(number) => number,
             None => self.proof_by_shape(next.state, side)?,
         };
-        let branch = Branch {
-            turn: self.shapes.board.turn(next.step),
-            below: Below::Proof(number),
-        };
+        let turn = self.shapes.board.turn(next.step);
+        let branch = Branch::of(turn, Below::Proof(number));
         let settled = Settled {
             key: state.key,
             winner: state.key.mover,

@@ -26,7 +26,7 @@ const FIRST_VALUE: u64 = 1 << 12;
 const MOST_VALUE: u64 = 1 << 50;
 
 /// The greatest number of branches below a known turn that is taken.
-const MAX_KNOWN_DEPTH: u32 = 1_000;
+const MAX_KNOWN_DEPTH: u16 = 1_000;
 
 /// A turn by which a settled state may be played out.
 #[derive(Clone, Copy)]

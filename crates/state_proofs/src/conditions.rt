@@ -1,7 +1,7 @@
 //! The conditions of a proof on the past, made of those of the proofs below it.
 
 use crate::fingerprint::fingerprint_of;
-use crate::proof::{Below, Branch, Conditions, Proof, Results, Span};
+use crate::proof::{Below, Branch, Conditions, OptionalNumber, Proof, Results, Span};
 use crate::proofs::{Proofs, number_of};
 use std::alloc::AllocError;
 
@@ -28,7 +28,7 @@ impl Proofs {
 
     /// The number of the conditions of the proof below the branch.
     fn number_below(&self, branch: Branch) -> Option<u32> {
-        match branch.below {
+        match branch.below() {
             Below::Won => None,
             Below::Proof(number) => self.get(number)?.conditions(),
         }
@@ -152,13 +152,13 @@ impl Proofs {
         present: u64,
         branches: &[Branch],
         barred: &[u64],
-    ) -> Result<Span, AllocError> {
+    ) -> Result<OptionalNumber, AllocError> {
         self.needed.begin();
-        let mut longest = Span::none();
+        let mut longest = OptionalNumber::none();
         for branch in branches {
             let had = self.conditions_below(*branch).had;
             self.needed.add_list(had)?;
-            if had.len() > longest.len() {
+            if self.needed.get(had).len() > self.needed.get(longest).len() {
                 longest = had;
             }
         }

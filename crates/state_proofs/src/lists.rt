@@ -5,8 +5,10 @@ use crate::proof::Span;
 use crate::proofs::{number_of, part};
 use std::alloc::{AllocError, Global};
 
-/// For how many lists there is room at first, a power of two.
+/// Among how many of the latest lists an equal one is looked for, at first and at most: powers of two.
 const FEW: usize = 1_024;
+
+const MANY: usize = 131_072;
 
 /// The lists, one after the other.
 #[derive(Drop)]
@@ -60,7 +62,7 @@ impl Lists {
 
     /// Makes room for twice as many lists if there is none. Then no older list is found any more.
     fn make_room(&mut self) -> Result<(), AllocError> {
-        if self.count < self.latest.len() {
+        if self.count < self.latest.len() || self.latest.len() >= MANY {
             return Ok(());
         }
         let room = self.latest.len().saturating_mul(2).max(FEW);

@@ -1,12 +1,13 @@
 //! The positions that must have occurred, for each proof that leaves out a move which the past bars. Few proofs have any.
 
-use crate::proof::Span;
+use crate::proof::{OptionalNumber, Span};
 use crate::proofs::{number_of, part};
 use std::alloc::{AllocError, Global};
 
-/// The lists of all proofs, one after the other, and one that is being made.
+/// The lists of all proofs by their numbers, and one that is being made.
 #[derive(Drop)]
 pub(crate) struct Needed {
+    lists: Vec<Span>,
     positions: Vec<u64>,
     /// Ascending, and each position once.
     made: Vec<u64>,
@@ -15,13 +16,25 @@ pub(crate) struct Needed {
 impl Needed {
     pub(crate) fn new(alloc: Global) -> Needed {
         Needed {
+            lists: Vec::new(alloc),
             positions: Vec::new(alloc),
             made: Vec::new(alloc),
         }
     }
 
-    pub(crate) fn get(&self, list: Span) -> &[u64] {
-        part(self.positions.as_slice(), list)
+    /// The positions of the list with this number, ascending.
+    pub(crate) fn get(&self, list: OptionalNumber) -> &[u64] {
+        part(self.positions.as_slice(), self.span(list))
+    }
+
+    fn span(&self, list: OptionalNumber) -> Span {
+        let Some(number) = list.get() else {
+            return Span::none();
+        };
+        match self.lists.get(number as usize).copied() {
+            Some(span) => span,
+            None => Span::none(),
+        }
     }
 
     /// Begins a list.
@@ -43,8 +56,9 @@ impl Needed {
     }
 
     /// Adds the positions of another list.
-    pub(crate) fn add_list(&mut self, list: Span) -> Result<(), AllocError> {
-        for place in list.from..list.to {
+    pub(crate) fn add_list(&mut self, list: OptionalNumber) -> Result<(), AllocError> {
+        let span = self.span(list);
+        for place in span.from..span.to {
             if let Some(position) = self.positions.get(place as usize).copied() {
                 self.add(position)?;
             }
@@ -62,7 +76,7 @@ impl Needed {
     }
 
     // Whether the list that was made is this one.
-    fn is_made(&self, list: Span) -> bool {
+    fn is_made(&self, list: OptionalNumber) -> bool {
         let positions = self.get(list);
         if positions.len() != self.made.len() {
             return false;
@@ -75,10 +89,10 @@ impl Needed {
         true
     }
 
-    /// Keeps the list that was made, and returns where it is. If it is this other one, that is not kept again.
-    pub(crate) fn keep(&mut self, other: Span) -> Result<Span, AllocError> {
+    /// Keeps the list that was made, and returns its number. If it is this other one, that is not kept again.
+    pub(crate) fn keep(&mut self, other: OptionalNumber) -> Result<OptionalNumber, AllocError> {
         if self.made.is_empty() {
-            return Ok(Span::none());
+            return Ok(OptionalNumber::none());
         }
         if self.is_made(other) {
             return Ok(other);
@@ -86,6 +100,8 @@ impl Needed {
         let from = number_of(self.positions.len())?;
         self.positions.extend_from_slice(self.made.as_slice())?;
         let to = number_of(self.positions.len())?;
-        Ok(Span { from, to })
+        let number = number_of(self.lists.len())?;
+        self.lists.push(Span { from, to })?;
+        Ok(OptionalNumber::of(Some(number)))
     }
 }

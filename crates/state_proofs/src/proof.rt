@@ -26,11 +26,58 @@ pub enum Below {
     Proof(u32),
 }
 
+/// A number, or none, in half of the bytes that `Option` takes. There are millions of them, and the greatest number stands for none.
+#[derive(Clone, Copy, PartialEq, Eq)]
+pub(crate) struct OptionalNumber {
+    number: u32,
+}
+
+impl OptionalNumber {
+    pub(crate) fn of(number: Option<u32>) -> OptionalNumber {
+        OptionalNumber {
+            number: number.unwrap_or(u32::MAX),
+        }
+    }
+
+    pub(crate) fn none() -> OptionalNumber {
+        OptionalNumber::of(None)
+    }
+
+    pub(crate) fn get(self) -> Option<u32> {
+        if self.number == u32::MAX {
+            None
+        } else {
+            Some(self.number)
+        }
+    }
+}
+
 /// A turn of a proof, and what is below it.
 #[derive(Clone, Copy)]
 pub struct Branch {
     pub turn: Turn,
-    pub below: Below,
+    /// The number of the proof below. If there is none, the winner has won.
+    proof: OptionalNumber,
+}
+
+impl Branch {
+    pub fn of(turn: Turn, below: Below) -> Branch {
+        let number = match below {
+            Below::Won => None,
+            Below::Proof(number) => Some(number),
+        };
+        Branch {
+            turn,
+            proof: OptionalNumber::of(number),
+        }
+    }
+
+    pub fn below(self) -> Below {
+        match self.proof.get() {
+            None => Below::Won,
+            Some(number) => Below::Proof(number),
+        }
+    }
 }
 
 /// A part of a list that is shared with other parts.
@@ -77,8 +124,8 @@ impl Results {
 pub(crate) struct Conditions {
     /// The results of the winner's moves: none of them may have occurred.
     pub(crate) not: Results,
-    /// The results of moves that the proof leaves out, ascending: all of them must have occurred.
-    pub(crate) had: Span,
+    /// The number of the list of what must have occurred: the results of moves that the proof leaves out. Few proofs have one.
+    pub(crate) had: OptionalNumber,
 }
 
 impl Conditions {
@@ -86,43 +133,41 @@ impl Conditions {
     pub(crate) fn none() -> Conditions {
         Conditions {
             not: Results::none(),
-            had: Span::none(),
+            had: OptionalNumber::none(),
         }
     }
 
     /// Whether any past will do.
     pub(crate) fn are_none(self) -> bool {
-        self.not.len() == 0 && self.had.len() == 0
+        self.not.len() == 0 && self.had.get().is_none()
     }
 }
 
-/// A settled state.
+/// A settled state. There are up to millions of them, so each has 40 bytes.
 #[derive(Clone, Copy)]
 pub struct Proof {
-    pub key: Key,
+    /// The parts of its key.
+    position: u64,
+    mover: Colour,
+    passes: u8,
     pub winner: Colour,
     pub form: Form,
     /// Whether its state was expanded, rather than only settled by a question.
     pub is_expanded: bool,
+    /// The number of turns of the longest line of play below.
+    pub depth: u16,
     pub(crate) branches: Span,
-    /// The number of its conditions, or `NO_CONDITIONS`.
-    conditions: u32,
+    /// The number of its conditions, if there are any.
+    conditions: OptionalNumber,
+    /// An earlier proof that is found in the same place.
+    next: OptionalNumber,
     /// The turns of the answer tree; the greatest number also stands for more.
     pub turns: u64,
-    /// The number of turns of the longest line of play below.
-    pub depth: u32,
-    /// An earlier proof of a state with the same position, or `NO_PROOF`.
-    next: u32,
 }
 
-/// The number of no proof.
-const NO_PROOF: u32 = u32::MAX;
-
-/// The number of no conditions.
-const NO_CONDITIONS: u32 = u32::MAX;
-
 impl Proof {
-    /// The proof with these branches, under the conditions with this number. `next` is an earlier one of the same position.
+    /// The proof with these branches, under the conditions with this number. `next` is an earlier one that is found in the same
+    /// place.
     pub(crate) fn of(
         settled: Settled,
         branches: Span,
@@ -131,40 +176,43 @@ impl Proof {
         next: Option<u32>,
     ) -> Proof {
         Proof {
-            key: settled.key,
+            position: settled.key.position,
+            mover: settled.key.mover,
+            passes: settled.key.passes,
             winner: settled.winner,
             form: settled.form,
             is_expanded: settled.is_expanded,
-            branches,
-            conditions: conditions.unwrap_or(NO_CONDITIONS),
-            turns: size.turns,
             depth: size.depth,
-            next: next.unwrap_or(NO_PROOF),
+            branches,
+            conditions: OptionalNumber::of(conditions),
+            next: OptionalNumber::of(next),
+            turns: size.turns,
+        }
+    }
+
+    /// The key of its state.
+    pub fn key(self) -> Key {
+        Key {
+            position: self.position,
+            mover: self.mover,
+            passes: self.passes,
         }
     }
 
     /// The number of its conditions, if there are any.
     pub(crate) fn conditions(self) -> Option<u32> {
-        if self.conditions == NO_CONDITIONS {
-            None
-        } else {
-            Some(self.conditions)
-        }
+        self.conditions.get()
     }
 
-    /// The earlier proof of the same position.
+    /// The earlier proof that is found in the same place.
     pub(crate) fn next(self) -> Option<u32> {
-        if self.next == NO_PROOF {
-            None
-        } else {
-            Some(self.next)
-        }
+        self.next.get()
     }
 
-    /// The proof with another earlier proof of the same position.
+    /// The proof with another earlier proof that is found in the same place.
     pub(crate) fn after(self, next: Option<u32>) -> Proof {
         Proof {
-            next: next.unwrap_or(NO_PROOF),
+            next: OptionalNumber::of(next),
             ..self
         }
     }
@@ -172,7 +220,7 @@ impl Proof {
     /// The proof with no conditions.
     pub(crate) fn without_conditions(self) -> Proof {
         Proof {
-            conditions: NO_CONDITIONS,
+            conditions: OptionalNumber::none(),
             ..self
         }
     }
@@ -184,7 +232,7 @@ impl Proof {
 
     /// What it settles, for another proof of the same state, which was expanded.
     pub fn settled(self) -> Settled {
-        Settled::expanded(self.key, self.winner, self.form)
+        Settled::expanded(self.key(), self.winner, self.form)
     }
 }
 
@@ -214,5 +262,5 @@ impl Settled {
 #[derive(Clone, Copy)]
 pub(crate) struct TreeSize {
     pub(crate) turns: u64,
-    pub(crate) depth: u32,
+    pub(crate) depth: u16,
 }

@@ -3,6 +3,7 @@
 //! A proof is never changed, and uses only lower ones. A wrong number in it could at worst lead to a claim that the checker
 //! refuses, so numbers are tested where they are used, and nothing is promised about them.
 
+use crate::fingerprint::fingerprint_of;
 use crate::gathered::Gathered;
 use crate::lists::Lists;
 use crate::marks::Marks;
@@ -19,7 +20,7 @@ pub const MAX_LINE: usize = 1_900;
 /// What a leaf counts for: it is one node of a claim.
 const LEAF_TURNS: u64 = 1;
 
-const LEAF_DEPTH: u32 = 1;
+const LEAF_DEPTH: u16 = 1;
 
 /// For how many proofs there is room among the marks at first.
 const FEW: usize = 512;
@@ -28,8 +29,8 @@ const FEW: usize = 512;
 #[derive(Drop)]
 pub struct Proofs {
     pub(crate) proofs: Vec<Proof>,
-    /// The latest proof of a state with the position. Some states share a position, so a chain of proofs is looked through.
-    latest: IndexMap<u64, u32>,
+    /// The latest proof of a state whose position has the fingerprint. Some states share it, so a chain of proofs is looked through.
+    latest: IndexMap<u32, u32>,
     /// The positions of the states that have a proof.
     marks: Marks,
     pub(crate) branches: Vec<Branch>,
@@ -96,7 +97,7 @@ impl Proofs {
             return false;
         }
         for place in 0..made.len() {
-            if place < branches.len() && made[place].below != branches[place].below {
+            if place < branches.len() && made[place].below() != branches[place].below() {
                 return false;
             }
         }
@@ -110,7 +111,7 @@ impl Proofs {
 
     /// Whether the proof leaves out a move that the past bars.
     pub fn needs_a_past(&self, proof: Proof) -> bool {
-        self.conditions_of(proof).had.len() > 0
+        self.conditions_of(proof).had.get().is_some()
     }
 
     /// The positions that must have occurred, ascending.
@@ -134,6 +135,11 @@ impl Proofs {
         }
     }
 
+    /// The latest proof of a state whose position has the fingerprint of this one.
+    fn latest_at(&self, position: u64) -> Option<u32> {
+        self.latest.get(&fingerprint_of(position)).copied()
+    }
+
     /// Whether there may be a proof of a state with this position. It looks at one word, and nothing else is found of most others.
     pub fn may_have(&self, position: u64) -> bool {
         !self.latest.is_empty() && self.marks.may_have(position)
@@ -144,7 +150,7 @@ impl Proofs {
         if !self.may_have(key.position) {
             return None;
         }
-        let mut next = self.latest.get(&key.position).copied();
+        let mut next = self.latest_at(key.position);
         let mut found = None;
         let mut least = u64::MAX;
         for _ in 0..self.proofs.len() {
@@ -152,7 +158,7 @@ impl Proofs {
                 return found;
             };
             let proof = self.get(number)?;
-            if proof.key == key
+            if proof.key() == key
                 && (found.is_none() || proof.turns < least)
                 && line.saturating_add(proof.depth as usize) <= MAX_LINE
                 && self.holds(proof, past)
@@ -186,7 +192,7 @@ impl Proofs {
         &mut self,
         settled: Settled,
         turns: u64,
-        depth: u32,
+        depth: u16,
     ) -> Result<u32, AllocError> {
         let size = TreeSize { turns, depth };
         self.add_with(settled, &[], None, size)
@@ -211,10 +217,10 @@ impl Proofs {
         self.branches.extend_from_slice(branches)?;
         let to = number_of(self.branches.len())?;
         let position = settled.key.position;
-        let next = self.latest.get(&position).copied();
+        let next = self.latest_at(position);
         let proof = Proof::of(settled, Span { from, to }, conditions, size, next);
         self.proofs.push(proof)?;
-        self.latest.insert(position, number)?;
+        self.latest.insert(fingerprint_of(position), number)?;
         Ok(number)
     }
 
@@ -225,7 +231,7 @@ impl Proofs {
             self.marks.make_room(count.saturating_mul(2).max(FEW))?;
             for place in 0..count {
                 if let Some(proof) = self.at(place) {
-                    self.marks.mark(proof.key.position);
+                    self.marks.mark(proof.key().position);
                 }
             }
         }
@@ -238,7 +244,7 @@ impl Proofs {
         if !self.may_have(key.position) {
             return false;
         }
-        let mut next = self.latest.get(&key.position).copied();
+        let mut next = self.latest_at(key.position);
         for _ in 0..self.proofs.len() {
             let Some(number) = next else {
                 return false;
@@ -246,7 +252,7 @@ impl Proofs {
             let Some(proof) = self.get(number) else {
                 return false;
             };
-            if proof.key == key {
+            if proof.key() == key {
                 return true;
             }
             next = proof.next();
@@ -268,12 +274,13 @@ impl Proofs {
                 .saturating_sub(1)
                 .saturating_sub(back - first);
             if let Some(proof) = self.at(place) {
+                let fingerprint = fingerprint_of(proof.key().position);
                 match proof.next() {
                     Some(before) => {
-                        self.latest.insert(proof.key.position, before)?;
+                        self.latest.insert(fingerprint, before)?;
                     }
                     None => {
-                        self.latest.swap_remove(&proof.key.position);
+                        self.latest.swap_remove(&fingerprint);
                     }
                 }
             }
@@ -286,9 +293,9 @@ impl Proofs {
         let number = number_of(place)?;
         if place < self.proofs.len() {
             let proof = self.proofs[place];
-            let before = self.latest.get(&proof.key.position).copied();
-            self.proofs[place] = proof.after(before);
-            self.latest.insert(proof.key.position, number)?;
+            let position = proof.key().position;
+            self.proofs[place] = proof.after(self.latest_at(position));
+            self.latest.insert(fingerprint_of(position), number)?;
         }
         Ok(())
     }
@@ -311,10 +318,10 @@ impl Proofs {
     /// The turns and the depth of the tree of these branches.
     fn size_above(&self, branches: &[Branch]) -> TreeSize {
         let mut turns: u64 = 0;
-        let mut depth: u32 = 0;
+        let mut depth: u16 = 0;
         for branch in branches {
             turns = turns.saturating_add(1);
-            if let Below::Proof(number) = branch.below {
+            if let Below::Proof(number) = branch.below() {
                 if let Some(proof) = self.get(number) {
                     turns = turns.saturating_add(proof.turns);
                     depth = depth.max(proof.depth);

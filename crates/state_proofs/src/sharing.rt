@@ -156,12 +156,12 @@ impl Sharing {
     /// The proof that was made before for the state of a found proof one turn further, if it holds there.
     fn known(&self, found: Proof) -> Option<u32> {
         let line = self.line.len().saturating_add(1);
-        self.shared.find(found.key, self.line.past(), line)
+        self.shared.find(found.key(), self.line.past(), line)
     }
 
     /// Uses what is known of the branch, or goes down it.
     fn follow(&mut self, branch: Branch) -> Result<(), Refusal> {
-        let Below::Proof(number) = branch.below else {
+        let Below::Proof(number) = branch.below() else {
             return self.keep(branch.turn, Below::Won);
         };
         let Some(found) = self.found.get(number) else {
@@ -170,13 +170,13 @@ impl Sharing {
         if let Some(number) = self.known(found) {
             return self.keep(branch.turn, Below::Proof(number));
         }
-        self.line.go(branch.turn, found.key)?;
+        self.line.go(branch.turn, found.key())?;
         self.enter(number)
     }
 
     /// Keeps the branch of the last state, and turns to its next one.
     fn keep(&mut self, turn: Turn, below: Below) -> Result<(), Refusal> {
-        self.made.push(Branch { turn, below })?;
+        self.made.push(Branch::of(turn, below))?;
         self.pass_on();
         Ok(())
     }

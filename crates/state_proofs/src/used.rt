@@ -75,7 +75,7 @@ impl Numbers {
 
     fn mark_branches(&mut self, proofs: &Proofs, proof: Proof) {
         for branch in proofs.branches(proof) {
-            if let Below::Proof(number) = branch.below {
+            if let Below::Proof(number) = branch.below() {
                 self.mark(number as usize);
             }
         }
@@ -107,12 +107,12 @@ impl Numbers {
     /// Moves the branch down, with the new number of what is below it.
     fn move_branch(&mut self, proofs: &mut Proofs, branch: Branch) {
         let turn = branch.turn;
-        let below = match branch.below {
+        let below = match branch.below() {
             Below::Won => Below::Won,
             Below::Proof(number) => Below::Proof(self.new_number(number)),
         };
         if self.branches < proofs.branches.len() {
-            proofs.branches[self.branches] = Branch { turn, below };
+            proofs.branches[self.branches] = Branch::of(turn, below);
         }
         self.branches = self.branches.saturating_add(1);
     }

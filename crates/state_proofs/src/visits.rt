@@ -124,7 +124,7 @@ impl Visits {
         below: Below,
         position: u64,
     ) -> Result<(), AllocError> {
-        let branch = Branch { turn, below };
+        let branch = Branch::of(turn, below);
         if self.has_turn() {
             self.prefer(proofs, branch, position);
         } else {
@@ -144,7 +144,7 @@ impl Visits {
 
     /// Prefers the winner's turn, if it gives a smaller tree than those before.
     fn prefer(&mut self, proofs: &Proofs, branch: Branch, position: u64) {
-        let turns = proofs.turns_below(branch.below).saturating_add(1);
+        let turns = proofs.turns_below(branch.below()).saturating_add(1);
         let last = self.visits.len().saturating_sub(1);
         if last < self.visits.len() && turns < self.visits[last].least {
             self.visits[last].least = turns;

@@ -175,6 +175,7 @@ impl Walk {
         if last < self.visits.len() {
             self.visits[last].next = self.visits[last].next.saturating_add(1);
         }
+        let turn = branch.turn;
         let Below::Proof(number) = branch.below() else {
             return Ok(());
         };
@@ -184,7 +185,7 @@ impl Walk {
         let Some(proof) = proofs.get(number) else {
             return Err(Refusal::Fault);
         };
-        self.line.go(branch.turn, proof.key())?;
+        self.line.go(turn, proof.key())?;
         if self.line.past().len() > self.occurred.len() {
             self.occurred.push(self.line.play().colouring())?;
         }

@@ -155,26 +155,27 @@ impl Writer {
         visit: Visit,
         branch: Branch,
     ) -> Result<(), Refusal> {
-        if !self.play.go(branch.turn)? {
+        let turn = branch.turn;
+        if !self.play.go(turn)? {
             if visit.proof.form == Form::Replies {
                 self.pass_on();
                 return Ok(());
             }
             return Err(Refusal::Fault);
         }
-        if self.has_occurred(proofs, visit, branch.turn) {
+        if self.has_occurred(proofs, visit, turn) {
             self.play.back();
             self.pass_on();
             return Ok(());
         }
-        self.list_result(visit, branch.turn)?;
+        self.list_result(visit, turn)?;
         match branch.below() {
-            Below::Won => self.write_leaf(branch.turn, Node::Won),
+            Below::Won => self.write_leaf(turn, Node::Won),
             Below::Proof(number) => match lemmas.of_proof(number) {
                 None => self.enter(proofs, number),
                 Some(lemma) => {
                     self.list_lemma(lemma)?;
-                    self.write_leaf(branch.turn, Node::Use(lemma))
+                    self.write_leaf(turn, Node::Use(lemma))
                 }
             },
         }

@@ -124,20 +124,22 @@ impl Smaller {
     /// The question about a reply. There is none if the reply is not legal here.
     fn asked_of(&self, branch: Branch) -> Asked {
         let end = self.search.line.end();
-        let played = move_of(self.search.moves.as_slice(), branch.turn);
+        let turn = branch.turn;
+        let below = branch.below();
+        let played = move_of(self.search.moves.as_slice(), turn);
         let is_legal = match played {
             Some(played) => !played.is_barred,
             None => true,
         };
-        let (key, question) = match branch.below() {
+        let (key, question) = match below {
             Below::Proof(number) => match self.search.proofs.get(number) {
                 Some(proof) if is_legal => (proof.key(), Question::Smaller(number)),
-                _ => (end, Question::Known(branch.below())),
+                _ => (end, Question::Known(below)),
             },
             Below::Won => (end, Question::Known(Below::Won)),
         };
         Asked {
-            turn: branch.turn,
+            turn,
             key,
             question,
         }

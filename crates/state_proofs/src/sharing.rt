@@ -161,16 +161,17 @@ impl Sharing {
 
     /// Uses what is known of the branch, or goes down it.
     fn follow(&mut self, branch: Branch) -> Result<(), Refusal> {
+        let turn = branch.turn;
         let Below::Proof(number) = branch.below() else {
-            return self.keep(branch.turn, Below::Won);
+            return self.keep(turn, Below::Won);
         };
         let Some(found) = self.found.get(number) else {
             return Err(Refusal::Fault);
         };
         if let Some(number) = self.known(found) {
-            return self.keep(branch.turn, Below::Proof(number));
+            return self.keep(turn, Below::Proof(number));
         }
-        self.line.go(branch.turn, found.key())?;
+        self.line.go(turn, found.key())?;
         self.enter(number)
     }
 

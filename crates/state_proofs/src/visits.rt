@@ -126,7 +126,8 @@ impl Visits {
     ) -> Result<(), AllocError> {
         let branch = Branch::of(turn, below);
         if self.has_turn() {
-            self.prefer(proofs, branch, position);
+            let turns = proofs.turns_below(below).saturating_add(1);
+            self.prefer(branch, turns, position);
         } else {
             self.made.push(branch)?;
         }
@@ -142,9 +143,8 @@ impl Visits {
         }
     }
 
-    /// Prefers the winner's turn, if it gives a smaller tree than those before.
-    fn prefer(&mut self, proofs: &Proofs, branch: Branch, position: u64) {
-        let turns = proofs.turns_below(branch.below()).saturating_add(1);
+    /// Prefers the winner's turn, if it gives a tree of fewer turns than those before.
+    fn prefer(&mut self, branch: Branch, turns: u64, position: u64) {
         let last = self.visits.len().saturating_sub(1);
         if last < self.visits.len() && turns < self.visits[last].least {
             self.visits[last].least = turns;

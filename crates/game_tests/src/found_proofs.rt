@@ -1,6 +1,6 @@
-//! Which proof of a state is found, if there are several.
+//! Which proof of a state is found, with which past, and what is left of proofs that are not used.
 
-use crate::expect::{expect_optional_count, expect_that};
+use crate::expect::{expect_count, expect_optional_count, expect_that};
 use go_points::{Colour, Turn};
 use pn_table::Key;
 use state_proofs::{Below, Branch, Form, Past, Proofs, Settled};
@@ -53,6 +53,54 @@ fn the_proof_with_the_fewest_turns_is_found(rt: HostRuntime) {
     }
     expect_optional_count(&rt, found(alloc, &proofs, 7), Some(1));
     expect_optional_count(&rt, found(alloc, &proofs, 8), None);
+}
+
+// Proofs are found by the upper half of the key of the position, and compared by the whole.
+#[test]
+fn states_that_share_half_of_a_key_are_told_apart(rt: HostRuntime) {
+    let alloc = rt.alloc();
+    let mut proofs = Proofs::new(alloc);
+    for position in [3 << 32 | 1, 3 << 32 | 2, 4 << 32 | 1] {
+        expect_that(&rt, proofs.add_by_shape(state(position), 3, 3).is_ok());
+    }
+    expect_optional_count(&rt, found(alloc, &proofs, 3 << 32 | 1), Some(0));
+    expect_optional_count(&rt, found(alloc, &proofs, 3 << 32 | 2), Some(1));
+    expect_optional_count(&rt, found(alloc, &proofs, 4 << 32 | 1), Some(2));
+    expect_that(&rt, proofs.hide_from(1).is_ok());
+    expect_optional_count(&rt, found(alloc, &proofs, 3 << 32 | 1), Some(0));
+    expect_optional_count(&rt, found(alloc, &proofs, 3 << 32 | 2), None);
+}
+
+// Of the three proofs the last uses the first, and nobody the second.
+#[test]
+fn of_a_tree_that_is_kept_nothing_else_is_left(rt: HostRuntime) {
+    let alloc = rt.alloc();
+    let mut proofs = one_proof(&rt, alloc, Some(5), &[]);
+    expect_that(&rt, proofs.add_by_shape(state(8), 5, 3).is_ok());
+    let uses_the_first = Branch::of(Turn::Pass, Below::Proof(0));
+    expect_that(
+        &rt,
+        proofs.add(state(9), &[uses_the_first], None, &[]) == Ok(2),
+    );
+    expect_that(&rt, proofs.keep_tree(alloc, 2) == Ok(1));
+    expect_count(&rt, proofs.len(), 2);
+    expect_that(&rt, proofs.turns_of(1) == 2);
+    let below = match proofs.get(1) {
+        Some(root) => proofs.branch(root, 0),
+        None => None,
+    };
+    expect_that(&rt, is_above(below, 0));
+    for position in [7, 8, 9] {
+        expect_optional_count(&rt, found(alloc, &proofs, position), None);
+    }
+}
+
+// Whether it is a branch to the proof with this number.
+fn is_above(branch: Option<Branch>, number: u32) -> bool {
+    match branch {
+        Some(branch) => branch.below() == Below::Proof(number),
+        None => false,
+    }
 }
 
 #[test]

@@ -120,13 +120,9 @@ fn wins(rt: &impl Abort, alloc: Global, problem: &Problem, winner: Colour, table
         Ok(claim) => expect_same(rt, accepted(rt, alloc, problem, claim), 0),
         Err(_) => panic!(rt; "a claim"),
     }
-    match claim_with_lemmas(alloc, problem, &shared, WITHOUT_PASTS) {
-        Ok(claim) => {
-            expect_same(rt, claim.version, Version::One);
-            let _fewer = accepted(rt, alloc, problem, claim);
-        }
-        Err(_) => panic!(rt; "a claim with lemmas"),
-    }
+    let plain = claimed(rt, alloc, problem, &shared, WITHOUT_PASTS);
+    expect_same(rt, plain.version, Version::One);
+    let _fewer = accepted(rt, alloc, problem, plain);
     for least in [Saving::Half, Saving::Four] {
         let _some = with_lemmas(rt, alloc, problem, &shared, saving(least));
     }
@@ -141,8 +137,19 @@ fn with_lemmas(
     shared: &Shared,
     choice: Choice,
 ) -> usize {
+    let claim = claimed(rt, alloc, problem, shared, choice);
+    accepted(rt, alloc, problem, claim)
+}
+
+fn claimed(
+    rt: &impl Abort,
+    alloc: Global,
+    problem: &Problem,
+    shared: &Shared,
+    choice: Choice,
+) -> Certificate {
     match claim_with_lemmas(alloc, problem, shared, choice) {
-        Ok(claim) => accepted(rt, alloc, problem, claim),
+        Ok(claim) => claim,
         Err(_) => panic!(rt; "a claim with lemmas"),
     }
 }
@@ -275,10 +282,7 @@ fn listed(
     shared: &Shared,
     choice: Choice,
 ) -> usize {
-    match claim_with_lemmas(alloc, problem, shared, choice) {
-        Ok(claim) => count_listed(&claim),
-        Err(_) => panic!(rt; "a claim with lemmas"),
-    }
+    count_listed(&claimed(rt, alloc, problem, shared, choice))
 }
 
 // How many colourings the claim lists.

@@ -11,7 +11,7 @@ const ROOM: usize = 400_000;
 
 /// What was found of the state after a turn.
 #[derive(Clone, Copy, Debug, PartialEq, Eq)]
-pub(crate) enum Noted {
+pub(crate) enum Finding {
     Nothing,
     /// How many points are left there where the defender could have an eye.
     Eyes(u8),
@@ -20,27 +20,27 @@ pub(crate) enum Noted {
     OpenWithEyes(u8),
 }
 
-impl Noted {
-    pub(crate) fn of(many: Option<u8>, is_open: bool) -> Noted {
+impl Finding {
+    pub(crate) fn of(many: Option<u8>, is_open: bool) -> Finding {
         match many {
-            Some(many) if is_open => Noted::OpenWithEyes(many),
-            Some(many) => Noted::Eyes(many),
-            None if is_open => Noted::Open,
-            None => Noted::Nothing,
+            Some(many) if is_open => Finding::OpenWithEyes(many),
+            Some(many) => Finding::Eyes(many),
+            None if is_open => Finding::Open,
+            None => Finding::Nothing,
         }
     }
 
     /// How many points for eyes are left, if that was asked.
     pub(crate) fn many(self) -> Option<u8> {
         match self {
-            Noted::Eyes(many) | Noted::OpenWithEyes(many) => Some(many),
-            Noted::Nothing | Noted::Open => None,
+            Finding::Eyes(many) | Finding::OpenWithEyes(many) => Some(many),
+            Finding::Nothing | Finding::Open => None,
         }
     }
 
     /// Whether nothing was certain.
     pub(crate) fn is_open(self) -> bool {
-        matches!(self, Noted::Open | Noted::OpenWithEyes(_))
+        matches!(self, Finding::Open | Finding::OpenWithEyes(_))
     }
 }
 
@@ -49,7 +49,7 @@ impl Noted {
 pub(crate) struct KeptMove {
     pub(crate) position: u64,
     pub(crate) step: Step,
-    pub(crate) noted: Noted,
+    pub(crate) finding: Finding,
 }
 
 /// The turns of a state, in the newer list.
@@ -126,7 +126,7 @@ impl KeptMoves {
         self.moves.push(KeptMove {
             step,
             position: kept.position,
-            noted: kept.noted,
+            finding: kept.finding,
         })?;
         Ok(())
     }
@@ -152,12 +152,12 @@ impl KeptMoves {
         state: KeptState,
         from: usize,
         step: Step,
-        noted: Noted,
+        finding: Finding,
     ) -> usize {
         for place in from..state.count {
             let at = state.first.saturating_add(place);
             if at < self.moves.len() && self.moves[at].step == step {
-                self.moves[at].noted = noted;
+                self.moves[at].finding = finding;
                 return place + 1;
             }
         }

@@ -23,14 +23,17 @@ const MAX_FULL_STEPS: u64 = 10_000_000;
 /// The least number of turns of a lemma: a smaller one is shorter where it is used.
 pub(crate) const LEMMA_TURNS: u64 = 3;
 
+/// The choice of lemmas that makes the shortest claims in the least time.
+const SHORT_CLAIMS: Choice = Choice {
+    pasts: Pasts::Needed,
+    least: LEMMA_TURNS,
+    saving: Saving::Half,
+};
+
 /// The choices of lemmas that are tried, in this order, until the checker accepts a claim: those that make the shortest claims in the
 /// least time, those that list little, all, which make the fewest nodes, and those that need no past.
 const CHOICES: [Choice; 4] = [
-    Choice {
-        pasts: Pasts::Needed,
-        least: LEMMA_TURNS,
-        saving: Saving::Half,
-    },
+    SHORT_CLAIMS,
     Choice {
         pasts: Pasts::Needed,
         least: LEMMA_TURNS,
@@ -218,7 +221,7 @@ fn confirmed(alloc: Global, problem: Problem, winner: Colour, main: Node) -> Fou
 {
     match share_tree(alloc, &problem, winner, &main) {
         Err(_) => confirmed_plainly(alloc, problem, winner, main),
-        Ok(shared) => match confirmed_with_lemmas(alloc, problem, &shared, CHOICES[0]) {
+        Ok(shared) => match confirmed_with_lemmas(alloc, problem, &shared, SHORT_CLAIMS) {
             Ok(checked) => Ok(checked),
             Err((problem, _)) => confirmed_plainly(alloc, problem, winner, main),
         },

@@ -4,6 +4,7 @@
 #![tactic(auto)]
 
 mod answers;
+mod ascending;
 mod conditions;
 mod fingerprint;
 mod gathered;

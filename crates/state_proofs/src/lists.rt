@@ -45,7 +45,7 @@ impl Lists {
         self.make_room()?;
         let slot = mixed(list) as usize & self.latest.len().saturating_sub(1);
         if let Some(known) = self.latest.get(slot).copied() {
-            if known.len() == list.len() && is_same(self.get(known), list) {
+            if self.get(known) == list {
                 return Ok(known);
             }
         }
@@ -78,14 +78,4 @@ fn mixed(list: &[u32]) -> u32 {
         number ^= *fingerprint;
     }
     number
-}
-
-/// Whether the lists, which are of one length, are equal.
-fn is_same(one: &[u32], other: &[u32]) -> bool {
-    for place in 0..one.len() {
-        if place < other.len() && one[place] != other[place] {
-            return false;
-        }
-    }
-    true
 }

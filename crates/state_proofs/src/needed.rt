@@ -1,5 +1,6 @@
 //! The positions that must have occurred, for each proof that leaves out a move which the past bars. Few proofs have any.
 
+use crate::ascending::insert;
 use crate::proof::{OptionalNumber, Span};
 use crate::proofs::{number_of, part};
 use std::alloc::{AllocError, Global};
@@ -44,15 +45,7 @@ impl Needed {
 
     /// Adds the position to the list that is being made.
     pub(crate) fn add(&mut self, position: u64) -> Result<(), AllocError> {
-        match self.made.binary_search(&position) {
-            Ok(_) => Ok(()),
-            Err(place) => {
-                if place <= self.made.len() {
-                    self.made.insert(place, position)?;
-                }
-                Ok(())
-            }
-        }
+        insert(&mut self.made, position)
     }
 
     /// Adds the positions of another list.
@@ -75,26 +68,12 @@ impl Needed {
         }
     }
 
-    // Whether the list that was made is this one.
-    fn is_made(&self, list: OptionalNumber) -> bool {
-        let positions = self.get(list);
-        if positions.len() != self.made.len() {
-            return false;
-        }
-        for place in 0..positions.len() {
-            if place < self.made.len() && positions[place] != self.made[place] {
-                return false;
-            }
-        }
-        true
-    }
-
     /// Keeps the list that was made, and returns its number. If it is this other one, that is not kept again.
     pub(crate) fn keep(&mut self, other: OptionalNumber) -> Result<OptionalNumber, AllocError> {
         if self.made.is_empty() {
             return Ok(OptionalNumber::none());
         }
-        if self.is_made(other) {
+        if self.get(other) == self.made.as_slice() {
             return Ok(other);
         }
         let from = number_of(self.positions.len())?;

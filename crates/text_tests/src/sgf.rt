@@ -80,35 +80,6 @@ fn gives_the_place_behind_the_tree(rt: HostRuntime) {
 }
 
 #[test]
-fn finds_no_tree(rt: HostRuntime) {
-    let alloc = rt.alloc();
-    let texts: [&[u8]; 4] = [b"", b"()", b"aaaa", b"( ("];
-    for text in texts {
-        expect_fault(&rt, fault_of(alloc, text), Some(SgfFault::NoTree));
-    }
-}
-
-#[test]
-fn gives_the_first_fault(rt: HostRuntime) {
-    let alloc = rt.alloc();
-    let rows: [(&[u8], usize); 10] = [
-        (b"(;", 2),
-        (b"(;FF[4]SZ[3]AB[aa)", 18),
-        (b"(;a[x])", 3),
-        (b"(;B)", 3),
-        (b"(;a [x])", 3),
-        (b"(;B b[x])", 4),
-        (b"(;B[x]5)", 6),
-        (b"(;(;B[x]);)", 9),
-        (b"(;(B[x]))", 3),
-        (b"(;[x])", 2),
-    ];
-    for (text, at) in rows {
-        expect_fault(&rt, fault_of(alloc, text), Some(SgfFault::Syntax { at }));
-    }
-}
-
-#[test]
 fn cuts_off_each_front(rt: HostRuntime) {
     let alloc = rt.alloc();
     let text = b"(;FF[4]GM[1]SZ[3]AB[aa];B[bb](;W[cc])(;W[ba]C[a\\]b]))";

@@ -1,4 +1,4 @@
-//! Words of the command line. The texts are `clap`'s; of them only a part is asked that tells one fault from another.
+//! Words of the command line, and the commands that they give.
 
 use std::alloc::Global;
 use std::process::Abort;
@@ -118,162 +118,13 @@ fn solve_has_two_numbers_and_two_flags(rt: HostRuntime) {
     );
 }
 
+// A caller may leave out even the program's name.
 #[test]
-fn faulty_words_of_solve_are_refused(rt: HostRuntime) {
-    let alloc = rt.alloc();
-    let faults: [(&[&str], &str); 12] = [
-        (&["--steps", "0"], "0 is not in 1..=10000000"),
-        (&["--steps", "10000001"], "10000001 is not in 1..=10000000"),
-        (&["--table", "0"], "0 is not in 1..=1000000"),
-        (&["--table", "1000001"], "1000001 is not in 1..=1000000"),
-        (
-            &["--steps", "1", "--steps", "1"],
-            "cannot be used multiple times",
-        ),
-        (
-            &["--table", "1", "--table", "1"],
-            "cannot be used multiple times",
-        ),
-        (&["--proof", "--proof"], "cannot be used multiple times"),
-        (&["--proof=true"], "unexpected value"),
-        (&["--lift", "--lift"], "cannot be used multiple times"),
-        (&["--lift=true"], "unexpected value"),
-        (&["--steps"], "value is required"),
-        (&["3"], "unexpected argument"),
-    ];
-    for (more, part) in faults {
-        let mut words = Vec::new(alloc);
-        words.push("tsumego").expect(&rt, "memory");
-        words.push("solve").expect(&rt, "memory");
-        words.extend_from_slice(more).expect(&rt, "memory");
-        refuses(&rt, alloc, words.as_slice(), part);
-    }
-}
-
-#[test]
-fn numbers_out_of_range_are_refused(rt: HostRuntime) {
-    let alloc = rt.alloc();
-    refuses(
-        &rt,
-        alloc,
-        &["tsumego", "within", "201"],
-        "201 is not in 0..=200",
-    );
-    refuses(
-        &rt,
-        alloc,
-        &["tsumego", "within", "3", "--nodes", "4294967296"],
-        "4294967296 is not in 0..=4294967295",
-    );
-    refuses(
-        &rt,
-        alloc,
-        &["tsumego", "within", "99999999999999999999"],
-        "number too large",
-    );
-    refuses(
-        &rt,
-        alloc,
-        &["tsumego", "within", "3", "--nodes=-1"],
-        "invalid digit",
-    );
-    refuses(
-        &rt,
-        alloc,
-        &["tsumego", "within", "-1"],
-        "unexpected argument",
-    );
-    refuses(&rt, alloc, &["tsumego", "within", "three"], "invalid digit");
-    refuses(&rt, alloc, &["tsumego", "within", ""], "empty string");
-}
-
-#[test]
-fn words_too_many_or_too_few_are_refused(rt: HostRuntime) {
-    let alloc = rt.alloc();
-    refuses(&rt, alloc, &["tsumego"], "requires a subcommand");
-    refuses(&rt, alloc, &[], "requires a subcommand");
-    refuses(&rt, alloc, &["tsumego", "within"], "<K>");
-    refuses(
-        &rt,
-        alloc,
-        &["tsumego", "within", "3", "--nodes"],
-        "value is required",
-    );
-    refuses(
-        &rt,
-        alloc,
-        &["tsumego", "within", "3", "4"],
-        "unexpected argument",
-    );
-    refuses(
-        &rt,
-        alloc,
-        &["tsumego", "check", "3"],
-        "unexpected argument",
-    );
-    refuses(
-        &rt,
-        alloc,
-        &["tsumego", "check", "--nodes", "3"],
-        "unexpected argument",
-    );
-    refuses(
-        &rt,
-        alloc,
-        &["tsumego", "audit", "3"],
-        "unexpected argument",
-    );
-    refuses(
-        &rt,
-        alloc,
-        &["tsumego", "within", "3", "--nodes", "5", "--nodes", "5"],
-        "cannot be used multiple times",
-    );
-}
-
-#[test]
-fn unknown_subcommands_are_refused(rt: HostRuntime) {
-    let alloc = rt.alloc();
-    refuses(&rt, alloc, &["tsumego", "chek"], "unrecognized subcommand");
-    refuses(&rt, alloc, &["tsumego", "Solve"], "unrecognized subcommand");
-    refuses(&rt, alloc, &["tsumego", "Check"], "unrecognized subcommand");
-}
-
-#[test]
-fn help_is_a_text_and_no_command(rt: HostRuntime) {
-    let alloc = rt.alloc();
-    refuses(
-        &rt,
-        alloc,
-        &["tsumego", "--help"],
-        "Usage: tsumego <COMMAND>",
-    );
-    refuses(&rt, alloc, &["tsumego", "help"], "Usage: tsumego <COMMAND>");
-    refuses(&rt, alloc, &["tsumego", "help"], "the claim that follows");
-    refuses(&rt, alloc, &["tsumego", "help"], "within K turns");
-    refuses(
-        &rt,
-        alloc,
-        &["tsumego", "help"],
-        "the answer tree that stands",
-    );
-    refuses(&rt, alloc, &["tsumego", "help"], "Searches for a solution");
-    refuses(&rt, alloc, &["tsumego", "within", "--help"], "--nodes <N>");
-    refuses(&rt, alloc, &["tsumego", "solve", "--help"], "--steps <N>");
-    refuses(&rt, alloc, &["tsumego", "solve", "--help"], "--table <N>");
-    refuses(&rt, alloc, &["tsumego", "solve", "--help"], "as one lemma");
-    refuses(&rt, alloc, &["tsumego", "help", "within"], "--nodes <N>");
+fn no_words_at_all_are_refused(rt: HostRuntime) {
+    refuses(&rt, rt.alloc(), &[], "requires a subcommand");
 }
 
 #[test]
 fn the_version_is_a_text_and_no_command(rt: HostRuntime) {
-    let alloc = rt.alloc();
-    refuses(&rt, alloc, &["tsumego", "--version"], "tsumego 1.");
-    refuses(&rt, alloc, &["tsumego", "-V"], VERSION);
-    refuses(
-        &rt,
-        alloc,
-        &["tsumego", "solve", "--version"],
-        "unexpected argument",
-    );
+    refuses(&rt, rt.alloc(), &["tsumego", "-V"], VERSION);
 }

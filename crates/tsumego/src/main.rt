@@ -5,10 +5,6 @@ mod answer;
 #[cfg(test)]
 mod answer_tests;
 #[cfg(test)]
-mod audit_tests;
-#[cfg(test)]
-mod check_tests;
-#[cfg(test)]
 mod counting_tests;
 pub mod devices;
 #[cfg(test)]
@@ -18,22 +14,12 @@ mod gtp;
 mod gtp_tests;
 pub mod laws;
 #[cfg(test)]
-mod lift_tests;
-#[cfg(test)]
-mod past_tests;
-#[cfg(test)]
-mod record_tests;
-#[cfg(test)]
-mod region_tests;
+mod limit_tests;
 mod run;
 #[cfg(test)]
 mod solve_tests;
 #[cfg(test)]
 mod tests;
-#[cfg(test)]
-mod widest_tests;
-#[cfg(test)]
-mod within_tests;
 
 use answer::write_text;
 use counted_devices::Counting;

@@ -31,80 +31,78 @@ pub fn answers(
     assert_eq!(rt; written.as_slice(), text.as_bytes(), "{input}");
 }
 
-// Expects this status and this text from `check`, with the input whole and in pieces.
-pub fn checks(rt: &impl Abort, alloc: Global, input: &str, status: Status, text: &str) {
-    answers(rt, alloc, &["tsumego", "check"], input, status, text);
-    for piece in [1, 2, 7, 4_096] {
-        checks_pieces(rt, alloc, input, piece, status, text);
-    }
-}
-
-// Expects this status and this text from `check`, with the input in pieces of this many bytes.
-fn checks_pieces(
+// Expects this status and this text for a command and an input, in pieces of a few bytes or of many.
+fn answers_pieces(
     rt: &impl Abort,
     alloc: Global,
+    command: &str,
     input: &str,
-    piece: usize,
     status: Status,
     text: &str,
 ) {
-    let mut reader = Counting::new(Pieces {
-        left: input.as_bytes(),
-        piece,
-    });
-    let mut writer = Counting::new(Vec::new(alloc));
-    let ended = run(alloc, &["tsumego", "check"], &mut reader, &mut writer);
-    expect_status(rt, ended, status);
-    expect_text(rt, writer.inner.as_slice(), text);
+    for piece in [1, 2, 7, 4_096] {
+        let mut reader = Counting::new(Pieces {
+            left: input.as_bytes(),
+            piece,
+        });
+        let mut writer = Counting::new(Vec::new(alloc));
+        let ended = run(alloc, &["tsumego", command], &mut reader, &mut writer);
+        expect_status(rt, ended, status);
+        expect_text(rt, writer.inner.as_slice(), text);
+    }
+}
+
+// Inputs of several commands, and what is said of them.
+const INPUTS: [(&str, &str, Status, &str); 6] = [
+    (
+        "check",
+        "(;FF[4]GM[1]SZ[3]AB[ab]AW[aa][ca][bb]PL[B]TR[aa]SQ[ba]) \r\ntsucert 1 3 B\nlemma B 0 O.OXO....\nnot .XOXO....\nplay ba\nwon\nend\nmain\nuse 1\nend\n",
+        Status::Answered,
+        "wins Black\n",
+    ),
+    (
+        "check",
+        "(;FF[4]GM[1]SZ[3]AB[ab]AW[aa]PL[B]TR[aa]SQ[ba])\ntsucert 1 3 B\nmain\nplay ba\nwon\nend\n\n",
+        Status::Unanswered,
+        "rejected line 6: C16 text after the end\n",
+    ),
+    (
+        "check",
+        "(;FF[4]SZ[3]AB[aa)",
+        Status::Refused,
+        "refused: sgf 2 syntax at 18\n",
+    ),
+    (
+        "audit",
+        "(;FF[4]GM[1]SZ[3]AB[ab]AW[aa];PL[W]TR[aa]SQ[ba]C[White wins];W[ba];B[];W[])\n",
+        Status::Answered,
+        "wins White\n",
+    ),
+    (
+        "solve",
+        "(;FF[4]GM[1]SZ[3]AB[ab]AW[aa]PL[B]TR[aa]SQ[ba])",
+        Status::Answered,
+        "(;FF[4]GM[1]SZ[3]AB[ab]AW[aa];PL[B]TR[aa]SQ[ba]C[Black wins];B[ba])\n",
+    ),
+    (
+        "gtp",
+        "boardsize 3\nplay b a2\nplay w a3\ntsu-target a3\ntsu-region b3\ntsu-solve b\n4 genmove b\nundo\nshowboard\n",
+        Status::Answered,
+        "=\n\n=\n\n=\n\n=\n\n=\n\n= win B3\n\n=4 B3\n\n=\n\n= O..\nX..\n...\n\n",
+    ),
+];
+
+// However an input is cut into pieces, what is said of it is the same.
+#[test]
+fn inputs_in_pieces(rt: HostRuntime) {
+    for (command, input, status, text) in INPUTS {
+        answers_pieces(&rt, rt.alloc(), command, input, status, text);
+    }
 }
 
 const CAPTURE: &str = "(;FF[4]GM[1]SZ[3]AB[ab]AW[aa]PL[B]TR[aa]SQ[ba])\n";
 
 const CAPTURE_CLAIM: &str = "tsucert 1 3 B\nmain\nplay ba\nwon\nend\n";
-
-// A claim that is cut off is malformed at the line in which it is cut, or at the one that is missing.
-#[test]
-fn each_cut_of_a_claim_is_malformed(rt: HostRuntime) {
-    let alloc = rt.alloc();
-    let claim = CAPTURE_CLAIM.as_bytes();
-    let mut line: u32 = 1;
-    for cut in 0..claim.len() {
-        let mut input = Vec::new(alloc);
-        input
-            .extend_from_slice(CAPTURE.as_bytes())
-            .expect(&rt, "memory");
-        input.extend_from_slice(&claim[..cut]).expect(&rt, "memory");
-        let (status, written) = outcome(alloc, &["tsumego", "check"], input.as_slice());
-        let wanted = format!(in alloc; "rejected line {line}: C01 malformed\n").expect(
-            &rt, "memory",
-        );
-        expect_status(&rt, status, Status::Unanswered);
-        expect_text(&rt, written.as_slice(), wanted.as_str());
-        if claim[cut] == b'\n' {
-            line = line.saturating_add(1);
-        }
-    }
-}
-
-#[test]
-fn other_words_have_clap_s_text(rt: HostRuntime) {
-    let alloc = rt.alloc();
-    let asked: [&[&str]; 8] = [
-        &["tsumego"],
-        &["tsumego", "chek"],
-        &["tsumego", "check", "x"],
-        &["tsumego", "audit", "x"],
-        &["tsumego", "solve", "--steps", "0"],
-        &["tsumego", "solve", "x"],
-        &["tsumego", "within", "201"],
-        &["tsumego", "--help"],
-    ];
-    for words in asked {
-        let (status, written) = outcome(alloc, words, b"".as_slice());
-        expect_status(&rt, status, Status::BadWords);
-        expect_that(&rt, !written.is_empty());
-    }
-}
 
 // Words that give no command are answered before anything is read, so that nobody waits for a terminal.
 #[test]

@@ -1,6 +1,7 @@
-//! What is copied, read and written, over memory.
+//! What the libraries of the helper programs copy, read, write and put in order.
 
 use crate::expect::expect_written;
+use record_pages::descending;
 use sgf_text::read_tree;
 use std::alloc::AllocError;
 use tool_parts::{Output, Status, copy_tree, read_whole, write_output};
@@ -55,4 +56,12 @@ fn exit_codes(rt: HostRuntime) {
         Status::Failed.code(),
     ];
     assert_eq!(rt; codes, [0, 1, 2, 3, 4]);
+}
+
+#[test]
+fn greatest_first(rt: HostRuntime) {
+    let order = descending(rt.alloc(), &[1, 3, 0, 3, 2])
+        .ok()
+        .expect(&rt, "memory");
+    assert_eq!(rt; order.as_slice(), [1, 3, 4, 0, 2].as_slice());
 }

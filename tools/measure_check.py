@@ -163,13 +163,13 @@ MAX_LISTED = 1_000_000
 
 
 class Wide:
-    """White passes whatever black does, at ten points apart: some 33 million nodes."""
+    """White passes whatever black does, at points apart: with ten of them some 33 million nodes."""
 
-    def __init__(self):
-        self.made = {}
+    def __init__(self, points=APART):
+        self.points, self.made = tuple(sorted(points, key=order)), {}
 
     def record(self):
-        return "(;SZ[9]AW[aa]PL[B]TR[aa]SQ%s)\n" % "".join("[%s]" % p for p in sorted(APART, key=order))
+        return "(;SZ[9]AW[aa]PL[B]TR[aa]SQ%s)\n" % "".join("[%s]" % p for p in self.points)
 
     def tree(self, left):
         """The lines after white's pass, in parts, where black may still play at these points."""
@@ -188,11 +188,10 @@ class Wide:
         yield "reply pass\nwon\n"
 
     def claim(self):
-        left = tuple(sorted(APART, key=order))
-        yield "tsucert 1 9 W\nmain\nall %d\n" % (len(left) + 1)
-        for point in left:
+        yield "tsucert 1 9 W\nmain\nall %d\n" % (len(self.points) + 1)
+        for point in self.points:
             yield "reply %s\nplay pass\n" % point
-            yield from self.tree(tuple(p for p in left if p != point))
+            yield from self.tree(tuple(p for p in self.points if p != point))
         yield "reply pass\nplay pass\nwon\nend\n"
 
     def limit_line(self):

@@ -93,7 +93,8 @@ impl Smaller {
     pub(crate) fn list_replies(&mut self, proof: Proof) -> Result<(), AllocError> {
         for place in 0..self.search.proofs.branches(proof).len() {
             if let Some(branch) = self.search.proofs.branch(proof, place) {
-                let asked = self.asked_of(branch);
+                let turn = branch.turn;
+                let asked = self.asked_of(turn, branch.below());
                 self.asked.push(asked)?;
             }
         }
@@ -122,10 +123,8 @@ impl Smaller {
     }
 
     /// The question about a reply. There is none if the reply is not legal here.
-    fn asked_of(&self, branch: Branch) -> Asked {
+    fn asked_of(&self, turn: Turn, below: Below) -> Asked {
         let end = self.search.line.end();
-        let turn = branch.turn;
-        let below = branch.below();
         let played = move_of(self.search.moves.as_slice(), turn);
         let is_legal = match played {
             Some(played) => !played.is_barred,

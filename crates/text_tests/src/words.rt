@@ -118,6 +118,14 @@ fn solve_has_two_numbers_and_two_flags(rt: HostRuntime) {
     );
 }
 
+// The usage names the program by the first word.
+#[test]
+fn help_names_the_program(rt: HostRuntime) {
+    let usage = "Usage: tsumego <COMMAND>";
+    refuses(&rt, rt.alloc(), &["tsumego", "--help"], usage);
+    refuses(&rt, rt.alloc(), &["tsumego", "help"], usage);
+}
+
 // A caller may leave out even the program's name.
 #[test]
 fn no_words_at_all_are_refused(rt: HostRuntime) {

@@ -93,8 +93,9 @@ impl Smaller {
     pub(crate) fn list_replies(&mut self, proof: Proof) -> Result<(), AllocError> {
         for place in 0..self.search.proofs.branches(proof).len() {
             if let Some(branch) = self.search.proofs.branch(proof, place) {
+                let is_legal = self.is_legal(branch.turn);
                 let turn = branch.turn;
-                let asked = self.asked_of(turn, branch.below());
+                let asked = self.asked_of(turn, branch.below(), is_legal);
                 self.asked.push(asked)?;
             }
         }
@@ -122,18 +123,21 @@ impl Smaller {
         !has_turn(self.search.proofs.branches(proof), played)
     }
 
-    /// The question about a reply. There is none if the reply is not legal here.
-    fn asked_of(&self, turn: Turn, below: Below) -> Asked {
-        let end = self.search.line.end();
-        let played = move_of(self.search.moves.as_slice(), turn);
-        let is_legal = match played {
+    /// Whether the reply is legal here.
+    fn is_legal(&self, turn: Turn) -> bool {
+        match move_of(self.search.moves.as_slice(), turn) {
             Some(played) => !played.is_barred,
             None => true,
-        };
+        }
+    }
+
+    /// The question about a reply. There is none if the reply is not legal here.
+    fn asked_of(&self, turn: Turn, below: Below, is_legal: bool) -> Asked {
+        let end = self.search.line.end();
         let (key, question) = match below {
             Below::Proof(number) => match self.search.proofs.get(number) {
                 Some(proof) if is_legal => (proof.key(), Question::Smaller(number)),
-                _ => (end, Question::Known(below)),
+                _ => (end, Question::Known(Below::Proof(number))),
             },
             Below::Won => (end, Question::Known(Below::Won)),
         };

@@ -6,7 +6,7 @@ ghost use Rattle.go_points.specs.Ply.{ply_of};
 ghost use Rattle.target_game.specs.Legal.{legal};
 
 use crate::expect::{expect_same, expect_that};
-use crate::small_claims::judged;
+use crate::small_problems::judged;
 use cert_check::{MAX_DEPTH, Reject, Why};
 use go_points::{Colour, Colouring, Point, PointSet, Size, Turn, to_sgf};
 use std::alloc::Global;

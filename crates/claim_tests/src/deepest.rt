@@ -3,7 +3,7 @@
 
 use crate::deep::{add_count, add_line, make};
 use crate::expect::expect_same;
-use crate::small_claims::judged;
+use crate::small_problems::judged;
 use cert_check::{Reject, Why};
 use go_points::{Cell, Colour, Colouring, PointSet, Size, Turn, sgf_point};
 use std::alloc::Global;

@@ -49,8 +49,3 @@ pub(crate) fn expect_bytes(rt: &impl Abort, found: &[u8], wanted: &[u8]) {
 pub(crate) fn expect_text(rt: &impl Abort, found: &str, wanted: &str) {
     assert_eq!(rt; found, wanted);
 }
-
-/// Expects both to be the same number of 64 bits.
-pub(crate) fn expect_number(rt: &impl Abort, found: u64, wanted: u64) {
-    assert_eq!(rt; found, wanted);
-}

@@ -1,7 +1,7 @@
 //! Certificates held in memory, checked for problems on boards of three rows.
 
 use crate::expect::{expect_colour, expect_count, expect_same};
-use crate::small_claims::{point, problem};
+use crate::small_problems::{point, problem};
 use cert_check::{Checked, Reject, Why, check_held};
 use go_points::{Colour, Colouring, Size, Turn};
 use proof_cert::{Certificate, Lemma, Node, Version};

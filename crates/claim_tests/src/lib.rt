@@ -1,15 +1,14 @@
-//! Tests of problems and their records; of claims that are judged, held, lifted, expanded and written; and of audits. They use only
-//! the public calls of those crates.
+//! Tests of what no call of a program shows: claims that are cut off anywhere, that are as deep as they may be, that are held, lifted,
+//! expanded or come from devices; audits of the largest trees; and values of problems. They use only the public calls of those
+//! crates. What a call shows is a row of `tests/rows.jsonl`.
 #![tactic(auto)]
 
 #[cfg(test)]
 mod audits;
 #[cfg(test)]
-mod canonical;
+mod cuts;
 #[cfg(test)]
 mod deep;
-#[cfg(test)]
-mod deep_audit;
 #[cfg(test)]
 mod deepest;
 #[cfg(test)]
@@ -17,19 +16,15 @@ mod expansions;
 #[cfg(test)]
 mod expect;
 #[cfg(test)]
-mod held;
+mod given_lines;
 #[cfg(test)]
-mod lemmas;
+mod held;
 #[cfg(test)]
 mod lifts;
 #[cfg(test)]
-mod pasts;
-#[cfg(test)]
 mod problems;
 #[cfg(test)]
-mod short_claims;
-#[cfg(test)]
-mod small_claims;
+mod small_problems;
 #[cfg(test)]
 mod solutions;
 #[cfg(test)]

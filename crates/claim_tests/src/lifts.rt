@@ -1,7 +1,7 @@
 //! Claims that are made into one lemma, by the rules of the format.
 
 use crate::expect::expect_same;
-use crate::small_claims::problem;
+use crate::small_problems::problem;
 use cert_check::{Lift, MAX_LISTED, MAX_NODES, check_held, lift};
 use go_points::Colour;
 use proof_cert::{read_cert, write_cert};
@@ -54,19 +54,6 @@ fn a_reply_that_the_past_bars(rt: HostRuntime) {
         closed,
         "tsucert 1 3 W\nmain\nall 1\nreply pass\nplay pass\nwon\nend\n",
         "tsucert 2 3 W\nlemma B 0 O.OXO....\nhad .XOXO....\nall 1\nreply pass\nplay pass\nwon\nend\nmain\nuse 1\nend\n",
-    )
-}
-
-#[test]
-fn a_move_of_the_winner(rt: HostRuntime) {
-    let alloc = rt.alloc();
-    let open = problem(alloc, &rt, 3, &["O..X....."], Colour::Black, &[(1, 0)]);
-    becomes(
-        alloc,
-        &rt,
-        open,
-        "tsucert 1 3 B\nmain\nplay ba\nwon\nend\n",
-        "tsucert 1 3 B\nlemma B 0 O..X.....\nnot .X.X.....\nplay ba\nwon\nend\nmain\nuse 1\nend\n",
     )
 }
 

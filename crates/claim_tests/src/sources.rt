@@ -1,6 +1,6 @@
 //! The checker over a reader that fails after its bytes.
 
-use crate::small_claims::{expect_judged, problem, refused};
+use crate::small_problems::{expect_judged, problem, refused};
 use cert_check::{Reject, Why, check};
 use go_points::Colour;
 use proof_cert::ReaderSource;

@@ -2,9 +2,9 @@
 in place of the proofs, and with `--cases` runs it on many inputs. It keeps nothing.
 """
 
+import functools
 import pathlib
 import re
-import secrets
 import shutil
 import subprocess
 import tempfile
@@ -19,6 +19,17 @@ PROGRAMS = tuple((TOP / "contrib/programs").read_text().split())
 # What one compilation takes, with room to spare.
 MEGABYTES_OF_MEMORY = 2000
 MEGABYTES_OF_DISK = 500
+
+
+# The `main` of the program in a copy of the tree.
+MAIN = """fn main(rt: HostRuntime) -> ExitCode {
+    let alloc = rt.alloc();
+    let code = tool_parts::answer_calls(&rt, rt.stdin(), |words, reader, writer, _notes| {
+        run(alloc, words, reader, writer).code()
+    });
+    ExitCode::from(code)
+}
+"""
 
 
 class Call(NamedTuple):
@@ -58,96 +69,119 @@ def what_is_missing():
     return None
 
 
+TREE = threading.Lock()
+
+
+def tree():
+    """Returns the folder that `new_tree` made; there is one for all threads."""
+    with TREE:
+        return pathlib.Path(new_tree().name)
+
+
+@functools.cache
+def new_tree():
+    """Makes a copy of the crates' code in which each program answers the calls that come on standard input, and makes no call of
+    its own: `rt try` needs half a second for each run, whatever is asked."""
+    folder = tempfile.TemporaryDirectory(prefix="tree-")
+    top = pathlib.Path(folder.name)
+    for code in (TOP / "crates").glob("*/src"):
+        shutil.copytree(code, top / "crates" / code.parent.name / "src")
+    shutil.copy(TOP / "tools/many_calls.rt.txt", top / "crates/tool_parts/src/program.rt")
+    # The helpers' `main` calls `exit_code`, which stands there now; that of the program that people call does not.
+    change(top / "crates/tool_parts/src/lib.rt", "program::exit_code", "program::{answer_calls, exit_code}")
+    main = top / "crates/tsumego/src/main.rt"
+    change(main, main.read_text()[main.read_text().index("fn main(") :], MAIN)
+    shutil.copy(TOP / "crates.txt", top)
+    change(top / "crates.txt", "\ntsumego:", "\ntsumego: tool_parts")
+    return folder
+
+
+def change(file, old, new):
+    """Puts another text for one that a file has once."""
+    text = file.read_text()
+    assert text.count(old) == 1, f"{file} has '{old}' {text.count(old)} times"
+    file.write_text(text.replace(old, new))
+
+
+def is_written(status):
+    """Whether the last file of an answer is there, with all its bytes."""
+    return status.exists() and status.read_bytes().endswith(b"\n")
+
+
+def counted(text):
+    """Returns the bytes after how many they are."""
+    return f"{len(text)}\n".encode() + text
+
+
 class Run:
-    """One call of `rt try --cases`: it compiles a program and asks it each call, in order."""
+    """One call of `rt try --cases`: it compiles a program and asks it each call, in order. A case of `rt try` makes some calls, one
+    after another; where one of them does not end, those after it have no answer."""
 
-    def __init__(self, program, calls, seconds):
-        self.calls = calls
-        # A line `== NAME` parts the answers, so no answer may hold the name by chance.
-        self.token = secrets.token_hex(8)
+    def __init__(self, program, calls, seconds, calls_of_case):
+        self.calls, self.calls_of_case = calls, calls_of_case
         self.ends, self.last_words, self.told = {}, None, threading.Condition()
-        self.folder = tempfile.TemporaryDirectory(prefix="cases-")
-        self.new_folders = tempfile.TemporaryDirectory(prefix="folders-")
-        for number, call in enumerate(calls):
-            case = pathlib.Path(self.folder.name, self.name(number))
-            case.write_bytes(call.stdin)
-            words = call.words
-            if NEW_FOLDER in words:
-                self.new_folder(number).mkdir()
-                words = [str(self.new_folder(number)) if it == NEW_FOLDER else it for it in words]
-            case.with_name(case.name + ".args").write_text("".join(f"{word}\n" for word in words))
+        self.folder = tempfile.TemporaryDirectory(prefix="calls-")
+        cases = self.place("cases")
+        for it in ("cases", "answers", "new"):
+            self.place(it).mkdir()
+        for first in range(0, len(calls), calls_of_case):
+            asked = [self.asked(number) for number in range(first, min(first + calls_of_case, len(calls)))]
+            text = counted(str(self.place("answers")).encode()) + b"".join(asked)
+            (cases / str(first // calls_of_case)).write_bytes(text)
         self.process = subprocess.Popen(
-            ["rt", "try", "--seconds", str(seconds), "--cases", self.folder.name],
-            cwd=TOP / "crates" / program, stdin=subprocess.DEVNULL, stdout=subprocess.PIPE, stderr=subprocess.PIPE,
+            ["rt", "try", "--seconds", str(seconds), "--cases", str(cases)],
+            cwd=tree() / "crates" / program, stdin=subprocess.DEVNULL, stdout=subprocess.DEVNULL, stderr=subprocess.PIPE,
         )
-
-    def name(self, number):
-        return f"{self.token}-{number:06}"
-
-    def new_folder(self, number):
-        return pathlib.Path(self.new_folders.name, str(number))
-
-    def answers(self):
-        """Yields the answer of each call, in order: each as soon as the next call begins, which shows where its output ends."""
         threading.Thread(target=self.read_ends, daemon=True).start()
-        answered = 0
-        for number, text in self.texts():
-            yield self.answer(number, text, *self.end_of(number))
-            answered = number + 1
-        for number in range(answered, len(self.calls)):
-            yield self.answer(number, b"", *self.end_of(number))
-        self.process.wait()
-        self.folder.cleanup()
-        self.new_folders.cleanup()
 
-    def texts(self):
-        """Yields the number and the output of each call that begins. `rt try` ends one that has no line end with one."""
-        header = re.compile(rb"== " + self.token.encode() + rb"-(\d+)\n")
-        number, lines = None, []
-        for line in self.process.stdout:
-            begun = header.fullmatch(line)
-            if begun is None:
-                lines.append(line)
-                continue
-            if number is not None:
-                yield number, b"".join(lines)
-            number, lines = int(begun[1]), []
-        if number is not None:
-            yield number, b"".join(lines)
+    def place(self, *names):
+        return pathlib.Path(self.folder.name, *names)
+
+    def asked(self, number):
+        """Returns the call as `many_calls.rt.txt` reads it: its number, how many words it has, these, and its input."""
+        call = self.calls[number]
+        words = [call.program, *call.words]
+        if NEW_FOLDER in words:
+            self.place("new", str(number)).mkdir()
+            words = [str(self.place("new", str(number))) if it == NEW_FOLDER else it for it in words]
+        parts = [counted(it.encode()) for it in words] + [counted(call.stdin)]
+        return f"{number}\n{len(words)}\n".encode() + b"".join(parts)
 
     def read_ends(self):
-        """Keeps the status of each call and what was said before it ended."""
+        """Keeps what was said of each case until it ended."""
         before = b""
         for line in self.process.stderr:
-            case = re.match(rb"case=\w+-(\d+) run=(\w+)(?: status=(\d+))?", line)
-            if not case or line[5 : 5 + len(self.token)] != self.token.encode():
-                before += line
-                continue
-            status = int(case[3]) if case[2] == b"ended" and case[3] else None
-            with self.told:
-                self.ends[int(case[1])] = (status, before if status is not None else before + line)
-                self.told.notify_all()
-            before = b""
+            before += line
+            case = re.match(rb"case=(\d+) run=", line)
+            if case:
+                with self.told:
+                    self.ends[int(case[1])], before = before, b""
+                    self.told.notify_all()
         with self.told:
-            self.last_words = before
+            self.last_words = before or b"rt try gave no answer\n"
             self.told.notify_all()
 
-    def end_of(self, number):
-        """Returns the status of a call and what was said, as soon as that is known."""
+    def answers(self):
+        """Yields the answer of each call, in order, as soon as it is there."""
+        for number in range(len(self.calls)):
+            yield self.answer(number)
+        self.process.wait()
+        self.folder.cleanup()
+
+    def answer(self, number):
+        """Waits for one answer. It says nothing of where its new folder was."""
+        status, case = self.place("answers", f"{number}.status"), number // self.calls_of_case
         with self.told:
-            self.told.wait_for(lambda: number in self.ends or self.last_words is not None)
-            return self.ends.get(number) or (None, self.last_words or b"rt try gave no answer\n")
-
-    def answer(self, number, stdout, status, notes):
-        """Returns one answer, which says nothing of where its new folder was."""
-        folder = self.new_folder(number)
-        if not folder.exists():
-            return Answer(status, stdout, notes)
-        name = str(folder).encode()
-        files = {it.name: it.read_bytes() for it in folder.iterdir()}
-        return Answer(status, stdout.replace(name, NEW_FOLDER.encode()), notes.replace(name, NEW_FOLDER.encode()), files)
+            while not is_written(status) and case not in self.ends and self.last_words is None:
+                self.told.wait(0.05)
+        if not is_written(status):
+            return Answer(None, b"", self.ends.get(case, self.last_words))
+        texts = [status.with_suffix(it).read_bytes() for it in (".stdout", ".notes")]
+        new = self.place("new", str(number))
+        files = {it.name: it.read_bytes() for it in new.iterdir()} if new.exists() else {}
+        return Answer(int(status.read_text()), *(it.replace(str(new).encode(), NEW_FOLDER.encode()) for it in texts), files)
 
 
-def ask(program, calls, seconds=600):
-    """Compiles a program and yields its answer to each call."""
-    return Run(program, calls, seconds).answers()
+def ask(program, calls, seconds=600, calls_of_case=1):
+    """Compiles a program and yields its answer to each call. A case of so many calls has this time."""
+    return Run(program, calls, seconds, calls_of_case).answers()

@@ -1,6 +1,6 @@
 //! Claims that are cut off after each of their bytes.
 
-use crate::small_problems::{expect_judged, judged, problem, refused};
+use crate::small_problems::{barred_by_the_past, expect_judged, judged, problem, refused};
 use cert_check::Why;
 use go_points::Colour;
 use std::alloc::Global;
@@ -45,13 +45,6 @@ fn a_lemma_with_a_list(rt: HostRuntime) {
 #[test]
 fn a_lemma_that_needs_a_past(rt: HostRuntime) {
     let alloc = rt.alloc();
-    let closed = problem(
-        alloc,
-        &rt,
-        3,
-        &["O.OXO....", ".XOXO...."],
-        Colour::Black,
-        &[(1, 0)],
-    );
+    let closed = barred_by_the_past(alloc, &rt);
     expect_fronts_malformed(&rt, alloc, &closed, WITH_A_PAST);
 }

@@ -13,6 +13,16 @@ struct Given<'a> {
     number: u32,
 }
 
+impl<'a> Given<'a> {
+    fn of(size: Size, left: &'a [Line]) -> Given<'a> {
+        Given {
+            size,
+            left,
+            number: 0,
+        }
+    }
+}
+
 impl<'a> NodeSource for Given<'a> {
     ghost use Rattle.std.specs.Prelude.{None};
 
@@ -63,24 +73,8 @@ fn only_short_claims_have_a_leaf_that_lives_by_its_shape(rt: HostRuntime) {
         winner: Colour::Black,
     };
     let lines = [header, Line::Main, Line::Use(0), Line::End];
-    let short = check_short(
-        rt.alloc(),
-        &problem,
-        &mut Given {
-            size: problem.size(),
-            left: &lines,
-            number: 0,
-        },
-    );
+    let short = check_short(rt.alloc(), &problem, &mut Given::of(problem.size(), &lines));
     expect_judged(&rt, short, Ok(Colour::Black));
-    let other = check(
-        rt.alloc(),
-        &problem,
-        &mut Given {
-            size: problem.size(),
-            left: &lines,
-            number: 0,
-        },
-    );
+    let other = check(rt.alloc(), &problem, &mut Given::of(problem.size(), &lines));
     expect_judged(&rt, other, refused(3, Why::LemmaNotLower));
 }

@@ -1,7 +1,7 @@
 //! Claims that are made into one lemma, by the rules of the format.
 
 use crate::expect::expect_same;
-use crate::small_problems::problem;
+use crate::small_problems::{barred_by_the_past, problem};
 use cert_check::{Lift, MAX_LISTED, MAX_NODES, check_held, lift};
 use go_points::Colour;
 use proof_cert::{read_cert, write_cert};
@@ -40,14 +40,7 @@ fn becomes(alloc: Global, rt: &impl Abort, problem: Problem, claim: &str, wanted
 #[test]
 fn a_reply_that_the_past_bars(rt: HostRuntime) {
     let alloc = rt.alloc();
-    let closed = problem(
-        alloc,
-        &rt,
-        3,
-        &["O.OXO....", ".XOXO...."],
-        Colour::Black,
-        &[(1, 0)],
-    );
+    let closed = barred_by_the_past(alloc, &rt);
     becomes(
         alloc,
         &rt,

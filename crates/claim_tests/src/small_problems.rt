@@ -48,6 +48,18 @@ pub(crate) fn problem(
     .expect(rt, "a problem")
 }
 
+// Black's only turn in the region would bring back a colouring that has occurred.
+pub(crate) fn barred_by_the_past(alloc: Global, rt: &impl Abort) -> Problem {
+    problem(
+        alloc,
+        rt,
+        3,
+        &["O.OXO....", ".XOXO...."],
+        Colour::Black,
+        &[(1, 0)],
+    )
+}
+
 // The answer to a text.
 pub(crate) fn judged(alloc: Global, problem: &Problem, text: &[u8]) -> Result<Colour, Reject> {
     check(

@@ -1,37 +1,11 @@
 //! Sessions over memory and over devices that fail.
 
-ghost use Rattle.std.specs.Prelude.{None, Some};
-
+use crate::pieces::Pieces;
 use gtp_core::{GtpEnd, MAX_LINE, run_gtp};
 use std::alloc::Global;
 use std::io;
-use std::io::{ErrorKind, Read, Write};
+use std::io::{ErrorKind, Write};
 use std::process::Abort;
-
-// Gives a text in pieces of a fixed number of bytes, and then fails or ends.
-#[derive(Drop)]
-struct Pieces<'a> {
-    left: &'a [u8],
-    piece: usize,
-    fails: bool,
-}
-
-impl<'a> Read for Pieces<'a> {
-    ghost remaining = { λ r. Some r.left.now };
-
-    ghost use Rattle.std.specs.Prelude.{Some};
-
-    fn read(&mut self, buf: &mut [u8]) -> io::Result<usize> {
-        if self.left.is_empty() && self.fails {
-            return Err(io::Error::from(ErrorKind::Other));
-        }
-        let count = self.left.len().min(buf.len()).min(self.piece.max(1));
-        let (front, rest) = self.left.split_at(count);
-        buf[..count].copy_from_slice(front);
-        self.left = rest;
-        Ok(count)
-    }
-}
 
 // Takes a fixed number of bytes, and then fails. It counts how often it was flushed.
 #[derive(Drop)]

@@ -13,8 +13,6 @@ mod narrow;
 #[cfg(test)]
 mod pasts;
 #[cfg(test)]
-mod readers;
-#[cfg(test)]
 mod sgf;
 #[cfg(test)]
 mod short_claims;

@@ -1,39 +1,14 @@
 //! Lines that a reader gives, however it cuts its bytes, and where it fails.
 
 use crate::expect::{expect_count, expect_number, expect_that};
+use crate::pieces::Pieces;
 use go_points::{Colour, MAX_POINTS, MAX_SIZE, Size, Turn};
 use proof_cert::{Line, MAX_LINE, NodeSource, ReaderSource, SourceFault, Version};
-use std::io;
-use std::io::{ErrorKind, Read};
+use std::io::Read;
 use std::process::Abort;
 
 const CLAIM: &str =
     "tsucert 1 3 B\nlemma B 0 O.OXO....\nnot .XOXO....\nplay ba\nwon\nend\nmain\nuse 1\nend\n";
-
-// Gives a text in pieces of a fixed number of bytes, and then fails or ends.
-#[derive(Drop)]
-struct Pieces<'a> {
-    left: &'a [u8],
-    piece: usize,
-    fails: bool,
-}
-
-impl<'a> Read for Pieces<'a> {
-    ghost remaining = { λ r. Some r.left.now };
-
-    ghost use Rattle.std.specs.Prelude.{Some};
-
-    fn read(&mut self, buf: &mut [u8]) -> io::Result<usize> {
-        if self.left.is_empty() && self.fails {
-            return Err(io::Error::from(ErrorKind::Other));
-        }
-        let count = self.left.len().min(buf.len()).min(self.piece.max(1));
-        let (front, rest) = self.left.split_at(count);
-        buf[..count].copy_from_slice(front);
-        self.left = rest;
-        Ok(count)
-    }
-}
 
 fn three(rt: &impl Abort) -> Size {
     Size::new(3).expect(rt, "a size")

@@ -1,9 +1,23 @@
 //! first_moves: says of each first turn of a problem who wins after it.
 #![tactic(auto)]
 
-use first_turns::{read_request, run};
+mod claim;
+mod found;
+mod judged;
+mod line;
+mod line_record;
+mod line_solution;
+mod list;
+mod names;
+mod program;
+mod reading;
+mod record;
+mod words;
+
+use program::run;
 use std::process::ExitCode;
 use tool_parts::exit_code;
+use words::read_request;
 
 fn main(rt: HostRuntime) -> ExitCode {
     let alloc = rt.alloc();

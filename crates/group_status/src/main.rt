@@ -1,7 +1,27 @@
 //! group_status: says whether a group is alive, dead or unsettled, and on what suppositions.
 #![tactic(auto)]
 
-use group_verdicts::run;
+mod all_groups;
+mod asked;
+mod by_shape;
+mod claims;
+mod first_procedure;
+mod group;
+mod json;
+mod lines;
+mod past;
+mod program;
+mod progress;
+mod refusals;
+mod second_procedure;
+mod side;
+mod solutions;
+mod table;
+mod variation;
+mod verdict;
+mod words;
+
+use program::run;
 use std::process::ExitCode;
 use tool_parts::exit_code;
 

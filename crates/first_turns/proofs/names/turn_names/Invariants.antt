@@ -1,6 +1,0 @@
-use Rattle.first_turns.proofs.Common.{◌≡◌, ◌++◌, drop, string_bytes}
-use Rattle.first_turns.specs.Text.{turn_texts}
-use Rattle.first_turns.proofs.names.turn_names.Given as goal
-
-abbrev pub invariant-loop-i : goal.invariant-loop-i
-invariant-loop-i l = string_bytes l.text ++ turn_texts l.names (drop l.i l.turns) ≡ turn_texts l.names l.turns

@@ -1,0 +1,297 @@
+//! The first procedure: for growing sizes, the natural walls and the bound that speaks against their winner.
+//!
+//! The attacker surely wins if it wins though weak walls fall, and the defender surely wins if it wins though it is shut in. If
+//! neither is so, the natural walls decide, if they say the same at the last two sizes.
+
+ghost use Rattle.std.specs.Prelude.{◌≡◌};
+ghost use Rattle.group_status.specs.Sides.{is_won_by};
+ghost use Rattle.group_status.specs.First.{sure_winner, same_winner, is_sure, is_likely, first_finding, found_by};
+
+use crate::group::Group;
+use crate::side::{Finding, Side, Word, is_won_by};
+use crate::table::{Table, question};
+use regions::Walls;
+use std::alloc::{AllocError, Global};
+use std::io::Write;
+
+/// The sizes, in empty points.
+const SIZES: [usize; 5] = [6, 9, 12, 15, 18];
+
+/// What was found so far.
+#[derive(Clone, Copy, Debug)]
+struct Course {
+    /// Walls that were unknown at one size. A larger region would take even longer.
+    no_natural: bool,
+    no_kind: bool,
+    no_hard: bool,
+    /// At how many sizes something was known, and who surely won at the last two of them.
+    sizes: usize,
+    sure: Option<Side>,
+    sure_before: Option<Side>,
+    /// How often the natural walls decided, and how at the last two sizes.
+    naturals: usize,
+    natural: Option<Side>,
+    natural_before: Option<Side>,
+}
+
+impl Course {
+    fn begin() -> Course {
+        Course {
+            no_natural: false,
+            no_kind: false,
+            no_hard: false,
+            sizes: 0,
+            sure: None,
+            sure_before: None,
+            naturals: 0,
+            natural: None,
+            natural_before: None,
+        }
+    }
+
+    /// Takes the answers of one size. Returns whether any was known.
+    fn note(&mut self, natural: Option<Side>, kind: Option<Side>, hard: Option<Side>) -> bool {
+        if natural.is_none() && kind.is_none() && hard.is_none() {
+            return false;
+        }
+        self.sizes = self.sizes.saturating_add(1);
+        self.sure_before = self.sure;
+        self.sure = sure_winner(kind, hard);
+        if natural.is_some() {
+            self.naturals = self.naturals.saturating_add(1);
+            self.natural_before = self.natural;
+            self.natural = natural;
+        }
+        true
+    }
+
+    /// Whether the last two sizes are sure of the same winner.
+    fn is_settled(&self) -> bool {
+        self.sizes > 1 && self.sure.is_some() && same_winner(self.sure, self.sure_before)
+    }
+
+    /// Whether the winner that was last sure is the one to name. One size is enough if nothing more can be reached.
+    fn is_sure(&self, is_small: bool) -> bool
+        ensures { result ≡ is_sure self.now is_small }
+    {
+        self.sure.is_some()
+            && (self.naturals == 0 || same_winner(self.sure, self.natural))
+            && (self.sizes > 1 || is_small)
+    }
+
+    /// Whether the winner by natural walls is the one to name.
+    fn is_likely(&self, is_small: bool) -> bool
+        ensures { result ≡ is_likely self.now is_small }
+    {
+        self.natural.is_some()
+            && (self.naturals > 1 && same_winner(self.natural, self.natural_before)
+                || self.naturals == 1 && is_small)
+    }
+
+    /// What is found. `is_small` says whether everything that can be reached was in the region at the first size.
+    fn finding(&self, is_small: bool) -> Finding
+        ensures { result ≡ first_finding self.now is_small }
+    {
+        if self.is_sure(is_small) {
+            return found_by(self.sure, Word::Sure);
+        }
+        if self.is_likely(is_small) {
+            return found_by(self.natural, Word::Likely);
+        }
+        Finding::none()
+    }
+}
+
+/// Whether the winners are the same, or both `None`.
+fn same_winner(one: Option<Side>, other: Option<Side>) -> bool
+    ensures { result ≡ same_winner one other }
+{
+    match one {
+        Some(side) => is_won_by(side, other),
+        None => other.is_none(),
+    }
+}
+
+/// The finding of this winner, or of none.
+fn found_by(winner: Option<Side>, word: Word) -> Finding
+    ensures { result ≡ found_by winner word }
+{
+    match winner {
+        Some(side) => Finding::of(side, word),
+        None => Finding::none(),
+    }
+}
+
+/// Who wins though everything speaks for the other side.
+fn sure_winner(kind: Option<Side>, hard: Option<Side>) -> Option<Side>
+    ensures { result ≡ sure_winner kind hard }
+{
+    if is_won_by(Side::Attacker, kind) {
+        return Some(Side::Attacker);
+    }
+    if is_won_by(Side::Defender, hard) {
+        return Some(Side::Defender);
+    }
+    None
+}
+
+/// The answer with these walls, unless they were unknown at a smaller size.
+fn answer<N: Write>(
+    alloc: Global,
+    group: &Group,
+    table: &mut Table,
+    first: Side,
+    walls: Walls,
+    count: usize,
+    is_off: &mut bool,
+    notes: &mut N,
+) -> Result<Option<Side>, AllocError> {
+    if *is_off {
+        return Ok(None);
+    }
+    let winner = question(alloc, group, table, first, walls, count, notes)?;
+    if winner.is_none() {
+        *is_off = true;
+    }
+    Ok(winner)
+}
+
+/// What is found if this side moves first. The walls that shut the defender in are the hard ones, or those with which no friend
+/// helps.
+pub(crate) fn first_procedure<N: Write>(
+    alloc: Global,
+    group: &Group,
+    table: &mut Table,
+    first: Side,
+    hard: Walls,
+    notes: &mut N,
+) -> Result<Finding, AllocError> {
+    let mut course = Course::begin();
+    for i in 0..SIZES.len() {
+        let count = SIZES[i];
+        let mut is_off = course.no_natural;
+        let natural = answer(
+            alloc,
+            group,
+            table,
+            first,
+            Walls::Natural,
+            count,
+            &mut is_off,
+            notes,
+        )?;
+        course.no_natural = is_off;
+        let (kind, bound) = bounds(
+            alloc,
+            group,
+            table,
+            first,
+            hard,
+            count,
+            natural,
+            &mut course,
+            notes,
+        )?;
+        if !course.note(natural, kind, bound) || course.is_settled() || group.order.len() <= count {
+            break;
+        }
+    }
+    Ok(course.finding(group.order.len() <= SIZES[0]))
+}
+
+/// The answers if weak walls fall, and if the defender is shut in. If the natural walls are unknown here, only the side for which
+/// they spoke before can still be sure: the walls that speak against it are asked first, and the others only if it may be.
+fn bounds<N: Write>(
+    alloc: Global,
+    group: &Group,
+    table: &mut Table,
+    first: Side,
+    hard: Walls,
+    count: usize,
+    natural: Option<Side>,
+    course: &mut Course,
+    notes: &mut N,
+) -> Result<(Option<Side>, Option<Side>), AllocError> {
+    let before = if natural.is_some() {
+        None
+    } else {
+        course.natural
+    };
+    if before == Some(Side::Defender) {
+        let bound = bound_of_hard(
+            alloc, group, table, first, hard, count, natural, course, notes,
+        )?;
+        if !may_be_sure(Side::Defender, bound, course.sure) {
+            return Ok((None, bound));
+        }
+        let kind = bound_of_kind(alloc, group, table, first, count, natural, course, notes)?;
+        return Ok((kind, bound));
+    }
+    let kind = bound_of_kind(alloc, group, table, first, count, natural, course, notes)?;
+    if before == Some(Side::Attacker) && !may_be_sure(Side::Attacker, kind, course.sure) {
+        return Ok((kind, None));
+    }
+    let bound = bound_of_hard(
+        alloc, group, table, first, hard, count, natural, course, notes,
+    )?;
+    Ok((kind, bound))
+}
+
+/// Whether the side may surely win, if this is the answer with the walls that speak against it: then it wins there, or they are
+/// unknown and it surely won at the size before.
+fn may_be_sure(side: Side, bound: Option<Side>, before: Option<Side>) -> bool {
+    match bound {
+        Some(winner) => winner.is(side),
+        None => is_won_by(side, before),
+    }
+}
+
+/// The answer if weak walls fall, unless the natural walls spoke for the defender.
+fn bound_of_kind<N: Write>(
+    alloc: Global,
+    group: &Group,
+    table: &mut Table,
+    first: Side,
+    count: usize,
+    natural: Option<Side>,
+    course: &mut Course,
+    notes: &mut N,
+) -> Result<Option<Side>, AllocError> {
+    if natural == Some(Side::Defender) {
+        return Ok(None);
+    }
+    let mut is_off = course.no_kind;
+    let winner = answer(
+        alloc,
+        group,
+        table,
+        first,
+        Walls::Kind,
+        count,
+        &mut is_off,
+        notes,
+    )?;
+    course.no_kind = is_off;
+    Ok(winner)
+}
+
+/// The answer if the defender is shut in, unless the natural walls spoke for the attacker.
+fn bound_of_hard<N: Write>(
+    alloc: Global,
+    group: &Group,
+    table: &mut Table,
+    first: Side,
+    hard: Walls,
+    count: usize,
+    natural: Option<Side>,
+    course: &mut Course,
+    notes: &mut N,
+) -> Result<Option<Side>, AllocError> {
+    if natural == Some(Side::Attacker) {
+        return Ok(None);
+    }
+    let mut is_off = course.no_hard;
+    let winner = answer(alloc, group, table, first, hard, count, &mut is_off, notes)?;
+    course.no_hard = is_off;
+    Ok(winner)
+}

@@ -7,7 +7,7 @@ from measure_check import Wide
 from reading_check import rules
 
 VARIATIONS = 6_900
-# Moves, a comment, an escaped bracket and two variations of its own, spelled exactly as `sgf_driver` writes them.
+# Moves, a comment, an escaped bracket and two variations of its own, spelled exactly as the program writes them.
 VARIATION = (
     r"(;B[pd]C[The corner \[again\], with a longer word on what may come of it.];W[dp];B[dd]LB[aa:1][bb:2];W[pp]"
     r"(;B[fq]N[outside];W[cn])(;B[cn];W[fq]))"

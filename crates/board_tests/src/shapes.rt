@@ -1,5 +1,6 @@
 //! Named shapes on small boards, by hand.
 
+use crate::expect::expect_that;
 use go_chains::ChainBoard;
 use go_points::{Colour, Colouring, PointSet, Size};
 use pass_alive::is_pass_alive;
@@ -30,6 +31,16 @@ fn marked(rt: &impl Abort, rows: u8, text: &str) -> PointSet {
     set
 }
 
+// Expects Black's target to live by its shape.
+fn expect_life(rt: &impl Abort, rows: u8, text: &str, targets: &str, region: &str) {
+    expect_that(rt, lives(rt, rows, text, targets, region));
+}
+
+// Expects it not to live by its shape.
+fn expect_no_life(rt: &impl Abort, rows: u8, text: &str, targets: &str, region: &str) {
+    expect_that(rt, !lives(rt, rows, text, targets, region));
+}
+
 // Whether Black's target lives by its shape.
 fn lives(rt: &impl Abort, rows: u8, text: &str, targets: &str, region: &str) -> bool {
     is_pass_alive(
@@ -42,99 +53,104 @@ fn lives(rt: &impl Abort, rows: u8, text: &str, targets: &str, region: &str) -> 
 
 #[test]
 fn two_eyes_live(rt: HostRuntime) {
-    assert!(&rt; lives(&rt, 3, ".XXXXXXX.", "....x....", "xxxxxxxxx"));
+    expect_life(&rt, 3, ".XXXXXXX.", "....x....", "xxxxxxxxx");
 }
 
 #[test]
 fn three_in_a_row_are_one_eye(rt: HostRuntime) {
-    assert!(&rt; !lives(&rt, 3, "...XXXXXX", "....x....", "xxxxxxxxx"));
+    expect_no_life(&rt, 3, "...XXXXXX", "....x....", "xxxxxxxxx");
 }
 
 #[test]
 fn an_eye_that_suicide_empties_is_none(rt: HostRuntime) {
     let text = "O.XX..XXXXXXXXX.";
-    assert!(&rt; !lives(&rt, 4, text, "..x.............", "xxxxxxxxxxxxxxxx"));
+    expect_no_life(&rt, 4, text, "..x.............", "xxxxxxxxxxxxxxxx");
     let text = "..XX.OXXXXXXXXX.";
-    assert!(&rt; !lives(&rt, 4, text, "..x.............", "xxxxxxxxxxxxxxxx"));
+    expect_no_life(&rt, 4, text, "..x.............", "xxxxxxxxxxxxxxxx");
 }
 
 #[test]
 fn a_lasting_liberty_lives(rt: HostRuntime) {
-    assert!(&rt; lives(&rt, 3, "XXX......", "x........", "xxx......"));
-    assert!(&rt; !lives(&rt, 3, "XXX......", "x........", "xxxxxx..."));
+    expect_life(&rt, 3, "XXX......", "x........", "xxx......");
+    expect_no_life(&rt, 3, "XXX......", "x........", "xxxxxx...");
 }
 
 #[test]
 fn one_eye_is_not_two(rt: HostRuntime) {
-    assert!(&rt; !lives(&rt, 3, "..XXXXXXX", "....x....", "xxxxxxxxx"));
+    expect_no_life(&rt, 3, "..XXXXXXX", "....x....", "xxxxxxxxx");
 }
 
 #[test]
 fn an_eye_beside_a_stone_that_lasts_is_none(rt: HostRuntime) {
     let text = ".XX.XXXOOOO.....";
-    assert!(&rt; !lives(&rt, 4, text, ".x..............", "x..x............"));
+    expect_no_life(&rt, 4, text, ".x..............", "x..x............");
     // Without that liberty outside, White's stones in the eye could be taken; but the eye is then the whole lower side.
     let text = ".XX.XXXOOOOOOOO.";
-    assert!(&rt; !lives(&rt, 4, text, ".x..............", "x..x...........x"));
+    expect_no_life(&rt, 4, text, ".x..............", "x..x...........x");
 }
 
 #[test]
 fn a_stone_in_an_eye_is_part_of_it(rt: HostRuntime) {
     let text = ".XO.XXXXXXXXXXX.";
-    assert!(&rt; lives(&rt, 4, text, ".x..............", "xxxxxxxxxxxxxxxx"));
+    expect_life(&rt, 4, text, ".x..............", "xxxxxxxxxxxxxxxx");
 }
 
 #[test]
 fn chains_live_together_by_the_eyes_that_they_share(rt: HostRuntime) {
     let text = ".XX.X..XX..X.XX.";
-    assert!(&rt; lives(&rt, 4, text, ".x..............", "xxxxxxxxxxxxxxxx"));
+    expect_life(&rt, 4, text, ".x..............", "xxxxxxxxxxxxxxxx");
     // Without one stone a chain has one eye, then its neighbours have one, and so on.
     let text = ".XX.X..XX..X.X..";
-    assert!(&rt; !lives(&rt, 4, text, ".x..............", "xxxxxxxxxxxxxxxx"));
+    expect_no_life(&rt, 4, text, ".x..............", "xxxxxxxxxxxxxxxx");
 }
 
 #[test]
 fn a_target_off_the_board_or_without_a_stone_does_not_live(rt: HostRuntime) {
     let board = board(&rt, 3, ".XXXXXXX.");
     let region = marked(&rt, 3, "xxxxxxxxx");
-    assert!(&rt;
+    expect_that(
+        &rt,
         !is_pass_alive(
             &board,
             &marked(&rt, 4, "...x............"),
             Colour::Black,
-            &region
-        )
+            &region,
+        ),
     );
-    assert!(&rt;
+    expect_that(
+        &rt,
         !is_pass_alive(
             &board,
             &marked(&rt, 4, "............x..."),
             Colour::Black,
-            &region
-        )
+            &region,
+        ),
     );
-    assert!(&rt;
+    expect_that(
+        &rt,
         !is_pass_alive(
             &board,
             &marked(&rt, 3, "x..............."),
             Colour::Black,
-            &region
-        )
+            &region,
+        ),
     );
-    assert!(&rt;
+    expect_that(
+        &rt,
         !is_pass_alive(
             &board,
             &marked(&rt, 3, "....x..........."),
             Colour::White,
-            &region
-        )
+            &region,
+        ),
     );
-    assert!(&rt;
+    expect_that(
+        &rt,
         is_pass_alive(
             &board,
             &marked(&rt, 3, ".........."),
             Colour::White,
-            &region
-        )
+            &region,
+        ),
     );
 }

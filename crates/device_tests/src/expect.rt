@@ -11,6 +11,11 @@ pub(crate) fn expect_that(rt: &impl Abort, fact: bool)
     assert!(rt; fact);
 }
 
+/// Expects both to be the same bytes.
+pub(crate) fn expect_bytes(rt: &impl Abort, found: &[u8], wanted: &[u8]) {
+    assert_eq!(rt; found, wanted);
+}
+
 /// Expects both to be the same count.
 pub(crate) fn expect_count(rt: &impl Abort, found: usize, wanted: usize) {
     assert_eq!(rt; found, wanted);

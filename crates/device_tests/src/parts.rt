@@ -1,12 +1,17 @@
 //! What the libraries of the helper programs copy, read, write and put in order.
 
-use crate::expect::expect_written;
+use crate::expect::{expect_bytes, expect_that, expect_written};
 use record_pages::descending;
 use sgf_text::read_tree;
 use std::alloc::AllocError;
+use std::process::Abort;
 use tool_parts::{Output, Status, copy_tree, read_whole, write_output};
 
 const RECORD: &str = "(;SZ[9]C[a\\]b];B[aa](;W[bb](;B[])(;B[cc]LB[dd:A][ee:B]))(;W[]))";
+
+fn expect_code(rt: &impl Abort, status: Status, code: u8) {
+    assert_eq!(rt; status.code(), code);
+}
 
 #[test]
 fn a_copy_has_the_same_text(rt: HostRuntime) {
@@ -17,7 +22,7 @@ fn a_copy_has_the_same_text(rt: HostRuntime) {
     let copy = copy_tree(alloc, &tree).ok().expect(&rt, "memory");
     let mut writer = Vec::new(alloc);
     let ended = write_output(&mut writer, Ok(Output::Record(copy)));
-    assert_eq!(rt; ended, Status::Answered);
+    expect_code(&rt, ended, 0);
     let wanted = format!(in alloc; "{RECORD}\n").ok().expect(&rt, "memory");
     expect_written(&rt, writer, wanted.as_str());
 }
@@ -34,28 +39,25 @@ fn the_input_is_read_to_its_end(rt: HostRuntime) {
     let whole = read_whole(&mut reader, &mut bytes)
         .ok()
         .expect(&rt, "memory");
-    assert!(rt; whole);
-    assert_eq!(rt; bytes.as_slice(), long.as_slice());
+    expect_that(&rt, whole);
+    expect_bytes(&rt, bytes.as_slice(), long.as_slice());
 }
 
 #[test]
 fn what_failed_is_said(rt: HostRuntime) {
     let mut writer = Vec::new(rt.alloc());
     let ended = write_output(&mut writer, Err(AllocError));
-    assert_eq!(rt; ended, Status::Failed);
-    assert_eq!(rt; writer.as_slice(), b"failed: memory\n".as_slice());
+    expect_code(&rt, ended, 4);
+    expect_bytes(&rt, writer.as_slice(), b"failed: memory\n");
 }
 
 #[test]
 fn exit_codes(rt: HostRuntime) {
-    let codes = [
-        Status::Answered.code(),
-        Status::Rejected.code(),
-        Status::Refused.code(),
-        Status::BadWords.code(),
-        Status::Failed.code(),
-    ];
-    assert_eq!(rt; codes, [0, 1, 2, 3, 4]);
+    expect_code(&rt, Status::Answered, 0);
+    expect_code(&rt, Status::Rejected, 1);
+    expect_code(&rt, Status::Refused, 2);
+    expect_code(&rt, Status::BadWords, 3);
+    expect_code(&rt, Status::Failed, 4);
 }
 
 #[test]

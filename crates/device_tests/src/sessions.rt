@@ -1,5 +1,6 @@
 //! Sessions over memory and over devices that fail.
 
+use crate::expect::{expect_bytes, expect_count};
 use crate::pieces::Pieces;
 use gtp_core::{GtpEnd, MAX_LINE, run_gtp};
 use std::alloc::Global;
@@ -34,6 +35,10 @@ impl Write for Full {
     }
 }
 
+fn expect_end(rt: &impl Abort, found: Result<(), GtpEnd>, wanted: Result<(), GtpEnd>) {
+    assert_eq!(rt; found, wanted);
+}
+
 // Expects the session to write these replies for this input, however the input is cut.
 fn answers(rt: &impl Abort, alloc: Global, input: &[u8], wanted: &str) {
     for piece in [1, 2, 7, 4_096] {
@@ -43,8 +48,8 @@ fn answers(rt: &impl Abort, alloc: Global, input: &[u8], wanted: &str) {
             fails: false,
         };
         let mut writer = Vec::new(alloc);
-        assert_eq!(rt; run_gtp(alloc, &mut reader, &mut writer), Ok(()));
-        assert_eq!(rt; writer.as_slice(), wanted.as_bytes());
+        expect_end(rt, run_gtp(alloc, &mut reader, &mut writer), Ok(()));
+        expect_bytes(rt, writer.as_slice(), wanted.as_bytes());
     }
 }
 
@@ -145,8 +150,12 @@ fn a_reader_that_fails(rt: HostRuntime) {
         fails: true,
     };
     let mut writer = Vec::new(alloc);
-    assert_eq!(rt; run_gtp(alloc, &mut reader, &mut writer), Err(GtpEnd::Read));
-    assert_eq!(rt; writer.as_slice(), b"= tsumego\n\n".as_slice());
+    expect_end(
+        &rt,
+        run_gtp(alloc, &mut reader, &mut writer),
+        Err(GtpEnd::Read),
+    );
+    expect_bytes(&rt, writer.as_slice(), b"= tsumego\n\n");
 }
 
 #[test]
@@ -155,17 +164,15 @@ fn a_writer_that_fails(rt: HostRuntime) {
     for room in 0..22 {
         let mut reader = b"name\nname\n".as_slice();
         let mut writer = Full { room, flushed: 0 };
-        assert_eq!(rt;
-            run_gtp(alloc, &mut reader, &mut writer),
-            Err(GtpEnd::Write)
-        );
-        assert_eq!(rt; writer.flushed, room / 11);
+        let end = run_gtp(alloc, &mut reader, &mut writer);
+        expect_end(&rt, end, Err(GtpEnd::Write));
+        expect_count(&rt, writer.flushed, room / 11);
     }
     let mut reader = b"name\n\n# x\nname\n".as_slice();
     let mut writer = Full {
         room: 22,
         flushed: 0,
     };
-    assert_eq!(rt; run_gtp(alloc, &mut reader, &mut writer), Ok(()));
-    assert_eq!(rt; writer.flushed, 2);
+    expect_end(&rt, run_gtp(alloc, &mut reader, &mut writer), Ok(()));
+    expect_count(&rt, writer.flushed, 2);
 }

@@ -1,4 +1,4 @@
-//! Full search on boards of three rows, with every claim and every step worked out by hand.
+//! Full search on boards of three rows, with every claim and every step worked out by hand. More claims of such boards are rows.
 
 use crate::expect::{expect_same, expect_that};
 use crate::positions::{Position, points, problem_of};
@@ -9,7 +9,7 @@ use proof_cert::{Certificate, Version, write_cert};
 use std::alloc::Global;
 use std::num::NonZeroUsize;
 use std::process::Abort;
-use target_game::Problem;
+use target_game::{Problem, Within, decide_within};
 
 // The problem on 3 by 3 whose present colouring is the last of its history.
 fn problem(
@@ -74,16 +74,6 @@ fn finds(
     left == steps.saturating_sub(made) && is_claim(rt, alloc, &certificate, text)
 }
 
-// Whether the problem is solved by the claim of this text.
-fn solves(rt: &impl Abort, alloc: Global, problem: Problem, winner: Colour, text: &str) -> bool {
-    match solve(alloc, problem, budget(rt, 1000)) {
-        Verdict::Wins(checked) => {
-            checked.winner() == winner && is_claim(rt, alloc, checked.certificate(), text)
-        }
-        Verdict::Unknown { .. } => false,
-    }
-}
-
 // White's aa is in atari, and Black takes it. Only the start is expanded, once; the start and the state after the move are met.
 #[test]
 fn a_capture_of_one_turn(rt: HostRuntime) {
@@ -91,7 +81,6 @@ fn a_capture_of_one_turn(rt: HostRuntime) {
     let text = "tsucert 1 3 B\nmain\nplay ba\nwon\nend\n";
     let corner = problem(&rt, alloc, &["O..X....."], Colour::Black, "aa", "ba");
     expect_that(&rt, finds(&rt, alloc, &corner, 4, 1, text));
-    expect_that(&rt, solves(&rt, alloc, corner, Colour::Black, text));
 }
 
 // White to move fills ba, and two passes follow. Within one turn the start is expanded; within two turns, also the states after ba
@@ -103,7 +92,6 @@ fn a_liberty_filled(rt: HostRuntime) {
     let text = "tsucert 1 3 W\nmain\nplay ba\nall 1\nreply pass\nplay pass\nwon\nend\n";
     let corner = problem(&rt, alloc, &["O..X....."], Colour::White, "aa", "ba");
     expect_that(&rt, finds(&rt, alloc, &corner, 15, 7, text));
-    expect_that(&rt, solves(&rt, alloc, corner, Colour::White, text));
 }
 
 // Black may not take the ko again, so it passes, and White passes: the start, and then the start and the state after it. Two
@@ -115,32 +103,6 @@ fn a_ko_that_is_barred(rt: HostRuntime) {
     let texts = [".XOXO....", "O.OXO...."];
     let barred = problem(&rt, alloc, &texts, Colour::Black, "aa", "ba");
     expect_that(&rt, finds(&rt, alloc, &barred, 6, 3, text));
-    expect_that(&rt, solves(&rt, alloc, barred, Colour::White, text));
-    let open = problem(&rt, alloc, &["O.OXO...."], Colour::Black, "aa", "ba");
-    let taken = "tsucert 1 3 B\nmain\nplay ba\nwon\nend\n";
-    expect_that(&rt, solves(&rt, alloc, open, Colour::Black, taken));
-}
-
-// With a threat at cc Black may take again, so White fills ba after it. After Black's pass White passes at once, though
-// ba, which comes before it, wins as well.
-#[test]
-fn a_second_pass_comes_first(rt: HostRuntime) {
-    let alloc = rt.alloc();
-    let text =
-        "tsucert 1 3 W\nmain\nall 2\nreply cc\nplay ba\nall 1\nreply pass\nplay pass\nwon\nreply pass\nplay pass\nwon\nend\n";
-    let texts = [".XOXO....", "O.OXO...."];
-    let threat = problem(&rt, alloc, &texts, Colour::Black, "aa", "bacc");
-    expect_that(&rt, solves(&rt, alloc, threat, Colour::White, text));
-}
-
-// White answers each of Black's moves with the other one, which leaves only passes.
-#[test]
-fn an_answer_to_each_reply(rt: HostRuntime) {
-    let alloc = rt.alloc();
-    let text =
-        "tsucert 1 3 W\nmain\nall 3\nreply bc\nplay cc\nall 1\nreply pass\nplay pass\nwon\nreply cc\nplay bc\nall 1\nreply pass\nplay pass\nwon\nreply pass\nplay pass\nwon\nend\n";
-    let two = problem(&rt, alloc, &["O........"], Colour::Black, "aa", "bccc");
-    expect_that(&rt, solves(&rt, alloc, two, Colour::White, text));
 }
 
 // Both of White's moves are suicides of one stone, so White may only pass.
@@ -150,7 +112,17 @@ fn no_move_is_legal(rt: HostRuntime) {
     let text = "tsucert 1 3 B\nmain\nall 1\nreply pass\nplay pass\nwon\nend\n";
     let eyes = problem(&rt, alloc, &[".XXXXXXX."], Colour::White, "bb", "aacc");
     expect_that(&rt, finds(&rt, alloc, &eyes, 6, 3, text));
-    expect_that(&rt, solves(&rt, alloc, eyes, Colour::Black, text));
+}
+
+// With no states nothing is decided, at any depth.
+#[test]
+fn no_states_decide_nothing(rt: HostRuntime) {
+    let alloc = rt.alloc();
+    let corner = problem(&rt, alloc, &["O..X....."], Colour::Black, "aa", "ba");
+    let now = decide_within(alloc, &corner, 0, 0).expect(&rt, "memory");
+    expect_that(&rt, now == Within::Limit);
+    let later = decide_within(alloc, &corner, 200, 0).expect(&rt, "memory");
+    expect_that(&rt, later == Within::Limit);
 }
 
 // With no steps nothing is found, and the problem is handed back.

@@ -26,5 +26,3 @@ mod shapes;
 mod short;
 #[cfg(test)]
 mod table;
-#[cfg(test)]
-mod within;

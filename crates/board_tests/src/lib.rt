@@ -1,8 +1,6 @@
-//! Tests of points, keys, chains, boards and their turns, and of life by shape. They call what those crates make public.
+//! Tests of points, keys, chains, boards and their turns. They call what those crates make public.
 #![tactic(auto)]
 
-#[cfg(test)]
-mod all_shapes;
 #[cfg(test)]
 mod boards;
 #[cfg(test)]
@@ -17,8 +15,6 @@ mod lists;
 mod points;
 #[cfg(test)]
 mod seen;
-#[cfg(test)]
-mod shapes;
 #[cfg(test)]
 mod taken_back;
 #[cfg(test)]

@@ -1,6 +1,5 @@
 //! Named shapes on small boards, by hand.
 
-use crate::expect::expect_that;
 use go_chains::ChainBoard;
 use go_points::{Colour, Colouring, PointSet, Size};
 use pass_alive::is_pass_alive;
@@ -29,6 +28,10 @@ fn marked(rt: &impl Abort, rows: u8, text: &str) -> PointSet {
         }
     }
     set
+}
+
+fn expect_that(rt: &impl Abort, fact: bool) {
+    assert!(rt; fact);
 }
 
 // Expects Black's target to live by its shape.

@@ -1,0 +1,8 @@
+//! Tests of life by shape, against a plain search in which the attacker alone plays. One goes through half a million colourings,
+//! which takes minutes before it is proved, so they are a crate of their own.
+#![tactic(auto)]
+
+#[cfg(test)]
+mod plain;
+#[cfg(test)]
+mod shapes;

@@ -1,5 +1,5 @@
 """Programs of the repository that are compiled and not proved: the toolchain's `rt try` compiles one in about a minute, with checks
-in place of the proofs, and with `--cases` runs it on many inputs. It keeps nothing.
+in place of the proofs, and with `--cases` runs it on many inputs, each of which has many calls here. It keeps nothing.
 """
 
 import functools
@@ -19,7 +19,6 @@ PROGRAMS = tuple((TOP / "contrib/programs").read_text().split())
 # What one compilation takes, with room to spare.
 MEGABYTES_OF_MEMORY = 2000
 MEGABYTES_OF_DISK = 500
-
 
 # The `main` of the program in a copy of the tree.
 MAIN = """fn main(rt: HostRuntime) -> ExitCode {

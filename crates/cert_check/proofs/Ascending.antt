@@ -7,6 +7,7 @@ use Rattle.std.specs.Cmp.{IsTotalOrder}
 use Rattle.std.specs.Cmp.Lexicographic.{on_texts}
 use Rattle.std.proofs.Math.Seq.{drop-cons}
 use Rattle.go_points.specs.Text.{text_of}
+use Rattle.std.proofs.lemmas.List.Folds.{list_any_at}
 
 pub order : IsTotalOrder text_order
 order = on_texts text_of
@@ -72,15 +73,6 @@ before_at cs i (suc j) d h less low =
       | inr near ↦ ap (λ k. text_order (slice_index_or cs k d) (slice_index_or cs (suc j) d)) (let e : i ≡ j = omega (arith, less, near) in e) ∙ last
     ]
 
-pub any_at : (f : List Cell → Bool) (cs : List (List Cell)) (i : ℕ) (d : List Cell) → i < length cs → f (slice_index_or cs i d) ≡ true → list_any f cs ≡ true
-any_at f [] i d low e = absurd (omega arith)
-any_at f (c ∷ cs) zero d low e = ap (λ b. b || list_any f cs) e
-any_at f (c ∷ cs) (suc i) d low e = go (f c) (any_at f cs i d (omega arith) e)
-  where
-    go : (b : Bool) → list_any f cs ≡ true → (b || list_any f cs) ≡ true
-    go true h = refl
-    go false h = h
-
 none_at : (f : List Cell → Bool) (cs : List (List Cell)) (d : List Cell) → ((k : ℕ) → k < length cs → f (slice_index_or cs k d) ≡ false) → list_any f cs ≡ false
 none_at f [] d h = refl
 none_at f (c ∷ cs) d h = ap (λ b. b || list_any f cs) (h 0 (omega arith)) ∙ none_at f cs d (λ k low. h (suc k) (omega (arith, low)))
@@ -131,7 +123,7 @@ module _ (cs : List (List Cell)) (c : List Cell) where
     there = omega (arith, on, is.within)
 
     pub split_found : is_eq (text_order x c) ≡ true → has_occurred cs c ≡ true
-    split_found e = any_at (same_cells c) cs middle c there (ap (same_cells c) here ∙ same_from c x (is_equal (text_order x c) e))
+    split_found e = list_any_at (same_cells c) cs middle c there (ap (same_cells c) here ∙ same_from c x (is_equal (text_order x c) e))
 
     pub split_low : is_lt (text_order x c) ≡ true → IsSplit cs c (middle + 1) high
     split_low e =

@@ -6,14 +6,14 @@ use Rattle.go_points.specs.Points.{same_place}
 use Rattle.go_points.specs.Equal.{same_place_decides}
 use Rattle.target_game.proofs.Playing.{holds_numbered}
 use Rattle.cert_check.proofs.Members.{and_first}
-use Rattle.cert_check.proofs.Known.{or_end}
 use Rattle.go_turns.proofs.Turns.{is_on_from}
+use Rattle.std.proofs.Math.Bool.{or-false}
 
 apart : (n : ℕ) (p q : Place) → IsOn n p → IsOn n q → (p ≡ q → ⊥) → nat_eq (number_of n p) (number_of n q) ≡ false
 apart n p q on_p on_q other =
-    sym (or_end (nat_eq (number_of n p) (number_of n q)))
+    sym (or-false (nat_eq (number_of n p) (number_of n q)))
     ∙ holds_numbered n (q ∷ []) p at on_p
-    ∙ or_end (same_place p q) ∙ go (same_place p q) refl
+    ∙ or-false (same_place p q) ∙ go (same_place p q) refl
   where
     at : All (IsOn n) (q ∷ [])
     at zero d low = on_q

@@ -8,6 +8,7 @@ use Rattle.cert_check.proofs.Ascending.{order, above_all, none_among, above_from
 use Rattle.cert_check.proofs.Lists.{before_is}
 use Rattle.cert_check.proofs.Members.{Member, and_first, and_second, and_both}
 use Rattle.cert_check.proofs.Game.{same_cells-refl, occurred-member, member-occurred}
+use Rattle.std.proofs.Math.Bool.{or_self_left}
 
 -- WHAT A SORT AND A DROP OF EQUALS LEAVE
 
@@ -17,10 +18,6 @@ ascends_strict [] h = tt
 ascends_strict (c ∷ []) h = (tt, tt)
 ascends_strict (c ∷ d ∷ cs) h = (h.0.0, ascends_strict (d ∷ cs) h.1)
 
-or_again : (a b : Bool) → (a || b) ≡ (a || (a || b))
-or_again true b = refl
-or_again false b = refl
-
 occurred_from : (k : List Cell) (cs : List (List Cell)) (c : List Cell) → has_occurred (dedup_from same_cells k cs) c ≡ has_occurred (k ∷ cs) c
 occurred_from k [] c = refl
 occurred_from k (d ∷ cs) c = at (same_cells d k) refl (occurred_from k cs c) (occurred_from d cs c)
@@ -28,7 +25,7 @@ occurred_from k (d ∷ cs) c = at (same_cells d k) refl (occurred_from k cs c) (
     at : (b : Bool) → same_cells d k ≡ b → has_occurred (dedup_from same_cells k cs) c ≡ has_occurred (k ∷ cs) c → has_occurred (dedup_from same_cells d cs) c ≡ has_occurred (d ∷ cs) c
         → has_occurred (cond b (dedup_from same_cells k cs) (k ∷ dedup_from same_cells d cs)) c ≡ has_occurred (k ∷ d ∷ cs) c
     at true e here there =
-        here ∙ or_again (same_cells c k) (has_occurred cs c)
+        here ∙ sym (or_self_left (same_cells c k) (has_occurred cs c))
         ∙ ap (λ (x : List Cell). same_cells c k || (same_cells c x || has_occurred cs c)) (sym (same_cells_eq d k e))
     at false e here there = ap (λ b. same_cells c k || b) there
 

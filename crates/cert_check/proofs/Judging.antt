@@ -1,5 +1,5 @@
 -- What the judge does with a line, as the machine does it.
-use Rattle.cert_check.proofs.Common.{◌≡◌, ℕ, suc, ◌+◌, ◌-◌, ◌*◌, ◌<◌, Bool, true, false, ◌&&◌, nat_lt, nat_le, List, [], ◌∷◌, ◌++◌, length, Option, Some, None, IfSome, refl, sym, ap, ap₂, ◌∙◌, subst, arith, lt-ltb, if◌then◌else◌, slice_get, is_lt, Ordering, Less, Equal, Greater, Cell, text_order, GameProblem, All-push, side_of-whole, Head, max_nodes, max_depth, max_listed, Line, had_line, not_line, won_line, use_line, play_line, all_line, line_fits, had_of, not_of, Judge, NodeLine, Why, limit, list_order, ask, lemma_start, is_after, Machine, Heading, Phase, goes_on, stops, goes_if, last_of, listed_taken, listing_had, listing_not, had_taken, not_taken, phase_taken, taken, body_of, node_taken, Inside, phase_of, owed_by, node_fault, node_next, head_of, node_value, machine_of, heading_of, phase_held, AwaitsNode, answering, had_more, listed_more, Ascends}
+use Rattle.cert_check.proofs.Common.{◌≡◌, ℕ, suc, ◌+◌, ◌-◌, ◌*◌, ◌<◌, Bool, true, false, ◌&&◌, nat_lt, nat_le, List, [], ◌∷◌, ◌++◌, length, Option, Some, None, IfSome, refl, sym, ap, ap₂, ◌∙◌, subst, arith, lt-ltb, slice_get, Less, Cell, text_order, GameProblem, All-push, side_of-whole, Head, max_nodes, max_depth, max_listed, Line, had_line, not_line, won_line, use_line, play_line, all_line, line_fits, had_of, not_of, Judge, NodeLine, Why, limit, list_order, ask, lemma_start, is_after, Machine, Heading, Phase, goes_on, stops, goes_if, last_of, listed_taken, listing_had, listing_not, had_taken, not_taken, phase_taken, taken, body_of, node_taken, Inside, phase_of, owed_by, node_fault, node_next, head_of, node_value, machine_of, heading_of, phase_held, AwaitsNode, answering, had_more, listed_more, Ascends, if◌then◌else◌}
 use Rattle.std.specs.Prelude.{reverse}
 use Rattle.target_game.specs.State as State
 use Rattle.std.specs.List.{All}
@@ -11,7 +11,7 @@ use Rattle.cert_check.specs.declared.open_nodes.Due.{Due}
 use Rattle.cert_check.specs.declared.open_nodes.Due.TheVariants.{Node, Reply, End}
 use Rattle.cert_check.specs.Parts.{had_line_of, listed_line, node_line}
 use Rattle.cert_check.specs.Private.Judging.{GoesOn, IsBehind, lemma_of, within_of, inside_now, IsBehindFor, AwaitsHad, AwaitsList, had_here, list_here, node_here, body_here}
-use Rattle.cert_check.proofs.Ascending.{ascends_more}
+use Rattle.cert_check.proofs.Ascending.{ascends_more, is_less}
 use Rattle.cert_check.proofs.Lists.{before_is}
 use Rattle.cert_check.proofs.Machines.{last_pushed}
 use Rattle.cert_check.proofs.Replies.{line_on, line_off, line_full, room_is, stops_said}
@@ -141,12 +141,7 @@ last_fits cs c n o is long h = at o (last_of cs) (is ∙ last_get cs) h
 -- a colouring is after the last one
 listed_behind : (c : List Cell) (o : Option (List Cell)) → IfSome o (λ d. length d ≡ length c) → is_after o c ≡ true → IfSome o (λ d. text_order d c ≡ Less)
 listed_behind c None long after = tt
-listed_behind c (Some d) long after = go (text_order d c) (before_is d c long ∙ after)
-  where
-    go : (o : Ordering) → is_lt o ≡ true → o ≡ Less
-    go Less e = refl
-    go Equal e = absurd (cc)
-    go Greater e = absurd (cc)
+listed_behind c (Some d) long after = is_less (text_order d c) (before_is d c long ∙ after)
 
 -- a list with one more colouring of the board, after the last one
 list_more : (cs more : List (List Cell)) (c : List Cell) (n : ℕ) → more ≡ cs ++ c ∷ [] → Ascends cs → IfSome (last_of cs) (λ d. length d ≡ n) → length c ≡ n → is_after (last_of cs) c ≡ true → IfSome (last_of more) (λ d. length d ≡ n) × Ascends more

@@ -2,13 +2,14 @@
 use Rattle.cert_check.proofs.Common.{◌≡◌, ℕ, zero, suc, ◌+◌, ◌-◌, ◌<◌, ◌≤◌, arith, take, drop, Bool, true, false, not, ◌&&◌, ◌||◌, List, [], ◌∷◌, ◌++◌, length, reverse, filter, cond, slice_index_or, refl, sym, ap, ap₂, ◌∙◌, subst, list_all, reverse-append, Colour, Cell, same_cells, same_cells_eq, same_cells_symm, Ply, pass, move, has_occurred, Game, GameState, GameProblem, start, state_alone, state_with, next, is_known, Ascends, apart, is_it, SameMembers, AreKnown, HasStart, IsKept, or_left}
 use Rattle.std.proofs.Common.{slice_get}
 use Rattle.std.proofs.lemmas.List.{take-append-drop, take-append-le, length-append, length-drop}
-use Rattle.std.proofs.lemmas.List.Folds.{list_all-append, list_any-append}
+use Rattle.std.proofs.lemmas.List.Folds.{list_all-append, list_any-append, list_any_at}
 use Rattle.std.proofs.Math.Seq.{take-append_seam, take-length}
 use Rattle.go_points.specs.Equal.{same_cells_refl}
 use Rattle.target_game.specs.State as State
 use Rattle.cert_check.specs.Private.Known.{IsKnownAt}
 use Rattle.cert_check.proofs.Apart.{apart_turned}
-use Rattle.cert_check.proofs.Ascending.{any_at}
+use Rattle.go_points.proofs.Lists.{or_right}
+use Rattle.std.proofs.Math.Bool.{or_self_left, or-false}
 
 or_swap : (a b : Bool) → (a || b) ≡ (b || a)
 or_swap true true = refl
@@ -20,10 +21,6 @@ or_known : (a b : Bool) → (a ≡ true → b ≡ true) → (a || b) ≡ b
 or_known true b h = sym (h refl)
 or_known false b h = refl
 
-pub or_end : (b : Bool) → (b || false) ≡ b
-or_end true = refl
-or_end false = refl
-
 -- a list turned round holds the same
 pub turned : (cs : List (List Cell)) → SameMembers (reverse cs) cs
 turned [] c = refl
@@ -31,7 +28,7 @@ turned (d ∷ cs) c =
     ap (λ ds. has_occurred ds c) (reverse-append (d ∷ []) cs)
     ∙ list_any-append (same_cells c) (reverse cs) (d ∷ [])
     ∙ or_swap (has_occurred (reverse cs) c) (has_occurred (d ∷ []) c)
-    ∙ ap₂ (λ a b. a || b) (or_end (same_cells c d)) (turned cs c)
+    ∙ ap₂ (λ a b. a || b) (or-false (same_cells c d)) (turned cs c)
 
 -- WHERE A BODY BEGINS
 
@@ -39,7 +36,7 @@ pub start_kept : (q : GameProblem) (cs : List (List Cell)) (l : State.Line) → 
 start_kept q cs l is low same up = subst (IsKept cs (length cs)) (sym is) (
   record {
     same = λ c. turned cs c ∙ same c;
-    present = any_at (same_cells (slice_index_or q.history q.place [])) q.history q.place [] low (same_cells_refl (slice_index_or q.history q.place []));
+    present = list_any_at (same_cells (slice_index_or q.history q.place [])) q.history q.place [] low (same_cells_refl (slice_index_or q.history q.place []));
   },
   record { ascends = subst Ascends (sym (take-length cs)) up; room = omega arith },
 )
@@ -61,13 +58,9 @@ beside root (d ∷ others) c = at (same_cells root d) refl (beside root others c
     swap false true z = refl
     swap false false z = refl
 
-    again : (x z : Bool) → (x || z) ≡ (x || (x || z))
-    again true z = refl
-    again false z = refl
-
     at : (b : Bool) → same_cells root d ≡ b → has_occurred (root ∷ filter (λ x. not (same_cells root x)) others) c ≡ has_occurred (root ∷ others) c
         → has_occurred (root ∷ cond (not b) (d ∷ filter (λ x. not (same_cells root x)) others) (filter (λ x. not (same_cells root x)) others)) c ≡ has_occurred (root ∷ d ∷ others) c
-    at true e h = h ∙ again (same_cells c root) (has_occurred others c) ∙ ap (λ x. same_cells c root || (same_cells c x || has_occurred others c)) (same_cells_eq root d e)
+    at true e h = h ∙ sym (or_self_left (same_cells c root) (has_occurred others c)) ∙ ap (λ x. same_cells c root || (same_cells c x || has_occurred others c)) (same_cells_eq root d e)
     at false e h =
         swap (same_cells c root) (same_cells c d) (has_occurred (filter (λ x. not (same_cells root x)) others) c)
         ∙ ap (λ b. same_cells c d || b) h
@@ -80,7 +73,7 @@ with_kept g root others known mover passes l here is up = subst (IsKept known (l
         turned known c ∙ ap (λ ds. has_occurred ds c) is
         ∙ list_any-append (same_cells c) others (root ∷ [])
         ∙ or_swap (has_occurred others c) (has_occurred (root ∷ []) c)
-        ∙ ap (λ b. b || has_occurred others c) (or_end (same_cells c root))
+        ∙ ap (λ b. b || has_occurred others c) (or-false (same_cells c root))
         ∙ sym (beside root others c);
     present = or_left (same_cells root root) _ (same_cells_refl root);
   },
@@ -108,7 +101,7 @@ known_next cs s (move p) h =
     record {
       same = λ c. ap (λ b. same_cells c new || b) (h.same c)
           ∙ or_swap (same_cells c new) (has_occurred s.history c)
-          ∙ ap (λ b. has_occurred s.history c || b) (sym (or_end (same_cells c new)))
+          ∙ ap (λ b. has_occurred s.history c || b) (sym (or-false (same_cells c new)))
           ∙ sym (list_any-append (same_cells c) s.history (new ∷ []));
       present = list_any-append (same_cells new) s.history (new ∷ [])
           ∙ or_swap (has_occurred s.history new) (has_occurred (new ∷ []) new)
@@ -160,12 +153,8 @@ none_of_both fixed whole known list l m front same here is h =
 pub known_at : (known : List (List Cell)) (k : ℕ) (c : List Cell) (s : GameState) (before : List GameState) → AreKnown (reverse known) s before → is_it (slice_get known k) c ≡ true → is_known s c ≡ true
 known_at known k c s before h e = sym ((at_once (reverse known) s before h).same c) ∙ turned known c ∙ stands known k e
   where
-    or_second : (a b : Bool) → b ≡ true → (a || b) ≡ true
-    or_second true b g = refl
-    or_second false b g = g
-
     stands : (ds : List (List Cell)) (i : ℕ) → is_it (slice_get ds i) c ≡ true → has_occurred ds c ≡ true
     stands [] zero f = absurd (cc)
     stands [] (suc i) f = absurd (cc)
     stands (d ∷ ds) zero f = or_left (same_cells c d) (has_occurred ds c) (same_cells_symm c d ∙ f)
-    stands (d ∷ ds) (suc i) f = or_second (same_cells c d) (has_occurred ds c) (stands ds i f)
+    stands (d ∷ ds) (suc i) f = or_right (same_cells c d) (has_occurred ds c) (stands ds i f)

@@ -14,6 +14,7 @@ use Rattle.cert_check.proofs.InOrder.{AreLong, same_list, ascending_is, ascends_
 use Rattle.cert_check.proofs.Members.{Member, and_both, or_cases, Member-append_cases}
 use Rattle.cert_check.proofs.Soundness.{game-next}
 use Rattle.cert_check.proofs.Spelling.{AllGood, claim_good, spelled_text}
+use Rattle.std.proofs.lemmas.Bool.{or_parts, and_left}
 
 -- THE LENGTH OF EACH
 
@@ -60,10 +61,6 @@ made_claim q x hs bs body cert l size version winner lemmas main mover passes ro
       main = by_lemma 1;
     })
 
-pub empty_list : {A : Type 0} (xs : List A) → length xs ≡ 0 → xs ≡ []
-empty_list [] e = refl
-empty_list (x ∷ xs) e = absurd (omega (arith, e))
-
 over_cases : (a b : ℕ) → (nat_le max_nodes a || nat_lt max_listed b) ≡ true → (max_nodes ≤ a) ⊎ (max_listed < b)
 over_cases a b h = side (or_cases (nat_le max_nodes a) (nat_lt max_listed b) h)
   where
@@ -71,13 +68,9 @@ over_cases a b h = side (or_cases (nat_le max_nodes a) (nat_lt max_listed b) h)
     side (inl e) = inl (leb-true max_nodes a e)
     side (inr e) = inr (ltb-true max_listed b e)
 
-neither : (a b : Bool) → (a || b) ≡ false → (a ≡ false) × (b ≡ false)
-neither true b h = absurd (cc)
-neither false b h = (refl, h)
-
 under_both : (a b : ℕ) → (nat_le max_nodes a || nat_lt max_listed b) ≡ false → (a < max_nodes) × (b ≤ max_listed)
 under_both a b h =
-    let r = neither (nat_le max_nodes a) (nat_lt max_listed b) h in
+    let r = or_parts (nat_le max_nodes a) (nat_lt max_listed b) h in
     (leb-false max_nodes a r.0, ltb-false max_listed b r.1)
 
 -- WHAT A TEST LEAVES
@@ -90,10 +83,6 @@ and_yes : (a b : Bool) → a ≡ true → (a && b) ≡ b
 and_yes true b e = refl
 and_yes false b e = absurd (cc)
 
-and_no : (a b : Bool) → a ≡ false → (a && b) ≡ false
-and_no true b e = absurd (cc)
-and_no false b e = refl
-
 tested : (f : List Cell → Bool) (cs : List (List Cell)) (c : List Cell) → has_occurred (filter f cs) c ≡ (f c && has_occurred cs c)
 tested f [] c = sym (and_none (f c))
 tested f (d ∷ cs) c = at (f d) refl (same_cells c d) refl (tested f cs c)
@@ -105,7 +94,7 @@ tested f (d ∷ cs) c = at (f d) refl (same_cells c d) refl (tested f cs c)
     at true h false e rest = ap (λ b. b || has_occurred (filter f cs) c) e ∙ rest ∙ ap (λ b. f c && (b || has_occurred cs c)) (sym e)
     at false h true e rest =
         let no : f c ≡ false = ap f (same_cells_eq c d e) ∙ h in
-        rest ∙ and_no (f c) (has_occurred cs c) no ∙ sym (and_no (f c) (same_cells c d || has_occurred cs c) no)
+        rest ∙ and_left (f c) (has_occurred cs c) no ∙ sym (and_left (f c) (same_cells c d || has_occurred cs c) no)
     at false h false e rest = rest ∙ ap (λ b. f c && (b || has_occurred cs c)) (sym e)
 
 -- THE LISTS

@@ -3,10 +3,6 @@ use Rattle.cert_check.proofs.Common.{◌≡◌, Result, Ok, Err, IfErr, subst, J
 use Rattle.cert_check.specs.declared.reject.Why.{Why}
 use Rattle.cert_check.specs.Private.Judging.{Takes}
 
-pub if_err_map : {A E : Type 0} (r : Result A E) (P Q : E → Type 0) → ((e : E) → P e → Q e) → IfErr r P → IfErr r Q
-if_err_map (Ok a) P Q f h = tt
-if_err_map (Err e) P Q f h = f e h
-
 pub if_err_both : {A E : Type 0} (r : Result A E) (P Q : E → Type 0) → IfErr r P → IfErr r Q → IfErr r (λ e. P e × Q e)
 if_err_both (Ok a) P Q h k = tt
 if_err_both (Err e) P Q h k = (h, k)

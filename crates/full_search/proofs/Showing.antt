@@ -1,16 +1,15 @@
 -- What full search finds, turn by turn and depth by depth.
 use Rattle.full_search.proofs.Common.{◌≡◌, ℕ, ◌+◌, ◌<◌, ◌≤◌, ◌⊎◌, inl, inr, false, IsTrue, [], ◌∷◌, None, refl, sym, ◌∙◌, ap, subst, arith, OnOk, Colour, opponent_of, ply_of, GameState, legal_turns, next, over, wins, nodes, Node, node_count, node_of, node_of_won, same_colour-eq, Tried, Shows, nodes_behind, NeitherWins, IsFound, IsTurnSeen}
-use Rattle.std.proofs.Common.{zero, suc, Bool, true, not, ◌&&◌, ◌||◌, List, ◌++◌, Option, Some, is_none, sum_by, add-one, zero-le, append_assoc, nat_eq, Result, Ok, Err}
+use Rattle.std.proofs.Common.{zero, suc, Bool, true, ◌&&◌, ◌||◌, List, ◌++◌, Some, is_none, sum_by, add-one, zero-le, append_assoc, nat_eq, Result, Ok, Err}
 use Rattle.std.specs.List.{list_any, list_all}
-use Rattle.std.proofs.lemmas.List.Sums.{sum_by-cons, sum_by-append}
+use Rattle.std.proofs.lemmas.List.Sums.{sum_by-cons, sum_by-append, sum_by-le-sum_by}
 use Rattle.std.proofs.lemmas.List.Folds.{list_any-append, list_all-append}
 use Rattle.go_points.specs.declared.Colour.TheVariants.{Black, White}
 use Rattle.go_points.specs.declared.Turn.{Turn}
 use Rattle.go_points.specs.declared.Turn.TheVariants.{Pass}
 use Rattle.go_points.specs.Grid.{same_colour}
-use Rattle.go_points.specs.Ply.{Ply, pass, move}
+use Rattle.go_points.specs.Ply.{Ply, pass}
 use Rattle.go_points.proofs.Lists.{Member}
-use Rattle.go_turns.specs.History.{has_occurred}
 use Rattle.target_game.specs.State.{Game}
 use Rattle.target_game.specs.Legal.{legal}
 use Rattle.target_game.specs.Wins.{is_winner, some_or_each}
@@ -20,14 +19,19 @@ use Rattle.proof_cert.specs.Certificate.{replies_of}
 use Rattle.proof_cert.specs.declared.certificate.Node as code
 use Rattle.proof_cert.specs.declared.certificate.Node.TheVariants.{Won}
 use Rattle.proof_cert.proofs.ReadTrees.{joined, replies_pushed}
-use Rattle.cert_check.specs.Body.{main_body, is_to_move, is_open, result_of}
-use Rattle.cert_check.specs.Validity.{MayPlay, FitsNode, FitsBranches}
-use Rattle.cert_check.proofs.Game.{same_colour-refl}
-use Rattle.cert_check.proofs.Members.{and_both, and_first, and_second}
+use Rattle.cert_check.specs.Body.{main_body, is_to_move, is_open}
+use Rattle.cert_check.specs.Validity.{FitsNode, FitsBranches}
+use Rattle.cert_check.proofs.Game.{same_colour-refl, winner_is}
+use Rattle.cert_check.proofs.Members.{and_both, and_second}
 use Rattle.cert_check.proofs.Soundness.{game-next}
 use Rattle.full_search.specs.declared.search.Found.{Found}
 use Rattle.full_search.specs.declared.search.Found.TheVariants.{Wins, Open, OutOfSteps}
 use Rattle.full_search.specs.Private.Shown.{AllShow, AreSeen, IsWonBy}
+use Rattle.go_points.proofs.Cells.{opponent_twice}
+use Rattle.target_game.proofs.Moving.{colour_other}
+use Rattle.target_game.proofs.Tallies.{nodes_over, nodes_next, nodes_some}
+use Rattle.cert_check.proofs.Claiming.{legal-may}
+use Rattle.std.proofs.lemmas.Bool.{false_from_ne_true}
 
 -- THE NUMBER OF STATES
 
@@ -35,31 +39,10 @@ pub nodes_first : (s : GameState) → nodes s 0 ≡ 1
 unfolding nodes
 nodes_first s = refl
 
-nodes_over : (s : GameState) (k : ℕ) (y : Colour) → over s ≡ Some y → nodes s k ≡ 1
-unfolding nodes
-nodes_over s zero y e = refl
-nodes_over s (suc k) y e = rw (e, nodes)
-
-nodes_next : (s : GameState) (k : ℕ) → over s ≡ None → nodes s (suc k) ≡ 1 + sum_by (λ t. nodes (next s t) k) (legal_turns s)
-unfolding nodes
-nodes_next s k e = rw (e, nodes)
-
-pub nodes_some : (s : GameState) (k : ℕ) → 0 < nodes s k
-nodes_some s zero = let one : nodes s 0 ≡ 1 = nodes_first s in omega arith
-nodes_some s (suc k) = go (over_cases s)
-  where
-    go : (over s ≡ None) ⊎ ((y : Colour) × (over s ≡ Some y)) → 0 < nodes s (suc k)
-    go (inl e) = let more : nodes s (suc k) ≡ 1 + sum_by (λ t. nodes (next s t) k) (legal_turns s) = nodes_next s k e in omega arith
-    go (inr (y, e)) = let one : nodes s (suc k) ≡ 1 = nodes_over s (suc k) y e in omega arith
-
 sum_least : {A : Type 0} (f : A → ℕ) (x : A) (xs : List A) → Member x xs → f x ≤ sum_by f xs
 sum_least f x [] m = absurd m
 sum_least f x (y ∷ ys) (inl e) = let sum = sum_by-cons f y ys in let at : f x ≡ f y = ap f e in omega arith
 sum_least f x (y ∷ ys) (inr m) = let sum = sum_by-cons f y ys in let rest = sum_least f x ys m in omega arith
-
-sum_more : {A : Type 0} (f g : A → ℕ) (xs : List A) → ((x : A) → f x ≤ g x) → sum_by f xs ≤ sum_by g xs
-sum_more f g [] h = omega arith
-sum_more f g (x ∷ xs) h = let a = sum_by-cons f x xs in let b = sum_by-cons g x xs in let first = h x in let rest = sum_more f g xs h in omega arith
 
 -- where nobody has won
 pub nodes_then : (s : GameState) (k : ℕ) → over s ≡ None → nodes s (k + 1) ≡ 1 + nodes_behind s k (legal_turns s)
@@ -76,7 +59,7 @@ nodes_more s (suc k) = go (over_cases s) (λ t. nodes_more (next s t) k)
     go (inl e) below =
         let a = nodes_next s k e in
         let b = nodes_next s (suc k) e in
-        let sum = sum_more (λ t. nodes (next s t) k) (λ t. nodes (next s t) (suc k)) (legal_turns s) below in
+        let sum = sum_by-le-sum_by (λ t. nodes (next s t) k) (λ t. nodes (next s t) (suc k)) (legal_turns s) below in
         omega arith
     go (inr (y, e)) below = let a = nodes_over s (suc k) y e in let b = nodes_over s (suc (suc k)) y e in omega arith
 
@@ -94,22 +77,10 @@ other_side Black White h = refl
 other_side White Black h = refl
 other_side White White h = absurd (cc)
 
-other_differs : (m : Colour) → same_colour m (opponent_of m) ≡ false
-other_differs Black = refl
-other_differs White = refl
-
-other_twice : (m : Colour) → opponent_of (opponent_of m) ≡ m
-other_twice Black = refl
-other_twice White = refl
-
 to_move : (x : Colour) (s : GameState) → over s ≡ None → s.mover ≡ x → IsTrue (is_to_move x s)
 to_move x s e m = and_both (is_none (over s)) (same_colour s.mover x) (rw e refl) (rw m (same_colour-refl x))
 
 -- ONE TREE
-
-legal-may : (x : Colour) (s : GameState) (t : Ply) → IsTrue (is_to_move x s) → IsTrue (legal s t) → MayPlay (main_body x []) s t
-legal-may x s pass h l = h
-legal-may x s (move p) h l = (h, and_first (is_open s p) (not (has_occurred s.history (result_of s p))) l, and_second (is_open s p) (not (has_occurred s.history (result_of s p))) l, refl)
 
 -- somebody has won
 pub shows_won : (x : Colour) (s : GameState) (k : ℕ) → over s ≡ Some x → Shows x s k won
@@ -151,13 +122,9 @@ not_all_before f ts us a = list_all-append f ts us ∙ ap (λ c. c && list_all f
 all_more : (f : Ply → Bool) (ts : List Ply) (t : Ply) → list_all f ts ≡ true → f t ≡ true → list_all f (ts ++ t ∷ []) ≡ true
 all_more f ts t a b = list_all-append f ts (t ∷ []) ∙ ap (λ c. c && (f t && true)) a ∙ ap (λ c. c && true) b
 
-not_won : (b : Bool) → (b ≡ true → ⊥) → b ≡ false
-not_won true h = absurd (h refl)
-not_won false h = refl
-
 -- the other side wins after it
 mover_loses : (s r : GameState) (k : ℕ) → wins (opponent_of s.mover) r k ≡ true → wins s.mover r k ≡ false
-mover_loses s r k h = not_won (wins s.mover r k) (λ e. not_both s.mover r k k e h)
+mover_loses s r k h = false_from_ne_true (wins s.mover r k) (λ e. not_both s.mover r k k e h)
 
 pub seen_late : (s : GameState) (k : ℕ) (ts : List Ply) (t : Ply) (seen : Tried) (n : Node) → seen.is_open ≡ true → Shows (opponent_of s.mover) (next s t) k n → AreSeen s k ts seen → AreSeen s k (ts ++ t ∷ []) seen
 seen_late s k ts t seen n now h before = record {
@@ -224,10 +191,10 @@ pub decided_lost : (s : GameState) (k : ℕ) (seen : Tried) → over s ≡ None 
 decided_lost s k seen e now known =
     let h = known.all now in
     record {
-      fits = (to_move (opponent_of (opponent_of s.mover)) s e (sym (other_twice s.mover)), h.turns, h.fits);
+      fits = (to_move (opponent_of (opponent_of s.mover)) s e (sym (opponent_twice s.mover)), h.turns, h.fits);
       count = let a = nodes_then s k e in let b = h.count in omega arith;
       depth = let d = h.depth in omega arith;
-      wins = ap (wins (opponent_of s.mover) s) (add-one k) ∙ wins_next (opponent_of s.mover) s k e ∙ ap (λ b. some_or_each b (λ t. wins (opponent_of s.mover) (next s t) k) (legal_turns s)) (other_differs s.mover) ∙ h.wins;
+      wins = ap (wins (opponent_of s.mover) s) (add-one k) ∙ wins_next (opponent_of s.mover) s k e ∙ ap (λ b. some_or_each b (λ t. wins (opponent_of s.mover) (next s t) k) (legal_turns s)) (colour_other s.mover) ∙ h.wins;
     }
 
 -- WHAT IS FOUND BEHIND A TURN
@@ -306,10 +273,6 @@ on_ok_map (Ok a) P Q f h = f h
 on_ok_map (Err e) P Q f h = tt
 
 -- a second pass in a row that wins for the mover
-winner_is : (x : Colour) (o : Option Colour) → is_winner x o ≡ true → o ≡ Some x
-winner_is x None h = absurd (cc)
-winner_is x (Some y) h = ap Some (same_colour-eq y x h)
-
 pub pass_won : (s : GameState) (k left : ℕ) (x : Colour) (found : Found) → over s ≡ None → (nat_eq s.passes 1 && is_winner s.mover (over (next s pass))) ≡ true → s.mover ≡ x → IsWonBy x Pass Won found → IsFound s (k + 1) left found
 pass_won s k left x found e h m by =
     let mine : over (next s pass) ≡ Some s.mover = winner_is s.mover (over (next s pass)) (and_second (nat_eq s.passes 1) (is_winner s.mover (over (next s pass))) h) in

@@ -1,5 +1,5 @@
 -- The points beside a point are passed one by one.
-use Rattle.go_chains.proofs.Common.{◌≡◌, ℕ, ◌+◌, ◌<◌, ◌⊎◌, inl, inr, true, List, [], ◌∷◌, ◌++◌, length, map, take, drop, take-append-drop, get_or, refl, sym, ◌∙◌, ap, subst, arith, take_at_read, map-append, Place, adjacent, neighbours, member_neighbours, IsIn, total}
+use Rattle.go_chains.proofs.Common.{◌≡◌, ℕ, Bool, ◌+◌, ◌<◌, ◌≤◌, ◌⊎◌, inl, inr, true, List, [], ◌∷◌, ◌++◌, length, map, take, drop, take-append-drop, take_all, get_or, refl, sym, ◌∙◌, ap, subst, arith, length-map, list_any, any_to, take_at_read, map-append, Place, number_of, adjacent, neighbours, member_neighbours, neighbours_member, IsIn, total, has_more}
 use Rattle.go_chains.proofs.Totals.{total_append}
 use Rattle.go_chains.proofs.Exchange.{in_append, in_left, in_right}
 use Rattle.go_chains.proofs.Counts.{in_member}
@@ -29,3 +29,26 @@ module _ (g : Place → ℕ) (items : List Place) (i : ℕ) (x : Place) (within 
       let whole : map g items ≡ map g (take (i + 1) items) ++ map g (drop (i + 1) items) = ap (map g) (sym (take-append-drop (i + 1) items)) ∙ map-append g (take (i + 1) items) (drop (i + 1) items) in
       let found : IsIn (g x) (map g items) = subst (IsIn (g x)) (sym whole) (in_left (g x) (map g (take (i + 1) items)) (map g (drop (i + 1) items)) here) in
       member_neighbours n p (g x) (in_member (g x) (neighbours n p) (subst (IsIn (g x)) those found))
+
+-- the points beside a point, as a loop goes over them: found by calls at a size, and lent as items
+module _ {n m p : ℕ} {found items : List Place} (point : Place) (same : m ≡ n) (exact : map (number_of m) found ≡ neighbours m (number_of m point)) (back : number_of m point ≡ p) (value : items ≡ found) where
+  pub those_beside : map (number_of n) items ≡ neighbours n p
+  those_beside = ap (map (number_of n)) value ∙ subst (λ k. map (number_of k) found ≡ neighbours k p) same (exact ∙ ap (neighbours m) back)
+
+  pub as_many : length items ≡ length (neighbours n p)
+  as_many = sym (length-map items (number_of n)) ∙ ap (λ l. length l) those_beside
+
+  -- at the end of the loop it has gone over all
+  pub all_beside : (i : ℕ) → length items ≤ i → map (number_of n) (take i items) ≡ neighbours n p
+  all_beside i past = ap (map (number_of n)) (take_all i items past) ∙ those_beside
+
+  pub is_beside : (i : ℕ) (x : Place) → i < length items → x ≡ get_or items i x → adjacent n p (number_of n x) ≡ true
+  is_beside i x within is = item_beside (number_of n) items i x within is n p those_beside
+
+  -- what holds of one of them holds of some point beside the point
+  pub some_beside : (i : ℕ) (x : Place) → i < length items → x ≡ get_or items i x → (f : ℕ → Bool) → f (number_of n x) ≡ true → true ≡ list_any f (neighbours n p)
+  some_beside i x within is f holds = sym (any_to f (number_of n x) (neighbours n p) (neighbours_member n p (number_of n x) (is_beside i x within is)) holds)
+
+-- whether the chain of a neighbour has more liberties, as it was asked
+pub more_at : {n m number : ℕ} {more : Bool} (heads counts : List ℕ) (p : ℕ) (x : Place) → m ≡ n → number ≡ number_of m x → more ≡ has_more m heads counts p number → more ≡ has_more n heads counts p (number_of n x)
+more_at {m = m} heads counts p x same at asked = asked ∙ ap (has_more m heads counts p) at ∙ ap (λ k. has_more k heads counts p (number_of k x)) same

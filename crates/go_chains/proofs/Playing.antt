@@ -79,8 +79,8 @@ module _ (n : ℕ) (c d : List Cell) (heads next counts more next' counts' : Lis
           let was = left' h lacking in
           passed h lacking (was.cell ∙ own_colour h was.lacking) (own_lacks h was.lacking)
 
-      pub move_ends : IsBoard n f final next' counts3
-      move_ends = board_of n f final next' counts3 room end none_lacks
-
-      pub move_clears : f ≡ clear n e k
-      move_clears = sym (clear_none n f k full (λ q q_on stone. stone_reaches n f final next' counts3 q room end q_on (λ g. cc (g, stone)) (none_lacks (slice_index final q)))) ∙ alike
+      pub move_ends : IsBoard n f final next' counts3 × (f ≡ clear n e k)
+      move_ends = (
+        board_of n f final next' counts3 room end none_lacks,
+        sym (clear_none n f k full (λ q q_on stone. stone_reaches n f final next' counts3 q room end q_on (λ g. cc (g, stone)) (none_lacks (slice_index final q)))) ∙ alike,
+      )

@@ -8,11 +8,11 @@ use Rattle.go_points.specs.Equal.{same_cells_symm}
 use Rattle.go_turns.specs.History.{has_occurred}
 
 -- neither of two tests passes
-or_no_left : (a b : Bool) → (a || b) ≡ false → a ≡ false
+pub or_no_left : (a b : Bool) → (a || b) ≡ false → a ≡ false
 or_no_left true b h = absurd (cc)
 or_no_left false b h = refl
 
-or_no_right : (a b : Bool) → (a || b) ≡ false → b ≡ false
+pub or_no_right : (a b : Bool) → (a || b) ≡ false → b ≡ false
 or_no_right true b h = absurd (cc)
 or_no_right false b h = h
 

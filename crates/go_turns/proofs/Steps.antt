@@ -1,11 +1,11 @@
 -- The steps that a record keeps, against its history.
-use Rattle.go_turns.proofs.Common.{◌≡◌, ℕ, suc, ◌+◌, ◌<◌, ◌≤◌, List, [], ◌∷◌, ◌++◌, map, reverse, take, length, get_or, None, inl, inr, refl, sym, ◌∙◌, ap, arith, take_all, get_or_append_left, length-take-le, map-append, get_or_default, get_or_push, cases_lt, Cell, side_of, first_without_liberty, IsAt, CanStand, StepsFit}
+use Rattle.go_turns.proofs.Common.{◌≡◌, ℕ, suc, ◌+◌, ◌<◌, ◌≤◌, List, [], ◌∷◌, ◌++◌, map, reverse, take, length, get_or, None, inl, inr, refl, sym, ◌∙◌, ap, arith, take_all, get_or_append_left, length-take-le, map-append, get_or_default, get_or_push, cases_lt, Cell, side_of, first_without_liberty, Step, IsAt, CanStand, StepsFit}
 use Rattle.std.proofs.lemmas.List.{take-append-le, take-take, length-append, reverse-append}
 use Rattle.std.proofs.lemmas.List.Elements.{All-push}
 use Rattle.std.proofs.lemmas.List.Quantifiers.{all_pairs_push}
 
 -- the colouring that is present can be taken over again
-pub can_stand : (h : List (List Cell)) (place : ℕ) (c : List Cell) → IsAt h place c → first_without_liberty (side_of c) c ≡ None → CanStand (side_of c) h place
+can_stand : (h : List (List Cell)) (place : ℕ) (c : List Cell) → IsAt h place c → first_without_liberty (side_of c) c ≡ None → CanStand (side_of c) h place
 can_stand h place c at free = record {
   within = at.within;
   size = ap side_of at.same;
@@ -30,7 +30,7 @@ module _ {X : Type 0} (occurred place passes : X → ℕ) (n : ℕ) where
   }
 
   -- one more step, which keeps the whole history
-  pub fit_push : (h : List (List Cell)) (steps : List X) (x : X) → occurred x ≡ length h → CanStand n h (place x) → passes x ≤ length steps + 2 → StepsFit occurred place passes n h steps → StepsFit occurred place passes n h (steps ++ x ∷ [])
+  fit_push : (h : List (List Cell)) (steps : List X) (x : X) → occurred x ≡ length h → CanStand n h (place x) → passes x ≤ length steps + 2 → StepsFit occurred place passes n h steps → StepsFit occurred place passes n h (steps ++ x ∷ [])
   fit_push h steps x whole stands few fit =
       let all : take (occurred x) h ≡ h = take_all (occurred x) h (omega arith) in
       record {
@@ -91,3 +91,8 @@ earlier_split {X} {Y} occurred moment whole left all steps x split front below =
     ∙ reverse-append (map (at whole) steps) (at whole x ∷ [])
     ∙ ap (λ zs. at whole x ∷ reverse zs) (moments_front occurred moment whole (occurred x) steps below)
     ∙ ap (λ h. moment h x ∷ reverse (map (at h) steps)) (sym front)
+
+-- a step that keeps the present colouring joins those before it
+pub fit_kept : (h : List (List Cell)) (c : List Cell) (steps : List Step) (x : Step) → x.occurred ≡ length h → IsAt h x.place c → first_without_liberty (side_of c) c ≡ None → x.passes ≤ length steps + 2
+    → StepsFit (λ (s : Step). s.occurred) (λ (s : Step). s.place) (λ (s : Step). s.passes) (side_of c) h steps → StepsFit (λ (s : Step). s.occurred) (λ (s : Step). s.place) (λ (s : Step). s.passes) (side_of c) h (steps ++ x ∷ [])
+fit_kept h c steps x whole at free few fit = fit_push (λ (s : Step). s.occurred) (λ (s : Step). s.place) (λ (s : Step). s.passes) (side_of c) h steps x whole (can_stand h x.place c at free) few fit

@@ -1,8 +1,9 @@
 -- The areas that can be eyes are gathered one by one.
 use Rattle.pass_alive.proofs.Common.{◌≡◌, ◌≢◌, ℕ, false, ◌+◌, ◌<◌, ◌≤◌, ◌⊎◌, inl, inr, IsTrue, List, [], ◌∷◌, length, map, get_or, sym, ◌∙◌, ap, subst, Cell, Empty, adjacent, neighbours, cell_at, Place, IsOn, number_of, place_of, same_place, holds_place, with_place, same_place_decides, sets_gain, or_cases, or_left, or_right, adjacent_back, IsWay, Joined, IsChainOf, joined_self, these, IsFreePlace, AreSides}
 use Rattle.pass_alive.specs.Private.Areas.{HasSides}
-use Rattle.pass_alive.proofs.Regions.{place_back, number_back}
+use Rattle.pass_alive.proofs.Regions.{number_back}
 use Rattle.pass_alive.proofs.Members.{AllBut, AllBeside, but_first, but_item, but_more, but_none, beside_more, beside_all}
+use Rattle.go_turns.proofs.Openings.{place_back}
 
 -- the sides of a chain are gathered point by point
 pub record SidesSoFar (n : ℕ) (c : List Cell) (old items : List Place) (i : ℕ) (now : List Place) : Type 0 where

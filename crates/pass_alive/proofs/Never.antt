@@ -1,5 +1,5 @@
 -- The attacker wins no state whose targets live by their shape.
-use Rattle.pass_alive.proofs.Common.{◌≡◌, ℕ, zero, suc, ◌*◌, ◌<◌, ◌≤◌, Bool, true, false, ◌&&◌, nat_eq, nat_lt, eq-eqb, if◌then◌else◌, ◌⊎◌, inl, inr, IsTrue, IsFalse, List, [], ◌∷◌, Some, None, refl, sym, ◌∙◌, subst, arith, list_all, Colour, Black, White, Cell, Empty, Stone, opponent_of, same_cell, points, cell_at, after_move, and_left, and_right, any_to, all_at, all_from, same_cell_eq, eq_same_cell, joined_self, Game, GameState, holds_point, wins, Points, Fixed, Live, PassAlive, Stands, MayMove, after_moves, AreMoves}
+use Rattle.pass_alive.proofs.Common.{◌≡◌, ℕ, zero, suc, ◌*◌, ◌<◌, ◌≤◌, Bool, true, false, ◌&&◌, nat_eq, nat_lt, eq-eqb, ◌⊎◌, inl, inr, IsTrue, IsFalse, List, [], ◌∷◌, Some, None, refl, sym, ◌∙◌, subst, arith, list_all, Colour, Cell, Empty, Stone, opponent_of, same_cell, points, cell_at, after_move, and_left, and_right, any_to, all_at, all_from, same_cell_eq, eq_same_cell, joined_self, Game, GameState, holds_point, wins, Points, Fixed, Live, PassAlive, Stands, MayMove, after_moves, AreMoves, if◌then◌else◌}
 use Rattle.go_points.specs.Grid.{same_colour}
 use Rattle.go_points.specs.Ply.{Ply, pass, move}
 use Rattle.go_points.proofs.Lists.{any_from}
@@ -10,9 +10,10 @@ use Rattle.target_game.specs.Over.{targets_stand, over}
 use Rattle.target_game.specs.Wins.{Wins, some_or_each}
 use Rattle.target_game.specs.Status.{moving, IsAlive}
 use Rattle.target_game.proofs.Winning.{wins_over, wins_none, wins_next, member_legal, legal_member}
-use Rattle.target_game.proofs.Ending.{winner_exists}
 use Rattle.pass_alive.specs.Laws.{whole_board, AreAnywhere}
 use Rattle.pass_alive.proofs.Standing.{pass_alive_stands, pass_alive_stays}
+use Rattle.target_game.proofs.Statuses.{one_wins}
+use Rattle.target_game.proofs.Moving.{colour_other}
 
 -- the targets stand
 targets_there : (s : GameState) (c : List Cell) (stones : Points) → IsTrue (list_all stones s.game.targets) → Stands s.game c stones s.colouring → targets_stand s ≡ true
@@ -28,12 +29,8 @@ not_taken s there = go (targets_stand s) (nat_eq s.passes 2) there
     go true false e = inl refl
     go false b e = absurd (cc e)
 
-not_opponent : (k : Colour) → same_colour k (opponent_of k) ≡ false
-not_opponent Black = refl
-not_opponent White = refl
-
 won_by_defender : (s : GameState) (k : ℕ) → over s ≡ Some s.game.defender → wins (opponent_of s.game.defender) s k ≡ true → ⊥
-won_by_defender s k e h = cc (wins_over (opponent_of s.game.defender) s.game.defender s k e, not_opponent s.game.defender, h)
+won_by_defender s k e h = cc (wins_over (opponent_of s.game.defender) s.game.defender s k e, colour_other s.game.defender, h)
 
 -- a legal move is one that the attacker may make
 legal_may : (s : GameState) (p : ℕ) → legal s (move p) ≡ true → MayMove s.game s.colouring p
@@ -82,10 +79,6 @@ attacker_never_wins s k lives = go (wins (opponent_of s.game.defender) s k) refl
     go : (b : Bool) → wins (opponent_of s.game.defender) s k ≡ b → b ≡ false
     go true e = absurd (never_wins s k lives e)
     go false e = refl
-
-one_wins : (x : Colour) (s : GameState) → s.passes ≤ 2 → Wins x s ⊎ Wins (opponent_of x) s
-one_wins Black s low = winner_exists s low
-one_wins White s low = elim (winner_exists s low) [ inl h ↦ inr h | inr h ↦ inl h ]
 
 pub defender_wins : (s : GameState) → s.passes ≤ 2 → PassAlive s.game s.colouring → Wins s.game.defender s
 defender_wins s low lives = elim (one_wins s.game.defender s low) [

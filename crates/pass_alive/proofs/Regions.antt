@@ -1,16 +1,12 @@
 -- Sets of places, as lists of the numbers of points.
-use Rattle.pass_alive.proofs.Common.{◌≡◌, ℕ, suc, ◌+◌, ◌*◌, ◌/◌, ◌<◌, Bool, true, false, cond, ◌&&◌, ◌||◌, IsTrue, nat_eq, nat_lt, eqb-true, List, [], ◌∷◌, map, refl, sym, ◌∙◌, ap, subst, arith, All, list_all, Colour, mul-add-lt, div-add-mod', Place, IsOn, number_of, place_of, same_place, holds_place, same_place_decides, and_both, and_left, and_right, holds_point, these, number_on, game_of}
-use Rattle.std.proofs.Common.{ltb-true, lt-ltb, ap₂}
-use Rattle.std.proofs.lemmas.Nat.{div-mul-add, mod-mul-add, div_below, mod_below}
+use Rattle.pass_alive.proofs.Common.{◌≡◌, ℕ, suc, ◌+◌, ◌*◌, ◌/◌, ◌<◌, Bool, true, false, cond, ◌&&◌, ◌||◌, IsTrue, nat_eq, eqb-true, List, [], ◌∷◌, map, refl, sym, ◌∙◌, ap, subst, arith, All, list_all, Colour, div-add-mod', Place, IsOn, number_of, place_of, same_place, holds_place, same_place_decides, holds_point, these, number_on, game_of}
+use Rattle.std.proofs.Common.{ap₂}
+use Rattle.std.proofs.lemmas.Nat.{div-mul-add, div_below, mod_below}
 use Rattle.go_points.specs.Place.{on_board}
 use Rattle.go_points.specs.Private.Inverses.{same_numbers}
 use Rattle.target_game.specs.Kept.{kept_game}
-
-pub place_back : (n : ℕ) (p : Place) → IsOn n p → place_of n (number_of n p) ≡ p
-place_back n p on = λ i. record { row = div-mul-add p.row n p.column on.column_within i; column = mod-mul-add p.row n p.column on.column_within i }
-
-pub number_low : (n : ℕ) (p : Place) → IsOn n p → number_of n p < n * n
-number_low n p on = mul-add-lt p.row n p.column n on.row_within on.column_within
+use Rattle.go_turns.proofs.Turns.{on_from, is_on_from}
+use Rattle.go_turns.proofs.Openings.{place_back}
 
 pub number_back : (n q : ℕ) → number_of n (place_of n q) ≡ q
 number_back n q = div-add-mod' q n
@@ -20,14 +16,8 @@ on_place n q low =
     let some : 0 < n = grind (arith, low) in
     record { row_within = div_below q n n some low; column_within = mod_below q n some }
 
-pub on_from : (n : ℕ) (p : Place) → on_board n p ≡ true → IsOn n p
-on_from n p h = record { row_within = ltb-true p.row n (and_left _ _ h); column_within = ltb-true p.column n (and_right (nat_lt p.row n) _ h) }
-
-pub on_to : (n : ℕ) (p : Place) → IsOn n p → on_board n p ≡ true
-on_to n p on = and_both _ _ (lt-ltb p.row n on.row_within) (lt-ltb p.column n on.column_within)
-
 number_is : (n : ℕ) (p : Place) → IsOn n p → number_on n p ≡ number_of n p
-number_is n p on = ap (λ b. cond b (number_of n p) (n * n)) (on_to n p on)
+number_is n p on = ap (λ b. cond b (number_of n p) (n * n)) (on_from n p on)
 
 number_off : (n : ℕ) (p : Place) → on_board n p ≡ false → number_on n p ≡ n * n
 number_off n p off = ap (λ b. cond b (number_of n p) (n * n)) off
@@ -37,7 +27,7 @@ one_point : (n q : ℕ) (p : Place) → q < n * n → IsOn n (place_of n q) → 
 one_point n q p low on = go (on_board n p) refl
   where
     unlike : (b : Bool) → same_place (place_of n q) p ≡ b → on_board n p ≡ false → b ≡ false
-    unlike true e off = absurd (cc (on_to n p (subst (IsOn n) ((same_place_decides (place_of n q) p).0 e) on), off))
+    unlike true e off = absurd (cc (on_from n p (subst (IsOn n) ((same_place_decides (place_of n q) p).0 e) on), off))
     unlike false e off = refl
 
     past : (b : Bool) → nat_eq q (n * n) ≡ b → b ≡ false
@@ -46,7 +36,7 @@ one_point n q p low on = go (on_board n p) refl
 
     go : (b : Bool) → on_board n p ≡ b → nat_eq q (number_on n p) ≡ same_place (place_of n q) p
     go true e =
-        let is : IsOn n p = on_from n p e in
+        let is : IsOn n p = is_on_from n p e in
         ap (nat_eq q) (number_is n p is) ∙ sym (same_numbers n q (number_of n p)) ∙ ap (same_place (place_of n q)) (place_back n p is)
     go false e = ap (nat_eq q) (number_off n p e) ∙ past (nat_eq q (n * n)) refl ∙ sym (unlike (same_place (place_of n q) p) refl e)
 
@@ -58,11 +48,11 @@ region_holds n q (p ∷ ps) low on = ap₂ (λ a b. a || b) (one_point n q p low
 -- the targets are among the stones exactly if their places are in the set of stones, all of which are on the board
 module _ (n : ℕ) (s : List Place) (inside : (p : Place) → IsTrue (holds_place s p) → IsOn n p) where
   one_target : (p : Place) → (on : Bool) → on_board n p ≡ on → these n s (number_on n p) ≡ holds_place s p
-  one_target p true e = ap (these n s) (number_is n p (on_from n p e)) ∙ ap (holds_place s) (place_back n p (on_from n p e))
+  one_target p true e = ap (these n s) (number_is n p (is_on_from n p e)) ∙ ap (holds_place s) (place_back n p (is_on_from n p e))
   one_target p false e = ap (these n s) (number_off n p e) ∙ none (these n s (n * n)) refl ∙ sym (off (holds_place s p) refl)
     where
       off : (b : Bool) → holds_place s p ≡ b → b ≡ false
-      off true held = absurd (cc (on_to n p (inside p held), e))
+      off true held = absurd (cc (on_from n p (inside p held), e))
       off false held = refl
 
       none : (b : Bool) → these n s (n * n) ≡ b → b ≡ false

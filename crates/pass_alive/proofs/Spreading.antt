@@ -5,9 +5,11 @@ use Rattle.std.proofs.lemmas.List.{get_or-map}
 use Rattle.go_points.specs.Grid.{side_up_to}
 use Rattle.go_points.specs.Points.{is_before, first_place}
 use Rattle.pass_alive.specs.Private.Areas.{IsGap}
-use Rattle.pass_alive.proofs.Regions.{place_back, number_back, number_low}
+use Rattle.pass_alive.proofs.Regions.{number_back}
 use Rattle.pass_alive.proofs.Spaces.{not_in_area, in_area}
 use Rattle.pass_alive.proofs.Sweeps.{without_less}
+use Rattle.go_turns.proofs.Openings.{place_back}
+use Rattle.go_points.proofs.Sides.{number_below}
 
 -- a board of the areas holds at each point what the definition says
 side_low : (l r : ℕ) → side_up_to l r * side_up_to l r ≤ l
@@ -140,7 +142,7 @@ module _ (n : ℕ) (k : Colour) (c a : List Cell) (cells : (q : ℕ) → q < n *
     start = number_of n point
 
     start_in : cell_at a start ≡ Stone (opponent_of k)
-    start_in = in_area n k c a cells start (number_low n point on) inside
+    start_in = in_area n k c a cells start (number_below n point on) inside
 
     pub spread_first : (area : List Place) → area ≡ with_place [] point → Spreading n k c a stones chain (number_of n point) area area
     spread_first area is = record {
@@ -170,7 +172,7 @@ module _ (n : ℕ) (k : Colour) (c a : List Cell) (cells : (q : ℕ) → q < n *
       left_inside x held own =
           let there = h.among x held in
           let j = h.joined (number_of n x) (at x there) in
-          cc (joined_holds n a start (number_of n x) j, start_in, not_in_area n k c a cells (number_of n x) (number_low n x (h.on_board x there)) own)
+          cc (joined_holds n a start (number_of n x) j, start_in, not_in_area n k c a cells (number_of n x) (number_below n x (h.on_board x there)) own)
 
       -- one point is looked at
       module _ (x : Place) (held : IsTrue (holds_place left x)) (more more_left : List Place) (met : HasMet (IsBesidePoint n k c (number_of n x)) area (without_place left x) more more_left) where
@@ -182,7 +184,7 @@ module _ (n : ℕ) (k : Colour) (c a : List Cell) (cells : (q : ℕ) → q < n *
           | inl had ↦ h.joined (number_of n y) (at y had)
           | inr new ↦
               let j = h.joined (number_of n x) (at x (h.among x held)) in
-              let y_in : cell_at a (number_of n y) ≡ Stone (opponent_of k) = in_area n k c a cells (number_of n y) (number_low n y new.1.0) new.1.2 in
+              let y_in : cell_at a (number_of n y) ≡ Stone (opponent_of k) = in_area n k c a cells (number_of n y) (number_below n y new.1.0) new.1.2 in
               joined_beside n a start (number_of n x) (number_of n y) j new.1.1 (y_in ∙ sym (joined_holds n a start (number_of n x) j ∙ start_in))
         ]
 

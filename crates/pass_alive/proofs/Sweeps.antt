@@ -3,9 +3,11 @@ use Rattle.pass_alive.proofs.Common.{◌≡◌, ℕ, ◌*◌, ◌<◌, ◌≤◌
 use Rattle.go_chains.specs.Joined.{HoldsThose}
 use Rattle.pass_alive.specs.Sets.{AreLiving}
 use Rattle.pass_alive.specs.Private.Areas.{IsSafe, IsWithout}
-use Rattle.pass_alive.proofs.Regions.{targets_hold, place_back, number_low, number_back}
+use Rattle.pass_alive.proofs.Regions.{targets_hold, number_back}
 use Rattle.pass_alive.proofs.Members.{AllBut, but_first, but_more, but_none, left_first, left_later, left_either}
 use Rattle.pass_alive.proofs.Spaces.{two_eyes, two_areas, near_areas, near_sets, may_live_more, place_on}
+use Rattle.go_turns.proofs.Openings.{place_back}
+use Rattle.go_points.proofs.Sides.{number_below}
 
 -- a set that loses a place that it held is smaller
 without_fewer : (ps : List Place) (p : Place) → length (without_place ps p) ≤ length ps
@@ -213,7 +215,7 @@ module _ (n : ℕ) (region : List ℕ) (c a : List Cell) (old doubtful : List Pl
   }
 
   module _ (now marked new new_marked left rest : List Place) (x : Place) (e : left ≡ x ∷ rest) (on : IsOn n x) (has_changed : Bool) (h : SweptSoFar now marked left has_changed) where
-    pub swept_kept : IsJudged n region c a (number_of n x) now marked new new_marked false → SweptSoFar new new_marked rest has_changed
+    swept_kept : IsJudged n region c a (number_of n x) now marked new new_marked false → SweptSoFar new new_marked rest has_changed
     swept_kept judged = subst (λ s. SweptSoFar s new_marked rest has_changed) (sym (judged.same refl)) (record {
       within = h.within;
       fewer = h.fewer;
@@ -225,11 +227,11 @@ module _ (n : ℕ) (region : List ℕ) (c a : List Cell) (old doubtful : List Pl
       where
         here_safe : SafeIfSame now has_changed x
         here_safe f held = elim (judged.safe refl (ap (holds_place now) (place_back n x on) ∙ held)) [
-          | inl had ↦ h.marked_safe f (number_of n x) (number_low n x on) had
+          | inl had ↦ h.marked_safe f (number_of n x) (number_below n x on) had
           | inr safe ↦ safe
         ]
 
-    pub swept_taken : IsJudged n region c a (number_of n x) now marked new new_marked true → SweptSoFar new new_marked rest true
+    swept_taken : IsJudged n region c a (number_of n x) now marked new new_marked true → SweptSoFar new new_marked rest true
     swept_taken judged = record {
       within = λ p held. h.within p (judged.within p held);
       fewer = λ f. few has_changed refl;
@@ -242,6 +244,10 @@ module _ (n : ℕ) (region : List ℕ) (c a : List Cell) (old doubtful : List Pl
         few : (b : Bool) → has_changed ≡ b → length new < length old
         few true f = let before = h.fewer f in omega (arith, judged.fewer refl, before)
         few false f = let same : length now ≡ length old = ap length (h.same f) in omega (arith, judged.fewer refl, same)
+
+    pub swept_on : (dropped : Bool) → IsJudged n region c a (number_of n x) now marked new new_marked dropped → SweptSoFar new new_marked rest (dropped || has_changed)
+    swept_on true judged = swept_taken judged
+    swept_on false judged = swept_kept judged
 
   pub swept_all : (now marked left : List Place) (has_changed : Bool) → left ≡ [] → LastsOutside n region c (these n doubtful) (these n old) → SweptSoFar now marked left has_changed → IsDropped n region c a old now has_changed
   swept_all now marked left has_changed none outside h = record {

@@ -3,7 +3,9 @@ use Rattle.pass_alive.proofs.Common.{◌≡◌, ℕ, suc, ◌*◌, ◌<◌, Bool
 use Rattle.std.proofs.Common.{Option, is_some, IfSome, IfNone}
 use Rattle.go_points.proofs.Lists.{member_map}
 use Rattle.pass_alive.specs.Private.Areas.{NoEyeOutside}
-use Rattle.pass_alive.proofs.Regions.{place_back, number_back, number_low, on_place, region_holds}
+use Rattle.pass_alive.proofs.Regions.{number_back, on_place, region_holds}
+use Rattle.go_turns.proofs.Openings.{place_back}
+use Rattle.go_points.proofs.Sides.{number_below}
 
 -- a point beside another
 pub near_yes : (n : ℕ) (test : Points) (p r : ℕ) → adjacent n p r ≡ true → test r ≡ true → (b : Bool) → b ≡ true → IsTrue b ↔ IsNear n test p
@@ -38,7 +40,7 @@ pub eye_found : (n : ℕ) (c a : List Cell) (stones chain known : List Place) (x
     → IsEyeOutside n c a (these n stones) (these n chain) (these n known) area
 eye_found n c a stones chain known x area place unknown found = record {
   at = number_of n x;
-  on = number_low n x place.0;
+  on = number_below n x place.0;
   empty = place.1;
   unknown = ap (holds_place known) (place_back n x place.0) ∙ unknown;
   area = found.0;

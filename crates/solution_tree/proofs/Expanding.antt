@@ -1,5 +1,5 @@
 -- A walk through a claim's tree: what can be made, one turn more, and one turn less.
-use Rattle.solution_tree.proofs.Common.{◌≡◌, ℕ, ◌+◌, ◌<◌, Bool, true, ◌&&◌, IsTrue, List, [], ◌∷◌, ◌++◌, Option, Some, None, Bor, Box, Global, Vec, length, refl, sym, ap, ◌∙◌, subst, arith, is_none, same_colour, Colour, Turn, Ply, ply_of, and_left, and_right, GameState, Line, start, legal, legal_turns, next, over, AnswerTree, turn, replies, ReplyTrees, none, reply, reply_sizes, each_once, same_plies, turns_of, play, all, no_branch, claim_of, node_of, node_of_play, CheckedClaim, IsChecked, answer_of, replies_of, Answer, OpenTurn, Reply, AreOpen, CanGoOn, CanOpen, Goes, all_below, branches_at, closed, due, expanded, later_of, lemma_answers, lemma_count, replies_then, tree_at, uses_below, whole}
+use Rattle.solution_tree.proofs.Common.{◌≡◌, ℕ, ◌+◌, ◌<◌, Bool, true, ◌&&◌, IsTrue, List, [], ◌∷◌, ◌++◌, None, Bor, Box, Global, Vec, length, refl, sym, ap, ◌∙◌, subst, arith, is_none, same_colour, Colour, Turn, Ply, ply_of, and_left, and_right, GameState, Line, start, legal, legal_turns, next, over, AnswerTree, turn, replies, ReplyTrees, none, reply, reply_sizes, each_once, same_plies, turns_of, play, all, no_branch, claim_of, node_of, node_of_play, CheckedClaim, IsChecked, answer_of, replies_of, Answer, OpenTurn, Reply, AreOpen, CanGoOn, CanOpen, Goes, all_below, branches_at, closed, due, expanded, later_of, lemma_answers, lemma_count, replies_then, tree_at, uses_below, whole}
 use Rattle.std.specs.Prelude.{not}
 use Rattle.std.proofs.lemmas.List.{reverse-append}
 use Rattle.target_game.specs.Answers.{answer_size, answers, all_answer}
@@ -16,6 +16,9 @@ use Rattle.solution_tree.specs.declared.opened.Part.TheVariants.{Claimed, Finish
 use Rattle.solution_tree.proofs.AnswerTrees.{answer_of_replies}
 use Rattle.solution_tree.proofs.Going.{went_size}
 use Rattle.solution_tree.proofs.Lower.{main_is_below}
+use Rattle.go_points.proofs.Liberties.{none_is}
+use Rattle.target_game.proofs.Winning.{all_reply}
+use Rattle.target_game.proofs.Trees.{to_no_reply}
 
 latest : (os : List OpenTurn) (o : OpenTurn) → latest_first (os ++ o ∷ []) ≡ o ∷ latest_first os
 latest os o = reverse-append os (o ∷ [])
@@ -23,11 +26,7 @@ latest os o = reverse-append os (o ∷ [])
 -- ---- what answers
 
 open_state : (s : GameState) → is_none (over s) ≡ true → over s ≡ None
-open_state s h = go (over s) h
-  where
-    go : {A : Type 0} (o : Option A) → is_none o ≡ true → o ≡ None
-    go None e = refl
-    go (Some x) e = absurd cc
+open_state s h = none_is (over s) h
 
 module _ (x : Colour) (s : GameState) where
   turn_answers : (t : Ply) (a : AnswerTree) → answers x s (turn t a) ≡ true → (over s ≡ None) × (legal s t ≡ true) × (answers x (next s t) a ≡ true)
@@ -49,14 +48,6 @@ module _ (x : Colour) (s : GameState) where
         open_state s (and_left (is_none (over s)) (not (same_colour s.mover x)) two),
         and_right (is_none (over s) && not (same_colour s.mover x) && each_once (turns_of rs) && same_plies (turns_of rs) (legal_turns s)) (all_answer x s rs) h,
       )
-
-  first_answers : (t : Ply) (a : AnswerTree) (rs : ReplyTrees) → all_answer x s (reply t a rs) ≡ true → (answers x (next s t) a ≡ true) × (all_answer x s rs ≡ true)
-  unfolding answers
-  first_answers t a rs h = (and_left (answers x (next s t) a) (all_answer x s rs) h, and_right (answers x (next s t) a) (all_answer x s rs) h)
-
-  none_answers : all_answer x s none ≡ true
-  unfolding answers
-  none_answers = refl
 
 -- ---- trees of replies
 
@@ -109,7 +100,7 @@ module _ (k : CheckedClaim) (s : GameState) where
         going,
         may,
         record { size = went_size s (ply_of n t) ∙ it.size; lemmas = it.lemmas; answers = on },
-        record { size = it.size; lemmas = refl; going = going; answers = none_answers x s },
+        record { size = it.size; lemmas = refl; going = going; answers = to_no_reply x s },
         ap (λ m. tree_at k m s) spelled,
       )
 
@@ -170,7 +161,7 @@ module _ (k : CheckedClaim) (os : List OpenTurn) (line : Line) where
       subst (λ (b : code.Node). branches_at k (claim.replies_of rows rs) s ≡ reply (ply_of rows r.now.0) (tree_at k (node_of rows b) (next s t)) rest) (sym under)
       (subst (λ m. branches_at k (claim.replies_of m rs) s ≡ reply (ply_of m r.now.0) (tree_at k (node_of m r.now.1) (next s t)) (branches_at k (claim.replies_of m others.now) s)) it.size (made.first (lemma_answers k))) in
       let (low, lower) = subst (λ m. IsTrue (all_below (lemma_count k) (claim.replies_of m rs)) → IsTrue (uses_below (lemma_count k) (node_of m r.now.1)) × IsTrue (all_below (lemma_count k) (claim.replies_of m others.now))) it.size (made.below (lemma_count k)) it.lemmas in
-      let (one, each) = first_answers x s (ply_of rows r.now.0) a rest (sym (ap (all_answer x s) first) ∙ it.answers) in
+      let (one, each) = all_reply x s (ply_of rows r.now.0) a rest (sym (ap (all_answer x s) first) ∙ it.answers) in
       let on : answers x (next s t) a ≡ true = ap (λ m. answers x (next s (ply_of m r.now.0)) a) it.size ∙ one in
       let below : IsTrue (uses_below (lemma_count k) (node_of rows node.now)) = subst (λ (b : code.Node). IsTrue (uses_below (lemma_count k) (node_of rows b))) (sym under) low in
       opened (Reply done r.now.0 others) t node now after (replies (replies_then (replies_of rows done.items) (branches_at k (claim.replies_of rows rs) s))) (reply_sizes (branches_at k (claim.replies_of rows rs) s)) items made.made going

@@ -70,10 +70,6 @@ module _ (x : Colour) (s : GameState) (earlier : List Ply) (k : ℕ) (node : Nod
       ∙ ap (λ b. at_or k (ask b reply_twice None) (later_on (Some (s.mover, t)))) e
       ∙ at_or_first k (rest_fault x (next s t) below) (faults_below x (next s t) [] (k + 1) below) (faults_below x s (earlier ++ t ∷ []) (k + 1 + count_nodes below) others)
 
-  pub child_done : (t : Ply) (last : ℕ) → turn_fault s (carried s.game.size node) ≡ None → carried s.game.size node ≡ Some (s.mover, t) → (same_colour s.mover x || not (holds_ply earlier t)) ≡ true
-      → faults_of x (next s t) k below ≡ None → last ≡ k + count_nodes below → faults_below x s (earlier ++ t ∷ []) (last + 1) others ≡ as_child
-  child_done t last h g e f i = grind (arith, nat_tests, child_new)
-
 -- how many nodes a sequence has with what is below it
 pub sequence_count : (nodes : List Node) (below : Nodes) → count_nodes (sequence nodes below) ≡ length nodes + count_nodes below
 sequence_count [] below = let none : count_nodes below ≡ 0 + count_nodes below = omega arith in none

@@ -1,5 +1,5 @@
 mod Table
 mod Drawn
 mod Keys
-mod Xors
+pub mod Xors
 mod Changes

@@ -5,6 +5,7 @@ use Rattle.std.proofs.lemmas.Bool.{cases_eq}
 use Rattle.std.proofs.lemmas.List.{get_or-take, get_or-set_same, get_or-replicate, get_or_past, length-take-le, take_more}
 use Rattle.go_points.specs.Equal.{same_cells_eq}
 use Rattle.go_turns.proofs.Repeats.{any_none, once_more, next_is_new}
+use Rattle.std.proofs.lemmas.List.Folds.{list_any_at}
 
 zeros : (m k : ℕ) → slice_index (replicate {A = ℕ} m 0) k ≡ 0
 zeros m k = elim (cases_lt k m) [
@@ -88,22 +89,12 @@ pub bucket_is : (h : List (List Cell)) (i : ℕ) (c : List Cell) (k : ℕ) → c
 unfolding bucket_at
 bucket_is h i c k is key = sym (ap (λ x. x % bucket_count) (key ∙ ap key_of is))
 
--- elements of a list by their places
-any_at : (f : List Cell → Bool) (xs : List (List Cell)) (k : ℕ) → k < length xs → f (get_or xs k []) ≡ true → list_any f xs ≡ true
-any_at f [] k low passed = absurd (omega (arith, low))
-any_at f (x ∷ xs) zero low passed = ap (λ b. b || list_any f xs) passed
-any_at f (x ∷ xs) (suc k) low passed = go (f x) (any_at f xs k (omega (arith, low)) passed)
-  where
-    go : (b : Bool) → list_any f xs ≡ true → (b || list_any f xs) ≡ true
-    go true e = refl
-    go false e = e
-
 -- a colouring that stands before a place where it stands
 pub stands_twice : (h : List (List Cell)) (i k : ℕ) (c : List Cell) → c ≡ get_or h i [] → i < length h → k < i → same_cells c (get_or h k []) ≡ true → repeats h ≡ true
 stands_twice h i k c is on low same = elim (true_or_false (repeats h)) [
   | inl passed ↦ passed
   | inr once ↦ absurd (cc (
-    any_at (same_cells (get_or h i [])) (take i h) k (omega (arith, low, length-take-le i h (omega (arith, on)))) (ap (same_cells (get_or h i [])) (get_or-take i h k [] low) ∙ ap (λ d. same_cells d (get_or h k [])) (sym is) ∙ same),
+    list_any_at (same_cells (get_or h i [])) (take i h) k [] (omega (arith, low, length-take-le i h (omega (arith, on)))) (ap (same_cells (get_or h i [])) (get_or-take i h k [] low) ∙ ap (λ d. same_cells d (get_or h k [])) (sym is) ∙ same),
     no_element (same_cells (get_or h i [])) (take i h) (next_is_new h i [] on once),
   ))
 ]

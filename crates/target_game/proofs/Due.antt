@@ -8,6 +8,8 @@ use Rattle.go_points.specs.declared.Turn.{Turn}
 use Rattle.go_points.specs.Equal.{same_place_decides}
 use Rattle.target_game.specs.Left.{turns_from, line_with}
 use Rattle.target_game.proofs.Playing.{holds_numbered, ply_at, turn_here, turn_later, turn_none}
+use Rattle.go_points.proofs.Sides.{number_below}
+use Rattle.go_turns.proofs.Openings.{place_back}
 
 -- the legal turns from a number on, by whether the move there is legal
 turns_at : (s : GameState) (i : ℕ) → i < s.game.size * s.game.size → turns_from s i ≡ cond (legal s (move i)) (move i ∷ turns_from s (i + 1)) (turns_from s (i + 1))
@@ -50,15 +52,12 @@ turns_skip s i k low high none =
     let whole : i + (k - i) ≡ k = omega arith in
     turns_over s (k - i) i (omega arith) (λ j from below. none j from (omega (arith, below, whole))) ∙ ap (turns_from s) whole
 
-pub number_on : (n : ℕ) (p : Place) → IsOn n p → number_of n p < n * n
-number_on n p on = mul-add-lt p.row n p.column n on.row_within on.column_within
-
 -- the next turn, taken
 pub taken_move : (s : GameState) (from : ℕ) (p : Place) → IsNextMove s from p → Takes s (Some from) (Some (ply_of s.game.size (At p))) (Some (number_of s.game.size p + 1))
 taken_move s from p is =
     let k : ℕ = number_of s.game.size p in
     let at : ply_of s.game.size (At p) ≡ move k = ply_at s.game.size p is.on_board in
-    let low : k < s.game.size * s.game.size = number_on s.game.size p is.on_board in
+    let low : k < s.game.size * s.game.size = number_below s.game.size p is.on_board in
     subst (λ t. Takes s (Some from) (Some t) (Some (k + 1))) (sym at) (turns_skip s from k is.later (omega (arith, low)) is.none ∙ turns_here s k low is.legal, is.legal, refl)
 
 pub taken_pass : (s : GameState) (from : ℕ) → NoneLegal s from (s.game.size * s.game.size) → Takes s (Some from) (Some pass) None
@@ -86,7 +85,7 @@ turn_skip s i k low high none =
 pub first_move : (s : GameState) (from : ℕ) (p : Place) → IsNextMove s from p → ply_of s.game.size (At p) ≡ turn_from s from
 first_move s from p is =
     let k : ℕ = number_of s.game.size p in
-    let low : k < s.game.size * s.game.size = number_on s.game.size p is.on_board in
+    let low : k < s.game.size * s.game.size = number_below s.game.size p is.on_board in
     ply_at s.game.size p is.on_board ∙ sym (turn_skip s from k is.later (omega (arith, low)) is.none ∙ turn_here s k k low refl is.legal)
 
 pub first_pass : (s : GameState) (from : ℕ) → NoneLegal s from (s.game.size * s.game.size) → pass ≡ turn_from s from
@@ -136,9 +135,6 @@ at_repeat s j again = go (nat_lt j (s.game.size * s.game.size) && holds_point s.
     go true = ap not again
     go false = refl
 
-pub place_back : (n : ℕ) (q : Place) → IsOn n q → place_of n (number_of n q) ≡ q
-place_back n q on = λ i. record { row = div-mul-add q.row n q.column on.column_within i; column = mod-mul-add q.row n q.column on.column_within i }
-
 -- the places of the region, in the order of their numbers on the board
 pub on_held : (n : ℕ) (ps : List Place) (r : Place) → All (IsOn n) ps → holds_place ps r ≡ true → IsOn n r
 on_held n [] r all held = absurd (true≢false (sym held))
@@ -173,18 +169,18 @@ module _ (s : GameState) (ps : List Place) (i : ℕ) (is : s.game.region ≡ map
     ]
 
     pub found_inside : holds_point s.game.region (number_of s.game.size r) ≡ true
-    found_inside = held_at (number_of s.game.size r) (number_on s.game.size r found_on) ∙ ap (holds_place ps) back ∙ first.0
+    found_inside = held_at (number_of s.game.size r) (number_below s.game.size r found_on) ∙ ap (holds_place ps) back ∙ first.0
 
     pub found_none : NoneLegal s i (number_of s.game.size r)
     found_none j low high =
-        let on : j < s.game.size * s.game.size = omega (arith, high, number_on s.game.size r found_on) in
+        let on : j < s.game.size * s.game.size = omega (arith, high, number_below s.game.size r found_on) in
         outside s j (held_at j on ∙ go (holds_place ps (place_of s.game.size j)) refl)
       where
         go : (b : Bool) → holds_place ps (place_of s.game.size j) ≡ b → b ≡ false
         go false e = refl
         go true e = absurd (true≢false (
             sym (before s.game.size j (number_of s.game.size r) some high) ∙ ap (is_before (place_of s.game.size j)) back
-            ∙ first.2 (place_of s.game.size j) (widened (place_of s.game.size j) (place_on j (omega (arith, high, number_on s.game.size r found_on)))) e (not_before s.game.size i j some low)))
+            ∙ first.2 (place_of s.game.size j) (widened (place_of s.game.size j) (place_on j (omega (arith, high, number_below s.game.size r found_on)))) e (not_before s.game.size i j some low)))
 
   pub none_found : IsFirstFrom ps (place_of s.game.size i) None → NoneLegal s i (s.game.size * s.game.size)
   none_found none j low high = outside s j (held_at j high ∙ go (holds_place ps (place_of s.game.size j)) refl)

@@ -9,6 +9,7 @@ use Rattle.target_game.specs.Problem.{first_refusal, refusals, the_colour, unles
 use Rattle.target_game.specs.Kept.{kept_problem}
 use Rattle.target_game.specs.Laws.{IsProblem}
 use Rattle.target_game.proofs.Loops.{on_first}
+use Rattle.go_turns.proofs.Turns.{is_on_from}
 
 -- an element of a list all of which pass
 pub all_pass : {A : Type 0} (f : A → Bool) (xs : List A) → list_all f xs ≡ true → (k : ℕ) (d : A) → k < length xs → f (get_or xs k d) ≡ true
@@ -24,9 +25,6 @@ not_refused false x rest h = (refl, h)
 pub unrefused : (o : Option BadProblem) (r q : GameProblem) → unless_refused o r ≡ Ok q → (o ≡ None) × (r ≡ q)
 unrefused None r q h = (refl, cc h)
 unrefused (Some x) r q h = absurd (cc)
-
-on_from : (n : ℕ) (p : Place) → on_board n p ≡ true → IsOn n p
-on_from n p h = record { row_within = ltb-true p.row n (and_left (nat_lt p.row n) (nat_lt p.column n) h); column_within = ltb-true p.column n (and_right (nat_lt p.row n) (nat_lt p.column n) h) }
 
 -- stones of one colour all hold it
 all_of_colour : (xs : List Cell) (x : Colour) → one_colour xs ≡ Some x → (0 < length xs) × (list_all (λ a. same_cell a (Stone x)) xs ≡ true)
@@ -92,8 +90,8 @@ facts (c ∷ cs) place mover passes targets region q h =
     let all : (sizes && on_targets && on_region) ≡ true = not_false (sizes && on_targets && on_region) a1.0 in
     let two : (sizes && on_targets) ≡ true = and_left (sizes && on_targets) on_region all in
     let whole : All (λ (d : List Cell). length d ≡ n * n) hs = λ k d low. eqb-true (length (get_or hs k d)) (n * n) (all_pass (λ (e : List Cell). nat_eq (length e) (n * n)) hs (and_left sizes on_targets two) k d low) in
-    let targets_on : All (IsOn n) targets = λ k d low. on_from n (get_or targets k d) (all_pass (on_board n) targets (and_right sizes on_targets two) k d low) in
-    let region_on : All (IsOn n) region = λ k d low. on_from n (get_or region k d) (all_pass (on_board n) region (and_right (sizes && on_targets) on_region all) k d low) in
+    let targets_on : All (IsOn n) targets = λ k d low. is_on_from n (get_or targets k d) (all_pass (on_board n) targets (and_right sizes on_targets two) k d low) in
+    let region_on : All (IsOn n) region = λ k d low. is_on_from n (get_or region k d) (all_pass (on_board n) region (and_right (sizes && on_targets) on_region all) k d low) in
     let free : list_all (all_reach_empty n) hs ≡ true = not_false (list_all (all_reach_empty n) hs) a7.0 in
     let defender : Colour = the_colour (one_colour cells) in
     let stones = all_of_colour cells defender (some_colour (one_colour cells) a3.0) in

@@ -1,6 +1,7 @@
 -- A history of a colouring with others: those of the others that differ from it, one by one.
 use Rattle.target_game.proofs.Common.{◌≡◌, ℕ, zero, suc, ◌+◌, ◌<◌, Bool, true, false, cond, not, ◌||◌, List, [], ◌∷◌, ◌++◌, drop, length, get_or, filter, refl, sym, ap, ◌∙◌, arith, All, drop-cons, drop-length, Cell, same_cells, has_occurred, repeats}
 use Rattle.std.proofs.Common.{append_assoc, append-nil}
+use Rattle.go_turns.proofs.Repeats.{or_no_left, or_no_right}
 
 abbrev pub differs : List Cell → List Cell → Bool
 differs c d = not (same_cells c d)
@@ -40,14 +41,6 @@ none_same c (d ∷ ds) = go (same_cells c d) refl (none_same c ds)
     go : (b : Bool) → same_cells c d ≡ b → has_occurred (filter (differs c) ds) c ≡ false → has_occurred (cond (not b) (d ∷ filter (differs c) ds) (filter (differs c) ds)) c ≡ false
     go true e h = h
     go false e h = ap (λ b. b || has_occurred (filter (differs c) ds) c) e ∙ h
-
-or_no_left : (a b : Bool) → (a || b) ≡ false → a ≡ false
-or_no_left true b e = e
-or_no_left false b e = refl
-
-or_no_right : (a b : Bool) → (a || b) ≡ false → b ≡ false
-or_no_right true b e = absurd (cc)
-or_no_right false b e = e
 
 -- what does not stand in a list does not stand in those of it that pass a test
 not_among : (p : List Cell → Bool) (x : List Cell) (ds : List (List Cell)) → has_occurred ds x ≡ false → has_occurred (filter p ds) x ≡ false

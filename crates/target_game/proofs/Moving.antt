@@ -7,7 +7,7 @@ other_colour : (x : Colour) → same_colour (opponent_of x) x ≡ false
 other_colour Black = refl
 other_colour White = refl
 
-colour_other : (x : Colour) → same_colour x (opponent_of x) ≡ false
+pub colour_other : (x : Colour) → same_colour x (opponent_of x) ≡ false
 colour_other Black = refl
 colour_other White = refl
 

@@ -2,7 +2,8 @@
 use Rattle.target_game.proofs.Common.{◌≡◌, ℕ, ◌+◌, ◌-◌, ◌*◌, ◌<◌, ◌≤◌, Bool, true, false, List, map, Option, Some, None, IfSome, IfNone, refl, sym, ◌∙◌, ap, ap₂, inl, inr, arith, All, cases_lt, true≢false, MAX_SIZE, Empty, same_cell, cell_at, Place, IsOn, number_of, place_of, is_before, IsFirstFrom, before, not_before, GameState, NoneLegal}
 use Rattle.go_points.specs.Points.{IsFirstAfter}
 use Rattle.target_game.specs.Left.{IsNextOpen}
-use Rattle.target_game.proofs.Due.{none_yet, none_more, none_joined, at_stone, place_back, on_held, IsNextInside, next_inside, next_outside}
+use Rattle.target_game.proofs.Due.{none_yet, none_more, none_joined, at_stone, on_held, IsNextInside, next_inside, next_outside}
+use Rattle.go_turns.proofs.Openings.{place_back}
 
 -- the first place of the region after a point is the first from the next number on
 module _ (n : ℕ) (p q : Place) (some : 0 < n) (p_on : IsOn n p) (q_on : IsOn n q) where

@@ -6,7 +6,7 @@ use Rattle.target_game.proofs.Ending.{winner_exists}
 use Rattle.target_game.proofs.Moving.{defender_may_move_first, attacker_may_move_first}
 
 -- this side or the other wins
-one_wins : (x : Colour) (s : GameState) → s.passes ≤ 2 → Wins x s ⊎ Wins (opponent_of x) s
+pub one_wins : (x : Colour) (s : GameState) → s.passes ≤ 2 → Wins x s ⊎ Wins (opponent_of x) s
 one_wins Black s low = winner_exists s low
 one_wins White s low = elim (winner_exists s low) [ inl h ↦ inr h | inr h ↦ inl h ]
 

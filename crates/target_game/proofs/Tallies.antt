@@ -24,12 +24,12 @@ less_left n m k low = go (nat_lt (n - m) k) refl
     go false e = let fits : k ≤ n - m = ltb-false (n - m) k e in not_past n (m + k) (omega arith)
 
 -- every tree has a state
-nodes_over : (s : GameState) (k : ℕ) (y : Colour) → over s ≡ Some y → nodes s k ≡ 1
+pub nodes_over : (s : GameState) (k : ℕ) (y : Colour) → over s ≡ Some y → nodes s k ≡ 1
 unfolding nodes
 nodes_over s zero y e = refl
 nodes_over s (suc k) y e = rw (e, nodes)
 
-nodes_next : (s : GameState) (k : ℕ) → over s ≡ None → nodes s (suc k) ≡ 1 + sum_by (λ t. nodes (next s t) k) (legal_turns s)
+pub nodes_next : (s : GameState) (k : ℕ) → over s ≡ None → nodes s (suc k) ≡ 1 + sum_by (λ t. nodes (next s t) k) (legal_turns s)
 unfolding nodes
 nodes_next s k e = rw (e, nodes)
 
@@ -51,7 +51,7 @@ wins_last x s (suc k) h = go (over_cases s)
     go (inl e) = elim h [ inl some ↦ absurd (cc (sym some ∙ ap is_some e)) | inr k_0 ↦ absurd (omega (arith, k_0)) ]
     go (inr (y, e)) = wins_over x y s (suc k) e ∙ sym (ap (is_winner x) e)
 
-nodes_some : (s : GameState) (k : ℕ) → 0 < nodes s k
+pub nodes_some : (s : GameState) (k : ℕ) → 0 < nodes s k
 nodes_some s zero = let one : nodes s 0 ≡ 1 = nodes_last s 0 (inr refl) in omega arith
 nodes_some s (suc k) = go (over_cases s)
   where

@@ -7,8 +7,9 @@ use Rattle.go_turns.specs.Record.{GameRecord, stepped, moved}
 use Rattle.target_game.specs.Kept.{kept_before}
 use Rattle.target_game.specs.Left.{is_repeat}
 use Rattle.target_game.proofs.Playing.{occurred_place, occurred_is}
-use Rattle.target_game.proofs.Due.{at_repeat, number_on}
+use Rattle.target_game.proofs.Due.{at_repeat}
 use Rattle.std.proofs.lemmas.Bool.{lt-ltb}
+use Rattle.go_points.proofs.Sides.{number_below}
 
 -- all that is asked of a turn but that it repeats nothing
 abbrev pub IsFree : GameState → Ply → Type 0
@@ -18,7 +19,7 @@ IsFree s (move p) = (nat_lt p (s.game.size * s.game.size) && holds_point s.game.
 pub free_move : (s : GameState) (p : Place) → IsOn s.game.size p → (holds_point s.game.region (number_of s.game.size p) && same_cell (cell_at s.colouring (number_of s.game.size p)) Empty) ≡ true → IsFree s (move (number_of s.game.size p))
 free_move s p on there =
     let k : ℕ = number_of s.game.size p in
-    let low : nat_lt k (s.game.size * s.game.size) ≡ true = lt-ltb k (s.game.size * s.game.size) (number_on s.game.size p on) in
+    let low : nat_lt k (s.game.size * s.game.size) ≡ true = lt-ltb k (s.game.size * s.game.size) (number_below s.game.size p on) in
     and_both _ _ (and_both _ _ low (and_left (holds_point s.game.region k) (same_cell (cell_at s.colouring k) Empty) there)) (and_right (holds_point s.game.region k) (same_cell (cell_at s.colouring k) Empty) there)
 
 abbrev pub game_of : GameRecord → List Place → Colour → List Place → Game

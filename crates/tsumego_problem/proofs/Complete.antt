@@ -120,7 +120,7 @@ targets_colour n c (t ∷ ts) h = go (cell_at c (number_of n t)) refl h
             ∙ ap (λ b. b && list_all (same_cell (Stone x)) (map (λ p. cell_at c (number_of n p)) ps)) (same_cell_refl (Stone x))
             ∙ turned ps (and_right (same_cell (cell_at c (number_of n p)) (Stone x)) (list_all (λ q. same_cell (cell_at c q) (Stone x)) (map (number_of n) ps)) g)
 
-all_on_board : (n : ℕ) (ps : List Place) → All (IsOn n) ps → list_all (on_board n) ps ≡ true
+pub all_on_board : (n : ℕ) (ps : List Place) → All (IsOn n) ps → list_all (on_board n) ps ≡ true
 all_on_board n [] on = refl
 all_on_board n (p ∷ ps) on = ap₂ (λ a b. a && b) (on_from n p (on 0 p (omega arith))) (all_on_board n ps (λ k d low. on (suc k) d (omega arith)))
 

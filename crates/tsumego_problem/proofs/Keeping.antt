@@ -1,26 +1,15 @@
 -- What the walk keeps of its history, and what it has asked when it comes to a marked node.
 use Rattle.tsumego_problem.proofs.Common.{◌≡◌, ℕ, ◌+◌, ◌*◌, Bool, true, false, ◌&&◌, List, [], ◌∷◌, ◌++◌, length, Option, Some, None, Result, Ok, refl, ap, subst, rules, arith, list_all, not-false, nat_tests, Colour, Cell, Empty, same_cell, cell_at, all_reach_empty, after_move, Ply, pass, move, has_occurred, place_in, no_position, same_cells, Node, Walk, is_marked, ◌>>=◌, unless, late_fault, node_fault, joined_by, moved_to, turned, set_to, changed_by, changed, turn_at, has_setup, has_no_liberty, assigned, walk_node, IsHistory, HasReached, walk_to_mark, ProblemFault}
-use Rattle.std.specs.Prelude.{if◌then◌else◌}
 use Rattle.go_points.proofs.Clearing.{moves_leave_liberties}
 use Rattle.go_turns.proofs.Repeats.{once_more}
 use Rattle.target_game.proofs.States.{length-after_move}
 use Rattle.tsumego_problem.proofs.Assigning.{length_assigned}
-
-bind_ok : {A B : Type 0} (r : Result A ProblemFault) (f : A → Result B ProblemFault) (b : B) → (r >>= f) ≡ Ok b → (a : A) × (r ≡ Ok a) × (f a ≡ Ok b)
-bind_ok r f b h = search rules
-
-abbrev good : {A : Type 0} → A → Result A ProblemFault
-good a = Ok a
-
-ok_is : {A : Type 0} (a b : A) → good a ≡ good b → a ≡ b
-ok_is a b h = cc
-
-unless_ok : (o : Option ProblemFault) (w v : Walk) → unless o w ≡ Ok v → (o ≡ None) × (w ≡ v)
-unless_ok o w v h = search rules
+use Rattle.tsumego_problem.proofs.Records.{bind_ok, ok_is, unless_ok}
+use Rattle.std.specs.Prelude.{if◌then◌else◌}
 
 -- ---- one colouring more
 
-all_more : (f : List Cell → Bool) (h : List (List Cell)) (c : List Cell) → list_all f h ≡ true → f c ≡ true → list_all f (h ++ c ∷ []) ≡ true
+pub all_more : (f : List Cell → Bool) (h : List (List Cell)) (c : List Cell) → list_all f h ≡ true → f c ≡ true → list_all f (h ++ c ∷ []) ≡ true
 all_more f [] c all e = ap (λ b. b && true) e
 all_more f (x ∷ xs) c all e = let i0 = all_more f xs c in search rules
 

@@ -9,7 +9,7 @@ use Rattle.tsumego_problem.specs.Canonical.{present}
 use Rattle.tsumego_problem.proofs.CanonicalRecord.{same_cells_self}
 use Rattle.tsumego_problem.proofs.Making.{colour_standing}
 use Rattle.tsumego_problem.proofs.Points.{same_filter}
-use Rattle.tsumego_problem.proofs.Rectangles.{number_small}
+use Rattle.go_points.proofs.Sides.{number_below}
 
 -- a test that each element passes
 all_pass : {X : Type 0} (P : X → Type 0) (test : X → Bool) (xs : List X) → ((x : X) → P x → test x ≡ true) → All P xs → list_all test xs ≡ true
@@ -103,7 +103,7 @@ set_rises n a [] pairs on from = tt
 set_rises n a (p ∷ ps) pairs on from =
     let here = on 0 p (omega arith) in (
       from 0 p (omega arith),
-      number_small n p here,
+      number_below n p here,
       set_rises n (number_of n p + 1) ps (λ i j d less low. pairs (suc i) (suc j) d (omega arith) (omega arith)) (λ k d low. on (suc k) d (omega arith))
           (λ k d low. numbers_rise n p (get_or ps k d) here (on (suc k) d (omega arith)) (pairs 0 (suc k) d (omega arith) (omega arith))),
     )

@@ -1,16 +1,9 @@
 -- The problem that is made at the end of a walk.
-use Rattle.tsumego_problem.proofs.Common.{◌≡◌, ℕ, zero, suc, ◌<◌, Bool, true, ◌&&◌, ◌||◌, List, [], ◌∷◌, map, length, get_or, Option, Some, None, Ok, refl, sym, ◌∙◌, ap, ap₂, subst, arith, rules, unwrap_or, list_any, list_all, Colour, Cell, Stone, cell_at, same_cell, same_cells, side_of, Place, number_of, same_cell_refl, place_in, GameRecord, colouring_of, no_element, GameProblem, first_refusal, refusals, problem_of as problem_of_parts, Node, targets_at, region_at, colour_of, problem_at, walk_of}
+use Rattle.tsumego_problem.proofs.Common.{◌≡◌, ℕ, ◌<◌, true, List, [], ◌∷◌, map, length, get_or, Option, Some, None, Ok, refl, sym, ◌∙◌, ap, ap₂, subst, rules, unwrap_or, list_all, Colour, Cell, Stone, cell_at, same_cell, same_cells, side_of, Place, number_of, place_in, GameRecord, colouring_of, no_element, GameProblem, first_refusal, refusals, problem_of as problem_of_parts, Node, targets_at, region_at, colour_of, problem_at, walk_of}
 use Rattle.target_game.proofs.Facts.{facts, unrefused}
 use Rattle.tsumego_problem.proofs.Assigning.{at_its_place}
-
-same_cells_refl : (c : List Cell) → same_cells c c ≡ true
-same_cells_refl [] = refl
-same_cells_refl (x ∷ xs) = ap (λ b. b && same_cells xs xs) (same_cell_refl x) ∙ same_cells_refl xs
-
-any_at : (f : List Cell → Bool) (h : List (List Cell)) (i : ℕ) → i < length h → f (get_or h i []) ≡ true → list_any f h ≡ true
-any_at f [] i low e = absurd (omega arith)
-any_at f (c ∷ cs) zero low e = ap (λ b. b || list_any f cs) e
-any_at f (c ∷ cs) (suc i) low e = let i0 = any_at f cs i (omega arith) e in search rules
+use Rattle.go_points.specs.Equal.{same_cells_refl}
+use Rattle.std.proofs.lemmas.List.Folds.{list_any_at}
 
 -- where a colouring that has occurred stands
 pub stands_at : (h : List (List Cell)) (c : List Cell) (i : ℕ) → i < length h → get_or h i [] ≡ c → get_or h (unwrap_or (place_in h c) 0) [] ≡ c
@@ -18,7 +11,7 @@ stands_at h c i low at = go (place_in h c) refl
   where
     go : (o : Option ℕ) → place_in h c ≡ o → get_or h (unwrap_or (place_in h c) 0) [] ≡ c
     go (Some p) e = ap (λ o. get_or h (unwrap_or o 0) []) e ∙ at_its_place h c p e
-    go None e = absurd (cc (no_element (same_cells c) h e, any_at (same_cells c) h i low (ap (same_cells c) at ∙ same_cells_refl c)))
+    go None e = absurd (cc (no_element (same_cells c) h e, list_any_at (same_cells c) h i [] low (ap (same_cells c) at ∙ same_cells_refl c)))
 
 -- the colour of stones that stand
 pub colour_standing : (c : List Cell) (k : Colour) (ps : List ℕ) → 0 < length ps → list_all (λ p. same_cell (cell_at c p) (Stone k)) ps ≡ true → colour_of c ps ≡ k

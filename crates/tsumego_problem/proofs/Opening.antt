@@ -1,12 +1,12 @@
 -- The record with which a walk begins.
-use Rattle.tsumego_problem.proofs.Common.{◌≡◌, ℕ, zero, suc, ◌+◌, ◌*◌, ◌<◌, ◌≤◌, Bool, true, false, cond, ◌&&◌, ◌||◌, List, [], ◌∷◌, map, length, Option, None, Ok, Err, is_none, refl, sym, ◌∙◌, ap, ap₂, arith, rules, codes, unwrap_or, range_with_len, fill_by_all, or_parts, nat_tests, Black, White, Cell, Empty, Stone, points, cell_at, first_without_liberty, Place, GameRecord, opened, Opens, holds_point, values_at, Node, points_of, has, has_turn, has_setup, is_empty, points_at, assigned, opening, turn_at, node_fault, first_fault, when, changed, changed_by, set_to, unless, late_fault, walk_node, ◌>>=◌, walk_of, IsHistory, ProblemFault}
+use Rattle.tsumego_problem.proofs.Common.{◌≡◌, ℕ, zero, suc, ◌+◌, ◌*◌, ◌<◌, ◌≤◌, Bool, true, false, cond, ◌&&◌, ◌||◌, List, [], ◌∷◌, map, length, Option, None, Ok, Err, is_none, refl, sym, ◌∙◌, ap, ap₂, arith, rules, codes, range_with_len, fill_by_all, or_parts, nat_tests, Black, White, Cell, Empty, Stone, points, cell_at, first_without_liberty, Place, GameRecord, opened, Opens, holds_point, Node, has, has_turn, has_setup, points_at, assigned, opening, turn_at, node_fault, first_fault, when, changed, changed_by, set_to, unless, late_fault, walk_node, ◌>>=◌, walk_of, IsHistory, ProblemFault}
 use Rattle.std.proofs.Common.{not, replicate}
 use Rattle.std.proofs.lemmas.List.{get_or-replicate, length-replicate}
 use Rattle.std.proofs.lemmas.List.FromFn.{get_or-map-range_with_len}
 use Rattle.go_turns.specs.declared.fault.TurnFault.TheVariants as turns
 use Rattle.tsumego_problem.specs.declared.fault.ProblemFault.TheVariants as faults
 use Rattle.tsumego_problem.proofs.Assigning.{left_at}
-use Rattle.tsumego_problem.proofs.Steps.{filter_none}
+use Rattle.tsumego_problem.proofs.Sharing.{lacks}
 
 -- the board without stones, as a map
 pub no_stones : (n : ℕ) → replicate (n * n) Empty ≡ map (λ p. Empty) (points n)
@@ -23,17 +23,11 @@ pub opened_refused : (n : ℕ) (c : List Cell) (p : Place) → Opens n (opened n
 opened_refused n c p h = search rules
 
 -- a node without setup assigns nothing
-empty_nil : {X : Type 0} (xs : List X) → not (is_empty xs) ≡ false → xs ≡ []
-empty_nil xs h = search rules
-
-nothing_at : (n : ℕ) (name : List ℕ) (node : Node) → has name node ≡ false → points_at n name node ≡ []
-nothing_at n name node h = ap (λ vs. unwrap_or (points_of n vs) []) (empty_nil (values_at name node) h) ∙ filter_none (points n)
-
 pub idle : (n : ℕ) (node : Node) → has_setup node ≡ false → assigned n node (map (λ p. Empty) (points n)) ≡ map (λ p. Empty) (points n)
 idle n node h =
     let last = or_parts (has (codes "AB") node || has (codes "AW") node) (has (codes "AE") node) h in
     let front = or_parts (has (codes "AB") node) (has (codes "AW") node) last.0 in
-    sym (fill_by_all (left_at n node base) base (n * n) Empty len (λ k low. rw (nothing_at n (codes "AB") node front.0, nothing_at n (codes "AW") node front.1, nothing_at n (codes "AE") node last.1) refl))
+    sym (fill_by_all (left_at n node base) base (n * n) Empty len (λ k low. rw (lacks n (codes "AB") node front.0, lacks n (codes "AW") node front.1, lacks n (codes "AE") node last.1) refl))
   where
     base : List Cell
     base = map (λ p. Empty) (points n)

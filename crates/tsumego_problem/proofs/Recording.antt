@@ -7,7 +7,7 @@ use Rattle.go_points.specs.Ply.{ply_of}
 use Rattle.go_points.specs.Sgf.{sgf_text}
 use Rattle.target_game.proofs.Playing.{passing_more}
 use Rattle.tsumego_problem.specs.Canonical.{turn_value}
-use Rattle.tsumego_problem.proofs.Rectangles.{place_back}
+use Rattle.go_turns.proofs.Openings.{place_back}
 
 -- ---- the values of the points that pass a test
 

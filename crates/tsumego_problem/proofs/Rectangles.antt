@@ -1,10 +1,12 @@
 -- Points put into sets, one by one.
-use Rattle.tsumego_problem.proofs.Common.{◌≡◌, ℕ, ◌+◌, ◌*◌, ◌/◌, ◌%◌, ◌≤◌, ◌<◌, Bool, true, false, cond, ◌&&◌, ◌||◌, nat_le, List, [], ◌∷◌, ◌++◌, map-id, length, option_and_then, Option, Some, None, option_map, refl, sym, ◌∙◌, ap, ap₂, subst, arith, rules, range_with_len, false_from_ne_true, div-mul-add, mod-mul-add, mul-add-lt, list_any-append, points, Place, IsOn, place_of, number_of, with_place, MAX_SIZE, nat_tests, inside, point_at, points_named, rectangle, points_in, Adds}
+use Rattle.tsumego_problem.proofs.Common.{◌≡◌, ℕ, ◌+◌, ◌*◌, ◌/◌, ◌%◌, ◌≤◌, ◌<◌, Bool, true, false, cond, ◌&&◌, ◌||◌, nat_le, List, [], ◌∷◌, ◌++◌, length, option_and_then, Option, Some, None, option_map, refl, sym, ◌∙◌, ap, ap₂, subst, arith, rules, range_with_len, false_from_ne_true, list_any-append, points, Place, IsOn, place_of, number_of, with_place, MAX_SIZE, nat_tests, inside, point_at, points_named, rectangle, points_in, Adds}
 use Rattle.std.proofs.Common.{◌⊎◌, inl, inr, append-nil, append_assoc, filter}
-use Rattle.std.proofs.lemmas.List.FromFn.{filter_of_map_range_with_len_more}
 use Rattle.go_points.proofs.PlaceSets.{places_with}
 use Rattle.go_points.specs.Sgf.{sgf_place}
 use Rattle.tsumego_problem.specs.Private.Named.{Gains}
+pub use Rattle.go_turns.proofs.Openings.{place_back}
+use Rattle.go_points.proofs.Sides.{number_below}
+use Rattle.target_game.proofs.Playing.{passing_more}
 
 or_false : (a : Bool) → (a || false) ≡ a
 or_false a = search rules
@@ -17,30 +19,21 @@ pub put : (n k : ℕ) (qs : List ℕ) → 0 < n → k < n * n → with_place (po
 put n k qs h g = grind (arith, nat_tests, places_with, list_any-append, false_from_ne_true, or_false, or_true)
 
 -- the place with a number, and the number of a place
-pub place_back : (n : ℕ) (p : Place) → IsOn n p → place_of n (number_of n p) ≡ p
-place_back n p on = λ i. record { row = div-mul-add p.row n p.column on.column_within i; column = mod-mul-add p.row n p.column on.column_within i }
-
-pub number_small : (n : ℕ) (p : Place) → IsOn n p → number_of n p < n * n
-number_small n p on = mul-add-lt p.row n p.column n on.row_within on.column_within
-
 -- a loop over the points of a board that puts in those that pass
 abbrev pub GainedBelow : ℕ → (ℕ → Bool) → ℕ → List Place → List Place → Type 0
 GainedBelow n test k old new = Gains n (filter test (range_with_len 0 k)) old new
-
-upto : (test : ℕ → Bool) (k : ℕ) → filter test (range_with_len 0 (k + 1)) ≡ filter test (range_with_len 0 k) ++ cond (test k) (k ∷ []) []
-upto test k = ap (filter test) (sym (map-id (range_with_len 0 (k + 1)))) ∙ filter_of_map_range_with_len_more test (λ x. x) 0 k k (omega arith) ∙ ap (λ xs. filter test xs ++ cond (test k) (k ∷ []) []) (map-id (range_with_len 0 k))
 
 pub gained_hit : (n k : ℕ) (test : ℕ → Bool) (old mid : List Place) → 0 < n → k < n * n → test k ≡ true → GainedBelow n test k old mid → GainedBelow n test (k + 1) old (with_place mid (place_of n k))
 gained_hit n k test old mid some on passed had ps e =
     ap (λ set. with_place set (place_of n k)) (had ps e)
     ∙ put n k (ps ++ filter test (range_with_len 0 k)) some on
     ∙ ap (points_in n) (append_assoc ps (filter test (range_with_len 0 k)) (k ∷ []))
-    ∙ ap (λ xs. points_in n (ps ++ xs)) (sym (upto test k ∙ ap (λ b. filter test (range_with_len 0 k) ++ cond b (k ∷ []) []) passed))
+    ∙ ap (λ xs. points_in n (ps ++ xs)) (sym (passing_more test k ∙ ap (λ b. filter test (range_with_len 0 k) ++ cond b (k ∷ []) []) passed))
 
 pub gained_miss : (n k : ℕ) (test : ℕ → Bool) (old mid : List Place) → test k ≡ false → GainedBelow n test k old mid → GainedBelow n test (k + 1) old mid
 gained_miss n k test old mid failed had ps e =
     had ps e
-    ∙ ap (λ xs. points_in n (ps ++ xs)) (sym (upto test k ∙ ap (λ b. filter test (range_with_len 0 k) ++ cond b (k ∷ []) []) failed ∙ append-nil (filter test (range_with_len 0 k))))
+    ∙ ap (λ xs. points_in n (ps ++ xs)) (sym (passing_more test k ∙ ap (λ b. filter test (range_with_len 0 k) ++ cond b (k ∷ []) []) failed ∙ append-nil (filter test (range_with_len 0 k))))
 
 -- the test of a rectangle, by places
 pub inside_by : (n k : ℕ) (p q : Place) → IsOn n p → IsOn n q → inside n (number_of n p) (number_of n q) k ≡ (nat_le p.column (k % n) && nat_le (k % n) q.column && nat_le p.row (k / n) && nat_le (k / n) q.row)
@@ -61,7 +54,7 @@ module _ (n : ℕ) (small : n ≤ MAX_SIZE) where
   adds_point (x ∷ y ∷ []) p old some two e =
       let named = named_point x y p e in
       subst (λ o. Adds n (option_map (λ k. k ∷ []) o) true old (with_place old p)) (sym named.0)
-      (refl, λ ps f. ap (λ s. with_place s p) f ∙ ap (with_place (points_in n ps)) (sym (place_back n p named.1)) ∙ put n (number_of n p) ps (omega (arith, some)) (number_small n p named.1))
+      (refl, λ ps f. ap (λ s. with_place s p) f ∙ ap (with_place (points_in n ps)) (sym (place_back n p named.1)) ∙ put n (number_of n p) ps (omega (arith, some)) (number_below n p named.1))
 
   -- two corners
   cornered : (p q : Place) → IsOn n p → IsOn n q → rectangle n (number_of n p) (number_of n q) ≡ cond (nat_le p.column q.column && nat_le p.row q.row) (Some (filter (inside n (number_of n p) (number_of n q)) (points n))) None

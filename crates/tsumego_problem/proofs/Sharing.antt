@@ -1,6 +1,6 @@
 -- Points that two sets share, one point after another.
-use Rattle.tsumego_problem.proofs.Common.{◌≡◌, ℕ, Bool, true, false, ◌&&◌, ◌||◌, List, [], ◌∷◌, map, refl, sym, ◌∙◌, ap, subst, arith, filter, unwrap_or, All, list_any, Place, IsOn, number_of, points, holds_place, holds_point, holds_numbered, left_on, values_at, Node, points_of, has, is_empty, points_at, share_point}
-use Rattle.std.proofs.Common.{not}
+use Rattle.tsumego_problem.proofs.Common.{◌≡◌, ℕ, Bool, true, false, ◌&&◌, ◌||◌, List, [], ◌∷◌, map, refl, sym, ◌∙◌, ap, subst, arith, unwrap_or, All, list_any, Place, IsOn, number_of, points, holds_place, holds_point, holds_numbered, left_on, values_at, Node, points_of, has, points_at, share_point}
+use Rattle.tsumego_problem.proofs.Steps.{is_empty_nil, filter_none}
 
 module _ (n : ℕ) (held : List Place) (numbers : List ℕ) (same : map (number_of n) held ≡ numbers) (on_held : All (IsOn n) held)
     (old new : List Place) (p : Place) (first : old ≡ p ∷ new) (on_old : All (IsOn n) old) (whole : Bool) (had : list_any (holds_point numbers) (map (number_of n) old) ≡ whole) where
@@ -25,16 +25,8 @@ none_held : (ps : List ℕ) → list_any (holds_point []) ps ≡ false
 none_held [] = refl
 none_held (p ∷ ps) = none_held ps
 
-none_left : (ps : List ℕ) → filter (holds_point []) ps ≡ []
-none_left [] = refl
-none_left (p ∷ ps) = none_left ps
-
-lacks : (n : ℕ) (name : List ℕ) (node : Node) → has name node ≡ false → points_at n name node ≡ []
-lacks n name node e = go (values_at name node) refl e
-  where
-    go : (values : List (List ℕ)) → values_at name node ≡ values → not (is_empty values) ≡ false → points_at n name node ≡ []
-    go [] is none = ap (λ vs. unwrap_or (points_of n vs) []) is ∙ none_left (points n)
-    go (value ∷ values) is none = absurd (cc)
+pub lacks : (n : ℕ) (name : List ℕ) (node : Node) → has name node ≡ false → points_at n name node ≡ []
+lacks n name node e = ap (λ vs. unwrap_or (points_of n vs) []) (is_empty_nil (values_at name node) e) ∙ filter_none (points n)
 
 lacks_first : (n : ℕ) (a b : List ℕ) (node : Node) → has a node ≡ false → share_point n a b node ≡ false
 lacks_first n a b node e = ap (λ ps. list_any (holds_point ps) (points_at n b node)) (lacks n a node e) ∙ none_held (points_at n b node)

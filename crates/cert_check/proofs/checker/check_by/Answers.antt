@@ -1,9 +1,9 @@
 use Rattle.cert_check.proofs.Common.{arith, ◌≡◌, ℕ, Option, Some, None, Ok, Err, option_map, ap, ap₂, ◌∙◌, subst, Colour, accepted, ended, GameProblem, line_value, SourceFault, AcceptsBy, Why, machine_of, IsToldBy, why_value, taken, stops, if_ok_map}
 use Rattle.proof_cert.specs.declared.line.Line as code
-use Rattle.cert_check.proofs.Steps.{if_err_map}
 use Rattle.cert_check.proofs.Taking.{never}
 use Rattle.cert_check.proofs.Hearing.{either_way, heard_more, heard_accepts, heard_ends, heard_rejects, heard_fails, heard_reaches, heard_asks, heard_asks_there}
 use Rattle.cert_check.proofs.checker.check_by.Goals as goal
+use Rattle.std.proofs.lemmas.Result.{IfErr-weaker}
 
 pub returns-in-Err-clause-err : goal.returns-in-Err-clause-err
 returns-in-Err-clause-err g c = λ shape told fresh why said.
@@ -23,7 +23,7 @@ returns-in-Ok-None-clause-ok g c = λ shape told.
 pub returns-in-Ok-None-clause-err : goal.returns-in-Ok-None-clause-err
 returns-in-Ok-None-clause-err g c = λ shape told fresh.
     let inv = c.loop-count.invariant.0 fresh in
-    if_err_map c.end.result _ _
+    IfErr-weaker c.end.result _ _
     (λ e h why said. heard_ends inv.2 shape told (ap (λ (o : Option code.Line). Ok (option_map (line_value (g.S.NodeSource.size c.loop-count.source)) o)) c.in-Ok-None.field-0-is) (c.in-Ok-None.ensures.gives inv.0) (h why (ap (λ (p : GameProblem). why_value p.game.size e.why) c.loop-count.invariant.2 ∙ said)))
     c.end.ensures.err
 
@@ -70,7 +70,7 @@ returns-in-Err-clause-asked g c = λ fresh. let inv = c.loop-count.invariant.0 f
 pub returns-in-Ok-None-clause-asked : goal.returns-in-Ok-None-clause-asked
 returns-in-Ok-None-clause-asked g c = λ fresh.
     let inv = c.loop-count.invariant.0 fresh in
-    if_err_map c.end.result _ _ (λ e there. heard_asks_there inv.2 (c.in-Ok-None.ensures.gives inv.0) there) c.end.ensures.there
+    IfErr-weaker c.end.result _ _ (λ e there. heard_asks_there inv.2 (c.in-Ok-None.ensures.gives inv.0) there) c.end.ensures.there
 
 pub returns-in-Err-Malformed-clause-asked : goal.returns-in-Err-Malformed-clause-asked
 returns-in-Err-Malformed-clause-asked g c = λ fresh. let inv = c.loop-count.invariant.0 fresh in heard_asks_there inv.2 (c.in-Err-Malformed.ensures.gives inv.0) c.malformed.ensures.there

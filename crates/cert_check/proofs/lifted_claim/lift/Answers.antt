@@ -1,6 +1,7 @@
 use Rattle.cert_check.proofs.Common.{◌≡◌, ◌+◌, ◌≤◌, ℕ, map, length, sym, ap, ◌∙◌, subst, rules, arith, MAX_SIZE, GameProblem, Claim, claim_of, lemma_of, node_of, Certificate, CheckedClaim, IsChecked, IsLifted, claim_with, []}
-use Rattle.cert_check.proofs.Lifted.{empty_list, past_limit, lifted, lifted_checked}
+use Rattle.cert_check.proofs.Lifted.{past_limit, lifted, lifted_checked}
 use Rattle.cert_check.proofs.lifted_claim.lift.Goals as goal
+use Rattle.std.proofs.lemmas.List.{nil_from_length}
 
 pub returns-then-passes_limit-clause-limit : goal.returns-then-passes_limit-clause-limit
 returns-then-passes_limit-clause-limit c =
@@ -34,7 +35,7 @@ returns-in-Ok-claim_of_lemma-clause-valid c =
     let most : c.rows.result ≤ MAX_SIZE = c.rows.ensures.most in
     let listed : c.len.result + c.len-2.result ≡ length c.put_in_order.new.list.items + length c.put_in_order-2.new.list.items = search rules in
     let zero : length k.certificate.lemmas.items ≡ 0 = search rules in
-    let none : z.lemmas ≡ [] = ap (map (lemma_of k.certificate.size)) (empty_list k.certificate.lemmas.items zero) in
+    let none : z.lemmas ≡ [] = ap (map (lemma_of k.certificate.size)) (nil_from_length k.certificate.lemmas.items zero) in
     subst (IsChecked q) (sym (made c))
     (lifted_checked z c.put_in_order.new.list.items c.put_in_order-2.new.list.items c.problem-problem.ensures c.history.ensures.problem c.in-Ok.ensures.barred c.in-Ok.ensures.plays c.put_in_order.ensures.order c.put_in_order.ensures.same c.put_in_order-2.ensures.order c.put_in_order-2.ensures.same
     c.winner-winner.ensures.checked none (omega (arith, rows, least)) (omega (arith, rows, most)) c.in-Ok.results.nodes (c.len.result + c.len-2.result) c.in-Ok.ensures.nodes listed (sym c.passes_limit.ensures ∙ c.if-passes_limit.false) c.lifted_claims_are_right.ensures)

@@ -1,5 +1,5 @@
-use Rattle.go_chains.proofs.Common.{rules, ◌≡◌, ◌≢◌, ◌+◌, ◌*◌, ◌≤◌, ◌⊎◌, inl, inr, ℕ, map, take, slice_index, sym, ◌∙◌, ap, subst, take_all, MAX_POINTS, Stone, clear, neighbours, cell_at, side_of, number_of, IsIn, IsSettled, LacksLiberties, LeavesLiberties}
-use Rattle.go_chains.proofs.Beside.{in_more}
+use Rattle.go_chains.proofs.Common.{rules, ◌≡◌, ◌≢◌, ◌+◌, ◌*◌, ◌≤◌, ◌⊎◌, inl, inr, ℕ, map, take, slice_index, sym, ◌∙◌, ap, subst, MAX_POINTS, Stone, clear, neighbours, cell_at, side_of, number_of, IsIn, IsSettled, LacksLiberties, LeavesLiberties}
+use Rattle.go_chains.proofs.Beside.{in_more, all_beside}
 use Rattle.go_chains.proofs.Leaving.{CapturedSoFar, captured_step, captured_end}
 use Rattle.go_chains.proofs.capture.capture.Goals as goal
 
@@ -34,13 +34,9 @@ pub returns-clause-cleared : goal.returns-clause-cleared
 returns-clause-cleared c =
     let first = c.args.colouring.now in
     let n = side_of first in
-    let s = c.size-size.result in
     let now = c.loop-neighbour.colouring in
     let items = c.as_slice-neighbour-items.result.now in
     let room : n * n ≤ MAX_POINTS = search rules in
-    let all : take c.loop-neighbour.neighbour-index items ≡ items = take_all c.loop-neighbour.neighbour-index items c.loop-neighbour-test.false in
-    let those : map (number_of n) (take c.loop-neighbour.neighbour-index items) ≡ neighbours n c.args.number =
-    ap (map (number_of n)) (all ∙ c.as_slice-neighbour-items.ensures.value)
-    ∙ subst (λ (m : ℕ). map (number_of m) c.neighbours-neighbours.result.items ≡ neighbours m c.args.number) c.size-size.ensures.value (c.neighbours-neighbours.ensures.exact ∙ ap (neighbours s) c.point_at.ensures.number_back) in
+    let those : map (number_of n) (take c.loop-neighbour.neighbour-index items) ≡ neighbours n c.args.number = all_beside c.point_at.result c.size-size.ensures.value c.neighbours-neighbours.ensures.exact c.point_at.ensures.number_back c.as_slice-neighbour-items.ensures.value c.loop-neighbour.neighbour-index c.loop-neighbour-test.false in
     captured_end n first now c.args.heads.now c.loop-neighbour.heads c.args.next.now c.loop-neighbour.counts c.args.colour c.loop-neighbour.removed c.args.number room (c.size.ensures.colouring.full ∙ ap (λ (m : ℕ). m * m) c.loop-neighbour.invariant.side) c.requires.beside
     (subst (CapturedSoFar n first now c.args.heads.now c.loop-neighbour.heads c.args.next.now c.loop-neighbour.counts c.args.colour c.loop-neighbour.removed) those c.loop-neighbour.invariant.so_far)

@@ -1,5 +1,5 @@
-use Rattle.go_chains.proofs.Common.{◌≡◌, inl, inr, true, map, take, slice_index, sym, ◌∙◌, ap, subst, take_all, neighbours, number_of, neighbours_member, IsIn, Meet}
-use Rattle.go_chains.proofs.Beside.{in_more}
+use Rattle.go_chains.proofs.Common.{◌≡◌, inl, inr, true, map, take, slice_index, refl, sym, ◌∙◌, ap, subst, neighbours, number_of, neighbours_member, IsIn, Meet}
+use Rattle.go_chains.proofs.Beside.{in_more, all_beside}
 use Rattle.go_chains.proofs.Counts.{member_in}
 use Rattle.go_chains.proofs.cut_point.meet_at.Goals as goal
 use Rattle.go_chains.proofs.cut_point.meet_at.Goals.{else-heads-stone-via-then-heads-stone+else-not-meet, else-heads-stone-via-else-heads-stone}
@@ -24,7 +24,5 @@ returns c = λ yes a adj own.
     let n = c.args.size in
     let p = c.args.number in
     let items = c.as_slice-neighbour-items.result.now in
-    let all : take c.loop-neighbour.neighbour-index items ≡ items = take_all c.loop-neighbour.neighbour-index items c.loop-neighbour-test.false in
-    let those : map (number_of n) (take c.loop-neighbour.neighbour-index items) ≡ neighbours n p =
-    ap (map (number_of n)) (all ∙ c.as_slice-neighbour-items.ensures.value) ∙ c.neighbours-neighbours.ensures.exact ∙ ap (neighbours n) c.point_at.ensures.number_back in
+    let those : map (number_of n) (take c.loop-neighbour.neighbour-index items) ≡ neighbours n p = all_beside c.point_at.result refl c.neighbours-neighbours.ensures.exact c.point_at.ensures.number_back c.as_slice-neighbour-items.ensures.value c.loop-neighbour.neighbour-index c.loop-neighbour-test.false in
     c.loop-neighbour.invariant a (subst (IsIn a) (sym those) (member_in a (neighbours n p) (neighbours_member n p a adj))) own

@@ -1,7 +1,7 @@
-use Rattle.go_chains.proofs.Common.{◌≡◌, ℕ, Bool, List, cond, eq-eqb, length, map, take, slice_index, sym, ◌∙◌, ap, arith, length-map, take_all, neighbours, number_of, total}
+use Rattle.go_chains.proofs.Common.{◌≡◌, ℕ, Bool, cond, eq-eqb, length, map, take, slice_index, refl, sym, ◌∙◌, ap, arith, neighbours, number_of, total}
 use Rattle.go_chains.proofs.Counts.{is_head, touches_is, neighbours_most}
 use Rattle.go_chains.proofs.Giving.{few}
-use Rattle.go_chains.proofs.Beside.{total_more}
+use Rattle.go_chains.proofs.Beside.{total_more, as_many, all_beside}
 use Rattle.go_chains.proofs.Merging.{off}
 use Rattle.go_chains.proofs.liberties.shared.Goals as goal
 use Rattle.go_chains.proofs.liberties.shared.Goals.{then-heads-number, else-heads-number}
@@ -11,8 +11,7 @@ overflow_add-found c =
     let n = c.args.size in
     let items = c.as_slice-neighbour-items.result.now in
     let less = few c.args.heads.now (number_of n) items c.loop-neighbour.neighbour-index c.neighbour-item.result c.loop-neighbour-test.true c.neighbour-item.is c.args.head in
-    let long : length items ≡ length (neighbours n c.args.number) =
-    sym (length-map items (number_of n)) ∙ ap (λ (l : List ℕ). length l) (ap (map (number_of n)) c.as_slice-neighbour-items.ensures.value ∙ c.neighbours-neighbours.ensures.exact ∙ ap (neighbours n) c.point_at.ensures.number_back) in
+    let long : length items ≡ length (neighbours n c.args.number) = as_many c.point_at.result refl c.neighbours-neighbours.ensures.exact c.point_at.ensures.number_back c.as_slice-neighbour-items.ensures.value in
     let most = neighbours_most n c.args.number in
     let within = c.loop-neighbour-test.true in
     omega (arith, c.loop-neighbour.invariant, less, long, most, within, c.requires.room)
@@ -36,7 +35,5 @@ pub returns : goal.returns
 returns c =
     let n = c.args.size in
     let items = c.as_slice-neighbour-items.result.now in
-    let all : take c.loop-neighbour.neighbour-index items ≡ items = take_all c.loop-neighbour.neighbour-index items c.loop-neighbour-test.false in
-    let those : map (number_of n) (take c.loop-neighbour.neighbour-index items) ≡ neighbours n c.args.number =
-    ap (map (number_of n)) (all ∙ c.as_slice-neighbour-items.ensures.value) ∙ c.neighbours-neighbours.ensures.exact ∙ ap (neighbours n) c.point_at.ensures.number_back in
+    let those : map (number_of n) (take c.loop-neighbour.neighbour-index items) ≡ neighbours n c.args.number = all_beside c.point_at.result refl c.neighbours-neighbours.ensures.exact c.point_at.ensures.number_back c.as_slice-neighbour-items.ensures.value c.loop-neighbour.neighbour-index c.loop-neighbour-test.false in
     c.loop-neighbour.invariant ∙ ap (total (is_head c.args.heads.now c.args.head)) those ∙ touches_is n c.args.heads.now c.args.head c.args.number

@@ -1,5 +1,5 @@
-use Rattle.go_chains.proofs.Common.{rules, ◌≡◌, ◌+◌, ◌*◌, ◌≤◌, ◌⊎◌, inl, inr, ℕ, true, List, map, take, sym, ◌∙◌, ap, subst, take_all, get_or-set_same, Cell, Empty, Stone, MAX_POINTS, adjacent, neighbours, cell_at, side_of, number_of, IsIn, HasCircles, HasCounts, KeepsTogether, KeepsOthers, nowhere}
-use Rattle.go_chains.proofs.Beside.{in_more, item_beside}
+use Rattle.go_chains.proofs.Common.{rules, ◌≡◌, ◌+◌, ◌*◌, ◌≤◌, ◌⊎◌, inl, inr, ℕ, true, List, map, take, refl, sym, ◌∙◌, ap, subst, get_or-set_same, Cell, Empty, Stone, MAX_POINTS, adjacent, neighbours, cell_at, side_of, number_of, IsIn, HasCircles, HasCounts, KeepsTogether, KeepsOthers, nowhere}
+use Rattle.go_chains.proofs.Beside.{in_more, all_beside, is_beside}
 use Rattle.go_chains.proofs.Filling.{FilledSoFar, filled_start, filled_step, filled_end}
 use Rattle.go_chains.proofs.stones.fill.Goals as goal
 
@@ -14,11 +14,9 @@ loop-neighbour-init c =
 pub join-requires-clause-beside : goal.join-requires-clause-beside
 join-requires-clause-beside c =
     let s = c.size-size.result in
-    let items = c.as_slice-neighbour-items.result.now in
-    let those : map (number_of s) items ≡ neighbours s c.args.number = ap (map (number_of s)) c.as_slice-neighbour-items.ensures.value ∙ c.neighbours-neighbours.ensures.exact ∙ ap (neighbours s) c.point_at.ensures.number_back in
     subst (λ (m : ℕ). adjacent m c.args.number c.number.result ≡ true) c.size-size.ensures.value
     (subst (λ (q : ℕ). adjacent s c.args.number q ≡ true) (sym c.number.ensures.value)
-    (item_beside (number_of s) items c.loop-neighbour.neighbour-index c.neighbour-item.result c.loop-neighbour-test.true c.neighbour-item.is s c.args.number those))
+    (is_beside c.point_at.result refl c.neighbours-neighbours.ensures.exact c.point_at.ensures.number_back c.as_slice-neighbour-items.ensures.value c.loop-neighbour.neighbour-index c.neighbour-item.result c.loop-neighbour-test.true c.neighbour-item.is))
 
 pub loop-neighbour-preserved : goal.loop-neighbour-preserved
 loop-neighbour-preserved c =
@@ -42,14 +40,9 @@ pub returns-clause-settled : goal.returns-clause-settled
 returns-clause-settled c =
     let cells = c.args.colouring.now in
     let n = side_of cells in
-    let s = c.size-size.result in
     let after = c.place.new.colouring in
     let items = c.as_slice-neighbour-items.result.now in
-    let same : s ≡ n = c.size-size.ensures.value ∙ c.place.ensures.size in
-    let all : take c.loop-neighbour.neighbour-index items ≡ items = take_all c.loop-neighbour.neighbour-index items c.loop-neighbour-test.false in
-    let those : map (number_of n) (take c.loop-neighbour.neighbour-index items) ≡ neighbours n c.args.number =
-    ap (map (number_of n)) (all ∙ c.as_slice-neighbour-items.ensures.value)
-    ∙ subst (λ (m : ℕ). map (number_of m) c.neighbours-neighbours.result.items ≡ neighbours m c.args.number) same (c.neighbours-neighbours.ensures.exact ∙ ap (neighbours s) c.point_at.ensures.number_back) in
+    let those : map (number_of n) (take c.loop-neighbour.neighbour-index items) ≡ neighbours n c.args.number = all_beside c.point_at.result (c.size-size.ensures.value ∙ c.place.ensures.size) c.neighbours-neighbours.ensures.exact c.point_at.ensures.number_back c.as_slice-neighbour-items.ensures.value c.loop-neighbour.neighbour-index c.loop-neighbour-test.false in
     let whole = c.size-size.ensures.colouring.full in
     let here : cell_at after c.args.number ≡ Stone c.args.colour = ap (λ (l : List Cell). cell_at l c.args.number) c.place.ensures.cells ∙ get_or-set_same cells c.args.number (Stone c.args.colour) Empty (search rules) in
     filled_end n after c.args.heads.now c.loop-neighbour.heads c.loop-neighbour.next c.loop-neighbour.counts c.args.colour c.args.number here

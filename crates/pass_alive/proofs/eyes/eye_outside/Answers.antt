@@ -1,5 +1,5 @@
 use Rattle.pass_alive.proofs.Common.{rules, sym, ◌∙◌, ap, side_of, holds_place, these, areas_in, IsFreePlace, IsNoEyePlace}
-use Rattle.pass_alive.proofs.Regions.{place_back}
+use Rattle.go_turns.proofs.Openings.{place_back}
 use Rattle.pass_alive.proofs.Members.{but_fact, but_more}
 use Rattle.pass_alive.proofs.Spreading.{no_eyes_first}
 use Rattle.pass_alive.proofs.Tests.{eye_found}

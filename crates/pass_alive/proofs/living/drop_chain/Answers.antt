@@ -1,8 +1,9 @@
 use Rattle.pass_alive.proofs.Common.{◌≡◌, IsTrue, map, sym, ◌∙◌, ap, side_of, number_of, place_of, holds_place, these, number_on, areas_in}
-use Rattle.pass_alive.proofs.Regions.{place_back, number_low}
+use Rattle.go_turns.proofs.Openings.{place_back}
 use Rattle.pass_alive.proofs.Sweeps.{judged_before, judged_safe, judged_unsafe}
 use Rattle.pass_alive.proofs.living.drop_chain.Goals as goal
 use Rattle.pass_alive.proofs.living.drop_chain.Goals.{then-not-has-via-then-not-has, then-not-has-via-else-not-has+then-has}
+use Rattle.go_points.proofs.Sides.{number_below}
 
 pub returns-then-not-has : goal.returns-then-not-has
 returns-then-not-has c =
@@ -37,5 +38,5 @@ returns c =
     let back : place_of n i ≡ c.args.point = place_back n c.args.point c.requires.on in
     let there : IsTrue (these n stones i) = ap (holds_place stones) back ∙ sym c.has.ensures ∙ c.if-not-has.false in
     judged_unsafe n (map (number_on n) c.args.region.now) cells (areas_in c.args.colour c.args.board.now) i stones c.args.marked.now chain c.in-Some.ensures.some c.take_out.new.set
-    c.take_out.ensures (number_low n c.args.point c.requires.on) there
+    c.take_out.ensures (number_below n c.args.point c.requires.on) there
     (λ may. cc (c.is_safe.ensures.complete may, c.if-is_safe.false))

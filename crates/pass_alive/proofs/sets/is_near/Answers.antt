@@ -1,5 +1,5 @@
 use Rattle.pass_alive.proofs.Common.{◌≡◌, true, false, List, map, take, refl, sym, ◌∙◌, ap, subst, All, list_any, take_all, adjacent, neighbours, Place, IsOn, number_of, holds_place, item_beside, these}
-use Rattle.pass_alive.proofs.Regions.{place_back}
+use Rattle.go_turns.proofs.Openings.{place_back}
 use Rattle.pass_alive.proofs.Tests.{near_yes, near_no}
 use Rattle.pass_alive.proofs.sets.is_near.Goals as goal
 

@@ -1,5 +1,5 @@
 use Rattle.pass_alive.proofs.Common.{◌≡◌, ℕ, IsTrue, refl, sym, ◌∙◌, ap, Empty, cell_at, side_of, number_of, holds_place, same_cell_eq, eq_same_cell, these}
-use Rattle.pass_alive.proofs.Regions.{place_back}
+use Rattle.go_turns.proofs.Openings.{place_back}
 use Rattle.pass_alive.proofs.Members.{beside_more, beside_all, beside_those, beside_item}
 use Rattle.pass_alive.proofs.Tests.{empty_as}
 use Rattle.pass_alive.proofs.sides.is_beside_free.Goals as goal

@@ -1,6 +1,6 @@
 use Rattle.pass_alive.proofs.Common.{inl, inr, ◌≡◌, ◌≢◌, refl, sym, ◌∙◌, ap, Cell, Stone, same_cell, cell_at, side_of, number_of, holds_place, same_cell_eq, eq_same_cell, IsPoint, HasMet}
 use Rattle.std.proofs.Common.{subst₂}
-use Rattle.pass_alive.proofs.Regions.{place_back}
+use Rattle.go_turns.proofs.Openings.{place_back}
 use Rattle.pass_alive.proofs.Spreading.{met_one, with_held}
 use Rattle.pass_alive.proofs.spread.meet.Goals as goal
 

@@ -1,6 +1,6 @@
 -- The step that is kept, and the colouring that joins the history.
-use Rattle.go_turns.proofs.Common.{◌≡◌, ◌*◌, ◌<◌, ◌++◌, [], ◌∷◌, List, map, reverse, take, true, Some, None, Ok, Err, sym, ◌∙◌, ap, subst, arith, take_at, Cell, Empty, side_of, same_cell, cell_at, first_without_liberty, IsOn, number_of, after_move, move, number_below, Step, place_in, Moment, GameRecord, colouring_of, play_of, Did, CanStand, IsAt, IsNotAdded}
-use Rattle.go_turns.proofs.Steps.{can_stand, at_end, fit_longer, fit_push, earlier_split}
+use Rattle.go_turns.proofs.Common.{◌≡◌, ◌*◌, ◌<◌, ◌++◌, [], ◌∷◌, List, map, reverse, take, true, Some, None, Ok, Err, sym, ◌∙◌, ap, subst, arith, take_at, Cell, Empty, side_of, same_cell, cell_at, first_without_liberty, IsOn, number_of, after_move, move, number_below, Step, place_in, Moment, GameRecord, colouring_of, play_of, Did, IsAt, IsNotAdded}
+use Rattle.go_turns.proofs.Steps.{at_end, fit_longer, fit_kept, earlier_split}
 use Rattle.go_turns.proofs.Turns.{did_move, did_not_move, found_at, was_empty, was_moved}
 use Rattle.go_turns.proofs.record.Record.move_at.Given.{Over}
 use Rattle.go_turns.proofs.record.Record.move_at.Goals as goal
@@ -11,14 +11,10 @@ invariant_of-self-2 g c =
     let old = g.B.Board.content c.self.inside.board in
     let after = c.colouring-after.result in
     let steps = c.self.inside.steps.items in
-    let occurred = λ (s : Step). s.occurred in
-    let place = λ (s : Step). s.place in
-    let passes = λ (s : Step). s.passes in
     let step : Step = record { place = c.self.inside.place; occurred = c.len.result; passes = c.self.inside.passes; last_colour = c.self.inside.last_colour } in
-    let stands : CanStand (side_of old) whole c.self.inside.place = can_stand whole c.self.inside.place old c.self.invariant.here c.self.invariant.liberties in
-    let fit = fit_push occurred place passes (side_of old) whole steps step c.len.ensures.value stands c.self.invariant.few c.self.invariant.steps in
+    let fit = fit_kept whole old steps step c.len.ensures.value c.self.invariant.here c.self.invariant.liberties c.self.invariant.few c.self.invariant.steps in
     record {
-      steps = rw (c.play.ensures.size, c.in_default.ensures.history, c.in_default.ensures.steps) (fit_longer occurred place passes (side_of old) whole (after ∷ []) (steps ++ step ∷ []) fit);
+      steps = rw (c.play.ensures.size, c.in_default.ensures.history, c.in_default.ensures.steps) (fit_longer _ _ _ (side_of old) whole (after ∷ []) (steps ++ step ∷ []) fit);
       here = rw (c.in_default.ensures.history, c.len.ensures.value, ← c.colouring-after.ensures.value) (at_end whole after);
       liberties = c.colouring-after.ensures.liberties;
       few = omega arith;

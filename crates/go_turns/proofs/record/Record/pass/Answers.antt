@@ -1,7 +1,7 @@
 -- The step that is kept.
-use Rattle.go_turns.proofs.Common.{◌≡◌, ◌++◌, [], ◌∷◌, length, sym, ◌∙◌, ap, arith, side_of, Step, CanStand}
+use Rattle.go_turns.proofs.Common.{◌≡◌, ◌++◌, [], ◌∷◌, length, sym, ◌∙◌, ap, arith, Step}
 use Rattle.std.proofs.lemmas.List.{length-append}
-use Rattle.go_turns.proofs.Steps.{can_stand, fit_push}
+use Rattle.go_turns.proofs.Steps.{fit_kept}
 use Rattle.go_turns.proofs.Turns.{was_pushed}
 use Rattle.go_turns.proofs.record.Record.pass.Goals as goal
 
@@ -10,12 +10,8 @@ invariant_of-self-2 g c =
     let whole = g.S.Seen.content c.self.inside.seen in
     let old = g.B.Board.content c.self.inside.board in
     let steps = c.self.inside.steps.items in
-    let occurred = λ (s : Step). s.occurred in
-    let place = λ (s : Step). s.place in
-    let passes = λ (s : Step). s.passes in
     let step : Step = record { place = c.self.inside.place; occurred = c.len.result; passes = c.self.inside.passes; last_colour = c.self.inside.last_colour } in
-    let stands : CanStand (side_of old) whole c.self.inside.place = can_stand whole c.self.inside.place old c.self.invariant.here c.self.invariant.liberties in
-    let fit = fit_push occurred place passes (side_of old) whole steps step c.len.ensures.value stands c.self.invariant.few c.self.invariant.steps in
+    let fit = fit_kept whole old steps step c.len.ensures.value c.self.invariant.here c.self.invariant.liberties c.self.invariant.few c.self.invariant.steps in
     let pushed : c.push.new.self.items ≡ steps ++ step ∷ [] = was_pushed c.push.result c.push.new.self.items (steps ++ step ∷ []) steps (sym c.is_err.ensures.value ∙ c.if-is_err.false) c.push.ensures.items in
     record {
       steps = rw pushed fit;

@@ -1,6 +1,6 @@
 -- The step that is kept, and the colouring that has its place in the history.
-use Rattle.go_turns.proofs.Common.{◌≡◌, ℕ, ◌++◌, [], ◌∷◌, List, map, reverse, take, Some, None, Ok, Err, sym, ◌∙◌, ap, subst, arith, Cell, side_of, Place, IsOn, number_of, first_without_liberty, NoLiberty, Step, place_in, Moment, GameRecord, set_up, Did, CanStand}
-use Rattle.go_turns.proofs.Steps.{can_stand, fit_push, earlier_split}
+use Rattle.go_turns.proofs.Common.{◌≡◌, ℕ, ◌++◌, [], ◌∷◌, List, map, reverse, take, Some, None, Ok, Err, sym, ◌∙◌, ap, subst, arith, Cell, side_of, Place, IsOn, number_of, first_without_liberty, NoLiberty, Step, place_in, Moment, GameRecord, set_up, Did}
+use Rattle.go_turns.proofs.Steps.{fit_kept, earlier_split}
 use Rattle.go_turns.proofs.Setups.{joined_at, joined_front, joined_fit, did_smother, did_set}
 use Rattle.go_turns.proofs.record.Record.set_up.Goals as goal
 
@@ -11,15 +11,11 @@ invariant_of-self-2 g c =
     let old = g.B.Board.content c.self.inside.board in
     let after : List Cell = c.args.colouring.now in
     let steps = c.self.inside.steps.items in
-    let occurred = λ (s : Step). s.occurred in
-    let place = λ (s : Step). s.place in
-    let passes = λ (s : Step). s.passes in
     let step : Step = record { place = c.self.inside.place; occurred = c.len.result; passes = c.self.inside.passes; last_colour = c.self.inside.last_colour } in
-    let stands : CanStand (side_of old) whole c.self.inside.place = can_stand whole c.self.inside.place old c.self.invariant.here c.self.invariant.liberties in
-    let fit = fit_push occurred place passes (side_of old) whole steps step c.len.ensures.value stands c.self.invariant.few c.self.invariant.steps in
+    let fit = fit_kept whole old steps step c.len.ensures.value c.self.invariant.here c.self.invariant.liberties c.self.invariant.few c.self.invariant.steps in
     let size : side_of (g.B.Board.content c.assign.new.self) ≡ side_of old = ap side_of c.in_default.ensures.ok ∙ c.requires ∙ sym (ap (λ (r : GameRecord). r.size) c.self.view_is) in
     record {
-      steps = rw (size, c.in-Ok.ensures.steps) (joined_fit whole now after c.in-Ok.place occurred place passes (side_of old) (steps ++ step ∷ []) (place_in whole after) c.in-Ok.ensures.history fit);
+      steps = rw (size, c.in-Ok.ensures.steps) (joined_fit whole now after c.in-Ok.place _ _ _ (side_of old) (steps ++ step ∷ []) (place_in whole after) c.in-Ok.ensures.history fit);
       here = rw c.in_default.ensures.ok (joined_at whole now after c.in-Ok.place c.in-Ok.ensures.history);
       liberties = rw c.in_default.ensures.ok c.in_default.ensures.liberties;
       few = omega arith;

@@ -15,7 +15,7 @@ use crate::verdict::{Judgement, found, judge};
 use crate::words::{Form, Request, read_request};
 use go_points::to_sgf;
 use pn_search::Budget;
-use record_tools::{NoStone, marked_problem, stone_problem};
+use record_marks::{NoStone, marked_problem, stone_problem};
 use sgf_text::{Tree, read_tree, write_bytes};
 use std::alloc::{AllocError, Global};
 use std::convert::AsStr;

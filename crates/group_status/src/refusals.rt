@@ -1,6 +1,6 @@
 //! Why nothing is asked, in one line that names the node and the point.
 
-use record_tools::{NoStone, default_node, last_node};
+use record_marks::{NoStone, default_node, last_node};
 use sgf_text::{SgfFault, Tree};
 use std::alloc::{AllocError, Global};
 use std::convert::AsStr;

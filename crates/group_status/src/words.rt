@@ -4,7 +4,7 @@ use crate::claims::Length;
 use crate::side::Side;
 use clap::builder::ValueParser;
 use clap::{Arg, ArgAction, ArgMatches};
-use record_tools::node_argument;
+use record_marks::{GREATEST_NUMBER, node_argument};
 use std::alloc::{AllocError, Global};
 use std::convert::AsStr;
 use tool_parts::{NoRequest, no_request};
@@ -18,9 +18,6 @@ const MOST_STEPS: u64 = 10_000_000;
 const STEPS: u64 = 100_000;
 
 const STEPS_FOR_ALL: u64 = 20_000;
-
-/// The greatest number of a node: more than a record may have.
-const MOST: u64 = 1_000_000;
 
 /// The form in which the answer is written.
 #[derive(Clone, Copy, Debug, PartialEq, Eq)]
@@ -142,7 +139,7 @@ fn flag(given: &ArgMatches<'_>, id: &str) -> bool {
 /// The number of an argument.
 fn number(given: &ArgMatches<'_>, id: &str) -> Option<usize> {
     match given.get_one::<u64>(id) {
-        Some(number) if number <= MOST => Some(number as usize),
+        Some(number) if number <= GREATEST_NUMBER => Some(number as usize),
         _ => None,
     }
 }

@@ -2,11 +2,11 @@
 use Rattle.std.specs.Prelude.{ℕ, Bool, true, false, ◌&&◌, nat_le, Option, Some, None}
 use Rattle.go_points.specs.declared.Colour.{Colour}
 use Rattle.go_points.specs.Grid.{opponent_of}
-use Rattle.group_status.specs.declared.side.Side.{Side}
-use Rattle.group_status.specs.declared.side.Side.TheVariants.{Attacker, Defender}
-use Rattle.group_status.specs.declared.side.Word.{Word}
-use Rattle.group_status.specs.declared.side.Word.TheVariants.{Sure, Likely, Hint, Leaning, Unknown}
-use Rattle.group_status.specs.declared.side.Finding.{Finding}
+use Rattle.group_words.specs.declared.side.Side.{Side}
+use Rattle.group_words.specs.declared.side.Side.TheVariants.{Attacker, Defender}
+use Rattle.group_words.specs.declared.side.Word.{Word}
+use Rattle.group_words.specs.declared.side.Word.TheVariants.{Sure, Likely, Hint, Leaning, Unknown}
+use Rattle.group_words.specs.declared.side.Finding.{Finding}
 
 -- the colour of a side, if this is the defender's
 abbrev pub colour_of : Side → Colour → Colour
@@ -34,3 +34,10 @@ rank Unknown = 4
 -- Does a finding say that this side wins, at least as surely as the word says?
 abbrev pub says : Finding → Side → Word → Bool
 says f x w = is_won_by x f.winner && nat_le (rank f.word) (rank w)
+
+-- the finding of this winner, by only one procedure; and the finding of nothing
+abbrev pub finding_of : Side → Word → Finding
+finding_of x w = record { winner = Some x; word = w; since = 0; largest = 0; is_split = false }
+
+abbrev pub nothing : Finding
+nothing = record { winner = None; word = Unknown; since = 0; largest = 0; is_split = false }

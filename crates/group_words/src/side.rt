@@ -1,21 +1,20 @@
 //! The two sides of a question, and how far an answer is to be trusted.
 
 ghost use Rattle.std.specs.Prelude.{◌≡◌};
-ghost use Rattle.group_status.specs.Sides.{colour_of, same_side, is_won_by, rank, says};
-ghost use Rattle.group_status.specs.First.{nothing, finding_of};
-ghost use Rattle.group_status.specs.declared.side.Word.TheVariants.{Sure};
+ghost use Rattle.group_words.specs.Sides.{colour_of, same_side, is_won_by, rank, says, nothing, finding_of};
+ghost use Rattle.group_words.specs.declared.side.Word.TheVariants.{Sure};
 
 use go_points::Colour;
 
 /// The side that wants to take the target, and the side that wants to keep it.
 #[derive(Clone, Copy, Debug, PartialEq, Eq)]
-pub(crate) enum Side {
+pub enum Side {
     Attacker,
     Defender,
 }
 
 impl Side {
-    pub(crate) fn colour(self, defender: Colour) -> Colour
+    pub fn colour(self, defender: Colour) -> Colour
         ensures { result ≡ colour_of self defender }
     {
         match self {
@@ -25,7 +24,7 @@ impl Side {
     }
 
     /// The side of this colour.
-    pub(crate) fn of(colour: Colour, defender: Colour) -> Side
+    pub fn of(colour: Colour, defender: Colour) -> Side
         ensures { colour_of result defender ≡ colour }
     {
         match (colour, defender) {
@@ -37,7 +36,7 @@ impl Side {
     }
 
     /// Whether they are the same side.
-    pub(crate) fn is(self, other: Side) -> bool
+    pub fn is(self, other: Side) -> bool
         ensures { result ≡ same_side self other }
     {
         match (self, other) {
@@ -50,7 +49,7 @@ impl Side {
 }
 
 /// Whether the winner is this side.
-pub(crate) fn is_won_by(side: Side, winner: Option<Side>) -> bool
+pub fn is_won_by(side: Side, winner: Option<Side>) -> bool
     ensures { result ≡ is_won_by side winner }
 {
     match winner {
@@ -61,7 +60,7 @@ pub(crate) fn is_won_by(side: Side, winner: Option<Side>) -> bool
 
 /// How far an answer is to be trusted, the most first.
 #[derive(Clone, Copy, Debug, PartialEq, Eq)]
-pub(crate) enum Word {
+pub enum Word {
     Sure,
     Likely,
     Hint,
@@ -70,7 +69,7 @@ pub(crate) enum Word {
 }
 
 impl Word {
-    pub(crate) fn rank(self) -> u32
+    pub fn rank(self) -> u32
         ensures { result ≡ rank self }
     {
         match self {
@@ -82,7 +81,7 @@ impl Word {
         }
     }
 
-    pub(crate) fn name(self) -> &'static str {
+    pub fn name(self) -> &'static str {
         match self {
             Word::Sure => "sure",
             Word::Likely => "likely",
@@ -95,20 +94,20 @@ impl Word {
 
 /// What is found if one side moves first: who wins, and how far that is to be trusted.
 #[derive(Clone, Copy, Debug, PartialEq, Eq)]
-pub(crate) struct Finding {
-    pub(crate) winner: Option<Side>,
-    pub(crate) word: Word,
+pub struct Finding {
+    pub winner: Option<Side>,
+    pub word: Word,
     /// The least size from which on that winner wins, by the second procedure; 0 if there is none.
-    pub(crate) since: usize,
+    pub since: usize,
     /// The largest size that was decided there; more than any size if everything that can be reached was in the region.
-    pub(crate) largest: usize,
+    pub largest: usize,
     /// Whether both procedures decide, but for different winners.
-    pub(crate) is_split: bool,
+    pub is_split: bool,
 }
 
 impl Finding {
     /// Nothing is found.
-    pub(crate) fn none() -> Finding
+    pub fn none() -> Finding
         ensures { result ≡ nothing }
     {
         Finding {
@@ -121,7 +120,7 @@ impl Finding {
     }
 
     /// The finding of this winner, by only one procedure.
-    pub(crate) fn of(winner: Side, word: Word) -> Finding
+    pub fn of(winner: Side, word: Word) -> Finding
         ensures { result ≡ finding_of winner word }
     {
         Finding {
@@ -134,13 +133,13 @@ impl Finding {
     }
 
     /// Whether this side wins, at least as surely as the word says.
-    pub(crate) fn says(&self, winner: Side, word: Word) -> bool
+    pub fn says(&self, winner: Side, word: Word) -> bool
         ensures { result ≡ says self.now winner word }
     {
         is_won_by(winner, self.winner) && self.word.rank() <= word.rank()
     }
 
-    pub(crate) fn is_sure_of(&self, winner: Side) -> bool
+    pub fn is_sure_of(&self, winner: Side) -> bool
         ensures { result ≡ says self.now winner Sure }
     {
         self.says(winner, Word::Sure)

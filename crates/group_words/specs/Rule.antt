@@ -1,14 +1,14 @@
 -- What two procedures say together, and what both first moves say about a group (this project's own).
 use Rattle.std.specs.Prelude.{◌≡◌, Bool, false, not, ◌&&◌, ◌||◌, nat_lt, nat_eq, if◌then◌else◌, List, [], ◌∷◌, Option, Some, None, IsTrue}
-use Rattle.group_status.specs.declared.side.Side.{Side}
-use Rattle.group_status.specs.declared.side.Side.TheVariants.{Attacker, Defender}
-use Rattle.group_status.specs.declared.side.Word.{Word}
-use Rattle.group_status.specs.declared.side.Word.TheVariants.{Sure, Likely, Hint, Leaning, Unknown}
-use Rattle.group_status.specs.declared.side.Finding.{Finding}
-use Rattle.group_status.specs.declared.verdict.Fate.{Fate}
-use Rattle.group_status.specs.declared.verdict.Fate.TheVariants as fates
-use Rattle.group_status.specs.declared.verdict.Judgement.{Judgement}
-use Rattle.group_status.specs.Sides.{is_won_by, same_side, rank, says}
+use Rattle.group_words.specs.declared.side.Side.{Side}
+use Rattle.group_words.specs.declared.side.Side.TheVariants.{Attacker, Defender}
+use Rattle.group_words.specs.declared.side.Word.{Word}
+use Rattle.group_words.specs.declared.side.Word.TheVariants.{Sure, Likely, Hint, Leaning, Unknown}
+use Rattle.group_words.specs.declared.side.Finding.{Finding}
+use Rattle.group_words.specs.declared.rule.Fate.{Fate}
+use Rattle.group_words.specs.declared.rule.Fate.TheVariants as fates
+use Rattle.group_words.specs.declared.rule.Judgement.{Judgement}
+use Rattle.group_words.specs.Sides.{is_won_by, same_side, rank, says}
 
 -- The word for two findings of the same winner: sure if both are, likely if one is, a hint if none is; a leaning if one of them is
 -- only that.

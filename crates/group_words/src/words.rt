@@ -1,6 +1,5 @@
 //! The command line, read by `clap`.
 
-use crate::claims::Length;
 use crate::side::Side;
 use clap::builder::ValueParser;
 use clap::{Arg, ArgAction, ArgMatches};
@@ -19,9 +18,18 @@ const STEPS: u64 = 100_000;
 
 const STEPS_FOR_ALL: u64 = 20_000;
 
+/// Which claims are written.
+#[derive(Clone, Copy, Debug, PartialEq, Eq)]
+pub enum Length {
+    /// Short claims, by which the questions were decided.
+    Short,
+    /// Claims that play everything out, as `tsumego check` reads them.
+    Full,
+}
+
 /// The form in which the answer is written.
 #[derive(Clone, Copy, Debug, PartialEq, Eq)]
-pub(crate) enum Form {
+pub enum Form {
     /// Lines for a reader.
     Lines,
     /// JSON, with one object on each line.
@@ -34,30 +42,27 @@ pub(crate) enum Form {
 
 /// What the words ask for.
 #[derive(Drop)]
-pub(crate) struct Request {
+pub struct Request {
     /// The node of the main line.
-    pub(crate) node: Option<usize>,
+    pub node: Option<usize>,
     /// The stone; the one that the record's marks name if this is empty.
-    pub(crate) target: String,
+    pub target: String,
     /// The side that moves first, if only one is asked about.
-    pub(crate) first: Option<Side>,
+    pub first: Option<Side>,
     /// The greatest number of steps of the search for each question.
-    pub(crate) steps: u64,
-    pub(crate) is_quick: bool,
+    pub steps: u64,
+    pub is_quick: bool,
     /// Whether all groups of the position are asked about.
-    pub(crate) is_all: bool,
-    pub(crate) form: Form,
+    pub is_all: bool,
+    pub form: Form,
     /// Whether the past is ignored.
-    pub(crate) is_position_only: bool,
+    pub is_position_only: bool,
     /// Whether each question is reported on standard error when it has been asked.
-    pub(crate) is_told: bool,
+    pub is_told: bool,
 }
 
 /// What the words ask for. The first word is the program's name.
-pub(crate) fn read_request<'a, S: AsStr>(
-    alloc: Global,
-    words: &'a [S],
-) -> Result<Request, NoRequest> {
+pub fn read_request<'a, S: AsStr>(alloc: Global, words: &'a [S]) -> Result<Request, NoRequest> {
     let program = program(alloc)?;
     match program.try_get_matches_from(words) {
         Ok(matches) => chosen(alloc, &matches),

@@ -8,7 +8,7 @@ use tool_parts::{Output, refused};
 use tsumego_problem::{ProblemFault, board_size};
 
 /// Why no tree was read.
-pub(crate) fn no_tree(alloc: Global, fault: SgfFault) -> Result<Output, AllocError> {
+pub fn no_tree(alloc: Global, fault: SgfFault) -> Result<Output, AllocError> {
     if fault == SgfFault::Memory {
         return Err(AllocError);
     }
@@ -16,7 +16,7 @@ pub(crate) fn no_tree(alloc: Global, fault: SgfFault) -> Result<Output, AllocErr
 }
 
 /// The number of the node that is asked about.
-pub(crate) fn node_asked(tree: &Tree, node: Option<usize>) -> usize {
+pub fn node_asked(tree: &Tree, node: Option<usize>) -> usize {
     match node {
         Some(number) => number,
         None => default_node(tree),
@@ -24,12 +24,12 @@ pub(crate) fn node_asked(tree: &Tree, node: Option<usize>) -> usize {
 }
 
 /// The number of the node before two passes, the second of which is the node with this number.
-pub(crate) fn before_passes(node: usize) -> usize {
+pub fn before_passes(node: usize) -> usize {
     node.saturating_sub(2)
 }
 
 /// Why there is no stone of this name to ask about at this node. There is no name if all groups are asked about.
-pub(crate) fn no_stone(
+pub fn no_stone(
     alloc: Global,
     tree: &Tree,
     node: Option<usize>,
@@ -101,7 +101,7 @@ fn no_problem(
 }
 
 /// Why the marks of the record ask about no stone.
-pub(crate) fn no_marks(alloc: Global, none: NoStone) -> Result<Output, AllocError> {
+pub fn no_marks(alloc: Global, none: NoStone) -> Result<Output, AllocError> {
     match none {
         NoStone::Memory => Err(AllocError),
         NoStone::NoProblem(ProblemFault::NoProblemNode) => refused(format!(in alloc;

@@ -1,23 +1,16 @@
 -- What the first procedure makes of its answers (this project's own).
-use Rattle.std.specs.Prelude.{Bool, false, ◌&&◌, ◌||◌, nat_lt, nat_eq, if◌then◌else◌, Option, Some, None, is_some, is_none}
-use Rattle.group_status.specs.declared.side.Side.{Side}
-use Rattle.group_status.specs.declared.side.Side.TheVariants.{Attacker, Defender}
-use Rattle.group_status.specs.declared.side.Word.{Word}
-use Rattle.group_status.specs.declared.side.Word.TheVariants.{Sure, Likely, Unknown}
-use Rattle.group_status.specs.declared.side.Finding.{Finding}
+use Rattle.std.specs.Prelude.{Bool, ◌&&◌, ◌||◌, nat_lt, nat_eq, if◌then◌else◌, Option, Some, None, is_some, is_none}
+use Rattle.group_words.specs.declared.side.Side.{Side}
+use Rattle.group_words.specs.declared.side.Side.TheVariants.{Attacker, Defender}
+use Rattle.group_words.specs.declared.side.Word.{Word}
+use Rattle.group_words.specs.declared.side.Word.TheVariants.{Sure, Likely}
+use Rattle.group_words.specs.declared.side.Finding.{Finding}
 use Rattle.group_status.specs.declared.first_procedure.Course.{Course}
-use Rattle.group_status.specs.Sides.{is_won_by}
+use Rattle.group_words.specs.Sides.{is_won_by, finding_of, nothing}
 
 -- Who surely wins at a size: the attacker if it wins though weak walls fall, the defender if it wins though it is shut in.
 abbrev pub sure_winner : Option Side → Option Side → Option Side
 sure_winner kind hard = (if is_won_by Attacker kind then Some Attacker else (if is_won_by Defender hard then Some Defender else None))
-
--- the finding of this winner, by only one procedure; and the finding of nothing
-abbrev pub finding_of : Side → Word → Finding
-finding_of x w = record { winner = Some x; word = w; since = 0; largest = 0; is_split = false }
-
-abbrev pub nothing : Finding
-nothing = record { winner = None; word = Unknown; since = 0; largest = 0; is_split = false }
 
 -- Is the second winner `None`, or the same as the first?
 abbrev pub same_winner : Option Side → Option Side → Bool

@@ -1,4 +1,2 @@
-pub mod Sides
 pub mod First
-pub mod Rule
 pub mod Shape

@@ -6,6 +6,7 @@ use crate::lines::{colour_name, push_point};
 use crate::table::Table;
 use cert_check::Checked;
 use go_points::Colour;
+use group_words::Length;
 use pn_search::{Audience, Budget, Verdict, solve};
 use proof_cert::{CertWrite, Certificate, write_cert, write_short};
 use sgf_text::{WriteFault, write_bytes, write_tree};
@@ -13,15 +14,6 @@ use short_proofs::{Proved, prove};
 use std::alloc::{AllocError, Global};
 use target_game::Problem;
 use tsumego_problem::problem_tree;
-
-/// Which claims are written.
-#[derive(Clone, Copy, Debug, PartialEq, Eq)]
-pub(crate) enum Length {
-    /// Short claims, by which the questions were decided.
-    Short,
-    /// Claims that play everything out, as `tsumego check` reads them.
-    Full,
-}
 
 /// The lines, and after them each question that was decided: a line that says which, its record, and its claim. A question for
 /// which the steps find no full claim is left out if those are asked for.

@@ -4,12 +4,12 @@
 //! neither is so, the natural walls decide, if they say the same at the last two sizes.
 
 ghost use Rattle.std.specs.Prelude.{◌≡◌};
-ghost use Rattle.group_status.specs.Sides.{is_won_by};
+ghost use Rattle.group_words.specs.Sides.{is_won_by};
 ghost use Rattle.group_status.specs.First.{sure_winner, same_winner, is_sure, is_likely, first_finding, found_by};
 
 use crate::group::Group;
-use crate::side::{Finding, Side, Word, is_won_by};
 use crate::table::{Table, question};
+use group_words::{Finding, Side, Word, is_won_by};
 use regions::Walls;
 use std::alloc::{AllocError, Global};
 use std::io::Write;

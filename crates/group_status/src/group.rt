@@ -1,7 +1,7 @@
 //! The group that is asked about.
 
-use crate::side::Side;
-use go_points::{Cell, Colour, Colouring, Point, PointSet, Size};
+use go_points::{Colour, Point, PointSet};
+use group_words::Side;
 use regions::{Order, Position, Supposed};
 use std::alloc::{AllocError, Global};
 use target_game::Problem;

@@ -2,10 +2,9 @@
 
 use crate::group::Group;
 use crate::lines::{push_point, push_turn_name};
-use crate::side::{Finding, Side, Word};
 use crate::table::{Row, Table};
-use crate::verdict::{Fate, Judgement};
 use go_points::{Colour, PointSet, Size};
+use group_words::{Fate, Finding, Judgement, Side, Word};
 use pn_search::Cause;
 use std::alloc::{AllocError, Global};
 

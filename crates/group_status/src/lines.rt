@@ -1,10 +1,9 @@
 //! What is found, as lines for a reader.
 
 use crate::group::Group;
-use crate::side::{Finding, Side, Word};
 use crate::table::{Row, Table};
-use crate::verdict::{Fate, Judgement};
 use go_points::{Colour, Point, Size, Turn, to_gtp};
+use group_words::{Fate, Finding, Judgement, Side, Word};
 use regions::Walls;
 use std::alloc::{AllocError, Global};
 

@@ -12,14 +12,11 @@ mod lines;
 mod past;
 mod program;
 mod progress;
-mod refusals;
 mod second_procedure;
-mod side;
 mod solutions;
 mod table;
 mod variation;
 mod verdict;
-mod words;
 
 use program::run;
 use std::process::ExitCode;

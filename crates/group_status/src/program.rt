@@ -2,20 +2,21 @@
 
 use crate::all_groups::all_groups;
 use crate::by_shape::{by_shape_lines, by_shape_object, lives_anywhere};
-use crate::claims::{Length, claims};
+use crate::claims::claims;
 use crate::group::Group;
 use crate::json::{found_object, judged_object};
 use crate::lines::{found_lines, judged_lines};
 use crate::past::without_past;
-use crate::refusals::{before_passes, no_marks, no_stone, no_tree, node_asked};
-use crate::side::{Finding, Side};
 use crate::solutions::{Told, solutions};
 use crate::table::Table;
-use crate::verdict::{Judgement, found, judge};
-use crate::words::{Form, Request, read_request};
+use crate::verdict::{found, judge};
 use go_points::to_sgf;
+use group_words::{
+    Finding, Form, Judgement, Length, Request, Side, before_passes, no_marks, no_stone, no_tree,
+    node_asked, read_request,
+};
 use pn_search::Budget;
-use record_tools::{NoStone, marked_problem, stone_problem};
+use record_marks::{NoStone, marked_problem, stone_problem};
 use sgf_text::{Tree, read_tree, write_bytes};
 use std::alloc::{AllocError, Global};
 use std::convert::AsStr;

@@ -2,8 +2,8 @@
 
 use crate::group::Group;
 use crate::lines::{colour_name, end_name, push_point};
-use crate::side::Side;
 use crate::table::Row;
+use group_words::Side;
 use sgf_text::write_bytes;
 use std::alloc::{AllocError, Global};
 use std::io::Write;

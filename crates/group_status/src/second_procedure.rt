@@ -4,8 +4,8 @@
 //! helps.
 
 use crate::group::Group;
-use crate::side::{Finding, Side, Word};
 use crate::table::{Table, question};
+use group_words::{Finding, Side, Word};
 use regions::Walls;
 use std::alloc::{AllocError, Global};
 use std::io::Write;

@@ -4,10 +4,10 @@
 use crate::group::Group;
 use crate::lines::{push_end, walls_text};
 use crate::past::without_past;
-use crate::side::{Finding, Side};
 use crate::table::{Row, Table};
 use crate::variation::{Question, alone, node_with, solved, tree_with};
 use go_points::{PointSet, to_sgf as letters_of};
+use group_words::{Finding, Side};
 use sgf_text::{Bytes, Property, SgfNode, Tree, Values};
 use std::alloc::{AllocError, Global};
 use target_game::Problem;

@@ -1,48 +1,16 @@
-//! What both procedures say together, and what that says about the group.
+//! What both procedures find, and what that says about the group.
 
-ghost use Rattle.std.specs.Prelude.{◌≡◌, IfOk};
-ghost use Rattle.group_status.specs.Rule.{both_words, word_together, are_split, winner_together, together, weakened, fate_at, fate_of, IsByRule};
+ghost use Rattle.std.specs.Prelude.{IfOk};
+ghost use Rattle.group_words.specs.Rule.{IsByRule};
 
 use crate::first_procedure::first_procedure;
 use crate::group::Group;
 use crate::second_procedure::second_procedure;
-use crate::side::{Finding, Side, Word, is_won_by};
 use crate::table::Table;
+use group_words::{Fate, Finding, Judgement, Side, Word, judged_by, together};
 use regions::Walls;
 use std::alloc::{AllocError, Global};
 use std::io::Write;
-
-/// What becomes of a group.
-#[derive(Clone, Copy, Debug, PartialEq, Eq)]
-pub(crate) enum Fate {
-    /// It lives, whoever moves first.
-    Alive,
-    /// It dies, whoever moves first.
-    Dead,
-    /// It lives if its own side moves first, and dies otherwise.
-    Unsettled,
-    Unknown,
-}
-
-impl Fate {
-    pub(crate) fn name(self) -> &'static str {
-        match self {
-            Fate::Alive => "alive",
-            Fate::Dead => "dead",
-            Fate::Unsettled => "unsettled",
-            Fate::Unknown => "unknown",
-        }
-    }
-}
-
-/// What is found about a group. If it surely lives though the attacker moves first, the other side is not asked about.
-#[derive(Clone, Copy, Debug)]
-pub(crate) struct Judgement {
-    pub(crate) fate: Fate,
-    pub(crate) word: Word,
-    pub(crate) attacker_first: Finding,
-    pub(crate) defender_first: Option<Finding>,
-}
 
 /// What is found if this side moves first: by both procedures, or quickly by the first one alone.
 pub(crate) fn found<N: Write>(
@@ -59,88 +27,6 @@ pub(crate) fn found<N: Write>(
     let one = first_procedure(alloc, group, table, first, Walls::Hard, notes)?;
     let other = second_procedure(alloc, group, table, first, notes)?;
     Ok(together(&one, &other))
-}
-
-/// What two findings say together: sure if both are, likely if one is, a hint if none is; and a leaning if only one decides.
-fn together(one: &Finding, other: &Finding) -> Finding
-    ensures { result ≡ together one.now other.now }
-{
-    Finding {
-        winner: winner_together(one.winner, other.winner),
-        word: word_together(one.winner, other.winner, one.word, other.word),
-        since: other.since,
-        largest: other.largest,
-        is_split: are_split(one.winner, other.winner),
-    }
-}
-
-/// Their winner. `None` if they decide for different winners.
-fn winner_together(one: Option<Side>, other: Option<Side>) -> Option<Side>
-    ensures { result ≡ winner_together one other }
-{
-    let Some(first) = one else {
-        return other;
-    };
-    let Some(second) = other else {
-        return one;
-    };
-    if first.is(second) { one } else { None }
-}
-
-/// Whether they decide for different winners.
-fn are_split(one: Option<Side>, other: Option<Side>) -> bool
-    ensures { result ≡ are_split one other }
-{
-    let Some(first) = one else {
-        return false;
-    };
-    let Some(second) = other else {
-        return false;
-    };
-    !first.is(second)
-}
-
-/// The word for two findings of these winners.
-fn word_together(one: Option<Side>, other: Option<Side>, one_word: Word, other_word: Word) -> Word
-    ensures { result ≡ word_together one other one_word other_word }
-{
-    let Some(first) = one else {
-        return if other.is_some() {
-            Word::Leaning
-        } else {
-            Word::Unknown
-        };
-    };
-    let Some(second) = other else {
-        return Word::Leaning;
-    };
-    if first.is(second) {
-        both_words(one_word, other_word)
-    } else {
-        Word::Unknown
-    }
-}
-
-/// The word for two findings of the same winner.
-fn both_words(one: Word, other: Word) -> Word
-    ensures { result ≡ both_words one other }
-{
-    let leaning = Word::Leaning.rank();
-    if one.rank() == leaning || other.rank() == leaning {
-        return Word::Leaning;
-    }
-    let sure = Word::Sure.rank();
-    if one.rank() == sure {
-        return if other.rank() == sure {
-            Word::Sure
-        } else {
-            Word::Likely
-        };
-    }
-    if other.rank() == sure {
-        return Word::Likely;
-    }
-    Word::Hint
 }
 
 /// What becomes of the group.
@@ -165,69 +51,4 @@ pub(crate) fn judge<N: Write>(
     }
     let asked = found(alloc, group, table, Side::Defender, is_quick, notes)?;
     Ok(judged_by(attacker_first, &asked))
-}
-
-/// What both findings say about the group.
-fn judged_by(attacker_first: Finding, asked: &Finding) -> Judgement
-    ensures { IsByRule result }
-{
-    let defender_first = weakened(&attacker_first, asked);
-    let (fate, word) = fate_of(&attacker_first, &defender_first);
-    Judgement {
-        fate,
-        word,
-        attacker_first,
-        defender_first: Some(defender_first),
-    }
-}
-
-/// That the group lives is only a leaning if the attacker's win begins at a size at which the defender's first move was not
-/// decided.
-fn weakened(attacker_first: &Finding, defender_first: &Finding) -> Finding
-    ensures { result ≡ weakened attacker_first.now defender_first.now }
-{
-    let mut same = *defender_first;
-    if is_won_by(Side::Attacker, attacker_first.winner)
-        && is_won_by(Side::Defender, defender_first.winner)
-        && defender_first.largest < attacker_first.since
-    {
-        same.word = Word::Leaning;
-    }
-    same
-}
-
-/// What becomes of the group, as surely as this word says. `None` if that is not decided.
-fn fate_at(word: Word, attacker_first: &Finding, defender_first: &Finding) -> Option<Fate>
-    ensures { result ≡ fate_at word attacker_first.now defender_first.now }
-{
-    // Then the attacker also wins if it moves first.
-    if defender_first.says(Side::Attacker, word) {
-        return Some(Fate::Dead);
-    }
-    if attacker_first.says(Side::Attacker, word) && defender_first.says(Side::Defender, word) {
-        return Some(Fate::Unsettled);
-    }
-    if attacker_first.says(Side::Defender, word) {
-        return Some(Fate::Alive);
-    }
-    None
-}
-
-/// What both first moves say about the group, by the surest word that decides.
-fn fate_of(attacker_first: &Finding, defender_first: &Finding) -> (Fate, Word)
-    ensures { result ≡ fate_of attacker_first.now defender_first.now }
-{
-    if let Some(fate) = fate_at(Word::Sure, attacker_first, defender_first) {
-        return (fate, Word::Sure);
-    }
-    if let Some(fate) = fate_at(Word::Likely, attacker_first, defender_first) {
-        return (fate, Word::Likely);
-    }
-    if let Some(fate) = fate_at(Word::Hint, attacker_first, defender_first) {
-        return (fate, Word::Hint);
-    }
-    if let Some(fate) = fate_at(Word::Leaning, attacker_first, defender_first) {
-        return (fate, Word::Leaning);
-    }
-    (Fate::Unknown, Word::Unknown)
 }

@@ -1,5 +1,2 @@
-pub mod Chains
 pub mod Collection
-pub mod Letters
-pub mod Names
 pub mod Outputs

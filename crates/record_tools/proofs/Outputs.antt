@@ -9,10 +9,10 @@ use Rattle.tool_parts.specs.Written.{end_of}
 use Rattle.tool_parts.specs.declared.output.Output.{Output}
 use Rattle.tool_parts.specs.declared.output.Output.TheVariants.{Record, Text}
 use Rattle.tool_parts.specs.declared.status.Status.TheVariants.{Refused}
-use Rattle.record_tools.specs.declared.marked_record.Marks.{Marks}
+use Rattle.record_marks.specs.declared.marking.Marks.{Marks}
 use Rattle.record_tools.specs.declared.words.Request.{Request}
 use Rattle.record_tools.specs.declared.words.Request.TheVariants as requests
-use Rattle.record_tools.specs.Asked.{IsChosen}
+use Rattle.record_marks.specs.Asked.{IsChosen}
 use Rattle.record_tools.specs.Outputs.{AnswersRecord, IsAlone, IsMarkedIn, IsOutput, IsWanted, IsWritten}
 
 -- a refusal is no answer

@@ -11,16 +11,16 @@ use Rattle.record_pages.specs.Bare.{IsBare}
 use Rattle.tool_parts.specs.declared.output.Output.{Output}
 use Rattle.tool_parts.specs.declared.output.Output.TheVariants.{Record, Text}
 use Rattle.tool_parts.specs.declared.status.Status.TheVariants.{Answered}
-use Rattle.record_tools.specs.declared.marked_record.Marks.{Marks}
-use Rattle.record_tools.specs.declared.marked_record.Region.{Region}
-use Rattle.record_tools.specs.declared.marked_record.Region.TheVariants as regions
+use Rattle.record_marks.specs.declared.marking.Marks.{Marks}
+use Rattle.record_marks.specs.declared.marking.Region.{Region}
+use Rattle.record_marks.specs.declared.marking.Region.TheVariants as regions
 use Rattle.record_tools.specs.declared.words.Zone.{Zone}
 use Rattle.record_tools.specs.declared.words.Zone.TheVariants as zones
 use Rattle.record_tools.specs.declared.words.Request.{Request}
 use Rattle.record_tools.specs.declared.words.Request.TheVariants as requests
-use Rattle.record_tools.specs.Asked.{IsChosen, IsMarkedFor}
+use Rattle.record_marks.specs.Asked.{IsChosen, IsMarkedFor}
 use Rattle.record_tools.specs.Games.{IsGame}
-use Rattle.record_tools.specs.Supposed.{IsMarkedBy}
+use Rattle.record_marks.specs.Supposed.{IsMarkedBy}
 
 -- the region of the marks, as the words ask for it
 abbrev pub IsZone : Zone → Region → Type 0

@@ -4,7 +4,7 @@ ghost use Rattle.std.specs.Prelude.{◌≡◌, IfOk, Ok, Some};
 ghost use Rattle.record_pages.specs.Bare.{IsBare};
 ghost use Rattle.tsumego_problem.specs.Walk.{problem_within, history_limit};
 
-use crate::marked_record::{Refusal, problem_of};
+use record_marks::{Refusal, problem_of};
 use record_pages::{are_same, may_return, push_titles, without_past};
 use sgf_text::{Property, SgfNode, Tree};
 use std::alloc::Global;

@@ -2,8 +2,8 @@
 
 ghost use Rattle.std.specs.Prelude.{◌≡◌, ◌-◌, IfOk};
 ghost use Rattle.record_tools.specs.Games.{IsGame};
-ghost use Rattle.record_tools.specs.Asked.{IsMarkedFor};
-ghost use Rattle.record_tools.specs.Supposed.{IsMarkedBy};
+ghost use Rattle.record_marks.specs.Asked.{IsMarkedFor};
+ghost use Rattle.record_marks.specs.Supposed.{IsMarkedBy};
 ghost use Rattle.record_tools.specs.Outputs.{AnswersRecord, IsAlone, IsMarkedIn, IsOutput, IsWritten, IsZone};
 ghost use Rattle.tool_parts.specs.Answered.{HasAnswered, IsAnswered};
 ghost use Rattle.tool_parts.specs.Written.{end_of};
@@ -11,12 +11,11 @@ ghost use Rattle.tool_parts.specs.declared.status.Status.TheVariants.{Answered};
 
 use crate::bare::bare_record;
 use crate::games::game;
-use crate::marked_record::{Marks, Region, marked_record};
 use crate::refusals::{no_mark, no_page, no_picture};
 use crate::split::split_into;
-use crate::supposed_record::{Supposition, supposed_record};
 use crate::told::{tell_past, tell_region, tell_stones};
 use crate::words::{PageForm, Request, Zone};
+use record_marks::{Marks, Region, Supposition, marked_record, supposed_record};
 use record_pages::{Cut, page_json, page_of};
 use record_pictures::{Look, View, ascii, drawing_of, svg};
 use sgf_text::{SgfFault, Tree, read_tree};

@@ -4,8 +4,8 @@ ghost use Rattle.std.specs.Prelude.{◌≡◌, IfOk};
 ghost use Rattle.tool_parts.specs.Written.{end_of};
 ghost use Rattle.tool_parts.specs.declared.status.Status.TheVariants.{Refused};
 
-use crate::marked_record::Refusal;
 use go_points::{Turn, to_sgf};
+use record_marks::Refusal;
 use record_pages::NoPage;
 use record_pictures::NoPicture;
 use solution_tree::AuditWhy;

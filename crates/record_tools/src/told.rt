@@ -2,8 +2,8 @@
 
 ghost use Rattle.go_points.specs.Place.{IsOn};
 
-use crate::region::touches;
 use go_points::{Cell, Point, PointSet, Size, to_gtp};
+use record_marks::touches;
 use sgf_text::write_bytes;
 use std::alloc::{AllocError, Global};
 use std::io::Write;

@@ -3,15 +3,13 @@
 use crate::commands::program;
 use clap::ArgMatches;
 use go_points::Colour;
+use record_marks::GREATEST_NUMBER;
 use record_pages::Cut;
 use record_pictures::{Look, Scheme, Shown, View};
 use regions::Walls;
 use std::alloc::{AllocError, Global};
 use std::convert::AsStr;
 use tool_parts::{NoRequest, no_request};
-
-/// The greatest number of a node or a game: more than a record may have.
-pub(crate) const MOST: u64 = 1_000_000;
 
 /// What is written for a page.
 #[derive(Clone, Copy, Debug, PartialEq, Eq)]
@@ -208,7 +206,7 @@ fn chosen_scheme(given: &ArgMatches<'_>) -> Scheme {
 /// The number of an argument.
 fn number(given: &ArgMatches<'_>, id: &str) -> Option<usize> {
     match given.get_one::<u64>(id) {
-        Some(number) if number <= MOST => Some(number as usize),
+        Some(number) if number <= GREATEST_NUMBER => Some(number as usize),
         _ => None,
     }
 }

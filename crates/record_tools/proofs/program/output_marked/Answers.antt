@@ -1,4 +1,4 @@
-use Rattle.record_tools.specs.Asked.{IsMarkedFor}
+use Rattle.record_marks.specs.Asked.{IsMarkedFor}
 use Rattle.record_tools.proofs.Outputs.{bare, whole}
 use Rattle.record_tools.proofs.program.output_marked.Goals as goal
 

@@ -1,4 +1,4 @@
-use Rattle.record_tools.specs.Supposed.{IsMarkedBy}
+use Rattle.record_marks.specs.Supposed.{IsMarkedBy}
 use Rattle.record_tools.proofs.Outputs.{bare, whole}
 use Rattle.record_tools.proofs.program.output_supposed.Goals as goal
 

@@ -1,0 +1,295 @@
+//! The command line, read by `clap`.
+
+use crate::side::Side;
+use clap::builder::ValueParser;
+use clap::{Arg, ArgAction, ArgMatches};
+use record_marks::{GREATEST_NUMBER, node_argument};
+use std::alloc::{AllocError, Global};
+use std::convert::AsStr;
+use tool_parts::{NoRequest, no_request};
+use tsumego_version::VERSION;
+
+/// The greatest number of steps that may be asked for.
+const MOST_STEPS: u64 = 10_000_000;
+
+/// The numbers of steps that are taken if none is asked for: about one group, and about all groups of a position, of which a board
+/// of 19 rows has some sixty.
+const STEPS: u64 = 100_000;
+
+const STEPS_FOR_ALL: u64 = 20_000;
+
+/// Which claims are written.
+#[derive(Clone, Copy, Debug, PartialEq, Eq)]
+pub enum Length {
+    /// Short claims, by which the questions were decided.
+    Short,
+    /// Claims that play everything out, as `tsumego check` reads them.
+    Full,
+}
+
+/// The form in which the answer is written.
+#[derive(Clone, Copy, Debug, PartialEq, Eq)]
+pub enum Form {
+    /// Lines for a reader.
+    Lines,
+    /// JSON, with one object on each line.
+    Json,
+    /// One SGF record with the solutions as variations.
+    Record,
+    /// The lines, and after them each question that was decided, as a record with its claim.
+    Claims(Length),
+}
+
+/// What the words ask for.
+#[derive(Drop)]
+pub struct Request {
+    /// The node of the main line.
+    pub node: Option<usize>,
+    /// The stone; the one that the record's marks name if this is empty.
+    pub target: String,
+    /// The side that moves first, if only one is asked about.
+    pub first: Option<Side>,
+    /// The greatest number of steps of the search for each question.
+    pub steps: u64,
+    pub is_quick: bool,
+    /// Whether all groups of the position are asked about.
+    pub is_all: bool,
+    pub form: Form,
+    /// Whether the past is ignored.
+    pub is_position_only: bool,
+    /// Whether each question is reported on standard error when it has been asked.
+    pub is_told: bool,
+}
+
+/// What the words ask for. The first word is the program's name.
+pub fn read_request<'a, S: AsStr>(alloc: Global, words: &'a [S]) -> Result<Request, NoRequest> {
+    let program = program(alloc)?;
+    match program.try_get_matches_from(words) {
+        Ok(matches) => chosen(alloc, &matches),
+        Err(error) => Err(no_request(alloc, &error)),
+    }
+}
+
+/// What a parse found.
+fn chosen(alloc: Global, given: &ArgMatches<'_>) -> Result<Request, NoRequest> {
+    if let Some(fault) = fault_of(given) {
+        return Err(NoRequest::Words(format!(in alloc; "error: {fault}\n")?));
+    }
+    let target = text(alloc, given, "target")?;
+    let first = first(alloc, given)?;
+    Ok(Request {
+        node: number(given, "node"),
+        target,
+        first,
+        steps: steps(given),
+        is_quick: flag(given, "quick"),
+        is_all: flag(given, "all"),
+        form: chosen_form(given),
+        is_position_only: flag(given, "position-only"),
+        is_told: flag(given, "progress"),
+    })
+}
+
+/// Why words that are each well formed ask for nothing when taken together.
+fn fault_of(given: &ArgMatches<'_>) -> Option<&'static str> {
+    let forms = [
+        flag(given, "json"),
+        flag(given, "sgf"),
+        flag(given, "claims"),
+        flag(given, "full-claims"),
+    ];
+    if forms.iter().filter(|is_named| **is_named).count() > 1 {
+        return Some(
+            "'--json', '--sgf', '--claims' and '--full-claims' are forms of one answer; name one of them",
+        );
+    }
+    let has_target = given.get_str("target").is_some();
+    if flag(given, "all") {
+        if has_target {
+            return Some("'--all' asks about every group, '--target' about one; name one of them");
+        }
+        let has_claims = flag(given, "claims") || flag(given, "full-claims");
+        if flag(given, "sgf") || has_claims || given.get_str("first").is_some() {
+            return Some("'--first', '--sgf' and claims are for one target, and not for '--all'");
+        }
+        return None;
+    }
+    if given.get_one::<u64>("node").is_some() && !has_target {
+        return Some("'--node' wants a '--target' at that node, or '--all'");
+    }
+    None
+}
+
+/// The form that is asked for.
+fn chosen_form(given: &ArgMatches<'_>) -> Form {
+    if flag(given, "json") {
+        return Form::Json;
+    }
+    if flag(given, "sgf") {
+        return Form::Record;
+    }
+    if flag(given, "claims") {
+        return Form::Claims(Length::Short);
+    }
+    if flag(given, "full-claims") {
+        return Form::Claims(Length::Full);
+    }
+    Form::Lines
+}
+
+fn flag(given: &ArgMatches<'_>, id: &str) -> bool {
+    given.get_one::<bool>(id).unwrap_or(false)
+}
+
+/// The number of an argument.
+fn number(given: &ArgMatches<'_>, id: &str) -> Option<usize> {
+    match given.get_one::<u64>(id) {
+        Some(number) if number <= GREATEST_NUMBER => Some(number as usize),
+        _ => None,
+    }
+}
+
+/// The greatest number of steps for each question: what is asked for, otherwise fewer for all groups of a position than for one.
+fn steps(given: &ArgMatches<'_>) -> u64 {
+    if let Some(steps) = given.get_one::<u64>("steps") {
+        return steps;
+    }
+    if flag(given, "all") {
+        STEPS_FOR_ALL
+    } else {
+        STEPS
+    }
+}
+
+/// The text of an argument; empty if it is not there.
+fn text(alloc: Global, given: &ArgMatches<'_>, id: &str) -> Result<String, AllocError> {
+    match given.get_str(id) {
+        Some(text) => format!(in alloc; "{text}"),
+        None => Ok(String::new(alloc)),
+    }
+}
+
+/// The side that moves first, if the words say so.
+fn first(alloc: Global, given: &ArgMatches<'_>) -> Result<Option<Side>, NoRequest> {
+    let text = text(alloc, given, "first")?;
+    match text.as_str() {
+        "" => Ok(None),
+        "attacker" => Ok(Some(Side::Attacker)),
+        "defender" => Ok(Some(Side::Defender)),
+        _ => Err(NoRequest::Words(format!(in alloc;
+            "error: the value of '--first' is attacker or defender\n"
+        )?)),
+    }
+}
+
+fn program<'a>(alloc: Global) -> Result<clap::Command<'a>, AllocError> {
+    let program = clap::Command::new(alloc, "group_status")
+        .about(
+            "Says of a stone's group in a record, read from standard input, whether it is alive, dead or unsettled.",
+        )
+        .version(VERSION);
+    let program = with_argument(program, node_argument(alloc))?;
+    let program = with_argument(program, target_argument(alloc))?;
+    let program = with_argument(program, first_argument(alloc))?;
+    let program = with_argument(program, steps_argument(alloc))?;
+    let program = with_argument(program, quick_argument(alloc))?;
+    let program = with_argument(program, all_argument(alloc))?;
+    let program = with_argument(program, json_argument(alloc))?;
+    let program = with_argument(program, sgf_argument(alloc))?;
+    let program = with_argument(program, claims_argument(alloc))?;
+    let program = with_argument(program, full_claims_argument(alloc))?;
+    let program = with_argument(program, position_argument(alloc))?;
+    with_argument(program, progress_argument(alloc))
+}
+
+/// The program with one more argument.
+fn with_argument<'a>(
+    program: clap::Command<'a>,
+    argument: Arg<'a>,
+) -> Result<clap::Command<'a>, AllocError> {
+    program.arg(argument)
+}
+
+fn target_argument<'a>(alloc: Global) -> Arg<'a> {
+    Arg::new(alloc, "target")
+        .help("A stone of the group, as D17 or dc [default: the record's own triangle]")
+        .long("target")
+        .value_name("POINT")
+}
+
+fn first_argument<'a>(alloc: Global) -> Arg<'a> {
+    Arg::new(alloc, "first")
+        .help("Asks only who wins where this side moves first: attacker or defender")
+        .long("first")
+        .value_name("SIDE")
+}
+
+fn steps_argument<'a>(alloc: Global) -> Arg<'a> {
+    Arg::new(alloc, "steps")
+        .help(
+            "The most steps of the search for each question, 1 to 10000000 [default: 100000, with --all 20000]",
+        )
+        .long("steps")
+        .value_name("N")
+        .value_parser(ValueParser::unsigned(1, MOST_STEPS))
+}
+
+fn quick_argument<'a>(alloc: Global) -> Arg<'a> {
+    Arg::new(alloc, "quick")
+        .help(
+            "Asks by one procedure in place of two: less time, and a word that is right less often",
+        )
+        .long("quick")
+        .action(ArgAction::SetTrue)
+}
+
+fn all_argument<'a>(alloc: Global) -> Arg<'a> {
+    Arg::new(alloc, "all")
+        .help("Asks about every group of the position, quickly first, and says a line of each")
+        .long("all")
+        .action(ArgAction::SetTrue)
+}
+
+fn json_argument<'a>(alloc: Global) -> Arg<'a> {
+    Arg::new(alloc, "json")
+        .help("Writes JSON with every question, an object a line")
+        .long("json")
+        .action(ArgAction::SetTrue)
+}
+
+fn position_argument<'a>(alloc: Global) -> Arg<'a> {
+    Arg::new(alloc, "position-only")
+        .help("Forgets what was played before, so that no ko is barred")
+        .long("position-only")
+        .action(ArgAction::SetTrue)
+}
+
+fn sgf_argument<'a>(alloc: Global) -> Arg<'a> {
+    Arg::new(alloc, "sgf")
+        .help("Writes one SGF record, with the solutions of the largest size that was decided")
+        .long("sgf")
+        .action(ArgAction::SetTrue)
+}
+
+fn claims_argument<'a>(alloc: Global) -> Arg<'a> {
+    Arg::new(alloc, "claims")
+        .help(
+            "Writes after the lines each question that was decided, as a record with its short claim",
+        )
+        .long("claims")
+        .action(ArgAction::SetTrue)
+}
+
+fn full_claims_argument<'a>(alloc: Global) -> Arg<'a> {
+    Arg::new(alloc, "full-claims")
+        .help("The same with claims for 'tsumego check', as far as the steps find them")
+        .long("full-claims")
+        .action(ArgAction::SetTrue)
+}
+
+fn progress_argument<'a>(alloc: Global) -> Arg<'a> {
+    Arg::new(alloc, "progress")
+        .help("Tells each question on standard error when it has been asked")
+        .long("progress")
+        .action(ArgAction::SetTrue)
+}

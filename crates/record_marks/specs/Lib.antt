@@ -1,0 +1,5 @@
+pub mod Asked
+pub mod Marked
+pub mod Named
+pub mod Private
+pub mod Supposed

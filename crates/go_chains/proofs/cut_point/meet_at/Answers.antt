@@ -1,4 +1,4 @@
-use Rattle.go_chains.proofs.Common.{◌≡◌, inl, inr, true, map, take, slice_index, sym, ◌∙◌, ap, subst, take_all, neighbours, number_of, neighbours_member, IsIn, Meet}
+use Rattle.go_chains.proofs.Common.{◌≡◌, inl, inr, map, take, slice_index, sym, ◌∙◌, ap, subst, take_all, neighbours, number_of, neighbours_member, IsIn, Meet}
 use Rattle.go_chains.proofs.Beside.{in_more}
 use Rattle.go_chains.proofs.Counts.{member_in}
 use Rattle.go_chains.proofs.cut_point.meet_at.Goals as goal

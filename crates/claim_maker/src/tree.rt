@@ -37,6 +37,26 @@ pub(crate) struct Writer {
     used: Vec<u32>,
 }
 
+/// Adds a reference to each of the colourings.
+fn refer_to<'a>(
+    listed: &mut Vec<&'a Colouring>,
+    colourings: &'a [Colouring],
+) -> Result<(), AllocError> {
+    for colouring in colourings {
+        listed.push(colouring)?;
+    }
+    Ok(())
+}
+
+/// The colourings, in a list with no room to spare.
+fn copied(alloc: Global, listed: &[&Colouring]) -> Result<Vec<Colouring>, AllocError> {
+    let mut copied = Vec::with_capacity(alloc, listed.len())?;
+    for colouring in listed {
+        copied.push(**colouring)?;
+    }
+    Ok(copied)
+}
+
 impl Writer {
     /// The writer of the main tree. `begin_lemma` makes it one of the body of a lemma.
     pub(crate) fn of_main(alloc: Global, play: Play, winner: Colour) -> Writer {
@@ -67,7 +87,7 @@ impl Writer {
     }
 
     /// The list of the lemma whose body has been written: ascending, each colouring once. It has what the lemmas that are used list.
-    /// The lists that are joined have many colourings in common, so what is joined is copied to a list with no room to spare.
+    /// The lists that are joined have many colourings in common, so references to them are sorted, and what is left is copied.
     pub(crate) fn take_absent(
         &mut self,
         alloc: Global,
@@ -75,15 +95,17 @@ impl Writer {
     ) -> Result<Vec<Colouring>, AllocError> {
         self.used.sort_unstable();
         self.used.dedup();
+        let mut listed = Vec::new(alloc);
+        refer_to(&mut listed, self.absent.as_slice())?;
         for number in self.used.as_slice() {
             if let Some(lemma) = lemmas.get(*number) {
-                self.absent.extend_from_slice(lemma.absent.as_slice())?;
+                refer_to(&mut listed, lemma.absent.as_slice())?;
             }
         }
         // The lists that are joined ascend, so a sort that finds what is in order has little to do.
-        self.absent.sort()?;
-        self.absent.dedup();
-        self.absent.as_slice().to_vec(alloc)
+        listed.sort()?;
+        listed.dedup();
+        copied(alloc, listed.as_slice())
     }
 
     /// The tree of the proof, with uses of these lemmas below its first node. Refused if it would have more than the greatest

@@ -5,21 +5,21 @@ use Rattle.go_chains.proofs.Common.{◌≡◌, ◌≢◌, ℕ, ◌+◌, ◌*◌,
 abbrev pub MayStay : List Cell → List Cell → ℕ → Type 0
 MayStay now wanted p = (cell_at now p ≡ Empty) ⊎ (cell_at now p ≡ cell_at wanted p)
 
-pub stays_more : (n : ℕ) (now after wanted : List Cell) (i : ℕ) → i < n * n → ((q : ℕ) → q < n * n → (cell_at after q ≡ Empty) ⊎ (cell_at after q ≡ cell_at now q)) → MayStay after wanted i
-    → ((p : ℕ) → p < i → MayStay now wanted p) → (p : ℕ) → p < i + 1 → MayStay after wanted p
-stays_more n now after wanted i on emptier here before p less = elim (cases_eq p i) [
-  | inl same ↦ subst (MayStay after wanted) (sym same) here
-  | inr other ↦ (let earlier : p < i = grind (arith, less, other) in go earlier (emptier p (omega (arith, earlier, on))) (before p earlier))
+-- a stone went at a point that differs, with its chain or alone, and those up to the next difference are as they are wanted
+pub stays_on : (n : ℕ) (now after wanted : List Cell) (i j : ℕ) → ((q : ℕ) → q < n * n → (cell_at after q ≡ Empty) ⊎ (cell_at after q ≡ cell_at now q)) → MayStay after wanted i
+    → ((p : ℕ) → p < i → p < n * n → MayStay now wanted p) → ((p : ℕ) → i + 1 ≤ p → p < j → cell_at now p ≡ cell_at wanted p) → (p : ℕ) → p < j → p < n * n → MayStay after wanted p
+stays_on n now after wanted i j emptier here before same p low on = elim (cases_lt p i) [
+  | inl less ↦ go (emptier p on) (before p less on)
+  | inr past ↦ elim (cases_eq p i) [
+    | inl last ↦ subst (MayStay after wanted) (sym last) here
+    | inr other ↦ (let later : i + 1 ≤ p = grind (arith, past, other) in go (emptier p on) (inr (same p later low)))
+  ]
 ]
   where
-    go : p < i → (cell_at after p ≡ Empty) ⊎ (cell_at after p ≡ cell_at now p) → MayStay now wanted p → MayStay after wanted p
-    go earlier (inl e) m = inl e
-    go earlier (inr e) (inl f) = inl (e ∙ f)
-    go earlier (inr e) (inr f) = inr (e ∙ f)
-
--- the points up to the next difference are as they are wanted
-pub stays_on : (now wanted : List Cell) (i j : ℕ) → ((p : ℕ) → p < i → MayStay now wanted p) → ((p : ℕ) → i ≤ p → p < j → cell_at now p ≡ cell_at wanted p) → (p : ℕ) → p < j → MayStay now wanted p
-stays_on now wanted i j before same p low = elim (cases_lt p i) [ inl less ↦ before p less | inr past ↦ inr (same p past low) ]
+    go : (cell_at after p ≡ Empty) ⊎ (cell_at after p ≡ cell_at now p) → MayStay now wanted p → MayStay after wanted p
+    go (inl e) m = inl e
+    go (inr e) (inl f) = inl (e ∙ f)
+    go (inr e) (inr f) = inr (e ∙ f)
 
 pub filled_on : (now wanted : List Cell) (i j : ℕ) → ((p : ℕ) → p < i → cell_at now p ≡ cell_at wanted p) → ((p : ℕ) → i ≤ p → p < j → cell_at now p ≡ cell_at wanted p) → (p : ℕ) → p < j → cell_at now p ≡ cell_at wanted p
 filled_on now wanted i j before same p low = elim (cases_lt p i) [ inl less ↦ before p less | inr past ↦ same p past low ]

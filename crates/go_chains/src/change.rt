@@ -18,7 +18,41 @@ use stone_key::KeyedColouring;
 /// If more stones than this are new, looking once at each point is the faster way to tell whether all chains have liberties.
 const FEW: usize = 32;
 
-// Takes off the stones at points where the other colouring holds something else, and those of their chains that cannot stay.
+/// After so many points that change, it is asked whether most points do.
+const MANY: usize = 32;
+
+// Takes all stones off.
+fn clear(colouring: &mut KeyedColouring, heads: &mut [u16], next: &[u16], counts: &[u32])
+    requires { AreFull heads.old next.now counts.now }
+    ensures size { side_of colouring.new ≡ side_of colouring.old }
+    ensures settled { IsSettled (side_of colouring.old) colouring.new heads.new next.now
+        counts.now }
+    ensures empty { (p : ℕ) → cell_at colouring.new p ≡ Empty }
+{
+    let size = colouring.size();
+    prove!(size.area() <= MAX_POINTS);
+    *colouring = KeyedColouring::empty(size);
+    heads.fill(MAX_POINTS as u16);
+}
+
+// Whether two colourings differ at half of the points, if `MANY` such points come before this one.
+fn differ_widely(one: &Colouring, other: &Colouring, first: usize) -> bool
+    requires { side_of other.now ≡ side_of one.now }
+{
+    let size = one.size();
+    let mut number = first;
+    for _ in MANY..size.area() / 2 {
+        if number >= size.area() {
+            return false;
+        }
+        number = one.next_difference(other, number + 1);
+    }
+    number < size.area()
+}
+
+// Takes off the stones at points where the other colouring holds something else, and those of their chains that cannot stay. If most
+// points change, all stones are taken off at once. The next such point is looked for before a stone goes: a chain that goes with it
+// is put down again later, so its stones are not looked at here.
 fn remove_changed(
     colouring: &mut KeyedColouring,
     heads: &mut [u16],
@@ -38,106 +72,18 @@ fn remove_changed(
     let size = colouring.size();
     prove!(size.area() <= MAX_POINTS);
     let mut number = colouring.colouring().next_difference(wanted, 0);
+    let mut changed = 0;
     'changed: while number < size.area() {
+        if changed == MANY && differ_widely(colouring.colouring(), wanted, number) {
+            clear(colouring, heads, next, counts);
+            return;
+        }
+        changed += 1;
+        let following = colouring.colouring().next_difference(wanted, number + 1);
         if heads[number] != MAX_POINTS as u16 {
             take_off(colouring, heads, next, counts, number);
         }
-        number = colouring.colouring().next_difference(wanted, number + 1);
-    }
-}
-
-// Takes all stones off.
-fn clear(colouring: &mut KeyedColouring, heads: &mut [u16], next: &[u16], counts: &[u32])
-    requires { AreFull heads.old next.now counts.now }
-    ensures size { side_of colouring.new ≡ side_of colouring.old }
-    ensures settled { IsSettled (side_of colouring.old) colouring.new heads.new next.now
-        counts.now }
-    ensures empty { (p : ℕ) → cell_at colouring.new p ≡ Empty }
-{
-    let size = colouring.size();
-    prove!(size.area() <= MAX_POINTS);
-    *colouring = KeyedColouring::empty(size);
-    heads.fill(MAX_POINTS as u16);
-}
-
-// Whether two colourings differ at half of the points.
-fn differ_widely(one: &Colouring, other: &Colouring) -> bool
-    requires { side_of other.now ≡ side_of one.now }
-{
-    let size = one.size();
-    let mut number = one.next_difference(other, 0);
-    for _ in 0..size.area() / 2 {
-        if number >= size.area() {
-            return false;
-        }
-        number = one.next_difference(other, number + 1);
-    }
-    number < size.area()
-}
-
-// Takes off the stone at the only point where the other colouring holds something else, if there is such a point.
-fn remove_only(
-    colouring: &mut KeyedColouring,
-    heads: &mut [u16],
-    next: &mut [u16],
-    counts: &mut [u32],
-    wanted: &Colouring,
-    number: usize,
-)
-    requires settled { IsSettled (side_of colouring.old) colouring.old heads.old next.old
-        counts.old }
-    requires same_size { side_of wanted.now ≡ side_of colouring.old }
-    requires before { (p : ℕ) → p < number → cell_at colouring.old p ≡ cell_at wanted.now p }
-    requires after { (p : ℕ) → number < p → p < side_of colouring.old * side_of colouring.old
-        → cell_at colouring.old p ≡ cell_at wanted.now p }
-    ensures size { side_of colouring.new ≡ side_of colouring.old }
-    ensures settled { IsSettled (side_of colouring.old) colouring.new heads.new next.new
-        counts.new }
-    ensures rest { (p : ℕ) → p < side_of colouring.old * side_of colouring.old
-        → (cell_at colouring.new p ≡ Empty) ⊎ (cell_at colouring.new p ≡ cell_at wanted.now p) }
-{
-    let size = colouring.size();
-    prove!(size.area() <= MAX_POINTS);
-    if number >= size.area() {
-        return;
-    }
-    if heads[number] == MAX_POINTS as u16 {
-        return;
-    }
-    take_off(colouring, heads, next, counts, number);
-}
-
-// Takes off what the other colouring does not hold. If most points change, all stones are taken off at once. A move that is taken
-// back usually changes one point alone, and then nothing is looked for twice.
-fn make_way(
-    colouring: &mut KeyedColouring,
-    heads: &mut [u16],
-    next: &mut [u16],
-    counts: &mut [u32],
-    wanted: &Colouring,
-)
-    requires settled { IsSettled (side_of colouring.old) colouring.old heads.old next.old
-        counts.old }
-    requires same_size { side_of wanted.now ≡ side_of colouring.old }
-    ensures size { side_of colouring.new ≡ side_of colouring.old }
-    ensures settled { IsSettled (side_of colouring.old) colouring.new heads.new next.new
-        counts.new }
-    ensures rest { (p : ℕ) → p < side_of colouring.old * side_of colouring.old
-        → (cell_at colouring.new p ≡ Empty) ⊎ (cell_at colouring.new p ≡ cell_at wanted.now p) }
-{
-    let size = colouring.size();
-    prove!(size.area() <= MAX_POINTS);
-    let first = colouring.colouring().next_difference(wanted, 0);
-    if first >= size.area()
-        || colouring.colouring().next_difference(wanted, first + 1) >= size.area()
-    {
-        remove_only(colouring, heads, next, counts, wanted, first);
-        return;
-    }
-    if differ_widely(colouring.colouring(), wanted) {
-        clear(colouring, heads, next, counts);
-    } else {
-        remove_changed(colouring, heads, next, counts, wanted);
+        number = following;
     }
 }
 
@@ -323,7 +269,7 @@ fn change_to(
         counts.new }
     ensures value { colouring.new ≡ wanted.now }
 {
-    make_way(colouring, heads, next, counts, wanted);
+    remove_changed(colouring, heads, next, counts, wanted);
     fill_changed(colouring, heads, next, counts, wanted);
 }
 

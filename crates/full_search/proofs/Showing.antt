@@ -19,7 +19,7 @@ use Rattle.proof_cert.specs.Certificate.{replies_of}
 use Rattle.proof_cert.specs.declared.certificate.Node as code
 use Rattle.proof_cert.specs.declared.certificate.Node.TheVariants.{Won}
 use Rattle.proof_cert.proofs.ReadTrees.{joined, replies_pushed}
-use Rattle.cert_check.specs.Body.{main_body, is_to_move, is_open}
+use Rattle.cert_check.specs.Body.{main_body, is_to_move}
 use Rattle.cert_check.specs.Validity.{FitsNode, FitsBranches}
 use Rattle.cert_check.proofs.Game.{same_colour-refl, winner_is}
 use Rattle.cert_check.proofs.Members.{and_both, and_second}

@@ -1,5 +1,5 @@
 -- The legal turns that are still to come: the moves that are not legal are passed over.
-use Rattle.target_game.proofs.Common.{◌≡◌, ℕ, zero, suc, ◌+◌, ◌-◌, ◌*◌, ◌<◌, ◌≤◌, Bool, true, false, cond, not, ◌&&◌, ◌||◌, nat_lt, List, [], ◌∷◌, ◌++◌, map, filter, length, Option, Some, None, option_map, refl, sym, ◌∙◌, ap, ap₂, subst, inl, inr, arith, All, range_with_len, cases_lt, true≢false, mul-add-lt, div-mul-add, mod-mul-add, length-map, length-append, MAX_SIZE, At, Empty, same_cell, cell_at, after_move, Place, IsOn, number_of, place_of, same_place, holds_place, is_before, IsFirstFrom, Ply, pass, move, ply_of, before, not_before, has_occurred, GameState, Line, legal, legal_turns, holds_point, turn_from, turns_due, Takes, NoneLegal, IsNextMove, line_after}
+use Rattle.target_game.proofs.Common.{◌≡◌, ℕ, zero, suc, ◌+◌, ◌-◌, ◌*◌, ◌<◌, ◌≤◌, Bool, true, false, cond, not, ◌&&◌, ◌||◌, nat_lt, List, [], ◌∷◌, ◌++◌, map, filter, length, Option, Some, None, option_map, refl, sym, ◌∙◌, ap, ap₂, subst, inl, inr, arith, All, range_with_len, cases_lt, true≢false, length-map, length-append, MAX_SIZE, At, Empty, same_cell, cell_at, after_move, Place, IsOn, number_of, place_of, same_place, holds_place, is_before, IsFirstFrom, Ply, pass, move, ply_of, before, not_before, has_occurred, GameState, Line, legal, legal_turns, holds_point, turn_from, turns_due, Takes, NoneLegal, IsNextMove, line_after}
 use Rattle.std.proofs.lemmas.Nat.{div_below, mod_below, div-add-mod'}
 use Rattle.std.proofs.lemmas.List.Elements.{All-head, All-tail}
 use Rattle.std.proofs.lemmas.List.Sums.{length-filter, count_by-le-length}

@@ -1,4 +1,4 @@
-use Rattle.target_game.proofs.Common.{◌≡◌, true, false, map, Some, refl, sym, ap, ◌∙◌, subst, arith, All, Empty, same_cell, cell_at, Place, IsOn, number_of, Line}
+use Rattle.target_game.proofs.Common.{◌≡◌, map, Some, refl, sym, ap, ◌∙◌, subst, arith, All, Empty, same_cell, cell_at, Place, IsOn, number_of, Line}
 use Rattle.target_game.proofs.Due.{IsNextInside, next_inside, next_outside, none_yet}
 use Rattle.target_game.proofs.OpenPoints.{past_stone}
 use Rattle.target_game.proofs.state.State.next_open.Given.{Over}

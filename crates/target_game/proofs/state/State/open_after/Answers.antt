@@ -1,4 +1,4 @@
-use Rattle.target_game.proofs.Common.{◌≡◌, ◌+◌, ◌*◌, ℕ, true, false, map, Some, refl, sym, ap, ◌∙◌, subst, arith, All, Empty, same_cell, cell_at, Place, IsOn, number_of, Line}
+use Rattle.target_game.proofs.Common.{◌≡◌, ◌+◌, ◌*◌, ℕ, map, Some, refl, sym, ap, ◌∙◌, subst, arith, All, Empty, same_cell, cell_at, Place, IsOn, number_of, Line}
 use Rattle.target_game.proofs.OpenPoints.{onward_inside, onward_outside}
 use Rattle.target_game.proofs.Due.{IsNextInside, none_joined, none_more, none_yet, at_stone}
 use Rattle.target_game.proofs.state.State.open_after.Given.{Over}

@@ -18,6 +18,7 @@ pub enum Fate {
 }
 
 impl Fate {
+    /// The word as it is written.
     pub fn name(self) -> &'static str {
         match self {
             Fate::Alive => "alive",
@@ -119,7 +120,7 @@ fn both_words(one: Word, other: Word) -> Word
     Word::Hint
 }
 
-/// What both findings say about the group.
+/// What both findings say about the group: what was found where the attacker moves first, and where the defender does.
 pub fn judged_by(attacker_first: Finding, asked: &Finding) -> Judgement
     ensures { IsByRule result }
 {

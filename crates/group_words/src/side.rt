@@ -14,6 +14,7 @@ pub enum Side {
 }
 
 impl Side {
+    /// The colour of the side, if this is the defender's.
     pub fn colour(self, defender: Colour) -> Colour
         ensures { result ≡ colour_of self defender }
     {
@@ -23,7 +24,7 @@ impl Side {
         }
     }
 
-    /// The side of this colour.
+    /// The side of this colour, if the second is the defender's.
     pub fn of(colour: Colour, defender: Colour) -> Side
         ensures { colour_of result defender ≡ colour }
     {
@@ -69,6 +70,7 @@ pub enum Word {
 }
 
 impl Word {
+    /// The place of the word in this order, from 0.
     pub fn rank(self) -> u32
         ensures { result ≡ rank self }
     {
@@ -81,6 +83,7 @@ impl Word {
         }
     }
 
+    /// The word as it is written.
     pub fn name(self) -> &'static str {
         match self {
             Word::Sure => "sure",
@@ -139,6 +142,7 @@ impl Finding {
         is_won_by(winner, self.winner) && self.word.rank() <= word.rank()
     }
 
+    /// Whether this side surely wins.
     pub fn is_sure_of(&self, winner: Side) -> bool
         ensures { result ≡ says self.now winner Sure }
     {

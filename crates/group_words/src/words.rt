@@ -51,6 +51,7 @@ pub struct Request {
     pub first: Option<Side>,
     /// The greatest number of steps of the search for each question.
     pub steps: u64,
+    /// Whether one procedure is asked in place of two.
     pub is_quick: bool,
     /// Whether all groups of the position are asked about.
     pub is_all: bool,

@@ -1,7 +1,8 @@
 -- Lists of colourings that ascend: looking one up by halving, and whether one list stands on another by one pass over both.
-use Rattle.cert_check.proofs.Common.{◌≡◌, ℕ, zero, suc, ◌+◌, ◌<◌, ◌≤◌, ◌⊎◌, inl, inr, Bool, true, false, ◌&&◌, ◌||◌, List, [], ◌∷◌, ◌++◌, drop, length, get_or, slice_index_or, Some, IfSome, Ordering, Less, Equal, Greater, nat_eq, eqb-true, refl, sym, ap, ◌∙◌, subst, arith, list_any, list_all, is_lt, ordering_reverse, get_or_from_slice_get, drop-length, Cell, same_cells, same_cells_eq, same_cells_symm, text_order, same_cells_ties, has_occurred, repeats, last_of, Ascends}
+use Rattle.cert_check.proofs.Common.{◌≡◌, ℕ, zero, suc, ◌+◌, ◌<◌, ◌≤◌, inl, inr, Bool, true, false, ◌&&◌, ◌||◌, List, [], ◌∷◌, ◌++◌, drop, length, get_or, slice_index_or, Option, Some, None, IfSome, is_some, not, slice_get_within, Ordering, Less, Equal, Greater, refl, sym, ap, ◌∙◌, subst, arith, list_any, list_all, is_lt, ordering_reverse, get_or_from_slice_get, drop-length, Cell, same_cells, same_cells_eq, same_cells_symm, text_order, same_cells_ties, has_occurred, repeats, last_of, Ascends}
 use Rattle.std.proofs.Common.{slice_get}
-use Rattle.std.proofs.lemmas.Bool.{cases_lt, eq-eqb}
+use Rattle.std.proofs.lemmas.Bool.{cases_lt}
+use Rattle.std.proofs.lemmas.Option.{slice_get_cases, slice_get-get_or}
 use Rattle.std.specs.Ordering.{is_eq}
 use Rattle.std.specs.Cmp.{IsTotalOrder}
 use Rattle.std.specs.Cmp.Lexicographic.{on_texts}
@@ -109,11 +110,20 @@ module _ (cs : List (List Cell)) (c : List Cell) where
     within = omega arith;
   }
 
-  pub split_end : (low high : ℕ) → IsSplit cs c low high → high ≤ low → has_occurred cs c ≡ false
-  split_end low high is met = none_at (same_cells c) cs c (λ k there. apart_other (slice_index_or cs k c) c (same_cells_ties (slice_index_or cs k c) c ∙ elim (cases_lt k low) [
-    | inl before ↦ ap is_eq (is.below k before)
-    | inr after ↦ ap is_eq (is.above k (omega (arith, after, met)) there)
+  -- between the two numbers the colouring was looked for
+  pub split_rest : (low high : ℕ) (b : Bool) → IsSplit cs c low high → (b ≡ true → has_occurred cs c ≡ true)
+      → (b ≡ false → (k : ℕ) (x : List Cell) → low ≤ k → k < high → slice_get cs k ≡ Some x → same_cells c x ≡ false) → b ≡ has_occurred cs c
+  split_rest low high true is found none = sym (found refl)
+  split_rest low high false is found none = sym (none_at (same_cells c) cs c (λ k there. elim (cases_lt k low) [
+    | inl before ↦ other k (ap is_eq (is.below k before))
+    | inr after ↦ elim (cases_lt k high) [
+      | inl within ↦ none refl k (slice_index_or cs k c) after within (slice_get-get_or cs k c there)
+      | inr past ↦ other k (ap is_eq (is.above k past there))
+    ]
   ]))
+    where
+      other : (k : ℕ) → is_eq (text_order (slice_index_or cs k c) c) ≡ false → same_cells c (slice_index_or cs k c) ≡ false
+      other k e = apart_other (slice_index_or cs k c) c (same_cells_ties (slice_index_or cs k c) c ∙ e)
 
   module _ (low high middle : ℕ) (x : List Cell) (up : Ascends cs) (is : IsSplit cs c low high) (on : middle < high) (at : slice_get cs middle ≡ Some x) where
     here : slice_index_or cs middle c ≡ x
@@ -213,13 +223,15 @@ module _ (few list : List (List Cell)) where
   pub left_some : (wanted : ℕ) (y : List Cell) → wanted < length few → PassLeft wanted (length list) → stand_on list few ≡ false
   left_some wanted y less h = sym h.0 ∙ ap (λ xs. stand_on xs (drop wanted few)) (drop-length list) ∙ ap (stand_on []) (drop-cons few wanted y less)
 
-  pub left_done : (wanted i : ℕ) → i ≡ length list → PassLeft wanted i → nat_eq wanted (length few) ≡ stand_on list few
-  left_done wanted i all h = go (nat_eq wanted (length few)) refl
-    where
-      go : (b : Bool) → nat_eq wanted (length few) ≡ b → b ≡ stand_on list few
-      go true e = sym (left_none wanted i (eqb-true wanted (length few) e) h)
-      go false e = at (cases_lt wanted (length few))
-        where
-          at : (wanted < length few) ⊎ (length few ≤ wanted) → false ≡ stand_on list few
-          at (inl less) = sym (left_some wanted [] less (subst (λ k. PassLeft wanted k) all h))
-          at (inr more) = absurd (let low = h.1 in let same : wanted ≡ length few = omega arith in cc (sym e ∙ eq-eqb wanted (length few) same))
+  -- none is left to be looked for
+  pub left_all : (wanted i : ℕ) → slice_get few wanted ≡ None → PassLeft wanted i → stand_on list few ≡ true
+  left_all wanted i none h = elim (slice_get_cases few wanted).1 [
+    | inl one ↦ absurd (cc (none, one.2))
+    | inr past ↦ left_none wanted i (let low = h.1 in omega (arith, past.0, low)) h
+  ]
+
+  pub left_end : (wanted : ℕ) (next : Option (List Cell)) (b : Bool) → next ≡ slice_get few wanted → is_some next ≡ not b → PassLeft wanted (length list) → b ≡ stand_on list few
+  left_end wanted None true at e h = sym (left_all wanted (length list) (sym at) h)
+  left_end wanted (Some y) false at e h = sym (left_some wanted y (slice_get_within few wanted y (sym at)) h)
+  left_end wanted None false at e h = absurd (cc e)
+  left_end wanted (Some y) true at e h = absurd (cc e)

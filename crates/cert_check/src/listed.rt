@@ -1,7 +1,8 @@
 //! Listed colourings, which ascend.
 
-ghost use Rattle.std.specs.Prelude.{◌≡◌, ◌∷◌, List, drop, false, slice_get};
+ghost use Rattle.std.specs.Prelude.{◌≡◌, ◌<◌, ◌≤◌, ◌∷◌, ℕ, IsTrue, List, Some, drop, false, length, slice_get, true};
 ghost use Rattle.std.specs.List.{list_all};
+ghost use Rattle.go_points.specs.Grid.{same_cells};
 ghost use Rattle.go_points.specs.declared.Cell.{Cell};
 ghost use Rattle.go_turns.specs.History.{has_occurred};
 ghost use Rattle.cert_check.specs.Private.Ascending.{Ascends, apart, comes_before, is_it};
@@ -11,41 +12,17 @@ use go_points::{Colouring, ColouringList};
 /// If a list is shorter than another by this factor, its colourings are looked up in the other one by one.
 const MUCH_SHORTER: usize = 16;
 
-/// A list up to this length is searched from the front, since testing two colourings for equality is faster than ordering them.
-const SHORT: usize = 32;
+/// So many colourings are looked at one by one, since testing two colourings for equality is faster than ordering them.
+const FEW: usize = 32;
 
-/// Whether the colouring is on the list.
+/// Whether the colouring is on the list: by binary search, from `low` up to, but not including, `high`, until few are left.
 pub(crate) fn stands_on(colouring: &Colouring, list: &ColouringList) -> bool
-    requires { Ascends list.now }
-    ensures { result ≡ has_occurred list.now colouring.now }
-{
-    if list.len() <= SHORT {
-        is_among(colouring, list)
-    } else {
-        is_found(colouring, list)
-    }
-}
-
-/// Whether the colouring is on the list, by looking at each.
-fn is_among(colouring: &Colouring, list: &ColouringList) -> bool
-    ensures { result ≡ has_occurred list.now colouring.now }
-{
-    for index in 0..list.len() {
-        if list.is_at(index, colouring) {
-            return true;
-        }
-    }
-    false
-}
-
-/// Whether the colouring is on the list, by binary search from `low` up to, but not including, `high`.
-fn is_found(colouring: &Colouring, list: &ColouringList) -> bool
     requires { Ascends list.now }
     ensures { result ≡ has_occurred list.now colouring.now }
 {
     let mut low = 0;
     let mut high = list.len();
-    'halving: while low < high {
+    'halving: while high.saturating_sub(low) > FEW {
         let middle = low + (high - low) / 2;
         let order = list.at(middle).cmp(colouring);
         if order.is_eq() {
@@ -55,6 +32,21 @@ fn is_found(colouring: &Colouring, list: &ColouringList) -> bool
             low = middle + 1;
         } else {
             high = middle;
+        }
+    }
+    is_among(colouring, list, low, high)
+}
+
+/// Whether the colouring is at a place of the list from `low` up to, but not including, `high`, by looking at each.
+fn is_among(colouring: &Colouring, list: &ColouringList, low: usize, high: usize) -> bool
+    requires { high ≤ length list.now }
+    ensures found { IsTrue result → has_occurred list.now colouring.now ≡ true }
+    ensures none { result ≡ false → (k : ℕ) (other : List Cell) → low ≤ k → k < high
+        → slice_get list.now k ≡ Some other → same_cells colouring.now other ≡ false }
+{
+    for index in low..high {
+        if list.is_at(index, colouring) {
+            return true;
         }
     }
     false
@@ -92,16 +84,18 @@ fn all_passed(few: &ColouringList, list: &ColouringList) -> bool
     requires list { Ascends list.now }
     ensures { result ≡ list_all (has_occurred list.now) few.now }
 {
-    let mut wanted = 0;
+    let mut place = 0;
+    let mut wanted = few.get(place);
     for index in 0..list.len() {
-        if wanted == few.len() {
+        let Some(colouring) = &wanted else {
             return true;
-        }
-        if list.is_at(index, &few.at(wanted)) {
-            wanted += 1;
+        };
+        if list.is_at(index, colouring) {
+            place += 1;
+            wanted = few.get(place);
         }
     }
-    wanted == few.len()
+    wanted.is_none()
 }
 
 /// Whether the colouring is at this place of the list.

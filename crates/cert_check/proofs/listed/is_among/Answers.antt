@@ -1,26 +1,20 @@
-use Rattle.cert_check.proofs.Common.{rules, [], refl, sym, ◌∙◌, get_or, get_or_from_slice_get, same_cells}
+use Rattle.cert_check.proofs.Common.{◌≡◌, ◌<◌, inl, inr, [], length, get_or, sym, ◌∙◌, ap, arith, slice_get, same_cells}
+use Rattle.std.proofs.lemmas.Bool.{cases_lt}
 use Rattle.std.proofs.lemmas.Option.{slice_get-get_or}
-use Rattle.target_game.proofs.Loops.{any_more, any_yes, any_no}
+use Rattle.cert_check.proofs.Ascending.{any_at}
 use Rattle.cert_check.proofs.listed.is_among.Goals as goal
 
-pub loop-index-init : goal.loop-index-init
-loop-index-init c = refl
-
-pub returns-then-is_at : goal.returns-then-is_at
-returns-then-is_at c =
+pub returns-then-is_at-clause-found : goal.returns-then-is_at-clause-found
+returns-then-is_at-clause-found c = λ yes.
     let list = c.args.list.now in
     let i = c.loop-index.index in
-    let x = get_or list i [] in
-    let found = slice_get-get_or list i [] (search rules) in
-    sym (any_yes (same_cells c.args.colouring.now) list i x (search rules) (get_or_from_slice_get list i x x found) (sym (c.is_at.ensures x found) ∙ c.if-is_at.true) c.loop-index.invariant)
+    let low : i < length list = omega (arith, c.loop-index-test.true, c.requires) in
+    any_at (same_cells c.args.colouring.now) list i [] low (sym (c.is_at.ensures (get_or list i []) (slice_get-get_or list i [] low)) ∙ c.if-is_at.true)
 
 pub loop-index-preserved : goal.loop-index-preserved
-loop-index-preserved c =
-    let list = c.args.list.now in
+loop-index-preserved c = λ k other after below there.
     let i = c.loop-index.index in
-    let x = get_or list i [] in
-    let found = slice_get-get_or list i [] (search rules) in
-    any_more (same_cells c.args.colouring.now) list i x (search rules) (get_or_from_slice_get list i x x found) (sym (c.is_at.ensures x found) ∙ c.if-is_at.false) c.loop-index.invariant
-
-pub returns : goal.returns
-returns c = sym (any_no (same_cells c.args.colouring.now) c.args.list.now c.loop-index.index (search rules) c.loop-index.invariant)
+    elim (cases_lt k i) [
+      | inl before ↦ c.loop-index.invariant k other after before there
+      | inr here ↦ (let same : k ≡ i = omega (arith, below, here) in sym (c.is_at.ensures other (ap (slice_get c.args.list.now) (sym same) ∙ there)) ∙ c.if-is_at.false)
+    ]

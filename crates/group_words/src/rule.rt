@@ -1,6 +1,6 @@
 //! The rule: what the findings of both procedures say together, and what those for both first moves say about the group.
 
-ghost use Rattle.std.specs.Prelude.{◌≡◌};
+ghost use Rattle.std.specs.Prelude.{◌≡◌, Some};
 ghost use Rattle.group_words.specs.Rule.{both_words, word_together, are_split, winner_together, together, weakened, fate_at, fate_of, IsByRule};
 
 use crate::side::{Finding, Side, Word, is_won_by};
@@ -122,7 +122,9 @@ fn both_words(one: Word, other: Word) -> Word
 
 /// What both findings say about the group: what was found where the attacker moves first, and where the defender does.
 pub fn judged_by(attacker_first: Finding, asked: &Finding) -> Judgement
-    ensures { IsByRule result }
+    ensures rule { IsByRule result }
+    ensures attacker { result.attacker_first ≡ attacker_first }
+    ensures defender { result.defender_first ≡ Some (weakened attacker_first asked.now) }
 {
     let defender_first = weakened(&attacker_first, asked);
     let (fate, word) = fate_of(&attacker_first, &defender_first);

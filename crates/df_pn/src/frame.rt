@@ -1,10 +1,9 @@
 //! One state of the line of play that is searched, with its children.
 
 use crate::kept::KeptState;
-use crate::numbers::Count;
 use go_points::Turn;
-use pn_table::Key;
-use state_proofs::{Below, MoverNumbers, Proofs, Thresholds};
+use pn_table::{INFINITY, Key};
+use state_proofs::{Below, Count, MoverNumbers, Proofs, Standing, Thresholds};
 
 /// What is known of a child, as the mover of the state above sees it.
 #[derive(Clone, Copy)]
@@ -57,35 +56,36 @@ pub(crate) struct Frame {
     pub(crate) is_barred: bool,
 }
 
-/// What the children say of their state.
-#[derive(Clone, Copy)]
-pub(crate) enum Standing {
-    /// The mover wins by a child.
-    Wins,
-    /// The mover loses by all children.
-    Loses,
-    Open(Count),
-}
-
 /// What these children say of their state.
 pub(crate) fn standing_of(children: &[Child]) -> Standing {
-    let mut count: Option<Count> = None;
+    let mut count = Count::none();
     for place in 0..children.len() {
         match children[place].outcome {
             Outcome::Wins(_) => return Standing::Wins,
             Outcome::Loses(_) => {}
-            Outcome::Open(numbers) => {
-                count = match count {
-                    None => Some(Count::one(place, numbers)),
-                    Some(count) => Some(count.with(place, numbers)),
-                };
-            }
+            Outcome::Open(numbers) => count.add(place, numbers, numbers.own as u64),
         }
     }
-    match count {
-        None => Standing::Loses,
-        Some(count) => Standing::Open(count),
-    }
+    count.standing()
+}
+
+/// The numbers of a state.
+pub(crate) fn numbers_of(count: Count) -> MoverNumbers {
+    count.numbers(INFINITY)
+}
+
+/// The thresholds of the best child, which has these numbers, from those of the state. Work stays at the child until its number is
+/// one and a half times the least one of the others.
+pub(crate) fn thresholds_below(
+    thresholds: Thresholds,
+    count: Count,
+    child: MoverNumbers,
+) -> Thresholds {
+    let own = match count.switching_value(1) {
+        None => thresholds.own,
+        Some(value) => thresholds.own.min(value),
+    };
+    thresholds.below(own, numbers_of(count), child)
 }
 
 /// How good a winning child is: an end of the game by pass is best, then any end, then the fewest turns.

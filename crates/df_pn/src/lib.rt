@@ -7,7 +7,6 @@ mod asked;
 mod children;
 mod frame;
 mod kept;
-mod numbers;
 mod recent;
 mod search;
 mod settled;

@@ -10,15 +10,14 @@
 ghost use Rattle.std.specs.Prelude.{◌≡◌, ◌≤◌, ◌<◌, IfErr};
 ghost use Rattle.state_proofs.specs.declared.stop.Stop.TheVariants.{Steps};
 
-use crate::frame::{Child, Frame, Outcome, Standing, standing_of};
+use crate::frame::{Child, Frame, Outcome, numbers_of, standing_of, thresholds_below};
 use crate::kept::{KeptChildren, KeptState};
-use crate::numbers::Count;
 use crate::recent::RecentMarks;
 use go_points::{Colour, Turn};
 use pn_table::{Key, Table};
 use state_proofs::{
-    Below, Branch, Form, Line, MAX_LINE, Move, MoverNumbers, Proofs, Refusal, Stop, Thresholds,
-    key_after, part_from,
+    Below, Branch, Count, Form, Line, MAX_LINE, Move, MoverNumbers, Proofs, Refusal, Standing,
+    Stop, Thresholds, key_after, part_from,
 };
 use std::alloc::{AllocError, Global};
 use std::num::NonZeroUsize;
@@ -161,7 +160,7 @@ impl Search {
             Standing::Wins => self.settle_last(frame, Form::Turn),
             Standing::Loses => self.settle_last(frame, Form::Replies),
             Standing::Open(count) => {
-                let numbers = count.numbers();
+                let numbers = numbers_of(count);
                 if self.frames.len() > 1 && frame.thresholds.are_reached(numbers) {
                     self.leave_open(frame, numbers);
                     return Ok(Round::Again);
@@ -258,7 +257,7 @@ impl Search {
             self.frames[last].current = place;
         }
         self.line.go(child.turn, key)?;
-        let thresholds = count.thresholds_below(frame.thresholds, numbers);
+        let thresholds = thresholds_below(frame.thresholds, count, numbers);
         if let Some(kept) = child.kept {
             if self.kept.has(kept) {
                 // It is not a step, since nothing is expanded for the first time.

@@ -1,10 +1,10 @@
 //! One state of the line of play that is searched, with its children.
 
-use crate::numbers::Count;
+use crate::numbers::weighed;
 use go_points::Colour;
 use local_board::{Position, Step};
 use pn_table::Key;
-use state_proofs::{MoverNumbers, Thresholds, key_after_move, key_after_pass};
+use state_proofs::{Count, MoverNumbers, Standing, Thresholds, key_after_move, key_after_pass};
 
 /// A state: the places of its stones, and its key.
 #[derive(Clone, Copy)]
@@ -67,36 +67,20 @@ pub(crate) struct Frame {
     pub(crate) is_barred: bool,
 }
 
-/// What the children say of their state.
-#[derive(Clone, Copy)]
-pub(crate) enum Standing {
-    /// The mover wins by a child.
-    Wins,
-    /// The mover loses by all children.
-    Loses,
-    Open(Count),
-}
-
 /// What these children say of their state.
 pub(crate) fn standing_of(children: &[Child]) -> Standing {
-    let mut count: Option<Count> = None;
+    let mut count = Count::none();
     for place in 0..children.len() {
         match children[place].outcome {
             Outcome::Wins(_) => return Standing::Wins,
             Outcome::Loses(_) => {}
             Outcome::Open(numbers) => {
-                let weight = children[place].weight;
-                count = match count {
-                    None => Some(Count::one(place, numbers, weight)),
-                    Some(count) => Some(count.with(place, numbers, weight)),
-                };
+                let value = weighed(numbers, children[place].weight);
+                count.add(place, numbers, value);
             }
         }
     }
-    match count {
-        None => Standing::Loses,
-        Some(count) => Standing::Open(count),
-    }
+    count.standing()
 }
 
 /// The key of a state after this turn, which leads to this position.

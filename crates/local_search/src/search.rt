@@ -7,18 +7,17 @@
 //!
 //! Nothing is promised about the numbers: what is found is given to the checker.
 
-use crate::frame::{
-    Child, Frame, Outcome, Reason, Standing, State, after_step, outcome_by, standing_of,
-};
+use crate::frame::{Child, Frame, Outcome, Reason, State, after_step, outcome_by, standing_of};
 use crate::kept::KeptMoves;
-use crate::numbers::Count;
+use crate::numbers::{numbers_of, thresholds_below};
 use crate::results::TurnResults;
 use crate::steps::Steps;
 use go_points::Colour;
 use local_board::{Board, Position, Shapes, Side, Step};
 use pn_table::{Key, Numbers, Table};
 use state_proofs::{
-    Branch, Form, MAX_LINE, Marks, MoverNumbers, Past, Proofs, Refusal, Stop, Thresholds, part_from,
+    Branch, Count, Form, MAX_LINE, Marks, MoverNumbers, Past, Proofs, Refusal, Standing, Stop,
+    Thresholds, part_from,
 };
 use std::alloc::{AllocError, Global};
 use std::num::NonZeroUsize;
@@ -221,7 +220,7 @@ impl Search {
             Standing::Wins => self.settle_last(frame, Form::Turn),
             Standing::Loses => self.settle_last(frame, Form::Replies),
             Standing::Open(count) => {
-                let numbers = count.numbers();
+                let numbers = numbers_of(count);
                 if self.frames.len() > 1 && frame.thresholds.are_reached(numbers) {
                     self.leave_open(frame, numbers);
                     return Ok(None);
@@ -306,6 +305,9 @@ impl Search {
             self.set_outcome(place, outcome);
             return Ok(());
         }
+        let Outcome::Open(numbers) = child.outcome else {
+            return Err(Stop::Refused(Refusal::Fault));
+        };
         let last = self.frames.len().saturating_sub(1);
         if last < self.frames.len() {
             self.frames[last].current = place;
@@ -313,7 +315,8 @@ impl Search {
         let step = child.step;
         let below = self.after(frame.state, step);
         self.go(step, child.key.position)?;
-        self.expand(below, step, count.thresholds_below(frame.thresholds))
+        let thresholds = thresholds_below(frame.thresholds, count, numbers, child.weight);
+        self.expand(below, step, thresholds)
     }
 }
 

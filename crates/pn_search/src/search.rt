@@ -221,10 +221,13 @@ fn confirmed(alloc: Global, problem: Problem, winner: Colour, main: Node) -> Fou
 {
     match share_tree(alloc, &problem, winner, &main) {
         Err(_) => confirmed_plainly(alloc, problem, winner, main),
-        Ok(shared) => match confirmed_with_lemmas(alloc, problem, &shared, SHORT_CLAIMS) {
-            Ok(checked) => Ok(checked),
-            Err((problem, _)) => confirmed_plainly(alloc, problem, winner, main),
-        },
+        Ok(shared) => {
+            let claim = claim_with_lemmas(alloc, &problem, &shared, SHORT_CLAIMS);
+            match accepted(alloc, problem, claim) {
+                Ok(checked) => Ok(checked),
+                Err((problem, _)) => confirmed_plainly(alloc, problem, winner, main),
+            }
+        }
     }
 }
 
@@ -239,47 +242,28 @@ fn confirmed_in_turn(alloc: Global, problem: Problem, shared: Shared) -> Found
     }
     let mut rest = problem;
     for choice in CHOICES {
-        match confirmed_with_lemmas(alloc, rest, &shared, choice) {
+        let claim = claim_with_lemmas(alloc, &rest, &shared, choice);
+        match accepted(alloc, rest, claim) {
             Ok(checked) => return Ok(checked),
             Err((problem, _)) => rest = problem,
         }
     }
-    confirmed_without_lemmas(alloc, rest, &shared)
+    let claim = claim_without_lemmas(alloc, &rest, &shared);
+    accepted(alloc, rest, claim)
 }
 
-/// The claim of the proofs without lemmas.
-fn confirmed_without_lemmas(alloc: Global, problem: Problem, shared: &Shared) -> Found
+/// The claim, if it could be written and the checker accepts it.
+fn accepted(alloc: Global, problem: Problem, claim: Result<Certificate, Refusal>) -> Found
     ensures ok { IfOk result (λ c. c.problem ≡ problem) }
     ensures err { IfErr result (λ r. r.0 ≡ problem) }
     ensures cause { IfErr result (λ r. r.1 ≢ Steps) }
 {
-    match claim_without_lemmas(alloc, &problem, shared) {
-        Ok(certificate) => accepted(alloc, problem, certificate),
+    match claim {
+        Ok(certificate) => match check_held(alloc, problem, certificate) {
+            Ok(checked) => Ok(checked),
+            Err((reject, problem, _)) => Err((problem, cause_of(reject.why))),
+        },
         Err(refusal) => Err((problem, cause_of_refusal(refusal))),
-    }
-}
-
-/// The claim of the proofs, with lemmas for those that are chosen.
-fn confirmed_with_lemmas(alloc: Global, problem: Problem, shared: &Shared, choice: Choice) -> Found
-    ensures ok { IfOk result (λ c. c.problem ≡ problem) }
-    ensures err { IfErr result (λ r. r.0 ≡ problem) }
-    ensures cause { IfErr result (λ r. r.1 ≢ Steps) }
-{
-    match claim_with_lemmas(alloc, &problem, shared, choice) {
-        Ok(certificate) => accepted(alloc, problem, certificate),
-        Err(refusal) => Err((problem, cause_of_refusal(refusal))),
-    }
-}
-
-/// The claim, if the checker accepts it.
-fn accepted(alloc: Global, problem: Problem, certificate: Certificate) -> Found
-    ensures ok { IfOk result (λ c. c.problem ≡ problem) }
-    ensures err { IfErr result (λ r. r.0 ≡ problem) }
-    ensures cause { IfErr result (λ r. r.1 ≢ Steps) }
-{
-    match check_held(alloc, problem, certificate) {
-        Ok(checked) => Ok(checked),
-        Err((reject, problem, _)) => Err((problem, cause_of(reject.why))),
     }
 }
 

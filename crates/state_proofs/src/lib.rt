@@ -6,6 +6,7 @@
 mod answers;
 mod ascending;
 mod conditions;
+mod count;
 mod fingerprint;
 mod gathered;
 mod keys;
@@ -28,6 +29,7 @@ mod used;
 mod visits;
 
 pub use answers::{Answers, steps_for_smaller};
+pub use count::{Count, Standing};
 pub use keys::{key_after, key_after_move, key_after_pass};
 pub use line::Line;
 pub use marks::Marks;

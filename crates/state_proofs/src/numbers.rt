@@ -74,4 +74,14 @@ impl Thresholds {
     pub fn are_reached(self, numbers: MoverNumbers) -> bool {
         numbers.own as u64 >= self.own || numbers.other as u64 >= self.other
     }
+
+    /// The thresholds of a child with the numbers `child`, as its mover sees them. These are those of the state with the numbers
+    /// `state`, whose mover leaves the child at the number `own`.
+    pub fn below(self, own: u64, state: MoverNumbers, child: MoverNumbers) -> Thresholds {
+        let others = (state.other as u64).saturating_sub(child.other as u64);
+        Thresholds {
+            own: self.other.saturating_sub(others),
+            other: own,
+        }
+    }
 }

@@ -1,5 +1,5 @@
 -- The names that several proofs of this crate cite, passed on from one place. Declares nothing.
-pub use Rattle.std.proofs.Common.{◌≡◌, ℕ, ◌∙◌, ap, sym, subst, ◌*◌, ◌<◌, List, slice_index, ◌≤◌, arith, ◌≢◌, ◌+◌, inr, inl, length, map, true, refl, take, Bool, false, ◌⊎◌, rules, cond, nat_eq, [], eq-eqb, ◌∷◌, set, ◌&&◌, eqb-true, slice_set, None, not, ◌-◌, IsTrue, ap₂, ◌++◌, nat_lt, drop, filter, get_or, is_none, ltb-false, ltb-true, take-append-drop, ◌↔◌}
+pub use Rattle.std.proofs.Common.{◌≡◌, ℕ, ◌∙◌, ap, sym, subst, ◌*◌, ◌<◌, List, slice_index, ◌≤◌, arith, ◌≢◌, ◌+◌, inr, inl, length, map, true, refl, take, Bool, false, ◌⊎◌, rules, cond, nat_eq, [], eq-eqb, ◌∷◌, set, ◌&&◌, eqb-true, slice_set, None, not, ◌-◌, IsTrue, ap₂, ◌++◌, nat_lt, drop, filter, get_or, is_none, ltb-true, take-append-drop, ◌↔◌}
 pub use Rattle.std.proofs.lemmas.Bool.{cases_eq, cases_lt}
 pub use Rattle.std.proofs.lemmas.Grind.{take_at_read}
 pub use Rattle.std.proofs.lemmas.List.{get_or-set_other, get_or-set_same, take_all, length-map, get_or_past, length-set, ext_get_or, get_or-replicate, length-replicate, length-take-le, map-append}

@@ -1,6 +1,6 @@
 -- When a move keeps its stone and changes no other point, from the counts before it.
-use Rattle.go_chains.proofs.Common.{◌≡◌, ◌≢◌, ℕ, ◌+◌, ◌*◌, ◌<◌, ◌≤◌, ◌⊎◌, inl, inr, ◌↔◌, Bool, true, false, not, ◌&&◌, IsTrue, nat_eq, eqb-true, eq-eqb, cond, nat_lt, ltb-true, ltb-false, List, [], ◌∷◌, length, slice_index, set, refl, sym, ◌∙◌, ap, subst, arith, list_any, cases_eq, get_or-set_same, get_or-set_other, get_or_past, MAX_POINTS, Colour, Cell, Empty, Stone, opponent_of, same_cell, adjacent, neighbours, cell_at, IsPath, Reaches, after_move, Member, and_left, and_right, and_both, or_cases, or_left, or_right, any_to, same_cell_eq, eq_same_cell, adjacent_on_board, adjacent_back, member_neighbours, neighbours_member, opponent_ne, one_or_other, IsWay, Joined, nowhere, touches, empties_beside, liberty_count, HasCircles, IsBoard, has_more, loses_last, lets_stay}
-use Rattle.std.proofs.lemmas.Bool.{false_from_ne_true}
+use Rattle.go_chains.proofs.Common.{◌≡◌, ◌≢◌, ℕ, ◌+◌, ◌*◌, ◌<◌, ◌≤◌, ◌⊎◌, inl, inr, ◌↔◌, Bool, true, false, not, ◌&&◌, IsTrue, nat_eq, eqb-true, eq-eqb, cond, nat_lt, ltb-true, List, [], ◌∷◌, length, slice_index, set, refl, sym, ◌∙◌, ap, subst, arith, list_any, cases_eq, get_or-set_same, get_or-set_other, get_or_past, MAX_POINTS, Colour, Cell, Empty, Stone, opponent_of, same_cell, adjacent, neighbours, cell_at, IsPath, Reaches, after_move, Member, and_left, and_right, and_both, or_cases, or_left, or_right, any_to, same_cell_eq, eq_same_cell, adjacent_on_board, adjacent_back, member_neighbours, neighbours_member, opponent_ne, one_or_other, IsWay, Joined, nowhere, touches, empties_beside, liberty_count, HasCircles, IsBoard, has_more, loses_last, lets_stay}
+use Rattle.std.proofs.lemmas.Bool.{false_from_ne_true, lt-ltb}
 use Rattle.go_points.specs.Grid.{differ_by_one, row_of, column_of}
 use Rattle.go_points.proofs.Lists.{not_true, any_from}
 use Rattle.go_points.proofs.Clearing.{EveryStoneReaches, on_or_off}
@@ -11,17 +11,6 @@ use Rattle.go_chains.proofs.Totals.{total_same}
 use Rattle.go_chains.proofs.Merging.{off}
 use Rattle.go_chains.proofs.Boards.{heads_joined}
 use Rattle.go_chains.proofs.Leaving.{head_holds}
-
-more_is : (x y : ℕ) → x < y → nat_lt x y ≡ true
-more_is x y less = go (nat_lt x y) refl
-  where
-    go : (b : Bool) → nat_lt x y ≡ b → b ≡ true
-    go true e = refl
-    go false e = absurd (omega (arith, less, ltb-false x y e))
-
-test_off : (b : Bool) → (b ≡ true → ⊥) → b ≡ false
-test_off true h = absurd (h refl)
-test_off false h = refl
 
 differ_self : (i : ℕ) → differ_by_one i i ≡ true → ⊥
 differ_self i h = elim (or_cases (nat_eq (i + 1) i) (nat_eq (i + 1) i) h) [
@@ -150,7 +139,7 @@ module _ (n : ℕ) (c : List Cell) (heads next counts : List ℕ) (k : Colour) (
                   let to_x = joined_after q x stone (heads_joined n c heads next q x board.settled.chains q_on x_on q_has beside.2) in
                   let to_p = joined_beside n after q x p to_x (adjacent_back n p x beside.1) (here ∙ sym (others x (not_p x (λ e. cc (x_own, e))) ∙ x_own)) in
                   free_beside q p to_p stone_free)
-              | inr other ↦ (let taken : loses_last n c heads counts k p x ≡ true = and_both _ _ (eq_same_cell (cell_at c x) (Stone (opponent_of k)) (x_is ∙ ap Stone other)) (ap not (test_off (has_more n heads counts p x) (shut x beside.2 none))) in
+              | inr other ↦ (let taken : loses_last n c heads counts k p x ≡ true = and_both _ _ (eq_same_cell (cell_at c x) (Stone (opponent_of k)) (x_is ∙ ap Stone other)) (ap not (false_from_ne_true (has_more n heads counts p x) (shut x beside.2 none))) in
                   absurd (cc (takes, any_to (loses_last n c heads counts k p) x (neighbours n p) (neighbours_member n p x beside.1) taken)))
             ]
           where
@@ -193,7 +182,7 @@ module _ (n : ℕ) (c : List Cell) (heads next counts : List ℕ) (k : Colour) (
         omega (arith, sum, some)
 
     takes_none : list_any (loses_last n c heads counts k p) (neighbours n p) ≡ false
-    takes_none = test_off (list_any (loses_last n c heads counts k p) (neighbours n p)) (λ h. taken (any_from (loses_last n c heads counts k p) (neighbours n p) h))
+    takes_none = false_from_ne_true (list_any (loses_last n c heads counts k p) (neighbours n p)) (λ h. taken (any_from (loses_last n c heads counts k p) (neighbours n p) h))
       where
         taken : (x : ℕ) × Member x (neighbours n p) × (loses_last n c heads counts k p x ≡ true) → ⊥
         taken found =
@@ -209,7 +198,7 @@ module _ (n : ℕ) (c : List Cell) (heads next counts : List ℕ) (k : Colour) (
             let end = ends (Stone (opponent_of k)) x r.1.0 (λ e. cc e) (λ e. opponent_ne k (cc e)) now path in
             let sum = spare (slice_index heads x) (board.settled.chains.within x x_on (has x x_on stone)) (board.settled.chains.own x x_on (has x x_on stone)) in
             let some = count_from n after heads (slice_index heads x) end.1 end.0 end.4 end.3 end.2 in
-            absurd (cc (none, more_is (touches n heads (slice_index heads x) p) (slice_index counts (slice_index heads x)) (omega (arith, sum, some))))
+            absurd (cc (none, lt-ltb (touches n heads (slice_index heads x) p) (slice_index counts (slice_index heads x)) (omega (arith, sum, some))))
 
     -- p, or a stone of its colour whose chain stands beside it
     IsInside : ℕ → Type 0
@@ -232,7 +221,7 @@ module _ (n : ℕ) (c : List Cell) (heads next counts : List ℕ) (k : Colour) (
         let x_on = (adjacent_on_board n p x beside.1).1 in
         let h_on = board.settled.chains.within q q_on (has q q_on stone) in
         let x_is : cell_at c x ≡ Stone k = head_holds n c heads next x (slice_index heads q) room board.settled.chains x_on h_on beside.2 ∙ sym (head_holds n c heads next q (slice_index heads q) room board.settled.chains q_on h_on refl) ∙ was in
-        let more : has_more n heads counts p x ≡ true = more_is (touches n heads (slice_index heads x) p) (slice_index counts (slice_index heads x)) (subst (λ h. touches n heads h p < slice_index counts h) (sym beside.2) less) in
+        let more : has_more n heads counts p x ≡ true = lt-ltb (touches n heads (slice_index heads x) p) (slice_index counts (slice_index heads x)) (subst (λ h. touches n heads h p < slice_index counts h) (sym beside.2) less) in
         any_to (lets_stay n c heads counts k p) x (neighbours n p) (neighbours_member n p x beside.1)
         (or_right (same_cell (cell_at c x) Empty) (same_cell (cell_at c x) (Stone k) && has_more n heads counts p x) (and_both _ _ (eq_same_cell (cell_at c x) (Stone k) x_is) more))
     finds q (r ∷ s ∷ rs) is inside path = finds r (s ∷ rs) path.2.0 (next_inside inside (cases_eq r p)) path.2

@@ -107,53 +107,22 @@ fn chains_live_together_by_the_eyes_that_they_share(rt: HostRuntime) {
     expect_no_life(&rt, 4, text, ".x..............", "xxxxxxxxxxxxxxxx");
 }
 
+// Whether this colour's target, marked on a board of this many rows, lives by its shape round Black's two eyes on three rows.
+fn lives_by_two_eyes(rt: &impl Abort, rows: u8, targets: &str, colour: Colour) -> bool {
+    is_pass_alive(
+        &board(rt, 3, ".XXXXXXX."),
+        &marked(rt, rows, targets),
+        colour,
+        &marked(rt, 3, "xxxxxxxxx"),
+    )
+}
+
 #[test]
 fn a_target_off_the_board_or_without_a_stone_does_not_live(rt: HostRuntime) {
-    let board = board(&rt, 3, ".XXXXXXX.");
-    let region = marked(&rt, 3, "xxxxxxxxx");
-    expect_that(
-        &rt,
-        !is_pass_alive(
-            &board,
-            &marked(&rt, 4, "...x............"),
-            Colour::Black,
-            &region,
-        ),
-    );
-    expect_that(
-        &rt,
-        !is_pass_alive(
-            &board,
-            &marked(&rt, 4, "............x..."),
-            Colour::Black,
-            &region,
-        ),
-    );
-    expect_that(
-        &rt,
-        !is_pass_alive(
-            &board,
-            &marked(&rt, 3, "x..............."),
-            Colour::Black,
-            &region,
-        ),
-    );
-    expect_that(
-        &rt,
-        !is_pass_alive(
-            &board,
-            &marked(&rt, 3, "....x..........."),
-            Colour::White,
-            &region,
-        ),
-    );
-    expect_that(
-        &rt,
-        is_pass_alive(
-            &board,
-            &marked(&rt, 3, ".........."),
-            Colour::White,
-            &region,
-        ),
-    );
+    for target in ["...x............", "............x..."] {
+        expect_that(&rt, !lives_by_two_eyes(&rt, 4, target, Colour::Black));
+    }
+    expect_that(&rt, !lives_by_two_eyes(&rt, 3, "x........", Colour::Black));
+    expect_that(&rt, !lives_by_two_eyes(&rt, 3, "....x....", Colour::White));
+    expect_that(&rt, lives_by_two_eyes(&rt, 3, ".........", Colour::White));
 }

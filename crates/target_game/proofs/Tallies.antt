@@ -1,6 +1,7 @@
 -- The pass over the tree of all legal play, state by state and turn by turn.
 use Rattle.target_game.proofs.Common.{◌≡◌, ℕ, zero, suc, ◌+◌, ◌-◌, ◌<◌, ◌≤◌, Bool, true, false, cond, not, nat_lt, ltb-true, ltb-false, lt-ltb, List, [], ◌∷◌, Option, Some, None, is_some, option_map, Result, Ok, Err, ◌⊎◌, inl, inr, if◌then◌else◌, refl, sym, ◌∙◌, ap, ap₂, arith, Colour, Black, White, same_colour, Ply, GameState, legal_turns, next, over, some_or_each, is_winner, wins, nodes, tally_of, before_turns, with_below, with_turns}
 use Rattle.std.proofs.Common.{sum_by, IfOk}
+use Rattle.std.proofs.lemmas.Bool.{le-ltb}
 use Rattle.std.proofs.lemmas.List.Sums.{sum_by-cons}
 use Rattle.target_game.specs.declared.tally.Tally.{Tally}
 use Rattle.target_game.specs.declared.within.Within.TheVariants.{Wins, Neither, Limit}
@@ -8,20 +9,12 @@ use Rattle.target_game.specs.Private.Tally.{either_or_both}
 use Rattle.target_game.specs.Within.{decision}
 use Rattle.target_game.proofs.Winning.{over_cases, wins_over, wins_next}
 
--- a test of a limit
-not_past : (n m : ℕ) → m ≤ n → nat_lt n m ≡ false
-not_past n m low = go (nat_lt n m) refl
-  where
-    go : (b : Bool) → nat_lt n m ≡ b → b ≡ false
-    go true e = let high : n < m = ltb-true n m e in absurd (omega arith)
-    go false e = refl
-
 less_left : (n m k : ℕ) → m ≤ n → nat_lt n (m + k) ≡ nat_lt (n - m) k
 less_left n m k low = go (nat_lt (n - m) k) refl
   where
     go : (b : Bool) → nat_lt (n - m) k ≡ b → nat_lt n (m + k) ≡ b
     go true e = let high : n - m < k = ltb-true (n - m) k e in lt-ltb n (m + k) (omega arith)
-    go false e = let fits : k ≤ n - m = ltb-false (n - m) k e in not_past n (m + k) (omega arith)
+    go false e = let fits : k ≤ n - m = ltb-false (n - m) k e in le-ltb n (m + k) (omega arith)
 
 -- every tree has a state
 pub nodes_over : (s : GameState) (k : ℕ) (y : Colour) → over s ≡ Some y → nodes s k ≡ 1
@@ -76,7 +69,7 @@ pub tally_last : (s : GameState) (k allowed : ℕ) (t : Tally) → is_some (over
 unfolding tally_of
 tally_last s k allowed t h some left black white =
     let one : nodes s k ≡ 1 = nodes_last s k h in
-    let within : nat_lt allowed 1 ≡ false = not_past allowed 1 (omega arith) in
+    let within : nat_lt allowed 1 ≡ false = le-ltb allowed 1 (omega arith) in
     let same : t ≡ tally allowed 1 (wins Black s k) (wins White s k) = λ i. record { left = left i; black = (black ∙ sym (wins_last Black s k h)) i; white = (white ∙ sym (wins_last White s k h)) i } in
     ap Some same ∙ sym (ap (λ b. cond b None (Some (tally allowed 1 (wins Black s k) (wins White s k)))) within) ∙ sym (ap (λ m. unless_past allowed m (wins Black s k) (wins White s k)) one)
 
@@ -159,7 +152,7 @@ pub turns_done : (s : GameState) (k : ℕ) (a : Tally) → with_turns s k [] a �
 unfolding with_turns
 turns_done s k a =
     let left : a.left - 0 ≡ a.left = omega arith in
-    ap (λ p. cond p None (Some (all_seen s k [] a))) (not_past a.left 0 (omega arith))
+    ap (λ p. cond p None (Some (all_seen s k [] a))) (le-ltb a.left 0 (omega arith))
     ∙ ap Some (λ i. record {
       left = left i;
       black = either_none (same_colour s.mover Black) (λ u. wins Black (next s u) k) a.black i;

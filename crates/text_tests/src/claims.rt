@@ -20,15 +20,21 @@ pub fn size_of(rt: &impl Abort, rows: u8) -> Size {
     Size::new(rows).expect(rt, "a size")
 }
 
-fn expect_refusal(rt: &impl Abort, found: Result<(), CertWrite>, wanted: Result<(), CertWrite>) {
-    assert_eq!(rt; found, wanted);
+/// Expects the claim to have no spelling, and nothing of it to be written.
+pub fn expect_no_spelling(rt: &impl Abort, alloc: Global, certificate: &Certificate) {
+    let mut out = Vec::new(alloc);
+    assert_eq!(rt;
+        write_cert(certificate, &mut out),
+        Err(CertWrite::NoSpelling)
+    );
+    expect_that(rt, out.is_empty());
 }
 
 fn at(rt: &impl Abort, column: u8, row: u8) -> Turn {
     Turn::At(size_of(rt, 19).point(column, row).expect(rt, "a point"))
 }
 
-fn colouring(rt: &impl Abort, rows: u8, text: &str) -> Colouring {
+pub fn colouring(rt: &impl Abort, rows: u8, text: &str) -> Colouring {
     Colouring::from_text(size_of(rt, rows), text.as_bytes()).expect(rt, "a colouring")
 }
 
@@ -66,23 +72,43 @@ fn shared(alloc: Global, rt: &impl Abort) -> Certificate {
     one_lemma(alloc, rt, 0, &[colouring(rt, 3, ".XOXO....")])
 }
 
-fn answered(alloc: Global, rt: &impl Abort) -> Certificate {
+/// All turns, of which there is only the pass, with this node below it.
+fn only_pass(alloc: Global, rt: &impl Abort, below: Node) -> Node {
     let mut replies = Vec::new(alloc);
-    replies
-        .push((Turn::Pass, play(rt, alloc, Turn::Pass, Node::Won)))
-        .expect(rt, "memory");
+    replies.push((Turn::Pass, below)).expect(rt, "memory");
+    Node::All(replies)
+}
+
+/// A claim of this version, with a lemma that has these lists and which main uses.
+pub fn of_lists(
+    alloc: Global,
+    rt: &impl Abort,
+    version: Version,
+    had: &[Colouring],
+    absent: &[Colouring],
+) -> Certificate {
     let mut lemmas = Vec::new(alloc);
     lemmas
         .push(Lemma {
             mover: Colour::Black,
             passes: 0,
             root: colouring(rt, 3, "O.OXO...."),
-            had: Vec::new(alloc),
-            absent: Vec::new(alloc),
-            body: Node::All(replies),
+            had: had.to_vec(alloc).expect(rt, "memory"),
+            absent: absent.to_vec(alloc).expect(rt, "memory"),
+            body: only_pass(alloc, rt, play(rt, alloc, Turn::Pass, Node::Won)),
         })
         .expect(rt, "memory");
-    claim(rt, Colour::White, lemmas, Node::Use(1))
+    Certificate {
+        version,
+        size: size_of(rt, 3),
+        winner: Colour::White,
+        lemmas,
+        main: Node::Use(1),
+    }
+}
+
+fn answered(alloc: Global, rt: &impl Abort) -> Certificate {
+    of_lists(alloc, rt, Version::One, &[], &[])
 }
 
 /// White passes, Black takes the other point and the lemma follows, or Black passes too.
@@ -96,8 +122,6 @@ fn one_point(rt: &impl Abort, alloc: Global, column: u8, row: u8) -> Node {
 }
 
 fn meeting(alloc: Global, rt: &impl Abort) -> Certificate {
-    let mut passed = Vec::new(alloc);
-    passed.push((Turn::Pass, Node::Won)).expect(rt, "memory");
     let mut lemmas = Vec::new(alloc);
     lemmas
         .push(Lemma {
@@ -106,7 +130,7 @@ fn meeting(alloc: Global, rt: &impl Abort) -> Certificate {
             root: colouring(rt, 3, "O......XX"),
             had: Vec::new(alloc),
             absent: Vec::new(alloc),
-            body: play(rt, alloc, Turn::Pass, Node::All(passed)),
+            body: play(rt, alloc, Turn::Pass, only_pass(alloc, rt, Node::Won)),
         })
         .expect(rt, "memory");
     let mut replies = Vec::new(alloc);
@@ -213,13 +237,7 @@ fn refuses_what_has_no_spelling(rt: HostRuntime) {
         ),
     ];
     for certificate in &unspelled {
-        let mut out = Vec::new(alloc);
-        expect_refusal(
-            &rt,
-            write_cert(certificate, &mut out),
-            Err(CertWrite::NoSpelling),
-        );
-        expect_that(&rt, out.is_empty());
+        expect_no_spelling(&rt, alloc, certificate);
         // The header and `main` have a spelling, but the third line has none.
         let mut held = HeldSource::new(alloc, certificate);
         expect_that(&rt, matches!(held.next(), Ok(Some(Line::Header { .. }))));
@@ -235,19 +253,11 @@ fn lemmas_may_have_no_spelling(rt: HostRuntime) {
     let alloc = rt.alloc();
     let listed = [colouring(&rt, 3, ".XOXO...."), colouring(&rt, 2, "....")];
     let wide = one_lemma(alloc, &rt, 0, &listed);
-    expect_refusal(
-        &rt,
-        write_cert(&wide, &mut Vec::new(alloc)),
-        Err(CertWrite::NoSpelling),
-    );
+    expect_no_spelling(&rt, alloc, &wide);
     let (lines, failed) = taken(&rt, alloc, &mut HeldSource::new(alloc, &wide));
     expect_that(&rt, failed && lines.len() == 3);
     let passes = one_lemma(alloc, &rt, 2, &[]);
-    expect_refusal(
-        &rt,
-        write_cert(&passes, &mut Vec::new(alloc)),
-        Err(CertWrite::NoSpelling),
-    );
+    expect_no_spelling(&rt, alloc, &passes);
     let (lines, failed) = taken(&rt, alloc, &mut HeldSource::new(alloc, &passes));
     expect_that(&rt, failed && lines.len() == 1);
 }
@@ -275,11 +285,7 @@ fn trees_may_be_deep(rt: HostRuntime) {
     let mut tree = Node::Won;
     let mut body = Vec::new(alloc);
     for _ in 0..999 {
-        let mut replies = Vec::new(alloc);
-        replies
-            .push((Turn::Pass, play(&rt, alloc, Turn::Pass, tree)))
-            .expect(&rt, "memory");
-        tree = Node::All(replies);
+        tree = only_pass(alloc, &rt, play(&rt, alloc, Turn::Pass, tree));
         body.extend_from_slice(b"all 1\nreply pass\nplay pass\n")
             .expect(&rt, "memory");
     }

@@ -1,78 +1,26 @@
 //! Claims of version 2, whose lemmas say which colourings must have occurred.
 
+use crate::claims::{colouring, expect_no_spelling, of_lists, size_of, written};
 use crate::expect::{expect_number, expect_same, expect_that};
-use go_points::{Colour, Colouring, Size, Turn};
 use proof_cert::*;
-use std::alloc::Global;
-use std::process::Abort;
 
 const NEEDED: &str =
     "tsucert 2 3 W\nlemma B 0 O.OXO....\nhad .XOXO....\nall 1\nreply pass\nplay pass\nwon\nend\nmain\nuse 1\nend\n";
 
-fn three(rt: &impl Abort) -> Size {
-    Size::new(3).expect(rt, "a size")
-}
-
-fn colouring(rt: &impl Abort, text: &str) -> Colouring {
-    Colouring::from_text(three(rt), text.as_bytes()).expect(rt, "a colouring")
-}
-
-fn expect_refusal(rt: &impl Abort, found: Result<(), CertWrite>, wanted: Result<(), CertWrite>) {
-    assert_eq!(rt; found, wanted);
-}
-
-/// A claim of this version, with a lemma that has these lists and which main uses.
-fn of_lists(
-    alloc: Global,
-    rt: &impl Abort,
-    version: Version,
-    had: &[Colouring],
-    absent: &[Colouring],
-) -> Certificate {
-    let mut replies = Vec::new(alloc);
-    replies
-        .push((
-            Turn::Pass,
-            Node::Play(Turn::Pass, Box::new(alloc, Node::Won).expect(rt, "memory")),
-        ))
-        .expect(rt, "memory");
-    let mut lemmas = Vec::new(alloc);
-    lemmas
-        .push(Lemma {
-            mover: Colour::Black,
-            passes: 0,
-            root: colouring(rt, "O.OXO...."),
-            had: had.to_vec(alloc).expect(rt, "memory"),
-            absent: absent.to_vec(alloc).expect(rt, "memory"),
-            body: Node::All(replies),
-        })
-        .expect(rt, "memory");
-    Certificate {
-        version,
-        size: three(rt),
-        winner: Colour::White,
-        lemmas,
-        main: Node::Use(1),
-    }
-}
-
-fn written(rt: &impl Abort, alloc: Global, certificate: &Certificate) -> Vec<u8> {
-    let mut out = Vec::new(alloc);
-    write_cert(certificate, &mut out).expect(rt, "memory");
-    out
-}
-
 #[test]
 fn writes_what_must_have_occurred_before_what_must_not(rt: HostRuntime) {
     let alloc = rt.alloc();
-    let needed = [colouring(&rt, ".XOXO....")];
+    let needed = [colouring(&rt, 3, ".XOXO....")];
     let one = of_lists(alloc, &rt, Version::Two, &needed, &[]);
     expect_that(
         &rt,
         written(&rt, alloc, &one).as_slice() == NEEDED.as_bytes(),
     );
-    let had = [colouring(&rt, "........."), colouring(&rt, "O........")];
-    let absent = [colouring(&rt, "X........")];
+    let had = [
+        colouring(&rt, 3, "........."),
+        colouring(&rt, 3, "O........"),
+    ];
+    let absent = [colouring(&rt, 3, "X........")];
     let both = of_lists(alloc, &rt, Version::Two, &had, &absent);
     let text =
         b"tsucert 2 3 W\nlemma B 0 O.OXO....\nhad .........\nhad O........\nnot X........\nall 1\nreply pass\nplay pass\nwon\nend\nmain\nuse 1\nend\n";
@@ -92,11 +40,9 @@ fn writes_what_must_have_occurred_before_what_must_not(rt: HostRuntime) {
 #[test]
 fn version_one_has_no_line_for_what_must_have_occurred(rt: HostRuntime) {
     let alloc = rt.alloc();
-    let needed = [colouring(&rt, ".XOXO....")];
+    let needed = [colouring(&rt, 3, ".XOXO....")];
     let old = of_lists(alloc, &rt, Version::One, &needed, &[]);
-    let mut out = Vec::new(alloc);
-    expect_refusal(&rt, write_cert(&old, &mut out), Err(CertWrite::NoSpelling));
-    expect_that(&rt, out.is_empty());
+    expect_no_spelling(&rt, alloc, &old);
     // The header and the lemma's first line have a spelling, but the third line has none.
     let mut held = HeldSource::new(alloc, &old);
     expect_that(
@@ -118,14 +64,9 @@ fn version_one_has_no_line_for_what_must_have_occurred(rt: HostRuntime) {
 #[test]
 fn what_must_have_occurred_is_of_the_size(rt: HostRuntime) {
     let alloc = rt.alloc();
-    let two = Size::new(2).expect(&rt, "a size");
-    let small = [Colouring::from_text(two, b"....").expect(&rt, "a colouring")];
+    let small = [colouring(&rt, 2, "....")];
     let other = of_lists(alloc, &rt, Version::Two, &small, &[]);
-    expect_refusal(
-        &rt,
-        write_cert(&other, &mut Vec::new(alloc)),
-        Err(CertWrite::NoSpelling),
-    );
+    expect_no_spelling(&rt, alloc, &other);
 }
 
 #[test]
@@ -139,7 +80,7 @@ fn reads_what_it_writes(rt: HostRuntime) {
         "tsucert 1 3 W\nlemma B 0 O.OXO....\nnot X........\nwon\nend\nmain\nuse 1\nend\n",
     ];
     for text in &texts {
-        let certificate = read_cert(alloc, three(&rt), text.as_bytes()).expect(&rt, "a claim");
+        let certificate = read_cert(alloc, size_of(&rt, 3), text.as_bytes()).expect(&rt, "a claim");
         expect_that(
             &rt,
             written(&rt, alloc, &certificate).as_slice() == text.as_bytes(),
@@ -159,7 +100,7 @@ fn reads_no_such_line_elsewhere(rt: HostRuntime) {
         "tsucert 2 3 W\nmain\nhad .XOXO....\nwon\nend\n",
     ];
     for text in &texts {
-        let read = read_cert(alloc, three(&rt), text.as_bytes());
+        let read = read_cert(alloc, size_of(&rt, 3), text.as_bytes());
         expect_that(&rt, matches!(read, Err(SourceFault::Malformed)));
     }
 }
@@ -167,11 +108,11 @@ fn reads_no_such_line_elsewhere(rt: HostRuntime) {
 #[test]
 fn gives_the_lines_of_its_text(rt: HostRuntime) {
     let alloc = rt.alloc();
-    let needed = [colouring(&rt, ".XOXO....")];
+    let needed = [colouring(&rt, 3, ".XOXO....")];
     let certificate = of_lists(alloc, &rt, Version::Two, &needed, &needed);
     let text = written(&rt, alloc, &certificate);
     let mut held = HeldSource::new(alloc, &certificate);
-    let mut read = ReaderSource::new(three(&rt), text.as_slice(), b"".as_slice());
+    let mut read = ReaderSource::new(size_of(&rt, 3), text.as_slice(), b"".as_slice());
     for _ in 0..12 {
         let line = held.next();
         expect_that(&rt, matches!(line, Ok(Some(_))));

@@ -1,17 +1,14 @@
 //! The lines of short claims, read and written.
 
+use crate::claims::size_of;
 use crate::expect::{expect_bytes, expect_number, expect_that};
-use go_points::{Colour, Size, Turn};
+use go_points::{Colour, Turn};
 use proof_cert::{
     Certificate, Line, Node, NodeSource, ReaderSource, SourceFault, Version, write_short,
 };
 use std::process::Abort;
 
 const CLAIM: &str = "tsushort 1 3 W\nmain\nplay ba\nalive\nend\n";
-
-fn three(rt: &impl Abort) -> Size {
-    Size::new(3).expect(rt, "a size")
-}
 
 fn expect_line(rt: &impl Abort, found: Option<Line>, wanted: Option<Line>) {
     assert_eq!(rt; found, wanted);
@@ -26,11 +23,11 @@ fn expect_next(
 }
 
 fn short_line(rt: &impl Abort, text: &str) -> Option<Line> {
-    Line::from_short_text(three(rt), text.as_bytes())
+    Line::from_short_text(size_of(rt, 3), text.as_bytes())
 }
 
 fn middle_of_the_first_row(rt: &impl Abort) -> Turn {
-    Turn::At(three(rt).point(1, 0).expect(rt, "a point"))
+    Turn::At(size_of(rt, 3).point(1, 0).expect(rt, "a point"))
 }
 
 #[test]
@@ -73,14 +70,14 @@ fn bytes_that_spell_no_line_of_a_short_claim(rt: HostRuntime) {
 #[test]
 fn ordinary_claims_have_no_such_lines(rt: HostRuntime) {
     for text in ["tsushort 1 3 B", "alive", "use 0"] {
-        expect_line(&rt, Line::from_text(three(&rt), text.as_bytes()), None);
+        expect_line(&rt, Line::from_text(size_of(&rt, 3), text.as_bytes()), None);
     }
 }
 
 #[test]
 fn a_reader_of_a_short_claim(rt: HostRuntime) {
     let mut nothing = b"".as_slice();
-    let mut source = ReaderSource::of_short(three(&rt), CLAIM.as_bytes(), &mut nothing);
+    let mut source = ReaderSource::of_short(size_of(&rt, 3), CLAIM.as_bytes(), &mut nothing);
     for _ in 0..3 {
         expect_that(&rt, source.next().is_ok());
         expect_that(&rt, !source.is_alive());
@@ -91,7 +88,7 @@ fn a_reader_of_a_short_claim(rt: HostRuntime) {
     expect_that(&rt, !source.is_alive());
     expect_next(&rt, source.next(), Ok(None));
     expect_number(&rt, source.line_number(), 5);
-    let mut ordinary = ReaderSource::new(three(&rt), CLAIM.as_bytes(), &mut nothing);
+    let mut ordinary = ReaderSource::new(size_of(&rt, 3), CLAIM.as_bytes(), &mut nothing);
     expect_next(&rt, ordinary.next(), Err(SourceFault::Malformed));
 }
 
@@ -101,7 +98,7 @@ fn a_short_claim_is_written_as_it_is_read(rt: HostRuntime) {
     let below = Box::new(alloc, Node::Use(0)).expect(&rt, "memory");
     let certificate = Certificate {
         version: Version::Two,
-        size: three(&rt),
+        size: size_of(&rt, 3),
         winner: Colour::White,
         lemmas: Vec::new(alloc),
         main: Node::Play(middle_of_the_first_row(&rt), below),

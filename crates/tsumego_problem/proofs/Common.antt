@@ -13,7 +13,7 @@ pub use Rattle.std.specs.Prelude.{codes, unwrap_or, not, filter, nat_lt, slice_i
 pub use Rattle.std.specs.Str.{bytes_eq}
 pub use Rattle.go_points.proofs.Cells.{same_cell_refl}
 pub use Rattle.go_points.proofs.Lists.{and_left, and_right}
-pub use Rattle.go_points.specs.Equal.{same_cells_eq}
+pub use Rattle.go_points.specs.Equal.{same_cells_eq, same_cells_refl}
 pub use Rattle.go_points.specs.Grid.{points, cell_at, same_cell, same_cells, column_of, opponent_of, row_of}
 unfoldable pub use Rattle.go_points.specs.Grid.{side_of}
 pub use Rattle.go_points.specs.Liberty.{all_reach_empty}

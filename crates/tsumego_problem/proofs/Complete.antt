@@ -1,6 +1,6 @@
 -- A walk that has come to a marked node has asked all that a problem is asked.
 use Rattle.tsumego_problem.proofs.Common.{◌≡◌, ℕ, suc, ◌+◌, ◌-◌, ◌*◌, ◌<◌, ◌≤◌, Bool, true, false, cond, ◌&&◌, ◌||◌, nat_le, eqb-true, ltb-true, List, [], ◌∷◌, map, length, get_or, slice_get, Option, Some, None, option_map, is_none, Result, Ok, Err, refl, sym, ◌∙◌, ap, ap₂, subst, mul-le-mul, arith, rules, unwrap_or, codes, All, list_all, list_any-append, nat_tests, mul-add-lt, Colour, Cell, Empty, Stone, points, cell_at, same_cell, side_of, row_of, column_of, all_reach_empty, Place, IsOn, on_board, number_of, same_cell_refl, length-map, not-false, and_left, and_right, place_in, repeats, holds_point, GameProblem, GameRecord, colouring_of, first_refusal, refusals, problem_of as problem_of_parts, values_at, Node, point_at, inside, rectangle, points_named, points_of_each, points_of, is_empty, is_marked, when, first_fault, node_fault, targets_at, region_at, are_targets, history_limit, walk_of, HasReached, ProblemFault}
-use Rattle.std.proofs.Common.{not, nat_eq, nat_lt, lt-ltb, filter}
+use Rattle.std.proofs.Common.{not, nat_eq, nat_lt, lt-ltb, eq-eqb, filter}
 use Rattle.std.proofs.lemmas.List.FromFn.{length-range_with_len}
 use Rattle.go_points.specs.Private.Sides.{side_of-whole}
 use Rattle.go_points.proofs.Cells.{same_cell_eq}
@@ -18,9 +18,6 @@ use Rattle.tsumego_problem.proofs.Points.{held}
 
 -- ---- a property that has good values has a point
 
-less_true : (a b : ℕ) → nat_lt a b ≡ true → a < b
-less_true a b h = ltb-true a b h
-
 -- a point by its letters is on the board
 pub point_low : (n c r p : ℕ) → point_at n c r ≡ Some p → p < n * n
 point_low n c r p h = go (is_lower c && is_lower r && nat_lt (c - 97) n && nat_lt (r - 97) n) refl h
@@ -29,12 +26,9 @@ point_low n c r p h = go (is_lower c && is_lower r && nat_lt (c - 97) n && nat_l
     go false e f = absurd (cc f)
     go true e f =
         let same : (r - 97) * n + (c - 97) ≡ p = cc f in
-        let row : r - 97 < n = less_true (r - 97) n (and_right (is_lower c && is_lower r && nat_lt (c - 97) n) (nat_lt (r - 97) n) e) in
-        let column : c - 97 < n = less_true (c - 97) n (and_right (is_lower c && is_lower r) (nat_lt (c - 97) n) (and_left (is_lower c && is_lower r && nat_lt (c - 97) n) (nat_lt (r - 97) n) e)) in
+        let row : r - 97 < n = ltb-true (r - 97) n (and_right (is_lower c && is_lower r && nat_lt (c - 97) n) (nat_lt (r - 97) n) e) in
+        let column : c - 97 < n = ltb-true (c - 97) n (and_right (is_lower c && is_lower r) (nat_lt (c - 97) n) (and_left (is_lower c && is_lower r && nat_lt (c - 97) n) (nat_lt (r - 97) n) e)) in
         subst (λ x. x < n * n) same (mul-add-lt (r - 97) n (c - 97) n row column)
-
-same_number : (p : ℕ) → nat_eq p p ≡ true
-same_number p = grind (arith, nat_tests)
 
 no_more : (a : ℕ) → nat_le a a ≡ true
 no_more a = grind (arith, nat_tests)
@@ -58,7 +52,7 @@ named_point n (c ∷ r ∷ []) ps h = go (point_at n c r) refl h
   where
     go : (o : Option ℕ) → point_at n c r ≡ o → option_map (λ (p : ℕ). p ∷ []) o ≡ Some ps → HasPoint n ps
     go None e f = absurd (cc f)
-    go (Some p) e f = let same : p ∷ [] ≡ ps = cc f in subst (HasPoint n) same (p, point_low n c r p e, ap (λ b. b || false) (same_number p))
+    go (Some p) e f = let same : p ∷ [] ≡ ps = cc f in subst (HasPoint n) same (p, point_low n c r p e, ap (λ b. b || false) (eq-eqb p p refl))
 named_point n (c ∷ r ∷ colon ∷ d ∷ s ∷ []) ps h = grind (arith, nat_tests, in_rectangle, point_low)
 named_point n [] ps h = absurd (cc h)
 named_point n (c ∷ []) ps h = absurd (cc h)

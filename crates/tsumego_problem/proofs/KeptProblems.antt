@@ -1,12 +1,11 @@
 -- What the type of problems keeps is what a record's problem is asked.
-use Rattle.tsumego_problem.proofs.Common.{◌≡◌, ◌≢◌, ℕ, zero, suc, ◌+◌, ◌*◌, ◌<◌, ◌≤◌, length, get_or, refl, sym, ◌∙◌, ap, subst, mul-le-mul, eqb-true, ltb-true, arith, rules, not, ◌==◌, nat_eq, nat_lt, filter, list_any, list_all, range_with_len, prefix_len, All, nat_tests, false_from_ne_true, or_parts, list_any-append, Colour, Cell, Stone, MAX_SIZE, same_cells_eq, points, cell_at, same_cell, same_cells, all_reach_empty, Place, IsOn, number_of, and_left, and_right, has_occurred, place_in, repeats, holds_point, GameProblem, each_new, IsProblem, are_targets, has_no_liberty}
+use Rattle.tsumego_problem.proofs.Common.{◌≡◌, ◌≢◌, ℕ, zero, suc, ◌+◌, ◌*◌, ◌<◌, ◌≤◌, length, get_or, refl, sym, ◌∙◌, ap, subst, mul-le-mul, eqb-true, ltb-true, arith, rules, not, ◌==◌, nat_eq, nat_lt, filter, list_any, list_all, range_with_len, prefix_len, All, nat_tests, false_from_ne_true, or_parts, list_any-append, Colour, Cell, Stone, MAX_SIZE, same_cells_eq, same_cells_refl, points, cell_at, same_cell, same_cells, all_reach_empty, Place, IsOn, number_of, and_left, and_right, has_occurred, place_in, repeats, holds_point, GameProblem, each_new, IsProblem, are_targets, has_no_liberty}
 use Rattle.std.proofs.Common.{eq-eqb}
 use Rattle.std.specs.Prelude.{Bool, true, false, ◌&&◌, ◌||◌, IsTrue, List, [], ◌∷◌, ◌++◌, map, Some}
 use Rattle.std.specs.List.{AllPairs}
 use Rattle.go_points.specs.Points.{is_before, IsPointSet}
 use Rattle.target_game.specs.Laws.{IsProblem as Keeps}
 use Rattle.tsumego_problem.specs.Canonical.{present}
-use Rattle.tsumego_problem.proofs.CanonicalRecord.{same_cells_self}
 use Rattle.tsumego_problem.proofs.Making.{colour_standing}
 use Rattle.tsumego_problem.proofs.Points.{same_filter}
 use Rattle.go_points.proofs.Sides.{number_below}
@@ -22,7 +21,7 @@ abbrev AreNew : List (List Cell) → List (List Cell) → Type 0
 AreNew before cs = (k : ℕ) (d : List Cell) → k < length cs → has_occurred before (get_or cs k d) ≡ false
 
 other_way : (c d : List Cell) → same_cells c d ≡ false → same_cells d c ≡ false
-other_way c d h = false_from_ne_true (same_cells d c) (λ e. let both : true ≡ false = sym (ap (same_cells c) (same_cells_eq d c e) ∙ same_cells_self c) ∙ h in cc)
+other_way c d h = false_from_ne_true (same_cells d c) (λ e. let both : true ≡ false = sym (ap (same_cells c) (same_cells_eq d c e) ∙ same_cells_refl c) ∙ h in cc)
 
 never_at : (c : List Cell) (cs : List (List Cell)) (k : ℕ) (d : List Cell) → has_occurred cs c ≡ false → k < length cs → same_cells c (get_or cs k d) ≡ false
 never_at c [] k d h low = absurd (omega arith)
@@ -43,7 +42,7 @@ each_is_new before (c ∷ cs) new once =
 -- the place of a colouring is that where it stands
 prefix_is : (h : List (List Cell)) (i : ℕ) → i < length h → repeats h ≡ false → prefix_len (λ x. not (same_cells (get_or h i []) x)) h ≡ i
 prefix_is [] i low once = absurd (omega arith)
-prefix_is (c ∷ cs) zero low once = rw (same_cells_self c) refl
+prefix_is (c ∷ cs) zero low once = rw (same_cells_refl c) refl
 prefix_is (c ∷ cs) (suc i) low once =
     let parts = or_parts (has_occurred cs c) (repeats cs) once in
     let other : same_cells (get_or cs i []) c ≡ false = other_way c (get_or cs i []) (never_at c cs i [] parts.0 (omega arith)) in

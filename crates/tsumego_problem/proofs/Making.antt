@@ -1,8 +1,7 @@
 -- The problem that is made at the end of a walk.
-use Rattle.tsumego_problem.proofs.Common.{◌≡◌, ℕ, ◌<◌, true, List, [], ◌∷◌, map, length, get_or, Option, Some, None, Ok, refl, sym, ◌∙◌, ap, ap₂, subst, rules, unwrap_or, list_all, Colour, Cell, Stone, cell_at, same_cell, same_cells, side_of, Place, number_of, place_in, GameRecord, colouring_of, no_element, GameProblem, first_refusal, refusals, problem_of as problem_of_parts, Node, targets_at, region_at, colour_of, problem_at, walk_of}
+use Rattle.tsumego_problem.proofs.Common.{◌≡◌, ℕ, ◌<◌, true, List, [], ◌∷◌, map, length, get_or, Option, Some, None, Ok, refl, sym, ◌∙◌, ap, ap₂, subst, rules, unwrap_or, list_all, Colour, Cell, Stone, cell_at, same_cell, same_cells, same_cells_refl, side_of, Place, number_of, place_in, GameRecord, colouring_of, no_element, GameProblem, first_refusal, refusals, problem_of as problem_of_parts, Node, targets_at, region_at, colour_of, problem_at, walk_of}
 use Rattle.target_game.proofs.Facts.{facts, unrefused}
 use Rattle.tsumego_problem.proofs.Assigning.{at_its_place}
-use Rattle.go_points.specs.Equal.{same_cells_refl}
 use Rattle.std.proofs.lemmas.List.Folds.{list_any_at}
 
 -- where a colouring that has occurred stands

@@ -1,6 +1,7 @@
 -- The walk as the program makes it. These definitions are for private calls, except `IsRefusal`.
 --     IsRefusal due fault      the refusal is the one that is due; if memory was refused, nothing is said
 --     walk_of r k      the point of the walk at which a record is, with the colour k to move
+--     WalksTo due n new r      what a call that returned r did, if the walk comes to `due`
 --     walk_to_mark      the walk up to the first marked node, and that node
 --     IsHistory n h, HasReached      what the walk keeps of its history, and what it has asked at the marked node
 use Rattle.std.specs.Prelude.{◌≡◌, ◌≢◌, ℕ, ◌+◌, ◌*◌, ◌<◌, true, false, nat_eq, List, [], ◌∷◌, length, Option, None, Result, Ok, Err, if◌then◌else◌}
@@ -23,6 +24,12 @@ IsRefusal due fault = fault ≢ faults.Memory → due ≡ Err fault
 
 abbrev pub walk_of : GameRecord → Colour → Walk
 walk_of r mover = record { history = r.present.history; present = colouring_of r.present; mover = mover; passes = r.present.passes }
+
+-- The new record is at the point that is due, with the mover that was returned, on a board of n rows; or the refusal is the one
+-- that is due.
+abbrev pub WalksTo : Result Walk ProblemFault → ℕ → GameRecord → Result Colour ProblemFault → Type 0
+WalksTo due n new (Ok mover) = (due ≡ Ok (walk_of new mover)) × (new.size ≡ n)
+WalksTo due n new (Err fault) = IsRefusal due fault
 
 -- the node with the number k stands first
 abbrev pub walk_to_mark : Option ℕ → ℕ → ℕ → List Node → Walk → Result (Node × Walk) ProblemFault

@@ -1,13 +1,13 @@
 //! What the turn or the setup of a node does to a record.
 
-ghost use Rattle.std.specs.Prelude.{◌≡◌, option_map, if◌then◌else◌, IfOk, IfErr, IfSome, OnOk, Ok};
+ghost use Rattle.std.specs.Prelude.{◌≡◌, option_map, if◌then◌else◌, IfSome};
 ghost use Rattle.go_points.specs.Grid.{side_of};
 ghost use Rattle.go_points.specs.Points.{holds_place};
 ghost use Rattle.go_points.specs.declared.Cell.TheVariants.{Empty, Stone};
 ghost use Rattle.go_points.specs.declared.Colour.TheVariants.{Black, White};
 ghost use Rattle.go_points.specs.Ply.{ply_of};
 ghost use Rattle.tsumego_problem.specs.Walk.{assigned, turn_at, player_at, turned, set_to, changed, has_no_liberty};
-ghost use Rattle.tsumego_problem.specs.Walked.{walk_of, StandsOn, IsSetupFault, IsNoLiberty, IsRefusal};
+ghost use Rattle.tsumego_problem.specs.Walked.{walk_of, StandsOn, IsSetupFault, IsNoLiberty, WalksTo};
 
 use crate::fault::{ProblemFault, TurnFaultCause};
 use crate::main_line::{has_setup, values_at};
@@ -103,13 +103,8 @@ fn play(
 ) -> Result<Colour, ProblemFault>
     requires size { played.old.size ≡ size }
     requires on_board { StandsOn size (ply_of size turn) }
-    ensures ok { IfOk result
-        (λ m. turned size number colour (ply_of size turn) (walk_of played.old mover)
-        ≡ Ok (walk_of played.new m)) }
-    ensures size { OnOk result (played.new.size ≡ size) }
-    ensures refused { IfErr result
-        (λ e. IsRefusal (turned size number colour (ply_of size turn) (walk_of played.old mover))
-        e) }
+    ensures { WalksTo (turned size number colour (ply_of size turn) (walk_of played.old mover)) size
+        played.new result }
 {
     match played.play(colour, turn) {
         Ok(()) => Ok(colour.opponent()),
@@ -148,14 +143,9 @@ fn set_up(
     node: &SgfNode,
 ) -> Result<Colour, ProblemFault>
     requires { played.old.size ≡ size }
-    ensures ok { IfOk result
-        (λ m. let c = assigned size node.now (walk_of played.old mover).present in set_to number
-        node.now c (walk_of played.old mover) (has_no_liberty size c)
-        ≡ Ok (walk_of played.new m)) }
-    ensures size { OnOk result (played.new.size ≡ size) }
-    ensures refused { IfErr result
-        (λ e. let c = assigned size node.now (walk_of played.old mover).present in IsRefusal
-        (set_to number node.now c (walk_of played.old mover) (has_no_liberty size c)) e) }
+    ensures { let c = assigned size node.now (walk_of played.old mover).present in WalksTo
+        (set_to number node.now c (walk_of played.old mover) (has_no_liberty size c)) size
+        played.new result }
 {
     let after = assigned(size, node, &played.colouring());
     match played.set_up(&after) {
@@ -173,11 +163,8 @@ pub(crate) fn change(
     node: &SgfNode,
 ) -> Result<Colour, ProblemFault>
     requires { played.old.size ≡ size }
-    ensures ok { IfOk result
-        (λ m. changed size number node.now (walk_of played.old mover) ≡ Ok (walk_of played.new m)) }
-    ensures size { OnOk result (played.new.size ≡ size) }
-    ensures refused { IfErr result
-        (λ e. IsRefusal (changed size number node.now (walk_of played.old mover)) e) }
+    ensures { WalksTo (changed size number node.now (walk_of played.old mover)) size played.new
+        result }
 {
     if let Some((colour, turn)) = turn_at(size, node) {
         return play(played, size, number, mover, colour, turn);

@@ -5,7 +5,7 @@ ghost use Rattle.std.specs.List.{All};
 ghost use Rattle.go_points.specs.Grid.{side_of};
 ghost use Rattle.go_points.specs.Place.{IsOn, number_of};
 ghost use Rattle.tsumego_problem.specs.Walk.{are_targets, late_fault, walk_node, main_line, line_below, history_limit};
-ghost use Rattle.tsumego_problem.specs.Walked.{walk_of, walk_to_mark, IsRefusal};
+ghost use Rattle.tsumego_problem.specs.Walked.{walk_of, walk_to_mark, IsRefusal, WalksTo};
 ghost use Rattle.go_points.specs.declared.Colour.{Colour};
 
 use crate::fault::ProblemFault;
@@ -66,13 +66,9 @@ fn walk_node(
     node: &SgfNode,
 ) -> Result<Colour, ProblemFault>
     requires { played.old.size ≡ size }
-    ensures ok { IfOk result
-        (λ m. walk_node (Some history_limit) size number node.now (walk_of played.old mover)
-        ≡ Ok (walk_of played.new m)) }
-    ensures size { OnOk result (played.new.size ≡ size) }
-    ensures refused { IfErr result
-        (λ e. IsRefusal (walk_node (Some history_limit) size number node.now
-        (walk_of played.old mover)) e) }
+    ensures { WalksTo
+        (walk_node (Some history_limit) size number node.now (walk_of played.old mover)) size
+        played.new result }
 {
     if let Some(fault) = node_fault(size, number, node) {
         return Err(fault);

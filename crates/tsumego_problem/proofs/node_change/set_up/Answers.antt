@@ -2,13 +2,13 @@ use Rattle.tsumego_problem.proofs.Common.{◌∙◌, ap, sym, subst, Ok, Err, un
 use Rattle.tsumego_problem.proofs.Assigning.{set_up_fine, set_up_refused, setup_refusal}
 use Rattle.tsumego_problem.proofs.node_change.set_up.Goals as goal
 
-pub returns-in-Ok-clause-ok : goal.returns-in-Ok-clause-ok
-returns-in-Ok-clause-ok c =
+pub returns-in-Ok : goal.returns-in-Ok
+returns-in-Ok c =
     let n = c.args.size in let r = c.args.played.now in let d = assigned n c.args.node.now (colouring_of r.present) in
     let made = c.assigned-after.ensures.value ∙ ap (assigned n c.args.node.now) c.colouring.ensures.value in
-    (set_up_fine n c.args.number c.args.node.now r c.args.mover d c.requires c.in-Ok.field-0 c.set_up.new.self
-    (subst (λ x. Did (set_up r x) r (Ok c.in-Ok.field-0) c.set_up.new.self) made (subst (λ o. Did (set_up r c.assigned-after.result) r o c.set_up.new.self) c.in-Ok.is c.set_up.ensures))).0
-    ∙ ap (λ m. Ok (walk_of c.set_up.new.self m)) (ap (λ o. unwrap_or o c.args.mover) (sym c.player_at.ensures) ∙ sym c.unwrap_or.ensures)
+    let fine = set_up_fine n c.args.number c.args.node.now r c.args.mover d c.requires c.in-Ok.field-0 c.set_up.new.self
+    (subst (λ x. Did (set_up r x) r (Ok c.in-Ok.field-0) c.set_up.new.self) made (subst (λ o. Did (set_up r c.assigned-after.result) r o c.set_up.new.self) c.in-Ok.is c.set_up.ensures)) in
+    (fine.0 ∙ ap (λ m. Ok (walk_of c.set_up.new.self m)) (ap (λ o. unwrap_or o c.args.mover) (sym c.player_at.ensures) ∙ sym c.unwrap_or.ensures), fine.1)
 
 pub setup_fault-requires : goal.setup_fault-requires
 setup_fault-requires c =
@@ -17,8 +17,8 @@ setup_fault-requires c =
     (set_up_refused n c.args.number c.args.node.now r c.args.mover d c.requires c.in-Err.fault c.set_up.new.self
     (subst (λ x. Did (set_up r x) r (Err c.in-Err.fault) c.set_up.new.self) made (subst (λ o. Did (set_up r c.assigned-after.result) r o c.set_up.new.self) c.in-Err.is c.set_up.ensures))).0
 
-pub returns-in-Err-clause-refused : goal.returns-in-Err-clause-refused
-returns-in-Err-clause-refused c other =
+pub returns-in-Err : goal.returns-in-Err
+returns-in-Err c other =
     let n = c.args.size in let r = c.args.played.now in let d = assigned n c.args.node.now (colouring_of r.present) in
     let made = c.assigned-after.ensures.value ∙ ap (assigned n c.args.node.now) c.colouring.ensures.value in
     let refused = set_up_refused n c.args.number c.args.node.now r c.args.mover d c.requires c.in-Err.fault c.set_up.new.self

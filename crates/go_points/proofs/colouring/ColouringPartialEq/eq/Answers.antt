@@ -1,4 +1,5 @@
 use Rattle.go_points.proofs.Common.{◌≡◌, Bool, true, false, not, nat_eq, eqb-true, eq-eqb, refl, sym, ◌∙◌, pointwise, same_cells}
+use Rattle.go_points.proofs.Anywhere.{same_tests}
 use Rattle.go_points.proofs.Comparing.{all_same, size_same, stones_same, blacks_same, unlike, words_decide}
 use Rattle.go_points.proofs.colouring.ColouringPartialEq.eq.Goals as goal
 
@@ -10,12 +11,6 @@ turned a false e f = refl
 kept : (a b : Bool) → a ≡ not b → a ≡ false → b ≡ true
 kept a true e f = refl
 kept a false e f = absurd (cc)
-
-same_tests : (a b : Bool) → (a ≡ true → b ≡ true) → (b ≡ true → a ≡ true) → a ≡ b
-same_tests true true there back = refl
-same_tests false false there back = refl
-same_tests true false there back = sym (there refl)
-same_tests false true there back = back refl
 
 pub returns-then-ne : goal.returns-then-ne
 returns-then-ne c =

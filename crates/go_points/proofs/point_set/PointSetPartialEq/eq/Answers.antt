@@ -1,14 +1,9 @@
-use Rattle.go_points.proofs.Common.{◌≡◌, ℕ, List, Bool, true, false, nat_eq, eqb-true, eq-eqb, refl, sym, ◌∙◌, ap, pointwise, pointwise_decides, MAX_SIZE, MAX_POINTS, Place, places_of, word_count, IsWords, same_place_decides}
+use Rattle.go_points.proofs.Common.{◌≡◌, ℕ, List, nat_eq, eqb-true, eq-eqb, sym, ◌∙◌, ap, pointwise, pointwise_decides, MAX_SIZE, MAX_POINTS, Place, places_of, word_count, IsWords, same_place_decides}
 use Rattle.go_points.specs.Points.{same_places}
 use Rattle.go_points.specs.Private.Words.{words_of}
 use Rattle.go_points.specs.Private.Inverses.{words_back}
+use Rattle.go_points.proofs.Anywhere.{same_tests}
 use Rattle.go_points.proofs.point_set.PointSetPartialEq.eq.Goals as goal
-
-same_tests : (a b : Bool) → (a ≡ true → b ≡ true) → (b ≡ true → a ≡ true) → a ≡ b
-same_tests true true there back = refl
-same_tests false false there back = refl
-same_tests true false there back = sym (there refl)
-same_tests false true there back = back refl
 
 -- two sets are the same exactly where their words are
 same_words : (words others : List ℕ) (ps qs : List Place) → IsWords words word_count MAX_POINTS → IsWords others word_count MAX_POINTS

@@ -1,5 +1,5 @@
 -- The names that several proofs of this crate cite, passed on from one place. Declares nothing.
-pub use Rattle.std.proofs.Common.{◌≡◌, sym, ◌∙◌, List, ap, [], length, ℕ, ◌∷◌, refl, subst, arith, ◌++◌, Some, Bool, true, false, Option, suc, None, ◌+◌, ◌≤◌, rules, ◌&&◌, IsTrue, zero, ◌<◌, not, inl, inr, nat_lt, nat_eq, map, ◌⊎◌, ◌||◌, ◌*◌, append_assoc, option_map, filter, if◌then◌else◌, reverse, Ok, append-nil, length-append, nat_le, ◌-◌, eq-eqb, eqb-true, lt-ltb, ltb-true, Err, Greater, IfSome, Less, cond, drop, Equal, Ordering, Result, get_or, le_refl, sum_by, OnSome, le-leb, take, Bor, Box, Global, IfErr, IfOk, IsSome, Vec, ap₂, is_some, leb-true, set, slice_index_or, ◌^◌}
+pub use Rattle.std.proofs.Common.{◌≡◌, sym, ◌∙◌, List, ap, [], length, ℕ, ◌∷◌, refl, subst, arith, ◌++◌, Some, Bool, true, false, Option, suc, None, ◌+◌, ◌≤◌, rules, ◌&&◌, IsTrue, zero, ◌<◌, not, inl, inr, nat_lt, nat_eq, map, ◌⊎◌, ◌||◌, ◌*◌, append_assoc, option_map, filter, if◌then◌else◌, reverse, Ok, append-nil, length-append, nat_le, ◌-◌, eq-eqb, eqb-true, lt-ltb, ltb-true, Err, Greater, IfSome, Less, cond, drop, Equal, Ordering, Result, get_or, sum_by, OnSome, le-leb, take, Bor, Box, Global, IfErr, IfOk, IsSome, Vec, ap₂, is_some, leb-true, set, slice_index_or, ◌^◌}
 pub use Rattle.std.proofs.Math.Seq.{drop-length}
 pub use Rattle.std.proofs.lemmas.List.{map-append, reverse-append}
 pub use Rattle.std.proofs.lemmas.List.Elements.{All-push}
@@ -65,13 +65,11 @@ pub use Rattle.cert_check.specs.Private.Heard.{Heard}
 pub use Rattle.cert_check.specs.Private.Inside.{node_fault, owed_by, Follows, Inside, node_next, phase_of}
 pub use Rattle.cert_check.specs.Private.Judging.{machine_of, heading_of, answering, AwaitsNode, IsReady, IsReadyFor, IsToldBy, had_more, listed_more, phase_held}
 pub use Rattle.cert_check.specs.Private.Known.{AreKnown, HasStart, IsKept, SameMembers}
-pub use Rattle.cert_check.specs.Private.Machine.{Machine, goes_on, stops, taken, Heading, last_of, node_taken, Owed, Phase, body_of, goes_if, had_taken, listing_had, listing_not, not_taken, phase_taken, AfterLine, after_step, begun, reply_due, verdict_from, counted, done, end_taken, ended, ended_at, header, header_taken, listed_taken, node_due, opening, opening_taken, owing, reply_taken, there}
 pub use Rattle.cert_check.specs.Private.Places.{ArePlaced}
 pub use Rattle.cert_check.specs.Private.Results.{is_past, gathered, joined, node_at, reversed, AreOpen, IsPlayable, of_node, ArePlayable, Gathered, claim_with, due_at, left_at, nothing, version_for}
-pub use Rattle.cert_check.specs.Private.Resume.{OpenNode, awaited, opened, owed, resume}
 pub use Rattle.cert_check.specs.Stage.{why_value, Rejects}
 pub use Rattle.cert_check.specs.Validity.{FitsNode, AreValidLemmas, FitsBranches, MayPlay, Serves, IsValidLemma, IsValid}
-pub use Rattle.cert_check.specs.Verdict.{accepted, Cursor, Judged, asked, fine, is_after, judge_node, then_judge, verdict, faulty, rejected, judge_end, judge_had, judge_lemma, judge_lemmas, judge_list, judge_not, judge_replies, judge_reply, node_asked, with_first, judge_claim, judge_end_line, judge_line, judge_opening, lemma_fault, verdict_of, Verdict, judge_header, read_line, verdict_by}
+pub use Rattle.cert_check.specs.Verdict.{Machine, goes_on, stops, taken, Heading, last_of, node_taken, Owed, Phase, body_of, goes_if, had_taken, listing_had, listing_not, not_taken, phase_taken, AfterLine, after_step, begun, reply_due, verdict_from, counted, done, end_taken, ended, ended_at, header, header_taken, listed_taken, node_due, opening, opening_taken, owing, reply_taken, there, accepted, is_after, verdict, rejected, lemma_fault, Verdict, verdict_by}
 pub use Rattle.cert_check.specs.declared.judge.Judge.{Judge}
 pub use Rattle.cert_check.specs.declared.lines.NodeLine.{NodeLine}
 pub use Rattle.cert_check.specs.declared.lines.NodeLine.TheVariants.{All, Play, Won}

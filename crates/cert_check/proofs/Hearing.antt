@@ -5,7 +5,6 @@ use Rattle.proof_cert.specs.declared.line.Line as code
 use Rattle.proof_cert.specs.declared.source.SourceFault.TheVariants as fault
 use Rattle.cert_check.specs.Checks.{RejectsAtBy, FailsAtBy, IsReachedBy}
 use Rattle.cert_check.specs.declared.kind.Kind.{Kind}
-use Rattle.cert_check.proofs.Machines.{lines_judged}
 use Rattle.cert_check.proofs.Taking.{asks_before, asks_there, took_more, one_more}
 use Rattle.cert_check.proofs.Faults.{ended_behind}
 
@@ -36,7 +35,7 @@ module _ {S : Type 0} {kind : Kind} {gives : S → Result (Option Line) SourceFa
       }
 
   heard_all : (shape : List Cell → Bool) → IsToldBy kind q.game shape → {t : S} {m : Machine} (h : Heard kind gives number n q s t m) → verdict_by shape q (line_values q.game.size h.taken) ≡ ended m
-  heard_all shape told h = lines_judged shape q (line_values q.game.size h.taken) ∙ ap (verdict_from shape q begun) (sym (append-nil (line_values q.game.size h.taken))) ∙ h.so_far shape told []
+  heard_all shape told h = ap (verdict_from shape q begun) (sym (append-nil (line_values q.game.size h.taken))) ∙ h.so_far shape told []
 
   pub heard_accepts : {t u : S} {m : Machine} {x : Colour} {a : Result (Option Line) SourceFault} → Heard kind gives number n q s t m → (shape : List Cell → Bool) → IsToldBy kind q.game shape → a ≡ Ok None → gives t a u → ended m ≡ accepted x → AcceptsBy shape gives n q s x
   heard_accepts {t} {u} h shape told none last said = record { taken = h.taken; left = t; took = h.took; ended = (u, subst (λ (a : Result (Option Line) SourceFault). gives t a u) none last); accepted = heard_all shape told h ∙ said }
@@ -55,7 +54,7 @@ module _ {S : Type 0} {kind : Kind} {gives : S → Result (Option Line) SourceFa
         took = took_more gives n s h.taken t u l h.took (subst (λ (a : Result (Option Line) SourceFault). gives t a u) is given);
         there = inr (omega (arith, at, put, long));
         rejected =
-            lines_judged shape q (line_values q.game.size (h.taken ++ l ∷ [])) ∙ ap (verdict_from shape q begun) (sym (append-nil (line_values q.game.size (h.taken ++ l ∷ []))))
+            ap (verdict_from shape q begun) (sym (append-nil (line_values q.game.size (h.taken ++ l ∷ []))))
             ∙ ap (verdict_from shape q begun) (values_more q.game.size h.taken l []) ∙ h.so_far shape told (option_map (line_value q.game.size) l ∷ []) ∙ ap (λ st. after_step st (λ k. verdict_from shape q k [])) step;
       }
 

@@ -13,7 +13,7 @@ use Rattle.cert_check.specs.Parts.{had_line_of, listed_line, node_line}
 use Rattle.cert_check.specs.Private.Judging.{GoesOn, IsBehind, lemma_of, within_of, inside_now, IsBehindFor, AwaitsHad, AwaitsList, had_here, list_here, node_here, body_here}
 use Rattle.cert_check.proofs.Ascending.{ascends_more, is_less}
 use Rattle.cert_check.proofs.Lists.{before_is}
-use Rattle.cert_check.proofs.Machines.{last_pushed}
+use Rattle.cert_check.proofs.Reading.{last_pushed}
 use Rattle.cert_check.proofs.Replies.{line_on, line_off, line_full, room_is, stops_said}
 
 -- LISTS

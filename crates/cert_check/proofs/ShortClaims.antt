@@ -10,7 +10,7 @@ use Rattle.cert_check.specs.Laws.{AcceptedShortSidesWin, AcceptedShortTurnsWin}
 use Rattle.cert_check.proofs.Members.{and_first, and_second}
 use Rattle.cert_check.proofs.Game.{same_colour-eq}
 use Rattle.cert_check.proofs.Soundness.{with_past, Rests, right_short_wins, right_short_turn}
-use Rattle.cert_check.proofs.ReadingClaims.{accepted_short}
+use Rattle.cert_check.proofs.Reading.{accepted_short}
 
 rests_on : DefenderWinsWithin → (g : Game) (shape : List Cell → Bool) → ((c : List Cell) → IsTrue (shape c) → PassAlive g c) → (x : Colour) → Rests (play_bound g.size) shape g x
 rests_on law g shape sound x s same h past =
@@ -26,22 +26,23 @@ pub accepted_short_sides_win : DefenderWinsWithin → AcceptedShortSidesWin
 accepted_short_sides_win law q shape sound ls x h e =
     let r = accepted_short shape q ls x e in
     let living : ℕ = play_bound q.game.size in
-    let k : ℕ = height_by living (heights_behind living [] r.0.lemmas) r.0.main in
-    (k, subst (λ y. IsTrue (wins y (start q) k)) r.1 (right_short_wins living shape q r.0 (rests_on law q.game shape sound r.0.winner) h r.5 r.6))
+    let z : Claim = r.claim in
+    let k : ℕ = height_by living (heights_behind living [] z.lemmas) z.main in
+    (k, subst (λ y. IsTrue (wins y (start q) k)) r.winner (right_short_wins living shape q z (rests_on law q.game shape sound z.winner) h r.lemmas r.main))
 
 pub accepted_short_turns_win : DefenderWinsWithin → AcceptedShortTurnsWin
 accepted_short_turns_win law q shape sound ls x h e =
     let r = accepted_short shape q ls x e in
-    let z : Claim = r.0 in
+    let z : Claim = r.claim in
     let living : ℕ = play_bound q.game.size in
     let heights : List ℕ = heights_behind living [] z.lemmas in (
       z,
-      r.4,
-      r.1,
+      r.lines,
+      r.winner,
       λ t n begins.
-          let fits = subst (λ m. FitsShort (main_body_by shape z.winner (heads_of z.lemmas)) (start q) m) begins r.6 in
-          let turn = right_short_turn living shape q z (rests_on law q.game shape sound z.winner) h r.5 t n fits in
-          (turn.0, (height_by living heights n, subst (λ y. IsTrue (wins y (next (start q) t) (height_by living heights n))) r.1 turn.1)),
+          let fits = subst (λ m. FitsShort (main_body_by shape z.winner (heads_of z.lemmas)) (start q) m) begins r.main in
+          let turn = right_short_turn living shape q z (rests_on law q.game shape sound z.winner) h r.lemmas t n fits in
+          (turn.0, (height_by living heights n, subst (λ y. IsTrue (wins y (next (start q) t) (height_by living heights n))) r.winner turn.1)),
     )
 
 -- What follows for every shape that tells where the targets live is so, since it cannot be that there is none.

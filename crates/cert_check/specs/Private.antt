@@ -4,7 +4,5 @@ pub mod Heard
 pub mod Inside
 pub mod Judging
 pub mod Known
-pub mod Machine
 pub mod Places
 pub mod Results
-pub mod Resume

@@ -6,10 +6,9 @@ ghost use Rattle.go_points.specs.declared.Cell.{Cell as SpecCell};
 ghost use Rattle.proof_cert.specs.Stage.{line_value};
 ghost use Rattle.cert_check.specs.Body.{Why as SpecWhy};
 ghost use Rattle.cert_check.specs.Private.Judging.{IsReady, IsToldBy, answering, bad_line, machine_of, Takes};
-ghost use Rattle.cert_check.specs.Private.Machine.{begun, ended, goes_on, stops, taken};
+ghost use Rattle.cert_check.specs.Verdict.{accepted, begun, ended, goes_on, rejected, stops, taken};
 ghost use Rattle.cert_check.specs.Parts.{IsJudged};
 ghost use Rattle.cert_check.specs.Stage.{why_value};
-ghost use Rattle.cert_check.specs.Verdict.{accepted, rejected};
 ghost use Rattle.cert_check.specs.declared.reject.Why.TheVariants.{Memory};
 
 use crate::body::Head;

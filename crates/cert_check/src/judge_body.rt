@@ -7,7 +7,7 @@ ghost use Rattle.proof_cert.specs.Stage.{line_value};
 ghost use Rattle.cert_check.specs.Private.Ascending.{Ascends};
 ghost use Rattle.cert_check.specs.Body.{lives, nowhere};
 ghost use Rattle.cert_check.specs.Private.Judging.{AwaitsNode, ChangesBody, answering, body_here, heading_of, lemma_of, machine_of, node_here, reply_here, within_of, Takes, TakesNodeIn};
-ghost use Rattle.cert_check.specs.Private.Machine.{body_of, end_taken, goes_on, moved, opening};
+ghost use Rattle.cert_check.specs.Verdict.{body_of, end_taken, goes_on, moved, opening};
 ghost use Rattle.cert_check.specs.Parts.{node_value};
 ghost use Rattle.cert_check.specs.declared.judge.Within.{Within as SpecWithin};
 ghost use Rattle.cert_check.specs.declared.judge.Within.TheVariants.{Lemma, Main};

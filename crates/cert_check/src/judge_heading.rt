@@ -7,10 +7,9 @@ ghost use Rattle.proof_cert.specs.Lines.{line_fits as fits_board, lemma_line, ma
 ghost use Rattle.proof_cert.specs.Stage.{line_value};
 ghost use Rattle.cert_check.specs.Body.{Why as SpecWhy};
 ghost use Rattle.cert_check.specs.Private.Judging.{AwaitsHad, AwaitsHeader, AwaitsList, IsBetweenBodies, had_here, had_more, heading_of, lemma_of, list_here, listed_more, machine_of, Takes};
-ghost use Rattle.cert_check.specs.Private.Machine.{header_taken, last_of, listed_taken, listing_had, listing_not, opening_taken};
+ghost use Rattle.cert_check.specs.Verdict.{header_taken, last_of, lemma_fault, listed_taken, listing_had, listing_not, opening_taken};
 ghost use Rattle.cert_check.specs.Parts.{IsJudged};
 ghost use Rattle.cert_check.specs.Stage.{why_value};
-ghost use Rattle.cert_check.specs.Verdict.{lemma_fault};
 ghost use Rattle.cert_check.specs.declared.judge.Phase.TheVariants as phases;
 ghost use Rattle.cert_check.specs.declared.reject.Why.TheVariants.{Memory};
 

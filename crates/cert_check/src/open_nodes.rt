@@ -8,7 +8,7 @@ ghost use Rattle.target_game.specs.Left.{turns_due};
 ghost use Rattle.proof_cert.specs.Lines.{won_line, use_line, play_line, all_line};
 ghost use Rattle.cert_check.specs.Body.{Why as SpecWhy, reply_fault};
 ghost use Rattle.cert_check.specs.Private.Inside.{Follows, HasRoom, MayBeMade, inside_of, owed_by, reply_at, TakesNode};
-ghost use Rattle.cert_check.specs.Private.Machine.{owing};
+ghost use Rattle.cert_check.specs.Verdict.{owing};
 ghost use Rattle.cert_check.specs.Parts.{IsJudged, PassesOn, node_value, ordinary};
 ghost use Rattle.cert_check.specs.Stage.{why_value};
 ghost use Rattle.cert_check.specs.declared.open_nodes.Due.TheVariants.{Reply};

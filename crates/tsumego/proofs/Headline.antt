@@ -6,7 +6,7 @@ use Rattle.go_points.specs.declared.Colour.TheVariants.{Black, White}
 use Rattle.target_game.specs.Wins.{Wins, wins, nodes}
 use Rattle.target_game.specs.declared.within.Within.TheVariants as within
 use Rattle.tsumego_problem.specs.Walk.{history_limit}
-use Rattle.cert_check.proofs.ReadingClaims.{accepted_sides_win}
+use Rattle.cert_check.proofs.Reading.{accepted_sides_win}
 use Rattle.sgf_text.specs.Grammar.{Reads}
 use Rattle.sgf_text.proofs.Written.{trees_are_read}
 use Rattle.target_game.proofs.States.{history_is_a_set}

@@ -9,7 +9,7 @@ use Rattle.proof_cert.specs.declared.source.SourceFault.{SourceFault}
 use Rattle.cert_check.specs.declared.kind.Kind.{Kind}
 use Rattle.cert_check.specs.Checks.{Took}
 use Rattle.cert_check.specs.Private.Judging.{IsToldBy}
-use Rattle.cert_check.specs.Private.Machine.{Machine, begun, verdict_from}
+use Rattle.cert_check.specs.Verdict.{Machine, begun, verdict_from}
 use Rattle.cert_check.specs.Parts.{line_values}
 
 pub record Heard {S : Type 0} (kind : Kind) (gives : S → Result (Option Line) SourceFault → S → Type 0) (number : S → ℕ) (n : ℕ) (q : GameProblem) (s t : S) (m : Machine) : Type 0 where

@@ -19,7 +19,7 @@ use Rattle.cert_check.specs.Body.{Body, Why, malformed, won_fault, use_fault, pl
 use Rattle.cert_check.specs.declared.reject.Why as stop
 use Rattle.cert_check.specs.Stage.{why_value}
 use Rattle.cert_check.specs.Parts.{IsJudged}
-use Rattle.cert_check.specs.Private.Machine.{Owed, owing, Heading, Phase, node_due, reply_due}
+use Rattle.cert_check.specs.Verdict.{Owed, owing, Heading, Phase, node_due, reply_due}
 
 -- both lists latest first
 abbrev pub owed_by : List GameState → List TurnsLeft → List Owed

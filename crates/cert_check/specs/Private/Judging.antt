@@ -31,8 +31,8 @@ use Rattle.cert_check.specs.declared.open_nodes.Due.{Due}
 use Rattle.cert_check.specs.declared.open_nodes.Due.TheVariants.{Node, Reply, End}
 use Rattle.cert_check.specs.Body.{Why, malformed, text_after_end, lemma_body, lemma_start}
 use Rattle.cert_check.specs.Stage.{why_value}
-use Rattle.cert_check.specs.Private.Machine.{Machine, Heading, header, opening, listing_had, listing_not, done, last_of, AfterLine, goes_on, stops, had_taken, not_taken, node_taken, reply_taken, end_taken, body_of}
-use Rattle.cert_check.specs.Private.Machine as machine
+use Rattle.cert_check.specs.Verdict.{Machine, Heading, header, opening, listing_had, listing_not, done, last_of, AfterLine, goes_on, stops, had_taken, not_taken, node_taken, reply_taken, end_taken, body_of}
+use Rattle.cert_check.specs.Verdict as machine
 use Rattle.cert_check.specs.Private.Ascending.{Ascends}
 use Rattle.cert_check.specs.Private.Inside.{Follows, MayBeMade, Inside, inside_of, phase_of, owed_by, node_fault, node_next}
 use Rattle.cert_check.specs.Parts.{PassesOn, head_of, IsJudged}

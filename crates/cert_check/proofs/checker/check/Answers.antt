@@ -1,5 +1,5 @@
 use Rattle.cert_check.proofs.Common.{refl, nowhere, line_values, if_ok_map}
-use Rattle.cert_check.proofs.ReadingClaims.{accepted_sides_win}
+use Rattle.cert_check.proofs.Reading.{accepted_sides_win}
 use Rattle.cert_check.proofs.checker.check.Goals as goal
 
 pub returns-clause-ok : goal.returns-clause-ok

@@ -10,6 +10,7 @@ use Rattle.cert_check.specs.Private.Known.{IsKnownAt}
 use Rattle.cert_check.proofs.Apart.{apart_turned}
 use Rattle.go_points.proofs.Lists.{or_right}
 use Rattle.std.proofs.Math.Bool.{or_self_left, or-false}
+use Rattle.go_points.proofs.Membership.{or_swap as swap_first}
 
 or_swap : (a b : Bool) → (a || b) ≡ (b || a)
 or_swap true true = refl
@@ -52,19 +53,13 @@ beside : (root : List Cell) (others : List (List Cell)) (c : List Cell) → has_
 beside root [] c = refl
 beside root (d ∷ others) c = at (same_cells root d) refl (beside root others c)
   where
-    swap : (x y z : Bool) → (x || (y || z)) ≡ (y || (x || z))
-    swap true true z = refl
-    swap true false z = refl
-    swap false true z = refl
-    swap false false z = refl
-
     at : (b : Bool) → same_cells root d ≡ b → has_occurred (root ∷ filter (λ x. not (same_cells root x)) others) c ≡ has_occurred (root ∷ others) c
         → has_occurred (root ∷ cond (not b) (d ∷ filter (λ x. not (same_cells root x)) others) (filter (λ x. not (same_cells root x)) others)) c ≡ has_occurred (root ∷ d ∷ others) c
     at true e h = h ∙ sym (or_self_left (same_cells c root) (has_occurred others c)) ∙ ap (λ x. same_cells c root || (same_cells c x || has_occurred others c)) (same_cells_eq root d e)
     at false e h =
-        swap (same_cells c root) (same_cells c d) (has_occurred (filter (λ x. not (same_cells root x)) others) c)
+        swap_first (same_cells c root) (same_cells c d) (has_occurred (filter (λ x. not (same_cells root x)) others) c)
         ∙ ap (λ b. same_cells c d || b) h
-        ∙ swap (same_cells c d) (same_cells c root) (has_occurred others c)
+        ∙ swap_first (same_cells c d) (same_cells c root) (has_occurred others c)
 
 pub with_kept : (g : Game) (root : List Cell) (others known : List (List Cell)) (mover : Colour) (passes : ℕ) (l : State.Line) → l ≡ record { state = state_with g root others mover passes; before = [] } → known ≡ others ++ root ∷ [] → Ascends others → IsKept known (length others) l
 with_kept g root others known mover passes l here is up = subst (IsKept known (length others)) (sym here) (

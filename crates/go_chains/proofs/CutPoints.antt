@@ -9,7 +9,7 @@ use Rattle.go_chains.proofs.Merging.{off, circle_begins}
 use Rattle.go_chains.proofs.Placing.{count_alone}
 use Rattle.go_chains.proofs.Quietness.{beside_not_self}
 
-way_first : (n : ℕ) (c : List Cell) (own : Cell) (p q : ℕ) (rs : List ℕ) → IsWay n c own p q rs → cell_at c p ≡ own
+pub way_first : (n : ℕ) (c : List Cell) (own : Cell) (p q : ℕ) (rs : List ℕ) → IsWay n c own p q rs → cell_at c p ≡ own
 way_first n c own p q [] w = w.0
 way_first n c own p q (r ∷ rs) w = w.0
 

@@ -29,7 +29,7 @@ module _ (n : ℕ) (c : List Cell) where
   lacks_empty p e = ap (λ a. not (same_cell a Empty) && not (reaches n c p Empty)) e
 
 -- the colouring without stones
-blank : (m p : ℕ) → cell_at (replicate m Empty) p ≡ Empty
+pub blank : (m p : ℕ) → cell_at (replicate m Empty) p ≡ Empty
 blank zero p = refl
 blank (suc m) zero = refl
 blank (suc m) (suc p) = blank m p

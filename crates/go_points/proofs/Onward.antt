@@ -89,7 +89,7 @@ first_in_word words a j fits low none some =
     }
 
 -- the places of the set
-place_back : (n : ℕ) (q : Place) → IsOn n q → place_of n (number_of n q) ≡ q
+pub place_back : (n : ℕ) (q : Place) → IsOn n q → place_of n (number_of n q) ≡ q
 place_back n q on = λ i. record { row = div-mul-add q.row n q.column on.column_within i; column = mod-mul-add q.row n q.column on.column_within i }
 
 module _ (words : List ℕ) (count a : ℕ) (is : IsWords words count (MAX_SIZE * MAX_SIZE)) where

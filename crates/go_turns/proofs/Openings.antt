@@ -1,11 +1,6 @@
 -- What the definition of an opening gives, by whether the present colouring has its liberties.
 use Rattle.go_turns.proofs.Common.{◌≡◌, ℕ, Option, Some, Err, sym, ◌∙◌, ap, subst, Place, IsOn, number_of, NoLiberty, Moment, with_liberties, reopened, Opens}
-use Rattle.std.proofs.lemmas.Nat.{div-mul-add, mod-mul-add}
-use Rattle.go_points.specs.Place.{place_of}
-
--- a point of the board is the place of its number
-pub place_back : (n : ℕ) (p : Place) → IsOn n p → place_of n (number_of n p) ≡ p
-place_back n p on = λ i. record { row = div-mul-add p.row n p.column on.column_within i; column = mod-mul-add p.row n p.column on.column_within i }
+pub use Rattle.go_points.proofs.Onward.{place_back}
 
 module _ (n : ℕ) (found : Option ℕ) (m : Moment) where
   pub opens_refused : (p : Place) → found ≡ Some (number_of n p) → IsOn n p → Opens n (with_liberties n found m) (Err (NoLiberty p))

@@ -1,7 +1,6 @@
 -- What words, rows and records come to, over plain values.
 use Rattle.gtp_core.proofs.Common.{◌≡◌, ℕ, zero, suc, ◌+◌, ◌-◌, ◌*◌, ◌<◌, Bool, true, false, cond, nat_eq, nat_lt, List, [], ◌∷◌, ◌++◌, map, length, take, drop, get_or, replicate, Option, None, Some, Ok, refl, sym, ap, ap₂, ◌∙◌, subst, arith, append_assoc, All, Cell, Empty, Turn, points, first_without_liberty, Place, IsOn, on_board, number_of, move, ply_of, GameRecord, Opens, opened, vertex_named, same_place, is_before, with_place, point_at, with_points, words_of, HasNone, IsAtSpace, fed_rows, new_record, place_at, turn_text}
 use Rattle.std.proofs.Common.{ltb-true, take-append-drop}
-use Rattle.std.proofs.lemmas.Nat.{div-mul-add, mod-mul-add}
 use Rattle.std.proofs.lemmas.List.{take_more, drop-drop}
 use Rattle.go_points.proofs.Lists.{and_left, and_right}
 use Rattle.go_points.specs.declared.Turn.TheVariants.{At}
@@ -15,6 +14,7 @@ use Rattle.gtp_core.specs.Commands.{Order, region_named, whole_board, with_value
 use Rattle.gtp_core.specs.Private.Pieces.{BeginsWord}
 use Rattle.gtp_core.specs.Words.{is_on_board}
 use Rattle.gtp_core.proofs.Pieces.{none_more, word_taken}
+use Rattle.go_turns.proofs.Openings.{place_back}
 
 pub none_taken : (k : ℕ) (xs : List ℕ) (i d : ℕ) → i < length xs → HasNone k (take i xs) → nat_eq (get_or xs i d) k ≡ false → HasNone k (take (i + 1) xs)
 none_taken k xs i d within h other = subst (HasNone k) (sym (take_more xs i d within)) (none_more k (take i xs) (get_or xs i d) h other)
@@ -38,10 +38,6 @@ row_more n row cells text low =
     ∙ append_assoc text (10 ∷ take n (drop (row * n) cells)) (fed_rows n (n - (row + 1)) (drop ((row + 1) * n) cells))
     ∙ ap (λ xs. text ++ ((10 ∷ take n (drop (row * n) cells)) ++ fed_rows n (n - (row + 1)) xs)) behind
     ∙ ap (λ k. text ++ fed_rows n k (drop (row * n) cells)) (sym next)
-
--- a point of the board, by its number
-pub place_back : (n : ℕ) (p : Place) → IsOn n p → place_of n (number_of n p) ≡ p
-place_back n p on = λ i. record { row = div-mul-add p.row n p.column on.column_within i; column = mod-mul-add p.row n p.column on.column_within i }
 
 pub turn_written : (n : ℕ) (t : Turn) (p : Place) → t ≡ At p → is_on_board n t ≡ true → turn_text n (ply_of n t) ≡ gtp_text n p
 turn_written n t p is known =

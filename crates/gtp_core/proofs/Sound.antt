@@ -1,18 +1,17 @@
 -- What a session keeps, and the problem that it has for that.
-use Rattle.gtp_core.proofs.Common.{◌≡◌, ℕ, zero, suc, ◌+◌, ◌*◌, ◌<◌, ◌≤◌, Bool, true, false, cond, nat_eq, nat_lt, List, [], ◌∷◌, ◌++◌, length, map, get_or, replicate, Option, Some, None, Result, Ok, Err, refl, sym, ◌∙◌, ap, ap₂, subst, arith, eq-eqb, eqb-true, lt-ltb, IfSome, unwrap_or, result_ok, All, Cell, Empty, Colour, points, cell_at, side_of, first_without_liberty, Place, IsOn, on_board, number_of, same_place, is_before, with_place, Ply, pass, move, vertex_named, TurnFault, place_in, GameRecord, play_of, Did, problem_of, GameProblem, point_at, with_points, GtpSession, new_record, board_of, stones_at, problem_at, IsSound}
+use Rattle.gtp_core.proofs.Common.{◌≡◌, ℕ, zero, suc, ◌+◌, ◌*◌, ◌<◌, ◌≤◌, Bool, true, false, cond, nat_eq, nat_lt, List, [], ◌∷◌, ◌++◌, length, map, get_or, replicate, Option, Some, None, Result, Ok, Err, refl, sym, ◌∙◌, ap, ap₂, subst, arith, eq-eqb, eqb-true, lt-ltb, IfSome, unwrap_or, result_ok, All, Cell, Empty, Colour, points, cell_at, side_of, first_without_liberty, Place, IsOn, number_of, same_place, is_before, with_place, Ply, pass, move, vertex_named, TurnFault, place_in, GameRecord, play_of, Did, problem_of, GameProblem, point_at, with_points, GtpSession, new_record, board_of, stones_at, problem_at, IsSound}
 use Rattle.std.proofs.Common.{not, ◌&&◌, ◌||◌, nat_le, is_none, mul-le-mul, if◌then◌else◌}
 use Rattle.std.specs.Prelude.{find, option_map}
-use Rattle.std.specs.List.{list_any, list_all, position_or_len}
+use Rattle.std.specs.List.{list_any, position_or_len}
 use Rattle.std.proofs.lemmas.Bool.{or_parts}
 use Rattle.std.proofs.lemmas.Bool.Decides.{nat_tests}
 use Rattle.std.proofs.lemmas.List.{length-replicate}
-use Rattle.std.proofs.lemmas.List.Folds.{list_all-append, list_any-append}
+use Rattle.std.proofs.lemmas.List.Folds.{list_any-append}
 use Rattle.std.proofs.lemmas.List.FromFn.{length-range_with_len}
 use Rattle.std.proofs.lemmas.List.Quantifiers.{position-Some}
 use Rattle.go_points.specs.Grid.{same_cells, same_cell, side_up_to}
 use Rattle.go_points.specs.Liberty.{lacks_liberty, all_reach_empty}
 use Rattle.go_points.specs.Move.{after_move}
-use Rattle.go_points.proofs.Cells.{same_cell_refl}
 use Rattle.go_points.proofs.Clearing.{moves_leave_liberties}
 use Rattle.go_points.proofs.Lists.{and_both}
 use Rattle.go_turns.specs.declared.fault.TurnFault.TheVariants.{OffBoard, Occupied}
@@ -26,15 +25,11 @@ use Rattle.target_game.proofs.Facts.{all_pass}
 use Rattle.target_game.proofs.States.{length-after_move}
 use Rattle.gtp_core.specs.Session.{problem_with, has_question}
 use Rattle.gtp_core.specs.Private.Sound.{IsSoundMoment, AreSound, IsSoundRecord}
+use Rattle.go_points.specs.Equal.{same_cells_refl}
+use Rattle.tsumego_problem.proofs.Keeping.{all_more}
+use Rattle.tsumego_problem.proofs.Complete.{all_on_board}
 
 -- ---- one colouring more
-
-same_cells_refl : (c : List Cell) → same_cells c c ≡ true
-same_cells_refl [] = refl
-same_cells_refl (x ∷ xs) = and_both (same_cell x x) (same_cells xs xs) (same_cell_refl x) (same_cells_refl xs)
-
-all_more : (f : List Cell → Bool) (h : List (List Cell)) (c : List Cell) → list_all f h ≡ true → f c ≡ true → list_all f (h ++ c ∷ []) ≡ true
-all_more f h c all e = list_all-append f h (c ∷ []) ∙ and_both (list_all f h) (f c && true) all (and_both (f c) true e refl)
 
 -- the first place of a colouring that is put at the end for the first time
 place_at_end : (test : List Cell → Bool) (h : List (List Cell)) (c : List Cell) → list_any test h ≡ false → test c ≡ true → position_or_len test (h ++ c ∷ []) ≡ length h
@@ -215,14 +210,6 @@ some_named n qs word words is = go (point_at n (vertex_named word)) is
 not_zero : (k : ℕ) → 0 < k → nat_eq k 0 ≡ false
 not_zero k h = grind (arith, nat_tests)
 
-all_on : (n : ℕ) (ps : List Place) → All (IsOn n) ps → list_all (on_board n) ps ≡ true
-all_on n [] on = refl
-all_on n (p ∷ ps) on =
-    let here : IsOn n p = on 0 p (omega arith) in
-    and_both (on_board n p) (list_all (on_board n) ps)
-    (and_both (nat_lt p.row n) (nat_lt p.column n) (lt-ltb p.row n here.row_within) (lt-ltb p.column n here.column_within))
-    (all_on n ps (λ k d low. on (suc k) d (omega (arith, low))))
-
 -- what is left of the refusals, where the session keeps the others from coming
 asked : (o : Option Colour) (two long : Bool) (make : Colour → GameProblem)
     → result_ok (unless_refused (first_refusal ((false, OtherSize) ∷ (false, BadPlace) ∷ (is_none o, BadTargets) ∷ (two, Ended) ∷ (false, EmptyRegion) ∷ (long, LongHistory) ∷ (false, NoLiberty) ∷ (false, Repeated) ∷ [])) (make (the_colour o)))
@@ -261,7 +248,7 @@ module _ (s : GtpSession) (k : Colour) (sound : IsSound s) (side : side_of (boar
       first = same_side c (board_of s) (ap (λ h. length (get_or h 0 [])) (sym e) ∙ whole 0 (subst (λ h. 0 < length h) (sym e) (omega arith)) ∙ sym (whole m.place low)) ∙ side
 
       there : problem_at s k ≡ result_ok (problem_on n m.history m.place k m.passes s.targets s.region)
-      there = rw (sound.turns.present.full, sound.turns.present.once, sound.turns.present.free, all_on n s.targets sound.targets, all_on n s.region sound.region, lt-ltb m.place (length m.history) low, some_region)
+      there = rw (sound.turns.present.full, sound.turns.present.once, sound.turns.present.free, all_on_board n s.targets sound.targets, all_on_board n s.region sound.region, lt-ltb m.place (length m.history) low, some_region)
           (sym (asked (stones_at s s.targets) (nat_le 2 m.passes) (nat_lt MAX_HISTORY (length m.history)) (problem_with s k)))
         where
           some_region : nat_eq (length s.region) 0 ≡ false

@@ -5,6 +5,7 @@ use Rattle.go_points.proofs.Cells.{opponent_twice, opponent_ne}
 use Rattle.go_points.proofs.Clearing.{empty_stays, stone_before, reaching_stays, reaching_kept, on_board_of, EveryStoneReaches, after_move_reaches, one_or_other}
 use Rattle.go_chains.proofs.Joins.{reaches_beside}
 use Rattle.pass_alive.specs.Life.{EyeSpace}
+use Rattle.go_chains.proofs.CutPoints.{way_first}
 
 -- once a stone is put down at p, each point holds what it held, or that stone
 pub put_down : (d : List Cell) (p q : ℕ) (x : Cell) → (cell_at (set d p x) q ≡ cell_at d q) ⊎ (cell_at (set d p x) q ≡ x)
@@ -18,10 +19,6 @@ put_down d p q x =
     at_p : q ≡ p → (p < length d) ⊎ (length d ≤ p) → (cell_at (set d p x) q ≡ cell_at d q) ⊎ (cell_at (set d p x) q ≡ x)
     at_p here (inl low) = inr (ap (cell_at (set d p x)) here ∙ get_or-set_same d p x Empty low)
     at_p here (inr past) = inl (get_or_past (set d p x) q Empty (omega (arith, here, past, length-set d p x)) ∙ sym (get_or_past d q Empty (omega (arith, here, past))))
-
-way_first : (n : ℕ) (c : List Cell) (own : Cell) (p q : ℕ) (rs : List ℕ) → IsWay n c own p q rs → cell_at c p ≡ own
-way_first n c own p q [] w = w.0
-way_first n c own p q (r ∷ rs) w = w.0
 
 path_first : (n : ℕ) (c : List Cell) (own end : Cell) (p : ℕ) (qs : List ℕ) → IsPath n c own end p qs → (cell_at c p ≡ own) ⊎ (cell_at c p ≡ end)
 path_first n c own end p [] path = inr path

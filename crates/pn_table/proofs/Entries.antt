@@ -14,16 +14,11 @@ use Rattle.pn_table.specs.declared.numbers.Numbers.{Numbers}
 use Rattle.go_points.specs.contracts.ColourPartialEq.TheImpl.{eq-value as of_colours}
 use Rattle.pn_table.specs.contracts.key.KeyPartialEq.TheImpl.{eq-value}
 use Rattle.pn_table.specs.Table.{same_key, others, promoted}
+use Rattle.go_points.specs.Equal.{same_colour_eq}
 
 -- What `==` of keys answers.
 abbrev pub E : Key → Key → Bool
 E = eq-value.it
-
-colour_is : (a b : Colour) → same_colour a b ≡ true → a ≡ b
-colour_is Black Black h = refl
-colour_is White White h = refl
-colour_is Black White h = cc
-colour_is White Black h = cc
 
 same_is : (j k : Key) → same_key j k ≡ true → j ≡ k
 same_is j k h =
@@ -31,7 +26,7 @@ same_is j k h =
     let rest = and_parts (same_colour j.mover k.mover) (nat_eq j.passes k.passes) first.1 in
     λ i. record {
       position = eqb-true j.position k.position first.0 i;
-      mover = colour_is j.mover k.mover rest.0 i;
+      mover = same_colour_eq j.mover k.mover rest.0 i;
       passes = eqb-true j.passes k.passes rest.1 i;
     }
 

@@ -1,11 +1,12 @@
 -- No line is longer than the longest line of the widest board.
-use Rattle.proof_cert.proofs.Common.{◌≡◌, ℕ, ◌+◌, ◌*◌, ◌<◌, ◌≤◌, ◌⊎◌, inl, inr, Bool, true, false, ◌||◌, nat_eq, nat_le, nat_lt, eqb-true, leb-true, ltb-true, List, ◌++◌, length, Option, Some, None, IsTrue, codes, decimal, refl, ap, arith, length-append, length-decimal-le, MAX_SIZE, Colour, Black, White, Cell, Ply, pass, move, text_of, Line, header_line, lemma_line, had_line, not_line, main_line, won_line, use_line, play_line, all_line, reply_line, end_line, colour_letter, vertex_text, is_spelled_number, line_bytes, is_spelled, line_of, max_line}
+use Rattle.proof_cert.proofs.Common.{◌≡◌, ℕ, ◌+◌, ◌*◌, ◌<◌, ◌≤◌, ◌⊎◌, inl, inr, true, ◌||◌, nat_eq, nat_le, nat_lt, eqb-true, leb-true, ltb-true, List, ◌++◌, length, Option, Some, None, IsTrue, codes, decimal, refl, ap, arith, length-append, length-decimal-le, MAX_SIZE, Colour, Black, White, Cell, Ply, pass, move, text_of, Line, header_line, lemma_line, had_line, not_line, main_line, won_line, use_line, play_line, all_line, reply_line, end_line, colour_letter, vertex_text, is_spelled_number, line_bytes, is_spelled, line_of, max_line}
 use Rattle.std.proofs.Math.Nat.{mul-le-mul}
 use Rattle.go_points.specs.declared.TheConstants.{MAX_POINTS}
 use Rattle.proof_cert.specs.Lines.{line_fits}
 use Rattle.proof_cert.specs.Text.{numbers_spelled}
 use Rattle.proof_cert.proofs.Words.{and_first, and_second, length-text_of}
 use Rattle.proof_cert.proofs.Texts.{line_of-is}
+use Rattle.go_points.proofs.Lists.{or_cases}
 
 -- a number that a line can hold has at most eight digits
 small_number : (k : ℕ) → k < 100000000 → length (decimal k) ≤ 8
@@ -22,12 +23,8 @@ few_letters : (n : ℕ) (t : Ply) → length (vertex_text n t) ≤ 4
 few_letters n pass = omega arith
 few_letters n (move p) = omega arith
 
-or_true : (a b : Bool) → IsTrue (a || b) → (a ≡ true) ⊎ (b ≡ true)
-or_true true b h = inl refl
-or_true false b h = inr h
-
 two_versions : (v : ℕ) → IsTrue (nat_eq v 1 || nat_eq v 2) → length (decimal v) ≤ 8
-two_versions v h = at (or_true (nat_eq v 1) (nat_eq v 2) h)
+two_versions v h = at (or_cases (nat_eq v 1) (nat_eq v 2) h)
   where
     at : (nat_eq v 1 ≡ true) ⊎ (nat_eq v 2 ≡ true) → length (decimal v) ≤ 8
     at (inl e) = let is : v ≡ 1 = eqb-true v 1 e in small_number v (omega (arith, is))

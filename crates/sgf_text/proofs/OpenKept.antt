@@ -1,9 +1,10 @@
 -- No byte breaks what an open tree keeps.
-use Rattle.sgf_text.proofs.Common.{◌≡◌, ◌≢◌, ℕ, List, [], ◌∷◌, ◌++◌, sym, ap, ◌∙◌, subst, refl, rules, arith, true, false, IsTrue, list_all, append_assoc, append-nil, and_from, and_parts, nat_tests, Sign, White, Upper, Lower, OpenRound, CloseRound, Semicolon, OpenSquare, CloseSquare, Backslash, Other, ParserState, AfterOpen, AfterSemicolon, InIdent, AfterIdent, InValue, AfterBackslash, AfterValue, AfterChild, Transition, To, Property, is_upper, is_value_after, is_value, is_ident, GameTree, is_tree, transition, added, with_node, with_child, Parser, moved, led, node_ended, can_close, begun_in, opened_in, closed_in, IsSound, IsSoundWord, IsSoundProperty, IsSoundNode, IsSoundTree}
+use Rattle.sgf_text.proofs.Common.{◌≡◌, ◌≢◌, ℕ, List, [], ◌∷◌, ◌++◌, sym, ap, ◌∙◌, subst, refl, rules, arith, true, false, IsTrue, list_all, append_assoc, append-nil, and_from, and_parts, nat_tests, Sign, White, Upper, Lower, OpenRound, CloseRound, Semicolon, OpenSquare, CloseSquare, Backslash, Other, ParserState, AfterOpen, AfterSemicolon, InIdent, AfterIdent, InValue, AfterBackslash, AfterValue, AfterChild, Transition, To, Property, is_upper, is_value_after, is_value, GameTree, is_tree, transition, added, with_node, with_child, Parser, moved, led, node_ended, can_close, begun_in, opened_in, closed_in, IsSound, IsSoundWord, IsSoundProperty, IsSoundNode, IsSoundTree}
 use Rattle.sgf_text.proofs.Signs.{Means}
 use Rattle.sgf_text.proofs.Sound.{IsPlain, plain_white, plain_letter, plain_at}
 use Rattle.sgf_text.proofs.ForestLemmas.{join_good}
 use Rattle.sgf_text.proofs.OpenSound.{open_at, can_begin, value_node, all_nodes, ended_good}
+use Rattle.sgf_text.proofs.Written.{ident_good}
 
 -- ---- words and values
 
@@ -14,9 +15,6 @@ upper_more c (x ∷ xs) h g = let b = and_parts (is_upper x) (list_all is_upper 
 some_more : (c : ℕ) (w : List ℕ) → w ++ c ∷ [] ≢ []
 some_more c [] = λ k. cc
 some_more c (x ∷ xs) = λ k. cc
-
-ident_good : (w : List ℕ) → w ≢ [] → IsTrue (list_all is_upper w) → IsTrue (is_ident w)
-ident_good w h g = search rules
 
 no_upper : (w : List ℕ) → w ≡ [] → IsTrue (list_all is_upper w)
 no_upper w e = subst (λ x. IsTrue (list_all is_upper x)) (sym e) refl

@@ -1,16 +1,12 @@
 -- The key of a colouring in which one point is changed, and of one without stones.
-use Rattle.std.proofs.Common.{◌≡◌, ◌≢◌, ℕ, zero, suc, ◌+◌, ◌*◌, ◌<◌, List, [], ◌∷◌, length, replicate, set, bit_xor, refl, sym, ◌∙◌, ap, arith, zero-le}
+use Rattle.std.proofs.Common.{◌≡◌, ◌≢◌, ℕ, ◌+◌, ◌*◌, ◌<◌, List, [], ◌∷◌, length, replicate, set, bit_xor, refl, sym, ◌∙◌, ap, arith, zero-le}
 use Rattle.std.proofs.lemmas.List.{get_or-set_same, get_or-set_other}
 use Rattle.go_points.specs.declared.Cell.{Cell}
 use Rattle.go_points.specs.declared.Cell.TheVariants.{Empty}
 use Rattle.go_points.specs.Grid.{cell_at, points, side_of}
 use Rattle.stone_key.specs.Key.{word_after, word_for, point_word, key_of}
 use Rattle.stone_key.proofs.Xors.{xor_from, xor_range_one}
-
-all_empty : (m p : ℕ) → cell_at (replicate m Empty) p ≡ Empty
-all_empty zero p = refl
-all_empty (suc m) zero = refl
-all_empty (suc m) (suc p) = all_empty m p
+use Rattle.go_points.proofs.Liberties.{blank as all_empty}
 
 no_words : (f : ℕ → ℕ) (xs : List ℕ) → ((x : ℕ) → f x ≡ 0) → xor_from 0 f xs ≡ 0
 no_words f [] none = refl

@@ -1,5 +1,5 @@
 -- What the judge does with a line, as the machine does it.
-use Rattle.cert_check.proofs.Common.{◌≡◌, ℕ, suc, ◌+◌, ◌-◌, ◌*◌, ◌<◌, Bool, true, false, ◌&&◌, nat_lt, nat_le, List, [], ◌∷◌, ◌++◌, length, Option, Some, None, IfSome, refl, sym, ap, ap₂, ◌∙◌, subst, arith, lt-ltb, slice_get, Less, Cell, text_order, GameProblem, All-push, side_of-whole, Head, max_nodes, max_depth, max_listed, Line, had_line, not_line, won_line, use_line, play_line, all_line, line_fits, had_of, not_of, Judge, NodeLine, Why, limit, list_order, ask, lemma_start, is_after, Machine, Heading, Phase, goes_on, stops, goes_if, last_of, listed_taken, listing_had, listing_not, had_taken, not_taken, phase_taken, taken, body_of, node_taken, Inside, phase_of, owed_by, node_fault, node_next, head_of, node_value, machine_of, heading_of, phase_held, AwaitsNode, answering, had_more, listed_more, Ascends, if◌then◌else◌}
+use Rattle.cert_check.proofs.Common.{◌≡◌, ℕ, suc, ◌+◌, ◌-◌, ◌*◌, ◌<◌, Bool, true, false, ◌&&◌, nat_lt, nat_le, List, [], ◌∷◌, ◌++◌, length, Option, Some, None, IfSome, refl, sym, ap, ap₂, ◌∙◌, subst, arith, lt-ltb, slice_get, Less, Cell, text_order, GameProblem, All-push, side_of-whole, Head, max_nodes, max_depth, max_listed, Line, had_line, not_line, won_line, use_line, play_line, all_line, had_of, not_of, Judge, NodeLine, Why, limit, list_order, ask, lemma_start, is_after, Machine, Heading, Phase, goes_on, stops, goes_if, last_of, listed_taken, listing_had, listing_not, had_taken, not_taken, body_of, node_taken, Inside, phase_of, owed_by, node_fault, node_next, head_of, node_value, machine_of, heading_of, phase_held, AwaitsNode, answering, had_more, listed_more, Ascends}
 use Rattle.std.specs.Prelude.{reverse}
 use Rattle.target_game.specs.State as State
 use Rattle.std.specs.List.{All}
@@ -8,9 +8,9 @@ use Rattle.cert_check.specs.declared.judge.Phase.TheVariants.{ListingHad, Listin
 use Rattle.cert_check.specs.declared.judge.Within.{Within}
 use Rattle.cert_check.specs.declared.judge.Within.TheVariants.{Lemma, Main}
 use Rattle.cert_check.specs.declared.open_nodes.Due.{Due}
-use Rattle.cert_check.specs.declared.open_nodes.Due.TheVariants.{Node, Reply, End}
+use Rattle.cert_check.specs.declared.open_nodes.Due.TheVariants.{Node}
 use Rattle.cert_check.specs.Parts.{had_line_of, listed_line, node_line}
-use Rattle.cert_check.specs.Private.Judging.{GoesOn, IsBehind, lemma_of, within_of, inside_now, IsBehindFor, AwaitsHad, AwaitsList, had_here, list_here, node_here, body_here}
+use Rattle.cert_check.specs.Private.Judging.{GoesOn, IsBehind, lemma_of, within_of, inside_now, IsBehindFor, AwaitsHad, AwaitsList, had_here, list_here, node_here}
 use Rattle.cert_check.proofs.Ascending.{ascends_more, is_less}
 use Rattle.cert_check.proofs.Lists.{before_is}
 use Rattle.cert_check.proofs.Reading.{last_pushed}
@@ -116,18 +116,6 @@ module _ (alive : Bool) (j : Judge) (within : Within) (l : Line) (k : NodeLine) 
       at : (w : Within) → goes_on (record { phase = phase_of (heading_of j) (within_of (record j { state = j'.state; open_nodes = j'.open_nodes; passed = j'.passed }) w) i; place = suc j.place; nodes = count; listed = j.listed_count }) ≡ goes_on (record { phase = phase_of (heading_of j) (within_of j w) i; place = suc j.place; nodes = suc j.node_count; listed = j.listed_count })
       at Lemma = ap (λ n. goes_on (record { phase = phase_of (heading_of j) (within_of j Lemma) i; place = suc j.place; nodes = n; listed = j.listed_count })) counted
       at Main = ap (λ n. goes_on (record { phase = phase_of (heading_of j) None i; place = suc j.place; nodes = n; listed = j.listed_count })) counted
-
--- a line of a body
-pub body_line : (alive : Bool) (j : Judge) (w : Within) (due : Due) (l : Line) → j.phase ≡ Body w due → AwaitsNode j due → line_fits j.problem.now.game.size l ≡ true → taken (answering alive) j.problem.now (machine_of j) (Some l) ≡ body_here alive j w due l
-body_line alive j w due l is ready fits =
-    ap (λ b. phase_taken (answering alive) j.problem.now (machine_of j) (phase_held j j.phase) (if b then Some l else None)) fits
-    ∙ ap (λ p. phase_taken (answering alive) j.problem.now (machine_of j) (phase_held j p) (Some l)) is
-    ∙ at due
-  where
-    at : (due : Due) → phase_taken (answering alive) j.problem.now (machine_of j) (phase_held j (Body w due)) (Some l) ≡ body_here alive j w due l
-    at Node = refl
-    at (Reply t left) = refl
-    at End = refl
 
 -- LISTED COLOURINGS
 

@@ -6,13 +6,12 @@
 --     header_line_of, opening_line, had_line_of, listed_line, node_line, reply_line_of, end_line_of      the line, if it is of one
 --         kind
 --     header_value, .., end_value      what the program's parts say, as lines
-use Rattle.std.specs.Prelude.{ℕ, Bool, true, false, not, List, map, Option, Some, None, IfSome, IsTrue, option_map}
+use Rattle.std.specs.Prelude.{ℕ, Bool, true, false, List, map, Option, Some, None, IfSome, IsTrue, option_map}
 use Rattle.std.specs.List.{list_all}
 use Rattle.go_points.specs.declared.Colour.{Colour}
 use Rattle.go_points.specs.declared.Cell.{Cell}
 use Rattle.go_points.specs.declared.Turn.{Turn}
-use Rattle.go_points.specs.Ply.{Ply, pass, move, ply_of}
-use Rattle.target_game.specs.State.{GameState}
+use Rattle.go_points.specs.Ply.{ply_of}
 use Rattle.proof_cert.specs.Claim.{Head}
 use Rattle.proof_cert.specs.Lines.{Line, header_line, lemma_line, had_line, not_line, main_line, won_line, use_line, play_line, all_line, reply_line, end_line}
 use Rattle.proof_cert.specs.Stage.{line_value, version_number}
@@ -24,7 +23,7 @@ use Rattle.cert_check.specs.declared.lines.NodeLine.{NodeLine}
 use Rattle.cert_check.specs.declared.lines.NodeLine.TheVariants.{Won, Use, Play, All}
 use Rattle.cert_check.specs.declared.lines.Opening.{Opening}
 use Rattle.cert_check.specs.declared.lines.Opening.TheVariants.{Lemma, Main}
-use Rattle.cert_check.specs.Body.{Body, nowhere, Why, turn_barred, repeats_known, not_listed, ask, is_open, is_known, is_listed, lemma_at, result_of}
+use Rattle.cert_check.specs.Body.{Body, nowhere, Why, is_listed, lemma_at}
 
 -- what is judged is never refused because of a failed read
 abbrev pub IsJudged : code_why.Why → Type 0
@@ -50,14 +49,6 @@ PassesOn b j = IfSome (lemma_at b.earlier j) (λ h. IsTrue (list_all (is_listed 
 -- what lines of the program say, with None for a malformed one
 abbrev pub line_values : ℕ → List (Option code.Line) → List (Option Line)
 line_values n ls = map (option_map (line_value n)) ls
-
--- the checks that only a move has; a pass has none
-abbrev pub move_fault : Option (List (List Cell)) → GameState → Ply → Option Why
-move_fault listed s pass = None
-move_fault listed s (move p) =
-    ask (is_open s p) turn_barred
-    (ask (not (is_known s (result_of s p))) repeats_known
-    (ask (is_listed listed (result_of s p)) not_listed None))
 
 -- the first line
 abbrev pub header_value : Header → Line

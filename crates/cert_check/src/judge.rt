@@ -136,7 +136,18 @@ impl<'p> Judge<'p> {
             Phase::Opening => self.opening(line),
             Phase::ListingHad => self.listing_had(line, alive),
             Phase::Listing => self.listing(line, alive),
-            Phase::Body { within, due } => self.within(within, due, line, alive),
+            Phase::Body {
+                within,
+                due: Due::Node,
+            } => self.node(within, line, alive),
+            Phase::Body {
+                within,
+                due: Due::Reply { due, left },
+            } => self.reply(within, due, left, line),
+            Phase::Body {
+                within,
+                due: Due::End,
+            } => self.close(within, line),
             Phase::Done => Err(Why::TextAfterEnd),
         }
     }

@@ -1,13 +1,13 @@
 //! The judge's calls for the lines of a tree: nodes, replies and `end`.
 
-ghost use Rattle.std.specs.Prelude.{◌≡◌, ◌<◌, [], nat_lt, nat_le, ◌&&◌, ◌+◌, ◌++◌, ◌∷◌, length, Some, IsTrue};
+ghost use Rattle.std.specs.Prelude.{◌≡◌, ◌<◌, nat_lt, nat_le, ◌&&◌, ◌+◌, length, Some, IsTrue};
 ghost use Rattle.proof_cert.specs.Claim.{max_nodes, max_depth};
 ghost use Rattle.proof_cert.specs.Lines.{use_line};
 ghost use Rattle.proof_cert.specs.Stage.{line_value};
 ghost use Rattle.cert_check.specs.Private.Ascending.{Ascends};
-ghost use Rattle.cert_check.specs.Body.{lives, nowhere};
-ghost use Rattle.cert_check.specs.Private.Judging.{AwaitsNode, ChangesBody, answering, body_here, heading_of, lemma_of, machine_of, node_here, reply_here, within_of, Takes, TakesNodeIn};
-ghost use Rattle.cert_check.specs.Verdict.{body_of, end_taken, goes_on, moved, opening};
+ghost use Rattle.cert_check.specs.Body.{lives};
+ghost use Rattle.cert_check.specs.Private.Judging.{AwaitsNode, ChangesBody, answering, heading_of, machine_of, node_here, reply_here, within_of, Takes, TakesNodeIn};
+ghost use Rattle.cert_check.specs.Verdict.{body_of, end_taken};
 ghost use Rattle.cert_check.specs.Parts.{node_value};
 ghost use Rattle.cert_check.specs.declared.judge.Within.{Within as SpecWithin};
 ghost use Rattle.cert_check.specs.declared.judge.Within.TheVariants.{Lemma, Main};
@@ -18,7 +18,7 @@ use crate::body::{Body, Head};
 use crate::judge::{Judge, Phase, Within};
 use crate::lemma_set::LemmaSet;
 use crate::lines::{NodeLine, is_end, node_of, reply_of, rests_on_shape};
-use crate::open_nodes::{Due, MOST_OPEN, take_node, take_reply, unwind};
+use crate::open_nodes::{Due, MOST_OPEN, take_node, unwind};
 use crate::reject::Why;
 use go_points::{ColouringList, Turn};
 use proof_cert::{Line, MAX_NODES};
@@ -26,26 +26,6 @@ use std::mem;
 use target_game::TurnsLeft;
 
 impl<'p> Judge<'p> {
-    /// A line of a body.
-    pub(crate) fn within(
-        &mut self,
-        within: Within,
-        due: Due,
-        line: &Line,
-        alive: bool,
-    ) -> Result<(), Why>
-        requires ready { AwaitsNode self.old due }
-        ensures { Takes self.old self.new
-            (body_here alive self.old within due
-            (line_value self.old.problem.now.game.size line.now)) result }
-    {
-        match due {
-            Due::Node => self.node(within, line, alive),
-            Due::Reply { due, left } => self.reply(within, due, left, line),
-            Due::End => self.close(within, line),
-        }
-    }
-
     /// The line of a node.
     pub(crate) fn node(&mut self, within: Within, line: &Line, alive: bool) -> Result<(), Why>
         requires ready { AwaitsNode self.old Node }
@@ -80,9 +60,23 @@ impl<'p> Judge<'p> {
         if rests_on_shape(&node) {
             return self.by_shape(alive);
         }
+        let heads = self.heads.as_slice();
         match within {
-            Within::Lemma => self.node_of_lemma(node),
-            Within::Main => self.node_of_main(node),
+            Within::Lemma => take_node(
+                &Body::of_lemma(self.winner, heads, &self.list),
+                &mut self.state,
+                &mut self.open_nodes,
+                &mut self.passed,
+                node,
+            ),
+            // Main has no list that would have to contain another, so nothing is remembered here.
+            Within::Main => take_node(
+                &Body::of_main(self.winner, heads),
+                &mut self.state,
+                &mut self.open_nodes,
+                &mut LemmaSet::new(self.alloc),
+                node,
+            ),
         }
     }
 
@@ -114,44 +108,6 @@ impl<'p> Judge<'p> {
             && alive
     }
 
-    /// A node of a lemma, and what is due after it.
-    fn node_of_lemma(&mut self, node: NodeLine) -> Result<Due, Why>
-        requires ready { AwaitsNode self.old Node }
-        requires room { length self.old.open_nodes.items < 2000 }
-        ensures rest { ChangesBody self.old self.new }
-        ensures taken { TakesNodeIn self.old Lemma nowhere
-            (node_value self.old.state.state.game.size node) self.new result }
-    {
-        let body = Body::of_lemma(self.winner, self.heads.as_slice(), &self.list);
-        take_node(
-            &body,
-            &mut self.state,
-            &mut self.open_nodes,
-            &mut self.passed,
-            node,
-        )
-    }
-
-    /// A node of main, and what is due after it.
-    fn node_of_main(&mut self, node: NodeLine) -> Result<Due, Why>
-        requires ready { AwaitsNode self.old Node }
-        requires room { length self.old.open_nodes.items < 2000 }
-        ensures rest { ChangesBody self.old self.new }
-        ensures taken { TakesNodeIn self.old Main nowhere
-            (node_value self.old.state.state.game.size node) self.new result }
-    {
-        let body = Body::of_main(self.winner, self.heads.as_slice());
-        // Main has no list that would have to contain another, so nothing is remembered here.
-        let mut none = LemmaSet::new(self.alloc);
-        take_node(
-            &body,
-            &mut self.state,
-            &mut self.open_nodes,
-            &mut none,
-            node,
-        )
-    }
-
     /// Whether one more node may be counted, at the depth of the next one.
     fn has_room(&self) -> bool
         ensures value { result
@@ -164,7 +120,13 @@ impl<'p> Judge<'p> {
     }
 
     /// The line of a reply, if this reply is due.
-    fn reply(&mut self, within: Within, due: Turn, left: TurnsLeft, line: &Line) -> Result<(), Why>
+    pub(crate) fn reply(
+        &mut self,
+        within: Within,
+        due: Turn,
+        left: TurnsLeft,
+        line: &Line,
+    ) -> Result<(), Why>
         requires ready { AwaitsNode self.old (Reply due left) }
         ensures { Takes self.old self.new
             (reply_here self.old within due left
@@ -173,7 +135,11 @@ impl<'p> Judge<'p> {
         let Some(turn) = reply_of(line) else {
             return Err(Why::Malformed);
         };
-        match take_reply(&mut self.state, &mut self.open_nodes, due, left, turn) {
+        if turn != due {
+            return Err(Why::RepliesDiffer { due });
+        }
+        self.open_nodes.push(left);
+        match self.state.after(turn) {
             Ok(()) => {
                 self.phase = Phase::Body {
                     within,
@@ -181,12 +147,12 @@ impl<'p> Judge<'p> {
                 };
                 Ok(())
             }
-            Err(why) => Err(why),
+            Err(_) => Err(Why::Memory),
         }
     }
 
     /// The line `end` of a body whose nodes have all been judged.
-    fn close(&mut self, within: Within, line: &Line) -> Result<(), Why>
+    pub(crate) fn close(&mut self, within: Within, line: &Line) -> Result<(), Why>
         requires ascends { Ascends self.old.list }
         requires game { self.old.state.state.game ≡ self.old.problem.now.game }
         ensures { Takes self.old self.new
@@ -197,31 +163,21 @@ impl<'p> Judge<'p> {
             return Err(Why::Malformed);
         }
         match within {
-            Within::Lemma => self.close_lemma(),
+            Within::Lemma => {
+                let had = mem::replace(&mut self.had, Vec::new(self.alloc));
+                let list = mem::replace(&mut self.list, ColouringList::new(self.alloc));
+                self.passed.clear();
+                let head = Head::new(self.mover, self.passes, self.root, had, list);
+                if self.heads.push(head).is_err() {
+                    return Err(Why::Memory);
+                }
+                self.phase = Phase::Opening;
+                Ok(())
+            }
             Within::Main => {
                 self.phase = Phase::Done;
                 Ok(())
             }
         }
-    }
-
-    /// Ends the present lemma, which has been judged.
-    fn close_lemma(&mut self) -> Result<(), Why>
-        requires ascends { Ascends self.old.list }
-        requires game { self.old.state.state.game ≡ self.old.problem.now.game }
-        ensures { Takes self.old self.new
-            (goes_on (moved (machine_of self.old)
-            (opening (record (heading_of self.old)
-            { heads = self.old.heads.items ++ lemma_of self.old ∷ [] })))) result }
-    {
-        let had = mem::replace(&mut self.had, Vec::new(self.alloc));
-        let list = mem::replace(&mut self.list, ColouringList::new(self.alloc));
-        self.passed.clear();
-        let head = Head::new(self.mover, self.passes, self.root, had, list);
-        if self.heads.push(head).is_err() {
-            return Err(Why::Memory);
-        }
-        self.phase = Phase::Opening;
-        Ok(())
     }
 }

@@ -1,19 +1,14 @@
 //! The judge's calls for the lines before a tree: a claim's first, `lemma`, `main`, and the two lists of a lemma.
 
-ghost use Rattle.std.specs.Prelude.{◌≡◌, ◌≤◌, ◌*◌, [], length, None, Some, IsTrue, IfErr, OnOk};
+ghost use Rattle.std.specs.Prelude.{◌≡◌, ◌≤◌, ◌*◌, length, None, Some, IsTrue, IfErr, OnOk};
 ghost use Rattle.go_points.specs.Grid.{side_of};
-ghost use Rattle.target_game.specs.State.{state_alone};
 ghost use Rattle.proof_cert.specs.Lines.{line_fits as fits_board, lemma_line, main_line};
 ghost use Rattle.proof_cert.specs.Stage.{line_value};
-ghost use Rattle.cert_check.specs.Body.{Why as SpecWhy};
 ghost use Rattle.cert_check.specs.Private.Judging.{AwaitsHad, AwaitsHeader, AwaitsList, IsBetweenBodies, had_here, had_more, heading_of, lemma_of, list_here, listed_more, machine_of, Takes};
-ghost use Rattle.cert_check.specs.Verdict.{header_taken, last_of, lemma_fault, listed_taken, listing_had, listing_not, opening_taken};
-ghost use Rattle.cert_check.specs.Parts.{IsJudged};
-ghost use Rattle.cert_check.specs.Stage.{why_value};
+ghost use Rattle.cert_check.specs.Verdict.{header_taken, last_of, listed_taken, listing_had, listing_not, opening_taken};
 ghost use Rattle.cert_check.specs.declared.judge.Phase.TheVariants as phases;
 ghost use Rattle.cert_check.specs.declared.reject.Why.TheVariants.{Memory};
 
-use crate::body::Head;
 use crate::body_state::BodyState;
 use crate::judge::{Judge, Phase, Within};
 use crate::lines::{Opening, had_of, header_of, is_after, listed_of, opening_of};
@@ -21,7 +16,6 @@ use crate::open_nodes::Due;
 use crate::reject::Why;
 use go_points::{Colour, Colouring};
 use proof_cert::{Line, MAX_LEMMAS, MAX_LISTED, Version};
-use std::alloc::Global;
 use target_game::AtFault;
 
 impl<'p> Judge<'p> {
@@ -76,15 +70,16 @@ impl<'p> Judge<'p> {
             (opening_taken self.old.problem.now (machine_of self.old) (heading_of self.old)
             (lemma_line mover passes root)) result }
     {
-        if let Err(why) = begin(
-            self.alloc,
-            self.heads.as_slice(),
-            &mut self.state,
-            mover,
-            passes,
-            &root,
-        ) {
-            return Err(why);
+        if self.heads.len() >= MAX_LEMMAS {
+            return Err(Why::Limit);
+        }
+        match self
+            .state
+            .begin(self.alloc, &root, mover, u64::from(passes))
+        {
+            Ok(()) => {}
+            Err(AtFault::NoLiberty { .. }) => return Err(Why::RootWithoutLiberty),
+            Err(AtFault::Memory) => return Err(Why::Memory),
         }
         self.open_nodes.clear();
         self.mover = mover;
@@ -228,37 +223,5 @@ impl<'p> Judge<'p> {
         }
         self.listed_count += 1;
         Ok(())
-    }
-}
-
-/// Begins a lemma, after this many lemmas.
-fn begin(
-    alloc: Global,
-    heads: &[Head],
-    state: &mut BodyState,
-    mover: Colour,
-    passes: u8,
-    root: &Colouring,
-) -> Result<(), Why>
-    requires size { side_of root.now ≡ state.old.state.game.size }
-    requires few { passes ≤ 1 }
-    ensures state { OnOk result
-        (state.new ≡ record {
-          state = state_alone state.old.state.game root.now mover passes;
-          before = [];
-        }) }
-    ensures ok { OnOk result (lemma_fault state.old.state.game heads.now root.now ≡ None) }
-    ensures err { IfErr result (λ why. (p : SpecWhy)
-        → why_value state.old.state.game.size why ≡ Some p
-        → lemma_fault state.old.state.game heads.now root.now ≡ Some p) }
-    ensures judged { IfErr result (λ why. IsJudged why) }
-{
-    if heads.len() >= MAX_LEMMAS {
-        return Err(Why::Limit);
-    }
-    match state.begin(alloc, root, mover, u64::from(passes)) {
-        Ok(()) => Ok(()),
-        Err(AtFault::NoLiberty { .. }) => Err(Why::RootWithoutLiberty),
-        Err(AtFault::Memory) => Err(Why::Memory),
     }
 }

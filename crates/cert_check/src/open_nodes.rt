@@ -5,7 +5,7 @@ ghost use Rattle.std.specs.List.{All};
 ghost use Rattle.go_points.specs.Ply.{ply_of};
 ghost use Rattle.target_game.specs.Next.{next};
 ghost use Rattle.target_game.specs.Left.{turns_due};
-ghost use Rattle.proof_cert.specs.Lines.{won_line, use_line, play_line, all_line};
+ghost use Rattle.proof_cert.specs.Lines.{all_line};
 ghost use Rattle.cert_check.specs.Body.{Why as SpecWhy, reply_fault};
 ghost use Rattle.cert_check.specs.Private.Inside.{Follows, HasRoom, MayBeMade, inside_of, owed_by, reply_at, TakesNode};
 ghost use Rattle.cert_check.specs.Verdict.{owing};
@@ -22,7 +22,6 @@ use crate::reject::Why;
 use arrayvec::ArrayVec;
 use go_points::Turn;
 use proof_cert::MAX_DEPTH;
-use std::alloc::AllocError;
 use target_game::TurnsLeft;
 
 /// The most turns that are made in a body.
@@ -55,109 +54,6 @@ pub(crate) fn unwind(state: &mut BodyState, open_nodes: &mut ArrayVec<TurnsLeft,
         }
     }
     Due::End
-}
-
-/// The line of a reply, if this reply is due.
-pub(crate) fn take_reply(
-    state: &mut BodyState,
-    open_nodes: &mut ArrayVec<TurnsLeft, MOST_OPEN>,
-    due: Turn,
-    left: TurnsLeft,
-    turn: Turn,
-) -> Result<(), Why>
-    requires follows { Follows state.old.state.game state.old.before
-        (reverse open_nodes.old.items) }
-    requires made { MayBeMade (Reply due left) state.old.state (length open_nodes.old.items) }
-    ensures ok { OnOk result
-        (reply_fault (ply_of state.old.state.game.size due) (ply_of state.old.state.game.size turn)
-        ≡ None) }
-    ensures state { OnOk result
-        (state.new ≡ record {
-          state = next state.old.state (ply_of state.old.state.game.size due);
-          before = state.old.state ∷ state.old.before;
-        }) }
-    ensures game { OnOk result (state.new.state.game ≡ state.old.state.game) }
-    ensures follows { OnOk result
-        (Follows state.old.state.game state.new.before (reverse open_nodes.new.items)) }
-    ensures owed { OnOk result
-        (owed_by state.new.before (reverse open_nodes.new.items)
-        ≡ owing (suc (length state.old.before)) state.old.state
-        (turns_due state.old.state left.next)
-        (owed_by state.old.before (reverse open_nodes.old.items))) }
-    ensures err { IfErr result (λ why. (p : SpecWhy)
-        → why_value state.old.state.game.size why ≡ Some p
-        → reply_fault (ply_of state.old.state.game.size due)
-        (ply_of state.old.state.game.size turn) ≡ Some p) }
-    ensures judged { IfErr result (λ why. IsJudged why) }
-{
-    if turn != due {
-        return Err(Why::RepliesDiffer { due });
-    }
-    open_nodes.push(left);
-    match state.after(turn) {
-        Ok(()) => Ok(()),
-        Err(_) => Err(Why::Memory),
-    }
-}
-
-/// The line `won`.
-fn take_won(
-    body: &Body<'_>,
-    state: &mut BodyState,
-    open_nodes: &mut ArrayVec<TurnsLeft, MOST_OPEN>,
-) -> Result<Due, Why>
-    requires { HasRoom state.old open_nodes.old.items }
-    ensures { TakesNode (ordinary body.now) (won_line)
-        state.old open_nodes.old.items state.new open_nodes.new.items result }
-{
-    if let Some(why) = won_fault(body, state.play()) {
-        return Err(why);
-    }
-    Ok(unwind(state, open_nodes))
-}
-
-/// The line `use`.
-fn take_use(
-    body: &Body<'_>,
-    state: &mut BodyState,
-    open_nodes: &mut ArrayVec<TurnsLeft, MOST_OPEN>,
-    passed: &mut LemmaSet,
-    lemma: u32,
-) -> Result<Due, Why>
-    requires room { HasRoom state.old open_nodes.old.items }
-    requires passed { All (PassesOn (ordinary body.now)) passed.old }
-    ensures passed { All (PassesOn (ordinary body.now)) passed.new }
-    ensures taken { TakesNode (ordinary body.now) (use_line lemma)
-        state.old open_nodes.old.items state.new open_nodes.new.items result }
-{
-    let Ok(fault) = use_fault(body, passed, state, lemma) else {
-        return Err(Why::Memory);
-    };
-    if let Some(why) = fault {
-        return Err(why);
-    }
-    Ok(unwind(state, open_nodes))
-}
-
-/// The line `play`.
-fn take_play(
-    body: &Body<'_>,
-    state: &mut BodyState,
-    open_nodes: &mut ArrayVec<TurnsLeft, MOST_OPEN>,
-    turn: Turn,
-) -> Result<Due, Why>
-    requires { HasRoom state.old open_nodes.old.items }
-    ensures { TakesNode (ordinary body.now) (play_line (ply_of state.old.state.game.size turn))
-        state.old open_nodes.old.items state.new open_nodes.new.items result }
-{
-    let Ok(fault) = make_turn(body, state, turn) else {
-        return Err(Why::Memory);
-    };
-    if let Some(why) = fault {
-        return Err(why);
-    }
-    open_nodes.push(TurnsLeft::default());
-    Ok(Due::Node)
 }
 
 /// The line `all`.
@@ -196,9 +92,31 @@ pub(crate) fn take_node(
         state.old open_nodes.old.items state.new open_nodes.new.items result }
 {
     match node {
-        NodeLine::Won => take_won(body, state, open_nodes),
-        NodeLine::Use(lemma) => take_use(body, state, open_nodes, passed, lemma),
-        NodeLine::Play(turn) => take_play(body, state, open_nodes, turn),
+        NodeLine::Won => {
+            if let Some(why) = won_fault(body, state.play()) {
+                return Err(why);
+            }
+            Ok(unwind(state, open_nodes))
+        }
+        NodeLine::Use(lemma) => {
+            let Ok(fault) = use_fault(body, passed, state, lemma) else {
+                return Err(Why::Memory);
+            };
+            if let Some(why) = fault {
+                return Err(why);
+            }
+            Ok(unwind(state, open_nodes))
+        }
+        NodeLine::Play(turn) => {
+            let Ok(fault) = make_turn(body, state, turn) else {
+                return Err(Why::Memory);
+            };
+            if let Some(why) = fault {
+                return Err(why);
+            }
+            open_nodes.push(TurnsLeft::default());
+            Ok(Due::Node)
+        }
         NodeLine::All(replies) => take_all(body, state, open_nodes, replies),
     }
 }

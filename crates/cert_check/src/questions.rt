@@ -6,15 +6,14 @@ ghost use Rattle.go_points.specs.Ply.{ply_of};
 ghost use Rattle.target_game.specs.Left.{line_after};
 ghost use Rattle.target_game.specs.Over.{over};
 ghost use Rattle.cert_check.specs.Body.{is_to_move, won_fault, play_fault, head_fault, use_fault, all_fault, due_replies, is_listed, lemma_at};
-ghost use Rattle.go_points.specs.declared.Turn.TheVariants.{At};
 ghost use Rattle.cert_check.specs.Stage.{why_value};
-ghost use Rattle.cert_check.specs.Parts.{PassesOn, move_fault, ordinary};
+ghost use Rattle.cert_check.specs.Parts.{PassesOn, ordinary};
 
 use crate::body::{Body, Head};
 use crate::body_state::BodyState;
 use crate::lemma_set::LemmaSet;
 use crate::reject::Why;
-use go_points::{Colour, Point, Turn};
+use go_points::{Colour, Turn};
 use std::alloc::AllocError;
 use target_game::{PlayState, TurnsLeft};
 
@@ -37,35 +36,8 @@ fn is_to_move(state: &PlayState, colour: Colour) -> bool
     state.over().is_none() && state.mover() == colour
 }
 
-/// Makes a move if nothing is wrong with it: it is at an empty point of the region, its result is not known, and in a lemma its
-/// result is on the lemma's list. The move is played only once.
-fn make_move(
-    body: &Body<'_>,
-    state: &mut BodyState,
-    point: Point,
-) -> Result<Option<Why>, AllocError>
-    requires { over state.old.state ≡ None }
-    ensures fault { IfOk result
-        (λ f. option_map (why_value state.old.state.game.size) f
-        ≡ option_map Some (move_fault body.now.listed state.old.state
-        (ply_of state.old.state.game.size (At point)))) }
-    ensures made { IfOk result (λ f. f ≡ None
-        → state.new ≡ line_after state.old (ply_of state.old.state.game.size (At point))) }
-{
-    if !state.play().size().holds(point) || !state.play().is_open(point) {
-        return Ok(Some(Why::TurnBarred));
-    }
-    if !state.try_after(Turn::At(point))? {
-        return Ok(Some(Why::RepeatsKnown));
-    }
-    if !body.lists(&state.play().colouring()) {
-        return Ok(Some(Why::NotListed));
-    }
-    Ok(None)
-}
-
-/// Makes the winner's turn if nothing is wrong with it: the winner is to move, and if the turn is a move, that passes its checks as
-/// well.
+/// Makes the winner's turn if nothing is wrong with it: the winner is to move, and a move is at an empty point of the region, its
+/// result is not known, and in a lemma its result is on the lemma's list. The move is played only once.
 pub(crate) fn make_turn(
     body: &Body<'_>,
     state: &mut BodyState,
@@ -82,13 +54,20 @@ pub(crate) fn make_turn(
     if !is_to_move(state.play(), body.winner()) {
         return Ok(Some(Why::WrongSide));
     }
-    match turn {
-        Turn::Pass => {
-            state.after(Turn::Pass)?;
-            Ok(None)
-        }
-        Turn::At(point) => make_move(body, state, point),
+    let Turn::At(point) = turn else {
+        state.after(Turn::Pass)?;
+        return Ok(None);
+    };
+    if !state.play().size().holds(point) || !state.play().is_open(point) {
+        return Ok(Some(Why::TurnBarred));
     }
+    if !state.try_after(Turn::At(point))? {
+        return Ok(Some(Why::RepeatsKnown));
+    }
+    if !body.lists(&state.play().colouring()) {
+        return Ok(Some(Why::NotListed));
+    }
+    Ok(None)
 }
 
 /// Whether the body may make each of the colourings on the lemma's list. Once this holds, it holds for the rest of the body, and is

@@ -28,10 +28,9 @@ use Rattle.cert_check.specs.declared.judge.Phase.TheVariants.{Header, Opening, L
 use Rattle.cert_check.specs.declared.judge.Within.{Within}
 use Rattle.cert_check.specs.declared.judge.Within.TheVariants.{Lemma, Main}
 use Rattle.cert_check.specs.declared.open_nodes.Due.{Due}
-use Rattle.cert_check.specs.declared.open_nodes.Due.TheVariants.{Node, Reply, End}
 use Rattle.cert_check.specs.Body.{Why, malformed, text_after_end, lemma_body, lemma_start}
 use Rattle.cert_check.specs.Stage.{why_value}
-use Rattle.cert_check.specs.Verdict.{Machine, Heading, header, opening, listing_had, listing_not, done, last_of, AfterLine, goes_on, stops, had_taken, not_taken, node_taken, reply_taken, end_taken, body_of}
+use Rattle.cert_check.specs.Verdict.{Machine, Heading, header, opening, listing_had, listing_not, done, last_of, AfterLine, goes_on, stops, had_taken, not_taken, node_taken, reply_taken, body_of}
 use Rattle.cert_check.specs.Verdict as machine
 use Rattle.cert_check.specs.Private.Ascending.{Ascends}
 use Rattle.cert_check.specs.Private.Inside.{Follows, MayBeMade, Inside, inside_of, phase_of, owed_by, node_fault, node_next}
@@ -182,11 +181,6 @@ reply_here j within due left l =
     reply_taken (machine_of j) (heading_of j) (within_of j within)
     (record { depth = suc (length j.state.before); state = j.state.state; due = ply_of j.state.state.game.size due; others = turns_due j.state.state left.next })
     (owed_by j.state.before (reverse j.open_nodes.items)) l
-
-abbrev pub body_here : Bool → Judge → Within → Due → Read.Line → AfterLine
-body_here b j within Node l = node_here b j within l
-body_here b j within (Reply due left) l = reply_here j within due left l
-body_here b j within End l = end_taken (machine_of j) (heading_of j) (within_of j within) l
 
 abbrev pub had_more : Head → List Cell → Head
 had_more h c = record h { had = h.had ++ c ∷ [] }

@@ -1,17 +1,10 @@
 //! The open nodes of a body: the replies of each that are still to come, and the turns that are to be taken back.
 
-ghost use Rattle.std.specs.Prelude.{◌≡◌, ◌∷◌, suc, length, reverse, None, Some, IfErr, OnOk};
+ghost use Rattle.std.specs.Prelude.{◌≡◌, length, reverse};
 ghost use Rattle.std.specs.List.{All};
-ghost use Rattle.go_points.specs.Ply.{ply_of};
-ghost use Rattle.target_game.specs.Next.{next};
-ghost use Rattle.target_game.specs.Left.{turns_due};
 ghost use Rattle.proof_cert.specs.Lines.{all_line};
-ghost use Rattle.cert_check.specs.Body.{Why as SpecWhy, reply_fault};
 ghost use Rattle.cert_check.specs.Private.Inside.{Follows, HasRoom, MayBeMade, inside_of, owed_by, reply_at, TakesNode};
-ghost use Rattle.cert_check.specs.Verdict.{owing};
-ghost use Rattle.cert_check.specs.Parts.{IsJudged, PassesOn, node_value, ordinary};
-ghost use Rattle.cert_check.specs.Stage.{why_value};
-ghost use Rattle.cert_check.specs.declared.open_nodes.Due.TheVariants.{Reply};
+ghost use Rattle.cert_check.specs.Parts.{PassesOn, node_value, ordinary};
 
 use crate::body::Body;
 use crate::body_state::BodyState;

@@ -23,7 +23,7 @@ const MAX_FULL_STEPS: u64 = 10_000_000;
 /// The least number of turns of a lemma: a smaller one is shorter where it is used.
 pub(crate) const LEMMA_TURNS: u64 = 3;
 
-/// The least number of turns of the one lemma of a claim that would have none, so that what stands at several places is written once.
+/// The least number of turns of the lemma that a claim gets if it would have none.
 const ONLY_LEMMA_TURNS: u64 = 2;
 
 /// The choice of lemmas that makes the shortest claims in the least time.

@@ -15,8 +15,8 @@ use std::alloc::{AllocError, Global};
 use target_game::Problem;
 use tsumego_problem::problem_tree;
 
-/// The lines, and after them each question that was decided: a line that says which, its record, and its claim. If the steps find no
-/// claim of this length, or memory is refused to the search, the line of the question says so, and nothing follows it.
+/// The lines, and after them each question that was decided: a line that says which, its record, and its claim. If the steps find
+/// no claim of this length, or memory is refused to the search, the line of the question says so, and nothing follows it.
 ///
 /// The questions are asked again for their claims, which were not kept. The same steps find the same short claims.
 pub(crate) fn claims(
@@ -98,8 +98,8 @@ enum Found {
     None { cause: Cause, steps: u64 },
 }
 
-/// Appends the line of the question, which ends with its winner, its record, and its claim; or a line that says that there is no claim
-/// of this kind.
+/// Appends the line of the question, which ends with its winner, its record, and its claim; or a line that says that there is no
+/// claim of this kind.
 fn push_claim(
     alloc: Global,
     budget: Budget,

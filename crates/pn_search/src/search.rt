@@ -217,8 +217,8 @@ pub(crate) fn proofs_of(
     }
 }
 
-/// The claim of the tree that full search found, with lemmas that may need a past if the checker accepts it, otherwise with those that
-/// need none, and at last without.
+/// The claim of the tree that full search found, with lemmas that may need a past if the checker accepts it, otherwise with those
+/// that need none, and at last without.
 fn confirmed(alloc: Global, problem: Problem, winner: Colour, main: Node) -> Found
     ensures ok { IfOk result (λ c. c.problem ≡ problem) }
     ensures err { IfErr result (λ r. r.0 ≡ problem) }

@@ -82,7 +82,7 @@ hosts() {
     done
     for i in $(seq 12); do { record W 0.3 && echo "$i"; } >"problems/$i.sgf"; done
     { cat all && echo '# two that are of no use' && echo "ssh -F client -p 1 127.0.0.1" && echo "ssh -F client -p 1 nobody@127.0.0.1"; } >hosts
-    said=$(unset TSUMEGO && eval "$(guide 'solve-folder --hosts hosts')" 2>&1)
+    said=$(unset TSUMEGO && PATH=$top/contrib:$PATH && eval "$(guide 'solve-folder --hosts hosts')" 2>&1)
     status=$?
     expect "two hosts: all are solved" says "12 records: 12 solved (0 Black, 12 White)"
     expect "two hosts: status 0" ended_with 0
@@ -133,8 +133,8 @@ slurm() {
     fi
     mkdir problems && cp "$top"/examples/*.sgf problems
     ln -s "$top/contrib" contrib
-    said=$(eval "$(guide '$ sbatch')" 2>&1; cat ./*.out)
-    said=$(eval "$(guide '$ contrib/solve-folder --totals solved')" 2>&1)
+    said=$(PATH=$top/contrib:$PATH && eval "$(guide '$ sbatch')" 2>&1; cat ./*.out)
+    said=$(PATH=$top/contrib:$PATH && eval "$(guide '$ solve-folder --totals solved')" 2>&1)
     status=$?
     expect "an array of Slurm" says "9 records: 9 solved (3 Black, 6 White)"
     expect "an array of Slurm: status 0" ended_with 0

@@ -7,7 +7,7 @@ turn, until a run meets none of them. Each outcome is compared with what a run m
 The name of a path says which program it is: `tsumego`, `first_moves`, `problem_tools`, `short_claims` or `group_status`. Without a path
 those are run that stand where `rt run` and the gate leave them. It builds `faults.c` with `cc` into a temporary folder and
 lays it in front of the C library. It prints a table of runs by input and fault, and each finding; the exit code is 1 where
-there is one, and 3 where there is no program.
+there is one, 3 where there is no program, and 4 where there is no `cc` (root has it installed).
 """
 import os
 import pathlib
@@ -18,6 +18,8 @@ import tempfile
 from concurrent.futures import ThreadPoolExecutor
 
 HERE = pathlib.Path(__file__).resolve().parent
+TOP = HERE.parent.parent
+SECOND_CHECKER = TOP / "contrib/second-checker/check.py"
 sys.path.insert(0, str(HERE.parent))
 import script_words  # noqa: E402
 
@@ -73,6 +75,7 @@ RUNS = [
 PROVED = ("(;FF[4]GM[1]SZ[3]AB[ab]AW[aa]PL[B]TR[aa]SQ[ba]C[Black wins];B[ba];W[])")
 GAMES = "(;FF[4]SZ[5]C[one];B[aa])(;FF[4]SZ[5];B[bb];W[cc])(;SZ[5]"
 EYES = "(;FF[4]GM[1]SZ[9]AB[ba][da][ab][bb][cb][db]AW[ea][eb][ac][bc][cc][dc]PL[W]TR[ba][da][ab][bb][cb][db]SQ[aa][ca])"
+BULKY_FIVE = (TOP / "examples/bulky-five.sgf").read_text()
 POSITION = "(;FF[4]GM[1]SZ[5]AB[ab][bb][ca]AW[aa][ba];C[a comment];B[cc])"
 
 # The same for the programs beside it.
@@ -110,6 +113,9 @@ HELPER_RUNS = {
     ],
     "group_status": [
         ("capture", [], CAPTURE),
+        ("capture", ["--claims"], CAPTURE),
+        ("capture", ["--full-claims"], CAPTURE),
+        ("bulky five", ["--full-claims", "--steps", "200"], BULKY_FIVE),
         ("cut off", [], "(;FF[4]SZ[3]AB[aa)"),
         ("help", ["--help"], ""),
     ],
@@ -199,10 +205,40 @@ def tells_less(own, got):
     return got[0] == own[0] and len(ours) == len(theirs) and all(a == b or b"unknown" in b for a, b in zip(ours, theirs))
 
 
+def sections_of(text):
+    """The lines before the claims of `group_status`, and for each question that was decided its line and what follows it."""
+    lines, *parts = re.split(rb"^(?=== )", text, flags=re.MULTILINE)
+    return lines, [part.split(b"\n", 1) for part in parts]
+
+
+def is_accepted(line, section):
+    """Whether the second checker accepts the claim of a question for the side that its line names."""
+    words = [sys.executable, SECOND_CHECKER, *(["short"] if b"\ntsushort " in section else ["check"])]
+    said = subprocess.run(words, input=section, stdout=subprocess.PIPE, check=False).stdout
+    return said == b"wins " + line.rsplit(b": ", 1)[1].removesuffix(b" wins") + b"\n"
+
+
+def claims_fit(own, got):
+    """Whether the lines say less at most, and no question that they leave decided is without its line and its claim, or without a
+    line that says that the claim is unknown."""
+    (lines, sections), (own_lines, own_sections) = sections_of(got[1]), sections_of(own[1])
+    if not tells_less((own[0], own_lines), (got[0], lines)):
+        return False
+    questions, own_questions = ([re.sub(rb": [^:]* wins$|: unknown: .*", b"", line) for line, _ in its] for its in (sections, own_sections))
+    if lines == own_lines and questions != own_questions:
+        return False
+    return all(
+        [line, section] in own_sections or (not section if b": unknown: " in line else is_accepted(line, section))
+        for line, section in sections
+    )
+
+
 def fits_memory(program, words, text, own, got):
     """Whether a run for which memory was refused may end so."""
     if got == own or got == NO_MEMORY:
         return True
+    if {"--claims", "--full-claims"} & set(words):
+        return claims_fit(own, got)
     if program.name in SEARCHES:
         return tells_less(own, got)
     if program.name != "tsumego":
@@ -282,7 +318,7 @@ def often(program, words, text, fault):
 def build(folder):
     """The library that is laid in front of the C library."""
     library = os.path.join(folder, "faults.so")
-    subprocess.run([os.environ.get("CC", "cc"), "-O2", "-shared", "-fPIC", "-o", library, str(HERE / "faults.c")], check=True)
+    subprocess.run([script_words.compiler(), "-O2", "-shared", "-fPIC", "-o", library, str(HERE / "faults.c")], check=True)
     return library
 
 

@@ -5,8 +5,8 @@ and what `solve` writes, `check` or `audit` accepts.
 
     tools/fuzz/fuzz.py [--seed N] [--seconds N] [--keep FOLDER] [PATH OF TSUMEGO]
 
-It begins with the inputs of `tools/fuzz/corpus`: a line of words, and then the input. It needs `cc` and `objdump` (binutils),
-and runs some twenty inputs a second. Inputs that reach new code are written to FOLDER; each finding is printed, and written there
+It begins with the inputs of `tools/fuzz/corpus`: a line of words, and then the input. It needs `cc` and `objdump` (binutils; root has
+them installed), and runs some twenty inputs a second. Inputs that reach new code are written to FOLDER; each finding is printed, and written there
 too. The exit code is 1 where there is a finding. It is no part of the gate.
 """
 import argparse
@@ -21,6 +21,9 @@ import tempfile
 import time
 
 HERE = pathlib.Path(__file__).resolve().parent
+sys.path.insert(0, str(HERE.parent))
+import script_words  # noqa: E402
+
 MOST_SECONDS = 10
 STEPS = ["--steps", "2000"]
 OUT_OF_TIME = 128 + signal.SIGXCPU
@@ -61,7 +64,7 @@ class Runner:
     def __init__(self, path, folder):
         self.path, self.addresses, self.seen = path, os.path.join(folder, "addresses"), os.path.join(folder, "seen")
         self.blocks = os.path.join(folder, "blocks")
-        subprocess.run([os.environ.get("CC", "cc"), "-O2", "-o", self.blocks, str(HERE / "blocks.c")], check=True)
+        subprocess.run([script_words.compiler(), "-O2", "-o", self.blocks, str(HERE / "blocks.c")], check=True)
         starts = block_starts(path)
         pathlib.Path(self.addresses).write_text("\n".join(sorted(starts)) + "\n")
         pathlib.Path(self.seen).write_text("")

@@ -48,6 +48,8 @@ pub struct Choice {
     /// The least number of turns that such a proof must have.
     pub least: u64,
     pub saving: Saving,
+    /// Where none of them would become a lemma, the lowest one with at least so many turns does, whatever it saves.
+    pub otherwise: Option<u64>,
 }
 
 /// The lemmas, and the proof of each.

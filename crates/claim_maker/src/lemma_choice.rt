@@ -1,4 +1,4 @@
-//! Which proofs become lemmas: those that save more nodes than their lists cost.
+//! Which proofs become lemmas: those that save more nodes than their lists cost, or a single one where there are none.
 
 use crate::claim::{Choice, Pasts};
 use crate::list_length::ListLength;
@@ -19,6 +19,8 @@ pub(crate) fn may_fit(nodes: u64) -> bool {
 #[derive(Drop)]
 pub(crate) struct LemmaChoice {
     choice: Choice,
+    /// The place of the proof that is the only lemma, where no other would be one.
+    only: Option<usize>,
     is_lemma: Vec<bool>,
     /// For each proof, how many branches lead to it.
     uses: Vec<u32>,
@@ -39,15 +41,17 @@ impl LemmaChoice {
     ) -> Result<LemmaChoice, AllocError> {
         let mut made = LemmaChoice {
             choice,
+            only: None,
             is_lemma: Vec::with_capacity(alloc, proofs.len())?,
             uses: count_uses(alloc, proofs)?,
             nodes: Vec::with_capacity(alloc, proofs.len())?,
             bodies: 0,
             list_length: ListLength::new(alloc, proofs)?,
         };
-        for place in 0..proofs.len() {
-            if let Some(proof) = proofs.at(place) {
-                made.add(proofs, place, proof)?;
+        made.choose(proofs)?;
+        if !made.is_lemma.contains(&true) {
+            if let Some(least) = choice.otherwise {
+                made.choose_only(proofs, least)?;
             }
         }
         Ok(made)
@@ -63,11 +67,49 @@ impl LemmaChoice {
         self.bodies.saturating_add(self.nodes_for(root))
     }
 
+    /// Chooses among all proofs, from the lowest up.
+    fn choose(&mut self, proofs: &Proofs) -> Result<(), AllocError> {
+        for place in 0..proofs.len() {
+            if let Some(proof) = proofs.at(place) {
+                self.add(proofs, place, proof)?;
+            }
+        }
+        Ok(())
+    }
+
+    /// Makes the lowest proof with at least so many turns the only lemma, if there is one that may be a lemma.
+    fn choose_only(&mut self, proofs: &Proofs, least: u64) -> Result<(), AllocError> {
+        self.only = self.lowest(proofs, least);
+        if self.only.is_none() {
+            return Ok(());
+        }
+        self.is_lemma.clear();
+        self.nodes.clear();
+        self.choose(proofs)
+    }
+
+    /// The place of the lowest proof with at least so many turns that may be a lemma.
+    fn lowest(&self, proofs: &Proofs, least: u64) -> Option<usize> {
+        for place in 0..proofs.len() {
+            if let Some(proof) = proofs.at(place) {
+                if self.may_be_lemma(proofs, place, proof, least) {
+                    return Some(place);
+                }
+            }
+        }
+        None
+    }
+
     /// Chooses whether the next proof, at this place, becomes a lemma.
     fn add(&mut self, proofs: &Proofs, place: usize, proof: Proof) -> Result<(), AllocError> {
         let own = self.nodes_of_tree(proofs, proof);
-        let is_lemma = self.may_be_lemma(proofs, place, proof)
-            && self.pays(proofs, place, proof, own)?;
+        let is_lemma = match self.only {
+            Some(only) => place == only,
+            None => {
+                self.may_be_lemma(proofs, place, proof, self.choice.least)
+                    && self.pays(proofs, place, proof, own)?
+            }
+        };
         if is_lemma {
             self.bodies = self.bodies.saturating_add(own);
         }
@@ -76,11 +118,11 @@ impl LemmaChoice {
         Ok(())
     }
 
-    /// Whether the proof is used several times, and is of the kind that is chosen. A leaf is no lemma.
-    fn may_be_lemma(&self, proofs: &Proofs, place: usize, proof: Proof) -> bool {
+    /// Whether the proof is used several times, has at least so many turns, and needs no past if none is to. A leaf is no lemma.
+    fn may_be_lemma(&self, proofs: &Proofs, place: usize, proof: Proof, least: u64) -> bool {
         self.uses_of(place) > 1
             && proof.form != Form::Alive
-            && proof.turns >= self.choice.least
+            && proof.turns >= least
             && (self.choice.pasts == Pasts::Needed || !proofs.needs_a_past(proof))
     }
 

@@ -2,7 +2,7 @@
 
 use crate::expect::{expect_same, expect_that};
 use crate::proof_numbers::{ALL, WITHOUT_PASTS, accepted, found, found_plainly, problem, saving};
-use claim_maker::{Choice, Saving, claim_with_lemmas, share_tree};
+use claim_maker::{Choice, Pasts, Saving, claim_with_lemmas, share_tree};
 use go_points::Colour;
 use proof_cert::{Certificate, Version, read_cert, write_cert};
 use std::alloc::Global;
@@ -135,6 +135,45 @@ fn lemmas_that_need_a_past(rt: HostRuntime) {
     // Without such lemmas each pair is written in line.
     let fewer = problem(&rt, alloc, 3, &texts, Colour::Black, "aa", "cbbccc");
     becomes(&rt, alloc, fewer, WITHOUT_PASTS, text, text);
+}
+
+// In line but for the first of them, if a lemma has to have three turns: it has two. It may not be one if none may need a past.
+#[test]
+fn the_first_of_small_lemmas_is_one_where_there_is_no_other(rt: HostRuntime) {
+    let alloc = rt.alloc();
+    let texts = ["O....X.XX", "O........"];
+    let pair = "play pass\nall 1\nreply pass\nwon\n";
+    let main = |first: &str| {
+        format!(in alloc;
+            "main\nall 4\n\
+            reply cb\nplay pass\nall 3\nreply bc\n{first}reply cc\n{pair}reply pass\nwon\n\
+            reply bc\nplay pass\nall 3\nreply cb\n{first}reply cc\n{pair}reply pass\nwon\n\
+            reply cc\nplay pass\nall 3\nreply cb\n{pair}reply bc\n{pair}reply pass\nwon\n\
+            reply pass\nplay pass\nwon\nend\n"
+        )
+    };
+    let in_line = main(pair).expect(&rt, "memory");
+    let plain = format!(in alloc; "tsucert 1 3 W\n{in_line}").expect(&rt, "memory");
+    let used = main("use 1\n").expect(&rt, "memory");
+    let one = format!(in alloc;
+        "tsucert 2 3 W\nlemma W 0 O....X.X.\nhad O....X.XX\n{pair}end\n{used}"
+    ).expect(&rt, "memory");
+    let (tree, lemma) = (plain.as_bytes(), one.as_bytes());
+    let long = Choice { least: 3, ..ALL };
+    for (pasts, otherwise, text) in [
+        (Pasts::Needed, Some(2), lemma),
+        (Pasts::Needed, Some(3), tree),
+        (Pasts::Needed, None, tree),
+        (Pasts::None, Some(2), tree),
+    ] {
+        let all = problem(&rt, alloc, 3, &texts, Colour::Black, "aa", "cbbccc");
+        let choice = Choice {
+            pasts,
+            otherwise,
+            ..long
+        };
+        becomes(&rt, alloc, all, choice, tree, text);
+    }
 }
 
 // Whether a lemma needs something that is not in the history of the problem: what was played above its first place.

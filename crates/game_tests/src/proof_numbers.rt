@@ -99,6 +99,7 @@ pub const ALL: Choice = Choice {
     pasts: Pasts::Needed,
     least: 0,
     saving: Saving::Any,
+    otherwise: None,
 };
 
 pub const WITHOUT_PASTS: Choice = Choice {

@@ -1,13 +1,13 @@
 //! The questions that were decided, each as a record with its claim, one after another.
 
-use crate::asked::Asked;
 use crate::group::Group;
+use crate::json::cause_name;
 use crate::lines::{colour_name, push_point};
 use crate::table::Table;
 use cert_check::Checked;
 use go_points::Colour;
 use group_words::Length;
-use pn_search::{Audience, Budget, Verdict, solve};
+use pn_search::{Audience, Budget, Cause, Verdict, solve};
 use proof_cert::{CertWrite, Certificate, write_cert, write_short};
 use sgf_text::{WriteFault, write_bytes, write_tree};
 use short_proofs::{Proved, prove};
@@ -15,8 +15,8 @@ use std::alloc::{AllocError, Global};
 use target_game::Problem;
 use tsumego_problem::problem_tree;
 
-/// The lines, and after them each question that was decided: a line that says which, its record, and its claim. A question for
-/// which the steps find no full claim is left out if those are asked for.
+/// The lines, and after them each question that was decided: a line that says which, its record, and its claim. If the steps find
+/// no claim of this length, or memory is refused to the search, the line of the question says so, and nothing follows it.
 ///
 /// The questions are asked again for their claims, which were not kept. The same steps find the same short claims.
 pub(crate) fn claims(
@@ -31,13 +31,14 @@ pub(crate) fn claims(
     let asked = table.asked.as_slice();
     for i in 0..asked.len() {
         if let Some(winner) = asked[i].winner {
-            let head = head_of(alloc, group, table, i, &asked[i], winner)?;
+            let head = head_of(alloc, group, table, i, &asked[i].problem)?;
             push_claim(
                 alloc,
                 table.budget,
                 &asked[i].problem,
                 length,
                 head.as_str(),
+                winner,
                 &mut bytes,
             )?;
         }
@@ -48,27 +49,24 @@ pub(crate) fn claims(
     }
 }
 
-/// The line of a question: its number, who moves first, the sizes and walls that ask it, and who wins.
+/// What the line of a question begins with: its number, who moves first, and the sizes and walls that ask it.
 fn head_of(
     alloc: Global,
     group: &Group,
     table: &Table,
     place: usize,
-    asked: &Asked,
-    winner: Colour,
+    problem: &Problem,
 ) -> Result<String, AllocError> {
     let mut text = String::new(alloc);
     let number = place.saturating_add(1);
-    let mover = colour_name(asked.problem.mover());
-    let name = colour_name(winner);
+    let mover = colour_name(problem.mover());
     write!(text, "== {number} ")?;
     let size = group.position.colouring().size();
-    if let Some(target) = asked.problem.targets().first() {
+    if let Some(target) = problem.targets().first() {
         push_point(&mut text, size, target)?;
     }
     write!(text, ", {mover} first")?;
     push_rows(&mut text, table, place)?;
-    write!(text, ": {name} wins\n")?;
     Ok(text)
 }
 
@@ -92,29 +90,36 @@ fn push_rows(text: &mut String, table: &Table, place: usize) -> Result<(), Alloc
     text.push_str(", a way out")
 }
 
-/// A claim of one kind or the other.
+/// A claim of one kind or the other, or why there is none.
 #[derive(Drop)]
-enum Claim {
+enum Found {
     Short(Certificate),
     Full(Checked),
+    None { cause: Cause, steps: u64 },
 }
 
-/// Appends the head, the record of the question, and its claim; nothing if there is no claim of this kind.
+/// Appends the line of the question, which ends with its winner, its record, and its claim; or a line that says that there is no
+/// claim of this kind.
 fn push_claim(
     alloc: Global,
     budget: Budget,
     problem: &Problem,
     length: Length,
     head: &str,
+    winner: Colour,
     bytes: &mut Vec<u8>,
 ) -> Result<(), AllocError> {
-    match find_claim(alloc, budget, problem, length)? {
-        Some(claim) => {
-            push_question(alloc, problem, head, bytes)?;
-            write_claim(&claim, bytes)
-        }
-        None => Ok(()),
+    let mut line = String::new(alloc);
+    let found = find_claim(alloc, budget, problem, length)?;
+    if let Found::None { cause, steps } = &found {
+        let why = cause_name(*cause);
+        write!(line, "{head}: unknown: {why}, {steps} steps\n")?;
+        return bytes.extend_from_slice(line.as_bytes());
     }
+    let name = colour_name(winner);
+    write!(line, "{head}: {name} wins\n")?;
+    push_question(alloc, problem, line.as_str(), bytes)?;
+    write_claim(&found, bytes)
 }
 
 /// The claim of this kind, if the steps find one.
@@ -123,43 +128,44 @@ fn find_claim(
     budget: Budget,
     problem: &Problem,
     length: Length,
-) -> Result<Option<Claim>, AllocError> {
+) -> Result<Found, AllocError> {
     match length {
         Length::Short => match prove(alloc, problem, Audience::Judge, budget)? {
             Proved::Wins {
                 winner: _,
                 turn: _,
                 certificate,
-            } => Ok(Some(Claim::Short(certificate))),
-            Proved::Unknown { .. } => Ok(None),
+            } => Ok(Found::Short(certificate)),
+            Proved::Unknown { cause, steps } => Ok(Found::None { cause, steps }),
         },
         Length::Full => match solve(alloc, problem.copy(alloc)?, budget) {
-            Verdict::Wins(checked) => Ok(Some(Claim::Full(checked))),
-            Verdict::Unknown { .. } => Ok(None),
+            Verdict::Wins(checked) => Ok(Found::Full(checked)),
+            Verdict::Unknown { cause, steps, .. } => Ok(Found::None { cause, steps }),
         },
     }
 }
 
-/// Appends the claim. A write into memory fails only if memory is refused.
-fn write_claim(claim: &Claim, bytes: &mut Vec<u8>) -> Result<(), AllocError> {
-    match claim {
-        Claim::Short(certificate) => written(write_short(certificate, bytes)),
-        Claim::Full(checked) => match write_cert(checked.certificate(), bytes) {
+/// Appends the claim, if there is one. A write into memory fails only if memory is refused.
+fn write_claim(found: &Found, bytes: &mut Vec<u8>) -> Result<(), AllocError> {
+    match found {
+        Found::Short(certificate) => written(write_short(certificate, bytes)),
+        Found::Full(checked) => match write_cert(checked.certificate(), bytes) {
             Ok(()) => Ok(()),
             Err(CertWrite::Write) => Err(AllocError),
             Err(CertWrite::NoSpelling) => Err(AllocError),
         },
+        Found::None { .. } => Ok(()),
     }
 }
 
-/// Appends the head and the canonical record of the question.
+/// Appends the line and the canonical record of the question.
 fn push_question(
     alloc: Global,
     problem: &Problem,
-    head: &str,
+    line: &str,
     bytes: &mut Vec<u8>,
 ) -> Result<(), AllocError> {
-    bytes.extend_from_slice(head.as_bytes())?;
+    bytes.extend_from_slice(line.as_bytes())?;
     let tree = problem_tree(alloc, problem)?;
     written(write_tree(&tree, bytes))?;
     written(write_bytes(b"\n", bytes))

@@ -165,7 +165,7 @@ fn push_cause(text: &mut String, table: &Table, row: &Row) -> Result<(), AllocEr
 }
 
 /// The cause, as `tsumego` names it.
-fn cause_name(cause: Cause) -> &'static str {
+pub(crate) fn cause_name(cause: Cause) -> &'static str {
     match cause {
         Cause::Steps => "step budget",
         Cause::Memory => "memory",

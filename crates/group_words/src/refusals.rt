@@ -92,11 +92,23 @@ fn no_problem(
             "refused: {name}{comma}node {number}: two passes stand there, so the game is over; --node {before} is before them\n"
         )?);
     }
-    match node_of(fault) {
-        Some(at) if at < number => refused(format!(in alloc;
-            "refused: {name}{comma}node {number}: {fault} at node {at}\n"
-        )?),
-        _ => refused(format!(in alloc; "refused: {name}{comma}node {number}: {fault}\n")?),
+    let Some(at) = node_of(fault) else {
+        return refused(format!(in alloc; "refused: {name}{comma}node {number}: {fault}\n")?);
+    };
+    let hint = node_before(alloc, at)?;
+    if at < number {
+        return refused(format!(in alloc;
+            "refused: {name}{comma}node {number}: {fault} at node {at}{hint}\n"
+        )?);
+    }
+    refused(format!(in alloc; "refused: {name}{comma}node {number}: {fault}{hint}\n")?)
+}
+
+/// That the node before the one at fault can be asked about, if there is one.
+fn node_before(alloc: Global, at: usize) -> Result<String, AllocError> {
+    match at.checked_sub(1) {
+        Some(before) => format!(in alloc; "; --node {before} is before it"),
+        None => Ok(String::new(alloc)),
     }
 }
 

@@ -23,11 +23,21 @@ const MAX_FULL_STEPS: u64 = 10_000_000;
 /// The least number of turns of a lemma: a smaller one is shorter where it is used.
 pub(crate) const LEMMA_TURNS: u64 = 3;
 
+/// The least number of turns of the lemma that a claim gets if it would have none.
+const ONLY_LEMMA_TURNS: u64 = 2;
+
 /// The choice of lemmas that makes the shortest claims in the least time.
 const SHORT_CLAIMS: Choice = Choice {
     pasts: Pasts::Needed,
     least: LEMMA_TURNS,
     saving: Saving::Half,
+    otherwise: Some(ONLY_LEMMA_TURNS),
+};
+
+/// The same without lemmas that need a past.
+const WITHOUT_PASTS: Choice = Choice {
+    pasts: Pasts::None,
+    ..SHORT_CLAIMS
 };
 
 /// The choices of lemmas that are tried, in this order, until the checker accepts a claim: those that make the shortest claims in the
@@ -35,20 +45,15 @@ const SHORT_CLAIMS: Choice = Choice {
 const CHOICES: [Choice; 4] = [
     SHORT_CLAIMS,
     Choice {
-        pasts: Pasts::Needed,
-        least: LEMMA_TURNS,
         saving: Saving::Four,
+        ..SHORT_CLAIMS
     },
     Choice {
-        pasts: Pasts::Needed,
         least: 0,
         saving: Saving::Any,
+        ..SHORT_CLAIMS
     },
-    Choice {
-        pasts: Pasts::None,
-        least: LEMMA_TURNS,
-        saving: Saving::Half,
-    },
+    WITHOUT_PASTS,
 ];
 
 /// A checked claim, or why there is none, with the problem handed back.
@@ -212,7 +217,8 @@ pub(crate) fn proofs_of(
     }
 }
 
-/// The claim of the tree that full search found, with lemmas if the checker accepts it, otherwise without.
+/// The claim of the tree that full search found, with lemmas that may need a past if the checker accepts it, otherwise with those
+/// that need none, and at last without.
 fn confirmed(alloc: Global, problem: Problem, winner: Colour, main: Node) -> Found
     ensures ok { IfOk result (λ c. c.problem ≡ problem) }
     ensures err { IfErr result (λ r. r.0 ≡ problem) }
@@ -225,9 +231,29 @@ fn confirmed(alloc: Global, problem: Problem, winner: Colour, main: Node) -> Fou
             let claim = claim_with_lemmas(alloc, &problem, &shared, SHORT_CLAIMS);
             match accepted(alloc, problem, claim) {
                 Ok(checked) => Ok(checked),
-                Err((problem, _)) => confirmed_plainly(alloc, problem, winner, main),
+                Err((problem, _)) => confirmed_without_pasts(alloc, problem, &shared, winner, main),
             }
         }
+    }
+}
+
+/// The claim of the tree that full search found, with lemmas that need no past if the checker accepts it, otherwise without.
+fn confirmed_without_pasts(
+    alloc: Global,
+    problem: Problem,
+    shared: &Shared,
+    winner: Colour,
+    main: Node,
+) -> Found
+    ensures ok { IfOk result (λ c. c.problem ≡ problem) }
+    ensures err { IfErr result (λ r. r.0 ≡ problem) }
+    ensures cause { IfErr result (λ r. r.1 ≢ Steps) }
+    ensures refused { IfErr result (λ r. r.1 ≢ Memory → IsConfirmable problem winner main → ⊥) }
+{
+    let claim = claim_with_lemmas(alloc, &problem, shared, WITHOUT_PASTS);
+    match accepted(alloc, problem, claim) {
+        Ok(checked) => Ok(checked),
+        Err((problem, _)) => confirmed_plainly(alloc, problem, winner, main),
     }
 }
 

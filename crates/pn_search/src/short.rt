@@ -95,6 +95,7 @@ fn claim_of_proofs(
             pasts: Pasts::Needed,
             least: LEMMA_TURNS,
             saving,
+            otherwise: None,
         };
         match claim_with_lemmas(alloc, problem, shared, choice) {
             Ok(certificate) => return Ok(certificate),

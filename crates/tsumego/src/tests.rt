@@ -116,15 +116,55 @@ fn other_words_read_nothing(rt: HostRuntime) {
     }
 }
 
+// The bytes before the record count too: it has to end within the first 1,048,576 bytes of the input, and its first node to begin.
+#[test]
+fn skipped_bytes_count(rt: HostRuntime) {
+    let alloc = rt.alloc();
+    // The line feed after the record need not be among them.
+    let room = 1_048_577usize.saturating_sub(CAPTURE.len());
+    let rows: [(usize, &str, Status, &str); 4] = [
+        (room, CAPTURE, Status::Answered, "neither\n"),
+        (
+            room.saturating_add(1),
+            CAPTURE,
+            Status::Refused,
+            "refused: sgf 3 too long\n",
+        ),
+        (
+            1_048_574,
+            "(;",
+            Status::Refused,
+            "refused: sgf 2 syntax at 1048576\n",
+        ),
+        (1_048_575, "(;", Status::Refused, "refused: sgf 1 no tree\n"),
+    ];
+    for (count, record, status, text) in rows {
+        let mut input = Vec::new(alloc);
+        for _ in 0..count {
+            input.push(b'a').expect(&rt, "memory");
+        }
+        input
+            .extend_from_slice(record.as_bytes())
+            .expect(&rt, "memory");
+        let (ended, written) = outcome(alloc, &["tsumego", "within", "0"], input.as_slice());
+        expect_status(&rt, ended, status);
+        expect_text(&rt, written.as_slice(), text);
+    }
+}
+
 // White space may separate record and claim, up to a bound.
 #[test]
 fn white_space_past_the_bound_is_a_failed_read(rt: HostRuntime) {
     let alloc = rt.alloc();
-    let rows: [(usize, Status, &str); 2] = [
-        (1_048_575, Status::Answered, "wins Black\n"),
-        (1_048_576, Status::Failed, "failed: read\n"),
+    let malformed = "rejected line 1: C01 malformed\n";
+    // The record is followed by a line feed, which is white space too.
+    let rows: [(usize, &str, Status, &str); 4] = [
+        (1_048_575, CAPTURE_CLAIM, Status::Answered, "wins Black\n"),
+        (1_048_576, CAPTURE_CLAIM, Status::Failed, "failed: read\n"),
+        (1_048_575, "", Status::Unanswered, malformed),
+        (1_048_576, "", Status::Failed, "failed: read\n"),
     ];
-    for (more, status, text) in rows {
+    for (more, claim, status, text) in rows {
         let mut input = Vec::new(alloc);
         input
             .extend_from_slice(CAPTURE.as_bytes())
@@ -133,7 +173,7 @@ fn white_space_past_the_bound_is_a_failed_read(rt: HostRuntime) {
             input.push(b'\n').expect(&rt, "memory");
         }
         input
-            .extend_from_slice(CAPTURE_CLAIM.as_bytes())
+            .extend_from_slice(claim.as_bytes())
             .expect(&rt, "memory");
         let (ended, written) = outcome(alloc, &["tsumego", "check"], input.as_slice());
         expect_status(&rt, ended, status);

@@ -1,5 +1,5 @@
 -- Stones that are beside a liberty that nobody can fill, and those in doubt.
-use Rattle.pass_alive.proofs.Common.{◌≡◌, ℕ, ◌*◌, ◌<◌, ◌⊎◌, inl, inr, IsTrue, List, [], ◌∷◌, map, sym, ◌∙◌, subst, Cell, Place, IsOn, number_of, place_of, same_place, holds_place, with_place, same_place_decides, sets_gain, or_cases, or_right, adjacent_on_board, adjacent_back, joined_self, Lasting, these, number_on, IsBesideFree, LastsOutside}
+use Rattle.pass_alive.proofs.Common.{◌≡◌, ℕ, ◌*◌, ◌<◌, ◌⊎◌, inl, inr, IsTrue, List, [], ◌∷◌, map, sym, ◌∙◌, subst, Cell, Place, number_of, place_of, same_place, holds_place, with_place, same_place_decides, sets_gain, or_cases, or_right, adjacent_on_board, adjacent_back, joined_self, Lasting, these, number_on, IsBesideFree, LastsOutside}
 use Rattle.pass_alive.proofs.Regions.{number_back, on_place, region_holds}
 use Rattle.pass_alive.proofs.Members.{AllBut, but_first, but_item, but_more, but_none}
 use Rattle.pass_alive.proofs.Spreading.{with_held}

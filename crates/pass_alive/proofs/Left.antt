@@ -1,12 +1,12 @@
 -- The stones that are left when chains without two eyes and without a lasting liberty are taken away.
-use Rattle.pass_alive.proofs.Common.{◌≡◌, ℕ, ◌*◌, ◌+◌, ◌<◌, ◌≤◌, Bool, true, false, Some, None, ◌⊎◌, inl, inr, IsTrue, IsFalse, ◌↔◌, List, [], ◌∷◌, map, length, refl, sym, ◌∙◌, ap, subst, arith, list_all, ◌||◌, or_cases, or_left, or_right, suc, with_place, same_place, same_place_decides, sets_gain, Colour, Cell, Empty, Stone, same_cell, adjacent, cell_at, Place, IsOn, number_of, place_of, holds_place, all_at, all_from, same_cell_eq, eq_same_cell, adjacent_on_board, adjacent_back, IsWay, Joined, IsChainOf, joined_self, joined_back, joined_on, joined_holds, area_cell, areas_in, Points, IsBeside, Live, PassAlive, Game, these, number_on, game_of, IsNear, IsEyeArea, TwoEyeAreas, TwoEyeSets, MayLive, LastsOutside}
+use Rattle.pass_alive.proofs.Common.{◌≡◌, ℕ, ◌*◌, ◌+◌, ◌<◌, ◌≤◌, Bool, true, false, Some, None, ◌⊎◌, inl, inr, IsTrue, IsFalse, ◌↔◌, List, [], ◌∷◌, map, length, refl, sym, ◌∙◌, ap, subst, arith, list_all, or_cases, or_left, or_right, suc, with_place, same_place, same_place_decides, sets_gain, Colour, Cell, Stone, same_cell, cell_at, Place, IsOn, number_of, place_of, holds_place, all_at, all_from, same_cell_eq, eq_same_cell, adjacent_on_board, adjacent_back, IsWay, Joined, IsChainOf, joined_self, joined_back, joined_on, joined_holds, area_cell, areas_in, Points, IsBeside, Live, PassAlive, Game, these, number_on, game_of, IsNear, IsEyeArea, MayLive, LastsOutside}
 use Rattle.std.proofs.Common.{Option, IfSome, IfNone}
 use Rattle.std.proofs.Math.Nat.{mul-le-mul_right, suc-mul}
 use Rattle.go_points.specs.Points.{first_place}
 use Rattle.go_chains.specs.Joined.{HoldsThose}
 use Rattle.pass_alive.specs.Sets.{AreLiving}
 use Rattle.pass_alive.specs.Private.Areas.{IsSafe, IsWithout, IsWithCommon, AreLeft, IsLess, is_due}
-use Rattle.pass_alive.proofs.Regions.{targets_hold, number_back}
+use Rattle.pass_alive.proofs.Regions.{targets_hold}
 use Rattle.pass_alive.proofs.Spaces.{two_eyes, two_areas, near_areas, near_sets, may_live_more, place_on}
 use Rattle.pass_alive.proofs.Taking.{is_false}
 use Rattle.pass_alive.proofs.Spreading.{with_held, with_most, first_held, first_none}
@@ -137,9 +137,9 @@ module _ (n : ℕ) (k : Colour) (region : List Place) (c : List Cell) (cells : (
 
       -- it is taken away, and what is due then has all stones that are left two steps from it
       module _ (dead : MayLive n (map (number_on n) region) c (areas_in k c) (these n stones) (number_of n x) → ⊥) (fewer near far : List Place) (more : Place → Bool) (gone : IsWithout chain stones fewer)
-        (near_all : (q : ℕ) → IsNear n (these n chain) q → IsTrue (these n near q)) (far_all : (q : ℕ) → IsNear n (these n near) q → IsTrue (these n far q))
-        (from : (p : Place) → IsTrue (more p) → (IsTrue (due p) × IsFalse (holds_place chain p)) ⊎ IsTrue (holds_place fewer p)) (kept : (p : Place) → IsFalse (holds_place chain p) → IsTrue (due p) → IsTrue (more p))
-        (added : (p : Place) → IsTrue (holds_place far p) → IsTrue (holds_place fewer p) → IsTrue (more p)) where
+          (near_all : (q : ℕ) → IsNear n (these n chain) q → IsTrue (these n near q)) (far_all : (q : ℕ) → IsNear n (these n near) q → IsTrue (these n far q))
+          (from : (p : Place) → IsTrue (more p) → (IsTrue (due p) × IsFalse (holds_place chain p)) ⊎ IsTrue (holds_place fewer p)) (kept : (p : Place) → IsFalse (holds_place chain p) → IsTrue (due p) → IsTrue (more p))
+          (added : (p : Place) → IsTrue (holds_place far p) → IsTrue (holds_place fewer p) → IsTrue (more p)) where
         out_of_chain : (q : ℕ) → IsTrue (these n fewer q) → IsFalse (these n chain q)
         out_of_chain q held = is_false (these n chain q) (λ is_in. cc (gone.gone (place_of n q) is_in, held))
 
@@ -247,10 +247,13 @@ module _ (chain due late less_due less_late : List Place) (without : IsWithout c
   ])
 
   pub less_due_left : (stones : List Place) (x : Place) → IsTrue (holds_place chain x) → IsTrue (is_due due late x) → IsLess stones due late stones less_due less_late
-  less_due_left stones x is_in is = inr (refl, elim (or_cases (holds_place due x) (holds_place late x) is) [
-    | inl first ↦ omega (arith, without.fewer x is_in first, without_late.shorter)
-    | inr after ↦ omega (arith, without_late.fewer x is_in after, without.shorter)
-  ])
+  less_due_left stones x is_in is = inr (
+    refl,
+    elim (or_cases (holds_place due x) (holds_place late x) is) [
+      | inl first ↦ omega (arith, without.fewer x is_in first, without_late.shorter)
+      | inr after ↦ omega (arith, without_late.fewer x is_in after, without.shorter)
+    ],
+  )
 
   -- and with what has come to be due
   module _ (fewer far more : List Place) (with : IsWithCommon fewer far less_due more) where

@@ -121,7 +121,15 @@ pub fn living_stones(board: &ChainBoard, colour: Colour, region: &PointSet) -> P
     let mut late = PointSet::new();
     let mut last = Point::default();
     while let Some(point) = next_due(&due, &late, last) {
-        judge(board, colour, region, &mut stones, &mut due, &mut late, point);
+        judge(
+            board,
+            colour,
+            region,
+            &mut stones,
+            &mut due,
+            &mut late,
+            point,
+        );
         last = point;
         prove!(due.len() <= MAX_POINTS);
         prove!(late.len() <= MAX_POINTS);

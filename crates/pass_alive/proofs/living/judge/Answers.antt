@@ -1,4 +1,4 @@
-use Rattle.pass_alive.proofs.Common.{◌≡◌, IsTrue, inl, sym, ◌∙◌, side_of, holds_place}
+use Rattle.pass_alive.proofs.Common.{IsTrue, inl, sym, ◌∙◌, side_of, holds_place}
 use Rattle.pass_alive.specs.Private.Areas.{is_due}
 use Rattle.pass_alive.proofs.Spreading.{in_areas}
 use Rattle.pass_alive.proofs.Left.{due_on, in_chain, left_late, left_safe, left_taken, due_within, due_kept, less_due_left, more_from, more_kept, more_added, late_here, late_kept, late_among, less_put_off}

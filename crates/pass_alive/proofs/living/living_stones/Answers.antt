@@ -1,4 +1,4 @@
-use Rattle.pass_alive.proofs.Common.{◌≤◌, ℕ, subst, MAX_POINTS, side_of, areas_in}
+use Rattle.pass_alive.proofs.Common.{◌≤◌, ℕ, subst, MAX_POINTS, side_of}
 use Rattle.pass_alive.specs.Private.Areas.{is_due}
 use Rattle.pass_alive.proofs.Spreading.{in_areas}
 use Rattle.pass_alive.proofs.Left.{left_first, left_last, less_left}

@@ -1,13 +1,12 @@
 -- Targets that stand in one colouring stand in another exactly if the two do not differ at any of them.
-use Rattle.target_game.proofs.Common.{◌≡◌, ◌≢◌, ℕ, suc, zero, ◌+◌, ◌*◌, ◌<◌, ◌≤◌, nat_eq, nat_lt, ltb-true, lt-ltb, eqb-true, eq-eqb, Bool, true, false, not, ◌&&◌, IsTrue, List, [], ◌∷◌, refl, sym, ◌∙◌, ap, subst, arith, All, list_all, map, kept_game, Cell, Colour, Stone, same_cell, side_of, cell_at, Place, IsOn, number_of, same_place, holds_place, side_of-whole, and_left, and_right, and_both}
-use Rattle.std.proofs.Common.{IsFalse, inl, inr}
-use Rattle.go_points.specs.Place.{place_of}
+use Rattle.target_game.proofs.Common.{◌≡◌, ◌≢◌, ℕ, suc, ◌+◌, ◌*◌, ◌<◌, ◌≤◌, nat_eq, nat_lt, ltb-true, lt-ltb, eqb-true, eq-eqb, Bool, true, false, not, inl, inr, IsTrue, List, [], ◌∷◌, refl, sym, ◌∙◌, ap, subst, arith, All, list_all, map, kept_game, Game, Cell, Colour, Stone, same_cell, cell_at, same_cell_eq, Place, IsOn, number_of, place_of, same_place, holds_place, side_of-whole, and_left, and_right, and_both}
+use Rattle.std.proofs.Common.{IsFalse}
 use Rattle.go_points.specs.Equal.{same_place_decides}
 use Rattle.go_points.proofs.Lists.{or_cases, or_left, or_right}
 use Rattle.go_points.proofs.Sides.{number_below}
-use Rattle.go_points.proofs.Cells.{same_cell_eq, eq_same_cell}
+use Rattle.go_points.proofs.Cells.{eq_same_cell}
 use Rattle.go_turns.proofs.Openings.{place_back}
-use Rattle.target_game.specs.State.{Game, GameProblem, start}
+use Rattle.target_game.specs.State.{GameProblem, start}
 use Rattle.target_game.specs.Laws.{IsProblem}
 use Rattle.target_game.specs.Private.Stand.{StandIn}
 use Rattle.target_game.proofs.Playing.{stand_is}

@@ -1,4 +1,4 @@
-use Rattle.target_game.proofs.Common.{◌≡◌, ◌∙◌, sym, ap, subst, None, Some, true, false, Colour, Line, over, targets_stand, kept_state, kept_game}
+use Rattle.target_game.proofs.Common.{◌≡◌, ◌∙◌, sym, ap, subst, Some, true, false, Colour, Line, over, targets_stand, kept_state, kept_game}
 use Rattle.target_game.proofs.Playing.{winner_is}
 use Rattle.target_game.proofs.state.State.winner_at.Goals as goal
 

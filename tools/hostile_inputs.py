@@ -340,6 +340,100 @@ def living(size, few=False):
     return "\n".join([*text, "end", ""])
 
 
+def alive_lines(points, others, size):
+    """Lines of about so many bytes for a node where the attacker is to move: each of its moves is replied to, and the target lives. Where
+    there is room, the defender answers a move at one of the points with the last of them that is left, and there is such a node again."""
+    left = [size]
+
+    def emit(text):
+        left[0] -= len(text) + 1
+        return text
+
+    def node(free, depth):
+        yield emit(f"all {len(free) + len(others) + 1}")
+        for reply in [*free, *others, "pass"]:
+            yield emit(f"reply {reply}")
+            rest = [it for it in free if it != reply]
+            if reply in free and depth and left[0] > 16 * len(rest) ** min(depth, 2) + 2_000:
+                yield emit(f"play {rest[-1]}")
+                yield from node(rest[:-1], depth - 1)
+            else:
+                yield emit("alive")
+
+    return list(node(points, 3))
+
+
+def short_claim(stones, target, region, lines_of_claim):
+    """A record on 25 rows in which White attacks and is to move, and a short claim that Black wins; the stones by their colours."""
+    marks = f"PL[W]TR[{target}]SQ" + "".join(f"[{it}]" for it in sorted(region))
+    setup = "".join(name + "".join(f"[{it}]" for it in held) for name, held in stones.items())
+    return "\n".join([f"(;SZ[25]{setup}{marks})", "tsushort 1 25 B", "main", *lines_of_claim, "end", ""])
+
+
+def snake(rows, top, left, count):
+    """Chains of Black's one above the other, so many, each with an eye in common with the next: the lowest has no other eye. Above them
+    is one that ends two columns right of them."""
+    for below in range(count):
+        for row, column in ((0, 2), (1, 2), (1, 1), (2, 1), (2, 0), (3, 0)):
+            rows[top + 3 * below + row][left + column] = "X"
+    for below in range(count + 1):
+        rows[top + 3 * below][left + 1] = "."
+    for row, column in ((0, 0), (-1, 0), (-1, 1), (-2, 1), (-2, 2), (-2, 3), (-2, 4)):
+        rows[top + row][left + column] = "X"
+
+
+def falling(size):
+    """A short claim of about so many bytes, at each line `alive` of which some twenty chains fall one after the other, from below. The
+    target stands apart, with two eyes."""
+    rows, top, bottom = [["."] * 25] * 2 + [["O"] * 25 for _ in range(23)], 5, 20
+    for number, left in enumerate((1, 7, 13, 19)):
+        snake(rows, top, left, 5)
+        if number < 3:
+            for row in range(top - 2, bottom + 3):
+                rows[row][left + 4] = "X"
+            for row, column in ((2, 5), (2, 6), (2, 7), (1, 7), (1, 8), (0, 8)):
+                rows[bottom + row][left + column] = "X"
+    for row in range(3, 8):
+        rows[row][23:] = "X" + "X."[row % 2 == 0]
+    return of_rows(rows, ["cu"], size, "xd")
+
+
+def crumbling(size):
+    """The same with 190 stones that each stand alone, round as many eyes and beside a long chain: most of them fall, row after row, from
+    below. The target is in a corner, with two eyes."""
+    rows = [["."] * 25] * 2 + [["O"] * 25 for _ in range(22)] + [["."] * 25]
+    rows[7] = ["X"] * 25
+    for row in range(8, 24):
+        rows[row] = ["X", *("X."[(row + column) % 2] for column in range(1, 25))]
+    rows[2][20:], rows[3][20:], rows[4][20:] = "XXXXX", "X.X.X", "XXXXX"
+    open_points = [LETTERS[column] + LETTERS[row] for row in (23, 24) for column in range(25) if rows[row][column] == "."]
+    return of_rows(rows, open_points, size, "uc")
+
+
+def of_rows(rows, others, size, target):
+    """The short claim for a board whose second row is where both sides may play while the target lives."""
+    named = {LETTERS[column] + LETTERS[row]: cell for row, cells in enumerate(rows) for column, cell in enumerate(cells)}
+    stones = {name: [it for it in named if named[it] == cell] for name, cell in (("AB", "X"), ("AW", "O"))}
+    points = [it for it in named if it[1] == "b"][:24]
+    region = [*points, *(it for it in named if named[it] == "." and it[1] > "b")]
+    return short_claim(stones, target, region, alive_lines(points, others, size - 20 * 250))
+
+
+# ---- searches
+
+# 600 stones, all of them targets, beside an empty row.
+ALL_TARGETS = "(;SZ[25]AW[aa:yx]PL[B]TR[aa:yx]SQ[ay:yy])"
+ONE_TARGET = "(;SZ[25]AW[aa:yx]PL[B]TR[aa]SQ[ay:yy])"
+
+
+def full_but(count, seed):
+    """White stones on 25 rows but for so many points by chance, which are the region; the first stone is the target."""
+    empty = sorted(random.Random(seed).sample(range(625), count))
+    names_of = [LETTERS[number % 25] + LETTERS[number // 25] for number in range(625)]
+    stones = [names_of[number] for number in range(625) if number not in empty]
+    return f"(;SZ[25]AW[{']['.join(stones)}]PL[B]TR[{stones[0]}]SQ[{']['.join(names_of[it] for it in empty)}])"
+
+
 def useless_moves(count):
     """A record whose answer has 2 to the power of this many states: Black may play at so many points apart, in any order."""
     points = [column + row for row in "dfhjl" for column in "acegikm"][:count]

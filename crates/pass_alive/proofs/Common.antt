@@ -32,6 +32,6 @@ unfoldable pub use Rattle.target_game.specs.Wins.{wins}
 pub use Rattle.pass_alive.specs.Areas.{area_cell}
 pub use Rattle.pass_alive.specs.Laws.{MayMove, AreMoves, Stands, after_moves}
 pub use Rattle.pass_alive.specs.Life.{Points, PassAlive, IsBeside, Fixed, Live, EyeOf, Lasting, TwoEyes}
-pub use Rattle.pass_alive.specs.Private.Areas.{areas_in, IsBesideFree, AreNoEyes, HasMet, IsBesidePoint, IsEyeArea, IsFreePlace, IsMetOrWall, IsPoint, AreSides, IsDropped, IsEyeOutside, IsJudged, IsNoEye, IsNoEyePlace, LastsOutside, MayLive, TwoEyeAreas, TwoEyeSets}
+pub use Rattle.pass_alive.specs.Private.Areas.{areas_in, IsBesideFree, AreNoEyes, HasMet, IsBesidePoint, IsEyeArea, IsFreePlace, IsMetOrWall, IsPoint, AreSides, IsEyeOutside, IsNoEye, IsNoEyePlace, LastsOutside, MayLive, TwoEyeAreas, TwoEyeSets}
 pub use Rattle.pass_alive.specs.Sets.{these, number_on, IsNear, game_of, IsWith}
 pub use Rattle.pass_alive.specs.Told.{LivesAt}

@@ -1,7 +1,7 @@
 -- Stones that are beside a liberty that nobody can fill, and those in doubt.
-use Rattle.pass_alive.proofs.Common.{◌≡◌, ℕ, ◌*◌, ◌<◌, ◌⊎◌, inl, inr, IsTrue, List, [], ◌∷◌, map, sym, ◌∙◌, subst, Cell, Place, IsOn, number_of, place_of, same_place, holds_place, with_place, same_place_decides, sets_gain, or_cases, or_right, adjacent_on_board, adjacent_back, joined_self, Lasting, these, number_on, IsBesideFree, LastsOutside}
+use Rattle.pass_alive.proofs.Common.{◌≡◌, ℕ, ◌*◌, ◌<◌, ◌⊎◌, inl, inr, IsTrue, List, [], ◌∷◌, map, sym, ◌∙◌, subst, Cell, Place, number_of, place_of, same_place, holds_place, with_place, same_place_decides, sets_gain, or_cases, or_right, adjacent_on_board, adjacent_back, joined_self, Lasting, these, number_on, IsBesideFree, LastsOutside}
 use Rattle.pass_alive.proofs.Regions.{number_back, on_place, region_holds}
-use Rattle.pass_alive.proofs.Members.{AllBut, but_first, but_more, but_none}
+use Rattle.pass_alive.proofs.Members.{AllBut, but_first, but_item, but_more, but_none}
 use Rattle.pass_alive.proofs.Spreading.{with_held}
 
 module _ (n : ℕ) (c : List Cell) (region : List Place) where
@@ -18,23 +18,23 @@ module _ (n : ℕ) (c : List Cell) (region : List Place) where
 
   pub record DoubtsSoFar (stones doubtful left : List Place) : Type 0 where
     pub told : AllBut (IsTold doubtful) stones left
-    pub on_board : (p : Place) → IsTrue (holds_place doubtful p) → IsOn n p
+    pub among : (p : Place) → IsTrue (holds_place doubtful p) → IsTrue (holds_place stones p)
 
   pub doubts_first : (stones doubtful left : List Place) → doubtful ≡ [] → left ≡ stones → DoubtsSoFar stones doubtful left
   doubts_first stones doubtful left none is = record {
     told = but_first (IsTold doubtful) stones left is;
-    on_board = λ p held. absurd (cc (held, none));
+    among = λ p held. absurd (cc (held, none));
   }
 
   module _ (stones doubtful left rest : List Place) (x : Place) (e : left ≡ x ∷ rest) (h : DoubtsSoFar stones doubtful left) where
     pub doubts_kept : IsBesideFree n c (these n region) (number_of n x) → DoubtsSoFar stones doubtful rest
     doubts_kept beside = record {
       told = but_more (IsTold doubtful) stones left rest x e (inr (lasting_beside (number_of n x) beside)) h.told;
-      on_board = h.on_board;
+      among = h.among;
     }
 
-    pub doubts_more : IsOn n x → DoubtsSoFar stones (with_place doubtful x) rest
-    doubts_more on = record {
+    pub doubts_more : DoubtsSoFar stones (with_place doubtful x) rest
+    doubts_more = record {
       told = but_more (IsTold (with_place doubtful x)) stones left rest x e (inl (with_held doubtful x)) (record {
         among = h.told.among;
         passed = λ p held. elim (h.told.passed p held) [
@@ -42,9 +42,9 @@ module _ (n : ℕ) (c : List Cell) (region : List Place) where
           | inr done ↦ inr (elim done [ inl had ↦ inl (sets_gain doubtful x p ∙ or_right (same_place p x) (holds_place doubtful p) had) | inr lasting ↦ inr lasting ])
         ];
       });
-      on_board = λ p held. elim (or_cases (same_place p x) (holds_place doubtful p) (sym (sets_gain doubtful x p) ∙ held)) [
-        | inl same ↦ subst (IsOn n) (sym ((same_place_decides p x).0 same)) on
-        | inr had ↦ h.on_board p had
+      among = λ p held. elim (or_cases (same_place p x) (holds_place doubtful p) (sym (sets_gain doubtful x p) ∙ held)) [
+        | inl same ↦ subst (λ z. IsTrue (holds_place stones z)) (sym ((same_place_decides p x).0 same)) (but_item (IsTold doubtful) stones left rest x e h.told)
+        | inr had ↦ h.among p had
       ];
     }
 

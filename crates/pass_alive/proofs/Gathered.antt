@@ -1,6 +1,6 @@
 -- The areas that can be eyes are gathered one by one.
-use Rattle.pass_alive.proofs.Common.{◌≡◌, ◌≢◌, ℕ, false, ◌+◌, ◌<◌, ◌≤◌, ◌⊎◌, inl, inr, IsTrue, List, [], ◌∷◌, length, map, get_or, sym, ◌∙◌, ap, subst, Cell, Empty, adjacent, neighbours, cell_at, Place, IsOn, number_of, place_of, same_place, holds_place, with_place, same_place_decides, sets_gain, or_cases, or_left, or_right, adjacent_back, IsWay, Joined, IsChainOf, joined_self, these, IsFreePlace, AreSides}
-use Rattle.pass_alive.specs.Private.Areas.{HasSides}
+use Rattle.pass_alive.proofs.Common.{◌≡◌, ◌≢◌, ℕ, false, ◌+◌, ◌<◌, ◌≤◌, ◌⊎◌, inl, inr, IsTrue, List, [], ◌∷◌, length, map, get_or, sym, ◌∙◌, ap, subst, Cell, Empty, adjacent, neighbours, cell_at, Place, IsOn, number_of, place_of, same_place, holds_place, with_place, same_place_decides, sets_gain, or_cases, or_left, or_right, adjacent_back, IsWay, Joined, IsChainOf, joined_self, these, IsNear, IsFreePlace, AreSides}
+use Rattle.pass_alive.specs.Private.Areas.{HasSides, HasAround}
 use Rattle.pass_alive.proofs.Regions.{number_back}
 use Rattle.pass_alive.proofs.Members.{AllBut, AllBeside, but_first, but_item, but_more, but_none, beside_more, beside_all}
 use Rattle.go_turns.proofs.Openings.{place_back}
@@ -81,6 +81,68 @@ module _ (n : ℕ) (c : List Cell) (chain : List Place) where
         but_none (λ s. (q : ℕ) → IsTrue (adjacent n (number_of n s) q) → cell_at c q ≡ Empty → IsTrue (these n now q)) chain left e h.looked (place_of n near.0) near.2
         q (subst (λ z. IsTrue (adjacent n z q)) (sym back) (adjacent_back n q near.0 near.1)) free;
   }
+
+-- whatever is beside a point is gathered
+pub record AroundSoFar (n : ℕ) (old items : List Place) (i : ℕ) (now : List Place) : Type 0 where
+  pub kept : (x : Place) → IsTrue (holds_place old x) → IsTrue (holds_place now x)
+  pub on_board : (x : Place) → IsTrue (holds_place now x) → IsTrue (holds_place old x) ⊎ IsOn n x
+  pub added : AllBeside n (λ q. IsTrue (these n now q)) items i
+
+module _ (n : ℕ) (old items : List Place) where
+  pub around_first : AroundSoFar n old items 0 old
+  around_first = record { kept = λ x held. held; on_board = λ x held. inl held; added = λ q m. absurd m }
+
+  pub around_more : (i : ℕ) (x : Place) → i < length items → x ≡ get_or items i x → IsOn n x → (now : List Place) → AroundSoFar n old items i now → AroundSoFar n old items (i + 1) (with_place now x)
+  around_more i x low is on now h = record {
+    kept = λ y held. had y (h.kept y held);
+    on_board = λ y held. elim (or_cases (same_place y x) (holds_place now y) (sym (sets_gain now x y) ∙ held)) [
+      | inl same ↦ inr (subst (IsOn n) (sym ((same_place_decides y x).0 same)) on)
+      | inr before ↦ h.on_board y before
+    ];
+    added = beside_more n (λ q. IsTrue (these n (with_place now x) q)) items i x low is
+        (sets_gain now x (place_of n (number_of n x)) ∙ or_left (same_place (place_of n (number_of n x)) x) (holds_place now (place_of n (number_of n x))) ((same_place_decides (place_of n (number_of n x)) x).1 (place_back n x on)))
+        (λ q m. had (place_of n q) (h.added q m));
+  }
+    where
+      had : (y : Place) → IsTrue (holds_place now y) → IsTrue (holds_place (with_place now x) y)
+      had y held = sets_gain now x y ∙ or_right (same_place y x) (holds_place now y) held
+
+  pub around_all : (i p : ℕ) → length items ≤ i → map (number_of n) items ≡ neighbours n p → (now : List Place) → AroundSoFar n old items i now → HasAround n p old now
+  around_all i p past those now h = record {
+    kept = h.kept;
+    on_board = h.on_board;
+    added = beside_all n (λ q. IsTrue (these n now q)) items i p past those h.added;
+  }
+
+-- and point by point
+abbrev pub IsAround : ℕ → List Place → Place → Type 0
+IsAround n now s = (q : ℕ) → IsTrue (adjacent n (number_of n s) q) → IsTrue (these n now q)
+
+pub record AroundGathered (n : ℕ) (points left now : List Place) : Type 0 where
+  pub on_board : (x : Place) → IsTrue (holds_place now x) → IsOn n x
+  pub looked : AllBut (IsAround n now) points left
+
+module _ (n : ℕ) (points : List Place) where
+  pub all_first : (left now : List Place) → left ≡ points → now ≡ [] → AroundGathered n points left now
+  all_first left now e none = record { on_board = λ x held. absurd (cc (held, none)); looked = but_first (IsAround n now) points left e }
+
+  pub all_item : (left rest : List Place) (s : Place) → left ≡ s ∷ rest → (now : List Place) → AroundGathered n points left now → IsTrue (holds_place points s)
+  all_item left rest s e now h = but_item (IsAround n now) points left rest s e h.looked
+
+  pub all_more : (left rest : List Place) (s : Place) → left ≡ s ∷ rest → (old now : List Place) → HasAround n (number_of n s) old now → AroundGathered n points left old → AroundGathered n points rest now
+  all_more left rest s e old now has h = record {
+    on_board = λ x held. elim (has.on_board x held) [ inl before ↦ h.on_board x before | inr new ↦ new ];
+    looked = but_more (IsAround n now) points left rest s e has.added
+        (record {
+          among = h.looked.among;
+          passed = λ p held. elim (h.looked.passed p held) [ inl still ↦ inl still | inr done ↦ inr (λ q adj. has.kept (place_of n q) (done q adj)) ];
+        });
+  }
+
+  pub all_near : (left now : List Place) → left ≡ [] → AroundGathered n points left now → (q : ℕ) → IsNear n (these n points) q → IsTrue (these n now q)
+  all_near left now e h q near =
+      but_none (IsAround n now) points left e h.looked (place_of n near.0) near.2 q
+      (subst (λ z. IsTrue (adjacent n z q)) (sym (number_back n near.0)) (adjacent_back n q near.0 near.1))
 
 -- a point beside none of its kind is a chain
 module _ (n : ℕ) (c : List Cell) (x : Place) (x_on : IsOn n x) (alone : (q : ℕ) → IsTrue (adjacent n (number_of n x) q) → cell_at c q ≢ cell_at c (number_of n x)) where

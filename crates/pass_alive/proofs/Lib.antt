@@ -6,7 +6,8 @@ pub mod Spaces
 pub mod Regions
 pub mod Members
 pub mod Connected
-pub mod Sweeps
+pub mod Taking
+pub mod Left
 pub mod Filling
 pub mod Tests
 pub mod Examples

@@ -7,7 +7,7 @@ use Rattle.go_points.specs.Points.{is_before, first_place}
 use Rattle.pass_alive.specs.Private.Areas.{IsGap}
 use Rattle.pass_alive.proofs.Regions.{number_back}
 use Rattle.pass_alive.proofs.Spaces.{not_in_area, in_area}
-use Rattle.pass_alive.proofs.Sweeps.{without_less}
+use Rattle.pass_alive.proofs.Taking.{without_less}
 use Rattle.go_turns.proofs.Openings.{place_back}
 use Rattle.go_points.proofs.Sides.{number_below}
 
@@ -38,7 +38,7 @@ first_none (y ∷ ys) e = absurd (cc e)
 pub with_held : (s : List Place) (x : Place) → IsTrue (holds_place (with_place s x) x)
 with_held s x = sets_gain s x x ∙ or_left (same_place x x) (holds_place s x) ((same_place_decides x x).1 refl)
 
-with_most : (s : List Place) (x : Place) → length (with_place s x) ≤ suc (length s)
+pub with_most : (s : List Place) (x : Place) → length (with_place s x) ≤ suc (length s)
 with_most [] x = omega arith
 with_most (y ∷ ys) x = go (same_place x y) (is_before x y) (with_most ys x)
   where

@@ -25,7 +25,8 @@ pub(crate) fn is_lasting(board: &ChainBoard, region: &PointSet, chain: &PointSet
 /// The stones that are beside no such liberty themselves. The others have one.
 pub(crate) fn doubtful_stones(board: &ChainBoard, region: &PointSet, stones: &PointSet) -> PointSet
     requires { (p : Place) → IsTrue (holds_place stones.now p) → IsOn (side_of board.now) p }
-    ensures on_board { (p : Place) → IsTrue (holds_place result p) → IsOn (side_of board.now) p }
+    ensures among { (p : Place) → IsTrue (holds_place result p)
+        → IsTrue (holds_place stones.now p) }
     ensures outside { LastsOutside (side_of board.now)
         (map (number_on (side_of board.now)) region.now) board.now
         (these (side_of board.now) result) (these (side_of board.now) stones.now) }

@@ -2,6 +2,7 @@
 #![tactic(auto)]
 
 mod areas;
+mod around;
 mod chains;
 mod eyes;
 mod lasting;

@@ -1,22 +1,22 @@
 //! The stones that live by their shape: those that are left when chains without two eyes and without a lasting liberty are taken
 //! away, again and again.
 
-ghost use Rattle.std.specs.Prelude.{◌≢◌, ◌*◌, ◌<◌, ◌↔◌, ℕ, IsTrue, map};
-ghost use Rattle.go_points.specs.declared.Cell.TheVariants.{Empty, Stone};
+ghost use Rattle.std.specs.Prelude.{◌↔◌, IsTrue, IsFalse, IfSome, IfNone, map};
+ghost use Rattle.go_points.specs.declared.Cell.TheVariants.{Stone};
 ghost use Rattle.go_points.specs.Grid.{same_cell, cell_at, side_of};
-ghost use Rattle.go_points.specs.Place.{Place, IsOn, number_of};
-ghost use Rattle.go_points.specs.Points.{holds_place};
+ghost use Rattle.go_points.specs.Place.{Place, number_of};
 ghost use Rattle.go_chains.specs.Joined.{IsChainOf, HoldsThose};
 ghost use Rattle.pass_alive.specs.Life.{PassAlive};
 ghost use Rattle.pass_alive.specs.Sets.{these, number_on, game_of, AreLiving};
-ghost use Rattle.pass_alive.specs.Private.Areas.{areas_in, MayLive, IsSafe, IsJudged, IsDropped, LastsOutside};
+ghost use Rattle.pass_alive.specs.Private.Areas.{areas_in, MayLive, IsSafe, AreLeft, IsLess, is_due};
 
+use crate::around::all_around;
 use crate::chains::chain_at;
 use crate::eyes::has_two_eyes;
 use crate::lasting::{doubtful_stones, is_lasting};
-use crate::sets::{are_members, put_in, take_out};
+use crate::sets::{are_members, put_in_common, take_out};
 use go_chains::ChainBoard;
-use go_points::{Colour, Point, PointSet};
+use go_points::{Colour, MAX_POINTS, Point, PointSet};
 
 /// Whether the chain of the point has a lasting liberty, or two eyes that these stones enclose.
 fn is_safe(
@@ -40,63 +40,57 @@ fn is_safe(
     is_lasting(board, region, chain) || has_two_eyes(board, colour, stones, chain)
 }
 
-/// Judges the chain at the point, if its stones are left and not yet marked: marks them as safe, or takes them away. Returns whether
-/// it takes any away.
-fn drop_chain(
-    board: &ChainBoard,
-    colour: Colour,
-    region: &PointSet,
-    stones: &mut PointSet,
-    marked: &mut PointSet,
-    point: Point,
-) -> bool
-    requires on { IsOn (side_of board.now) point }
-    requires own { (q : ℕ) → q < side_of board.now * side_of board.now
-        → IsTrue (these (side_of board.now) stones.old q) → cell_at board.now q ≢ Empty }
-    ensures { IsJudged (side_of board.now) (map (number_on (side_of board.now)) region.now)
-        board.now (areas_in colour board.now) (number_of (side_of board.now) point)
-        stones.old marked.old stones.new marked.new result }
+/// A chain with more stones is judged late: it takes long, and may be due after each chain that falls beside it.
+const FEW_STONES: usize = 8;
+
+/// The next stone whose chain is to be judged: the first after this point of those that are due, or from the front again, and only
+/// then one of those that are due late. So a chain is judged once for many that fall at about the same time.
+fn next_due(due: &PointSet, late: &PointSet, after: Point) -> Option<Point>
+    ensures some { IfSome result (λ p. IsTrue (is_due due.now late.now p)) }
+    ensures none { IfNone result ((p : Place) → IsFalse (is_due due.now late.now p)) }
 {
-    if !stones.has(point) || marked.has(point) {
-        return false;
+    if let Some(point) = due.first_after(after) {
+        return Some(point);
     }
-    let Some(chain) = chain_at(board, point) else {
-        return false;
-    };
-    if is_safe(board, colour, region, stones, &chain, point) {
-        put_in(marked, &chain);
-        return false;
+    if let Some(point) = due.first() {
+        return Some(point);
     }
-    take_out(stones, &chain);
-    true
+    late.first()
 }
 
-/// Takes the chains away that are not safe by the stones that are left so far. Only stones in doubt are looked at: the others
-/// last. Returns whether there were any.
-fn drop_unsafe(
+/// Judges the chain at the point, or puts it off. If it is safe by the stones that are left so far, it is no longer due. Otherwise
+/// it is taken away, and the chains that may have lived by it are due.
+fn judge(
     board: &ChainBoard,
     colour: Colour,
     region: &PointSet,
-    doubtful: &PointSet,
     stones: &mut PointSet,
-) -> bool
-    requires own { (q : ℕ) → q < side_of board.now * side_of board.now
-        → IsTrue (these (side_of board.now) stones.old q) → cell_at board.now q ≢ Empty }
-    requires on { (p : Place) → IsTrue (holds_place doubtful.now p) → IsOn (side_of board.now) p }
-    requires outside { LastsOutside (side_of board.now)
-        (map (number_on (side_of board.now)) region.now) board.now
-        (these (side_of board.now) doubtful.now) (these (side_of board.now) stones.old) }
-    ensures { IsDropped (side_of board.now) (map (number_on (side_of board.now)) region.now)
-        board.now (areas_in colour board.now) stones.old stones.new result }
+    due: &mut PointSet,
+    late: &mut PointSet,
+    point: Point,
+)
+    requires due { IsTrue (is_due due.old late.old point) }
+    requires so_far { AreLeft (side_of board.now) colour region.now board.now stones.old
+        (is_due due.old late.old) }
+    ensures so_far { AreLeft (side_of board.now) colour region.now board.now stones.new
+        (is_due due.new late.new) }
+    ensures less { IsLess stones.old due.old late.old stones.new due.new late.new }
 {
-    let mut marked = PointSet::new();
-    let mut has_changed = false;
-    for point in doubtful.iter() {
-        if drop_chain(board, colour, region, stones, &mut marked, point) {
-            has_changed = true;
-        }
+    let Some(chain) = chain_at(board, point) else {
+        return;
+    };
+    if due.has(point) && chain.len() > FEW_STONES {
+        take_out(due, &chain);
+        late.insert(point);
+        return;
     }
-    has_changed
+    take_out(due, &chain);
+    take_out(late, &chain);
+    if is_safe(board, colour, region, stones, &chain, point) {
+        return;
+    }
+    take_out(stones, &chain);
+    put_in_common(due, stones, &all_around(board, &all_around(board, &chain)));
 }
 
 /// The stones of the colour.
@@ -117,17 +111,29 @@ fn stones_of(board: &ChainBoard, colour: Colour) -> PointSet
 
 /// All stones of this colour that live by their shape, if moves are made only in this region.
 ///
-/// A stone beside an empty point outside the region is not looked at again. Each sweep looks at each chain with other stones once:
-/// at its stones, at the points beside them, and at the areas there, each as far as its points are beside the chain. There are as
-/// many sweeps as chains drop out one after the other, mostly two or three. Measured with a region of 20 points on boards of 19
-/// rows: 1 microsecond with 10 stones, 2 with 60, 3 with 150, and 11 to 15 with 240 to 300. With all points of 25 rows as the
-/// region: 20 to 80, the most with 300 to 400 stones at random.
+/// A stone beside an empty point outside the region is not looked at again. Each chain with other stones is judged once, and then
+/// again where chains have been taken away that have a stone two steps from one of its own.
 pub fn living_stones(board: &ChainBoard, colour: Colour, region: &PointSet) -> PointSet
     ensures { AreLiving (side_of board.now) colour region.now board.now result }
 {
     let mut stones = stones_of(board, colour);
-    let doubtful = doubtful_stones(board, region, &stones);
-    while drop_unsafe(board, colour, region, &doubtful, &mut stones) {}
+    let mut due = doubtful_stones(board, region, &stones);
+    let mut late = PointSet::new();
+    let mut last = Point::default();
+    while let Some(point) = next_due(&due, &late, last) {
+        judge(
+            board,
+            colour,
+            region,
+            &mut stones,
+            &mut due,
+            &mut late,
+            point,
+        );
+        last = point;
+        prove!(due.len() <= MAX_POINTS);
+        prove!(late.len() <= MAX_POINTS);
+    }
     stones
 }
 

@@ -2,3 +2,4 @@
 pub mod Buckets
 pub mod Tally
 pub mod NewKey
+pub mod Stand

@@ -1,10 +1,11 @@
 //! The questions that a problem is asked before it is one.
 
-ghost use Rattle.std.specs.Prelude.{◌≡◌, ◌*◌, ◌<◌, [], map, length, nat_eq, slice_index_or, IsTrue, MatchResult, Some, None};
+ghost use Rattle.std.specs.Prelude.{◌≡◌, ◌≢◌, ◌*◌, ◌<◌, [], map, length, nat_eq, slice_index_or, IsTrue, IsFalse, MatchResult, Some, None};
 ghost use Rattle.std.specs.List.{All, list_all};
 ghost use Rattle.go_points.specs.Grid.{cell_at, same_cell, side_of};
 ghost use Rattle.go_points.specs.Liberty.{all_reach_empty};
-ghost use Rattle.go_points.specs.Place.{IsOn, on_board, number_of};
+ghost use Rattle.go_points.specs.Place.{Place, IsOn, on_board, number_of};
+ghost use Rattle.go_points.specs.Points.{holds_place};
 ghost use Rattle.target_game.specs.Problem.{one_colour, first_refusal, refusals};
 
 use crate::MAX_HISTORY;
@@ -12,6 +13,9 @@ use crate::bad_problem::BadProblem;
 use crate::repeated::stand_twice;
 use go_points::{Cell, Colour, Colouring, PointSet, Size};
 use go_turns::{Board, PlayBoard};
+
+/// As many points are asked as fast as two colourings are compared.
+const FEW_POINTS: usize = 16;
 
 /// Whether each colouring is of this size.
 fn are_of_size(history: &[Colouring], size: Size) -> bool
@@ -52,6 +56,34 @@ pub fn all_hold(colouring: &Colouring, points: &PointSet, cell: Cell) -> bool
         }
     }
     true
+}
+
+/// Whether there are so many points that all of them are asked slower than those where two colourings differ. It is a hint, and
+/// promises nothing.
+pub(crate) fn has_many(points: &PointSet) -> bool {
+    points.len() > FEW_POINTS
+}
+
+/// Whether two colourings differ at one of the points. Only the points where they differ are looked at.
+pub(crate) fn differ_at(colouring: &Colouring, other: &Colouring, points: &PointSet) -> bool
+    requires { side_of other.now ≡ side_of colouring.now }
+    ensures same { IsFalse result → (p : Place) → IsOn (side_of colouring.now) p
+        → IsTrue (holds_place points.now p)
+        → cell_at colouring.now (number_of (side_of colouring.now) p)
+        ≡ cell_at other.now (number_of (side_of colouring.now) p) }
+    ensures differs { IsTrue result → (p : Place) × IsTrue (holds_place points.now p)
+        × (cell_at colouring.now (number_of (side_of colouring.now) p)
+        ≢ cell_at other.now (number_of (side_of colouring.now) p)) }
+{
+    let size = colouring.size();
+    let mut number = colouring.next_difference(other, 0);
+    'changed: while number < size.area() {
+        if points.has(size.point_at(number)) {
+            return true;
+        }
+        number = colouring.next_difference(other, number + 1);
+    }
+    false
 }
 
 /// The colour of the stones at these points. `None` unless there is at least one point and all hold stones of one colour.

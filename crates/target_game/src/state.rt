@@ -18,7 +18,7 @@ ghost use Rattle.target_game.specs.Kept.{at_fault, IsAtFault};
 
 use crate::history::with_others;
 use crate::problem::Problem;
-use crate::questions::all_hold;
+use crate::questions::{all_hold, differ_at, has_many};
 use go_points::{Cell, Colour, Colouring, Point, PointSet, Size, Turn};
 use go_turns::{Board, Record, Seen, TurnFault};
 use std::alloc::{AllocError, Global};
@@ -43,6 +43,9 @@ pub struct State<B: Board, S: Seen> {
     targets: PointSet,
     defender: Colour,
     pub(crate) region: PointSet,
+    // A colouring in which the targets stand, and whether they are so many that it is quicker to look where another differs from it.
+    begin: Colouring,
+    has_many: bool,
 }
 
 impl<B: Board, S: Seen> Model for State<B, S> {
@@ -50,6 +53,7 @@ impl<B: Board, S: Seen> Model for State<B, S> {
     ghost use Rattle.go_points.specs.Place.{IsOn};
     ghost use Rattle.target_game.specs.State.{Line};
     ghost use Rattle.target_game.specs.Kept.{kept_game, kept_line};
+    ghost use Rattle.target_game.specs.Private.Stand.{StandIn};
 
     ghost Value = { Line };
 
@@ -57,7 +61,8 @@ impl<B: Board, S: Seen> Model for State<B, S> {
         a.played };
 
     ghost invariant = { λ a. All (IsOn a.played.size) a.targets
-        × All (IsOn a.played.size) a.region };
+        × All (IsOn a.played.size) a.region
+        × StandIn (kept_game a.played.size a.targets a.defender a.region) a.begin };
 }
 
 // The fault of a record as that of a state.
@@ -92,6 +97,8 @@ impl<B: Board, S: Seen> State<B, S> {
                 targets: *problem.targets(),
                 defender: problem.defender(),
                 region: *problem.region(),
+                begin: problem.begin(),
+                has_many: has_many(problem.targets()),
             }),
             Err(_) => Err(AllocError),
         }
@@ -126,6 +133,8 @@ impl<B: Board, S: Seen> State<B, S> {
                 targets: *problem.targets(),
                 defender: problem.defender(),
                 region: *problem.region(),
+                begin: problem.begin(),
+                has_many: has_many(problem.targets()),
             }),
             Err(fault) => Err(at_fault(fault)),
         }
@@ -166,6 +175,8 @@ impl<B: Board, S: Seen> State<B, S> {
                 targets: *problem.targets(),
                 defender: problem.defender(),
                 region: *problem.region(),
+                begin: problem.begin(),
+                has_many: has_many(problem.targets()),
             }),
             Err(fault) => Err(at_fault(fault)),
         }
@@ -218,10 +229,24 @@ impl<B: Board, S: Seen> State<B, S> {
         }
     }
 
+    /// Whether each target point holds the defender's colour in this colouring.
+    fn stand_in(&self, colouring: &Colouring) -> bool
+        requires { side_of colouring.now ≡ self.now.state.game.size }
+        ensures { result ≡ targets_stand (record self.now.state { colouring = colouring.now }) }
+    {
+        if self.has_many {
+            return !differ_at(colouring, &self.begin, &self.targets);
+        }
+        all_hold(colouring, &self.targets, Cell::Stone(self.defender))
+    }
+
     /// Whether each target point holds the defender's colour.
     pub(crate) fn targets_stand(&self) -> bool
         ensures { result ≡ targets_stand self.now.state }
     {
+        if self.has_many {
+            return self.stand_in(&self.played.colouring());
+        }
         for point in self.targets.iter() {
             if !self.played.cell(point).is_stone_of(self.defender) {
                 return false;
@@ -252,7 +277,7 @@ impl<B: Board, S: Seen> State<B, S> {
         requires { side_of colouring.now ≡ self.now.state.game.size }
         ensures { result ≡ over (record self.now.state { colouring = colouring.now; passes = 0 }) }
     {
-        if all_hold(colouring, &self.targets, Cell::Stone(self.defender)) {
+        if self.stand_in(colouring) {
             None
         } else {
             Some(self.defender.opponent())

@@ -1,15 +1,15 @@
 -- Areas that are eyes, and what the loops over them do.
-use Rattle.std.specs.Prelude.{◌≡◌, ◌≢◌, ℕ, ◌+◌, ◌*◌, ◌<◌, ◌≤◌, ◌⊎◌, Bool, IsTrue, IsFalse, List, length, map}
+use Rattle.std.specs.Prelude.{◌≡◌, ◌≢◌, ℕ, ◌+◌, ◌*◌, ◌<◌, ◌≤◌, ◌⊎◌, ◌||◌, Bool, IsTrue, IsFalse, List, [], length, map}
 use Rattle.go_points.specs.declared.Colour.{Colour}
 use Rattle.go_points.specs.declared.Cell.{Cell}
 use Rattle.go_points.specs.declared.Cell.TheVariants.{Empty, Stone}
 use Rattle.go_points.specs.Grid.{adjacent, cell_at}
-use Rattle.go_points.specs.Place.{Place, IsOn, number_of}
+use Rattle.go_points.specs.Place.{Place, IsOn, number_of, place_of}
 use Rattle.go_points.specs.Points.{holds_place}
 use Rattle.go_chains.specs.Joined.{Joined, IsChainOf, IsLibertyOf}
 use Rattle.pass_alive.specs.Areas.{area_cell}
-use Rattle.pass_alive.specs.Life.{Points, IsBeside, Lasting}
-use Rattle.pass_alive.specs.Sets.{these, IsNear}
+use Rattle.pass_alive.specs.Life.{Points, IsBeside, Lasting, Live}
+use Rattle.pass_alive.specs.Sets.{these, number_on, game_of, IsNear}
 
 -- What a board of the areas between the stones of the colour k would hold.
 abbrev pub areas_in : Colour → List Cell → List Cell
@@ -68,19 +68,45 @@ MayLive n region c a stones x = Lasting n region c x ⊎ TwoEyeAreas n c a stone
 abbrev pub IsSafe : ℕ → List ℕ → List Cell → List Cell → Points → ℕ → Type 0
 IsSafe n region c a stones x = Lasting n region c x ⊎ TwoEyeSets n c a stones (IsBeside n c x)
 
--- One sweep: some of the stones are taken away, none of those that may live among themselves; if none is taken away, all are safe.
-pub record IsDropped (n : ℕ) (region : List ℕ) (c a : List Cell) (old new : List Place) (has_changed : Bool) : Type 0 where
-  pub within : (p : Place) → IsTrue (holds_place new p) → IsTrue (holds_place old p)
-  pub fewer : IsTrue has_changed → length new < length old
-  pub kept : (stones : Points) → ((x : ℕ) → IsTrue (stones x) → (x < n * n) × MayLive n region c a stones x)
-      → ((q : ℕ) → IsTrue (stones q) → IsTrue (these n old q)) → (q : ℕ) → IsTrue (stones q) → IsTrue (these n new q)
-  pub safe : IsFalse has_changed → (q : ℕ) → q < n * n → IsTrue (these n new q) → IsSafe n region c a (these n new) q
+-- The point is in one of the two sets.
+abbrev pub is_due : List Place → List Place → Place → Bool
+is_due due late p = holds_place due p || holds_place late p
+
+-- The stones of the colour k that are left: no stone that lives has been taken away, each chain is there or gone as a whole, and a chain
+-- of which no stone is due is safe.
+pub record AreLeft (n : ℕ) (k : Colour) (region : List Place) (c : List Cell) (stones : List Place) (due : Place → Bool) : Type 0 where
+  pub on_board : (p : Place) → IsTrue (holds_place stones p) → IsOn n p
+  pub own : (q : ℕ) → IsTrue (these n stones q) → cell_at c q ≡ Stone k
+  pub kept : (living : Points) → Live (game_of n [] k region) c living → (q : ℕ) → IsTrue (living q) → IsTrue (these n stones q)
+  pub whole : (p q : ℕ) → q < n * n → IsTrue (these n stones p) → Joined n c p q → IsTrue (these n stones q)
+  pub among : (p : Place) → IsTrue (due p) → IsTrue (holds_place stones p)
+  pub safe : (q : ℕ) → q < n * n → IsTrue (these n stones q) → ((r : ℕ) → r < n * n → Joined n c q r → IsFalse (due (place_of n r)))
+      → IsSafe n (map (number_on n) region) c (areas_in k c) (these n stones) q
+
+-- Fewer stones are left, or as many, of which fewer are due or more are put off.
+abbrev pub IsLess : List Place → List Place → List Place → List Place → List Place → List Place → Type 0
+IsLess stones due late new_stones new_due new_late =
+    (length new_stones < length stones) ⊎ ((new_stones ≡ stones) × (2 * length new_due + length new_late < 2 * length due + length late))
 
 -- The set without another set of points.
 pub record IsWithout (other old new : List Place) : Type 0 where
   pub within : (p : Place) → IsTrue (holds_place new p) → IsTrue (holds_place old p)
   pub kept : (p : Place) → IsFalse (holds_place other p) → IsTrue (holds_place old p) → IsTrue (holds_place new p)
+  pub gone : (p : Place) → IsTrue (holds_place other p) → IsFalse (holds_place new p)
+  pub shorter : length new ≤ length old
   pub fewer : (p : Place) → IsTrue (holds_place other p) → IsTrue (holds_place old p) → length new < length old
+
+-- The set with what two other sets have in common.
+pub record IsWithCommon (one other old new : List Place) : Type 0 where
+  pub kept : (p : Place) → IsTrue (holds_place old p) → IsTrue (holds_place new p)
+  pub added : (p : Place) → IsTrue (holds_place other p) → IsTrue (holds_place one p) → IsTrue (holds_place new p)
+  pub most : (p : Place) → IsTrue (holds_place new p) → IsTrue (holds_place old p) ⊎ IsTrue (holds_place one p)
+
+-- The set with the points that are adjacent to the point p, and some others of the board at most.
+pub record HasAround (n p : ℕ) (old new : List Place) : Type 0 where
+  pub kept : (x : Place) → IsTrue (holds_place old x) → IsTrue (holds_place new x)
+  pub on_board : (x : Place) → IsTrue (holds_place new x) → IsTrue (holds_place old x) ⊎ IsOn n x
+  pub added : (q : ℕ) → IsTrue (adjacent n p q) → IsTrue (these n new q)
 
 -- Adjacent to an empty point that is not in the set.
 abbrev pub IsBesideFree : ℕ → List Cell → Points → ℕ → Type 0
@@ -130,15 +156,6 @@ IsGap k c stones r = (cell_at c r ≡ Stone k) × IsFalse (stones r)
 -- The area of each point of the set is no eye.
 abbrev pub AreNoEyes : ℕ → List Cell → Points → Points → List Place → Type 0
 AreNoEyes n a stones chain s = (x : Place) → IsTrue (holds_place s x) → IsOn n x × (IsEyeArea n a stones (IsNear n chain) (number_of n x) → ⊥)
-
--- One chain is judged, that of the stone i: it is marked as safe, or its stones are taken away.
-pub record IsJudged (n : ℕ) (region : List ℕ) (c a : List Cell) (i : ℕ) (old old_marked new new_marked : List Place) (has_dropped : Bool) : Type 0 where
-  pub same : IsFalse has_dropped → new ≡ old
-  pub marked : IsFalse has_dropped → (q : ℕ) → q < n * n → IsTrue (these n new_marked q) → IsTrue (these n old_marked q) ⊎ IsSafe n region c a (these n old) q
-  pub safe : IsFalse has_dropped → IsTrue (these n old i) → IsTrue (these n old_marked i) ⊎ IsSafe n region c a (these n old) i
-  pub within : (p : Place) → IsTrue (holds_place new p) → IsTrue (holds_place old p)
-  pub fewer : IsTrue has_dropped → length new < length old
-  pub kept : IsTrue has_dropped → (q : ℕ) → q < n * n → IsTrue (these n old q) → MayLive n region c a (these n old) q → IsTrue (these n new q)
 
 -- Each of the stones is in doubt, or has a lasting liberty.
 abbrev pub LastsOutside : ℕ → List ℕ → List Cell → Points → Points → Type 0

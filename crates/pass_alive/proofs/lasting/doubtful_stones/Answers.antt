@@ -19,7 +19,7 @@ loop-stone-preserved-then-not-is_beside_free c =
       search rules,
       search rules,
       subst (λ (s : List Place). DoubtsSoFar n c.args.board.now c.args.region.now c.args.stones.now s c.next.new.self) (sym c.insert.ensures)
-          (doubts_more n c.args.board.now c.args.region.now c.args.stones.now c.loop-stone.doubtful c.loop-stone.stone-iterator c.next.new.self c.in-Some.stone c.in-Some.ensures.steps c.loop-stone.invariant.2 (on (goal.at.loop-stone-preserved-then-not-is_beside_free c).In-Some)),
+          (doubts_more n c.args.board.now c.args.region.now c.args.stones.now c.loop-stone.doubtful c.loop-stone.stone-iterator c.next.new.self c.in-Some.stone c.in-Some.ensures.steps c.loop-stone.invariant.2),
     )
 
 pub loop-stone-preserved : goal.loop-stone-preserved

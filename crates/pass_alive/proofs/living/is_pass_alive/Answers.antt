@@ -1,5 +1,5 @@
 use Rattle.go_points.specs.Grid.{side_of}
-use Rattle.pass_alive.proofs.Sweeps.{pass_alive_by}
+use Rattle.pass_alive.proofs.Left.{pass_alive_by}
 use Rattle.pass_alive.proofs.living.is_pass_alive.Goals as goal
 
 pub returns : goal.returns

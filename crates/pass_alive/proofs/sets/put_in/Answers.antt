@@ -1,5 +1,5 @@
 use Rattle.pass_alive.proofs.Common.{rules, List, sym, subst, Place}
-use Rattle.pass_alive.proofs.Sweeps.{PutSoFar, put_more}
+use Rattle.pass_alive.proofs.Taking.{PutSoFar, put_more}
 use Rattle.pass_alive.proofs.sets.put_in.Goals as goal
 
 pub loop-point-preserved : goal.loop-point-preserved

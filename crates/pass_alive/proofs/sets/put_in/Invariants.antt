@@ -1,4 +1,4 @@
-use Rattle.pass_alive.proofs.Sweeps.{PutSoFar}
+use Rattle.pass_alive.proofs.Taking.{PutSoFar}
 use Rattle.pass_alive.proofs.sets.put_in.Given as goal
 
 abbrev pub invariant-loop-point : goal.invariant-loop-point

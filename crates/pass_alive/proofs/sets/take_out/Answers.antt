@@ -1,5 +1,5 @@
 use Rattle.pass_alive.proofs.Common.{rules, List, sym, subst, Place}
-use Rattle.pass_alive.proofs.Sweeps.{TakenSoFar, taken_more}
+use Rattle.pass_alive.proofs.Taking.{TakenSoFar, taken_more}
 use Rattle.pass_alive.proofs.sets.take_out.Goals as goal
 
 pub loop-point-preserved : goal.loop-point-preserved

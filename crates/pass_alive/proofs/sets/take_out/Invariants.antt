@@ -1,4 +1,4 @@
-use Rattle.pass_alive.proofs.Sweeps.{TakenSoFar}
+use Rattle.pass_alive.proofs.Taking.{TakenSoFar}
 use Rattle.pass_alive.proofs.sets.take_out.Given as goal
 
 abbrev pub invariant-loop-point : goal.invariant-loop-point

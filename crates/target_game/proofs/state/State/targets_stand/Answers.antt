@@ -1,4 +1,4 @@
-use Rattle.target_game.proofs.Common.{rules, ◌≡◌, ◌∙◌, sym, ap, subst, true, false, Stone, cell_at, same_cell, Place, IsOn, number_of, colouring_of, Line, targets_stand}
+use Rattle.target_game.proofs.Common.{rules, ◌≡◌, ◌∙◌, sym, ap, subst, true, false, Stone, cell_at, same_cell, Place, IsOn, number_of, colouring_of, Line, targets_stand, kept_state, kept_game}
 use Rattle.target_game.proofs.Loops.{left_on}
 use Rattle.target_game.proofs.Playing.{stand_is, stand_no, stand_yes}
 use Rattle.target_game.proofs.state.State.targets_stand.Goals as goal
@@ -24,3 +24,11 @@ returns g c =
     let f = λ (t : Place). same_cell (cell_at cells (number_of n t)) (Stone k) in
     subst (λ (v : Line). true ≡ targets_stand v.state) c.self.view_is
     (sym (stand_is n cells k c.self.inside.targets ∙ stand_yes f c.self.inside.targets c.loop-point.point-iterator c.in-None.ensures.steps.0 c.loop-point.invariant.3))
+
+pub returns-then-self : goal.returns-then-self
+returns-then-self g c =
+    let r = c.self.inside.played in
+    let s = kept_state (kept_game r.size c.self.inside.targets c.self.inside.defender c.self.inside.region) c.self.inside.mover r.present in
+    subst (λ (v : Line). c.stand_in.result ≡ targets_stand v.state) c.self.view_is
+    (subst (λ (v : Line). c.stand_in.result ≡ targets_stand (record v.state { colouring = c.colouring.result })) (sym c.self.view_is) c.stand_in.ensures
+    ∙ ap (λ d. targets_stand (record s { colouring = d })) c.colouring.ensures.value)

@@ -1,23 +1,16 @@
-use Rattle.target_game.proofs.Common.{rules, ℕ, ◌≡◌, ◌∙◌, sym, ap, subst, None, Some, true, false, list_all, Stone, Colour, side_of, cell_at, same_cell, number_of, Line, over, kept_state, kept_game}
-use Rattle.target_game.proofs.Playing.{stand_is, winner_is}
+use Rattle.target_game.proofs.Common.{◌≡◌, ◌∙◌, sym, ap, subst, Some, true, false, Colour, Line, over, targets_stand, kept_state, kept_game}
+use Rattle.target_game.proofs.Playing.{winner_is}
 use Rattle.target_game.proofs.state.State.winner_at.Goals as goal
 
-pub returns-then-all_hold : goal.returns-then-all_hold
-returns-then-all_hold g c =
-    let n = c.self.inside.played.size in
-    let k = c.self.inside.defender in
-    let d = c.args.colouring.now in
-    let side : side_of d ≡ n = search rules in
-    let stands = c.all_hold.ensures ∙ ap (λ (m : ℕ). list_all (λ t. same_cell (cell_at d (number_of m t)) (Stone k)) c.self.inside.targets) side ∙ sym (stand_is n d k c.self.inside.targets) in
-    subst (λ (v : Line). None ≡ over (record v.state { colouring = d; passes = 0 })) c.self.view_is
-    (sym (winner_is (kept_state (kept_game n c.self.inside.targets k c.self.inside.region) c.self.inside.mover c.self.inside.played.present) d true (sym c.if-all_hold.true ∙ stands)))
+pub returns-then-stand_in : goal.returns-then-stand_in
+returns-then-stand_in g c =
+    let s = c.args.self.now.state in
+    sym (winner_is s c.args.colouring.now true (sym c.if-stand_in.true ∙ c.stand_in.ensures))
 
-pub returns-else-all_hold : goal.returns-else-all_hold
-returns-else-all_hold g c =
-    let n = c.self.inside.played.size in
-    let k = c.self.inside.defender in
+pub returns-else-stand_in : goal.returns-else-stand_in
+returns-else-stand_in g c =
     let d = c.args.colouring.now in
-    let side : side_of d ≡ n = search rules in
-    let stands = c.all_hold.ensures ∙ ap (λ (m : ℕ). list_all (λ t. same_cell (cell_at d (number_of m t)) (Stone k)) c.self.inside.targets) side ∙ sym (stand_is n d k c.self.inside.targets) in
     subst (λ (v : Line). Some c.opponent.result ≡ over (record v.state { colouring = d; passes = 0 })) c.self.view_is
-    (ap (λ (x : Colour). Some x) c.opponent.ensures ∙ sym (winner_is (kept_state (kept_game n c.self.inside.targets k c.self.inside.region) c.self.inside.mover c.self.inside.played.present) d false (sym c.if-all_hold.false ∙ stands)))
+    (ap (λ (x : Colour). Some x) c.opponent.ensures
+    ∙ sym (winner_is (kept_state (kept_game c.self.inside.played.size c.self.inside.targets c.self.inside.defender c.self.inside.region) c.self.inside.mover c.self.inside.played.present) d false
+    (sym c.if-stand_in.false ∙ subst (λ (v : Line). c.stand_in.result ≡ targets_stand (record v.state { colouring = d })) (sym c.self.view_is) c.stand_in.ensures)))

@@ -1,0 +1,3 @@
+pub mod Areas
+pub mod Play
+pub mod Laws

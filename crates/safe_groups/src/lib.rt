@@ -1,0 +1,4 @@
+//! Groups that are safe by answers: their owner answers within a region, and no play of the other side, anywhere, takes them.
+#![tactic(auto)]
+
+pub mod laws;

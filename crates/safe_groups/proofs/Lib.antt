@@ -5,3 +5,4 @@ pub mod Moving
 pub mod Past
 pub mod Exchanges
 pub mod Never
+pub mod Grounds

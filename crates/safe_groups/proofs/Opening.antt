@@ -1,5 +1,5 @@
 -- Which stones of the other side's vanish from a state: those that are neither rooted nor reach empty.
-use Rattle.safe_groups.proofs.Common.{sym, subst, refl, ◌≡◌, ◌∙◌, List, ℕ, ap, IsTrue, true, false, Bool, inl, inr, [], ◌∷◌, ◌*◌, ◌<◌, ◌≤◌, ◌⊎◌, ◌&&◌, cond, not, length, arith, get_or_past, eq_same_cell, same_cell_eq, adjacent_on_board, opponent_ne, on_or_off, reaches_path, is_captured, cell_at, same_cell, adjacent, opponent_of, reaches, IsPath, Reaches, Cell, Empty, Stone, one_or_other, joined_self, joined_on, joined_beside, IsWay, Area, own, theirs, is_outside, IsWalled, Rooted, opened, clear_loose}
+use Rattle.safe_groups.proofs.Common.{sym, subst, refl, ◌≡◌, ◌∙◌, List, ℕ, ap, IsTrue, true, false, Bool, inl, inr, [], ◌∷◌, ◌*◌, ◌<◌, ◌≤◌, ◌⊎◌, ◌&&◌, cond, not, length, arith, get_or_past, eq_same_cell, same_cell_eq, adjacent_on_board, opponent_ne, on_or_off, reaches_path, clear, cell_at-clear, is_captured, cell_at, same_cell, adjacent, opponent_of, reaches, IsPath, Reaches, Cell, Empty, Stone, one_or_other, joined_self, joined_on, joined_beside, IsWay, Area, own, theirs, is_outside, IsWalled, Rooted, opened, clear_loose}
 use Rattle.go_points.proofs.Common.{get_or-map-range_with_len, length-map-range_with_len}
 use Rattle.go_points.proofs.Lists.{and_left, and_right, not_true}
 
@@ -32,6 +32,15 @@ module _ (a : Area) (c : List Cell) where
 
   pub vanishes : ℕ → Bool
   vanishes p = is_captured a.size (opened a c) (opponent_of a.keeper) p
+
+  -- clearing the other side when nothing is outside
+  pub cleared_at : (p : ℕ) → p < a.size * a.size → cell_at (clear a.size (opened a c) (opponent_of a.keeper)) p ≡ cond (vanishes p) Empty (cell_at (opened a c) p)
+  unfolding vanishes
+  cleared_at p on = cell_at-clear a.size (opened a c) (opponent_of a.keeper) p on
+
+  pub outside_spared : (p : ℕ) → p < a.size * a.size → is_outside a p ≡ true → vanishes p ≡ false
+  unfolding vanishes
+  outside_spared p on out = ap (λ x. same_cell x (theirs a) && not (reaches a.size (opened a c) p Empty)) (outside_at p on out)
 
   pub length-clear_loose : length (clear_loose a c) ≡ a.size * a.size
   unfolding clear_loose vanishes

@@ -6,3 +6,4 @@ pub mod Past
 pub mod Exchanges
 pub mod Never
 pub mod Grounds
+pub mod Judging

@@ -1,12 +1,16 @@
 -- An area as the judge holds it: a colouring on which the kept stones stand, the region is empty, and every other point holds a
 -- stone of the other side; and one on which the keeper's stones mark the points at which it answers.
-use Rattle.std.specs.Prelude.{◌≡◌, ◌<◌, ◌*◌, ℕ, ◌&&◌, nat_lt, ◌⊎◌, IsTrue, List, slice_set, if◌then◌else◌}
+use Rattle.std.specs.Prelude.{◌≡◌, ◌<◌, ◌*◌, ℕ, ◌&&◌, nat_lt, length, ◌⊎◌, IsTrue, List, slice_set, if◌then◌else◌, Option, Some, None}
+use Rattle.std.specs.List.{All}
 use Rattle.go_points.specs.declared.Cell.{Cell}
 use Rattle.go_points.specs.declared.Cell.TheVariants.{Empty, Stone}
 use Rattle.go_points.specs.Grid.{cell_at, same_cell, side_of}
 use Rattle.go_points.specs.Reach.{Reaches}
 use Rattle.go_turns.specs.History.{has_occurred}
-use Rattle.safe_groups.specs.Areas.{Area, States, own, theirs, is_outside, after_other, IsWalled, Rooted, IsAtRest, IsAnswered}
+use Rattle.target_game.specs.State.{GameProblem, GameState, start}
+use Rattle.target_game.specs.Legal.{holds_point}
+use Rattle.safe_groups.specs.Laws.{HasTargets, IsSafe, IsSafeByMove}
+use Rattle.safe_groups.specs.Areas.{Area, States, own, theirs, is_outside, after_other, IsWalled, Rooted, IsAtRest, IsAnswered, HoldsAt}
 use Rattle.safe_groups.specs.declared.ground.Ground.{Ground}
 
 abbrev pub area_of : Ground → Area
@@ -53,3 +57,35 @@ pub record IsMoveAnswered (a : Area) (W : States) (c : List Cell) (x : ℕ) : Ty
 pub record IsStateAnswered (a : Area) (W : States) (c : List Cell) : Type 0 where
   pub at_rest : IsAtRest a c
   pub moves : (x : ℕ) → x < a.size * a.size → cell_at c x ≡ Empty → IsMoveAnswered a W c x
+
+-- The listed states are those of the ground, and each is answered.
+abbrev pub AreStates : Ground → List (List Cell) → Type 0
+AreStates g states = All (IsState g) states
+
+abbrev pub AreAnswered : Ground → List (List Cell) → Type 0
+AreAnswered g states = All (IsStateAnswered (area_of g) (states_of states)) states
+
+-- The past bars none of the answers in the state c: this colouring does not, or no colouring of the history.
+abbrev pub BarsNone : Area → List Cell → List Cell → Type 0
+BarsNone a c q = ((p : ℕ) → cell_at c p ≡ own a → cell_at q p ≡ own a) → (p : ℕ) → IsTrue (a.answers p) → cell_at q p ≡ own a → cell_at c p ≡ own a
+
+-- The ground and its marks are of the problem's board, and the keeper is its defender.
+pub record IsOfBoard (q : GameProblem) (g : Ground) : Type 0 where
+  pub size : side_of g.cells ≡ q.game.size
+  pub board : side_of (start q).colouring ≡ side_of g.cells
+  pub full : length (start q).colouring ≡ side_of g.cells * side_of g.cells
+  pub keeper : g.keeper ≡ q.game.defender
+  pub marks : side_of g.marks ≡ side_of g.cells
+
+-- The board of the problem fits the state c of the ground, all targets are kept, and each answer is in the region and never barred.
+pub record HoldsFor (q : GameProblem) (g : Ground) (c : List Cell) : Type 0 where
+  pub board : IsOfBoard q g
+  pub state : IsState g c
+  pub holds : HoldsAt (area_of g) c (start q).colouring q.history
+  pub targets : HasTargets (area_of g) c q.game.targets
+  pub allowed : (p : ℕ) → IsTrue ((area_of g).answers p) → IsTrue (holds_point q.game.region p)
+
+-- the targets are safe, or they are if the defender, which is to move, plays first
+abbrev pub IsSafeAs : Option ℕ → GameState → Type 0
+IsSafeAs None s = IsSafe s
+IsSafeAs (Some first) s = IsSafeByMove s

@@ -107,6 +107,17 @@ pub(crate) fn clear_colour(colouring: &mut Colouring, colour: Colour) -> u16
     remove_unmarked(colouring, colour, marks)
 }
 
+/// The colouring without the stones of this colour that do not reach an empty point. It takes a few sweeps over the board, and as
+/// many as there are points where a chain winds most.
+pub fn cleared(colouring: &Colouring, colour: Colour) -> Colouring
+    ensures value { result ≡ clear (side_of colouring.now) colouring.now colour }
+    ensures size { side_of result ≡ side_of colouring.now }
+{
+    let mut left = *colouring;
+    let _removed = clear_colour(&mut left, colour);
+    left
+}
+
 // The least point whose stone is not marked, in the marks of its colour.
 fn first_unmarked(colouring: &Colouring, black: &[bool], white: &[bool]) -> Option<Point>
     requires black_board { length black.now ≡ side_of colouring.now * side_of colouring.now }

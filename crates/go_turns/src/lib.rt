@@ -15,6 +15,7 @@ mod seen;
 mod spares;
 
 pub use board::{Board, NoLiberty, Occupied};
+pub use clearing::cleared;
 pub use fault::TurnFault;
 pub use go_chains::ChainBoard;
 pub use hash_seen::HashSeen;

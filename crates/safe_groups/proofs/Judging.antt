@@ -1,0 +1,116 @@
+-- What the judge finds of the states of a claim makes them states with answers.
+use Rattle.safe_groups.proofs.Common.{sym, subst, refl, ◌≡◌, ◌∙◌, List, ℕ, zero, suc, ap, IsTrue, true, Bool, inl, inr, [], ◌∷◌, ◌*◌, ◌<◌, length, set, arith, cell_at, Reaches, Cell, Empty, Stone, Area, States, own, theirs, IsWalled, IsAnswered, Replies, HoldsAt, clear_loose, after_other}
+use Rattle.std.proofs.Common.{get_or, map, nat_eq, nat_lt, eqb-true, ◌&&◌}
+use Rattle.std.specs.List.{All, list_all}
+use Rattle.std.proofs.lemmas.List.Elements.{All-tail}
+use Rattle.go_points.specs.Grid.{same_cell, same_cells}
+unfoldable use Rattle.go_points.specs.Grid.{side_of}
+use Rattle.go_points.specs.Equal.{same_cells_refl, same_cells_eq}
+use Rattle.go_points.proofs.Lists.{and_left, and_right, or_cases, or_left, or_right}
+use Rattle.go_points.specs.declared.Colour.{Colour}
+use Rattle.target_game.specs.State.{GameProblem, start}
+use Rattle.target_game.specs.Legal.{holds_point}
+use Rattle.go_turns.specs.History.{has_occurred}
+use Rattle.safe_groups.specs.declared.ground.Ground.{Ground}
+use Rattle.safe_groups.specs.Ground.{area_of, states_of, IsState, IsStateAnswered, AreStates, AreAnswered, IsOfBoard, HoldsFor}
+use Rattle.safe_groups.specs.Laws.{area_in, HasTargets, IsSafe, IsSafeByMove}
+use Rattle.safe_groups.proofs.Fitting.{fits_self}
+use Rattle.safe_groups.proofs.Moving.{past_put}
+
+pub stone_colour : (j k : Colour) → Stone j ≡ Stone k → j ≡ k
+stone_colour j k e = cc e
+
+-- what stands in a list is in it
+pub listed_at : (xs : List (List Cell)) (k : ℕ) (c : List Cell) → k < length xs → c ≡ get_or xs k c → has_occurred xs c ≡ true
+listed_at [] k c low e = absurd (omega (arith, low))
+listed_at (x ∷ xs) zero c low e = or_left (same_cells c x) (has_occurred xs c) (ap (same_cells c) (sym e) ∙ same_cells_refl c)
+listed_at (x ∷ xs) (suc k) c low e = or_right (same_cells c x) (has_occurred xs c) (listed_at xs k c (omega (arith, low)) e)
+
+-- what stands there, whatever stands for nothing
+pub same_default : (xs : List (List Cell)) (k : ℕ) (d e : List Cell) → k < length xs → get_or xs k d ≡ get_or xs k e
+same_default [] k d e low = absurd (omega (arith, low))
+same_default (x ∷ xs) zero d e low = refl
+same_default (x ∷ xs) (suc k) d e low = same_default xs k d e (omega (arith, low))
+
+-- what holds of each holds of one that is in the list
+pub of_listed : (P : List Cell → Type 0) (xs : List (List Cell)) (c : List Cell) → All P xs → has_occurred xs c ≡ true → P c
+of_listed P [] c all at = absurd (cc at)
+of_listed P (x ∷ xs) c all at = elim (or_cases (same_cells c x) (has_occurred xs c) at) [
+  | inl is ↦ subst P (sym (same_cells_eq c x is)) (all 0 c (omega arith))
+  | inr rest ↦ of_listed P xs c (All-tail P x xs all) rest
+]
+
+module _ (a : Area) (c placed : List Cell) (x : ℕ) (free : cell_at c x ≡ Empty) (is : placed ≡ set c x (theirs a)) where
+  pub untaken_by : ((p : ℕ) → cell_at placed p ≡ own a → Reaches a.size placed p Empty) → (p : ℕ) → cell_at c p ≡ own a → Reaches a.size (set c x (theirs a)) p Empty
+  untaken_by stand p e =
+      let here : cell_at placed p ≡ own a = ap (λ d. cell_at d p) is ∙ past_put c x p (theirs a) (λ at. cc (e, ap (cell_at c) at, free)) ∙ e in
+      subst (λ d. Reaches a.size d p Empty) is (stand p here)
+
+  module _ (W : States) (left : List Cell) (clears : left ≡ clear_loose a placed) where
+    left_is : left ≡ after_other a c x
+    left_is = clears ∙ ap (clear_loose a) is
+
+    pub unchanged : IsTrue (W c) → left ≡ c → IsAnswered a W (after_other a c x)
+    unchanged listed same = subst (IsAnswered a W) (sym same ∙ left_is) (inl (c, listed, fits_self a c))
+
+    pub changed : IsAnswered a W left → IsAnswered a W (after_other a c x)
+    changed answered = subst (IsAnswered a W) left_is answered
+
+pub answers_inside : (g : Ground) (p : ℕ) → IsTrue ((area_of g).answers p) → IsTrue ((area_of g).region p)
+answers_inside g p is = and_left (nat_lt p (side_of g.cells * side_of g.cells) && same_cell (cell_at g.cells p) Empty) (same_cell (cell_at g.marks p) (Stone g.keeper)) is
+
+-- states of which each is answered
+pub replies_by : (g : Ground) (states : List (List Cell)) → ((p : ℕ) → IsTrue ((area_of g).answers p) → IsTrue ((area_of g).region p)) → AreStates g states → AreAnswered g states → Replies (area_of g) (states_of states)
+replies_by g states inside are answered = record {
+  inside = inside;
+  walled = λ c at. (of_listed (IsState g) states c are at).walled;
+  at_rest = λ c at. (of_listed (IsStateAnswered (area_of g) (states_of states)) states c answered at).at_rest;
+  untaken = λ c at x on free. ((of_listed (IsStateAnswered (area_of g) (states_of states)) states c answered at).moves x on free).untaken;
+  answered = λ c at x on free. ((of_listed (IsStateAnswered (area_of g) (states_of states)) states c answered at).moves x on free).answered;
+}
+
+-- what each place of a list passes, each point of it passes
+pub targets_by : {A : Type 0} (number : A → ℕ) (f : ℕ → Bool) (xs : List A) (p : ℕ) → list_all (λ x. f (number x)) xs ≡ true → holds_point (map number xs) p ≡ true → f p ≡ true
+targets_by number f [] p all at = absurd (cc at)
+targets_by number f (x ∷ xs) p all at = elim (or_cases (nat_eq p (number x)) (holds_point (map number xs) p) at) [
+  | inl is ↦ ap f (eqb-true p (number x) is) ∙ and_left (f (number x)) (list_all (λ y. f (number y)) xs) all
+  | inr rest ↦ targets_by number f xs p (and_right (f (number x)) (list_all (λ y. f (number y)) xs) all) rest
+]
+
+-- the area of the game is that of the ground
+module _ (q : GameProblem) (g : Ground) (board : IsOfBoard q g) where
+  abbrev with_parts : ℕ → Colour → Area
+  with_parts n k = record { size = n; keeper = k; kept = (area_of g).kept; region = (area_of g).region; answers = (area_of g).answers }
+
+  moved_area : (P : Area → Type 0) → P (area_of g) → P (area_in q.game (area_of g).kept (area_of g).region (area_of g).answers)
+  moved_area P h = subst (λ k. P (with_parts q.game.size k)) board.keeper (subst (λ n. P (with_parts n g.keeper)) board.size h)
+
+  pub safe_by : (states : List (List Cell)) (c : List Cell) → Replies (area_of g) (states_of states) → IsTrue (states_of states c) → HoldsFor q g c → IsSafe (start q)
+  safe_by states c replies listed holds = record {
+    kept = (area_of g).kept;
+    region = (area_of g).region;
+    answers = (area_of g).answers;
+    states = states_of states;
+    state = c;
+    allowed = holds.allowed;
+    replies = moved_area (λ a. Replies a (states_of states)) replies;
+    listed = listed;
+    holds = moved_area (λ a. HoldsAt a c (start q).colouring q.history) holds.holds;
+    targets = moved_area (λ a. HasTargets a c q.game.targets) holds.targets;
+  }
+
+  pub safe_by_move : (states : List (List Cell)) (c : List Cell) → Replies (area_of g) (states_of states) → IsAnswered (area_of g) (states_of states) c → q.mover ≡ q.game.defender → HoldsFor q g c → IsSafeByMove (start q)
+  safe_by_move states c replies answered mover holds = record {
+    kept = (area_of g).kept;
+    region = (area_of g).region;
+    answers = (area_of g).answers;
+    states = states_of states;
+    state = c;
+    allowed = holds.allowed;
+    replies = moved_area (λ a. Replies a (states_of states)) replies;
+    walled = moved_area (λ a. IsWalled a c) holds.state.walled;
+    answered = moved_area (λ a. IsAnswered a (states_of states) c) answered;
+    to_move = mover;
+    holds = moved_area (λ a. HoldsAt a c (start q).colouring q.history) holds.holds;
+    targets = moved_area (λ a. HasTargets a c q.game.targets) holds.targets;
+  }

@@ -1,0 +1,186 @@
+-- The attacker wins no state whose targets are safe by answers.
+use Rattle.safe_groups.proofs.Common.{sym, subst, refl, ◌≡◌, ◌∙◌, List, ℕ, zero, suc, ap, IsTrue, IsFalse, true, false, Bool, inl, inr, [], ◌∷◌, ◌++◌, ◌*◌, ◌<◌, ◌≤◌, ◌⊎◌, ◌&&◌, not, arith, cell_at, same_cell, eq_same_cell, same_cell_eq, opponent_of, opponent_twice, after_move, Cell, Empty, Stone, Colour, Area, Points, States, own, IsWalled, IsAnswered, Replies, HoldsAt}
+use Rattle.std.proofs.Common.{nat_eq, nat_lt, ltb-true, eq-eqb, if◌then◌else◌, Some, None}
+use Rattle.std.proofs.lemmas.Bool.{lt-ltb}
+use Rattle.go_points.specs.Grid.{same_colour}
+use Rattle.go_points.specs.Equal.{same_colour_eq}
+use Rattle.go_points.specs.Ply.{Ply, pass, move}
+use Rattle.go_points.proofs.Lists.{and_left, and_right, and_both, any_from, any_to, all_at, all_from}
+use Rattle.go_turns.specs.History.{has_occurred}
+use Rattle.target_game.specs.State.{GameState}
+use Rattle.target_game.specs.Legal.{legal, legal_turns, holds_point}
+use Rattle.target_game.specs.Next.{next}
+use Rattle.target_game.specs.Over.{targets_stand, over}
+unfoldable use Rattle.target_game.specs.Wins.{wins}
+use Rattle.target_game.specs.Wins.{Wins, some_or_each}
+use Rattle.target_game.specs.Status.{moving, IsAlive}
+use Rattle.target_game.proofs.Winning.{wins_over, wins_none, wins_next, member_legal, legal_member}
+use Rattle.target_game.proofs.Statuses.{one_wins}
+use Rattle.target_game.proofs.Moving.{colour_other}
+use Rattle.safe_groups.specs.Laws.{area_in, HasTargets, IsSafe, IsSafeByMove}
+use Rattle.safe_groups.specs.Play.{StandThrough}
+use Rattle.safe_groups.proofs.Past.{known_has, known_more}
+use Rattle.safe_groups.proofs.Exchanges.{other_plays, holds_passed, answer_allowed, holds_answered, stand_through}
+
+-- the targets stand where the keeper has them
+targets_there : (s : GameState) → ((p : ℕ) → IsTrue (holds_point s.game.targets p) → cell_at s.colouring p ≡ Stone s.game.defender) → targets_stand s ≡ true
+targets_there s stand = all_from (λ p. same_cell (cell_at s.colouring p) (Stone s.game.defender)) s.game.targets (λ p m. eq_same_cell _ _ (stand p (any_to (nat_eq p) p s.game.targets m (eq-eqb p p refl))))
+
+-- so nobody has won, or the defender has
+not_taken : (s : GameState) → targets_stand s ≡ true → (over s ≡ None) ⊎ (over s ≡ Some s.game.defender)
+not_taken s there = go (targets_stand s) (nat_eq s.passes 2) there
+  where
+    go : (a b : Bool) → a ≡ true → ((if a then (if b then Some s.game.defender else None) else Some (opponent_of s.game.defender)) ≡ None) ⊎ ((if a then (if b then Some s.game.defender else None) else Some (opponent_of s.game.defender)) ≡ Some s.game.defender)
+    go true true e = inr refl
+    go true false e = inl refl
+    go false b e = absurd (cc e)
+
+won_by_defender : (s : GameState) (k : ℕ) → over s ≡ Some s.game.defender → wins (opponent_of s.game.defender) s k ≡ true → ⊥
+won_by_defender s k e h = cc (wins_over (opponent_of s.game.defender) s.game.defender s k e, colour_other s.game.defender, h)
+
+-- a legal move is at an empty point of the board
+legal_free : (s : GameState) (p : ℕ) → legal s (move p) ≡ true → (p < s.game.size * s.game.size) × (cell_at s.colouring p ≡ Empty)
+legal_free s p h =
+    let three = and_left (nat_lt p (s.game.size * s.game.size) && holds_point s.game.region p && same_cell (cell_at s.colouring p) Empty) (not (has_occurred s.history (after_move s.game.size s.colouring s.mover p))) h in
+    let two = and_left (nat_lt p (s.game.size * s.game.size) && holds_point s.game.region p) (same_cell (cell_at s.colouring p) Empty) three in (
+      ltb-true p (s.game.size * s.game.size) (and_left (nat_lt p (s.game.size * s.game.size)) (holds_point s.game.region p) two),
+      same_cell_eq (cell_at s.colouring p) Empty (and_right (nat_lt p (s.game.size * s.game.size) && holds_point s.game.region p) (same_cell (cell_at s.colouring p) Empty) three),
+    )
+
+free_legal : (s : GameState) (p : ℕ) → p < s.game.size * s.game.size → IsTrue (holds_point s.game.region p) → cell_at s.colouring p ≡ Empty → IsFalse (has_occurred s.history (after_move s.game.size s.colouring s.mover p)) → legal s (move p) ≡ true
+free_legal s p on inside free new =
+    and_both _ _ (and_both _ _ (and_both _ _ (lt-ltb p (s.game.size * s.game.size) on) inside) (eq_same_cell _ _ free)) (ap not new)
+
+-- some turn of the attacker's, or each turn of the defender's, would have to win
+turns_win : (s : GameState) (k : ℕ) → over s ≡ None → wins (opponent_of s.game.defender) s (suc k) ≡ true
+    → ((t : Ply) → same_colour s.mover (opponent_of s.game.defender) ≡ true → legal s t ≡ true → wins (opponent_of s.game.defender) (next s t) k ≡ true → ⊥)
+    → (same_colour s.mover (opponent_of s.game.defender) ≡ false → (t : Ply) × (legal s t ≡ true) × (wins (opponent_of s.game.defender) (next s t) k ≡ true → ⊥))
+    → ⊥
+turns_win s k open_ h attacks defends = go (same_colour s.mover (opponent_of s.game.defender)) refl (sym (wins_next (opponent_of s.game.defender) s k open_) ∙ h)
+  where
+    go : (b : Bool) → same_colour s.mover (opponent_of s.game.defender) ≡ b → some_or_each b (λ t. wins (opponent_of s.game.defender) (next s t) k) (legal_turns s) ≡ true → ⊥
+    go true turn some =
+        let found = any_from (λ t. wins (opponent_of s.game.defender) (next s t) k) (legal_turns s) some in
+        attacks found.0 turn (member_legal s found.0 found.1) found.2
+    go false turn each =
+        let reply = defends turn in
+        reply.2 (all_at (λ t. wins (opponent_of s.game.defender) (next s t) k) reply.0 (legal_turns s) each (legal_member s reply.0 reply.1))
+
+module _ (kept region answers : Points) (W : States) where
+  abbrev area : GameState → Area
+  area s = area_in s.game kept region answers
+
+  abbrev Allowed : GameState → Type 0
+  Allowed s = (p : ℕ) → IsTrue (answers p) → IsTrue (holds_point s.game.region p)
+
+  -- within so many turns: where the board fits one of the states, and where the defender is to move and has an answer
+  abbrev Rests : ℕ → Type 0
+  Rests j = (s : GameState) (c : List Cell) → Allowed s → Replies (area s) W → IsTrue (W c) → HoldsAt (area s) c s.colouring s.history → HasTargets (area s) c s.game.targets → wins (opponent_of s.game.defender) s j ≡ true → ⊥
+
+  abbrev Owes : ℕ → Type 0
+  Owes j = (s : GameState) (d : List Cell) → Allowed s → Replies (area s) W → IsWalled (area s) d → IsAnswered (area s) W d → HoldsAt (area s) d s.colouring s.history → HasTargets (area s) d s.game.targets → s.mover ≡ s.game.defender
+      → wins (opponent_of s.game.defender) s j ≡ true → ⊥
+
+  stand : (s : GameState) (c : List Cell) → HoldsAt (area s) c s.colouring s.history → HasTargets (area s) c s.game.targets → targets_stand s ≡ true
+  stand s c holds targets = targets_there s (λ p is. holds.fits.has_own p (targets p is))
+
+  ends_now : (s : GameState) → targets_stand s ≡ true → wins (opponent_of s.game.defender) s 0 ≡ true → ⊥
+  ends_now s there h = elim (not_taken s there) [
+    | inl e ↦ cc (wins_none (opponent_of s.game.defender) s e, h)
+    | inr e ↦ won_by_defender s 0 e h
+  ]
+
+  rest_step : (j : ℕ) → Rests j → Owes j → Rests (suc j)
+  rest_step j rests owes s c allowed replies listed holds targets h = elim (not_taken s (stand s c holds targets)) [
+    | inr e ↦ won_by_defender s (suc j) e h
+    | inl e ↦ turns_win s j e h attacks (λ mine. (pass, refl, rests (next s pass) c allowed replies listed holds targets))
+  ]
+    where
+      attacks : (t : Ply) → same_colour s.mover (opponent_of s.game.defender) ≡ true → legal s t ≡ true → wins (opponent_of s.game.defender) (next s t) j ≡ true → ⊥
+      attacks pass turn is w = rests (next s pass) c allowed replies listed holds targets w
+      attacks (move p) turn is w =
+          let to_move : s.mover ≡ opponent_of s.game.defender = same_colour_eq s.mover (opponent_of s.game.defender) turn in
+          let free = legal_free s p is in
+          let owed = other_plays (area s) W replies c s.colouring s.history listed holds p free.0 free.1 in
+          let there = subst (λ m. HoldsAt (area s) owed.state (after_move s.game.size s.colouring m p) (s.history ++ after_move s.game.size s.colouring m p ∷ [])) (sym to_move) owed.holds in
+          owes (next s (move p)) owed.state allowed replies owed.walled owed.answered there (λ q target. owed.same.more q (targets q target)) (ap opponent_of to_move ∙ opponent_twice s.game.defender) w
+
+  owe_step : (j : ℕ) → Rests j → Owes (suc j)
+  owe_step j rests s d allowed replies walled answered holds targets to_move h = elim (not_taken s (stand s d holds targets)) [
+    | inr e ↦ won_by_defender s (suc j) e h
+    | inl e ↦ turns_win s j e h (λ t turn is w. cc (ap (λ m. same_colour m (opponent_of s.game.defender)) to_move, colour_other s.game.defender, turn)) (λ mine. reply answered)
+  ]
+    where
+      reply : IsAnswered (area s) W d → (t : Ply) × (legal s t ≡ true) × (wins (opponent_of s.game.defender) (next s t) j ≡ true → ⊥)
+      reply (inl known) = (pass, refl, rests (next s pass) known.0 allowed replies known.1 (holds_passed (area s) W replies d s.colouring s.history walled holds known) (λ q target. known_more (area s) W replies d walled known q (targets q target)))
+      reply (inr answered) =
+          let r = answered.0 in let answer = answered.1 in
+          let new = answer_allowed (area s) W replies d s.colouring s.history walled holds r answer in
+          let there = holds_answered (area s) W replies d s.colouring s.history walled holds r answer in (
+            move r,
+            free_legal s r answer.on_board (allowed r answer.allowed) (holds.fits.has_empty r answer.empty) (subst (λ m. IsFalse (has_occurred s.history (after_move s.game.size s.colouring m r))) (sym to_move) new),
+            rests (next s (move r)) answer.known.0 allowed replies answer.known.1
+                (subst (λ m. HoldsAt (area s) answer.known.0 (after_move s.game.size s.colouring m r) (s.history ++ after_move s.game.size s.colouring m r ∷ [])) (sym to_move) there)
+                (λ q target. known_has (area s) W replies d walled r answer q (targets q target)),
+          )
+
+  never : (j : ℕ) → Rests j × Owes j
+  never zero = (
+    (λ s c allowed replies listed holds targets h. ends_now s (stand s c holds targets) h),
+    (λ s d allowed replies walled answered holds targets to_move h. ends_now s (stand s d holds targets) h),
+  )
+  never (suc j) = let below = never j in (rest_step j below.0 below.1, owe_step j below.0)
+
+is_false : (b : Bool) → (b ≡ true → ⊥) → b ≡ false
+is_false true none = absurd (none refl)
+is_false false none = refl
+
+safe_lost : (s : GameState) (k : ℕ) → IsSafe s → wins (opponent_of s.game.defender) s k ≡ true → ⊥
+safe_lost s k safe = (never safe.kept safe.region safe.answers safe.states k).0 s safe.state safe.allowed safe.replies safe.listed safe.holds safe.targets
+
+by_move_lost : (s : GameState) (k : ℕ) → IsSafeByMove s → wins (opponent_of s.game.defender) s k ≡ true → ⊥
+by_move_lost s k safe = (never safe.kept safe.region safe.answers safe.states k).1 s safe.state safe.allowed safe.replies safe.walled safe.answered safe.holds safe.targets safe.to_move
+
+pub attacker_never_wins : (s : GameState) (k : ℕ) → IsSafe s → IsFalse (wins (opponent_of s.game.defender) s k)
+attacker_never_wins s k safe = is_false (wins (opponent_of s.game.defender) s k) (safe_lost s k safe)
+
+pub attacker_never_wins_after_move : (s : GameState) (k : ℕ) → IsSafeByMove s → IsFalse (wins (opponent_of s.game.defender) s k)
+attacker_never_wins_after_move s k safe = is_false (wins (opponent_of s.game.defender) s k) (by_move_lost s k safe)
+
+-- one side wins
+pub defender_wins : (s : GameState) → s.passes ≤ 2 → IsSafe s → Wins s.game.defender s
+defender_wins s low safe = elim (one_wins s.game.defender s low) [
+  | inl won ↦ won
+  | inr lost ↦ absurd (safe_lost s lost.0 safe lost.1)
+]
+
+pub defender_wins_by_move : (s : GameState) → s.passes ≤ 2 → IsSafeByMove s → Wins s.game.defender s
+defender_wins_by_move s low safe = elim (one_wins s.game.defender s low) [
+  | inl won ↦ won
+  | inr lost ↦ absurd (by_move_lost s lost.0 safe lost.1)
+]
+
+-- it is safe whoever is to move
+moved : (s : GameState) (x : Colour) → IsSafe s → IsSafe (moving x s)
+moved s x safe = record {
+  kept = safe.kept;
+  region = safe.region;
+  answers = safe.answers;
+  states = safe.states;
+  state = safe.state;
+  allowed = safe.allowed;
+  replies = safe.replies;
+  listed = safe.listed;
+  holds = safe.holds;
+  targets = safe.targets;
+}
+
+pub safe_is_alive : (s : GameState) → s.passes ≡ 0 → IsSafe s → IsAlive s
+safe_is_alive s none safe = record {
+  moving_first = defender_wins (moving s.game.defender s) (omega (arith, none)) (moved s s.game.defender safe);
+  moving_second = defender_wins (moving (opponent_of s.game.defender) s) (omega (arith, none)) (moved s (opponent_of s.game.defender) safe);
+}
+
+pub safe_stones_stand : (a : Area) (W : States) (c b : List Cell) (history : List (List Cell)) → Replies a W → IsTrue (W c) → HoldsAt a c b history
+    → (stones : Points) → ((p : ℕ) → IsTrue (stones p) → cell_at c p ≡ own a) → (exchanges : ℕ) → StandThrough a.size a.keeper a.region stones exchanges b history
+safe_stones_stand a W c b history replies listed holds stones are exchanges = stand_through a W replies stones exchanges c b history listed holds are

@@ -1,0 +1,8 @@
+use Rattle.std.proofs.Common.{◌≡◌, ◌<◌, ℕ}
+use Rattle.go_points.specs.declared.Cell.TheVariants.{Empty}
+use Rattle.go_points.specs.Grid.{cell_at}
+use Rattle.safe_groups.specs.Ground.{area_of, states_of, IsMoveAnswered}
+use Rattle.safe_groups.proofs.ground.Ground.judge_state.Given as goal
+
+abbrev pub invariant-loop-number : goal.invariant-loop-number
+invariant-loop-number l = (x : ℕ) → x < l.number → cell_at l.state x ≡ Empty → IsMoveAnswered (area_of l.self) (states_of l.states) l.state x

@@ -1,0 +1,7 @@
+use Rattle.std.proofs.Common.{◌<◌, ℕ, get_or, List}
+use Rattle.go_points.specs.declared.Cell.{Cell}
+use Rattle.safe_groups.specs.Ground.{area_of, BarsNone}
+use Rattle.safe_groups.proofs.ground.Ground.past_fits.Given as goal
+
+abbrev pub invariant-loop-past : goal.invariant-loop-past
+invariant-loop-past l = (k : ℕ) (d : List Cell) → k < l.past-index → BarsNone (area_of l.self) l.state (get_or l.history k d)

@@ -1,0 +1,4 @@
+pub mod Areas
+pub mod Play
+pub mod Laws
+pub mod Ground

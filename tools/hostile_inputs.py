@@ -438,3 +438,52 @@ def useless_moves(count):
     """A record whose answer has 2 to the power of this many states: Black may play at so many points apart, in any order."""
     points = [column + row for row in "dfhjl" for column in "acegikm"][:count]
     return "(;FF[4]GM[1]SZ[13]AW[aa]PL[B]TR[aa]SQ" + "".join(f"[{point}]" for point in points) + ")\n"
+
+
+def neighbours(point, rows):
+    column, row = point
+    beside = [(column - 1, row), (column + 1, row), (column, row - 1), (column, row + 1)]
+    return [(c, r) for c, r in beside if 0 <= c < rows and 0 <= r < rows]
+
+
+def nearest(points, rows):
+    """All points of the board, those before others that are nearer to these."""
+    found = sorted(points)
+    for point in found:
+        found += [it for it in neighbours(point, rows) if it not in found]
+    return found
+
+
+def chain_of(stones, point, rows):
+    """The stones of the chain."""
+    chain = [point]
+    for stone in chain:
+        chain += [it for it in neighbours(stone, rows) if stones.get(it) == stones[point] and it not in chain]
+    return chain
+
+
+def has_liberty(stones, chain, rows):
+    return any(it not in stones for stone in chain for it in neighbours(stone, rows))
+
+
+def random_problem(number):
+    """The record of a random problem: a board of 7 to 9 rows on which two of five points are empty, and a chain to be taken where
+    play is at the 12 to 18 empty points that are nearest to it, at its own points and at the stones between them."""
+    pick = random.Random(number)
+    rows, count = pick.randint(7, 9), pick.randint(12, 18)
+    stones = {(c, r): pick.choice("BW") for c in range(rows) for r in range(rows) if pick.random() < 0.6}
+    for point in sorted(stones):
+        if point in stones:
+            chain = chain_of(stones, point, rows)
+            if not has_liberty(stones, chain, rows):
+                for stone in chain:
+                    del stones[stone]
+    target = chain_of(stones, pick.choice(sorted(stones)), rows)
+    region = []
+    for point in nearest(target, rows):
+        if sum(it not in stones for it in region) < count:
+            region.append(point)
+    lists = (("AB", [it for it in stones if stones[it] == "B"]), ("AW", [it for it in stones if stones[it] == "W"]),
+             ("TR", target), ("SQ", region))
+    text = "".join(name + "".join(f"[{LETTERS[c]}{LETTERS[r]}]" for c, r in sorted(points)) for name, points in lists if points)
+    return f"(;SZ[{rows}]PL[{pick.choice('BW')}]{text})"

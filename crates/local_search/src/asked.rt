@@ -78,7 +78,7 @@ impl Smaller {
         state: State,
         proof: Proof,
     ) -> Result<(), AllocError>
-        ensures steps { finish.new.search.steps ≡ finish.old.search.steps }
+        ensures steps { finish.new.steps ≡ finish.old.steps }
     {
         if let Some((step, after)) = ending_turn(finish, state) {
             return self.ask(step, after, Question::Known(Below::Won));
@@ -112,7 +112,7 @@ impl Smaller {
         state: State,
         own: Option<Step>,
     ) -> Result<PlaceSet, AllocError>
-        ensures steps { finish.new.search.steps ≡ finish.old.search.steps }
+        ensures steps { finish.new.steps ≡ finish.old.steps }
     {
         if finish.search.side(state.key.mover) == Side::Attacker {
             return Ok(PlaceSet::empty());
@@ -220,7 +220,7 @@ fn find_living(
     own: Option<Step>,
     best: &mut LivingTurns,
 ) -> PlaceSet
-    ensures steps { finish.new.search.steps ≡ finish.old.search.steps }
+    ensures steps { finish.new.steps ≡ finish.old.steps }
 {
     let mut found = PlaceSet::empty();
     let mut rest = finish.playable(state).places();
@@ -240,7 +240,7 @@ fn find_living(
 
 /// Whether the defender's move at this place is legal and leaves him alive by his shape.
 fn lives_after(finish: &mut Finish, state: State, place: usize) -> bool
-    ensures steps { finish.new.search.steps ≡ finish.old.search.steps }
+    ensures steps { finish.new.steps ≡ finish.old.steps }
 {
     let after = finish.search.after_move_at(state, Side::Defender, place);
     after.position != state.position

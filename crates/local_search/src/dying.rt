@@ -1,8 +1,9 @@
 //! Playing out a state where the defender cannot have two eyes: the attacker fills points, in such a way that the defender still
 //! cannot have them.
 
-ghost use Rattle.std.specs.Prelude.{◌≡◌, ◌+◌, IfOk};
+ghost use Rattle.std.specs.Prelude.{◌≡◌, ◌≤◌, ◌+◌, IfOk};
 ghost use Rattle.local_search.specs.declared.finish.Entered.TheVariants.{Begun};
+ghost use Rattle.state_proofs.specs.Work.{work};
 
 use crate::expanding::step_at;
 use crate::finish::{Due, Entered, Finish, Goal, Needed};
@@ -72,7 +73,8 @@ impl Finish {
     /// the state was wrongly taken for dead, or is not dead with this past.
     pub(crate) fn enter_death(&mut self, state: State) -> Result<Entered, Stop>
         ensures step { IfOk result (λ e. e ≡ Begun
-            → self.new.search.steps.left + 1 ≡ self.old.search.steps.left) }
+            → self.new.steps.left + 1 ≡ self.old.steps.left) }
+        ensures work { work self.new.steps ≤ work self.old.steps }
     {
         if let Some(known) = self.search.proof_here(state.key) {
             if self.is_attackers(known) {
@@ -81,13 +83,13 @@ impl Finish {
             return Ok(Entered::Failed);
         }
         if self.search.side(state.key.mover) == Side::Attacker {
-            self.search.steps.take()?;
+            self.steps.take()?;
             return self.begin_attack(state);
         }
         if state.key.passes == 1 {
             return Ok(Entered::Failed);
         }
-        self.search.steps.take()?;
+        self.steps.take()?;
         let due = self.due.len();
         let is_barred = self.list_turns(state, Goal::Death)?;
         let step = Step::Pass;
@@ -99,7 +101,7 @@ impl Finish {
 
     /// Begins with the attacker's turn: he takes a target, goes to a state that is proved, or fills a point.
     fn begin_attack(&mut self, state: State) -> Result<Entered, Stop>
-        ensures steps { self.new.search.steps ≡ self.old.search.steps }
+        ensures steps { self.new.steps ≡ self.old.steps }
     {
         if self.search.taking_turn(state).is_some() {
             return Ok(Entered::Done(self.search.proof_by_taking(state, true)?));
@@ -117,7 +119,7 @@ impl Finish {
 
     /// Lists the attacker's best turns as due.
     fn list_best_turns(&mut self, state: State) -> Result<(), AllocError>
-        ensures steps { self.new.search.steps ≡ self.old.search.steps }
+        ensures steps { self.new.steps ≡ self.old.steps }
     {
         let best = self.best_turns(state);
         for place in 0..MAX_TRIED {
@@ -132,7 +134,7 @@ impl Finish {
 
     /// Among the attacker's turns after which the defender cannot have two eyes, those that leave least to play.
     fn best_turns(&mut self, state: State) -> BestTurns
-        ensures steps { self.new.search.steps ≡ self.old.search.steps }
+        ensures steps { self.new.steps ≡ self.old.steps }
     {
         let mut best = BestTurns {
             first: None,
@@ -153,7 +155,7 @@ impl Finish {
 
     /// The attacker's move at this place, with what it leaves to play, if the defender cannot have two eyes after it.
     fn turn_of_death(&mut self, state: State, place: usize) -> Option<Turned>
-        ensures steps { self.new.search.steps ≡ self.old.search.steps }
+        ensures steps { self.new.steps ≡ self.old.steps }
     {
         let after = self.search.after_move_at(state, Side::Attacker, place);
         if after.position == state.position || self.search.past.has(after.key.position) {

@@ -4,14 +4,15 @@
 //! where it is made. States that live by their shape, or cannot have two eyes, are played out by a fixed rule; if the rule fails,
 //! the next turn and a short search take its place.
 
-ghost use Rattle.std.specs.Prelude.{◌≡◌, ◌+◌, false, OnOk};
+ghost use Rattle.std.specs.Prelude.{◌≡◌, ◌≤◌, ◌<◌, ◌+◌, false, OnOk};
+ghost use Rattle.state_proofs.specs.Work.{work};
 
 use crate::expanding::step_at;
 use crate::frame::State;
 use crate::search::Search;
 use go_points::Colour;
 use local_board::{Side, Step};
-use state_proofs::{Below, Branch, Form, Proof, Refusal, Settled, Stop, part_from};
+use state_proofs::{Below, Branch, Form, Proof, Refusal, Settled, Steps, Stop, part_from};
 use std::alloc::{AllocError, Global};
 
 /// The greatest number of steps of a search if the rule for playing out has no turn.
@@ -78,6 +79,7 @@ pub(crate) struct Visit {
 #[derive(Drop)]
 pub(crate) struct Finish {
     pub(crate) search: Search,
+    pub(crate) steps: Steps,
     visits: Vec<Visit>,
     pub(crate) due: Vec<Due>,
     made: Vec<Branch>,
@@ -86,9 +88,10 @@ pub(crate) struct Finish {
 }
 
 impl Finish {
-    pub(crate) fn of(alloc: Global, search: Search) -> Finish {
+    pub(crate) fn of(alloc: Global, search: Search, left: u64) -> Finish {
         Finish {
             search,
+            steps: Steps::of(left, 0),
             visits: Vec::new(alloc),
             due: Vec::new(alloc),
             made: Vec::new(alloc),
@@ -98,7 +101,9 @@ impl Finish {
 
     /// Makes what the goal says for the state at the end of the line, and returns the number of its proof. `None` if there is none
     /// by the rules. The line is then as it was.
-    pub(crate) fn make(&mut self, state: State, goal: Goal) -> Result<Option<u32>, Stop> {
+    pub(crate) fn make(&mut self, state: State, goal: Goal) -> Result<Option<u32>, Stop>
+        ensures work { work self.new.steps ≤ work self.old.steps }
+    {
         let turns = self.search.turns;
         let positions = self.search.past.len();
         self.visits.clear();
@@ -110,9 +115,12 @@ impl Finish {
     }
 
     /// The walk, which leaves the line where it ends.
-    fn walk(&mut self, state: State, goal: Goal) -> Result<Option<u32>, Stop> {
+    fn walk(&mut self, state: State, goal: Goal) -> Result<Option<u32>, Stop>
+        ensures work { work self.new.steps ≤ work self.old.steps }
+    {
         let mut entered = self.enter(state, goal)?;
-        for _ in 0..u64::MAX {
+        'rounds: loop {
+            self.steps.begin_round()?;
             let is_first = self.visits.is_empty();
             entered = match entered {
                 Entered::Done(number) if is_first => return Ok(Some(number)),
@@ -122,11 +130,12 @@ impl Finish {
                 Entered::Begun => self.go_on()?,
             };
         }
-        Err(Stop::Refused(Refusal::Fault))
     }
 
     /// Begins with the state at the end of the line.
-    fn enter(&mut self, state: State, goal: Goal) -> Result<Entered, Stop> {
+    fn enter(&mut self, state: State, goal: Goal) -> Result<Entered, Stop>
+        ensures work { work self.new.steps ≤ work self.old.steps }
+    {
         match goal {
             Goal::Won => Ok(Entered::Failed),
             Goal::Known(number) => Ok(Entered::Done(number)),
@@ -137,7 +146,9 @@ impl Finish {
     }
 
     /// Begins with a proof that was found.
-    fn enter_whole(&mut self, state: State, number: u32) -> Result<Entered, Stop> {
+    fn enter_whole(&mut self, state: State, number: u32) -> Result<Entered, Stop>
+        ensures work { work self.new.steps ≤ work self.old.steps }
+    {
         if let Some(known) = self.search.proof_here(state.key) {
             return Ok(Entered::Done(known));
         }
@@ -151,13 +162,18 @@ impl Finish {
         }
     }
 
-    /// Begins with the branches of a proof. A state that was settled by a question is expanded now.
+    /// Begins with the branches of a proof. A state that was settled by a question is expanded now, which is a step. The
+    /// walk of another one's proof uses rounds that are paid for.
     fn enter_branches(&mut self, state: State, proof: Proof) -> Result<Entered, Stop>
         ensures step { OnOk result (proof.is_expanded ≡ false
-            → self.new.search.steps.left + 1 ≡ self.old.search.steps.left) }
+            → self.new.steps.left + 1 ≡ self.old.steps.left) }
+        ensures work { work self.new.steps ≤ work self.old.steps }
+        ensures less { OnOk result (work self.new.steps < work self.old.steps) }
     {
-        if !proof.is_expanded {
-            self.search.steps.take()?;
+        if proof.is_expanded {
+            self.steps.begin_walk()?;
+        } else {
+            self.steps.take()?;
         }
         let due = self.due.len();
         self.list_branches(state, proof)?;
@@ -169,7 +185,7 @@ impl Finish {
 
     /// Lists those branches of the proof that are legal here as due.
     fn list_branches(&mut self, state: State, proof: Proof) -> Result<(), Stop>
-        ensures steps { self.new.search.steps ≡ self.old.search.steps }
+        ensures steps { self.new.steps ≡ self.old.steps }
     {
         for place in 0..self.search.proofs.branches(proof).len() {
             if let Some(branch) = self.search.proofs.branch(proof, place) {
@@ -181,7 +197,7 @@ impl Finish {
 
     /// Lists the branch as due, if it is legal here.
     fn list_branch(&mut self, state: State, branch: Branch) -> Result<(), Stop>
-        ensures steps { self.new.search.steps ≡ self.old.search.steps }
+        ensures steps { self.new.steps ≡ self.old.steps }
     {
         let turn = branch.turn;
         let Some(step) = self.search.shapes.board.step(turn) else {
@@ -211,7 +227,7 @@ impl Finish {
         due: usize,
         is_barred: bool,
     ) -> Result<Entered, Stop>
-        ensures steps { self.new.search.steps ≡ self.old.search.steps }
+        ensures steps { self.new.steps ≡ self.old.steps }
     {
         self.visits.push(Visit {
             state,
@@ -227,7 +243,9 @@ impl Finish {
     }
 
     /// Follows the next turn of the last state, or makes its proof.
-    fn go_on(&mut self) -> Result<Entered, Stop> {
+    fn go_on(&mut self) -> Result<Entered, Stop>
+        ensures work { work self.new.steps ≤ work self.old.steps }
+    {
         let Some(visit) = self.visits.last().copied() else {
             return Err(Stop::Refused(Refusal::Fault));
         };
@@ -241,7 +259,9 @@ impl Finish {
     }
 
     /// Follows a turn of the last state.
-    fn follow(&mut self, visit: Visit, due: Due) -> Result<Entered, Stop> {
+    fn follow(&mut self, visit: Visit, due: Due) -> Result<Entered, Stop>
+        ensures work { work self.new.steps ≤ work self.old.steps }
+    {
         let step = due.step;
         let goal = due.goal;
         match goal {
@@ -262,7 +282,9 @@ impl Finish {
     }
 
     /// Keeps the branch of the last state, and goes on to its next turn if one more is needed.
-    fn keep(&mut self, step: Step, below: Below) -> Result<(), AllocError> {
+    fn keep(&mut self, step: Step, below: Below) -> Result<(), AllocError>
+        ensures steps { self.new.steps ≡ self.old.steps }
+    {
         let turn = self.search.shapes.board.turn(step);
         self.made.push(Branch::of(turn, below))?;
         let end = self.due.len();
@@ -283,7 +305,9 @@ impl Finish {
     }
 
     /// Takes the proof of the state after the turn that was followed.
-    fn take(&mut self, number: u32) -> Result<Entered, Stop> {
+    fn take(&mut self, number: u32) -> Result<Entered, Stop>
+        ensures steps { self.new.steps ≡ self.old.steps }
+    {
         let Some(step) = self.followed() else {
             return Err(Stop::Refused(Refusal::Fault));
         };
@@ -293,7 +317,9 @@ impl Finish {
     }
 
     /// Goes on when the state after the turn that was followed has no proof by the rules.
-    fn fail(&mut self) -> Entered {
+    fn fail(&mut self) -> Entered
+        ensures steps { self.new.steps ≡ self.old.steps }
+    {
         let Some(step) = self.followed() else {
             return Entered::Failed;
         };
@@ -308,7 +334,9 @@ impl Finish {
     }
 
     /// Removes the last state.
-    fn drop_last(&mut self) {
+    fn drop_last(&mut self)
+        ensures steps { self.new.steps ≡ self.old.steps }
+    {
         if let Some(visit) = self.visits.pop() {
             self.due.truncate(visit.due);
             self.made.truncate(visit.made);
@@ -316,7 +344,9 @@ impl Finish {
     }
 
     /// Makes the proof of the last state by the branches that were kept.
-    fn leave(&mut self, visit: Visit) -> Result<Entered, Stop> {
+    fn leave(&mut self, visit: Visit) -> Result<Entered, Stop>
+        ensures steps { self.new.steps ≡ self.old.steps }
+    {
         self.search.barred.clear();
         if visit.form == Form::Replies && visit.is_barred {
             self.search.list_barred(visit.state)?;
@@ -343,7 +373,9 @@ impl Finish {
         }
     }
 
-    fn add(&mut self, visit: Visit, reached: Option<u64>) -> Result<u32, AllocError> {
+    fn add(&mut self, visit: Visit, reached: Option<u64>) -> Result<u32, AllocError>
+        ensures steps { self.new.steps ≡ self.old.steps }
+    {
         let settled = Settled::expanded(visit.state.key, visit.winner, visit.form);
         let made = part_from(self.made.as_slice(), visit.made);
         let barred = self.search.barred.as_slice();
@@ -351,12 +383,14 @@ impl Finish {
     }
 
     /// Searches the last state for a few steps, when the rule has no turn, and makes the attacker's proof that is found.
-    fn ask_for_help(&mut self, visit: Visit) -> Result<Entered, Stop> {
+    fn ask_for_help(&mut self, visit: Visit) -> Result<Entered, Stop>
+        ensures work { work self.new.steps ≤ work self.old.steps }
+    {
         self.drop_last();
         let first = self.search.proofs.len();
-        let floor = self.search.steps.begin(MAX_HELP);
-        let found = self.search.settle(visit.state, Step::Pass);
-        self.search.steps.end(floor);
+        let floor = self.steps.begin(MAX_HELP);
+        let found = self.search.settle(visit.state, Step::Pass, &mut self.steps);
+        self.steps.end(floor);
         self.search.proofs.hide_from(first)?;
         self.helped.push((first, self.search.proofs.len()))?;
         match found {
@@ -367,7 +401,7 @@ impl Finish {
                     Ok(Entered::Failed)
                 }
             }
-            Err(Stop::Steps) if !self.search.steps.are_made() => Ok(Entered::Failed),
+            Err(Stop::Steps) if !self.steps.are_made() => Ok(Entered::Failed),
             Err(Stop::Refused(Refusal::Limit)) => Ok(Entered::Failed),
             Err(stop) => Err(stop),
         }

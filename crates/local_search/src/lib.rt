@@ -18,7 +18,6 @@ mod results;
 mod search;
 mod settled;
 mod smaller;
-mod steps;
 mod values;
 
 pub use order::prove;

@@ -1,7 +1,8 @@
 //! Playing out a state where the defender lives by his shape: he takes away the attacker's room, then passes.
 
-ghost use Rattle.std.specs.Prelude.{◌≡◌, ◌+◌, true, IfOk};
+ghost use Rattle.std.specs.Prelude.{◌≡◌, ◌≤◌, ◌+◌, true, IfOk};
 ghost use Rattle.local_search.specs.declared.finish.Entered.TheVariants.{Begun};
+ghost use Rattle.state_proofs.specs.Work.{work};
 
 use crate::expanding::step_at;
 use crate::finish::{Due, Entered, Finish, Goal, Needed};
@@ -16,9 +17,10 @@ impl Finish {
     /// Begins with a state where the defender lives. Each such state is a step, if it has no proof yet and is no leaf.
     pub(crate) fn enter_life(&mut self, state: State) -> Result<Entered, Stop>
         ensures step { IfOk result (λ e. e ≡ Begun
-            → self.new.search.steps.left + 1 ≡ self.old.search.steps.left) }
+            → self.new.steps.left + 1 ≡ self.old.steps.left) }
         ensures leaf { self.old.search.has_leaves ≡ true
-            → self.new.search.steps ≡ self.old.search.steps }
+            → self.new.steps ≡ self.old.steps }
+        ensures work { work self.new.steps ≤ work self.old.steps }
     {
         if let Some(known) = self.search.proof_here(state.key) {
             return Ok(Entered::Done(known));
@@ -26,7 +28,7 @@ impl Finish {
         if self.search.has_leaves {
             return Ok(Entered::Done(self.search.proof_by_shape(state, Side::Defender)?));
         }
-        self.search.steps.take()?;
+        self.steps.take()?;
         if self.search.side(state.key.mover) == Side::Attacker {
             return self.begin_attack_on_life(state);
         }
@@ -42,7 +44,7 @@ impl Finish {
 
     /// Begins with the defender's turn.
     fn begin_life(&mut self, state: State) -> Result<Entered, Stop>
-        ensures steps { self.new.search.steps ≡ self.old.search.steps }
+        ensures steps { self.new.steps ≡ self.old.steps }
     {
         let due = self.due.len();
         let winner = self.defender();
@@ -65,7 +67,7 @@ impl Finish {
     /// The defender's turn after which he lives and least is left to play. It is his pass if he lives after that and it leaves no
     /// more.
     fn living_turn(&mut self, state: State, lives: bool) -> Turned
-        ensures steps { self.new.search.steps ≡ self.old.search.steps }
+        ensures steps { self.new.steps ≡ self.old.steps }
     {
         let mut best = Turned::worst();
         if lives {
@@ -89,7 +91,7 @@ impl Finish {
 
     /// The defender's move at this place, with what it leaves to play, if he lives after it.
     fn turn_of_life(&mut self, state: State, place: usize, most: u64) -> Option<Turned>
-        ensures steps { self.new.search.steps ≡ self.old.search.steps }
+        ensures steps { self.new.steps ≡ self.old.steps }
     {
         let after = self.search.after_move_at(state, Side::Defender, place);
         if after.position == state.position || self.search.past.has(after.key.position) {
@@ -108,7 +110,7 @@ impl Finish {
 
     /// Begins with all turns of the attacker.
     fn begin_attack_on_life(&mut self, state: State) -> Result<Entered, Stop>
-        ensures steps { self.new.search.steps ≡ self.old.search.steps }
+        ensures steps { self.new.steps ≡ self.old.steps }
     {
         let due = self.due.len();
         let is_barred = self.list_turns(state, Goal::Life)?;
@@ -126,7 +128,7 @@ impl Finish {
     /// Lists all moves of the mover as due with this goal, or as ends of the game if they take a target. Returns whether the past
     /// bars one.
     pub(crate) fn list_turns(&mut self, state: State, goal: Goal) -> Result<bool, AllocError>
-        ensures steps { self.new.search.steps ≡ self.old.search.steps }
+        ensures steps { self.new.steps ≡ self.old.steps }
     {
         let side = self.search.side(state.key.mover);
         let mut is_barred = false;
@@ -148,7 +150,7 @@ impl Finish {
     }
 
     fn list_turn(&mut self, place: usize, after: State, goal: Goal) -> Result<(), AllocError>
-        ensures steps { self.new.search.steps ≡ self.old.search.steps }
+        ensures steps { self.new.steps ≡ self.old.steps }
     {
         let step = step_at(place);
         let goal = if self.search.shapes.board.is_taken(after.position) {

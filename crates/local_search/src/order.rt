@@ -34,16 +34,16 @@ pub fn prove(
     ensures fewer { left.new ≤ left.old }
     ensures all { IfErr result (λ stop. stop ≡ Steps → left.new ≡ 0) }
 {
-    let Ok((search, start)) = Search::of(alloc, problem, table, *left) else {
+    let Ok((search, start)) = Search::of(alloc, problem, table) else {
         return Err(Stop::Refused(Refusal::Memory));
     };
     let mut proving = Proving {
-        finish: Finish::of(alloc, search),
+        finish: Finish::of(alloc, search, *left),
         start,
         whole: Vec::new(alloc),
     };
     let found = proving.prove(alloc, answers);
-    let rest = proving.finish.search.steps.left;
+    let rest = proving.finish.steps.left;
     *left = rest.min(*left);
     match found {
         Ok(shared) => Ok(shared),
@@ -71,12 +71,12 @@ impl Proving {
     /// The proofs that are found.
     fn prove(&mut self, alloc: Global, answers: Answers) -> Result<Shared, Stop> {
         self.finish.search.has_leaves = answers == Answers::Short;
-        let before = self.finish.search.steps.left;
+        let before = self.finish.steps.left;
         let first = self.first(alloc)?;
         let best = match answers {
             Answers::First | Answers::Short => first,
             Answers::Small => {
-                let used = before.saturating_sub(self.finish.search.steps.left);
+                let used = before.saturating_sub(self.finish.steps.left);
                 self.small(alloc, first, used)?
             }
         };
@@ -130,7 +130,7 @@ impl Proving {
         if search.has_leaves && search.shapes.is_alive(start.position) {
             return Ok(search.proof_by_shape(start, Side::Defender)?);
         }
-        search.settle(start, Step::Pass)
+        search.settle(start, Step::Pass, &mut self.finish.steps)
     }
 
     /// A small answer, with some more steps than the first answer took. If that one is too large for a claim, it stays as it is: its
@@ -139,9 +139,9 @@ impl Proving {
         if self.finish.search.proofs.is_too_large(alloc, first)? {
             return Ok(first);
         }
-        let floor = self.finish.search.steps.begin(steps_for_smaller(used));
+        let floor = self.finish.steps.begin(steps_for_smaller(used));
         let best = self.smaller(alloc, first);
-        self.finish.search.steps.end(floor);
+        self.finish.steps.end(floor);
         Ok(best)
     }
 
@@ -167,14 +167,14 @@ impl Proving {
 
     /// The smaller of this proof and the one that a search with this little room finds with a third of the steps that may be made.
     fn with_room(&mut self, alloc: Global, room: u32, best: u32) -> u32 {
-        let third = self.finish.search.steps.rest() / 3;
-        let floor = self.finish.search.steps.begin(third);
+        let third = self.finish.steps.rest() / 3;
+        let floor = self.finish.steps.begin(third);
         self.finish.search.asks_death = room != 0;
         self.finish.search.room = room;
         self.finish.search.forget();
         let found = self.find(alloc);
         self.finish.search.room = 0;
-        self.finish.search.steps.end(floor);
+        self.finish.steps.end(floor);
         match found {
             Ok(Some(number)) if self.turns_of(number) < self.turns_of(best) => number,
             _ => best,
@@ -185,9 +185,9 @@ impl Proving {
     fn shrunk(&mut self, alloc: Global, root: u32) -> Result<u32, Stop> {
         self.finish.search.forget();
         self.show_whole()?;
-        let floor = self.finish.search.steps.keep(LAST_STEPS);
+        let floor = self.finish.steps.keep(LAST_STEPS);
         let root = Smaller::of(alloc).shrink(&mut self.finish, self.start, root);
-        self.finish.search.steps.end(floor);
+        self.finish.steps.end(floor);
         self.finish.search.proofs.hide_all();
         match self.finish.make(self.start, Goal::Whole(root))? {
             Some(number) => Ok(number),

@@ -2,22 +2,24 @@
 //!
 //! The line of play that is searched is a stack of frames, with the children of all of them in one list. The work goes down to the
 //! child with the least weighed number for the mover, and comes back when the child is settled or its numbers reach their
-//! thresholds. The moves of a state that was expanded are kept, so it need not be expanded again when the work comes back to it. A
-//! settled state becomes a proof, which is used again wherever its conditions on the past hold.
+//! thresholds. The moves of a state that was expanded are kept, so it need not be expanded again when the work comes back to it; it
+//! is opened again, which counts too. A settled state becomes a proof, which is used again wherever its conditions on the past hold.
 //!
 //! Nothing is promised about the numbers: what is found is given to the checker.
+
+ghost use Rattle.std.specs.Prelude.{◌≤◌};
+ghost use Rattle.state_proofs.specs.Work.{work};
 
 use crate::frame::{Child, Frame, Outcome, Reason, State, after_step, outcome_by, standing_of};
 use crate::kept::KeptMoves;
 use crate::numbers::{numbers_of, thresholds_below};
 use crate::results::TurnResults;
-use crate::steps::Steps;
 use go_points::Colour;
 use local_board::{Board, Position, Shapes, Side, Step};
 use pn_table::{Key, Numbers, Table};
 use state_proofs::{
-    Branch, Count, Form, MAX_LINE, Marks, MoverNumbers, Past, Proofs, Refusal, Standing, Stop,
-    Thresholds, part_from,
+    Branch, Count, Form, MAX_LINE, Marks, MoverNumbers, Past, Proofs, Refusal, Standing, Steps,
+    Stop, Thresholds, part_from,
 };
 use std::alloc::{AllocError, Global};
 use std::num::NonZeroUsize;
@@ -37,7 +39,6 @@ pub(crate) struct Search {
     pub(crate) past: Past,
     pub(crate) turns: usize,
     pub(crate) attacker: Colour,
-    pub(crate) steps: Steps,
     /// Whether to ask who lives, and who cannot have two eyes, by shape; and how little must be left to play for a group to be
     /// taken to live (0 for any amount).
     pub(crate) asks_life: bool,
@@ -64,7 +65,6 @@ impl Search {
         alloc: Global,
         problem: &Problem,
         capacity: NonZeroUsize,
-        left: u64,
     ) -> Result<(Search, State), AllocError> {
         let (board, position) = Board::of(alloc, problem)?;
         let places = board.len();
@@ -76,7 +76,6 @@ impl Search {
             past: Past::of(alloc, problem)?,
             turns: 0,
             attacker: problem.defender().opponent(),
-            steps: Steps { left, floor: 0 },
             asks_life: true,
             asks_death: true,
             room: 0,
@@ -185,25 +184,34 @@ impl Search {
     }
 
     /// Searches the state at the end of the line, to which this turn has led, until it is settled. The line is then as it was.
-    pub(crate) fn settle(&mut self, state: State, last: Step) -> Result<u32, Stop> {
+    pub(crate) fn settle(
+        &mut self,
+        state: State,
+        last: Step,
+        steps: &mut Steps,
+    ) -> Result<u32, Stop>
+        ensures work { work steps.new ≤ work steps.old }
+    {
         let turns = self.turns;
         let positions = self.past.len();
         self.frames.clear();
         self.children.clear();
-        let settled = self.search(state, last);
+        let settled = self.search(state, last, steps);
         self.back_to(turns, positions);
         settled
     }
 
     /// The search, which leaves the line where it ends.
-    fn search(&mut self, state: State, last: Step) -> Result<u32, Stop> {
-        self.expand(state, last, Thresholds::none())?;
-        for _ in 0..u64::MAX {
-            if let Some(number) = self.round()? {
+    fn search(&mut self, state: State, last: Step, steps: &mut Steps) -> Result<u32, Stop>
+        ensures work { work steps.new ≤ work steps.old }
+    {
+        self.expand(state, last, Thresholds::none(), steps)?;
+        'rounds: loop {
+            steps.begin_round()?;
+            if let Some(number) = self.round(steps)? {
                 return Ok(number);
             }
         }
-        Err(Stop::Refused(Refusal::Fault))
     }
 
     /// The children of the frame, which is the last.
@@ -212,7 +220,9 @@ impl Search {
     }
 
     /// Settles the last frame, leaves it, or goes down from it. Returns the proof of the first state if that is settled.
-    fn round(&mut self) -> Result<Option<u32>, Stop> {
+    fn round(&mut self, steps: &mut Steps) -> Result<Option<u32>, Stop>
+        ensures work { work steps.new ≤ work steps.old }
+    {
         let Some(frame) = self.frames.last().copied() else {
             return Err(Stop::Refused(Refusal::Fault));
         };
@@ -225,7 +235,7 @@ impl Search {
                     self.leave_open(frame, numbers);
                     return Ok(None);
                 }
-                self.go_down(frame, count)?;
+                self.go_down(frame, count, steps)?;
                 Ok(None)
             }
         }
@@ -295,7 +305,9 @@ impl Search {
     }
 
     /// Goes down to the child with the least weighed number, or settles it if it has been proved in the meantime.
-    fn go_down(&mut self, frame: Frame, count: Count) -> Result<(), Stop> {
+    fn go_down(&mut self, frame: Frame, count: Count, steps: &mut Steps) -> Result<(), Stop>
+        ensures work { work steps.new ≤ work steps.old }
+    {
         let place = frame.first.saturating_add(count.best);
         let Some(child) = self.children.get(place).copied() else {
             return Err(Stop::Refused(Refusal::Fault));
@@ -316,7 +328,7 @@ impl Search {
         let below = self.after(frame.state, step);
         self.go(step, child.key.position)?;
         let thresholds = thresholds_below(frame.thresholds, count, numbers, child.weight);
-        self.expand(below, step, thresholds)
+        self.expand(below, step, thresholds, steps)
     }
 }
 

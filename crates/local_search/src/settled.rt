@@ -1,7 +1,5 @@
 //! The proof of a state that is settled, from its children.
 
-ghost use Rattle.std.specs.Prelude.{◌≡◌};
-
 use crate::expanding::step_at;
 use crate::frame::{Child, Frame, Outcome, Reason, State};
 use crate::search::Search;
@@ -128,9 +126,7 @@ impl Search {
         &mut self,
         state: State,
         is_expanded: bool,
-    ) -> Result<u32, Refusal>
-        ensures steps { self.new.steps ≡ self.old.steps }
-    {
+    ) -> Result<u32, Refusal> {
         let settled = Settled {
             key: state.key,
             winner: self.attacker,
@@ -174,9 +170,7 @@ impl Search {
 
     /// The proof of a state that the side has won by shape. It is a leaf if the defender has won and living states are leaves;
     /// otherwise it still has to be played out.
-    pub(crate) fn proof_by_shape(&mut self, state: State, winner: Side) -> Result<u32, AllocError>
-        ensures steps { self.new.steps ≡ self.old.steps }
-    {
+    pub(crate) fn proof_by_shape(&mut self, state: State, winner: Side) -> Result<u32, AllocError> {
         let empty = self.shapes.board.empty(state.position);
         let playable = empty.and(self.shapes.board.region()).len();
         let form = match winner {

@@ -4,7 +4,8 @@
 //! was made elsewhere and holds here; for the winner's turn, another turn that a short search shows to win as well, or one after
 //! which the defender lives and which is played out.
 
-ghost use Rattle.std.specs.Prelude.{◌≡◌, ◌+◌, OnOk};
+ghost use Rattle.std.specs.Prelude.{◌≡◌, ◌≤◌, ◌<◌, ◌+◌, OnOk};
+ghost use Rattle.state_proofs.specs.Work.{work};
 
 use crate::asked::{Asked, Question};
 use crate::finish::{Finish, Goal};
@@ -35,9 +36,11 @@ impl Smaller {
 
     /// A smaller proof of the first state than this one. It makes rounds until one gains less than a hundredth or no step is left.
     /// If memory is refused, the last proof stays.
-    pub(crate) fn shrink(&mut self, finish: &mut Finish, start: State, root: u32) -> u32 {
+    pub(crate) fn shrink(&mut self, finish: &mut Finish, start: State, root: u32) -> u32
+        ensures work { work finish.new.steps ≤ work finish.old.steps }
+    {
         let mut root = root;
-        for _ in 0..u64::MAX {
+        'rounds: while finish.steps.begin_round().is_ok() {
             let before = finish.search.proofs.turns_of(root);
             let turns = finish.search.turns;
             let positions = finish.search.past.len();
@@ -50,7 +53,7 @@ impl Smaller {
             if after <= before {
                 root = next;
             }
-            if finish.search.steps.are_made() || after >= before - before / 100 {
+            if finish.steps.are_made() || after >= before - before / 100 {
                 return root;
             }
         }
@@ -58,12 +61,15 @@ impl Smaller {
     }
 
     /// One round from the first state. Returns its proof after the round.
-    fn round(&mut self, finish: &mut Finish, start: State, root: u32) -> Result<u32, Stop> {
+    fn round(&mut self, finish: &mut Finish, start: State, root: u32) -> Result<u32, Stop>
+        ensures work { work finish.new.steps ≤ work finish.old.steps }
+    {
         self.visits.clear();
         self.states.clear();
         self.asked.clear();
         let mut done = self.enter(finish, start, root)?;
-        for _ in 0..u64::MAX {
+        'rounds: loop {
+            finish.steps.begin_round()?;
             if let Some(number) = done {
                 if self.visits.is_empty() {
                     return Ok(number);
@@ -72,12 +78,13 @@ impl Smaller {
             }
             done = self.go_on(finish)?;
         }
-        Err(Stop::Refused(Refusal::Fault))
     }
 
     /// Asks the next question of the last state, or makes its proof. Returns the proof of the state at the end of the line once
     /// there is one.
-    fn go_on(&mut self, finish: &mut Finish) -> Result<Option<u32>, Stop> {
+    fn go_on(&mut self, finish: &mut Finish) -> Result<Option<u32>, Stop>
+        ensures work { work finish.new.steps ≤ work finish.old.steps }
+    {
         let Some(visit) = self.visits.last() else {
             return Err(Stop::Refused(Refusal::Fault));
         };
@@ -101,16 +108,13 @@ impl Smaller {
     }
 
     /// Begins with the proof of the state at the end of the line, or returns the proof that can replace it at once.
-    fn enter(
-        &mut self,
-        finish: &mut Finish,
-        state: State,
-        number: u32,
-    ) -> Result<Option<u32>, Stop> {
+    fn enter(&mut self, finish: &mut Finish, state: State, number: u32) -> Result<Option<u32>, Stop>
+        ensures work { work finish.new.steps ≤ work finish.old.steps }
+    {
         let Some(proof) = finish.search.proofs.get(number) else {
             return Err(Stop::Refused(Refusal::Fault));
         };
-        if finish.search.steps.are_made() {
+        if finish.steps.are_made() {
             return Ok(Some(number));
         }
         let past = &finish.search.past;
@@ -130,9 +134,11 @@ impl Smaller {
         proof: Proof,
     ) -> Result<(), Stop>
         ensures step { OnOk result
-            (finish.new.search.steps.left + 1 ≡ finish.old.search.steps.left) }
+            (finish.new.steps.left + 1 ≡ finish.old.steps.left) }
+        ensures work { work finish.new.steps ≤ work finish.old.steps }
+        ensures less { OnOk result (work finish.new.steps < work finish.old.steps) }
     {
-        finish.search.steps.take()?;
+        finish.steps.take()?;
         let first = self.asked.len();
         self.list_questions(finish, state, proof)?;
         self.visits.enter(number, proof, first)?;
@@ -147,7 +153,7 @@ impl Smaller {
         state: State,
         proof: Proof,
     ) -> Result<(), AllocError>
-        ensures steps { finish.new.search.steps ≡ finish.old.search.steps }
+        ensures steps { finish.new.steps ≡ finish.old.steps }
     {
         match proof.form {
             Form::Turn => self.list_turns(finish, state, proof),
@@ -156,7 +162,9 @@ impl Smaller {
     }
 
     /// Asks whether the winner wins by another turn than the proof's own, which has this many turns.
-    fn ask_another(&mut self, finish: &mut Finish, turns: u64, asked: Asked) -> Result<(), Stop> {
+    fn ask_another(&mut self, finish: &mut Finish, turns: u64, asked: Asked) -> Result<(), Stop>
+        ensures work { work finish.new.steps ≤ work finish.old.steps }
+    {
         if let Some(number) = self.found_after(finish, turns, asked)? {
             if self.visits.wins_by(&finish.search.proofs, number) {
                 return self.take(finish, asked, Below::Proof(number));
@@ -172,11 +180,13 @@ impl Smaller {
         finish: &mut Finish,
         turns: u64,
         asked: Asked,
-    ) -> Result<Option<u32>, Stop> {
+    ) -> Result<Option<u32>, Stop>
+        ensures work { work finish.new.steps ≤ work finish.old.steps }
+    {
         if let Some(found) = finish.search.proof_after(asked.after.key) {
             return Ok(Some(found));
         }
-        if turns <= MAX_TRIED || finish.search.steps.are_made() {
+        if turns <= MAX_TRIED || finish.steps.are_made() {
             return Ok(None);
         }
         let step = asked.step;
@@ -190,7 +200,9 @@ impl Smaller {
     }
 
     /// Takes the proof of the state after the turn that the question was about, or a smaller one that was made elsewhere.
-    fn take_smallest(&mut self, finish: &mut Finish, number: u32) -> Result<(), Stop> {
+    fn take_smallest(&mut self, finish: &mut Finish, number: u32) -> Result<(), Stop>
+        ensures steps { finish.new.steps ≡ finish.old.steps }
+    {
         let Some(visit) = self.visits.last() else {
             return Err(Stop::Refused(Refusal::Fault));
         };
@@ -213,7 +225,9 @@ impl Smaller {
     }
 
     /// Removes the last state, all of whose questions are answered, and returns its proof.
-    fn leave(&mut self, finish: &mut Finish, visit: Visit) -> Result<u32, Refusal> {
+    fn leave(&mut self, finish: &mut Finish, visit: Visit) -> Result<u32, Refusal>
+        ensures steps { finish.new.steps ≡ finish.old.steps }
+    {
         let Some(state) = self.states.pop() else {
             return Err(Refusal::Fault);
         };
@@ -228,15 +242,19 @@ impl Smaller {
 }
 
 /// Searches the state at the end of the line for a few steps, or plays it out if the defender lives there.
-fn try_turn(finish: &mut Finish, turns: u64, asked: Asked) -> Result<Option<u32>, Stop> {
+fn try_turn(finish: &mut Finish, turns: u64, asked: Asked) -> Result<Option<u32>, Stop>
+    ensures work { work finish.new.steps ≤ work finish.old.steps }
+{
     if asked.question == Question::Lives {
-        let floor = finish.search.steps.begin(turns.min(MAX_PLAYED));
+        let floor = finish.steps.begin(turns.min(MAX_PLAYED));
         let made = finish.make(asked.after, Goal::Life);
-        finish.search.steps.end(floor);
+        finish.steps.end(floor);
         return made;
     }
-    let floor = finish.search.steps.begin(turns.min(MAX_TRIED));
-    let found = finish.search.settle(asked.after, asked.step);
-    finish.search.steps.end(floor);
+    let floor = finish.steps.begin(turns.min(MAX_TRIED));
+    let found = finish
+        .search
+        .settle(asked.after, asked.step, &mut finish.steps);
+    finish.steps.end(floor);
     Ok(Some(found?))
 }

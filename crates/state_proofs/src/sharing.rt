@@ -9,8 +9,12 @@ use crate::proof::{Below, Branch, Form, Proof, Settled};
 use crate::proofs::{Proofs, part_from};
 use crate::refusal::Refusal;
 use crate::shared::Shared;
+use crate::used::MAX_STATES;
 use go_points::Turn;
 use std::alloc::{AllocError, Global};
+
+/// The greatest number of rounds for a state: one for each turn, of which there are at most 626 on 25 rows, and one for its proof.
+const ROUNDS_OF_STATE: usize = 627;
 
 /// A state of the line whose new proof is made.
 #[derive(Clone, Copy)]
@@ -52,11 +56,14 @@ struct Sharing {
     made: Vec<Branch>,
     barred: Vec<u64>,
     moves: Vec<Move>,
+    /// The greatest number of proofs that are made: no claim is made of more than `MAX_STATES`, nor are more needed for a tree.
+    most: usize,
 }
 
 impl Sharing {
     /// A walk over what was found, at the start of the problem.
     fn of(alloc: Global, line: Line, found: Proofs) -> Sharing {
+        let most = found.len().max(MAX_STATES).saturating_add(1);
         Sharing {
             line,
             found,
@@ -66,13 +73,14 @@ impl Sharing {
             made: Vec::new(alloc),
             barred: Vec::new(alloc),
             moves: Vec::new(alloc),
+            most,
         }
     }
 
     /// Shares the found proof of the state at the end of the line, and returns the number of its new proof.
     fn share(&mut self, root: u32) -> Result<u32, Refusal> {
         self.enter(root)?;
-        for _ in 0..u64::MAX {
+        for _ in 0..self.most.saturating_mul(ROUNDS_OF_STATE) {
             if let Some(number) = self.go_on()? {
                 return Ok(number);
             }
@@ -105,6 +113,10 @@ impl Sharing {
         let Some(proof) = self.found.get(number) else {
             return Err(Refusal::Fault);
         };
+        // Each state of the line becomes a proof.
+        if self.shared.len().saturating_add(self.visits.len()) >= self.most {
+            return Err(Refusal::Limit);
+        }
         self.line.list_moves(&mut self.moves)?;
         let visit = Visit {
             settled: Settled::expanded(self.line.end(), proof.winner, proof.form),

@@ -2,4 +2,4 @@ use Rattle.std.proofs.Common.{◌≡◌}
 use Rattle.local_search.proofs.finish.Finish.best_turns.Given as goal
 
 abbrev pub invariant-loop : goal.invariant-loop
-invariant-loop l = l.self.search.steps ≡ l.fn.self.search.steps
+invariant-loop l = l.self.steps ≡ l.fn.self.steps

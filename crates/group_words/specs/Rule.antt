@@ -1,5 +1,5 @@
 -- What two procedures say together, and what both first moves say about a group (this project's own).
-use Rattle.std.specs.Prelude.{◌≡◌, Bool, false, not, ◌&&◌, ◌||◌, nat_lt, nat_eq, if◌then◌else◌, List, [], ◌∷◌, Option, Some, None, IsTrue}
+use Rattle.std.specs.Prelude.{◌≡◌, ℕ, codes, Bool, false, not, ◌&&◌, ◌||◌, nat_lt, nat_eq, if◌then◌else◌, List, [], ◌∷◌, Option, Some, None, IsTrue}
 use Rattle.group_words.specs.declared.side.Side.{Side}
 use Rattle.group_words.specs.declared.side.Side.TheVariants.{Attacker, Defender}
 use Rattle.group_words.specs.declared.side.Word.{Word}
@@ -66,6 +66,13 @@ first_fate (w ∷ ws) a d = elim (fate_at w a d) [ None ↦ first_fate ws a d | 
 
 abbrev pub fate_of : Finding → Finding → Fate × Word
 fate_of a d = first_fate (Sure ∷ Likely ∷ Hint ∷ Leaning ∷ []) a d
+
+-- What is written of it.
+abbrev pub fate_text : Fate → List ℕ
+fate_text fates.Alive = codes "alive"
+fate_text fates.Dead = codes "dead"
+fate_text fates.Unsettled = codes "unsettled"
+fate_text fates.Unknown = codes "unknown"
 
 -- What is judged, by both findings. The second is `None` if the first alone decides: the defender surely wins though the attacker
 -- moves first, so the group is alive, since it may pass if it moves first.

@@ -1,5 +1,5 @@
 -- The sides of a question, and the words for how far a finding is to be trusted (this project's own).
-use Rattle.std.specs.Prelude.{ℕ, Bool, true, false, ◌&&◌, nat_le, Option, Some, None}
+use Rattle.std.specs.Prelude.{ℕ, Bool, true, false, ◌&&◌, nat_le, List, codes, Option, Some, None}
 use Rattle.go_points.specs.declared.Colour.{Colour}
 use Rattle.go_points.specs.Grid.{opponent_of}
 use Rattle.group_words.specs.declared.side.Side.{Side}
@@ -30,6 +30,19 @@ rank Likely = 1
 rank Hint = 2
 rank Leaning = 3
 rank Unknown = 4
+
+abbrev pub word_text : Word → List ℕ
+word_text Sure = codes "sure"
+word_text Likely = codes "likely"
+word_text Hint = codes "hint"
+word_text Leaning = codes "leaning"
+word_text Unknown = codes "unknown"
+
+-- what happens to the target if this side wins
+abbrev pub end_text : Option Side → List ℕ
+end_text (Some Attacker) = codes "dies"
+end_text (Some Defender) = codes "lives"
+end_text None = codes "unknown"
 
 -- Does a finding say that this side wins, at least as surely as the word says?
 abbrev pub says : Finding → Side → Word → Bool

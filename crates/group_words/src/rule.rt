@@ -1,7 +1,7 @@
 //! The rule: what the findings of both procedures say together, and what those for both first moves say about the group.
 
 ghost use Rattle.std.specs.Prelude.{◌≡◌, Some};
-ghost use Rattle.group_words.specs.Rule.{both_words, word_together, are_split, winner_together, together, weakened, fate_at, fate_of, IsByRule};
+ghost use Rattle.group_words.specs.Rule.{both_words, word_together, are_split, winner_together, together, weakened, fate_at, fate_of, fate_text, IsByRule};
 
 use crate::side::{Finding, Side, Word, is_won_by};
 
@@ -19,7 +19,9 @@ pub enum Fate {
 
 impl Fate {
     /// The word as it is written.
-    pub fn name(self) -> &'static str {
+    pub fn name(self) -> &'static str
+        ensures { result.now ≡ fate_text self }
+    {
         match self {
             Fate::Alive => "alive",
             Fate::Dead => "dead",

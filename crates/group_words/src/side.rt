@@ -1,7 +1,7 @@
 //! The two sides of a question, and how far an answer is to be trusted.
 
 ghost use Rattle.std.specs.Prelude.{◌≡◌};
-ghost use Rattle.group_words.specs.Sides.{colour_of, same_side, is_won_by, rank, says, nothing, finding_of};
+ghost use Rattle.group_words.specs.Sides.{colour_of, same_side, is_won_by, rank, says, nothing, finding_of, word_text};
 ghost use Rattle.group_words.specs.declared.side.Word.TheVariants.{Sure};
 
 use go_points::Colour;
@@ -84,7 +84,9 @@ impl Word {
     }
 
     /// The word as it is written.
-    pub fn name(self) -> &'static str {
+    pub fn name(self) -> &'static str
+        ensures { result.now ≡ word_text self }
+    {
         match self {
             Word::Sure => "sure",
             Word::Likely => "likely",

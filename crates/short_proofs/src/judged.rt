@@ -1,5 +1,15 @@
 //! What is said of a short claim that comes after a record.
 
+ghost use Rattle.std.specs.Prelude.{◌≡◌, ◌≢◌, IfOk};
+ghost use Rattle.cert_check.specs.declared.reject.Why.TheVariants.{Memory as MemoryRefused, Read as NotRead};
+ghost use Rattle.target_game.specs.State.{start};
+ghost use Rattle.target_game.specs.Wins.{Wins};
+ghost use Rattle.tool_parts.specs.Written.{bytes_of, end_of};
+ghost use Rattle.tool_parts.specs.declared.status.Status.TheVariants.{Answered};
+ghost use Rattle.tsumego_replies.specs.Texts.{wins_text};
+ghost use Rattle.short_proofs.specs.Says.{IsRejection, Says};
+ghost use Rattle.short_proofs.specs.declared.words.Request.TheVariants.{Check};
+
 use cert_check::{Reject, Why, check_short};
 use go_points::{Colour, Size};
 use proof_cert::ReaderSource;
@@ -16,7 +26,9 @@ pub(crate) fn judged<R: Read>(
     problem: &Problem,
     behind: &[u8],
     reader: &mut R,
-) -> Result<Output, AllocError> {
+) -> Result<Output, AllocError>
+    ensures { IfOk result (Says Check problem.now) }
+{
     let claim = skip_white(behind);
     let white = behind.len() - claim.len();
     if white > MAX_WHITE {
@@ -42,7 +54,9 @@ fn judged_lines<R: Read>(
     problem: &Problem,
     front: &[u8],
     reader: &mut R,
-) -> Result<Output, AllocError> {
+) -> Result<Output, AllocError>
+    ensures { IfOk result (Says Check problem.now) }
+{
     let size = problem.size();
     let mut source = ReaderSource::of_short(size, front, reader);
     match check_short(alloc, problem, &mut source) {
@@ -51,26 +65,51 @@ fn judged_lines<R: Read>(
     }
 }
 
-fn accepted(alloc: Global, winner: Colour) -> Result<Output, AllocError> {
+fn accepted(alloc: Global, winner: Colour) -> Result<Output, AllocError>
+    ensures text { IfOk result (λ o. bytes_of o ≡ wins_text winner) }
+    ensures status { IfOk result (λ o. end_of o ≡ Answered) }
+{
     Ok(Output::Text(wins_text(winner).to_string(alloc)?, Status::Answered))
 }
 
-/// Why the claim is rejected; or why it was not judged. A line `alive` that is refused has a fault of its own, since it names no
-/// lemma.
+/// Why the claim is rejected; or why it was not judged.
 fn rejected(
     alloc: Global,
     size: Size,
     reject: &Reject,
     is_alive: bool,
-) -> Result<Output, AllocError> {
-    let place = reject.place;
-    let text = match reject.why {
-        Why::Memory => return Err(AllocError),
-        Why::Read => return without_input(alloc),
-        Why::LemmaNotLower if is_alive => {
-            format!(in alloc; "rejected line {place}: C20 not alive by shape\n")?
-        }
-        _ => reject_text(alloc, size, reject)?,
-    };
+) -> Result<Output, AllocError>
+    ensures { IfOk result IsRejection }
+{
+    match reject.why {
+        Why::Memory => Err(AllocError),
+        Why::Read => without_input(alloc),
+        _ => rejected_line(alloc, size, reject, is_alive),
+    }
+}
+
+/// Which line is rejected, and why. A line `alive` that is refused has a fault of its own, since it names no lemma.
+fn rejected_line(
+    alloc: Global,
+    size: Size,
+    reject: &Reject,
+    is_alive: bool,
+) -> Result<Output, AllocError>
+    requires memory { reject.now.why ≢ MemoryRefused }
+    requires read { reject.now.why ≢ NotRead }
+    ensures { IfOk result IsRejection }
+{
+    if is_alive && reject.why == Why::LemmaNotLower {
+        return not_alive(alloc, reject.place);
+    }
+    let text = reject_text(alloc, size, reject)?;
+    Ok(Output::Text(text, Status::Rejected))
+}
+
+/// That the line of this number, which says that the targets live, is refused.
+fn not_alive(alloc: Global, place: u64) -> Result<Output, AllocError>
+    ensures { IfOk result IsRejection }
+{
+    let text = format!(in alloc; "rejected line {place}: C20 not alive by shape\n")?;
     Ok(Output::Text(text, Status::Rejected))
 }

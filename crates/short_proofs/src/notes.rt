@@ -5,14 +5,7 @@ use go_points::{Colour, Point, Size, Turn, to_gtp, to_sgf};
 use sgf_text::{Bytes, Property, Values};
 use std::alloc::{AllocError, Global};
 use target_game::Problem;
-
-/// The name of a side.
-pub(crate) fn side_name(colour: Colour) -> &'static str {
-    match colour {
-        Colour::Black => "Black",
-        Colour::White => "White",
-    }
-}
+use tool_parts::colour_name;
 
 /// The comment of one of the nodes, in words. `None` if it has no note.
 pub(crate) fn note_text(
@@ -21,7 +14,7 @@ pub(crate) fn note_text(
     shown: &[Shown],
     node: &Shown,
 ) -> Result<Option<String>, AllocError> {
-    let side = side_name(problem.defender());
+    let side = colour_name(problem.defender());
     match &node.note {
         Note::Nothing => Ok(None),
         Note::Eyes(_, _) => Ok(Some(format!(in alloc;

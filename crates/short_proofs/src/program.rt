@@ -1,5 +1,13 @@
 //! A run of the program: from its words and its input to its answer.
 
+ghost use Rattle.std.specs.Prelude.{◌≡◌, ◌≢◌, IfOk, Ok, Some};
+ghost use Rattle.target_game.specs.State.{start};
+ghost use Rattle.tool_parts.specs.Written.{end_of};
+ghost use Rattle.tool_parts.specs.declared.status.Status.TheVariants.{Answered};
+ghost use Rattle.tsumego_problem.specs.Walk.{problem_within, history_limit};
+ghost use Rattle.short_proofs.specs.Says.{IsSaidOf, Says};
+ghost use Rattle.short_proofs.specs.declared.words.Request.TheVariants.{Tree as TreeAsked};
+
 use crate::judged::judged;
 use crate::proof::{Proved, prove};
 use crate::reading::{Reading, find_reading};
@@ -67,7 +75,9 @@ fn output_of<R: Read>(
     tree: &Tree,
     behind: &[u8],
     reader: &mut R,
-) -> Result<Output, AllocError> {
+) -> Result<Output, AllocError>
+    ensures { IfOk result (IsSaidOf request tree.now) }
+{
     let problem = match read_problem(alloc, tree) {
         Ok(problem) => problem,
         Err(fault) => return refused_problem(alloc, fault),
@@ -100,7 +110,9 @@ fn proved(alloc: Global, problem: &Problem, budget: Budget) -> Result<Output, Al
 }
 
 /// The record for readers, or why there is none.
-fn read_out(alloc: Global, problem: &Problem, budget: Budget) -> Result<Output, AllocError> {
+fn read_out(alloc: Global, problem: &Problem, budget: Budget) -> Result<Output, AllocError>
+    ensures { (steps : _) → IfOk result (Says (TreeAsked steps) problem.now) }
+{
     match find_reading(alloc, problem, budget, MOST_TURNS)? {
         Reading::Wins {
             winner: _,
@@ -112,7 +124,9 @@ fn read_out(alloc: Global, problem: &Problem, budget: Budget) -> Result<Output, 
     }
 }
 
-fn too_large(alloc: Global) -> Result<Output, AllocError> {
+fn too_large(alloc: Global) -> Result<Output, AllocError>
+    ensures { IfOk result (λ o. end_of o ≢ Answered) }
+{
     Ok(Output::Text(text_of(alloc, TOO_LARGE)?, Status::Rejected))
 }
 
@@ -144,7 +158,9 @@ fn written(outcome: Result<(), WriteFault>) -> Result<(), AllocError> {
 }
 
 /// Why there is no claim.
-fn unknown(alloc: Global, cause: Cause, steps: u64) -> Result<Output, AllocError> {
+fn unknown(alloc: Global, cause: Cause, steps: u64) -> Result<Output, AllocError>
+    ensures { IfOk result (λ o. end_of o ≢ Answered) }
+{
     match cause {
         Cause::Memory => Err(AllocError),
         _ => Ok(Output::Text(unknown_text(alloc, cause, steps)?, Status::Rejected)),

@@ -1,9 +1,10 @@
 //! A short claim as a record for readers.
 
-ghost use Rattle.std.specs.Prelude.{IfOk};
+ghost use Rattle.std.specs.Prelude.{IfOk, IfSome};
 ghost use Rattle.target_game.specs.State.{start};
 ghost use Rattle.target_game.specs.Wins.{Wins};
 ghost use Rattle.short_proofs.specs.Proved.{HasNamedWinner, HasWinner};
+ghost use Rattle.short_proofs.specs.Says.{HasVerdict};
 
 use crate::proof::{Proved, judged, prove};
 use crate::reading_record::record_of;
@@ -123,7 +124,9 @@ fn record_within(
     winner: Colour,
     certificate: &Certificate,
     most: usize,
-) -> Result<Option<(Tree, usize)>, AllocError> {
+) -> Result<Option<(Tree, usize)>, AllocError>
+    ensures { IfOk result (λ found. IfSome found (λ f. HasVerdict winner f.0)) }
+{
     let note = Note::Nothing;
     let mut nodes = Vec::new(alloc);
     nodes.push(Shown {

@@ -3,13 +3,18 @@
 //! It is built from its last node to its first. A node below which several come ends a sequence, and each of those begins a game
 //! tree; so the trees of later nodes are finished when those of earlier ones take them up.
 
-use crate::notes::{labels, note_text, side_name};
+ghost use Rattle.std.specs.Prelude.{◌≡◌, ◌++◌, ◌∷◌, List, IfOk, string_bytes};
+ghost use Rattle.sgf_text.specs.Trees.{Node};
+ghost use Rattle.tool_parts.specs.Says.{winner_text};
+ghost use Rattle.short_proofs.specs.Says.{HasVerdict, IsNoted, SaysWinner};
+
+use crate::notes::{labels, note_text};
 use crate::shown::{Shown, child_counts};
 use go_points::Colour;
 use sgf_text::{Property, SgfNode, Tree};
 use std::alloc::{AllocError, Global};
 use target_game::Problem;
-use tool_parts::{copy_properties, single};
+use tool_parts::{copy_properties, single, winner_said};
 use tsumego_problem::{marks_node, marks_with_winner, past_nodes, turn_node};
 
 /// The record of these nodes: the first is the problem's, with the winner.
@@ -18,7 +23,9 @@ pub(crate) fn record_of(
     problem: &Problem,
     winner: Colour,
     shown: &[Shown],
-) -> Result<Tree, AllocError> {
+) -> Result<Tree, AllocError>
+    ensures { IfOk result (HasVerdict winner) }
+{
     let counts = child_counts(alloc, shown)?;
     let counts = counts.as_slice();
     let mut finished = Vec::new(alloc);
@@ -64,7 +71,10 @@ fn tree_from(
     from: usize,
     mut nodes: Vec<SgfNode>,
     finished: &mut Vec<Tree>,
-) -> Result<Tree, AllocError> {
+) -> Result<Tree, AllocError>
+    ensures { IfOk result
+        (λ tree. (more : List Node) × (tree.nodes ≡ nodes.items ++ more)) }
+{
     let mut children = 0;
     for at in from..shown.len() {
         nodes.push(shown_node(alloc, problem, shown, &shown[at])?)?;
@@ -97,7 +107,9 @@ fn problem_node(
     problem: &Problem,
     winner: Colour,
     shown: &[Shown],
-) -> Result<SgfNode, AllocError> {
+) -> Result<SgfNode, AllocError>
+    ensures { IfOk result (SaysWinner winner) }
+{
     let Some(node) = shown.first() else {
         return marks_with_winner(alloc, problem, winner);
     };
@@ -105,9 +117,16 @@ fn problem_node(
         return marks_with_winner(alloc, problem, winner);
     };
     let marks = marks_node(alloc, problem)?;
-    let side = side_name(winner);
-    let both = format!(in alloc; "{side} wins\n{text}")?;
-    with_note(alloc, &marks, labels(alloc, node)?, both.as_str())
+    let said = winner_with(alloc, winner, text.as_str())?;
+    with_note(alloc, &marks, labels(alloc, node)?, said.as_str())
+}
+
+/// Who wins, and on the next line what else is said.
+fn winner_with(alloc: Global, winner: Colour, text: &str) -> Result<String, AllocError>
+    ensures { IfOk result (λ t. string_bytes t ≡ winner_text winner ++ 10 ∷ text.now) }
+{
+    let said = winner_said(alloc, winner)?;
+    format!(in alloc; "{said}\n{text}")
 }
 
 /// The node of a turn, with its labels and its comment.
@@ -130,7 +149,9 @@ fn with_note(
     node: &SgfNode,
     labels: Option<Property>,
     text: &str,
-) -> Result<SgfNode, AllocError> {
+) -> Result<SgfNode, AllocError>
+    ensures { IfOk result (λ made. IsNoted node.now text.now made) }
+{
     let mut properties = copy_properties(alloc, node.as_slice())?;
     if let Some(labels) = labels {
         properties.push(labels)?;
@@ -142,7 +163,9 @@ fn with_note(
     }
 }
 
-fn tree_of(nodes: Vec<SgfNode>, children: Vec<Tree>) -> Result<Tree, AllocError> {
+fn tree_of(nodes: Vec<SgfNode>, children: Vec<Tree>) -> Result<Tree, AllocError>
+    ensures { IfOk result (λ tree. tree.nodes ≡ nodes.items) }
+{
     match Tree::new(nodes, children) {
         Some(tree) => Ok(tree),
         None => Err(AllocError),

@@ -1,4 +1,5 @@
 pub mod Answered
 pub mod Codes
 pub mod Input
+pub mod Says
 pub mod Written

@@ -1,6 +1,7 @@
 //! What the helper programs share: copies of trees, and how a run reads its input, writes, and ends.
 #![tactic(auto)]
 
+mod colours;
 mod copies;
 mod input;
 mod output;
@@ -10,6 +11,7 @@ mod status;
 mod texts;
 mod words;
 
+pub use colours::{colour_letter, colour_name, winner_said};
 pub use copies::{
     copy_bytes, copy_node, copy_properties, copy_property, copy_tree, push_nodes, push_trees,
     single,

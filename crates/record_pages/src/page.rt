@@ -5,6 +5,7 @@ ghost use Rattle.tsumego_problem.specs.Walk.{problem_node, problem_within, histo
 ghost use Rattle.solution_tree.specs.Audit.{audit};
 ghost use Rattle.record_pages.specs.Bare.{IsBare};
 ghost use Rattle.record_pages.specs.Page.{IsPage};
+ghost use Rattle.tool_parts.specs.Says.{winner_text};
 
 use crate::bare::without_past;
 use crate::lines::{Cut, Lines, shown_lines};
@@ -114,7 +115,9 @@ pub(crate) fn marked_node<'a>(tree: &'a Tree) -> Option<&'a SgfNode> {
 }
 
 /// What a page says of the winner.
-fn verdict(winner: Colour) -> &'static [u8] {
+fn verdict(winner: Colour) -> &'static [u8]
+    ensures { result.now ≡ winner_text winner }
+{
     match winner {
         Colour::Black => b"Black wins",
         Colour::White => b"White wins",

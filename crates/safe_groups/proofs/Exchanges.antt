@@ -1,7 +1,6 @@
 -- Safe stones stand through any number of exchanges.
-use Rattle.safe_groups.proofs.Common.{◌≡◌, List, ℕ, zero, suc, IsTrue, IsFalse, inl, inr, [], ◌∷◌, ◌++◌, ◌*◌, ◌<◌, ◌⊎◌, cell_at, opponent_of, after_move, Cell, Empty, Area, Points, States, own, IsWalled, IsKnown, IsAnswer, IsAnswered, Replies, HoldsAt}
-use Rattle.go_turns.specs.History.{has_occurred}
-use Rattle.safe_groups.specs.Play.{StandThrough, AreThere, IsFree}
+use Rattle.safe_groups.proofs.Common.{◌≡◌, List, ℕ, zero, suc, IsTrue, IsFalse, inl, inr, [], ◌∷◌, ◌++◌, ◌*◌, ◌<◌, ◌⊎◌, cell_at, opponent_of, after_move, Cell, Empty, Area, Points, States, own, IsWalled, IsKnown, IsAnswer, IsAnswered, Replies, HoldsAt, has_occurred, StandThrough}
+use Rattle.safe_groups.specs.Play.{AreThere, IsFree}
 use Rattle.safe_groups.proofs.Moving.{SameOwn, full_after, other_moves, wanders, passes, answers}
 use Rattle.safe_groups.proofs.Past.{past_same, past_board, past_known, past_answered, answer_free, known_has, known_more}
 

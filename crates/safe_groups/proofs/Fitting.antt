@@ -1,6 +1,7 @@
 -- What fits a state still does so after stones are taken off, on the board and in the state.
-use Rattle.safe_groups.proofs.Common.{sym, subst, refl, ◌≡◌, ◌∙◌, List, ℕ, ap, IsTrue, true, false, Bool, inl, inr, [], ◌∷◌, ◌*◌, ◌<◌, ◌≤◌, ◌⊎◌, ◌&&◌, cond, not, length, arith, get_or_past, eq_same_cell, same_cell_false, adjacent_on_board, empty_stays, stone_before, reaching_stays, on_board_of, on_or_off, cell_at-clear, cell_at_past, reaches_path, clear, is_captured, cell_at, adjacent, opponent_of, reaches, IsPath, Reaches, Cell, Empty, Stone, Colour, joined_self, IsWay, Area, own, theirs, is_outside, IsWalled, Rooted, Fits, clear_loose}
-use Rattle.go_points.proofs.Lists.{and_both}
+use Rattle.safe_groups.proofs.Common.{sym, subst, refl, ◌≡◌, ◌∙◌, List, ℕ, ap, IsTrue, true, false, Bool, inl, inr, [], ◌∷◌, ◌*◌, ◌<◌, ◌≤◌, ◌⊎◌, ◌&&◌, cond, not, length, arith, get_or_past, eq_same_cell, adjacent_on_board, stone_before, on_or_off, cell_at-clear, reaches_path, clear, is_captured, cell_at, adjacent, opponent_of, reaches, IsPath, Reaches, Cell, Empty, Stone, Colour, joined_self, IsWay, Area, own, theirs, is_outside, IsWalled, Rooted, Fits, clear_loose, and_both}
+use Rattle.go_points.proofs.Cells.{same_cell_false}
+use Rattle.go_points.proofs.Clearing.{empty_stays, reaching_stays, on_board_of, cell_at_past}
 use Rattle.safe_groups.proofs.Opening.{cell_cases, not_both, vanishes, clear_loose_at, clear_loose_past, length-clear_loose, vanishes_theirs, vanishes_unrooted, vanishes_stuck, rooted_on, stays_cases}
 
 -- a stone is on the board

@@ -1,11 +1,9 @@
 -- What the judge finds of the states of an area.
-use Rattle.safe_groups.proofs.Common.{sym, subst, refl, ◌≡◌, ◌≢◌, ◌∙◌, List, ℕ, ap, IsTrue, true, false, Bool, inl, inr, [], ◌∷◌, ◌*◌, ◌<◌, ◌≤◌, ◌⊎◌, cond, not, length, set, arith, get_or-set_same, get_or-set_other, length-set, get_or_past, eq_same_cell, same_cell_eq, adjacent_on_board, on_or_off, reaches_path, clear, is_captured, cell_at, same_cell, opponent_of, reaches, IsPath, Reaches, Cell, Empty, Stone, Colour, cell_at-clear, stone_before, joined_self, Area, own, theirs, is_outside, IsWalled, Rooted, Fits, IsAtRest, opened, clear_loose}
-use Rattle.std.proofs.Common.{◌+◌, nat_lt, ltb-true}
-use Rattle.go_points.proofs.Common.{ext_get_or, length-map-range_with_len}
-use Rattle.go_points.proofs.Lists.{and_left, and_right, and_both, and_false, not_false}
+use Rattle.safe_groups.proofs.Common.{sym, subst, refl, ◌≡◌, ◌≢◌, ◌∙◌, List, ℕ, ap, IsTrue, true, false, Bool, inl, inr, [], ◌∷◌, ◌*◌, ◌<◌, ◌≤◌, ◌⊎◌, cond, not, length, set, arith, get_or-set_same, get_or-set_other, length-set, get_or_past, eq_same_cell, same_cell_eq, adjacent_on_board, on_or_off, reaches_path, clear, is_captured, cell_at, same_cell, opponent_of, reaches, IsPath, Reaches, Cell, Empty, Stone, Colour, cell_at-clear, stone_before, joined_self, Area, own, theirs, is_outside, IsWalled, Rooted, Fits, IsAtRest, opened, clear_loose, nat_lt, ltb-true, length-map-range_with_len, and_left, and_right, and_both, not_false, Ground, area_of, IsState, IsWalledAt, shut_cell, FitsAt}
+use Rattle.std.proofs.Common.{◌+◌}
+use Rattle.go_points.proofs.Common.{ext_get_or}
+use Rattle.go_points.proofs.Lists.{and_false}
 unfoldable use Rattle.go_points.specs.Grid.{side_of}
-use Rattle.safe_groups.specs.declared.ground.Ground.{Ground}
-use Rattle.safe_groups.specs.Ground.{area_of, IsState, IsWalledAt, shut_cell, FitsAt}
 use Rattle.safe_groups.proofs.Opening.{not_both, inside_at, outside_spared, cleared_at, vanishes, clear_loose_at, length-clear_loose, rooted_on, stays_cases}
 use Rattle.safe_groups.proofs.Fitting.{stone_on}
 

@@ -1,19 +1,11 @@
 -- What the judge finds of the states of a claim makes them states with answers.
-use Rattle.safe_groups.proofs.Common.{sym, subst, refl, ◌≡◌, ◌∙◌, List, ℕ, zero, suc, ap, IsTrue, true, Bool, inl, inr, [], ◌∷◌, ◌*◌, ◌<◌, length, set, arith, cell_at, Reaches, Cell, Empty, Stone, Area, States, own, theirs, IsWalled, IsAnswered, Replies, HoldsAt, clear_loose, after_other}
-use Rattle.std.proofs.Common.{get_or, map, nat_eq, nat_lt, eqb-true, ◌&&◌}
-use Rattle.std.specs.List.{All, list_all}
+use Rattle.safe_groups.proofs.Common.{sym, subst, refl, ◌≡◌, ◌∙◌, List, ℕ, zero, suc, ap, IsTrue, true, Bool, inl, inr, [], ◌∷◌, ◌*◌, ◌<◌, length, set, arith, cell_at, Reaches, Cell, Empty, Stone, Area, States, own, theirs, IsWalled, IsAnswered, Replies, HoldsAt, clear_loose, after_other, get_or, map, nat_eq, nat_lt, eqb-true, ◌&&◌, list_all, same_cell, same_cells, and_left, and_right, or_cases, or_left, or_right, Colour, start, holds_point, has_occurred, Ground, area_of, states_of, IsState, IsStateAnswered, IsOfBoard, area_in, HasTargets, IsSafe, IsSafeByMove}
+use Rattle.std.specs.List.{All}
 use Rattle.std.proofs.lemmas.List.Elements.{All-tail}
-use Rattle.go_points.specs.Grid.{same_cell, same_cells}
 unfoldable use Rattle.go_points.specs.Grid.{side_of}
 use Rattle.go_points.specs.Equal.{same_cells_refl, same_cells_eq}
-use Rattle.go_points.proofs.Lists.{and_left, and_right, or_cases, or_left, or_right}
-use Rattle.go_points.specs.declared.Colour.{Colour}
-use Rattle.target_game.specs.State.{GameProblem, start}
-use Rattle.target_game.specs.Legal.{holds_point}
-use Rattle.go_turns.specs.History.{has_occurred}
-use Rattle.safe_groups.specs.declared.ground.Ground.{Ground}
-use Rattle.safe_groups.specs.Ground.{area_of, states_of, IsState, IsStateAnswered, AreStates, AreAnswered, IsOfBoard, HoldsFor}
-use Rattle.safe_groups.specs.Laws.{area_in, HasTargets, IsSafe, IsSafeByMove}
+use Rattle.target_game.specs.State.{GameProblem}
+use Rattle.safe_groups.specs.Ground.{AreStates, AreAnswered, HoldsFor}
 use Rattle.safe_groups.proofs.Fitting.{fits_self}
 use Rattle.safe_groups.proofs.Moving.{past_put}
 

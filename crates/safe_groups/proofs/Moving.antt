@@ -1,5 +1,7 @@
 -- What a move on the board leaves of a state that the board fits.
-use Rattle.safe_groups.proofs.Common.{sym, subst, refl, ◌≡◌, ◌≢◌, ◌∙◌, List, ℕ, ap, IsTrue, IsFalse, true, false, Bool, inl, inr, [], ◌∷◌, ◌*◌, ◌<◌, ◌⊎◌, ◌&&◌, not, length, set, arith, get_or-set_other, get_or-set_same, length-set, opponent_twice, length-clear, clear, cell_at, opponent_of, after_move, Cell, Empty, Stone, Colour, joined_self, Joined, IsWay, Area, States, own, theirs, is_outside, IsWalled, Rooted, after_other, after_answer, Fits, IsAtRest, IsKnown, IsAnswer, IsAnswered, Replies}
+use Rattle.safe_groups.proofs.Common.{sym, subst, refl, ◌≡◌, ◌≢◌, ◌∙◌, List, ℕ, ap, IsTrue, IsFalse, true, false, Bool, inl, inr, [], ◌∷◌, ◌*◌, ◌<◌, ◌⊎◌, ◌&&◌, not, length, set, arith, get_or-set_other, get_or-set_same, length-set, opponent_twice, clear, cell_at, opponent_of, after_move, Cell, Empty, Stone, Colour, joined_self, IsWay, Area, States, own, theirs, is_outside, IsWalled, Rooted, after_other, after_answer, Fits, IsAtRest, IsKnown, IsAnswer, IsAnswered, Replies}
+use Rattle.go_points.proofs.Clearing.{length-clear}
+use Rattle.go_chains.specs.Joined.{Joined}
 use Rattle.safe_groups.proofs.Opening.{cell_cases, not_both}
 use Rattle.safe_groups.proofs.Fitting.{fits_self, fits_clear_own, fits_clear_rest, fits_clear_loose, fits_on, was_there, own_stays, walled_still}
 

@@ -1,14 +1,13 @@
 -- The attacker wins no state whose targets are safe by answers.
-use Rattle.safe_groups.proofs.Common.{sym, subst, refl, ◌≡◌, ◌∙◌, List, ℕ, zero, suc, ap, IsTrue, IsFalse, true, false, Bool, inl, inr, [], ◌∷◌, ◌++◌, ◌*◌, ◌<◌, ◌≤◌, ◌⊎◌, ◌&&◌, not, arith, cell_at, same_cell, eq_same_cell, same_cell_eq, opponent_of, opponent_twice, after_move, Cell, Empty, Stone, Colour, Area, Points, States, own, IsWalled, IsAnswered, Replies, HoldsAt}
-use Rattle.std.proofs.Common.{nat_eq, nat_lt, ltb-true, eq-eqb, if◌then◌else◌, Some, None}
+use Rattle.safe_groups.proofs.Common.{sym, subst, refl, ◌≡◌, ◌∙◌, List, ℕ, zero, suc, ap, IsTrue, IsFalse, true, false, Bool, inl, inr, [], ◌∷◌, ◌++◌, ◌*◌, ◌<◌, ◌≤◌, ◌⊎◌, ◌&&◌, not, arith, cell_at, same_cell, eq_same_cell, same_cell_eq, opponent_of, opponent_twice, after_move, Cell, Empty, Stone, Colour, Area, Points, States, own, IsWalled, IsAnswered, Replies, HoldsAt, nat_eq, nat_lt, ltb-true, and_left, and_right, and_both, has_occurred, holds_point, area_in, HasTargets, IsSafe, IsSafeByMove, StandThrough}
+use Rattle.std.proofs.Common.{eq-eqb, if◌then◌else◌, Some, None}
 use Rattle.std.proofs.lemmas.Bool.{lt-ltb}
 use Rattle.go_points.specs.Grid.{same_colour}
 use Rattle.go_points.specs.Equal.{same_colour_eq}
 use Rattle.go_points.specs.Ply.{Ply, pass, move}
-use Rattle.go_points.proofs.Lists.{and_left, and_right, and_both, any_from, any_to, all_at, all_from}
-use Rattle.go_turns.specs.History.{has_occurred}
+use Rattle.go_points.proofs.Lists.{any_from, any_to, all_at, all_from}
 use Rattle.target_game.specs.State.{GameState}
-use Rattle.target_game.specs.Legal.{legal, legal_turns, holds_point}
+use Rattle.target_game.specs.Legal.{legal, legal_turns}
 use Rattle.target_game.specs.Next.{next}
 use Rattle.target_game.specs.Over.{targets_stand, over}
 unfoldable use Rattle.target_game.specs.Wins.{wins}
@@ -17,8 +16,6 @@ use Rattle.target_game.specs.Status.{moving, IsAlive}
 use Rattle.target_game.proofs.Winning.{wins_over, wins_none, wins_next, member_legal, legal_member}
 use Rattle.target_game.proofs.Statuses.{one_wins}
 use Rattle.target_game.proofs.Moving.{colour_other}
-use Rattle.safe_groups.specs.Laws.{area_in, HasTargets, IsSafe, IsSafeByMove}
-use Rattle.safe_groups.specs.Play.{StandThrough}
 use Rattle.safe_groups.proofs.Past.{known_has, known_more}
 use Rattle.safe_groups.proofs.Exchanges.{other_plays, holds_passed, answer_allowed, holds_answered, stand_through}
 

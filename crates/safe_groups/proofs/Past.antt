@@ -1,9 +1,5 @@
 -- The past fits each state that play comes to, and bars no answer.
-use Rattle.safe_groups.proofs.Common.{sym, refl, ◌≡◌, ◌∙◌, List, ℕ, ap, IsTrue, true, false, Bool, inl, inr, [], ◌∷◌, ◌++◌, ◌*◌, ◌<◌, ◌⊎◌, ◌&&◌, not, set, cell_at, Cell, Empty, Area, States, own, IsWalled, after_answer, Fits, IsKnown, IsAnswer, Replies, PastFits}
-use Rattle.go_points.proofs.Lists.{or_cases, or_left, or_right}
-use Rattle.go_turns.specs.History.{has_occurred}
-use Rattle.go_points.specs.Grid.{same_cells}
-use Rattle.go_points.proofs.Cells.{same_cells_eq}
+use Rattle.safe_groups.proofs.Common.{sym, refl, ◌≡◌, ◌∙◌, List, ℕ, ap, IsTrue, true, false, Bool, inl, inr, [], ◌∷◌, ◌++◌, ◌*◌, ◌<◌, ◌⊎◌, ◌&&◌, not, set, cell_at, Cell, Empty, Area, States, own, IsWalled, after_answer, Fits, IsKnown, IsAnswer, Replies, PastFits, or_cases, or_left, or_right, has_occurred, same_cells, same_cells_eq}
 use Rattle.safe_groups.proofs.Opening.{not_both}
 use Rattle.safe_groups.proofs.Fitting.{stone_on, own_stays, walled_still}
 use Rattle.safe_groups.proofs.Moving.{SameOwn, at_put, past_put, walled_put}

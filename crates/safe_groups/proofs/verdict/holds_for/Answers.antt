@@ -1,11 +1,5 @@
-use Rattle.safe_groups.proofs.Common.{◌≡◌, sym, ◌∙◌, ap, subst, IsTrue, ℕ, true, cell_at, own, Fits, PastFits}
-use Rattle.std.proofs.Common.{map}
-use Rattle.std.specs.List.{list_all}
-use Rattle.go_points.specs.Grid.{side_of, same_cell}
+use Rattle.safe_groups.proofs.Common.{◌≡◌, sym, ◌∙◌, ap, subst, IsTrue, ℕ, true, cell_at, own, Fits, PastFits, map, list_all, side_of, same_cell, number_of, holds_point, area_of, IsOfBoard}
 use Rattle.go_points.specs.Equal.{same_cell_eq}
-use Rattle.go_points.specs.Place.{number_of}
-use Rattle.target_game.specs.Legal.{holds_point}
-use Rattle.safe_groups.specs.Ground.{area_of, IsOfBoard}
 use Rattle.safe_groups.proofs.Judging.{targets_by}
 use Rattle.safe_groups.proofs.verdict.holds_for.Goals as goal
 

@@ -1,8 +1,5 @@
-use Rattle.safe_groups.proofs.Common.{◌≡◌, sym, ◌∙◌, ap, ◌*◌, length, Stone}
-use Rattle.std.proofs.Common.{eqb-true}
-use Rattle.go_points.proofs.Lists.{not_false}
+use Rattle.safe_groups.proofs.Common.{◌≡◌, sym, ◌∙◌, ap, ◌*◌, length, Stone, eqb-true, not_false, side_of}
 use Rattle.go_points.specs.Equal.{same_cell_eq}
-use Rattle.go_points.specs.Grid.{side_of}
 use Rattle.safe_groups.proofs.Judging.{stone_colour}
 use Rattle.safe_groups.proofs.verdict.is_of_board.Goals as goal
 

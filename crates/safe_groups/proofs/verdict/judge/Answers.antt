@@ -1,8 +1,6 @@
-use Rattle.safe_groups.proofs.Common.{◌≡◌, sym, subst, ◌<◌, length, arith, IsTrue, Replies}
-use Rattle.go_points.proofs.Lists.{not_false}
+use Rattle.safe_groups.proofs.Common.{◌≡◌, sym, subst, ◌<◌, length, arith, IsTrue, Replies, not_false, start, area_of, states_of}
 use Rattle.go_points.specs.Equal.{same_cells_eq}
-use Rattle.target_game.specs.State.{start}
-use Rattle.safe_groups.specs.Ground.{area_of, states_of, IsSafeAs}
+use Rattle.safe_groups.specs.Ground.{IsSafeAs}
 use Rattle.safe_groups.proofs.Judging.{listed_at, replies_by, answers_inside, safe_by, safe_by_move}
 use Rattle.safe_groups.proofs.verdict.judge.Goals as goal
 

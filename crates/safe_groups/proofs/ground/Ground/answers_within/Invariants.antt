@@ -1,8 +1,4 @@
-use Rattle.std.proofs.Common.{◌<◌, ℕ, IsTrue, map}
-use Rattle.go_points.specs.Grid.{side_of}
-use Rattle.go_points.specs.Place.{number_of}
-use Rattle.target_game.specs.Legal.{holds_point}
-use Rattle.safe_groups.specs.Ground.{area_of}
+use Rattle.safe_groups.proofs.Common.{◌<◌, ℕ, IsTrue, map, side_of, number_of, holds_point, area_of}
 use Rattle.safe_groups.proofs.ground.Ground.answers_within.Given as goal
 
 abbrev pub invariant-loop-number : goal.invariant-loop-number

@@ -1,6 +1,4 @@
-use Rattle.safe_groups.proofs.Common.{◌≡◌, sym, ◌∙◌, ap, ◌<◌, ◌*◌, ◌⊎◌, inl, inr, subst, arith, length}
-use Rattle.go_points.specs.Grid.{side_of}
-use Rattle.safe_groups.specs.Ground.{area_of, FitsAt}
+use Rattle.safe_groups.proofs.Common.{◌≡◌, sym, ◌∙◌, ap, ◌<◌, ◌*◌, ◌⊎◌, inl, inr, subst, arith, length, side_of, area_of, FitsAt}
 use Rattle.safe_groups.proofs.Grounds.{fits_by, region_within}
 use Rattle.safe_groups.proofs.ground.Ground.fits.Goals as goal
 

@@ -1,5 +1,4 @@
-use Rattle.std.proofs.Common.{◌<◌, ℕ}
-use Rattle.safe_groups.specs.Ground.{area_of, FitsAt}
+use Rattle.safe_groups.proofs.Common.{◌<◌, ℕ, area_of, FitsAt}
 use Rattle.safe_groups.proofs.ground.Ground.fits.Given as goal
 
 abbrev pub invariant-loop-number : goal.invariant-loop-number

@@ -1,7 +1,4 @@
-use Rattle.std.proofs.Common.{◌≡◌, ◌<◌, ℕ, IsTrue}
-use Rattle.go_points.specs.Grid.{cell_at}
-use Rattle.safe_groups.specs.Areas.{own}
-use Rattle.safe_groups.specs.Ground.{area_of}
+use Rattle.safe_groups.proofs.Common.{◌≡◌, ◌<◌, ℕ, IsTrue, cell_at, own, area_of}
 use Rattle.safe_groups.proofs.ground.Ground.has_none_more.Given as goal
 
 abbrev pub invariant-loop-number : goal.invariant-loop-number

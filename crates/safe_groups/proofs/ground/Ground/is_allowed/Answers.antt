@@ -1,7 +1,5 @@
-use Rattle.safe_groups.proofs.Common.{◌≡◌, sym, ◌∙◌, ap, subst, map}
-use Rattle.go_points.specs.Grid.{side_of}
-use Rattle.go_points.specs.Place.{IsOn, number_of}
-use Rattle.target_game.specs.Legal.{holds_point}
+use Rattle.safe_groups.proofs.Common.{◌≡◌, sym, ◌∙◌, ap, subst, map, side_of, number_of, holds_point}
+use Rattle.go_points.specs.Place.{IsOn}
 use Rattle.target_game.proofs.Playing.{holds_numbered}
 use Rattle.safe_groups.proofs.ground.Ground.is_allowed.Goals as goal
 

@@ -1,6 +1,4 @@
-use Rattle.safe_groups.proofs.Common.{◌≡◌, sym, ◌∙◌, clear_loose}
-use Rattle.go_points.proofs.Cells.{same_cells_eq}
-use Rattle.safe_groups.specs.Ground.{area_of}
+use Rattle.safe_groups.proofs.Common.{◌≡◌, sym, ◌∙◌, clear_loose, same_cells_eq, area_of}
 use Rattle.safe_groups.proofs.Grounds.{at_rest_by}
 use Rattle.safe_groups.proofs.ground.Ground.is_at_rest.Goals as goal
 

@@ -1,4 +1,4 @@
-use Rattle.safe_groups.proofs.Common.{arith}
+use Rattle.std.proofs.Common.{arith}
 use Rattle.safe_groups.proofs.Judging.{listed_at}
 use Rattle.safe_groups.proofs.ground.Ground.is_known.Goals as goal
 

@@ -1,8 +1,4 @@
-use Rattle.safe_groups.proofs.Common.{◌≡◌, sym, ◌∙◌, ap, ◌<◌, ◌*◌, ◌⊎◌, inl, inr, subst, arith}
-use Rattle.std.proofs.Common.{eqb-true}
-use Rattle.go_points.proofs.Lists.{not_false}
-use Rattle.go_points.specs.Grid.{side_of}
-use Rattle.safe_groups.specs.Ground.{area_of, IsWalledAt}
+use Rattle.safe_groups.proofs.Common.{◌≡◌, sym, ◌∙◌, ap, ◌<◌, ◌*◌, ◌⊎◌, inl, inr, subst, arith, eqb-true, not_false, side_of, area_of, IsWalledAt}
 use Rattle.safe_groups.proofs.Grounds.{state_by}
 use Rattle.safe_groups.proofs.ground.Ground.is_state.Goals as goal
 

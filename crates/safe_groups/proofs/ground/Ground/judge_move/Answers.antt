@@ -1,6 +1,5 @@
-use Rattle.safe_groups.proofs.Common.{sym, ◌∙◌}
+use Rattle.safe_groups.proofs.Common.{sym, ◌∙◌, area_of, states_of}
 use Rattle.go_points.specs.Equal.{same_cells_eq}
-use Rattle.safe_groups.specs.Ground.{area_of, states_of}
 use Rattle.safe_groups.proofs.Judging.{untaken_by, unchanged, changed}
 use Rattle.safe_groups.proofs.ground.Ground.judge_move.Goals as goal
 

@@ -1,7 +1,5 @@
-use Rattle.std.proofs.Common.{◌≡◌, ◌<◌, ℕ}
-use Rattle.go_points.specs.declared.Cell.TheVariants.{Empty}
-use Rattle.go_points.specs.Grid.{cell_at}
-use Rattle.safe_groups.specs.Ground.{area_of, states_of, IsMoveAnswered}
+use Rattle.safe_groups.proofs.Common.{◌≡◌, ◌<◌, ℕ, Empty, cell_at, area_of, states_of}
+use Rattle.safe_groups.specs.Ground.{IsMoveAnswered}
 use Rattle.safe_groups.proofs.ground.Ground.judge_state.Given as goal
 
 abbrev pub invariant-loop-number : goal.invariant-loop-number

@@ -1,6 +1,4 @@
-use Rattle.safe_groups.proofs.Common.{◌≡◌, sym, ◌∙◌, ap, subst, ◌<◌, ◌⊎◌, inl, inr, arith}
-use Rattle.std.proofs.Common.{get_or}
-use Rattle.safe_groups.specs.Ground.{area_of, states_of, IsStateAnswered}
+use Rattle.safe_groups.proofs.Common.{◌≡◌, sym, ◌∙◌, ap, subst, ◌<◌, ◌⊎◌, inl, inr, arith, get_or, area_of, states_of, IsStateAnswered}
 use Rattle.safe_groups.proofs.Judging.{listed_at, same_default}
 use Rattle.safe_groups.proofs.ground.Ground.judge_states.Goals as goal
 

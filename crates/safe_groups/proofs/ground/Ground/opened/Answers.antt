@@ -1,7 +1,5 @@
-use Rattle.safe_groups.proofs.Common.{sym, ◌∙◌, ap, cond, ◌*◌, cell_at, is_outside}
+use Rattle.safe_groups.proofs.Common.{sym, ◌∙◌, ap, cond, ◌*◌, cell_at, is_outside, opened, area_of}
 use Rattle.go_chains.proofs.Boards.{all_empty}
-use Rattle.safe_groups.specs.Areas.{opened}
-use Rattle.safe_groups.specs.Ground.{area_of}
 use Rattle.safe_groups.proofs.Opening.{opened_at}
 use Rattle.safe_groups.proofs.Grounds.{same_by_points, length-opened}
 use Rattle.safe_groups.proofs.ground.Ground.opened.Goals as goal

@@ -1,6 +1,4 @@
-use Rattle.safe_groups.proofs.Common.{◌≡◌, sym, ◌∙◌, ap, subst, ◌<◌, ◌⊎◌, inl, inr, arith}
-use Rattle.std.proofs.Common.{get_or}
-use Rattle.safe_groups.specs.Ground.{area_of, BarsNone}
+use Rattle.safe_groups.proofs.Common.{◌≡◌, sym, ◌∙◌, ap, subst, ◌<◌, ◌⊎◌, inl, inr, arith, get_or, area_of, BarsNone}
 use Rattle.safe_groups.proofs.Judging.{of_listed, same_default}
 use Rattle.safe_groups.proofs.ground.Ground.past_fits.Goals as goal
 

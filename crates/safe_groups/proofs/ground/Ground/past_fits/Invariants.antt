@@ -1,6 +1,4 @@
-use Rattle.std.proofs.Common.{◌<◌, ℕ, get_or, List}
-use Rattle.go_points.specs.declared.Cell.{Cell}
-use Rattle.safe_groups.specs.Ground.{area_of, BarsNone}
+use Rattle.safe_groups.proofs.Common.{◌<◌, ℕ, get_or, List, Cell, area_of, BarsNone}
 use Rattle.safe_groups.proofs.ground.Ground.past_fits.Given as goal
 
 abbrev pub invariant-loop-past : goal.invariant-loop-past

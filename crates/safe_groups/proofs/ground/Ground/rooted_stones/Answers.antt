@@ -1,7 +1,5 @@
-use Rattle.safe_groups.proofs.Common.{◌≡◌, ◌∙◌, ap, opponent_of}
-use Rattle.go_points.specs.Grid.{side_of}
+use Rattle.safe_groups.proofs.Common.{◌≡◌, ◌∙◌, ap, opponent_of, side_of, area_of}
 unfoldable use Rattle.go_points.specs.Clear.{clear}
-use Rattle.safe_groups.specs.Ground.{area_of}
 use Rattle.safe_groups.proofs.Grounds.{left_rooted}
 use Rattle.safe_groups.proofs.ground.Ground.rooted_stones.Goals as goal
 

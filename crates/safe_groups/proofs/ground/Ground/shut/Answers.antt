@@ -1,7 +1,4 @@
-use Rattle.safe_groups.proofs.Common.{◌≡◌, sym, ◌∙◌, ◌*◌, ◌<◌, ap, arith}
-use Rattle.go_points.specs.Grid.{side_of}
-use Rattle.go_points.specs.Place.{number_of}
-use Rattle.safe_groups.specs.Ground.{area_of, shut_cell}
+use Rattle.safe_groups.proofs.Common.{◌≡◌, sym, ◌∙◌, ◌*◌, ◌<◌, ap, arith, side_of, number_of, area_of, shut_cell}
 use Rattle.safe_groups.proofs.Grounds.{made_set}
 use Rattle.safe_groups.proofs.ground.Ground.shut.Goals as goal
 

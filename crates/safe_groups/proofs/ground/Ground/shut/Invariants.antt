@@ -1,5 +1,4 @@
-use Rattle.safe_groups.specs.Ground.{area_of, shut_cell}
-use Rattle.go_points.specs.Grid.{side_of}
+use Rattle.safe_groups.proofs.Common.{area_of, shut_cell, side_of}
 use Rattle.safe_groups.proofs.Grounds.{MadeSoFar}
 use Rattle.safe_groups.proofs.ground.Ground.shut.Given as goal
 

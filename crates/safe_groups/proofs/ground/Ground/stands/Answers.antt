@@ -1,6 +1,4 @@
-use Rattle.safe_groups.proofs.Common.{◌≡◌, sym, ◌∙◌, subst, Reaches, Empty}
-use Rattle.go_points.specs.Grid.{side_of}
-use Rattle.go_points.proofs.Cells.{same_cells_eq}
+use Rattle.safe_groups.proofs.Common.{◌≡◌, sym, ◌∙◌, subst, Reaches, Empty, side_of, same_cells_eq}
 unfoldable use Rattle.go_points.specs.Clear.{clear}
 use Rattle.safe_groups.proofs.Grounds.{cleared_same}
 use Rattle.safe_groups.proofs.ground.Ground.stands.Goals as goal

@@ -1,8 +1,6 @@
-use Rattle.safe_groups.proofs.Common.{◌≡◌, ◌∙◌, ap, opponent_of}
-use Rattle.go_points.specs.Grid.{side_of}
+use Rattle.safe_groups.proofs.Common.{◌≡◌, ◌∙◌, ap, opponent_of, side_of, area_of}
 unfoldable use Rattle.go_points.specs.Clear.{clear}
 unfoldable use Rattle.safe_groups.specs.Areas.{opened}
-use Rattle.safe_groups.specs.Ground.{area_of}
 use Rattle.safe_groups.proofs.Grounds.{loose_parts}
 use Rattle.safe_groups.proofs.ground.Ground.without_loose.Goals as goal
 

@@ -14,50 +14,72 @@ const BOARD: &str = "O.O.OOXXX";
 
 const ANSWERED: &str = "O.OOOO...";
 
+// The board, and the states after White's answer.
+const STATES: [&str; 8] = [
+    "O.O.OOXXX",
+    "O.OOOO...",
+    "O.OOOOX..",
+    "O.OOOO.X.",
+    "O.OOOOXX.",
+    "O.OOOO..X",
+    "O.OOOOX.X",
+    "O.OOOO.XX",
+];
+
+// Black's moves in these states: the state, the point, and the state that is left. White passes.
+const MOVES: [(usize, usize, usize); 12] = [
+    (1, 6, 2),
+    (1, 7, 3),
+    (1, 8, 5),
+    (2, 7, 4),
+    (2, 8, 6),
+    (3, 6, 4),
+    (3, 8, 7),
+    (4, 8, 1),
+    (5, 6, 6),
+    (5, 7, 7),
+    (6, 7, 1),
+    (7, 6, 1),
+];
+
 fn colouring(rt: &impl Abort, text: &str) -> Colouring {
     let size = Size::new(3).expect(rt, "a size");
     Colouring::from_text(size, text.as_bytes()).expect(rt, "a colouring")
 }
 
-// Black to move on the last of these boards, after the others; White's stone in the corner is the target.
-fn problem(rt: &impl Abort, alloc: Global, boards: &[&str]) -> Problem {
+// The points at which the text has an `x`.
+fn marked(rt: &impl Abort, text: &str) -> PointSet {
     let size = Size::new(3).expect(rt, "a size");
-    let mut history = Vec::new(alloc);
-    for board in boards {
-        let _pushed = history.push(colouring(rt, board));
-    }
-    let mut targets = PointSet::new();
-    targets.insert(size.point_at(0));
-    let mut region = PointSet::new();
+    let bytes = text.as_bytes();
+    let mut set = PointSet::new();
     for number in 0..size.area() {
-        region.insert(size.point_at(number));
-    }
-    let place = history.len().saturating_sub(1);
-    Problem::new(history, place, Colour::Black, 0, targets, region).expect(rt, "a problem")
-}
-
-// The state after the answer in which Black has those of the three points whose bits are set.
-fn with_stones(rt: &impl Abort, set: usize) -> Colouring {
-    let size = Size::new(3).expect(rt, "a size");
-    let mut state = colouring(rt, ANSWERED);
-    for at in 0..3usize {
-        if set >> at & 1 == 1 {
-            state.set(size.point_at(6 + at), go_points::Cell::Stone(Colour::Black));
+        if bytes.get(number).copied() == Some(b'x') {
+            set.insert(size.point_at(number));
         }
     }
-    state
+    set
 }
 
-// Black's moves in that state. The third stone takes all off.
-fn push_moves(set: usize, replies: &mut Vec<Reply>) -> Result<(), AllocError> {
-    for at in 0..3usize {
-        if set >> at & 1 == 0 {
-            let left = set | 1 << at;
-            let next = if left == 7 { 1 } else { 1 + left };
+// Black to move on the last of these boards, after the others; White's stone in the corner is the target.
+fn problem(rt: &impl Abort, alloc: Global, boards: &[&str]) -> Problem {
+    let mut history = Vec::new(alloc);
+    for board in boards {
+        history.push(colouring(rt, board)).expect(rt, "memory");
+    }
+    let place = history.len().saturating_sub(1);
+    let target = marked(rt, "x........");
+    let region = marked(rt, "xxxxxxxxx");
+    Problem::new(history, place, Colour::Black, 0, target, region).expect(rt, "a problem")
+}
+
+// The moves in the state of this place.
+fn push_moves(place: usize, replies: &mut Vec<Reply>) -> Result<(), AllocError> {
+    for row in MOVES {
+        if row.0 == place {
             replies.push(Reply {
-                point: 6 + at,
+                point: row.1,
                 answer: None,
-                next,
+                next: row.2,
             })?;
         }
     }
@@ -65,86 +87,70 @@ fn push_moves(set: usize, replies: &mut Vec<Reply>) -> Result<(), AllocError> {
 }
 
 // The claim, with this answer to Black's first move.
-fn claim(
-    rt: &impl Abort,
-    alloc: Global,
-    answer: Option<usize>,
-    next: usize,
-) -> Result<Claim, AllocError> {
-    let begin = colouring(rt, BOARD);
+fn claim(rt: &impl Abort, alloc: Global, answer: Option<usize>, next: usize) -> Claim {
     let mut states = Vec::new(alloc);
     let mut replies = Vec::new(alloc);
     let mut ends = Vec::new(alloc);
-    states.push(begin)?;
-    replies.push(Reply {
+    let first = Reply {
         point: 3,
         answer,
         next,
-    })?;
-    ends.push(replies.len())?;
-    for set in 0..7usize {
-        states.push(with_stones(rt, set))?;
-        push_moves(set, &mut replies)?;
-        ends.push(replies.len())?;
+    };
+    replies.push(first).expect(rt, "memory");
+    for place in 0..STATES.len() {
+        states
+            .push(colouring(rt, STATES[place]))
+            .expect(rt, "memory");
+        push_moves(place, &mut replies).expect(rt, "memory");
+        ends.push(replies.len()).expect(rt, "memory");
     }
-    Ok(Claim {
+    Claim {
         ground: Ground {
             cells: colouring(rt, "O.O.OO..."),
             marks: colouring(rt, "...O....."),
             keeper: Colour::White,
         },
-        begin,
+        begin: colouring(rt, BOARD),
         first: None,
         states,
         replies,
         ends,
-    })
+    }
 }
 
-// What the judge says of the claim with this first answer, after these boards.
-fn verdict(
+// Expects this of the claim with this first answer, after these boards.
+fn expect_verdict(
     rt: &impl Abort,
     alloc: Global,
     boards: &[&str],
     answer: Option<usize>,
     next: usize,
-) -> Option<Fault> {
-    let claim = claim(rt, alloc, answer, next).expect(rt, "a claim");
-    judge(&problem(rt, alloc, boards), &claim).err()
-}
-
-fn expect_that(rt: &impl Abort, fact: bool) {
-    assert!(rt; fact);
+    wanted: Option<Fault>,
+) {
+    let claim = claim(rt, alloc, answer, next);
+    let said = judge(&problem(rt, alloc, boards), &claim).err();
+    assert!(rt; said == wanted);
 }
 
 #[test]
 fn an_answer_keeps_the_group(rt: HostRuntime) {
-    expect_that(
-        &rt,
-        verdict(&rt, rt.alloc(), &[BOARD], Some(3), 1).is_none(),
-    );
+    expect_verdict(&rt, rt.alloc(), &[BOARD], Some(3), 1, None);
 }
 
 #[test]
 fn a_pass_does_not(rt: HostRuntime) {
     let wanted = Some(Fault::NotAnswered { state: 0, point: 3 });
-    expect_that(&rt, verdict(&rt, rt.alloc(), &[BOARD], None, 1) == wanted);
+    expect_verdict(&rt, rt.alloc(), &[BOARD], None, 1, wanted);
 }
 
 #[test]
 fn the_state_after_the_answer_has_to_be_covered(rt: HostRuntime) {
     let wanted = Some(Fault::NotAnswered { state: 0, point: 3 });
-    expect_that(
-        &rt,
-        verdict(&rt, rt.alloc(), &[BOARD], Some(3), 2) == wanted,
-    );
+    expect_verdict(&rt, rt.alloc(), &[BOARD], Some(3), 2, wanted);
 }
 
 #[test]
 fn a_board_that_has_been_bars_the_answer(rt: HostRuntime) {
     let boards = [ANSWERED, BOARD];
-    expect_that(
-        &rt,
-        verdict(&rt, rt.alloc(), &boards, Some(3), 1) == Some(Fault::PastBars),
-    );
+    expect_verdict(&rt, rt.alloc(), &boards, Some(3), 1, Some(Fault::PastBars));
 }

@@ -2,12 +2,13 @@
 //!
 //! The line of play that is searched is a stack of frames, with the children of all of them in one list. The work goes down to the
 //! child with the least number for the mover, and comes back when the child is settled or its numbers reach their thresholds. What
-//! is known of its own children is kept, so it is no step when the work comes back to it. A settled state becomes a proof, which is
-//! used again wherever its conditions on the past hold.
+//! is known of its own children is kept, so it need not be expanded when the work comes back to it; it is opened again, which counts
+//! too. A settled state becomes a proof, which is used again wherever its conditions on the past hold.
 //!
 //! Nothing is promised about the numbers: what is found is given to the checker.
 
-ghost use Rattle.std.specs.Prelude.{◌≡◌, ◌≤◌, ◌<◌, IfErr};
+ghost use Rattle.std.specs.Prelude.{◌≡◌, ◌≤◌, ◌<◌, OnOk, IfErr};
+ghost use Rattle.state_proofs.specs.Work.{work};
 ghost use Rattle.state_proofs.specs.declared.stop.Stop.TheVariants.{Steps};
 
 use crate::frame::{Child, Frame, Outcome, numbers_of, standing_of, thresholds_below};
@@ -23,11 +24,7 @@ use std::alloc::{AllocError, Global};
 use std::num::NonZeroUsize;
 use target_game::Problem;
 
-/// More rounds than there are between two steps. Each round removes a frame, settles a child, or goes down to a child whose
-/// children were kept and whose numbers are below its thresholds, so there are fewer than this.
-const MAX_ROUNDS: u32 = 1_000_000;
-
-/// A search, between two steps.
+/// A search.
 #[derive(Drop)]
 pub struct Search {
     pub(crate) line: Line,
@@ -45,17 +42,6 @@ pub struct Search {
     pub(crate) branches: Vec<Branch>,
     /// The barred positions of one state.
     pub(crate) barred: Vec<u64>,
-}
-
-/// What has to be done after a round.
-#[derive(Clone, Copy)]
-enum Round {
-    /// Another round.
-    Again,
-    /// The state at the end of the line is to be expanded, and to be worked on until it reaches these thresholds.
-    Expand(Thresholds),
-    /// The first state is settled.
-    Settled(u32),
 }
 
 impl Search {
@@ -91,33 +77,43 @@ impl Search {
         ensures floor { floor ≤ left.new }
         ensures all { IfErr result (λ stop. stop ≡ Steps → left.new ≡ floor) }
     {
+        let mut steps = state_proofs::Steps::of(*left, floor);
+        let settled = self.settle_within(&mut steps);
+        *left = steps.left;
+        settled
+    }
+
+    /// Searches the state at the end of the line until it is settled or no step may be made. The line is then as it was.
+    pub(crate) fn settle_within(&mut self, steps: &mut state_proofs::Steps) -> Result<u32, Stop>
+        ensures fewer { steps.new.left ≤ steps.old.left }
+        ensures floor { steps.new.floor ≡ steps.old.floor }
+        ensures above { steps.old.floor ≤ steps.old.left → steps.new.floor ≤ steps.new.left }
+        ensures work { work steps.new ≤ work steps.old }
+        ensures all { IfErr result (λ stop. stop ≡ Steps → steps.new.left ≤ steps.new.floor) }
+    {
         let turns = self.line.len();
         self.frames.clear();
         self.children.clear();
-        let settled = self.search(floor, left);
+        let settled = self.search(steps);
         self.line.back_to(turns);
         settled
     }
 
     /// The search, which leaves the line where it ends.
-    fn search(&mut self, floor: u64, left: &mut u64) -> Result<u32, Stop>
-        requires floor { floor ≤ left.old }
-        ensures fewer { left.new ≤ left.old }
-        ensures floor { floor ≤ left.new }
-        ensures all { IfErr result (λ stop. stop ≡ Steps → left.new ≡ floor) }
+    fn search(&mut self, steps: &mut state_proofs::Steps) -> Result<u32, Stop>
+        ensures fewer { steps.new.left ≤ steps.old.left }
+        ensures floor { steps.new.floor ≡ steps.old.floor }
+        ensures above { steps.old.floor ≤ steps.old.left → steps.new.floor ≤ steps.new.left }
+        ensures work { work steps.new ≤ work steps.old }
+        ensures all { IfErr result (λ stop. stop ≡ Steps → steps.new.left ≤ steps.new.floor) }
     {
-        let mut thresholds = Thresholds::none();
-        while *left > floor {
-            *left -= 1;
-            match self.step(thresholds) {
-                Ok(Round::Settled(number)) => return Ok(number),
-                Ok(Round::Expand(below)) => thresholds = below,
-                // The work never stops in the middle of rounds.
-                Ok(Round::Again) => return Err(Stop::Refused(Refusal::Fault)),
-                Err(refusal) => return Err(Stop::Refused(refusal)),
+        self.open(Thresholds::none(), None, steps)?;
+        'rounds: loop {
+            steps.begin_round()?;
+            if let Some(number) = self.round(steps)? {
+                return Ok(number);
             }
         }
-        Err(Stop::Steps)
     }
 
     /// The proof of a state one turn further that holds there.
@@ -133,17 +129,29 @@ impl Search {
         Some((proof.winner, number))
     }
 
-    /// Expands the state at the end of the line, and goes on until another state has to be expanded or the first is settled.
-    fn step(&mut self, thresholds: Thresholds) -> Result<Round, Refusal> {
-        self.expand(thresholds, None)?;
-        for _ in 0..MAX_ROUNDS {
-            let round = self.round()?;
-            if !matches!(round, Round::Again) {
-                return Ok(round);
+    /// Adds the frame of the state at the end of the line: a step, or a state that is opened again if what is known of its children is
+    /// kept.
+    fn open(
+        &mut self,
+        thresholds: Thresholds,
+        kept: Option<KeptState>,
+        steps: &mut state_proofs::Steps,
+    ) -> Result<(), Stop>
+        ensures fewer { steps.new.left ≤ steps.old.left }
+        ensures floor { steps.new.floor ≡ steps.old.floor }
+        ensures above { steps.old.floor ≤ steps.old.left → steps.new.floor ≤ steps.new.left }
+        ensures work { work steps.new ≤ work steps.old }
+        ensures less { OnOk result (work steps.new < work steps.old) }
+        ensures all { IfErr result (λ stop. stop ≡ Steps → steps.new.left ≤ steps.new.floor) }
+    {
+        if let Some(kept) = kept {
+            if self.kept.has(kept) {
+                steps.open_again()?;
+                return Ok(self.expand(thresholds, Some(kept))?);
             }
         }
-        // There are fewer rounds, so this never happens.
-        Err(Refusal::Fault)
+        steps.take()?;
+        Ok(self.expand(thresholds, None)?)
     }
 
     /// The children of the frame, which is the last.
@@ -151,27 +159,34 @@ impl Search {
         part_from(self.children.as_slice(), frame.first)
     }
 
-    /// Settles the last frame, leaves it, or goes down from it.
-    fn round(&mut self) -> Result<Round, Refusal> {
+    /// Settles the last frame, leaves it, or goes down from it. Returns the proof of the first state if that is settled.
+    fn round(&mut self, steps: &mut state_proofs::Steps) -> Result<Option<u32>, Stop>
+        ensures fewer { steps.new.left ≤ steps.old.left }
+        ensures floor { steps.new.floor ≡ steps.old.floor }
+        ensures above { steps.old.floor ≤ steps.old.left → steps.new.floor ≤ steps.new.left }
+        ensures work { work steps.new ≤ work steps.old }
+        ensures all { IfErr result (λ stop. stop ≡ Steps → steps.new.left ≤ steps.new.floor) }
+    {
         let Some(frame) = self.frames.last().copied() else {
-            return Err(Refusal::Fault);
+            return Err(Stop::Refused(Refusal::Fault));
         };
         match standing_of(self.children_of(frame)) {
-            Standing::Wins => self.settle_last(frame, Form::Turn),
-            Standing::Loses => self.settle_last(frame, Form::Replies),
+            Standing::Wins => Ok(self.settle_last(frame, Form::Turn)?),
+            Standing::Loses => Ok(self.settle_last(frame, Form::Replies)?),
             Standing::Open(count) => {
                 let numbers = numbers_of(count);
                 if self.frames.len() > 1 && frame.thresholds.are_reached(numbers) {
                     self.leave_open(frame, numbers);
-                    return Ok(Round::Again);
+                    return Ok(None);
                 }
-                self.go_down(frame, count)
+                self.go_down(frame, count, steps)?;
+                Ok(None)
             }
         }
     }
 
-    /// Makes the proof of the last frame, and gives it to the frame above.
-    fn settle_last(&mut self, frame: Frame, form: Form) -> Result<Round, Refusal> {
+    /// Makes the proof of the last frame, and gives it to the frame above. Returns it if there is none above.
+    fn settle_last(&mut self, frame: Frame, form: Form) -> Result<Option<u32>, Refusal> {
         let winner = match form {
             Form::Turn => frame.key.mover,
             _ => frame.key.mover.opponent(),
@@ -179,11 +194,11 @@ impl Search {
         let number = self.prove(frame, winner, form)?;
         self.leave(frame);
         match self.frames.last().copied() {
-            None => Ok(Round::Settled(number)),
+            None => Ok(Some(number)),
             Some(above) => {
                 let outcome = outcome_by(winner == above.key.mover, Below::Proof(number));
                 self.set_outcome(above.current, outcome, None);
-                Ok(Round::Again)
+                Ok(None)
             }
         }
     }
@@ -234,23 +249,34 @@ impl Search {
     }
 
     /// Goes down to the child with the least number, or settles it if it has been proved in the meantime.
-    fn go_down(&mut self, frame: Frame, count: Count) -> Result<Round, Refusal> {
+    fn go_down(
+        &mut self,
+        frame: Frame,
+        count: Count,
+        steps: &mut state_proofs::Steps,
+    ) -> Result<(), Stop>
+        ensures fewer { steps.new.left ≤ steps.old.left }
+        ensures floor { steps.new.floor ≡ steps.old.floor }
+        ensures above { steps.old.floor ≤ steps.old.left → steps.new.floor ≤ steps.new.left }
+        ensures work { work steps.new ≤ work steps.old }
+        ensures all { IfErr result (λ stop. stop ≡ Steps → steps.new.left ≤ steps.new.floor) }
+    {
         let place = frame.first.saturating_add(count.best);
         let Some(child) = self.children.get(place).copied() else {
-            return Err(Refusal::Fault);
+            return Err(Stop::Refused(Refusal::Fault));
         };
         let turn = child.turn;
         let key = key_after(frame.key, turn, child.position);
         if let Some((winner, number)) = self.proved(key) {
             let outcome = outcome_by(winner == frame.key.mover, Below::Proof(number));
             self.set_outcome(place, outcome, None);
-            return Ok(Round::Again);
+            return Ok(());
         }
         let Outcome::Open(numbers) = child.outcome else {
-            return Err(Refusal::Fault);
+            return Err(Stop::Refused(Refusal::Fault));
         };
         if self.line.len() >= MAX_LINE {
-            return Err(Refusal::Limit);
+            return Err(Stop::Refused(Refusal::Limit));
         }
         let last = self.frames.len().saturating_sub(1);
         if last < self.frames.len() {
@@ -258,14 +284,7 @@ impl Search {
         }
         self.line.go(child.turn, key)?;
         let thresholds = thresholds_below(frame.thresholds, count, numbers);
-        if let Some(kept) = child.kept {
-            if self.kept.has(kept) {
-                // It is not a step, since nothing is expanded for the first time.
-                self.expand(thresholds, Some(kept))?;
-                return Ok(Round::Again);
-            }
-        }
-        Ok(Round::Expand(thresholds))
+        self.open(thresholds, child.kept, steps)
     }
 }
 

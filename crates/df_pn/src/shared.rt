@@ -26,19 +26,23 @@ pub fn prove(
         return Err(Stop::Refused(Refusal::Memory));
     };
     let before = *left;
-    let found = match search.settle(0, left) {
+    let mut steps = state_proofs::Steps::of(before, 0);
+    let found = match search.settle_within(&mut steps) {
         Ok(found) => found,
-        Err(stop) => return Err(stop),
+        Err(stop) => {
+            *left = steps.left;
+            return Err(stop);
+        }
     };
-    let used = before - *left;
+    *left = steps.left;
+    let used = before - steps.left;
     let mut smaller = Smaller::of(alloc, search);
     let root = match answers {
         Answers::First | Answers::Short => found,
         Answers::Small => {
-            let mut own = steps_for_smaller(used).min(*left);
-            let rest = *left - own;
-            let root = smaller.shrink(found, &mut own);
-            *left = rest + own;
+            let _floor = steps.begin(steps_for_smaller(used));
+            let root = smaller.shrink(found, &mut steps);
+            *left = steps.left;
             root
         }
     };

@@ -4,10 +4,11 @@
 //! was made elsewhere and holds here; for the winner's turn, another turn that a short search shows to win as well.
 
 ghost use Rattle.std.specs.Prelude.{◌≤◌};
+ghost use Rattle.state_proofs.specs.Work.{work};
 
 use crate::asked::{Asked, Question};
 use crate::search::Search;
-use state_proofs::{Below, Form, MAX_TRIED, Refusal, Stop, Visit, Visits};
+use state_proofs::{Below, Form, MAX_TRIED, Refusal, Steps, Stop, Visit, Visits};
 use std::alloc::{AllocError, Global};
 
 /// The rounds over a proof.
@@ -30,13 +31,14 @@ impl Smaller {
 
     /// A smaller proof of the first state than this one. It makes rounds until one gains less than a hundredth or no step is left.
     /// If memory is refused, the last proof stays.
-    pub(crate) fn shrink(&mut self, root: u32, left: &mut u64) -> u32
-        ensures { left.new ≤ left.old }
+    pub(crate) fn shrink(&mut self, root: u32, steps: &mut Steps) -> u32
+        ensures fewer { steps.new.left ≤ steps.old.left }
+        ensures work { work steps.new ≤ work steps.old }
     {
         let mut root = root;
-        for _ in 0..u64::MAX {
+        'rounds: while steps.begin_round().is_ok() {
             let before = self.search.proofs.turns_of(root);
-            let found = self.round(root, left);
+            let found = self.round(root, steps);
             self.search.line.back_to(0);
             let Ok(next) = found else {
                 return root;
@@ -45,7 +47,7 @@ impl Smaller {
             if after <= before {
                 root = next;
             }
-            if *left == 0 || after >= before - before / 100 {
+            if steps.are_made() || after >= before - before / 100 {
                 return root;
             }
         }
@@ -53,13 +55,15 @@ impl Smaller {
     }
 
     /// One round from the first state. Returns its proof after the round.
-    fn round(&mut self, root: u32, left: &mut u64) -> Result<u32, Refusal>
-        ensures { left.new ≤ left.old }
+    fn round(&mut self, root: u32, steps: &mut Steps) -> Result<u32, Stop>
+        ensures fewer { steps.new.left ≤ steps.old.left }
+        ensures work { work steps.new ≤ work steps.old }
     {
         self.visits.clear();
         self.asked.clear();
-        let mut done = self.enter(root, left)?;
-        for _ in 0..u64::MAX {
+        let mut done = self.enter(root, steps)?;
+        'rounds: loop {
+            steps.begin_round()?;
             if let Some(number) = done {
                 if self.visits.is_empty() {
                     return Ok(number);
@@ -67,18 +71,18 @@ impl Smaller {
                 self.search.line.back();
                 self.take_smallest(number)?;
             }
-            done = self.go_on(left)?;
+            done = self.go_on(steps)?;
         }
-        Err(Refusal::Fault)
     }
 
     /// Asks the next question of the last state, or makes its proof. Returns the proof of the state at the end of the line once
     /// there is one.
-    fn go_on(&mut self, left: &mut u64) -> Result<Option<u32>, Refusal>
-        ensures { left.new ≤ left.old }
+    fn go_on(&mut self, steps: &mut Steps) -> Result<Option<u32>, Stop>
+        ensures fewer { steps.new.left ≤ steps.old.left }
+        ensures work { work steps.new ≤ work steps.old }
     {
         let Some(visit) = self.visits.last() else {
-            return Err(Refusal::Fault);
+            return Err(Stop::Refused(Refusal::Fault));
         };
         let Some(asked) = self.asked.get(visit.next).copied() else {
             return Ok(Some(self.leave(visit)?));
@@ -90,30 +94,31 @@ impl Smaller {
             }
             Question::Smaller(number) => {
                 self.search.line.go(asked.turn, asked.key)?;
-                self.enter(number, left)
+                self.enter(number, steps)
             }
             Question::Wins => {
-                self.ask_another(visit.proof.turns, asked, left)?;
+                self.ask_another(visit.proof.turns, asked, steps)?;
                 Ok(None)
             }
         }
     }
 
     /// Begins with the proof of the state at the end of the line, or returns the proof that can replace it at once.
-    fn enter(&mut self, number: u32, left: &mut u64) -> Result<Option<u32>, Refusal>
-        ensures { left.new ≤ left.old }
+    fn enter(&mut self, number: u32, steps: &mut Steps) -> Result<Option<u32>, Stop>
+        ensures fewer { steps.new.left ≤ steps.old.left }
+        ensures work { work steps.new ≤ work steps.old }
     {
         let Some(proof) = self.search.proofs.get(number) else {
-            return Err(Refusal::Fault);
+            return Err(Stop::Refused(Refusal::Fault));
         };
-        if *left == 0 {
+        if steps.are_made() {
             return Ok(Some(number));
         }
         let past = self.search.line.past();
         if let Some(known) = self.visits.known(&self.search.proofs, past, number) {
             return Ok(Some(known));
         }
-        *left -= 1;
+        steps.take()?;
         self.search.line.list_moves(&mut self.search.moves)?;
         let first = self.asked.len();
         match proof.form {
@@ -125,13 +130,14 @@ impl Smaller {
     }
 
     /// Asks whether the winner wins by another turn than the proof's own, which has this many turns.
-    fn ask_another(&mut self, turns: u64, asked: Asked, left: &mut u64) -> Result<(), Refusal>
-        ensures { left.new ≤ left.old }
+    fn ask_another(&mut self, turns: u64, asked: Asked, steps: &mut Steps) -> Result<(), Stop>
+        ensures fewer { steps.new.left ≤ steps.old.left }
+        ensures work { work steps.new ≤ work steps.old }
     {
         let tried = asked;
-        if let Some(number) = self.found_after(turns, tried, left)? {
+        if let Some(number) = self.found_after(turns, tried, steps)? {
             if self.visits.wins_by(&self.search.proofs, number) {
-                return self.take(asked, Below::Proof(number));
+                return Ok(self.take(asked, Below::Proof(number))?);
             }
         }
         self.visits.pass_on();
@@ -143,9 +149,10 @@ impl Smaller {
         &mut self,
         turns: u64,
         asked: Asked,
-        left: &mut u64,
-    ) -> Result<Option<u32>, Refusal>
-        ensures { left.new ≤ left.old }
+        steps: &mut Steps,
+    ) -> Result<Option<u32>, Stop>
+        ensures fewer { steps.new.left ≤ steps.old.left }
+        ensures work { work steps.new ≤ work steps.old }
     {
         if let Some(found) = self.search.proof_after(asked.key) {
             return Ok(Some(found));
@@ -153,22 +160,24 @@ impl Smaller {
         if turns <= MAX_TRIED {
             return Ok(None);
         }
-        self.try_turn(asked, left)
+        self.try_turn(asked, steps)
     }
 
     /// Searches the state after the turn for a few steps.
-    fn try_turn(&mut self, asked: Asked, left: &mut u64) -> Result<Option<u32>, Refusal>
-        ensures { left.new ≤ left.old }
+    fn try_turn(&mut self, asked: Asked, steps: &mut Steps) -> Result<Option<u32>, Stop>
+        ensures fewer { steps.new.left ≤ steps.old.left }
+        ensures work { work steps.new ≤ work steps.old }
     {
         self.search.line.go(asked.turn, asked.key)?;
-        let floor = left.saturating_sub(MAX_TRIED);
-        let found = self.search.settle(floor, left);
+        let floor = steps.begin(MAX_TRIED);
+        let found = self.search.settle_within(steps);
+        steps.end(floor);
         self.search.line.back();
         match found {
             Ok(number) => Ok(Some(number)),
             Err(Stop::Steps) => Ok(None),
             Err(Stop::Refused(Refusal::Limit)) => Ok(None),
-            Err(Stop::Refused(refusal)) => Err(refusal),
+            Err(stop) => Err(stop),
         }
     }
 

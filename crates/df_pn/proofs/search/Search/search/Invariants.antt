@@ -1,8 +1,13 @@
-use Rattle.std.proofs.Common.{◌≤◌}
+use Rattle.std.proofs.Common.{◌≤◌, ◌≡◌}
+use Rattle.state_proofs.specs.Work.{work}
 use Rattle.df_pn.proofs.search.Search.search.Given as goal
 
-abbrev pub invariant-loop-left : goal.invariant-loop-left
-invariant-loop-left l = (l.left ≤ l.fn.left) × (l.floor ≤ l.left)
+abbrev pub invariant-rounds : goal.invariant-rounds
+invariant-rounds l =
+    (work l.steps ≤ work l.fn.steps)
+    × ((l.steps.left ≤ l.fn.steps.left)
+    × ((l.steps.floor ≡ l.fn.steps.floor)
+    × (l.fn.steps.floor ≤ l.fn.steps.left → l.steps.floor ≤ l.steps.left)))
 
-abbrev pub decreases-loop-left : goal.decreases-loop-left
-decreases-loop-left l = l.left
+abbrev pub decreases-rounds : goal.decreases-rounds
+decreases-rounds l = work l.steps

@@ -38,15 +38,17 @@ pub struct Steps {
 }
 
 impl Steps {
-    /// These steps, down to this floor, of which none has been made.
+    /// These steps, down to this floor, of which none has been made. As many rounds as a step pays for are paid for, so that what is
+    /// settled without a step needs none.
     pub fn of(left: u64, floor: u64) -> Steps
         ensures left { result.left ≡ left }
         ensures floor { result.floor ≡ floor }
+        ensures rounds { result.rounds ≡ 1024 }
     {
         Steps {
             left,
             floor,
-            rounds: 0,
+            rounds: ROUNDS,
             in_a_row: 0,
         }
     }

@@ -4,14 +4,15 @@ ghost use Rattle.std.specs.Prelude.{IsTrue};
 ghost use Rattle.group_status.specs.Shape.{LivesAnywhere};
 
 use crate::group::Group;
-use crate::json::{begun, letter, push_rows};
-use crate::lines::{colour_name, push_point};
+use crate::json::{begun, push_rows};
+use crate::lines::push_point;
 use crate::table::Table;
 use go_chains::ChainBoard;
 use go_points::{Colour, Colouring, Point, PointSet};
 use group_words::Side;
 use pass_alive::is_pass_alive;
 use std::alloc::{AllocError, Global};
+use tool_parts::{colour_letter, colour_name};
 use tsumego_problem::all_points;
 
 /// Whether the stone of this colour at the point lives by its shape, wherever on the board moves are made. It takes a few
@@ -68,8 +69,8 @@ pub(crate) fn by_shape_object(
     match first {
         None => text.push_str(",\"status\":\"alive\",\"word\":\"proved\"")?,
         Some(side) => {
-            let mover = letter(side.colour(group.defender));
-            let winner = letter(group.defender);
+            let mover = colour_letter(side.colour(group.defender));
+            let winner = colour_letter(group.defender);
             write!(
                 text,
                 ",\"first\":\"{mover}\",\"word\":\"proved\",\"winner\":\"{winner}\""

@@ -2,7 +2,7 @@
 
 use crate::group::Group;
 use crate::json::cause_name;
-use crate::lines::{colour_name, push_point};
+use crate::lines::push_point;
 use crate::table::Table;
 use cert_check::Checked;
 use go_points::Colour;
@@ -13,6 +13,7 @@ use sgf_text::{WriteFault, write_bytes, write_tree};
 use short_proofs::{Proved, prove};
 use std::alloc::{AllocError, Global};
 use target_game::Problem;
+use tool_parts::colour_name;
 use tsumego_problem::problem_tree;
 
 /// The lines, and after them each question that was decided: a line that says which, its record, and its claim. If the steps find

@@ -7,14 +7,7 @@ use go_points::{Colour, PointSet, Size};
 use group_words::{Fate, Finding, Judgement, Side, Word};
 use pn_search::Cause;
 use std::alloc::{AllocError, Global};
-
-/// The letter of a colour.
-pub(crate) fn letter(colour: Colour) -> char {
-    match colour {
-        Colour::Black => 'B',
-        Colour::White => 'W',
-    }
-}
+use tool_parts::colour_letter;
 
 /// Which way a fate that is not decided leans.
 fn leans(fate: Fate) -> &'static str {
@@ -63,7 +56,7 @@ pub(crate) fn found_object(
     finding: &Finding,
 ) -> Result<String, AllocError> {
     let mut text = begun(alloc, group)?;
-    let mover = letter(first.colour(group.defender));
+    let mover = colour_letter(first.colour(group.defender));
     let word = finding.word.name();
     write!(text, ",\"first\":\"{mover}\",\"word\":\"{word}\"")?;
     let winner = if is_decided(finding.word) {
@@ -101,7 +94,7 @@ fn push_named_winner(
 ) -> Result<(), AllocError> {
     match winner {
         Some(side) => {
-            let name = letter(side.colour(defender));
+            let name = colour_letter(side.colour(defender));
             write!(text, ",\"{key}\":\"{name}\"")
         }
         None => write!(text, ",\"{key}\":null"),
@@ -124,7 +117,7 @@ pub(crate) fn push_rows(text: &mut String, group: &Group, table: &Table) -> Resu
 
 /// Appends a question: who moves first, its size and walls, its points, the stones that were placed, and who wins.
 fn push_row(text: &mut String, group: &Group, table: &Table, row: &Row) -> Result<(), AllocError> {
-    let mover = letter(row.first.colour(group.defender));
+    let mover = colour_letter(row.first.colour(group.defender));
     let points = row.count;
     let walls = row.walls.name();
     write!(

@@ -1,11 +1,15 @@
 //! What is found, as lines for a reader.
 
+ghost use Rattle.std.specs.Prelude.{◌≡◌};
+ghost use Rattle.group_words.specs.Sides.{end_text};
+
 use crate::group::Group;
 use crate::table::{Row, Table};
 use go_points::{Colour, Point, Size, Turn, to_gtp};
 use group_words::{Fate, Finding, Judgement, Side, Word};
 use regions::Walls;
 use std::alloc::{AllocError, Global};
+use tool_parts::colour_name;
 
 /// All walls that are asked about, in the order in which they are reported.
 const WALLS: [Walls; 6] = [
@@ -28,16 +32,10 @@ pub(crate) fn push_point(text: &mut String, size: Size, point: Point) -> Result<
     Ok(())
 }
 
-/// The name of a colour in a sentence.
-pub(crate) fn colour_name(colour: Colour) -> &'static str {
-    match colour {
-        Colour::Black => "Black",
-        Colour::White => "White",
-    }
-}
-
 /// What happens to the target if this side wins.
-pub(crate) fn end_name(winner: Option<Side>) -> &'static str {
+pub(crate) fn end_name(winner: Option<Side>) -> &'static str
+    ensures { result.now ≡ end_text winner }
+{
     match winner {
         Some(Side::Attacker) => "dies",
         Some(Side::Defender) => "lives",

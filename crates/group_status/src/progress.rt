@@ -1,12 +1,13 @@
 //! How far a run is, on standard error. It does not matter if a note cannot be written.
 
 use crate::group::Group;
-use crate::lines::{colour_name, end_name, push_point};
+use crate::lines::{end_name, push_point};
 use crate::table::Row;
 use group_words::Side;
 use sgf_text::write_bytes;
 use std::alloc::{AllocError, Global};
 use std::io::Write;
+use tool_parts::colour_name;
 
 /// Reports a question that has been asked.
 pub(crate) fn tell_row<N: Write>(

@@ -1,5 +1,8 @@
 //! The questions about a group, each asked once.
 
+ghost use Rattle.std.specs.Prelude.{IfSome};
+ghost use Rattle.group_status.specs.Winner.{HasWinnerAt};
+
 use crate::asked::{Asked, ask};
 use crate::group::Group;
 use crate::past::{bars_a_turn, without_past};
@@ -70,7 +73,9 @@ impl Table {
     }
 
     /// Who wins the problem at this place, if that is known.
-    pub(crate) fn winner_at(&self, place: Option<usize>, defender: Colour) -> Option<Side> {
+    pub(crate) fn winner_at(&self, place: Option<usize>, defender: Colour) -> Option<Side>
+        ensures { IfSome result (HasWinnerAt self.now place defender) }
+    {
         let asked = self.asked.get(place?)?;
         match asked.winner {
             Some(colour) => Some(Side::of(colour, defender)),

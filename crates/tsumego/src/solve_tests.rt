@@ -65,23 +65,25 @@ fn what_is_written_is_accepted(rt: HostRuntime) {
 // Black may play at aa, at ca, or pass, and White may only pass: both orders of Black's moves meet, in a state with two turns.
 const TWO_MOVES: &str = "(;SZ[5]AB[ba][da][ab][bb][cb][db]AW[ee]PL[B]TR[ee]SQ[aa][ca])";
 
-// Black may play at ea too: the orders of two moves meet, and a third may follow.
-const THREE_MOVES: &str = "(;SZ[5]AB[ba][da][ab][bb][cb][db][eb]AW[ee]PL[B]TR[ee]SQ[aa][ca][ea])";
+// Black may play at aa, at ca, at ea, or pass, and White may only pass: the orders of two moves meet, and a third may follow.
+const ORDERS: &str = "(;SZ[5]AB[ba][da][ab][bb][cb][db][eb]AW[ee]PL[B]TR[ee]SQ[aa][ca][ea])";
 
-// A state that occurs at several places becomes a lemma: one with three turns or more, or the first with two if there is none.
+// Where no state with three turns or more occurs at several places, the lowest one with two becomes a lemma.
 #[test]
 fn a_written_claim_shares_its_states(rt: HostRuntime) {
-    for record in [TWO_MOVES, THREE_MOVES] {
+    let claim = written(&rt, rt.alloc(), &["tsumego", "solve", "--proof"], TWO_MOVES);
+    expect_that(&rt, claim.as_str().contains("\nlemma "));
+    expect_that(&rt, claim.as_str().contains("\nuse 1\n"));
+}
+
+// States with three turns or more that occur at several places become lemmas: in ORDERS those after two of Black's three moves. A
+// claim that has lemmas is not made into one lemma.
+#[test]
+fn a_claim_that_has_lemmas_is_not_lifted(rt: HostRuntime) {
+    for record in [TWO_MOVES, ORDERS] {
         let claim = written(&rt, rt.alloc(), &["tsumego", "solve", "--proof"], record);
         expect_that(&rt, claim.as_str().contains("\nlemma "));
         expect_that(&rt, claim.as_str().contains("\nuse 1\n"));
-    }
-}
-
-#[test]
-fn a_claim_that_has_lemmas_is_not_lifted(rt: HostRuntime) {
-    for record in [TWO_MOVES, THREE_MOVES] {
-        let claim = written(&rt, rt.alloc(), &["tsumego", "solve", "--proof"], record);
         expect_that(&rt, !claim.as_str().ends_with("main\nuse 1\nend\n"));
         answers(
             &rt,

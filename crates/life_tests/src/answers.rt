@@ -1,46 +1,33 @@
-//! Claims that stones are safe by answers, by hand.
+//! Claims that stones are safe by answers.
 //!
 //! On three rows White has `O.O`, `.OO` and Black the row below. Black's move at the left end of the second row is suicide of four
-//! stones, and White answers there. The row below is then an eye of three points, in which Black's third stone is suicide.
+//! stones, and White answers there. The row below is then an eye of three points.
 
 use go_points::{Colour, Colouring, PointSet, Size};
-use safe_groups::{Claim, Fault, Ground, Reply, judge};
-use std::alloc::{AllocError, Global};
+use safe_groups::{Fault, Stop, judge};
+use std::alloc::Global;
 use std::process::Abort;
 use std::test::Fail;
 use target_game::Problem;
 
 const BOARD: &str = "O.O.OOXXX";
 
-const ANSWERED: &str = "O.OOOO...";
+// White answers Black's move where it was, and then rests.
+const CLAIM: &str =
+    "tsureply 1 3 W\narea #.#.##XXX\nbody\nstate .O...\nall 1\nreply ab ab 2\nrest\nend\n";
 
-// The board, and the states after White's answer.
-const STATES: [&str; 8] = [
-    "O.O.OOXXX",
-    "O.OOOO...",
-    "O.OOOOX..",
-    "O.OOOO.X.",
-    "O.OOOOXX.",
-    "O.OOOO..X",
-    "O.OOOOX.X",
-    "O.OOOO.XX",
-];
+// The same, without the state after the answer.
+const WITHOUT_STATE: &str = "tsureply 1 3 W\narea #.#.##XXX\nbody\nall 1\nreply ab ab 1\nend\n";
 
-// Black's moves in these states: the state, the point, and the state that is left. White passes.
-const MOVES: [(usize, usize, usize); 12] = [
-    (1, 6, 2),
-    (1, 7, 3),
-    (1, 8, 5),
-    (2, 7, 4),
-    (2, 8, 6),
-    (3, 6, 4),
-    (3, 8, 7),
-    (4, 8, 1),
-    (5, 6, 6),
-    (5, 7, 7),
-    (6, 7, 1),
-    (7, 6, 1),
-];
+// White passes in place of the answer.
+const WITHOUT_ANSWER: &str =
+    "tsureply 1 3 W\narea #.#.##XXX\nbody\nstate .O...\nall 1\nreply ab pass 2\nrest\nend\n";
+
+// White is said to rest at once.
+const WITHOUT_MOVES: &str = "tsureply 1 3 W\narea #.#.##XXX\nbody\nrest\nend\n";
+
+// A stone that is kept is not there.
+const OTHER_STONES: &str = "tsureply 1 3 W\narea ###.##XXX\nbody\nrest\nend\n";
 
 fn colouring(rt: &impl Abort, text: &str) -> Colouring {
     let size = Size::new(3).expect(rt, "a size");
@@ -72,85 +59,93 @@ fn problem(rt: &impl Abort, alloc: Global, boards: &[&str]) -> Problem {
     Problem::new(history, place, Colour::Black, 0, target, region).expect(rt, "a problem")
 }
 
-// The moves in the state of this place.
-fn push_moves(place: usize, replies: &mut Vec<Reply>) -> Result<(), AllocError> {
-    for row in MOVES {
-        if row.0 == place {
-            replies.push(Reply {
-                point: row.1,
-                answer: None,
-                next: row.2,
-            })?;
-        }
-    }
-    Ok(())
-}
-
-// The claim, with this answer to Black's first move.
-fn claim(rt: &impl Abort, alloc: Global, answer: Option<usize>, next: usize) -> Claim {
-    let mut states = Vec::new(alloc);
-    let mut replies = Vec::new(alloc);
-    let mut ends = Vec::new(alloc);
-    let first = Reply {
-        point: 3,
-        answer,
-        next,
-    };
-    replies.push(first).expect(rt, "memory");
-    for place in 0..STATES.len() {
-        states
-            .push(colouring(rt, STATES[place]))
-            .expect(rt, "memory");
-        push_moves(place, &mut replies).expect(rt, "memory");
-        ends.push(replies.len()).expect(rt, "memory");
-    }
-    Claim {
-        ground: Ground {
-            cells: colouring(rt, "O.O.OO..."),
-            marks: colouring(rt, "...O....."),
-            keeper: Colour::White,
-        },
-        begin: colouring(rt, BOARD),
-        first: None,
-        states,
-        replies,
-        ends,
-    }
-}
-
-// Expects this of the claim with this first answer, after these boards.
-fn expect_verdict(
+// Expects that the claim is refused in this line, for this reason, after these boards.
+fn expect_fault(
     rt: &impl Abort,
     alloc: Global,
     boards: &[&str],
-    answer: Option<usize>,
-    next: usize,
-    wanted: Option<Fault>,
+    claim: &str,
+    line: u64,
+    fault: Fault,
 ) {
-    let claim = claim(rt, alloc, answer, next);
-    let said = judge(&problem(rt, alloc, boards), &claim).err();
-    assert!(rt; said == wanted);
+    let mut nothing = b"".as_slice();
+    let said = judge(
+        alloc,
+        &problem(rt, alloc, boards),
+        claim.as_bytes(),
+        &mut nothing,
+    );
+    let reject = said.err().expect(rt, "a refusal");
+    assert!(rt; reject.line == line);
+    assert!(rt; reject.stop == Stop::Fault(fault));
 }
 
 #[test]
 fn an_answer_keeps_the_group(rt: HostRuntime) {
-    expect_verdict(&rt, rt.alloc(), &[BOARD], Some(3), 1, None);
+    let alloc = rt.alloc();
+    let mut nothing = b"".as_slice();
+    let said = judge(
+        alloc,
+        &problem(&rt, alloc, &[BOARD]),
+        CLAIM.as_bytes(),
+        &mut nothing,
+    );
+    let verdict = said.ok().expect(&rt, "a verdict");
+    assert!(rt; verdict.keeper == Colour::White);
+    assert!(rt; verdict.first.is_none());
+    assert!(rt; verdict.stones == colouring(&rt, "O.O.OO..."));
 }
 
 #[test]
-fn a_pass_does_not(rt: HostRuntime) {
-    let wanted = Some(Fault::NotAnswered { state: 0, point: 3 });
-    expect_verdict(&rt, rt.alloc(), &[BOARD], None, 1, wanted);
+fn the_state_after_the_answer_has_to_be_there(rt: HostRuntime) {
+    expect_fault(
+        &rt,
+        rt.alloc(),
+        &[BOARD],
+        WITHOUT_STATE,
+        5,
+        Fault::NotCovered,
+    );
 }
 
 #[test]
-fn the_state_after_the_answer_has_to_be_covered(rt: HostRuntime) {
-    let wanted = Some(Fault::NotAnswered { state: 0, point: 3 });
-    expect_verdict(&rt, rt.alloc(), &[BOARD], Some(3), 2, wanted);
+fn a_pass_is_no_answer(rt: HostRuntime) {
+    expect_fault(
+        &rt,
+        rt.alloc(),
+        &[BOARD],
+        WITHOUT_ANSWER,
+        6,
+        Fault::NotCovered,
+    );
 }
 
 #[test]
-fn a_board_that_has_been_bars_the_answer(rt: HostRuntime) {
-    let boards = [ANSWERED, BOARD];
-    expect_verdict(&rt, rt.alloc(), &boards, Some(3), 1, Some(Fault::PastBars));
+fn it_does_not_live_by_its_shape(rt: HostRuntime) {
+    expect_fault(
+        &rt,
+        rt.alloc(),
+        &[BOARD],
+        WITHOUT_MOVES,
+        4,
+        Fault::NotAtRest,
+    );
+}
+
+#[test]
+fn what_is_kept_has_to_be_there(rt: HostRuntime) {
+    expect_fault(
+        &rt,
+        rt.alloc(),
+        &[BOARD],
+        OTHER_STONES,
+        2,
+        Fault::KeptStoneMissing,
+    );
+}
+
+#[test]
+fn an_earlier_position_bars_the_answer(rt: HostRuntime) {
+    let before = "O.OOOO...";
+    expect_fault(&rt, rt.alloc(), &[before, BOARD], CLAIM, 6, Fault::PastBars);
 }

@@ -23,9 +23,10 @@ pub use Rattle.go_chains.specs.Joined.{IsWay}
 pub use Rattle.go_turns.specs.History.{has_occurred}
 pub use Rattle.target_game.specs.Legal.{holds_point}
 pub use Rattle.target_game.specs.State.{start}
-pub use Rattle.safe_groups.specs.Areas.{own, Area, IsWalled, Replies, Fits, States, is_outside, theirs, IsAnswered, Rooted, HoldsAt, IsAnswer, IsKnown, IsAtRest, PastFits, Points, after_answer, after_other}
+pub use Rattle.safe_groups.specs.Areas.{own, Area, IsWalled, Replies, Fits, States, is_outside, theirs, IsAnswered, Rooted, IsAnswer, IsKnown, IsAtRest, Leans, Points, after_answer, after_other}
 unfoldable pub use Rattle.safe_groups.specs.Areas.{clear_loose, opened}
-pub use Rattle.safe_groups.specs.Ground.{area_of, states_of, FitsAt, IsState, IsStateAnswered, IsWalledAt, shut_cell, BarsNone, IsOfBoard, part_cell}
-pub use Rattle.safe_groups.specs.Laws.{HasTargets, IsSafe, IsSafeByMove, area_in}
+pub use Rattle.safe_groups.specs.Together.{Areas, area_at, AreInOrder, RepliesTogether, PastFits, HoldsAt, AreListed, IsOwed, IsKept, in_one}
+pub use Rattle.safe_groups.specs.Laws.{IsSafe, IsSafeByMove}
 pub use Rattle.safe_groups.specs.Play.{StandThrough}
+pub use Rattle.safe_groups.specs.Ground.{area_of, marked, states_of, FitsAt, IsState, IsSized, IsStateAnswered, IsWalledAt, shut_cell, lifted_cell, BarsNone, IsOfBoard, part_cell}
 pub use Rattle.safe_groups.specs.declared.ground.Ground.{Ground}

@@ -88,11 +88,11 @@ module _ (a : Area) where
         let there : cell_at b p ≡ theirs a = fits.has_theirs p is none in
         ((λ e. cc (is, e)), (r.1.0, subst (λ x. IsPath a.size c x Empty p r.1.0) (sym is) (loose_back p r.1.0 is none (subst (λ x. IsPath a.size b x Empty p r.1.0) there r.1.1))))
 
-    -- clearing the keeper's stones takes none that the state has
-    pub fits_clear_own : length b ≡ a.size * a.size → ((p : ℕ) → cell_at c p ≡ own a → Reaches a.size c p Empty) → Fits a (clear a.size b a.keeper) c
+    -- clearing the keeper's stones takes none that the state has, if these reach empty on the board
+    pub fits_clear_own : length b ≡ a.size * a.size → ((p : ℕ) → cell_at c p ≡ own a → Reaches a.size b p Empty) → Fits a (clear a.size b a.keeper) c
     fits_clear_own full reach = record {
       has_own = λ p is.
-          let r = own_reaches p is (reach p is) in
+          let r = reach p is in
           reaching_stays a.size b a.keeper p (on_board_of a.size b p r) r ∙ fits.has_own p is;
       no_more = λ p within e. fits.no_more p within (stone_before a.size b a.keeper a.keeper p e).0;
       has_empty = λ p e. empty_stays a.size b a.keeper p (fits.has_empty p e);
@@ -150,7 +150,7 @@ module _ (a : Area) where
       rooted_way r q rs (adjacent_on_board a.size p r w.1).1 out w.2,
     )
 
-    rooted_still : (p : ℕ) → p < a.size * a.size → cell_at c p ≡ theirs a → Rooted a c p → Rooted a (clear_loose a c) p
+    pub rooted_still : (p : ℕ) → p < a.size * a.size → cell_at c p ≡ theirs a → Rooted a c p → Rooted a (clear_loose a c) p
     rooted_still p on is root =
         let there : cell_at (clear_loose a c) p ≡ theirs a = rooted_stays p on is root in
         let way = rooted_way p root.0 root.2.0 on root.1 (subst (λ x. IsWay a.size c x p root.0 root.2.0) is root.2.1) in

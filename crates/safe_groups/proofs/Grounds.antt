@@ -1,6 +1,9 @@
 -- What the judge finds of the states of an area.
-use Rattle.safe_groups.proofs.Common.{sym, subst, refl, ◌≡◌, ◌≢◌, ◌∙◌, List, ℕ, ap, IsTrue, true, false, Bool, inl, inr, [], ◌∷◌, ◌*◌, ◌<◌, ◌≤◌, ◌⊎◌, cond, not, length, set, arith, get_or-set_same, get_or-set_other, length-set, get_or_past, eq_same_cell, same_cell_eq, adjacent_on_board, on_or_off, reaches_path, clear, is_captured, cell_at, same_cell, opponent_of, reaches, IsPath, Reaches, Cell, Empty, Stone, Colour, cell_at-clear, stone_before, joined_self, Area, own, theirs, is_outside, IsWalled, Rooted, Fits, IsAtRest, opened, clear_loose, nat_lt, ltb-true, length-map-range_with_len, and_left, and_right, and_both, not_false, Ground, area_of, IsState, IsWalledAt, shut_cell, FitsAt}
+use Rattle.safe_groups.proofs.Common.{sym, subst, refl, ◌≡◌, ◌≢◌, ◌∙◌, List, ℕ, ap, IsTrue, true, false, Bool, inl, inr, [], ◌∷◌, ◌*◌, ◌<◌, ◌≤◌, ◌⊎◌, ◌&&◌, cond, not, length, set, arith, get_or-set_same, get_or-set_other, length-set, get_or_past, eq_same_cell, same_cell_eq, adjacent_on_board, on_or_off, reaches_path, clear, is_captured, cell_at, same_cell, adjacent, opponent_of, reaches, IsPath, Reaches, Cell, Empty, Stone, Colour, cell_at-clear, stone_before, joined_self, Area, own, theirs, is_outside, IsWalled, Rooted, Fits, IsAtRest, opened, clear_loose, nat_lt, ltb-true, length-map-range_with_len, and_left, and_right, and_both, not_false, Leans, Ground, area_of, IsState, IsWalledAt, shut_cell, FitsAt}
 use Rattle.std.proofs.Common.{◌+◌}
+use Rattle.go_chains.specs.Joined.{Joined}
+use Rattle.go_chains.proofs.Joins.{joined_on, joined_beside, reaches_beside}
+use Rattle.safe_groups.specs.Ground.{lifted_cell}
 use Rattle.go_points.proofs.Common.{ext_get_or}
 use Rattle.go_points.proofs.Lists.{and_false}
 unfoldable use Rattle.go_points.specs.Grid.{side_of}
@@ -57,23 +60,59 @@ module _ (a : Area) (c : List Cell) where
           go true out = sym (ap (λ v. cond v Empty (cell_at c p)) (spared out))
           go false within = ap (λ l. cell_at l p) is ∙ cleared_at a c p on ∙ ap (cond (vanishes a c p) Empty) (inside_at a c p on within)
 
--- where clearing changes nothing, all stones of the colour reach empty
-pub cleared_same : (n : ℕ) (c : List Cell) (k : Colour) → length c ≡ n * n → clear n c k ≡ c → (p : ℕ) → cell_at c p ≡ Stone k → Reaches n c p Empty
-cleared_same n c k full same p is = (reaches_path n c p Empty).0 (go (reaches n c p Empty) refl)
-  where
-    on : p < n * n
-    on = stone_on n c k p full is
+-- A state with the keeper's stones at some points taken away: what reaches empty there reaches empty, or leans on one of these points.
+module _ (a : Area) (c points lifted : List Cell) (cells : (p : ℕ) → p < a.size * a.size → cell_at lifted p ≡ lifted_cell a c points p) where
+  abbrev There : ℕ → Bool
+  There p = same_cell (cell_at points p) (own a)
 
-    go : (r : Bool) → reaches n c p Empty ≡ r → r ≡ true
-    go true e = refl
-    go false e =
-        let captured : is_captured n c k p ≡ true = and_both _ _ (eq_same_cell _ _ is) (ap not e) in
-        let gone : cell_at (clear n c k) p ≡ Empty = cell_at-clear n c k p on ∙ ap (λ b. cond b Empty (cell_at c p)) captured in
-        absurd (cc (sym gone ∙ ap (λ d. cell_at d p) same ∙ is))
+  stays_own : (p : ℕ) → p < a.size * a.size → cell_at lifted p ≡ own a → cell_at c p ≡ own a
+  stays_own p on e = go (There p && same_cell (cell_at c p) (own a)) (sym (cells p on) ∙ e)
+    where
+      go : (b : Bool) → cond b Empty (cell_at c p) ≡ own a → cell_at c p ≡ own a
+      go true f = absurd (cc f)
+      go false f = f
+
+  emptied_by : (p : ℕ) → p < a.size * a.size → cell_at lifted p ≡ Empty → (cell_at c p ≡ Empty) ⊎ (IsTrue (There p) × (cell_at c p ≡ own a))
+  emptied_by p on e = go (There p && same_cell (cell_at c p) (own a)) refl (sym (cells p on) ∙ e)
+    where
+      go : (b : Bool) → (There p && same_cell (cell_at c p) (own a)) ≡ b → cond b Empty (cell_at c p) ≡ Empty → (cell_at c p ≡ Empty) ⊎ (IsTrue (There p) × (cell_at c p ≡ own a))
+      go true both f = inr (and_left (There p) (same_cell (cell_at c p) (own a)) both, same_cell_eq _ _ (and_right (There p) (same_cell (cell_at c p) (own a)) both))
+      go false both f = inl f
+
+  joined_next : (p q : ℕ) → cell_at c p ≡ own a → IsTrue (adjacent a.size p q) → cell_at c q ≡ own a → Joined a.size c p q
+  joined_next p q is adj next = joined_beside a.size c p p q (joined_self a.size c p) adj (next ∙ sym is)
+
+  lean_path : (p : ℕ) (qs : List ℕ) → p < a.size * a.size → cell_at c p ≡ own a → IsPath a.size lifted (own a) Empty p qs → Leans a There c p
+  lean_path p [] on is path = elim (emptied_by p on path) [
+    | inl free ↦ absurd (cc (is, free))
+    | inr there ↦ inr (p, there.0, joined_self a.size c p)
+  ]
+  lean_path p (q ∷ []) on is path = elim (emptied_by q (adjacent_on_board a.size p q path.1).1 path.2) [
+    | inl free ↦ inl (reaches_beside a.size c p p q (λ e. cc (is, e)) (joined_self a.size c p) path.1 free)
+    | inr there ↦ inr (q, there.0, joined_next p q is path.1 there.1)
+  ]
+  lean_path p (q ∷ r ∷ rs) on is path =
+      let at = (adjacent_on_board a.size p q path.1).1 in
+      let next : cell_at c q ≡ own a = stays_own q at path.2.0 in
+      elim (lean_path q (r ∷ rs) at next path.2) [
+        | inl reach ↦ inl ((λ e. cc (is, e)), (q ∷ reach.1.0, subst (λ x. IsPath a.size c x Empty p (q ∷ reach.1.0)) (sym is) (is, path.1, subst (λ x. IsPath a.size c x Empty q reach.1.0) next reach.1.1)))
+        | inr lean ↦ inr (lean.0, lean.1, joined_on a.size c p q lean.0 (joined_next p q is path.1 next) lean.2)
+      ]
+
+  pub lean_left : (left : List Cell) → left ≡ clear a.size lifted a.keeper → (p : ℕ) → cell_at left p ≡ own a → Leans a There c p
+  lean_left left same p e =
+      let before = stone_before a.size lifted a.keeper a.keeper p (sym (ap (λ d. cell_at d p) same) ∙ e) in
+      let reach : Reaches a.size lifted p Empty = (reaches_path a.size lifted p Empty).0 (reached (same_cell (cell_at lifted p) (own a)) (reaches a.size lifted p Empty) (eq_same_cell _ _ before.0) before.1) in
+      lean_path p reach.1.0 before.2 (stays_own p before.2 before.0) (subst (λ x. IsPath a.size lifted x Empty p reach.1.0) before.0 reach.1.1)
+    where
+      reached : (x y : Bool) → x ≡ true → (x && not y) ≡ false → y ≡ true
+      reached true true f k = refl
+      reached true false f k = absurd (cc k)
+      reached false y f k = absurd (cc f)
 
 -- so it is with a state whose loose stones are none
-pub at_rest_by : (a : Area) (c : List Cell) → IsWalled a c → ((p : ℕ) → cell_at c p ≡ own a → Reaches a.size c p Empty) → clear_loose a c ≡ c → IsAtRest a c
-at_rest_by a c walled stand same = record { own = stand; theirs = λ p is none. breathes p is none (stone_on a.size c (opponent_of a.keeper) p walled.full is) }
+pub at_rest_by : (a : Area) (c : List Cell) → IsWalled a c → ((p : ℕ) → cell_at c p ≡ own a → Leans a a.held c p) → ((p : ℕ) → IsTrue (a.gives p) → Leans a a.earlier c p) → clear_loose a c ≡ c → IsAtRest a c
+at_rest_by a c walled stand given same = record { own = stand; given = given; theirs = λ p is none. breathes p is none (stone_on a.size c (opponent_of a.keeper) p walled.full is) }
   where
     breathes : (p : ℕ) → cell_at c p ≡ theirs a → (Rooted a c p → ⊥) → p < a.size * a.size → Reaches a.size c p Empty
     breathes p is none on = go (vanishes a c p) refl

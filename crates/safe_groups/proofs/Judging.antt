@@ -1,11 +1,11 @@
 -- What the judge finds of the states of a claim makes them states with answers.
-use Rattle.safe_groups.proofs.Common.{sym, subst, refl, ◌≡◌, ◌∙◌, List, ℕ, zero, suc, ap, IsTrue, true, Bool, inl, inr, [], ◌∷◌, ◌*◌, ◌<◌, length, set, arith, cell_at, Reaches, Cell, Empty, Stone, Area, States, own, theirs, IsWalled, IsAnswered, Replies, HoldsAt, clear_loose, after_other, get_or, map, nat_eq, nat_lt, eqb-true, ◌&&◌, list_all, same_cell, same_cells, and_left, and_right, or_cases, or_left, or_right, Colour, start, holds_point, has_occurred, Ground, area_of, states_of, IsState, IsStateAnswered, IsOfBoard, area_in, HasTargets, IsSafe, IsSafeByMove}
+use Rattle.safe_groups.proofs.Common.{sym, subst, refl, ◌≡◌, ◌∙◌, List, ℕ, zero, suc, ap, IsTrue, true, Bool, inl, inr, [], ◌∷◌, ◌*◌, ◌<◌, length, set, arith, cell_at, Reaches, Cell, Empty, Stone, Area, States, own, theirs, IsWalled, IsAnswered, Replies, Leans, clear_loose, after_other, get_or, map, nat_eq, nat_lt, eqb-true, ◌&&◌, list_all, same_cell, same_cells, and_left, and_right, or_cases, or_left, or_right, Colour, start, holds_point, has_occurred, Ground, area_of, states_of, IsState, IsStateAnswered}
 use Rattle.std.specs.List.{All}
 use Rattle.std.proofs.lemmas.List.Elements.{All-tail}
 unfoldable use Rattle.go_points.specs.Grid.{side_of}
 use Rattle.go_points.specs.Equal.{same_cells_refl, same_cells_eq}
 use Rattle.target_game.specs.State.{GameProblem}
-use Rattle.safe_groups.specs.Ground.{AreStates, AreAnswered, HoldsFor}
+use Rattle.safe_groups.specs.Ground.{AreStates}
 use Rattle.safe_groups.proofs.Fitting.{fits_self}
 use Rattle.safe_groups.proofs.Moving.{past_put}
 
@@ -33,33 +33,16 @@ of_listed P (x ∷ xs) c all at = elim (or_cases (same_cells c x) (has_occurred 
 ]
 
 module _ (a : Area) (c placed : List Cell) (x : ℕ) (free : cell_at c x ≡ Empty) (is : placed ≡ set c x (theirs a)) where
-  pub untaken_by : ((p : ℕ) → cell_at placed p ≡ own a → Reaches a.size placed p Empty) → (p : ℕ) → cell_at c p ≡ own a → Reaches a.size (set c x (theirs a)) p Empty
+  pub untaken_by : ((p : ℕ) → cell_at placed p ≡ own a → Leans a a.held placed p) → (p : ℕ) → cell_at c p ≡ own a → Leans a a.held (set c x (theirs a)) p
   untaken_by stand p e =
       let here : cell_at placed p ≡ own a = ap (λ d. cell_at d p) is ∙ past_put c x p (theirs a) (λ at. cc (e, ap (cell_at c) at, free)) ∙ e in
-      subst (λ d. Reaches a.size d p Empty) is (stand p here)
+      subst (λ d. Leans a a.held d p) is (stand p here)
 
-  module _ (W : States) (left : List Cell) (clears : left ≡ clear_loose a placed) where
-    left_is : left ≡ after_other a c x
-    left_is = clears ∙ ap (clear_loose a) is
-
-    pub unchanged : IsTrue (W c) → left ≡ c → IsAnswered a W (after_other a c x)
-    unchanged listed same = subst (IsAnswered a W) (sym same ∙ left_is) (inl (c, listed, fits_self a c))
-
-    pub changed : IsAnswered a W left → IsAnswered a W (after_other a c x)
-    changed answered = subst (IsAnswered a W) left_is answered
+  pub left_is : (left : List Cell) → left ≡ clear_loose a placed → left ≡ after_other a c x
+  left_is left clears = clears ∙ ap (clear_loose a) is
 
 pub answers_inside : (g : Ground) (p : ℕ) → IsTrue ((area_of g).answers p) → IsTrue ((area_of g).region p)
 answers_inside g p is = and_left (nat_lt p (side_of g.cells * side_of g.cells) && same_cell (cell_at g.cells p) Empty) (same_cell (cell_at g.marks p) (Stone g.keeper)) is
-
--- states of which each is answered
-pub replies_by : (g : Ground) (states : List (List Cell)) → ((p : ℕ) → IsTrue ((area_of g).answers p) → IsTrue ((area_of g).region p)) → AreStates g states → AreAnswered g states → Replies (area_of g) (states_of states)
-replies_by g states inside are answered = record {
-  inside = inside;
-  walled = λ c at. (of_listed (IsState g) states c are at).walled;
-  at_rest = λ c at. (of_listed (IsStateAnswered (area_of g) (states_of states)) states c answered at).at_rest;
-  untaken = λ c at x on free. ((of_listed (IsStateAnswered (area_of g) (states_of states)) states c answered at).moves x on free).untaken;
-  answered = λ c at x on free. ((of_listed (IsStateAnswered (area_of g) (states_of states)) states c answered at).moves x on free).answered;
-}
 
 -- what each place of a list passes, each point of it passes
 pub targets_by : {A : Type 0} (number : A → ℕ) (f : ℕ → Bool) (xs : List A) (p : ℕ) → list_all (λ x. f (number x)) xs ≡ true → holds_point (map number xs) p ≡ true → f p ≡ true
@@ -68,41 +51,3 @@ targets_by number f (x ∷ xs) p all at = elim (or_cases (nat_eq p (number x)) (
   | inl is ↦ ap f (eqb-true p (number x) is) ∙ and_left (f (number x)) (list_all (λ y. f (number y)) xs) all
   | inr rest ↦ targets_by number f xs p (and_right (f (number x)) (list_all (λ y. f (number y)) xs) all) rest
 ]
-
--- the area of the game is that of the ground
-module _ (q : GameProblem) (g : Ground) (board : IsOfBoard q g) where
-  abbrev with_parts : ℕ → Colour → Area
-  with_parts n k = record { size = n; keeper = k; kept = (area_of g).kept; region = (area_of g).region; answers = (area_of g).answers }
-
-  moved_area : (P : Area → Type 0) → P (area_of g) → P (area_in q.game (area_of g).kept (area_of g).region (area_of g).answers)
-  moved_area P h = subst (λ k. P (with_parts q.game.size k)) board.keeper (subst (λ n. P (with_parts n g.keeper)) board.size h)
-
-  pub safe_by : (states : List (List Cell)) (c : List Cell) → Replies (area_of g) (states_of states) → IsTrue (states_of states c) → HoldsFor q g c → IsSafe (start q)
-  safe_by states c replies listed holds = record {
-    kept = (area_of g).kept;
-    region = (area_of g).region;
-    answers = (area_of g).answers;
-    states = states_of states;
-    state = c;
-    allowed = holds.allowed;
-    replies = moved_area (λ a. Replies a (states_of states)) replies;
-    listed = listed;
-    holds = moved_area (λ a. HoldsAt a c (start q).colouring q.history) holds.holds;
-    targets = moved_area (λ a. HasTargets a c q.game.targets) holds.targets;
-  }
-
-  pub safe_by_move : (states : List (List Cell)) (c : List Cell) → Replies (area_of g) (states_of states) → IsAnswered (area_of g) (states_of states) c → q.mover ≡ q.game.defender → HoldsFor q g c → IsSafeByMove (start q)
-  safe_by_move states c replies answered mover holds = record {
-    kept = (area_of g).kept;
-    region = (area_of g).region;
-    answers = (area_of g).answers;
-    states = states_of states;
-    state = c;
-    allowed = holds.allowed;
-    replies = moved_area (λ a. Replies a (states_of states)) replies;
-    walled = moved_area (λ a. IsWalled a c) holds.state.walled;
-    answered = moved_area (λ a. IsAnswered a (states_of states) c) answered;
-    to_move = mover;
-    holds = moved_area (λ a. HoldsAt a c (start q).colouring q.history) holds.holds;
-    targets = moved_area (λ a. HasTargets a c q.game.targets) holds.targets;
-  }

@@ -2,8 +2,15 @@ pub mod Common
 pub mod Opening
 pub mod Fitting
 pub mod Moving
+pub mod Reaching
+pub mod Serving
 pub mod Past
 pub mod Exchanges
 pub mod Never
 pub mod Grounds
+pub mod Resting
+pub mod Spacing
+pub mod Ordering
 pub mod Judging
+pub mod Verdicts
+pub mod Closing

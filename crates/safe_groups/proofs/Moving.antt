@@ -3,7 +3,6 @@ use Rattle.safe_groups.proofs.Common.{sym, subst, refl, ◌≡◌, ◌≢◌, �
 use Rattle.go_points.proofs.Clearing.{length-clear}
 use Rattle.go_chains.specs.Joined.{Joined}
 use Rattle.safe_groups.proofs.Opening.{cell_cases, not_both}
-use Rattle.safe_groups.proofs.Fitting.{fits_self, fits_clear_own, fits_clear_rest, fits_clear_loose, fits_on, was_there, own_stays, walled_still}
 
 -- what a point holds once a stone is put down
 pub at_put : (n : ℕ) (c : List Cell) (x : ℕ) (y : Cell) → length c ≡ n * n → x < n * n → cell_at (set c x y) x ≡ y
@@ -15,7 +14,7 @@ past_put c x q y ne = get_or-set_other c x q y Empty ne
 pub full_put : (n : ℕ) (c : List Cell) (x : ℕ) (y : Cell) → length c ≡ n * n → length (set c x y) ≡ n * n
 full_put n c x y full = length-set c x y ∙ full
 
-is_or_not : (p x : ℕ) → (p ≡ x) ⊎ (p ≢ x)
+pub is_or_not : (p x : ℕ) → (p ≡ x) ⊎ (p ≢ x)
 is_or_not p x = grind arith
 
 pub after_is : (n : ℕ) (b : List Cell) (k : Colour) (p : ℕ) → after_move n b k p ≡ clear n (clear n (set b p (Stone k)) (opponent_of k)) k
@@ -109,113 +108,3 @@ module _ (a : Area) where
   pub record SameOwn (c d : List Cell) : Type 0 where
     pub more : (p : ℕ) → cell_at c p ≡ own a → cell_at d p ≡ own a
     pub back : (p : ℕ) → cell_at d p ≡ own a → cell_at c p ≡ own a
-
-  -- What the other side's move leaves: a state that the board fits, with the same stones of the keeper's, which is answered.
-  pub record Left (W : States) (c b : List Cell) : Type 0 where
-    pub state : List Cell
-    pub walled : IsWalled a state
-    pub fits : Fits a b state
-    pub same : SameOwn c state
-    pub answered : IsAnswered a W state
-
-  module _ (W : States) (replies : Replies a W) (c : List Cell) (listed : IsTrue (W c)) (b : List Cell) (full : length b ≡ a.size * a.size) (fits : Fits a b c) where
-    walled : IsWalled a c
-    walled = replies.walled c listed
-
-    rest : IsAtRest a c
-    rest = replies.at_rest c listed
-
-    module _ (x : ℕ) (on : x < a.size * a.size) (free : cell_at b x ≡ Empty) where
-      put : List Cell
-      put = set b x (theirs a)
-
-      full_put_b : length put ≡ a.size * a.size
-      unfolding put
-      full_put_b = full_put a.size b x (theirs a) full
-
-      -- where the state has the other side's stone: a rooted one that is not there any more
-      elsewhere : cell_at c x ≡ theirs a → Left W c (clear a.size (clear a.size put a.keeper) (opponent_of a.keeper))
-      unfolding put
-      elsewhere there = record {
-        state = c;
-        walled = walled;
-        fits = fits_clear_rest a (clear a.size put a.keeper) c (fits_clear_own a put c (fits_put_theirs b c fits full walled.full x on free there) full_put_b rest.own) (length-clear a.size put a.keeper) rest.theirs;
-        same = record { more = λ p e. e; back = λ p e. e };
-        answered = inl (c, listed, fits_self a c);
-      }
-
-      -- in the region
-      inside : cell_at c x ≡ Empty → Left W c (clear a.size (clear a.size put a.keeper) (opponent_of a.keeper))
-      unfolding put
-      inside open_ =
-          let there : List Cell = set c x (theirs a) in
-          let wall : IsWalled a (set c x (theirs a)) = walled_put c walled x on open_ (theirs a) in
-          let only : (p : ℕ) → cell_at (set c x (theirs a)) p ≡ own a → cell_at c p ≡ own a = was_own open_ in
-          let first : Fits a (clear a.size put a.keeper) (set c x (theirs a)) =
-          fits_clear_own a put (set c x (theirs a)) (fits_put b c fits full walled.full x on open_ (theirs a)) full_put_b (λ p e. replies.untaken c listed x on open_ p (only p e)) in
-          record {
-            state = after_other a c x;
-            walled = walled_still a (set c x (theirs a)) wall;
-            fits = fits_clear_loose a (set c x (theirs a)) wall (clear a.size put a.keeper) (length-clear a.size put a.keeper) first;
-            same = record {
-              more = λ p e. own_stays a (set c x (theirs a)) wall p (past_put c x p (theirs a) (λ here. cc (e, ap (cell_at c) here, open_)) ∙ e);
-              back = λ p e. only p (was_there a (set c x (theirs a)) wall a.keeper p e).0;
-            };
-            answered = replies.answered c listed x on open_;
-          }
-        where
-          was_own : cell_at c x ≡ Empty → (p : ℕ) → cell_at (set c x (theirs a)) p ≡ own a → cell_at c p ≡ own a
-          was_own open_ p e = elim (is_or_not p x) [
-            | inl here ↦ absurd (not_both a (cell_at (set c x (theirs a)) p) e (ap (cell_at (set c x (theirs a))) here ∙ at_put a.size c x (theirs a) walled.full on))
-            | inr ne ↦ sym (past_put c x p (theirs a) ne) ∙ e
-          ]
-
-      pub other_moves : Left W c (after_move a.size b (opponent_of a.keeper) x)
-      unfolding put
-      other_moves = subst (Left W c) (sym (after_theirs a.size b a.keeper x)) (elim (cell_cases a (cell_at c x)) [
-        | inl open_ ↦ inside open_
-        | inr stone ↦ elim stone [
-          | inl mine ↦ absurd (cc (fits.has_own x mine, free))
-          | inr there ↦ elsewhere there
-        ]
-      ])
-
-    -- the keeper plays outside the region
-    pub wanders : (y : ℕ) → y < a.size * a.size → cell_at b y ≡ Empty → IsFalse (a.region y) → Fits a (after_move a.size b a.keeper y) c
-    wanders y on free beyond = subst (λ z. Fits a z c) (sym (after_is a.size b a.keeper y)) moved
-      where
-        not_kept : (v : Bool) → a.kept y ≡ v → v ≡ false
-        not_kept true e = absurd (cc (fits.has_own y (walled.kept y e), free))
-        not_kept false e = refl
-
-        out : is_outside a y ≡ true
-        out = ap (λ v. not v && not (a.region y)) (not_kept (a.kept y) refl) ∙ ap not beyond
-
-        there : cell_at c y ≡ theirs a
-        there = walled.outside y on out
-
-        moved : Fits a (clear a.size (clear a.size (set b y (own a)) (opponent_of a.keeper)) a.keeper) c
-        moved =
-            fits_clear_own a (clear a.size (set b y (own a)) (opponent_of a.keeper)) c
-            (fits_clear_rest a (set b y (own a)) c (fits_put_outside b c fits full walled.full y on out beyond there) (full_put a.size b y (own a) full) rest.theirs)
-            (length-clear a.size (set b y (own a)) (opponent_of a.keeper)) rest.own
-
-  -- the keeper answers
-  module _ (W : States) (replies : Replies a W) (d : List Cell) (wall : IsWalled a d) (b : List Cell) (full : length b ≡ a.size * a.size) (fits : Fits a b d) where
-    pub passes : (known : IsKnown a W d) → Fits a b known.0
-    passes known = fits_on a b d known.0 fits known.2
-
-    pub answers : (r : ℕ) (answer : IsAnswer a W d r) → Fits a (after_move a.size b a.keeper r) answer.known.0
-    answers r answer = subst (λ z. Fits a z answer.known.0) (sym (after_is a.size b a.keeper r)) moved
-      where
-        wall_put : IsWalled a (set d r (own a))
-        wall_put = walled_put d wall r answer.on_board answer.empty (own a)
-
-        first : Fits a (clear a.size (set b r (own a)) (opponent_of a.keeper)) (after_answer a d r)
-        first = fits_clear_loose a (set d r (own a)) wall_put (set b r (own a)) (full_put a.size b r (own a) full) (fits_put b d fits full wall.full r answer.on_board answer.empty (own a))
-
-        known : Fits a (clear a.size (set b r (own a)) (opponent_of a.keeper)) answer.known.0
-        known = fits_on a (clear a.size (set b r (own a)) (opponent_of a.keeper)) (after_answer a d r) answer.known.0 first answer.known.2
-
-        moved : Fits a (clear a.size (clear a.size (set b r (own a)) (opponent_of a.keeper)) a.keeper) answer.known.0
-        moved = fits_clear_own a (clear a.size (set b r (own a)) (opponent_of a.keeper)) answer.known.0 known (length-clear a.size (set b r (own a)) (opponent_of a.keeper)) (replies.at_rest answer.known.0 answer.known.1).own

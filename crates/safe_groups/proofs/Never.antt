@@ -1,5 +1,5 @@
 -- The attacker wins no state whose targets are safe by answers.
-use Rattle.safe_groups.proofs.Common.{sym, subst, refl, ◌≡◌, ◌∙◌, List, ℕ, zero, suc, ap, IsTrue, IsFalse, true, false, Bool, inl, inr, [], ◌∷◌, ◌++◌, ◌*◌, ◌<◌, ◌≤◌, ◌⊎◌, ◌&&◌, not, arith, cell_at, same_cell, eq_same_cell, same_cell_eq, opponent_of, opponent_twice, after_move, Cell, Empty, Stone, Colour, Area, Points, States, own, IsWalled, IsAnswered, Replies, HoldsAt, nat_eq, nat_lt, ltb-true, and_left, and_right, and_both, has_occurred, holds_point, area_in, HasTargets, IsSafe, IsSafeByMove, StandThrough}
+use Rattle.safe_groups.proofs.Common.{sym, subst, refl, ◌≡◌, ◌∙◌, List, ℕ, zero, suc, ap, IsTrue, IsFalse, true, false, Bool, inl, inr, [], ◌∷◌, ◌++◌, ◌*◌, ◌<◌, ◌≤◌, ◌⊎◌, ◌&&◌, not, arith, cell_at, same_cell, eq_same_cell, same_cell_eq, opponent_of, opponent_twice, after_move, Cell, Empty, Stone, Colour, Points, States, IsWalled, IsAnswered, Areas, area_at, RepliesTogether, HoldsAt, AreListed, IsOwed, IsKept, in_one, nat_eq, nat_lt, ltb-true, and_left, and_right, and_both, has_occurred, holds_point, IsSafe, IsSafeByMove, StandThrough}
 use Rattle.std.proofs.Common.{eq-eqb, if◌then◌else◌, Some, None}
 use Rattle.std.proofs.lemmas.Bool.{lt-ltb}
 use Rattle.go_points.specs.Grid.{same_colour}
@@ -16,8 +16,8 @@ use Rattle.target_game.specs.Status.{moving, IsAlive}
 use Rattle.target_game.proofs.Winning.{wins_over, wins_none, wins_next, member_legal, legal_member}
 use Rattle.target_game.proofs.Statuses.{one_wins}
 use Rattle.target_game.proofs.Moving.{colour_other}
-use Rattle.safe_groups.proofs.Past.{known_has, known_more}
-use Rattle.safe_groups.proofs.Exchanges.{other_plays, holds_passed, answer_allowed, holds_answered, stand_through}
+use Rattle.safe_groups.proofs.Serving.{pick}
+use Rattle.safe_groups.proofs.Exchanges.{other_plays, holds_passed, listed_passed, kept_passed, answer_allowed, holds_answered, listed_answered, kept_answered, kept_same, kept_there, stand_through}
 
 -- the targets stand where the keeper has them
 targets_there : (s : GameState) → ((p : ℕ) → IsTrue (holds_point s.game.targets p) → cell_at s.colouring p ≡ Stone s.game.defender) → targets_stand s ≡ true
@@ -63,23 +63,31 @@ turns_win s k open_ h attacks defends = go (same_colour s.mover (opponent_of s.g
         let reply = defends turn in
         reply.2 (all_at (λ t. wins (opponent_of s.game.defender) (next s t) k) reply.0 (legal_turns s) each (legal_member s reply.0 reply.1))
 
-module _ (kept region answers : Points) (W : States) where
-  abbrev area : GameState → Area
-  area s = area_in s.game kept region answers
-
+module _ (A : Areas) (W : ℕ → States) where
   abbrev Allowed : GameState → Type 0
-  Allowed s = (p : ℕ) → IsTrue (answers p) → IsTrue (holds_point s.game.region p)
+  Allowed s = (i p : ℕ) → i < A.count → IsTrue (A.answers i p) → IsTrue (holds_point s.game.region p)
 
-  -- within so many turns: where the board fits one of the states, and where the defender is to move and has an answer
+  abbrev Together : GameState → Type 0
+  Together s = RepliesTogether s.game.size s.game.defender A W
+
+  abbrev Held : GameState → (ℕ → List Cell) → Type 0
+  Held s c = HoldsAt s.game.size s.game.defender A c s.colouring s.history
+
+  abbrev HasTargets : GameState → (ℕ → List Cell) → Type 0
+  HasTargets s c = (p : ℕ) → IsTrue (holds_point s.game.targets p) → IsKept s.game.defender A c p
+
+  abbrev AllWalled : GameState → (ℕ → List Cell) → Type 0
+  AllWalled s c = (i : ℕ) → i < A.count → IsWalled (area_at s.game.size s.game.defender A i) (c i)
+
+  -- within so many turns: where the board fits states of the areas, and where the defender is to move and has an answer
   abbrev Rests : ℕ → Type 0
-  Rests j = (s : GameState) (c : List Cell) → Allowed s → Replies (area s) W → IsTrue (W c) → HoldsAt (area s) c s.colouring s.history → HasTargets (area s) c s.game.targets → wins (opponent_of s.game.defender) s j ≡ true → ⊥
+  Rests j = (s : GameState) (c : ℕ → List Cell) → Allowed s → Together s → AreListed A W c → Held s c → HasTargets s c → wins (opponent_of s.game.defender) s j ≡ true → ⊥
 
   abbrev Owes : ℕ → Type 0
-  Owes j = (s : GameState) (d : List Cell) → Allowed s → Replies (area s) W → IsWalled (area s) d → IsAnswered (area s) W d → HoldsAt (area s) d s.colouring s.history → HasTargets (area s) d s.game.targets → s.mover ≡ s.game.defender
-      → wins (opponent_of s.game.defender) s j ≡ true → ⊥
+  Owes j = (s : GameState) (d : ℕ → List Cell) → Allowed s → Together s → AllWalled s d → IsOwed s.game.size s.game.defender A W d → Held s d → HasTargets s d → s.mover ≡ s.game.defender → wins (opponent_of s.game.defender) s j ≡ true → ⊥
 
-  stand : (s : GameState) (c : List Cell) → HoldsAt (area s) c s.colouring s.history → HasTargets (area s) c s.game.targets → targets_stand s ≡ true
-  stand s c holds targets = targets_there s (λ p is. holds.fits.has_own p (targets p is))
+  stand : (s : GameState) (c : ℕ → List Cell) → Together s → Held s c → HasTargets s c → targets_stand s ≡ true
+  stand s c together holds targets = targets_there s (λ p is. kept_there s.game.size s.game.defender A W together c s.colouring s.history holds p (targets p is))
 
   ends_now : (s : GameState) → targets_stand s ≡ true → wins (opponent_of s.game.defender) s 0 ≡ true → ⊥
   ends_now s there h = elim (not_taken s there) [
@@ -88,43 +96,57 @@ module _ (kept region answers : Points) (W : States) where
   ]
 
   rest_step : (j : ℕ) → Rests j → Owes j → Rests (suc j)
-  rest_step j rests owes s c allowed replies listed holds targets h = elim (not_taken s (stand s c holds targets)) [
+  rest_step j rests owes s c allowed together listed holds targets h = elim (not_taken s (stand s c together holds targets)) [
     | inr e ↦ won_by_defender s (suc j) e h
-    | inl e ↦ turns_win s j e h attacks (λ mine. (pass, refl, rests (next s pass) c allowed replies listed holds targets))
+    | inl e ↦ turns_win s j e h attacks (λ mine. (pass, refl, rests (next s pass) c allowed together listed holds targets))
   ]
     where
+      after_attack : (p : ℕ) → s.mover ≡ opponent_of s.game.defender → (d : ℕ → List Cell) → AllWalled s d → AreListed A W d ⊎ IsOwed s.game.size s.game.defender A W d → Held (next s (move p)) d → HasTargets s d → wins (opponent_of s.game.defender) (next s (move p)) j ≡ true → ⊥
+      after_attack p to_move d walled (inl listed_) there still w = rests (next s (move p)) d allowed together listed_ there still w
+      after_attack p to_move d walled (inr owed) there still w = owes (next s (move p)) d allowed together walled owed there still (ap opponent_of to_move ∙ opponent_twice s.game.defender) w
+
       attacks : (t : Ply) → same_colour s.mover (opponent_of s.game.defender) ≡ true → legal s t ≡ true → wins (opponent_of s.game.defender) (next s t) j ≡ true → ⊥
-      attacks pass turn is w = rests (next s pass) c allowed replies listed holds targets w
+      attacks pass turn is w = rests (next s pass) c allowed together listed holds targets w
       attacks (move p) turn is w =
           let to_move : s.mover ≡ opponent_of s.game.defender = same_colour_eq s.mover (opponent_of s.game.defender) turn in
           let free = legal_free s p is in
-          let owed = other_plays (area s) W replies c s.colouring s.history listed holds p free.0 free.1 in
-          let there = subst (λ m. HoldsAt (area s) owed.state (after_move s.game.size s.colouring m p) (s.history ++ after_move s.game.size s.colouring m p ∷ [])) (sym to_move) owed.holds in
-          owes (next s (move p)) owed.state allowed replies owed.walled owed.answered there (λ q target. owed.same.more q (targets q target)) (ap opponent_of to_move ∙ opponent_twice s.game.defender) w
+          let owed = other_plays s.game.size s.game.defender A W together c s.colouring s.history listed holds p free.0 free.1 in
+          let there = subst (λ m. HoldsAt s.game.size s.game.defender A owed.state (after_move s.game.size s.colouring m p) (s.history ++ after_move s.game.size s.colouring m p ∷ [])) (sym to_move) owed.holds in
+          after_attack p to_move owed.state owed.walled owed.answered there (λ q target. kept_same s.game.size s.game.defender A W together c owed.state owed.same q (targets q target)) w
 
   owe_step : (j : ℕ) → Rests j → Owes (suc j)
-  owe_step j rests s d allowed replies walled answered holds targets to_move h = elim (not_taken s (stand s d holds targets)) [
+  owe_step j rests s d allowed together walled owed holds targets to_move h = elim (not_taken s (stand s d together holds targets)) [
     | inr e ↦ won_by_defender s (suc j) e h
-    | inl e ↦ turns_win s j e h (λ t turn is w. cc (ap (λ m. same_colour m (opponent_of s.game.defender)) to_move, colour_other s.game.defender, turn)) (λ mine. reply answered)
+    | inl e ↦ turns_win s j e h (λ t turn is w. cc (ap (λ m. same_colour m (opponent_of s.game.defender)) to_move, colour_other s.game.defender, turn)) (λ mine. reply owed.answered)
   ]
     where
-      reply : IsAnswered (area s) W d → (t : Ply) × (legal s t ≡ true) × (wins (opponent_of s.game.defender) (next s t) j ≡ true → ⊥)
-      reply (inl known) = (pass, refl, rests (next s pass) known.0 allowed replies known.1 (holds_passed (area s) W replies d s.colouring s.history walled holds known) (λ q target. known_more (area s) W replies d walled known q (targets q target)))
+      n : ℕ
+      n = s.game.size
+
+      reply : IsAnswered (area_at s.game.size s.game.defender A owed.place) (W owed.place) (d owed.place) → (t : Ply) × (legal s t ≡ true) × (wins (opponent_of s.game.defender) (next s t) j ≡ true → ⊥)
+      reply (inl known) = (
+        pass,
+        refl,
+        rests (next s pass) (pick owed.place known.0 d) allowed together (listed_passed s.game.size s.game.defender A W together d s.colouring s.history walled holds owed known)
+            (holds_passed s.game.size s.game.defender A W together d s.colouring s.history walled holds owed known)
+            (λ q target. kept_passed s.game.size s.game.defender A W together d s.colouring s.history walled holds owed known q (targets q target)),
+      )
       reply (inr answered) =
           let r = answered.0 in let answer = answered.1 in
-          let new = answer_allowed (area s) W replies d s.colouring s.history walled holds r answer in
-          let there = holds_answered (area s) W replies d s.colouring s.history walled holds r answer in (
+          let new = answer_allowed s.game.size s.game.defender A W together d s.colouring s.history walled holds owed r answer in
+          let there = holds_answered s.game.size s.game.defender A W together d s.colouring s.history walled holds owed r answer in (
             move r,
-            free_legal s r answer.on_board (allowed r answer.allowed) (holds.fits.has_empty r answer.empty) (subst (λ m. IsFalse (has_occurred s.history (after_move s.game.size s.colouring m r))) (sym to_move) new),
-            rests (next s (move r)) answer.known.0 allowed replies answer.known.1
-                (subst (λ m. HoldsAt (area s) answer.known.0 (after_move s.game.size s.colouring m r) (s.history ++ after_move s.game.size s.colouring m r ∷ [])) (sym to_move) there)
-                (λ q target. known_has (area s) W replies d walled r answer q (targets q target)),
+            free_legal s r answer.on_board (allowed owed.place r owed.within answer.allowed) ((holds.fits owed.place owed.within).has_empty r answer.empty)
+                (subst (λ m. IsFalse (has_occurred s.history (after_move s.game.size s.colouring m r))) (sym to_move) new),
+            rests (next s (move r)) (pick owed.place answer.known.0 d) allowed together (listed_answered s.game.size s.game.defender A W together d s.colouring s.history walled holds owed r answer)
+                (subst (λ m. HoldsAt s.game.size s.game.defender A (pick owed.place answer.known.0 d) (after_move s.game.size s.colouring m r) (s.history ++ after_move s.game.size s.colouring m r ∷ [])) (sym to_move) there)
+                (λ q target. kept_answered s.game.size s.game.defender A W together d s.colouring s.history walled holds owed r answer q (targets q target)),
           )
 
   never : (j : ℕ) → Rests j × Owes j
   never zero = (
-    (λ s c allowed replies listed holds targets h. ends_now s (stand s c holds targets) h),
-    (λ s d allowed replies walled answered holds targets to_move h. ends_now s (stand s d holds targets) h),
+    (λ s c allowed together listed holds targets h. ends_now s (stand s c together holds targets) h),
+    (λ s d allowed together walled owed holds targets to_move h. ends_now s (stand s d together holds targets) h),
   )
   never (suc j) = let below = never j in (rest_step j below.0 below.1, owe_step j below.0)
 
@@ -133,10 +155,10 @@ is_false true none = absurd (none refl)
 is_false false none = refl
 
 safe_lost : (s : GameState) (k : ℕ) → IsSafe s → wins (opponent_of s.game.defender) s k ≡ true → ⊥
-safe_lost s k safe = (never safe.kept safe.region safe.answers safe.states k).0 s safe.state safe.allowed safe.replies safe.listed safe.holds safe.targets
+safe_lost s k safe = (never safe.areas safe.states k).0 s safe.state safe.allowed safe.replies safe.listed safe.holds safe.targets
 
 by_move_lost : (s : GameState) (k : ℕ) → IsSafeByMove s → wins (opponent_of s.game.defender) s k ≡ true → ⊥
-by_move_lost s k safe = (never safe.kept safe.region safe.answers safe.states k).1 s safe.state safe.allowed safe.replies safe.walled safe.answered safe.holds safe.targets safe.to_move
+by_move_lost s k safe = (never safe.areas safe.states k).1 s safe.state safe.allowed safe.replies safe.walled safe.answered safe.holds safe.targets safe.to_move
 
 pub attacker_never_wins : (s : GameState) (k : ℕ) → IsSafe s → IsFalse (wins (opponent_of s.game.defender) s k)
 attacker_never_wins s k safe = is_false (wins (opponent_of s.game.defender) s k) (safe_lost s k safe)
@@ -160,9 +182,7 @@ defender_wins_by_move s low safe = elim (one_wins s.game.defender s low) [
 -- it is safe whoever is to move
 moved : (s : GameState) (x : Colour) → IsSafe s → IsSafe (moving x s)
 moved s x safe = record {
-  kept = safe.kept;
-  region = safe.region;
-  answers = safe.answers;
+  areas = safe.areas;
   states = safe.states;
   state = safe.state;
   allowed = safe.allowed;
@@ -178,6 +198,6 @@ safe_is_alive s none safe = record {
   moving_second = defender_wins (moving (opponent_of s.game.defender) s) (omega (arith, none)) (moved s (opponent_of s.game.defender) safe);
 }
 
-pub safe_stones_stand : (a : Area) (W : States) (c b : List Cell) (history : List (List Cell)) → Replies a W → IsTrue (W c) → HoldsAt a c b history
-    → (stones : Points) → ((p : ℕ) → IsTrue (stones p) → cell_at c p ≡ own a) → (exchanges : ℕ) → StandThrough a.size a.keeper a.region stones exchanges b history
-safe_stones_stand a W c b history replies listed holds stones are exchanges = stand_through a W replies stones exchanges c b history listed holds are
+pub safe_stones_stand : (n : ℕ) (k : Colour) (A : Areas) (W : ℕ → States) (c : ℕ → List Cell) (b : List Cell) (history : List (List Cell)) → RepliesTogether n k A W → AreListed A W c → HoldsAt n k A c b history
+    → (stones : Points) → ((p : ℕ) → IsTrue (stones p) → IsKept k A c p) → (exchanges : ℕ) → StandThrough n k (in_one A.count A.region) stones exchanges b history
+safe_stones_stand n k A W c b history together listed holds stones are exchanges = stand_through n k A W together stones exchanges c b history listed holds are

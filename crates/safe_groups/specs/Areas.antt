@@ -5,7 +5,7 @@
 --     clear_loose a c      what is left when the other side's stones without a liberty are taken, where all points outside are liberties of theirs
 --     Replies a W      with these states the keeper's stones stand, if it answers
 --     Fits a b c      on the board b the area is as in the state c, as far as it matters
---     Holds a W b history      the board fits one of the states, and so does what has occurred
+-- Several areas serve at the same time: see `Together`.
 use Rattle.std.specs.Prelude.{◌≡◌, ℕ, ◌*◌, ◌<◌, Bool, not, ◌&&◌, ◌⊎◌, IsTrue, List, length, map, slice_set, if◌then◌else◌}
 use Rattle.go_points.specs.declared.Colour.{Colour}
 use Rattle.go_points.specs.declared.Cell.{Cell}
@@ -14,7 +14,6 @@ use Rattle.go_points.specs.Grid.{opponent_of, points, cell_at}
 use Rattle.go_points.specs.Reach.{Reaches}
 use Rattle.go_points.specs.Clear.{is_captured}
 use Rattle.go_chains.specs.Joined.{Joined}
-use Rattle.go_turns.specs.History.{has_occurred}
 
 -- A set of points, and one of states, by the test that they pass.
 abbrev pub Points : Type 0
@@ -24,13 +23,17 @@ abbrev pub States : Type 0
 States = List Cell → Bool
 
 -- The rows of the board, the colour that keeps, its kept stones, the region in which it answers, and those points of the region at
--- which it does.
+-- which it does. Of the kept stones, those that are `held` need no liberty here, since other areas give them one; those that this area
+-- `gives` have one here, or are joined to stones that are kept `earlier`, in other areas.
 pub record Area : Type 0 where
   pub size : ℕ
   pub keeper : Colour
   pub kept : Points
   pub region : Points
   pub answers : Points
+  pub held : Points
+  pub earlier : Points
+  pub gives : Points
 
 -- What the keeper holds, and what the other side does.
 abbrev pub own : Area → Cell
@@ -76,9 +79,15 @@ pub record Fits (a : Area) (b c : List Cell) : Type 0 where
   pub has_empty : (p : ℕ) → cell_at c p ≡ Empty → cell_at b p ≡ Empty
   pub has_theirs : (p : ℕ) → cell_at c p ≡ theirs a → (Rooted a c p → ⊥) → cell_at b p ≡ theirs a
 
--- All stones of the keeper's reach empty in the state; so do those of the other side's that are not rooted.
+-- The stone p reaches empty, or is joined to one of these.
+abbrev pub Leans : Area → Points → List Cell → ℕ → Type 0
+Leans a stones c p = Reaches a.size c p Empty ⊎ ((q : ℕ) × IsTrue (stones q) × Joined a.size c p q)
+
+-- All stones of the keeper's reach empty in the state, or lean on held ones; those that are given a liberty have one, or lean on earlier
+-- ones; and those of the other side's that are not rooted reach empty.
 pub record IsAtRest (a : Area) (c : List Cell) : Type 0 where
-  pub own : (p : ℕ) → cell_at c p ≡ own a → Reaches a.size c p Empty
+  pub own : (p : ℕ) → cell_at c p ≡ own a → Leans a a.held c p
+  pub given : (p : ℕ) → IsTrue (a.gives p) → Leans a a.earlier c p
   pub theirs : (p : ℕ) → cell_at c p ≡ theirs a → (Rooted a c p → ⊥) → Reaches a.size c p Empty
 
 -- The colouring fits one of these states.
@@ -102,19 +111,5 @@ pub record Replies (a : Area) (W : States) : Type 0 where
   pub inside : (p : ℕ) → IsTrue (a.answers p) → IsTrue (a.region p)
   pub walled : (c : List Cell) → IsTrue (W c) → IsWalled a c
   pub at_rest : (c : List Cell) → IsTrue (W c) → IsAtRest a c
-  pub untaken : (c : List Cell) → IsTrue (W c) → (x : ℕ) → x < a.size * a.size → cell_at c x ≡ Empty → (p : ℕ) → cell_at c p ≡ own a → Reaches a.size (slice_set c x (theirs a)) p Empty
+  pub untaken : (c : List Cell) → IsTrue (W c) → (x : ℕ) → x < a.size * a.size → cell_at c x ≡ Empty → (p : ℕ) → cell_at c p ≡ own a → Leans a a.held (slice_set c x (theirs a)) p
   pub answered : (c : List Cell) → IsTrue (W c) → (x : ℕ) → x < a.size * a.size → cell_at c x ≡ Empty → IsAnswered a W (after_other a c x)
-
--- A colouring of the past that has the keeper's stones of the state has him at no further point at which he answers.
-abbrev pub PastFits : Area → List Cell → List (List Cell) → Type 0
-PastFits a c history = (q : List Cell) → IsTrue (has_occurred history q) → ((p : ℕ) → cell_at c p ≡ own a → cell_at q p ≡ own a) → (p : ℕ) → IsTrue (a.answers p) → cell_at q p ≡ own a → cell_at c p ≡ own a
-
--- The board fits this state, and the past does.
-pub record HoldsAt (a : Area) (c b : List Cell) (history : List (List Cell)) : Type 0 where
-  pub full : length b ≡ a.size * a.size
-  pub fits : Fits a b c
-  pub past : PastFits a c history
-
--- It does so for one of these states.
-abbrev pub Holds : Area → States → List Cell → List (List Cell) → Type 0
-Holds a W b history = (c : List Cell) × IsTrue (W c) × HoldsAt a c b history

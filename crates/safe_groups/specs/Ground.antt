@@ -1,7 +1,9 @@
 -- An area as the judge holds it: a colouring on which the kept stones stand, the region is empty, and every other point holds a
--- stone of the other side; and one on which the keeper's stones mark the points at which it answers.
-use Rattle.std.specs.Prelude.{◌≡◌, ◌<◌, ◌*◌, ℕ, ◌&&◌, nat_lt, length, ◌⊎◌, IsTrue, List, slice_set, if◌then◌else◌, Option, Some, None}
+-- stone of the other side; and four on which the keeper's stones mark points: those at which it answers, the stones that are held, those
+-- that are kept earlier, and those that the area gives a liberty.
+use Rattle.std.specs.Prelude.{◌≡◌, ◌<◌, ◌*◌, ℕ, ◌&&◌, nat_lt, length, ◌⊎◌, IsTrue, List, [], slice_set, get_or, if◌then◌else◌, Bool, true, false}
 use Rattle.std.specs.List.{All}
+use Rattle.go_points.specs.declared.Colour.TheVariants.{Black}
 use Rattle.go_points.specs.declared.Cell.{Cell}
 use Rattle.go_points.specs.declared.Cell.TheVariants.{Empty, Stone}
 use Rattle.go_points.specs.Grid.{cell_at, same_cell, side_of}
@@ -9,9 +11,15 @@ use Rattle.go_points.specs.Reach.{Reaches}
 use Rattle.go_turns.specs.History.{has_occurred}
 use Rattle.target_game.specs.State.{GameProblem, GameState, start}
 use Rattle.target_game.specs.Legal.{holds_point}
-use Rattle.safe_groups.specs.Laws.{HasTargets, IsSafe, IsSafeByMove}
-use Rattle.safe_groups.specs.Areas.{Area, States, own, theirs, is_outside, after_other, IsWalled, Rooted, IsAtRest, IsAnswered, HoldsAt}
+use Rattle.safe_groups.specs.Areas.{Area, Points, States, own, theirs, is_outside, after_other, IsWalled, Rooted, IsAtRest, Leans, IsAnswered, IsAnswer, Replies, Fits}
+use Rattle.safe_groups.specs.Eyes.{IsResting}
+use Rattle.safe_groups.specs.Together.{Areas, AreInOrder, IsKept, PastFits}
+use Rattle.safe_groups.specs.Laws.{IsSafe, IsSafeByMove}
 use Rattle.safe_groups.specs.declared.ground.Ground.{Ground}
+
+-- the points that hold one of the keeper's stones on the colouring
+abbrev pub marked : Ground → List Cell → Points
+marked g c = λ p. same_cell (cell_at c p) (Stone g.keeper)
 
 abbrev pub area_of : Ground → Area
 area_of g = record {
@@ -20,12 +28,28 @@ area_of g = record {
   kept = λ p. same_cell (cell_at g.cells p) (Stone g.keeper);
   region = λ p. nat_lt p (side_of g.cells * side_of g.cells) && same_cell (cell_at g.cells p) Empty;
   answers = λ p. nat_lt p (side_of g.cells * side_of g.cells) && same_cell (cell_at g.cells p) Empty && same_cell (cell_at g.marks p) (Stone g.keeper);
+  held = λ p. same_cell (cell_at g.held p) (Stone g.keeper);
+  earlier = λ p. same_cell (cell_at g.earlier p) (Stone g.keeper);
+  gives = λ p. same_cell (cell_at g.gives p) (Stone g.keeper);
 }
 
 -- What each point of a state holds: what it does on the ground, unless it is of the region.
 pub record IsWalledAt (a : Area) (c : List Cell) (p : ℕ) : Type 0 where
   pub kept : IsTrue (a.kept p) → cell_at c p ≡ own a
   pub outside : IsTrue (is_outside a p) → cell_at c p ≡ theirs a
+
+-- A colouring of a board of n rows.
+pub record IsOfSize (n : ℕ) (c : List Cell) : Type 0 where
+  pub side : side_of c ≡ n
+  pub full : length c ≡ n * n
+
+-- All colourings of a ground are of one size.
+pub record IsSized (n : ℕ) (g : Ground) : Type 0 where
+  pub cells : IsOfSize n g.cells
+  pub marks : IsOfSize n g.marks
+  pub held : IsOfSize n g.held
+  pub earlier : IsOfSize n g.earlier
+  pub gives : IsOfSize n g.gives
 
 -- a state of the area, on a board of its size
 pub record IsState (g : Ground) (c : List Cell) : Type 0 where
@@ -44,48 +68,101 @@ part_cell a inside outside p = (if is_outside a p then cell_at outside p else ce
 abbrev pub shut_cell : Area → List Cell → ℕ → Cell
 shut_cell a c p = (if is_outside a p then Empty else (if same_cell (cell_at c p) Empty then own a else cell_at c p))
 
+-- What a point holds where the keeper's stones at these points are taken away.
+abbrev pub lifted_cell : Area → List Cell → List Cell → ℕ → Cell
+lifted_cell a c points p = (if same_cell (cell_at points p) (own a) && same_cell (cell_at c p) (own a) then Empty else cell_at c p)
+
 -- The board fits the state at a point: it is outside, or the board holds what the state does, or lacks a rooted stone.
 abbrev pub FitsAt : Area → List Cell → List Cell → ℕ → Type 0
 FitsAt a b c p = IsTrue (is_outside a p) ⊎ ((cell_at b p ≡ cell_at c p) ⊎ ((cell_at b p ≡ Empty) × (cell_at c p ≡ theirs a) × Rooted a c p))
 
 -- The other side's move at x, if the point is empty, takes no stone of the keeper's, and is answered.
 pub record IsMoveAnswered (a : Area) (W : States) (c : List Cell) (x : ℕ) : Type 0 where
-  pub untaken : (p : ℕ) → cell_at c p ≡ own a → Reaches a.size (slice_set c x (theirs a)) p Empty
+  pub untaken : (p : ℕ) → cell_at c p ≡ own a → Leans a a.held (slice_set c x (theirs a)) p
   pub answered : IsAnswered a W (after_other a c x)
 
--- A state at rest, each of whose moves is answered.
-pub record IsStateAnswered (a : Area) (W : States) (c : List Cell) : Type 0 where
-  pub at_rest : IsAtRest a c
-  pub moves : (x : ℕ) → x < a.size * a.size → cell_at c x ≡ Empty → IsMoveAnswered a W c x
+-- Each move in the state is answered.
+abbrev pub IsStateAnswered : Area → States → List Cell → Type 0
+IsStateAnswered a W c = (x : ℕ) → x < a.size * a.size → cell_at c x ≡ Empty → IsMoveAnswered a W c x
 
--- The listed states are those of the ground, and each is answered.
-abbrev pub AreStates : Ground → List (List Cell) → Type 0
-AreStates g states = All (IsState g) states
-
-abbrev pub AreAnswered : Ground → List (List Cell) → Type 0
-AreAnswered g states = All (IsStateAnswered (area_of g) (states_of states)) states
-
--- The past bars none of the answers in the state c: this colouring does not, or no colouring of the history.
-abbrev pub BarsNone : Area → List Cell → List Cell → Type 0
-BarsNone a c q = ((p : ℕ) → cell_at c p ≡ own a → cell_at q p ≡ own a) → (p : ℕ) → IsTrue (a.answers p) → cell_at q p ≡ own a → cell_at c p ≡ own a
-
--- The ground and its marks are of the problem's board, and the keeper is its defender.
-pub record IsOfBoard (q : GameProblem) (g : Ground) : Type 0 where
-  pub size : side_of g.cells ≡ q.game.size
-  pub board : side_of (start q).colouring ≡ side_of g.cells
-  pub full : length (start q).colouring ≡ side_of g.cells * side_of g.cells
-  pub keeper : g.keeper ≡ q.game.defender
-  pub marks : side_of g.marks ≡ side_of g.cells
-
--- The board of the problem fits the state c of the ground, all targets are kept, and each answer is in the region and never barred.
-pub record HoldsFor (q : GameProblem) (g : Ground) (c : List Cell) : Type 0 where
-  pub board : IsOfBoard q g
+-- A state at rest. The listed states are such states of the ground.
+pub record IsSettled (g : Ground) (c : List Cell) : Type 0 where
   pub state : IsState g c
-  pub holds : HoldsAt (area_of g) c (start q).colouring q.history
-  pub targets : HasTargets (area_of g) c q.game.targets
+  pub at_rest : IsAtRest (area_of g) c
+
+abbrev pub AreStates : Ground → List (List Cell) → Type 0
+AreStates g states = All (IsSettled g) states
+
+-- Each is answered, or nothing is to be answered in it.
+abbrev pub IsJudged : Ground → List (List Cell) → List Cell → Type 0
+IsJudged g states c = IsStateAnswered (area_of g) (states_of states) c ⊎ IsResting (area_of g) c
+
+abbrev pub AreJudged : Ground → List (List Cell) → Type 0
+AreJudged g states = All (IsJudged g states) states
+
+-- There are states with answers, of which this is one.
+pub record HasReplies (g : Ground) (c : List Cell) : Type 0 where
+  pub states : States
+  pub replies : Replies (area_of g) states
+  pub listed : IsTrue (states c)
+
+-- The past bars none of the answers: this colouring lacks a stone that is kept, or has the keeper nowhere at an answer where the state
+-- has not.
+abbrev pub BarsNone : Ground → List Cell → List Cell → Type 0
+BarsNone g c q = (p : ℕ) → IsTrue ((area_of g).answers p) → cell_at q p ≡ own (area_of g) → cell_at c p ≡ own (area_of g)
+
+-- The grounds of a claim, by their numbers, and its areas.
+abbrev pub ground_at : List Ground → ℕ → Ground
+ground_at gs i = get_or gs i (record { cells = []; marks = []; held = []; earlier = []; gives = []; group = 0; keeper = Black })
+
+abbrev pub state_at : List (List Cell) → ℕ → List Cell
+state_at begins i = get_or begins i []
+
+abbrev pub areas_of : List Ground → Areas
+areas_of gs = record {
+  count = length gs;
+  group = λ i. (ground_at gs i).group;
+  kept = λ i. (area_of (ground_at gs i)).kept;
+  region = λ i. (area_of (ground_at gs i)).region;
+  answers = λ i. (area_of (ground_at gs i)).answers;
+  held = λ i. (area_of (ground_at gs i)).held;
+  earlier = λ i. (area_of (ground_at gs i)).earlier;
+  gives = λ i. (area_of (ground_at gs i)).gives;
+}
+
+-- A ground of the problem's board, whose keeper is its defender, and the state that the board fits.
+pub record IsOfBoard (q : GameProblem) (g : Ground) (c : List Cell) : Type 0 where
+  pub sized : IsSized q.game.size g
+  pub keeper : g.keeper ≡ q.game.defender
+  pub state : IsState g c
+  pub fits : Fits (area_of g) (start q).colouring c
   pub allowed : (p : ℕ) → IsTrue ((area_of g).answers p) → IsTrue (holds_point q.game.region p)
 
--- the targets are safe, or they are if the defender, which is to move, plays first
-abbrev pub IsSafeAs : Option ℕ → GameState → Type 0
-IsSafeAs None s = IsSafe s
-IsSafeAs (Some first) s = IsSafeByMove s
+-- The areas of a claim are of the problem's board, they are in order, no earlier position bars an answer, and all targets are kept.
+pub record HoldsFor (q : GameProblem) (gs : List Ground) (begins : List (List Cell)) : Type 0 where
+  pub board : side_of (start q).colouring ≡ q.game.size
+  pub full : length (start q).colouring ≡ q.game.size * q.game.size
+  pub lengths : length gs ≡ length begins
+  pub each : (i : ℕ) → i < length gs → IsOfBoard q (ground_at gs i) (state_at begins i)
+  pub order : AreInOrder (areas_of gs)
+  pub past : PastFits q.game.defender (areas_of gs) (state_at begins) q.history
+  pub targets : (p : ℕ) → IsTrue (holds_point q.game.targets p) → IsKept q.game.defender (areas_of gs) (state_at begins) p
+
+-- The state of play with these points as its targets.
+abbrev pub aimed_at : List ℕ → GameState → GameState
+aimed_at points s = record { game = record { size = s.game.size; region = s.game.region; targets = points; defender = s.game.defender }; colouring = s.colouring; history = s.history; mover = s.mover; passes = s.passes }
+
+-- The targets are safe, or they are if the defender, who is to move, plays first.
+abbrev pub IsSafeAs : Bool → GameState → Type 0
+IsSafeAs true s = IsSafeByMove s
+IsSafeAs false s = IsSafe s
+
+-- The state after the keeper's move from this one, which is of an area that has answers.
+pub record IsMoveFrom (g : Ground) (c : List Cell) (r : ℕ) : Type 0 where
+  pub states : States
+  pub replies : Replies (area_of g) states
+  pub answer : IsAnswer (area_of g) states c r
+
+-- The state of play with any of these stones of the defender's as its targets is safe.
+abbrev pub AllSafe : Bool → GameState → List Cell → Type 0
+AllSafe by_move s stones = (points : List ℕ) → ((p : ℕ) → IsTrue (holds_point points p) → cell_at stones p ≡ Stone s.game.defender) → IsSafeAs by_move (aimed_at points s)

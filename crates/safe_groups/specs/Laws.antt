@@ -1,56 +1,46 @@
 -- What safety by answers implies. Each is proved; the calls of the module `laws` name them.
-use Rattle.std.specs.Prelude.{◌≡◌, ℕ, ◌≤◌, IsTrue, IsFalse, List}
+use Rattle.std.specs.Prelude.{◌≡◌, ℕ, ◌≤◌, ◌<◌, IsTrue, IsFalse, List}
 use Rattle.go_points.specs.declared.Cell.{Cell}
-use Rattle.go_points.specs.Grid.{opponent_of, cell_at}
-use Rattle.target_game.specs.State.{Game, GameState}
+use Rattle.go_points.specs.declared.Colour.{Colour}
+use Rattle.go_points.specs.Grid.{opponent_of}
+use Rattle.target_game.specs.State.{GameState}
 use Rattle.target_game.specs.Legal.{holds_point}
 use Rattle.target_game.specs.Wins.{wins, Wins}
 use Rattle.target_game.specs.Status.{IsAlive}
-use Rattle.safe_groups.specs.Areas.{Area, own, Points, States, IsWalled, Replies, IsAnswered, HoldsAt}
+use Rattle.safe_groups.specs.Areas.{Points, States, IsWalled}
+use Rattle.safe_groups.specs.Together.{Areas, area_at, in_one, RepliesTogether, HoldsAt, AreListed, IsOwed, IsKept}
 use Rattle.safe_groups.specs.Play.{StandThrough}
 
--- Stones that the keeper has in the state of the area that the board fits stand through any number of exchanges: no play of the other
--- side takes them, anywhere on the board and whatever has occurred, and no answer is barred.
+-- Stones that the keeper has in the states that the board fits stand through any number of exchanges: no play of the other side takes
+-- them, anywhere on the board and whatever has occurred, and no answer is barred.
 abbrev pub SafeStonesStand : Type 0
-SafeStonesStand = (a : Area) (W : States) (c b : List Cell) (history : List (List Cell)) → Replies a W → IsTrue (W c) → HoldsAt a c b history
-    → (stones : Points) → ((p : ℕ) → IsTrue (stones p) → cell_at c p ≡ own a) → (exchanges : ℕ) → StandThrough a.size a.keeper a.region stones exchanges b history
+SafeStonesStand = (n : ℕ) (k : Colour) (A : Areas) (W : ℕ → States) (c : ℕ → List Cell) (b : List Cell) (history : List (List Cell)) → RepliesTogether n k A W → AreListed A W c
+    → HoldsAt n k A c b history → (stones : Points) → ((p : ℕ) → IsTrue (stones p) → IsKept k A c p) → (exchanges : ℕ) → StandThrough n k (in_one A.count A.region) stones exchanges b history
 
--- The area of a game with these kept stones, this region, and these points at which the defender answers.
-abbrev pub area_in : Game → Points → Points → Points → Area
-area_in g kept region answers = record { size = g.size; keeper = g.defender; kept = kept; region = region; answers = answers }
-
--- all targets are stones of the keeper's in the state c of the area
-abbrev pub HasTargets : Area → List Cell → List ℕ → Type 0
-HasTargets a c targets = (p : ℕ) → IsTrue (holds_point targets p) → cell_at c p ≡ own a
-
--- The targets are safe by answers, whoever is to move: they are the keeper's in a state of an area that the board fits, and each of
--- his answers is in the game's region.
+-- The targets are safe by answers, whoever is to move: they are the keeper's in states of areas that the board fits, and each of his
+-- answers is in the game's region.
 pub record IsSafe (s : GameState) : Type 0 where
-  pub kept : Points
-  pub region : Points
-  pub answers : Points
-  pub states : States
-  pub state : List Cell
-  pub allowed : (p : ℕ) → IsTrue (answers p) → IsTrue (holds_point s.game.region p)
-  pub replies : Replies (area_in s.game kept region answers) states
-  pub listed : IsTrue (states state)
-  pub holds : HoldsAt (area_in s.game kept region answers) state s.colouring s.history
-  pub targets : HasTargets (area_in s.game kept region answers) state s.game.targets
+  pub areas : Areas
+  pub states : ℕ → States
+  pub state : ℕ → List Cell
+  pub allowed : (i p : ℕ) → i < areas.count → IsTrue (areas.answers i p) → IsTrue (holds_point s.game.region p)
+  pub replies : RepliesTogether s.game.size s.game.defender areas states
+  pub listed : AreListed areas states state
+  pub holds : HoldsAt s.game.size s.game.defender areas state s.colouring s.history
+  pub targets : (p : ℕ) → IsTrue (holds_point s.game.targets p) → IsKept s.game.defender areas state p
 
 -- The same of a state in which the defender is to move and has an answer.
 pub record IsSafeByMove (s : GameState) : Type 0 where
-  pub kept : Points
-  pub region : Points
-  pub answers : Points
-  pub states : States
-  pub state : List Cell
-  pub allowed : (p : ℕ) → IsTrue (answers p) → IsTrue (holds_point s.game.region p)
-  pub replies : Replies (area_in s.game kept region answers) states
-  pub walled : IsWalled (area_in s.game kept region answers) state
-  pub answered : IsAnswered (area_in s.game kept region answers) states state
+  pub areas : Areas
+  pub states : ℕ → States
+  pub state : ℕ → List Cell
+  pub allowed : (i p : ℕ) → i < areas.count → IsTrue (areas.answers i p) → IsTrue (holds_point s.game.region p)
+  pub replies : RepliesTogether s.game.size s.game.defender areas states
+  pub walled : (i : ℕ) → i < areas.count → IsWalled (area_at s.game.size s.game.defender areas i) (state i)
+  pub answered : IsOwed s.game.size s.game.defender areas states state
   pub to_move : s.mover ≡ s.game.defender
-  pub holds : HoldsAt (area_in s.game kept region answers) state s.colouring s.history
-  pub targets : HasTargets (area_in s.game kept region answers) state s.game.targets
+  pub holds : HoldsAt s.game.size s.game.defender areas state s.colouring s.history
+  pub targets : (p : ℕ) → IsTrue (holds_point s.game.targets p) → IsKept s.game.defender areas state p
 
 -- The attacker wins no state whose targets are safe by answers: whoever is to move, whatever passes stand, within any number of turns.
 abbrev pub AttackerNeverWins : Type 0

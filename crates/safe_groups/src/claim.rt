@@ -1,56 +1,271 @@
-//! A claim that stones are safe by answers, as it is held, and its faults.
+//! The judge of a whole claim for a problem.
 
+ghost use Rattle.std.specs.Prelude.{◌≡◌, ◌≢◌, ◌*◌, ◌<◌, ℕ, [], length, slice_set, IsTrue, OnOk, IfOk, is_some, true, false};
+ghost use Rattle.std.specs.List.{All};
+ghost use Rattle.go_points.specs.declared.Cell.TheVariants.{Empty};
+ghost use Rattle.go_points.specs.Grid.{cell_at, side_of};
+ghost use Rattle.target_game.specs.State.{start};
+ghost use Rattle.safe_groups.specs.Ground.{area_of, ground_at, state_at, AllSafe, HasReplies, HoldsFor, IsMoveFrom, IsSafeAs, IsSized};
+ghost use Rattle.safe_groups.specs.Private.Verdict.{AreKept};
+
+use crate::bodies::{Counts, judge_body};
+use crate::fault::{Fault, Stop};
 use crate::ground::Ground;
-use go_points::Colouring;
+use crate::heads::{
+    Heads, barred_points, first_turn, mark_answers, mark_held, number_groups, own_stones,
+    read_heads, read_keeper,
+};
+use crate::lines::ClaimLines;
+use crate::verdict::{Misfit, are_safe, are_safe_by_move, hold_for};
+use go_points::{Cell, Colour, Colouring, Point};
+use std::alloc::{AllocError, Global};
+use std::io::Read;
+use target_game::Problem;
 
-/// An answer to a move of the other side.
-#[derive(Clone, Copy, Debug, PartialEq, Eq)]
-pub struct Reply {
-    /// The number of the point at which the other side moves.
-    pub point: usize,
-    /// The point at which the keeper answers; `None` if it passes.
-    pub answer: Option<usize>,
-    /// The place of the state that covers what is left.
-    pub next: usize,
+/// What an accepted claim shows: these stones of the keeper's stand, if it answers, or if it first plays at this point.
+#[derive(Clone, Copy, Debug)]
+pub struct Verdict {
+    pub keeper: Colour,
+    pub first: Option<Point>,
+    /// The stones, as the keeper's on a colouring.
+    pub stones: Colouring,
 }
 
-/// A claim about one area: its states, and what is answered in each.
-#[derive(Drop)]
-pub struct Claim {
-    pub ground: Ground,
-    /// The state of the board and, if the keeper moves first, before that move.
-    pub begin: Colouring,
-    /// The point at which the keeper, who is to move, plays first.
-    pub first: Option<usize>,
-    pub states: Vec<Colouring>,
-    /// The answers of all states, one state after another, and for each state how many come before its own and up to its end.
-    pub replies: Vec<Reply>,
-    pub ends: Vec<usize>,
+/// The line at which a claim is refused, from 1, and why.
+#[derive(Clone, Copy, Debug, PartialEq, Eq)]
+pub struct Reject {
+    pub line: u64,
+    pub stop: Stop,
 }
 
-/// Why a claim is not accepted.
-#[derive(Clone, Copy, Debug, PartialEq, Eq)]
-pub enum Fault {
-    /// The board has another size, or the targets are not the keeper's.
-    OtherBoard,
-    /// A point of the region, or a kept stone, is not as the claim has it.
-    BoardDiffers,
-    /// A state is not one of the area.
-    BadState,
-    /// A target is not kept.
-    TargetNotKept,
-    /// An answer is outside the region of the problem.
-    AnswerOutside,
-    /// An earlier position may bar an answer.
-    PastBars,
-    /// The keeper is not to move.
-    WrongSide,
-    /// In this state a stone that has to have a liberty has none.
-    NoLiberty { state: usize },
-    /// In this state the other side's move at this point takes stones.
-    StonesTaken { state: usize, point: usize },
-    /// In this state the replies are not those that are due, which are the moves that change it. This one is due, if one is.
-    RepliesDiffer { state: usize, due: Option<usize> },
-    /// In this state the answer to the move at this point is barred, or what is left is not covered by the state that is named.
-    NotAnswered { state: usize, point: usize },
+/// The fault of areas that are not those of the problem.
+fn fault_of(misfit: Misfit) -> Fault {
+    match misfit {
+        Misfit::Board | Misfit::Order => Fault::BoardDiffers,
+        Misfit::Target => Fault::TargetNotKept,
+        Misfit::Past => Fault::PastBars,
+    }
+}
+
+/// Judges the bodies of all areas, whose first states are given; the first line of the first has been read.
+fn judge_bodies<R: Read>(
+    alloc: Global,
+    grounds: &[Ground],
+    starts: &[Colouring],
+    lines: &mut ClaimLines<'_, R>,
+) -> Result<(), Stop>
+    requires sized { (i : ℕ) → i < length grounds.now
+        → IsSized (side_of (ground_at grounds.now i).cells) (ground_at grounds.now i) }
+    requires given { (i p : ℕ) → i < length grounds.now
+        → IsTrue ((area_of (ground_at grounds.now i)).gives p)
+        → IsTrue ((area_of (ground_at grounds.now i)).kept p) }
+    requires lengths { length grounds.now ≡ length starts.now }
+    ensures { OnOk result ((i : ℕ) → i < length grounds.now
+        → HasReplies (ground_at grounds.now i) (state_at starts.now i)) }
+{
+    let mut counts = Counts {
+        states: 0,
+        replies: 0,
+    };
+    for place in 0..grounds.len() {
+        if place > 0 {
+            lines.next_line()?;
+        }
+        judge_body(alloc, &grounds[place], &starts[place], lines, &mut counts)?;
+    }
+    Ok(())
+}
+
+/// The states with this one at this place.
+fn with_state(
+    alloc: Global,
+    begins: &[Colouring],
+    place: usize,
+    state: &Colouring,
+) -> Result<Vec<Colouring>, AllocError>
+    requires { place < length begins.now }
+    ensures { IfOk result (λ v. v.items ≡ slice_set begins.now place state.now) }
+{
+    let mut states = Vec::new(alloc);
+    states.extend_from_slice(begins)?;
+    states[place] = *state;
+    Ok(states)
+}
+
+/// Whether the defender is to move.
+fn is_defender_to_move(problem: &Problem) -> bool
+    ensures { IsTrue result → problem.now.mover ≡ problem.now.game.defender }
+{
+    Cell::Stone(problem.mover()).is_stone_of(problem.defender())
+}
+
+/// Judges the bodies where the keeper answers first, in this area.
+fn judge_after_move<R: Read>(
+    alloc: Global,
+    problem: &Problem,
+    grounds: &[Ground],
+    begins: &[Colouring],
+    place: usize,
+    number: usize,
+    lines: &mut ClaimLines<'_, R>,
+) -> Result<(), Stop>
+    requires holds { HoldsFor problem.now grounds.now begins.now }
+    ensures mover { OnOk result (problem.now.mover ≡ problem.now.game.defender) }
+    ensures place { OnOk result (place < length grounds.now) }
+    ensures others { OnOk result ((i : ℕ) → i < length grounds.now → i ≢ place
+        → HasReplies (ground_at grounds.now i) (state_at begins.now i)) }
+    ensures moved { OnOk result
+        (IsMoveFrom (ground_at grounds.now place) (state_at begins.now place) number) }
+{
+    if !is_defender_to_move(problem) {
+        return Err(Stop::Fault(Fault::WrongSide));
+    }
+    if place >= grounds.len() || place >= begins.len() {
+        return Err(Stop::Fault(Fault::TurnBarred));
+    }
+    let ground = &grounds[place];
+    let begin = &begins[place];
+    if number >= ground.size().area() || !ground.is_answer(number) {
+        return Err(Stop::Fault(Fault::PastBars));
+    }
+    if !begin.cell(number).is_empty() {
+        return Err(Stop::Fault(Fault::TurnBarred));
+    }
+    let after = ground.after_answer(begin, number);
+    let Ok(starts) = with_state(alloc, begins, place, &after) else {
+        return Err(Stop::Memory);
+    };
+    judge_bodies(alloc, grounds, starts.as_slice(), lines)
+}
+
+/// Makes the areas ready to be judged: their groups, what they lean on, and where they may answer. `first` is where the keeper plays
+/// first.
+fn prepare(
+    problem: &Problem,
+    keeper: Colour,
+    first: Option<(usize, usize)>,
+    heads: &mut Heads,
+) -> Result<(), Fault> {
+    let size = problem.size();
+    number_groups(heads);
+    mark_held(heads, size);
+    let stones = own_stones(heads, size, keeper);
+    for target in problem.targets().iter() {
+        if !size.holds(target) || stones.size() != size {
+            return Err(Fault::TargetNotKept);
+        }
+        if problem.defender() != keeper || !stones.get(target).is_stone_of(keeper) {
+            return Err(Fault::TargetNotKept);
+        }
+    }
+    let barred = barred_points(problem, &stones, keeper);
+    if let Some((_, number)) = first
+        && number < barred.size().area()
+        && !barred.cell(number).is_empty()
+    {
+        return Err(Fault::PastBars);
+    }
+    mark_answers(heads, &barred, size);
+    Ok(())
+}
+
+/// Judges all lines.
+fn judge_lines<R: Read>(
+    alloc: Global,
+    problem: &Problem,
+    lines: &mut ClaimLines<'_, R>,
+) -> Result<Verdict, Stop>
+    ensures targets { IfOk result (λ v. IsSafeAs (is_some v.first) (start problem.now)) }
+    ensures stones { IfOk result (λ v. AllSafe (is_some v.first) (start problem.now) v.stones) }
+{
+    let size = problem.size();
+    let keeper = read_keeper(lines, size)?;
+    let mut heads = read_heads(alloc, problem, keeper, lines)?;
+    let first = first_turn(problem, keeper, &heads, lines)?;
+    if heads.grounds.is_empty() || !lines.is(b"body", 1) {
+        return Err(Stop::Fault(Fault::Malformed));
+    }
+    if let Err(fault) = prepare(problem, keeper, first, &mut heads) {
+        return Err(Stop::Fault(fault));
+    }
+    judge_areas(alloc, problem, &heads, first, lines)
+}
+
+/// Judges the bodies of these areas, and the end.
+fn judge_areas<R: Read>(
+    alloc: Global,
+    problem: &Problem,
+    heads: &Heads,
+    first: Option<(usize, usize)>,
+    lines: &mut ClaimLines<'_, R>,
+) -> Result<Verdict, Stop>
+    ensures targets { IfOk result (λ v. IsSafeAs (is_some v.first) (start problem.now)) }
+    ensures stones { IfOk result (λ v. AllSafe (is_some v.first) (start problem.now) v.stones) }
+{
+    let keeper = problem.defender();
+    let grounds = heads.grounds.as_slice();
+    let begins = heads.begins.as_slice();
+    let stones = match hold_for(problem, grounds, begins) {
+        Ok(stones) => stones,
+        Err(misfit) => return Err(Stop::Fault(fault_of(misfit))),
+    };
+    match first {
+        None => {
+            judge_bodies(alloc, grounds, begins, lines)?;
+            lines.end_here()?;
+            are_safe(problem, grounds, begins, &stones);
+            Ok(Verdict {
+                keeper,
+                first: None,
+                stones,
+            })
+        }
+        Some((place, number)) => {
+            judge_after_move(alloc, problem, grounds, begins, place, number, lines)?;
+            lines.end_here()?;
+            are_safe_by_move(problem, grounds, begins, &stones, place, number);
+            let point = turn_point(problem, number);
+            Ok(Verdict {
+                keeper,
+                first: Some(point),
+                stones,
+            })
+        }
+    }
+}
+
+/// The point of this number, or the first one.
+fn turn_point(problem: &Problem, number: usize) -> Point {
+    let size = problem.size();
+    if number < size.area() {
+        size.point_at(number)
+    } else {
+        Point::default()
+    }
+}
+
+/// Judges the claim in these bytes and in what the reader has after them, for the problem. If it is accepted, the targets and all stones
+/// that are told are safe by answers, whoever moves first; or, if the claim names a first move, since the defender is to move and has it.
+///
+/// For each state it takes, at each point of the region, a few sweeps over the board.
+pub fn judge<R: Read>(
+    alloc: Global,
+    problem: &Problem,
+    front: &[u8],
+    reader: &mut R,
+) -> Result<Verdict, Reject>
+    ensures targets { IfOk result (λ v. IsSafeAs (is_some v.first) (start problem.now)) }
+    ensures stones { IfOk result (λ v. AllSafe (is_some v.first) (start problem.now) v.stones) }
+{
+    let mut lines = match ClaimLines::new(alloc, front, reader) {
+        Ok(lines) => lines,
+        Err(stop) => return Err(Reject { line: 0, stop }),
+    };
+    match judge_lines(alloc, problem, &mut lines) {
+        Ok(verdict) => Ok(verdict),
+        Err(stop) => Err(Reject {
+            line: lines.number(),
+            stop,
+        }),
+    }
 }

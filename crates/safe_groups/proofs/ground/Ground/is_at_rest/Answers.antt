@@ -1,9 +1,6 @@
-use Rattle.safe_groups.proofs.Common.{◌≡◌, sym, ◌∙◌, clear_loose, same_cells_eq, area_of}
+use Rattle.safe_groups.proofs.Common.{area_of}
 use Rattle.safe_groups.proofs.Grounds.{at_rest_by}
 use Rattle.safe_groups.proofs.ground.Ground.is_at_rest.Goals as goal
 
-pub returns-then-stands : goal.returns-then-stands
-returns-then-stands c = λ same.
-    let g = c.args.self.now in let s = c.args.state.now in
-    let equal : clear_loose (area_of g) s ≡ s = sym c.without_loose.ensures.value ∙ same_cells_eq _ _ (sym c.eq.ensures ∙ same) in
-    at_rest_by (area_of g) s c.requires.walled (c.stands.ensures c.if-stands.true) equal
+pub returns-clause-rest : goal.returns-clause-rest
+returns-clause-rest c = λ yes. at_rest_by (area_of c.args.self.now) c.args.state.now c.requires.state.walled (c.stands.ensures c.if-not-stands.false) (c.gives_all.ensures c.if-not-gives_all.false) (c.is_clear.ensures yes)

@@ -1,0 +1,6 @@
+use Rattle.safe_groups.proofs.Common.{◌≡◌, ◌<◌, ℕ, IsTrue, cell_at, own, area_of}
+use Rattle.safe_groups.specs.Private.Spaces.{IsSafeAt}
+use Rattle.safe_groups.proofs.ground.Ground.all_safe.Given as goal
+
+abbrev pub invariant-loop-number : goal.invariant-loop-number
+invariant-loop-number l = (p : ℕ) → p < l.number → cell_at l.state p ≡ own (area_of l.self) → IsSafeAt (area_of l.self) l.state p

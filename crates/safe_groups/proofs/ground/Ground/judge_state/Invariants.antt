@@ -1,6 +1,0 @@
-use Rattle.safe_groups.proofs.Common.{◌≡◌, ◌<◌, ℕ, Empty, cell_at, area_of, states_of}
-use Rattle.safe_groups.specs.Ground.{IsMoveAnswered}
-use Rattle.safe_groups.proofs.ground.Ground.judge_state.Given as goal
-
-abbrev pub invariant-loop-number : goal.invariant-loop-number
-invariant-loop-number l = (x : ℕ) → x < l.number → cell_at l.state x ≡ Empty → IsMoveAnswered (area_of l.self) (states_of l.states) l.state x

@@ -1,0 +1,7 @@
+use Rattle.safe_groups.proofs.Common.{area_of, side_of}
+use Rattle.safe_groups.specs.Ground.{lifted_cell}
+use Rattle.safe_groups.proofs.Grounds.{MadeSoFar}
+use Rattle.safe_groups.proofs.ground.Ground.without.Given as goal
+
+abbrev pub invariant-loop-number : goal.invariant-loop-number
+invariant-loop-number l = MadeSoFar (side_of l.self.cells) (lifted_cell (area_of l.self) l.state l.points) l.made l.number

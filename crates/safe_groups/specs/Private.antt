@@ -1,0 +1,4 @@
+pub mod Spaces
+pub mod Moves
+pub mod Order
+pub mod Verdict

@@ -1,0 +1,289 @@
+//! States in which nothing is to be answered: each chain of the keeper's has two eyes, or leans on held stones.
+
+ghost use Rattle.std.specs.Prelude.{◌≡◌, ◌*◌, ◌<◌, ◌⊎◌, ℕ, IsTrue, IsFalse, IfSome, if◌then◌else◌};
+ghost use Rattle.go_points.specs.declared.Cell.TheVariants.{Empty};
+ghost use Rattle.go_points.specs.Grid.{cell_at, same_cell, side_of};
+ghost use Rattle.go_points.specs.Place.{IsOn, number_of};
+ghost use Rattle.safe_groups.specs.Areas.{own, theirs};
+ghost use Rattle.safe_groups.specs.Eyes.{IsEye, IsResting, TwoEyes};
+ghost use Rattle.safe_groups.specs.Ground.{area_of, marked, IsSized, IsState};
+ghost use Rattle.safe_groups.specs.Private.Spaces.{alone_cell, space_cell, these, AreAlone, AreSpaces, AreEyePoints, AreBeside, IsFreeOf, IsSafeAt, IsGivenAt, LeansOn};
+
+use crate::ground::Ground;
+use go_chains::ChainBoard;
+use go_points::{Cell, Colouring, Point, PointSet};
+
+impl Ground {
+    /// What the point holds where only the keeper's stones are left.
+    fn alone_cell(&self, state: &Colouring, number: usize) -> Cell
+        requires side { side_of state.now ≡ side_of self.now.cells }
+        requires within { number < side_of self.now.cells * side_of self.now.cells }
+        ensures { result ≡ alone_cell (area_of self.now) state.now number }
+    {
+        if state.cell(number) == self.own() {
+            self.own()
+        } else {
+            Cell::Empty
+        }
+    }
+
+    /// What the point holds where the keeper's stones are taken away, and all other points hold stones of the other side.
+    fn space_cell(&self, state: &Colouring, number: usize) -> Cell
+        requires side { side_of state.now ≡ side_of self.now.cells }
+        requires within { number < side_of self.now.cells * side_of self.now.cells }
+        ensures { result ≡ space_cell (area_of self.now) state.now number }
+    {
+        if state.cell(number) == self.own() {
+            Cell::Empty
+        } else {
+            self.theirs()
+        }
+    }
+
+    /// The keeper's stones alone.
+    fn alone(&self, state: &Colouring) -> Colouring
+        requires { side_of state.now ≡ side_of self.now.cells }
+        ensures side { side_of result ≡ side_of self.now.cells }
+        ensures cells { AreAlone (area_of self.now) state.now result }
+    {
+        let size = state.size();
+        let mut made = *state;
+        for number in 0..size.area() {
+            made.set(size.point_at(number), self.alone_cell(state, number));
+        }
+        made
+    }
+
+    /// The points between the keeper's stones, as chains of another colouring.
+    fn spaces(&self, state: &Colouring) -> Colouring
+        requires { side_of state.now ≡ side_of self.now.cells }
+        ensures side { side_of result ≡ side_of self.now.cells }
+        ensures cells { AreSpaces (area_of self.now) state.now result }
+    {
+        let size = state.size();
+        let mut made = *state;
+        for number in 0..size.area() {
+            made.set(size.point_at(number), self.space_cell(state, number));
+        }
+        made
+    }
+
+    /// Whether all these points are of the region and near the chain, and none is to be avoided.
+    fn are_eye_points(&self, space: &PointSet, near: &PointSet, avoided: &PointSet) -> bool
+        ensures { IsTrue result → AreEyePoints self.now space.now near.now avoided.now }
+    {
+        let size = self.size();
+        for number in 0..size.area() {
+            let point = size.point_at(number);
+            if space.has(point)
+                && (!near.has(point) || avoided.has(point) || !self.cells.cell(number).is_empty())
+            {
+                return false;
+            }
+        }
+        true
+    }
+
+    /// An eye of the chain of this stone, with no point that is to be avoided; the points near the chain are given.
+    fn find_eye(
+        &self,
+        state: &Colouring,
+        spaces: &ChainBoard,
+        stone: usize,
+        near: &PointSet,
+        avoided: &PointSet,
+    ) -> Option<PointSet>
+        requires state { IsState self.now state.now }
+        requires spaces { AreSpaces (area_of self.now) state.now spaces.now }
+        requires side { side_of spaces.now ≡ side_of self.now.cells }
+        requires near { AreBeside (area_of self.now) state.now stone near.now }
+        ensures { IfSome result (λ eye. IsEye (area_of self.now) state.now stone
+            (these (side_of self.now.cells) eye)
+            × IsFreeOf (side_of self.now.cells) eye avoided.now) }
+    {
+        let size = self.size();
+        for number in 0..size.area() {
+            let point = size.point_at(number);
+            if near.has(point)
+                && let Some(space) = spaces.chain_of(point)
+                && self.are_eye_points(&space, near, avoided)
+            {
+                return Some(space);
+            }
+        }
+        None
+    }
+
+    /// Whether the chain has two eyes.
+    fn has_two_eyes(
+        &self,
+        state: &Colouring,
+        spaces: &ChainBoard,
+        stone: usize,
+        near: &PointSet,
+    ) -> bool
+        requires state { IsState self.now state.now }
+        requires spaces { AreSpaces (area_of self.now) state.now spaces.now }
+        requires side { side_of spaces.now ≡ side_of self.now.cells }
+        requires near { AreBeside (area_of self.now) state.now stone near.now }
+        ensures { IsTrue result → TwoEyes (area_of self.now) state.now stone }
+    {
+        let Some(first) = self.find_eye(state, spaces, stone, near, &PointSet::new()) else {
+            return false;
+        };
+        let Some(_second) = self.find_eye(state, spaces, stone, near, &first) else {
+            return false;
+        };
+        true
+    }
+
+    /// Whether one of the keeper's marks on the colouring is in the chain.
+    fn marks_one(&self, marks: &Colouring, chain: &PointSet) -> bool
+        requires { side_of marks.now ≡ side_of self.now.cells }
+        ensures { IsTrue result → LeansOn self.now marks.now chain.now }
+    {
+        let size = self.size();
+        for number in 0..size.area() {
+            if marks.cell(number).is_stone_of(self.keeper) && chain.has(size.point_at(number)) {
+                return true;
+            }
+        }
+        false
+    }
+
+    /// Whether the chain of the stone, if it is one of the keeper's, has two eyes, or leans on a held stone.
+    fn is_safe_at(
+        &self,
+        state: &Colouring,
+        stones: &ChainBoard,
+        spaces: &ChainBoard,
+        stone: usize,
+    ) -> bool
+        requires state { IsState self.now state.now }
+        requires held { side_of self.now.held ≡ side_of self.now.cells }
+        requires stones { AreAlone (area_of self.now) state.now stones.now }
+        requires stones_side { side_of stones.now ≡ side_of self.now.cells }
+        requires spaces { AreSpaces (area_of self.now) state.now spaces.now }
+        requires spaces_side { side_of spaces.now ≡ side_of self.now.cells }
+        requires within { stone < side_of self.now.cells * side_of self.now.cells }
+        ensures { IsTrue result → cell_at state.now stone ≡ own (area_of self.now)
+            → IsSafeAt (area_of self.now) state.now stone }
+    {
+        if !state.cell(stone).is_stone_of(self.keeper) {
+            return true;
+        }
+        let point = self.size().point_at(stone);
+        let Some(chain) = stones.chain_of(point) else {
+            return false;
+        };
+        if self.marks_one(&self.held, &chain) {
+            return true;
+        }
+        let Some(near) = stones.liberties(point) else {
+            return false;
+        };
+        self.has_two_eyes(state, spaces, stone, &near)
+    }
+
+    /// Whether the chain of the stone, if it is given a liberty, has an eye, or leans on an earlier one.
+    fn is_given_at(
+        &self,
+        state: &Colouring,
+        stones: &ChainBoard,
+        spaces: &ChainBoard,
+        stone: usize,
+    ) -> bool
+        requires state { IsState self.now state.now }
+        requires earlier { side_of self.now.earlier ≡ side_of self.now.cells }
+        requires stones { AreAlone (area_of self.now) state.now stones.now }
+        requires stones_side { side_of stones.now ≡ side_of self.now.cells }
+        requires spaces { AreSpaces (area_of self.now) state.now spaces.now }
+        requires spaces_side { side_of spaces.now ≡ side_of self.now.cells }
+        requires within { stone < side_of self.now.cells * side_of self.now.cells }
+        requires gives { side_of self.now.gives ≡ side_of self.now.cells }
+        ensures { IsTrue result → IsTrue ((area_of self.now).gives stone)
+            → IsGivenAt (area_of self.now) state.now stone }
+    {
+        if !self.gives.cell(stone).is_stone_of(self.keeper) {
+            return true;
+        }
+        if !state.cell(stone).is_stone_of(self.keeper) {
+            return false;
+        }
+        let point = self.size().point_at(stone);
+        let Some(chain) = stones.chain_of(point) else {
+            return false;
+        };
+        if self.marks_one(&self.earlier, &chain) {
+            return true;
+        }
+        let Some(near) = stones.liberties(point) else {
+            return false;
+        };
+        let Some(_eye) = self.find_eye(state, spaces, stone, &near, &PointSet::new()) else {
+            return false;
+        };
+        true
+    }
+
+    /// Whether all stones of the keeper's are safe for ever.
+    fn all_safe(&self, state: &Colouring, stones: &ChainBoard, spaces: &ChainBoard) -> bool
+        requires state { IsState self.now state.now }
+        requires held { side_of self.now.held ≡ side_of self.now.cells }
+        requires stones { AreAlone (area_of self.now) state.now stones.now }
+        requires stones_side { side_of stones.now ≡ side_of self.now.cells }
+        requires spaces { AreSpaces (area_of self.now) state.now spaces.now }
+        requires spaces_side { side_of spaces.now ≡ side_of self.now.cells }
+        ensures { IsTrue result → (p : ℕ) → cell_at state.now p ≡ own (area_of self.now)
+            → IsSafeAt (area_of self.now) state.now p }
+    {
+        for number in 0..state.size().area() {
+            if !self.is_safe_at(state, stones, spaces, number) {
+                return false;
+            }
+        }
+        true
+    }
+
+    /// Whether all stones that are given a liberty have one for ever.
+    fn all_given(&self, state: &Colouring, stones: &ChainBoard, spaces: &ChainBoard) -> bool
+        requires state { IsState self.now state.now }
+        requires sized { IsSized (side_of self.now.cells) self.now }
+        requires stones { AreAlone (area_of self.now) state.now stones.now }
+        requires stones_side { side_of stones.now ≡ side_of self.now.cells }
+        requires spaces { AreSpaces (area_of self.now) state.now spaces.now }
+        requires spaces_side { side_of spaces.now ≡ side_of self.now.cells }
+        ensures { IsTrue result → (p : ℕ) → IsTrue ((area_of self.now).gives p)
+            → IsGivenAt (area_of self.now) state.now p }
+    {
+        for number in 0..self.gives.size().area() {
+            if !self.is_given_at(state, stones, spaces, number) {
+                return false;
+            }
+        }
+        true
+    }
+
+    /// Whether nothing is to be answered in the state, which is at rest.
+    ///
+    /// For each of the keeper's stones it looks at the spaces beside its chain.
+    pub fn is_resting(&self, state: &Colouring) -> bool
+        requires state { IsState self.now state.now }
+        requires sized { IsSized (side_of self.now.cells) self.now }
+        ensures { IsTrue result → IsResting (area_of self.now) state.now }
+    {
+        if !self.is_clear(state) {
+            return false;
+        }
+        let Ok(stones) = ChainBoard::from_colouring(&self.alone(state)) else {
+            return false;
+        };
+        let Ok(spaces) = ChainBoard::from_colouring(&self.spaces(state)) else {
+            return false;
+        };
+        if !self.all_safe(state, &stones, &spaces) {
+            return false;
+        }
+        self.all_given(state, &stones, &spaces)
+    }
+}

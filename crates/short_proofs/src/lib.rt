@@ -11,6 +11,7 @@ mod proof;
 mod reading;
 mod reading_record;
 mod shown;
+mod standing;
 mod walk;
 mod words;
 

@@ -8,6 +8,8 @@ from .refusals import raw, refusal
 
 # Seconds for a whole request to come in, for an answer to be taken, and between two requests of a connection.
 SECONDS_TO_SEND, SECONDS_TO_TAKE, SECONDS_IDLE = 15, 60, 75
+# Seconds for which a client that was refused may go on sending.
+SECONDS_TO_LEAVE = 2
 MOST_CONNECTIONS = 1000
 # Requests that may wait unread in a connection.
 MOST_AHEAD = 16
@@ -18,7 +20,9 @@ class Connection(web.RequestHandler):
 
     def __init__(self, service, manager, **words):
         super().__init__(manager, **words)
-        self.service, self.asking, self.timer, self.is_heard = service, None, None, False
+        self.service, self.asking, self.timer = service, None, None
+        # Whether bytes of a request have come, whether its answer is being made, whether the connection was refused.
+        self.is_heard = self.is_busy = self.is_refused = False
 
     def connection_made(self, transport):
         super().connection_made(transport)
@@ -36,7 +40,9 @@ class Connection(web.RequestHandler):
         super().connection_lost(error)
 
     def data_received(self, data):
-        if self.asking is not None:
+        if self.is_refused:
+            return
+        if self.is_busy:
             # Nobody has to send ahead while an answer is made, and what comes would have to be kept.
             self.drop()
             return
@@ -67,10 +73,14 @@ class Connection(web.RequestHandler):
             self.drop()
 
     def refuse(self, status, line, remedy):
-        """Answers outside a request, and ends the connection."""
+        """Answers outside a request, and ends the connection. What still comes is thrown away for a while: where it met a closed
+        connection, the client's system could throw the answer away."""
         if self.transport is not None:
+            self.is_refused = True
             self.transport.write(raw(status, line, remedy))
-            self.force_close()
+            self.transport.write_eof()
+            self.stop_waiting()
+            self.timer = asyncio.get_running_loop().call_later(SECONDS_TO_LEAVE, self.drop)
 
     def drop(self):
         """Ends the connection at once, whatever has not been taken."""

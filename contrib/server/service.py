@@ -143,11 +143,12 @@ class Service:
         try:
             record = await self.record(request, kept)
             connection = request.protocol
+            connection.is_busy = True
             connection.asking = asyncio.ensure_future(self.run(request, words, kind, record, kept))
             try:
                 return await connection.asking
             finally:
-                connection.asking = None
+                connection.asking, connection.is_busy = None, False
         finally:
             self.held -= sum(kept)
 
@@ -199,6 +200,8 @@ class Service:
             except BaseException:
                 run.close()
                 raise
+        # Who has read the whole answer may ask again before this has ended.
+        request.protocol.is_busy = False
         try:
             return await self.told(request, run, status, kind, kept)
         finally:

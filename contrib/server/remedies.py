@@ -25,23 +25,43 @@ SGF = {
     4: "More than 1,000 variations are open at once: leave some out.",
     5: "The record has more than 100,000 nodes: leave some out.",
 }
+# group_status names a fault in the same words without its number.
+FAULTS = {
+    "no tree": ("sgf", 1), "syntax at": ("sgf", 2), "too long": ("sgf", 3), "too deep": ("sgf", 4), "too many nodes": ("sgf", 5),
+    "game": ("problem", 1), "size": ("problem", 2), "no problem node": ("problem", 3), "many values": ("problem", 4), "bad point": ("problem", 5),
+    "shared point": ("problem", 6), "mixed": ("problem", 7), "both colours": ("problem", 8), "illegal turn": ("problem", 9),
+    "no liberty": ("problem", 10), "bad targets": ("problem", 11), "ended": ("problem", 12), "bad colour": ("problem", 13),
+    "long history": ("problem", 14),
+}
 LINES = (
-    (r"--node \d+ is before it", "The record has a fault after the named node: ask about that node, or an earlier one."),
-    (r"--target is no list", "Name a point of the board, as D17 or dc."),
-    (r"--region is no list", "Name points of the board, as aa,cb:db, or a number of empty points."),
-    (r"no such node", "Nodes are counted from 0 at the root, along the first variations."),
-    (r"name a region", "Nothing can be played near the target: mark the region yourself."),
-    (r"no tree", SGF[1]),
-    (r"another problem", "The second record has another problem than the first."),
-    (r"does not say who wins", "It is no answer: send what /solve or /first-moves?record has answered."),
+    ("the size of the board", ("problem", 2), PROBLEM[2]),
+    ("two passes stand there", ("problem", 12), PROBLEM[12]),
+    (r"--node \d+ is before it", ("problem", 9), "The record has a fault after the named node: ask about that node, or an earlier one."),
+    ("there is no stone at", None, "Name a stone of the group, and the node at which it stands."),
+    ("marks no stone with a triangle", None, "Name a stone: target=D17."),
+    ("the triangles \\(TR\\) are not on stones", ("problem", 11), PROBLEM[11]),
+    ("is no point of the board|is no list of points|are no points", None, "Name points of the board, as D17 or dc, with commas between them."),
+    ("no such node|has no node", None, "Nodes are counted from 0 at the root, along the first variations."),
+    ("name a region", None, "Nothing can be played near the target: mark the region yourself."),
+    ("another problem", None, "The second record has another problem than the first."),
+    ("does not say who wins", None, "It is no answer: send what /solve or /first-moves?record has answered."),
 )
 OTHER = "docs/FAQ.md says what each refusal means."
 
 
-def remedy_of(line):
-    """The remedy, and the name and the number of the refusal where the line has them."""
-    found = re.match(r"refused: (?:.*?\b)?(sgf|problem) ([0-9]+) ", line)
+def named(line):
+    """The name and the number of a refusal, where it has them or its words do."""
+    found = re.match(r"refused: (sgf|problem) ([0-9]+) ", line)
     if found:
-        remedy = (SGF if found[1] == "sgf" else PROBLEM).get(int(found[2]), OTHER)
-        return remedy, {"name": found[1], "number": int(found[2])}
-    return next((remedy for pattern, remedy in LINES if re.search(pattern, line)), OTHER), {}
+        return found[1], int(found[2])
+    found = re.match(f"refused: (?:[^:]*: )?({'|'.join(FAULTS)})\\b", line)
+    return FAULTS[found[1]] if found else None
+
+
+def remedy_of(line):
+    """The remedy of a line, and the name and the number of the refusal where it has them."""
+    of_line = next(((name, remedy) for pattern, name, remedy in LINES if re.search(pattern, line)), (None, None))
+    name = of_line[0] or named(line)
+    table = {"sgf": SGF, "problem": PROBLEM}.get(name[0], {}) if name else {}
+    remedy = of_line[1] or (table.get(name[1]) if name else None) or OTHER
+    return remedy, {"name": name[0], "number": name[1]} if name else {}

@@ -26,6 +26,7 @@ case $record in
 *WAIT*) sleep 1; echo waited ;;
 *REFUSED*) echo 'refused: problem 9 illegal turn at node 2: occupied'; exit 2 ;;
 *NODE*) echo 'refused: C7, node 3: illegal turn: occupied at node 2; --node 1 is before it'; exit 2 ;;
+*STONE*) echo 'refused: there is no stone at D4, at node 0'; exit 2 ;;
 *UNKNOWN*) echo 'unknown: step budget, 20 steps'; exit 1 ;;
 *ARGUMENT*) echo 'error: the argument cannot be used'; exit 3 ;;
 *FAILED*) echo 'failed: memory'; exit 4 ;;

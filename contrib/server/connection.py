@@ -10,7 +10,6 @@ from .refusals import raw, refusal
 SECONDS_TO_SEND, SECONDS_TO_TAKE, SECONDS_IDLE = 15, 60, 75
 # Seconds for which a client that was refused may go on sending.
 SECONDS_TO_LEAVE = 2
-MOST_CONNECTIONS = 1000
 # Requests that may wait unread in a connection.
 MOST_AHEAD = 16
 
@@ -27,7 +26,7 @@ class Connection(web.RequestHandler):
     def connection_made(self, transport):
         super().connection_made(transport)
         self.service.connections += 1
-        if self.service.connections > MOST_CONNECTIONS:
+        if self.service.connections > self.service.given.connections:
             self.refuse(503, "too many connections", "Ask again later.")
         else:
             self.wait(SECONDS_TO_SEND)

@@ -3,7 +3,6 @@
 import asyncio
 import os
 import re
-import resource
 import shutil
 import signal
 import subprocess
@@ -50,34 +49,20 @@ class Ended(Exception):
 
 class Run:
     """One run of a program. Standard input and both outputs are files in memory, so no slow reader or writer holds the process, and
-    nothing is written to a disk. Its limits are set from here, before it can have done much: what they forbid fails from then on."""
+    nothing is written to a disk."""
 
-    def __init__(self, words, record, memory, seconds):
+    def __init__(self, words, record):
         self.files = [os.memfd_create(name, os.MFD_CLOEXEC) for name in ("record", "answer", "notes")]
         try:
             os.write(self.files[0], record)
             os.lseek(self.files[0], 0, os.SEEK_SET)
             stdin, stdout, stderr = self.files
             self.process = subprocess.Popen(
-                words, stdin=stdin, stdout=stdout, stderr=stderr, cwd="/", env=VARIABLES, start_new_session=True, close_fds=True,
+                words, stdin=stdin, stdout=stdout, stderr=stderr, cwd="/", env=VARIABLES, start_new_session=True
             )
         except BaseException:
             self.close()
             raise
-        try:
-            self.limit(memory * MEGABYTE, seconds)
-        except ProcessLookupError:
-            pass
-
-    def limit(self, memory, seconds):
-        limits = {
-            resource.RLIMIT_AS: memory,
-            resource.RLIMIT_CPU: seconds + 1,
-            resource.RLIMIT_FSIZE: MOST_ANSWER,
-            resource.RLIMIT_CORE: 0,
-        }
-        for which, most in limits.items():
-            resource.prlimit(self.process.pid, which, (most, most))
 
     async def ended(self, seconds):
         """Waits for its end and returns its status, negative for a signal. Where the time is up, or the waiting is cancelled, the
@@ -113,17 +98,22 @@ class Run:
 
 
 class Programs:
-    """All programs, with their versions."""
+    """All programs, with their versions, and what bounds a process of them."""
 
-    def __init__(self):
+    def __init__(self, given):
         self.paths = {name: program_of(name) for name in NAMES}
         self.versions = {name: version_of(name, path) for name, path in self.paths.items()}
+        bounds = {"as": given.memory * MEGABYTE, "cpu": given.timeout + 1, "fsize": MOST_ANSWER, "core": 0}
+        # The command sets the limits of its own process, which then becomes the program.
+        self.bounded = [shutil.which("prlimit"), *(f"--{which}={most}" for which, most in bounds.items()), "--"]
 
-    def start(self, words, record, given):
-        return Run([self.paths[words[0]], *words[1:]], record, given.memory, given.timeout)
+    def start(self, words, record):
+        return Run([*self.bounded, self.paths[words[0]], *words[1:]], record)
 
 
 def check_system():
     """What is asked of the system beside the programs."""
+    if shutil.which("prlimit") is None:
+        raise Stop(FAILED, "there is no command prlimit (of the package util-linux)")
     if sys.version_info < (3, 9) or not hasattr(os, "memfd_create"):
         raise Stop(FAILED, "it needs Python 3.9 on Linux")

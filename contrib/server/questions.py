@@ -37,7 +37,9 @@ class Value:
 
 class Number(Value):
     def __init__(self, least, most, about):
-        super().__init__(f"{about}, a number from {least:,} to {most:,}", {"type": "integer", "minimum": least, "maximum": most}, "[0-9]{1,8}")
+        super().__init__(
+            f"{about}, a number from {least:,} to {most:,}", {"type": "integer", "minimum": least, "maximum": most}, "[0-9]{1,8}"
+        )
 
 
 class Choice(Value):
@@ -113,52 +115,86 @@ WALLS = Choice("what is supposed outside", "open", "natural", "kind", "hard", "r
 
 QUESTIONS = {
     "status": Question(
-        "Whether a group is alive, dead or unsettled: an object, with `all` one a line for each group.", ("group_status", "--json"),
+        "Whether a group is alive, dead or unsettled: an object, with `all` one a line for each group.",
+        ("group_status", "--json"),
         {
-            "node": NODE, "target": TARGET, "first": Choice("the side that moves first", "attacker", "defender"),
-            "all": Flag("every group of the position"), "quick": Flag("one procedure in place of two"), "steps": STEPS,
+            "node": NODE,
+            "target": TARGET,
+            "first": Choice("the side that moves first", "attacker", "defender"),
+            "all": Flag("every group of the position"),
+            "quick": Flag("one procedure in place of two"),
+            "steps": STEPS,
             "position-only": Flag("forgets what was played before"),
-        }, 100_000, JSON, {"record": (("group_status", "--sgf"), SGF)},
+        },
+        100_000,
+        JSON,
+        {"record": (("group_status", "--sgf"), SGF)},
     ),
     "solve": Question(
-        "Who wins a problem: a record of every reply, or with `proof` a claim for /check.", ("tsumego", "solve"),
+        "Who wins a problem: a record of every reply, or with `proof` a claim for /check.",
+        ("tsumego", "solve"),
         {"steps": STEPS, "table": Number(1, 1_000_000, "states that are kept"), "lift": Flag("the claim as one lemma")},
-        1_000_000, SGF, {"proof": (("tsumego", "solve", "--proof"), "text/plain")},
+        1_000_000,
+        SGF,
+        {"proof": (("tsumego", "solve", "--proof"), "text/plain")},
     ),
     "first-moves": Question(
         "Which first moves of a problem win: an object a line, or with `record` a record with their refutations.",
-        ("first_moves", "--json"), {"steps": STEPS, "depth": Number(1, 200, "turns of the winner that are judged")},
-        100_000, LINES, {"record": (("first_moves",), SGF)},
+        ("first_moves", "--json"),
+        {"steps": STEPS, "depth": Number(1, 200, "turns of the winner that are judged")},
+        100_000,
+        LINES,
+        {"record": (("first_moves",), SGF)},
     ),
     "short-proof": Question(
-        "A short claim about a problem, for /check?short.", ("short_claims", "prove"), {"steps": STEPS}, 1_000_000,
+        "A short claim about a problem, for /check?short.", ("short_claims", "prove"), {"steps": STEPS}, 1_000_000
     ),
     "tree": Question("A record for readers of a short claim.", ("short_claims", "tree"), {"steps": STEPS}, 1_000_000, SGF),
     "check": Question(
-        "Who wins by a claim that follows its record.", ("tsumego", "check"), {}, chosen={"short": (("short_claims", "check"), "text/plain")},
+        "Who wins by a claim that follows its record.",
+        ("tsumego", "check"),
+        {},
+        chosen={"short": (("short_claims", "check"), "text/plain")},
     ),
     "audit": Question("Who wins by an answer tree.", ("tsumego", "audit"), {}),
     "mark": Question(
-        "The record with the marks of a problem. Stones that are put up are named in the header Tsumego-Notes.", ("problem_tools", "mark"),
+        "The record with the marks of a problem. Stones that are put up are named in the header Tsumego-Notes.",
+        ("problem_tools", "mark"),
         {
-            "node": NODE, "target": TARGETS, "to-play": Choice("who is to move", "black", "white"),
-            "region": Points("points, a number of empty points, auto or board", "|[0-9]{1,3}|auto|board"), "walls": WALLS,
-            "shut": TARGETS, "bare": Flag("the position without the game before it"),
-        }, kind=SGF,
+            "node": NODE,
+            "target": TARGETS,
+            "to-play": Choice("who is to move", "black", "white"),
+            "region": Points("points, a number of empty points, auto or board", "|[0-9]{1,3}|auto|board"),
+            "walls": WALLS,
+            "shut": TARGETS,
+            "bare": Flag("the position without the game before it"),
+        },
+        kind=SGF,
     ),
     "picture": Question(
-        "A picture of the problem, or of a node.", ("problem_tools", "picture"),
+        "A picture of the problem, or of a node.",
+        ("problem_tools", "picture"),
         {
-            "node": NODE, "numbers": Number(0, 1000, "turns that are shown with numbers"), "plain": Flag("no marks and labels"),
-            "no-squares": Flag("no squares of the region"), "whole": Flag("the whole board"), "caption": Text("a text of at most 200 characters"),
-            "dark": Flag("dark colours"), "auto": Flag("the colours that the reader's system asks for"),
-        }, kind="image/svg+xml", chosen={"ascii": (("problem_tools", "picture", "--ascii"), "text/plain")},
+            "node": NODE,
+            "numbers": Number(0, 1000, "turns that are shown with numbers"),
+            "plain": Flag("no marks and labels"),
+            "no-squares": Flag("no squares of the region"),
+            "whole": Flag("the whole board"),
+            "caption": Text("a text of at most 200 characters"),
+            "dark": Flag("dark colours"),
+            "auto": Flag("the colours that the reader's system asks for"),
+        },
+        kind="image/svg+xml",
+        chosen={"ascii": (("problem_tools", "picture", "--ascii"), "text/plain")},
     ),
     "page": Question(
-        "The data of a page to click, of an answer of /solve or /first-moves?record.", ("problem_tools", "page", "--json"),
+        "The data of a page to click, of an answer of /solve or /first-moves?record.",
+        ("problem_tools", "page", "--json"),
         {
-            "short": Number(0, 1000, "turns within which replies that end are left out"), "depth": Number(1, 1000, "turns that are shown"),
+            "short": Number(0, 1000, "turns within which replies that end are left out"),
+            "depth": Number(1, 1000, "turns that are shown"),
             "unaudited": Flag("what the audit refuses too"),
-        }, kind=JSON,
+        },
+        kind=JSON,
     ),
 }

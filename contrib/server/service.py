@@ -105,7 +105,12 @@ class Service:
         self.check_origin(request)
         allowed = "GET, HEAD" if name in gets else "POST"
         if request.method == "OPTIONS" and self.given.allow_origin:
-            headers = {**COMMON, "Access-Control-Allow-Methods": allowed, "Access-Control-Allow-Headers": "Content-Type", "Access-Control-Max-Age": "600"}
+            headers = {
+                **COMMON,
+                "Access-Control-Allow-Methods": allowed,
+                "Access-Control-Allow-Headers": "Content-Type",
+                "Access-Control-Max-Age": "600",
+            }
             return web.Response(status=204, headers=headers)
         if request.method not in allowed.split(", "):
             raise Refused(405, f"this path takes {allowed}", "openapi.json says what each path takes.", allow=allowed)
@@ -125,8 +130,13 @@ class Service:
     def get_health(self):
         queue = self.queue
         told = {
-            "status": "ending" if queue.is_ending else "ok", "running": queue.running, "jobs": queue.jobs,
-            "waiting": len(queue.waiting), "queue": queue.most, "timeout": self.given.timeout, "steps_most": self.given.steps_most,
+            "status": "ending" if queue.is_ending else "ok",
+            "running": queue.running,
+            "jobs": queue.jobs,
+            "waiting": len(queue.waiting),
+            "queue": queue.most,
+            "timeout": self.given.timeout,
+            "steps_most": self.given.steps_most,
         }
         return self.get_json(self.as_json(told), 503 if queue.is_ending else 200)
 
@@ -190,7 +200,7 @@ class Service:
 
     async def run(self, request, words, kind, record, kept):
         async with self.queue.turn():
-            run = self.programs.start(words, record, self.given)
+            run = self.programs.start(words, record)
             try:
                 status = await run.ended(self.given.timeout)
             except Ended:
@@ -215,7 +225,12 @@ class Service:
             self.refuse(status, size, line)
         self.hold(size, kept)
         notes = shown(run.notes().strip().replace(b"\n", b"; "), 4096)
-        headers = {**COMMON, "Tsumego-Exit-Code": str(status), "Tsumego-First-Line": line, **({"Tsumego-Notes": notes} if notes else {})}
+        headers = {
+            **COMMON,
+            "Tsumego-Exit-Code": str(status),
+            "Tsumego-First-Line": line,
+            **({"Tsumego-Notes": notes} if notes else {}),
+        }
         response = web.StreamResponse(headers=headers)
         response.content_type = kind if status == 0 else "text/plain"
         response.content_length = size
@@ -241,9 +256,15 @@ class Service:
         if status == 3:
             raise Refused(400, line, "openapi.json says what each path takes.")
         if status == -signal.SIGXCPU:
-            raise Refused(504, f"there was no answer within {self.given.timeout} s of a processor", "Mark a smaller region, or ask with fewer steps.")
+            raise Refused(
+                504,
+                f"there was no answer within {self.given.timeout} s of a processor",
+                "Mark a smaller region, or ask with fewer steps.",
+            )
         if status == -signal.SIGXFSZ or size >= MOST_ANSWER:
-            raise Refused(500, f"the answer has more than {MOST_ANSWER:,} bytes", "Ask for a short proof, or mark a smaller region.")
+            raise Refused(
+                500, f"the answer has more than {MOST_ANSWER:,} bytes", "Ask for a short proof, or mark a smaller region."
+            )
         if status == 4:
             raise Refused(500, line or "failed", "Memory ran out: mark a smaller region, or ask with fewer steps.")
         raise Refused(500, f"the program ended with status {status}", "Please report it.")

@@ -57,7 +57,11 @@ def origin(text):
 def read_words(words):
     """What the call asks for."""
     parser = Words(
-        prog="tsumego-server", usage=USAGE, description=ABOUT, epilog=MORE, allow_abbrev=False,
+        prog="tsumego-server",
+        usage=USAGE,
+        description=ABOUT,
+        epilog=MORE,
+        allow_abbrev=False,
         formatter_class=argparse.RawDescriptionHelpFormatter,
     )
     where = parser.add_mutually_exclusive_group()
@@ -68,10 +72,22 @@ def read_words(words):
     add("--jobs", type=a_number(1, 1000), metavar="N", default=processors, help="questions that run at once [as it has processors]")
     add("--queue", type=a_number(0, 10_000), metavar="N", default=64, help="questions that may wait for their turn [64]")
     add("--timeout", type=a_number(1, 86_400), metavar="SECONDS", default=60, help="ends a question that runs for so long [60]")
-    add("--steps-most", type=a_number(1, 10_000_000), metavar="N", default=1_000_000, help="steps that a question may ask for [1000000]")
+    add(
+        "--steps-most",
+        type=a_number(1, 10_000_000),
+        metavar="N",
+        default=1_000_000,
+        help="steps that a question may ask for [1000000]",
+    )
     add("--memory", type=a_number(64, 1_000_000), metavar="MB", default=512, help="memory of each question's process [512]")
-    add("--allow-origin", type=origin, action="append", metavar="ORIGIN", default=[],
-        help="lets pages of this origin ask, as https://go.example; * lets all; may be given several times")
+    add(
+        "--allow-origin",
+        type=origin,
+        action="append",
+        metavar="ORIGIN",
+        default=[],
+        help="lets pages of this origin ask, as https://go.example; * lets all; may be given several times",
+    )
     given = parser.parse_args(words)
     if given.socket is not None and not 1 <= len(os.fsencode(given.socket)) <= 107:
         parser.error("--socket wants a path of 1 to 107 bytes")

@@ -1,102 +1,16 @@
 """Asks in the browser as its users would: draws a problem, opens a game, on a wide screen and on a telephone."""
 
-import json
+import http.client
+import http.server
 import pathlib
 import re
 import subprocess
-import time
+import threading
 import urllib.parse
 
-from .common import LETTERS, TOP, expect, new_browser, set_size
+from .asking_page import PROBLEM, SECONDS, Asking, game_of_250, points
+from .common import TOP, expect, new_browser, set_size
 from .serving import Server, becomes, stand_ins
-
-SECONDS = 120
-PROBLEM = (TOP / "examples/straight-three.sgf").read_text()
-GAME = (TOP / "examples/unmarked/game.sgf").read_text()
-
-
-def points(name, record=PROBLEM):
-    """The points of a property of the first node, rectangles written out."""
-    found = []
-    for corner, _, other in re.findall(r"\[(\w\w)(:(\w\w))?\]", re.search(rf"{name}((\[[\w:]+\])+)", record)[1]):
-        last = other or corner
-        found += [chr(column) + chr(row) for row in range(ord(corner[1]), ord(last[1]) + 1) for column in range(ord(corner[0]), ord(last[0]) + 1)]
-    return found
-
-
-def game_of_250():
-    """The game of the examples up to its 131st move, and after it moves at empty points in the order of the board: 250 in all."""
-    moves = re.findall(r";([BW])\[(\w\w)\]", GAME)[:131]
-    taken = {point for _, point in moves}
-    free = [chr(97 + column) + chr(97 + row) for row in range(13) for column in range(13) if chr(97 + column) + chr(97 + row) not in taken]
-    for number in range(len(moves), 250):
-        point = free[number % len(free)] if number % 2 and free else ""
-        moves.append(("BW"[number % 2], point if number - 131 < len(free) else ""))
-    return f"(;FF[4]GM[1]SZ[13]C[A game of 250 moves]{''.join(f';{side}[{point}]' for side, point in moves)})"
-
-
-class Asking:
-    """The page in the browser."""
-
-    def __init__(self, browser, server, folder):
-        self.browser, self.server, self.folder = browser, server, pathlib.Path(folder)
-
-    def open(self, path=""):
-        self.browser.get("about:blank")
-        self.browser.get(self.server.address(path))
-
-    def element(self, name):
-        return self.browser.find_element("id", name)
-
-    def text(self, name):
-        return self.element(name).text
-
-    def hidden_text(self, name):
-        return self.element(name).get_attribute("textContent")
-
-    def run(self, script, *words):
-        return self.browser.execute_script(script, *words)
-
-    def press(self, name):
-        self.run("arguments[0].scrollIntoView({block: 'center'})", self.element(name))
-        self.element(name).click()
-
-    def tool(self, name):
-        self.browser.find_element("css selector", f'input[value="{name}"]').click()
-
-    def click(self, turn, board="asked"):
-        place = self.browser.find_element("css selector", f'#{board} [data-turn="{turn}"]')
-        self.run("arguments[0].scrollIntoView({block: 'center'})", place)
-        place.click()
-
-    def wait(self):
-        """Waits until the question at work has ended."""
-        expect("the question ends", becomes(lambda: self.run("return byId('work').hidden"), SECONDS))
-
-    def stones(self, board="asked"):
-        return {side: len(self.browser.find_elements("css selector", f"#{board} .stone.{side}:not(.put)")) for side in ("black", "white")}
-
-    def choose(self, name, value):
-        self.browser.find_element("css selector", f'#{name} option[value="{value}"]').click()
-
-    def cell(self, turn):
-        return self.browser.find_element("css selector", f'#asked [data-turn="{turn}"]').get_attribute("aria-label")
-
-    def drop(self, text, name="game.sgf"):
-        self.run(
-            "const data = new DataTransfer(); data.items.add(new File([arguments[0]], arguments[1]));"
-            "document.body.dispatchEvent(new DragEvent('drop', { dataTransfer: data, bubbles: true, cancelable: true }))", text, name,
-        )
-        expect(f"{name} is read", becomes(lambda: self.text("told") != ""))
-
-    def keys(self, *keys):
-        self.browser.switch_to.active_element.send_keys(*keys)
-
-    def shoot(self, name):
-        self.browser.save_screenshot(str(self.folder / f"{name}.png"))
-
-    def is_no_wider(self, width):
-        return self.run("return document.documentElement.scrollWidth") <= width
 
 
 def test_draw(asking):
@@ -112,7 +26,10 @@ def test_draw(asking):
     asking.tool("ask")
     asking.click("ab")
     asking.wait()
-    expect("A6 is unsettled: whoever plays in the middle of the three decides", re.match(r"A6 is unsettled \((sure|likely)\)\.", asking.text("told")) is not None)
+    expect(
+        "A6 is unsettled: whoever plays in the middle of the three decides",
+        re.match(r"A6 is unsettled \((sure|likely)\)\.", asking.text("told")) is not None,
+    )
     sentences = [it.text for it in asking.browser.find_elements("css selector", "#questions button")]
     expect("a sentence for each side", [it[:20] for it in sentences], ["If Black moves first", "If White moves first"])
     expect("Black lives by C7, White kills by it", ["lives, by C7" in sentences[0], "dies, by C7" in sentences[1]], [True, True])
@@ -123,6 +40,11 @@ def test_draw(asking):
     expect("undo takes a stone back", asking.stones(), {"black": 7, "white": 6})
     asking.tool("white")
     asking.click(points("AW")[-1])
+    expect("and it is put again", asking.stones(), {"black": 7, "white": 7})
+
+
+def test_problem(asking):
+    """The problem that was drawn is marked and solved, and its answer clicked through."""
     asking.tool("target")
     asking.click("ab")
     asking.click("aa")
@@ -171,9 +93,17 @@ def test_game(asking):
     asking.shoot("game")
     asking.run("byId('further').open = true")
     asking.browser.find_elements("css selector", "#every button")[1].click()
-    expect("another question is drawn", asking.browser.find_elements("css selector", "#every button")[1].get_attribute("aria-pressed"), "true")
+    expect(
+        "another question is drawn",
+        asking.browser.find_elements("css selector", "#every button")[1].get_attribute("aria-pressed"),
+        "true",
+    )
     asking.press("before")
-    expect("another node, and the answer goes", (asking.text("node")[:8], asking.text("told"), asking.run("return byId('answer').hidden")), ("Node 120", "", True))
+    expect(
+        "another node, and the answer goes",
+        (asking.text("node")[:8], asking.text("told"), asking.run("return byId('answer').hidden")),
+        ("Node 120", "", True),
+    )
     asking.run("along(11)")
     asking.press("groups")
     asking.wait()
@@ -212,7 +142,13 @@ def test_refusals(asking):
     told = asking.text("told")
     expect("the program's words", told.startswith("Refused: A5, node 0: no liberty."))
     expect("and what to do", told.endswith("The setup has a chain without a liberty: take it off, or free a point beside it."))
-    for text, part in (("hello", "no SGF record"), ("(;SZ[9]AB[aa", "cut off, or a bracket is missing"), ("(;GM[2])", "another game than Go"), ("(;SZ[26])", "1 to 25 rows"), ("(;SZ[9](;B[aa]", "cut off")):
+    for text, part in (
+        ("hello", "no SGF record"),
+        ("(;SZ[9]AB[aa", "cut off, or a bracket is missing"),
+        ("(;GM[2])", "another game than Go"),
+        ("(;SZ[26])", "1 to 25 rows"),
+        ("(;SZ[9](;B[aa]", "cut off"),
+    ):
         asking.run("openRecord(arguments[0])", text)
         expect(f"{text} is refused", part in asking.text("told"))
     expect("the record before is still there", asking.stones(), {"black": 1, "white": 2})
@@ -226,7 +162,11 @@ def test_refusals(asking):
     for name, codec in (("UTF-16", "utf-16"), ("UTF-8", "utf-8"), ("Shift_JIS", "shift_jis")):
         text = wide if codec.startswith("utf") else wide.replace("C[", "CA[Shift_JIS]C[")
         asking.run("readFile(new File([new Uint8Array(arguments[0])], 'x.sgf'))", list(text.encode(codec)))
-        expect(f"a file in {name}", becomes(lambda: asking.text("told").startswith("The record is open.")) and asking.run("return ask.node.props.C[0]"), "\u8a70\u7881")
+        expect(
+            f"a file in {name}",
+            becomes(lambda: asking.text("told").startswith("The record is open.")) and asking.run("return ask.node.props.C[0]"),
+            "\u8a70\u7881",
+        )
 
 
 def test_hands(asking, keys):
@@ -251,7 +191,10 @@ def test_hands(asking, keys):
     expect("and cells", len(asking.browser.find_elements("css selector", '#asked [role="row"] > [role="gridcell"]')), 81)
     expect("one takes the keys", len(asking.browser.find_elements("css selector", '#asked [tabindex="0"]')), 1)
     expect("answers are announced", asking.element("told").get_attribute("role"), "status")
-    expect("the position in words", asking.hidden_text("position").startswith("A board of 9 lines. Black stones: B8. White stones: B7."))
+    expect(
+        "the position in words",
+        asking.hidden_text("position").startswith("A board of 9 lines. Black stones: B8. White stones: B7."),
+    )
     unnamed = asking.run(
         "return [...document.querySelectorAll('button, input, select, textarea')].filter((it) => !(it.textContent.trim() || it.getAttribute('aria-label') || it.labels && it.labels.length)).map((it) => it.id)"
     )
@@ -275,7 +218,9 @@ def test_looks(asking):
         set_size(asking.browser, width, height, dark, touch)
         asking.open()
         expect(f"{width} wide: no scrolling sideways", asking.is_no_wider(width))
-        small = asking.run("return [...document.querySelectorAll('button, select, .choices span')].filter((it) => it.offsetParent && it.getBoundingClientRect().height < 36).map((it) => it.id || it.textContent)")
+        small = asking.run(
+            "return [...document.querySelectorAll('button, select, .choices span')].filter((it) => it.offsetParent && it.getBoundingClientRect().height < 36).map((it) => it.id || it.textContent)"
+        )
         expect(f"{width} wide: nothing is too small to touch", small, [])
         asking.shoot(f"asked-{width}{'-dark' if dark else ''}")
     colours = []
@@ -287,7 +232,9 @@ def test_looks(asking):
     asking.choose("size", 19)
     asking.press("new")
     asking.click("dd")
-    expect("on small points the first touch names the point", (asking.stones()["black"], asking.text("confirm")), (0, "● Black at D16"))
+    expect(
+        "on small points the first touch names the point", (asking.stones()["black"], asking.text("confirm")), (0, "● Black at D16")
+    )
     asking.press("confirm")
     expect("the button acts", asking.stones()["black"], 1)
     asking.click("dp")
@@ -321,9 +268,53 @@ def test_gone(asking, folder):
         expect("a process runs again", becomes(lambda: len(server.children()) == 1))
         child = server.children()[0]
         server.kill()
-        expect("the server is gone", becomes(lambda: other.text("told").startswith("The server does not answer. Is tsumego-server still running?")))
+        expect(
+            "the server is gone",
+            becomes(lambda: other.text("told").startswith("The server does not answer. Is tsumego-server still running?")),
+        )
         expect("the position stays", other.stones(), {"black": 1, "white": 0})
         subprocess.run(["kill", child])
+
+
+class Prefix(http.server.BaseHTTPRequestHandler):
+    """A web server that has the server under /go/, as nginx would by `location /go/ { proxy_pass http://ADDRESS/; }`."""
+
+    server_port = None
+
+    def do_GET(self):
+        body = self.rfile.read(int(self.headers.get("Content-Length", 0)))
+        if not self.path.startswith("/go/"):
+            self.send_error(404)
+            return
+        inner = http.client.HTTPConnection("127.0.0.1", self.server_port, timeout=SECONDS)
+        inner.request(
+            self.command, self.path[3:], body or None, {name: it for name, it in self.headers.items() if name != "Connection"}
+        )
+        answer = inner.getresponse()
+        text = answer.read()
+        self.send_response(answer.status)
+        for name, it in answer.getheaders():
+            self.send_header(name, it)
+        self.end_headers()
+        self.wfile.write(text)
+
+    do_POST = do_GET
+
+    def log_message(self, *_):
+        pass
+
+
+def test_path(asking):
+    """The page works under a path of its own."""
+    handler = type("Handler", (Prefix,), {"server_port": asking.server.port})
+    with http.server.ThreadingHTTPServer(("127.0.0.1", 0), handler) as proxy:
+        threading.Thread(target=proxy.serve_forever, daemon=True).start()
+        asking.browser.get(f"http://127.0.0.1:{proxy.server_port}/go/")
+        asking.run("openRecord(arguments[0])", (TOP / "examples/two-eyes.sgf").read_text())
+        asking.click("ba")
+        asking.wait()
+        expect("an answer under a path", asking.text("told"), "B9 is alive (proved).")
+        proxy.shutdown()
 
 
 def test_proof(asking):
@@ -331,14 +322,32 @@ def test_proof(asking):
     asking.open()
     asking.run("openRecord(arguments[0])", PROBLEM)
     found = {
-        "target": "A6", "status": "alive", "word": "proved", "questions": [],
-        "proof": {"kept": ["A6", "B6"], "region": ["B7", "C7", "D7"], "friends": ["F7"], "while": ["G2"], "answers": [["B7", "C7"]]},
+        "target": "A6",
+        "status": "alive",
+        "word": "proved",
+        "questions": [],
+        "proof": {
+            "kept": ["A6", "B6"],
+            "region": ["B7", "C7", "D7"],
+            "friends": ["F7"],
+            "while": ["G2"],
+            "answers": [["B7", "C7"]],
+        },
     }
-    asking.run("ask.answer = arguments[0]; ask.chosen = firstShown(ask.answer); tell(statusSentence(ask.answer), 'alive'); showAsked()", found)
+    asking.run(
+        "ask.answer = arguments[0]; ask.chosen = firstShown(ask.answer); tell(statusSentence(ask.answer), 'alive'); showAsked()",
+        found,
+    )
     expect("the status", asking.text("told"), "A6 is alive (proved).")
-    expect("kept stones and region", [asking.cell(it) for it in ("ab", "ca")], ["A6, Black, target, kept", "C7, empty, in the region"])
+    expect(
+        "kept stones and region", [asking.cell(it) for it in ("ab", "ca")], ["A6, Black, target, kept", "C7, empty, in the region"]
+    )
     meaning = asking.text("meaning")
-    expect("on what it rests", ["liberties elsewhere: G2" in meaning, "rests on these stones too" in meaning and "F7" in meaning], [True, True])
+    expect(
+        "on what it rests",
+        ["liberties elsewhere: G2" in meaning, "rests on these stones too" in meaning and "F7" in meaning],
+        [True, True],
+    )
     asking.run("ask.answer.proof = undefined; ask.answer.questions = undefined; ask.chosen = firstShown(ask.answer); showAsked()")
     expect("by its shape", "nothing that is played takes the group" in asking.text("meaning"))
 
@@ -357,12 +366,15 @@ def run(folder, shots, programs):
             asking = Asking(browser, server, shots)
             set_size(browser, 820, 1000)
             test_draw(asking)
+            test_problem(asking)
             test_game(asking)
             test_playout(asking)
             test_refusals(asking)
             test_hands(asking, Keys)
             test_looks(asking)
             test_proof(asking)
+            test_path(asking)
+            asking.open()
             resources = asking.run("return performance.getEntriesByType('resource').map((it) => it.name)")
             expect("nothing is fetched from elsewhere", [it for it in resources if not it.startswith(server.address())], [])
             test_gone(asking, folder)

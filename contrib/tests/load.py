@@ -40,7 +40,18 @@ def bare_rate(folder, tsumego, jobs, seconds):
     """How many of these questions a second xargs gets answered by the bare program."""
     record = pathlib.Path(folder, "record.sgf")
     record.write_bytes(RECORD)
-    call = ["timeout", str(seconds), "xargs", "-P", str(jobs), "-n", "1", "sh", "-c", f'"{tsumego}" solve < "{record}" > /dev/null && echo']
+    call = [
+        "timeout",
+        str(seconds),
+        "xargs",
+        "-P",
+        str(jobs),
+        "-n",
+        "1",
+        "sh",
+        "-c",
+        f'"{tsumego}" solve < "{record}" > /dev/null && echo',
+    ]
     with subprocess.Popen(["yes"], stdout=subprocess.PIPE) as words:
         done = subprocess.run(call, stdin=words.stdout, stdout=subprocess.PIPE)
         words.kill()
@@ -110,7 +121,11 @@ async def ask_mixed(server, tsumego, rounds):
 
     async def one(number):
         status, body = await ask(server, "audit", records[number])
-        return body == wanted[number] if status == 200 else status == 422 and json.loads(body)["error"].encode() + b"\n" == wanted[number]
+        return (
+            body == wanted[number]
+            if status == 200
+            else status == 422 and json.loads(body)["error"].encode() + b"\n" == wanted[number]
+        )
 
     numbers = list(range(len(records))) * rounds
     random.shuffle(numbers)
@@ -122,7 +137,19 @@ async def ask_mixed(server, tsumego, rounds):
 
 async def ask_random(server, count):
     """Bodies of random bytes, to every path."""
-    paths = ["status", "solve", "first-moves", "short-proof", "tree", "check", "check?short", "audit", "mark?target=aa", "picture", "page"]
+    paths = [
+        "status",
+        "solve",
+        "first-moves",
+        "short-proof",
+        "tree",
+        "check",
+        "check?short",
+        "audit",
+        "mark?target=aa",
+        "picture",
+        "page",
+    ]
     source = random.Random(17)
     statuses = []
     for number in range(count):

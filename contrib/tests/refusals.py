@@ -3,6 +3,7 @@
 import json
 import os
 import pathlib
+import socket
 import subprocess
 import threading
 import time
@@ -35,14 +36,28 @@ def test_answers(server):
     expect("the words of a call", body, b"<--json><--node=3><--target=D17><--all><--quick><--steps=2000>\n(;SZ[9])\n")
     expect("an object a line", headers.get_content_type(), "application/x-ndjson")
     told = (headers["Tsumego-Exit-Code"], headers["Tsumego-First-Line"], headers["Server"], headers["X-Content-Type-Options"])
-    expect("its headers", told, ("0", "<--json><--node=3><--target=D17><--all><--quick><--steps=2000>", "tsumego-server", "nosniff"))
+    expect(
+        "its headers", told, ("0", "<--json><--node=3><--target=D17><--all><--quick><--steps=2000>", "tsumego-server", "nosniff")
+    )
     expect("no origin may read it", headers["Access-Control-Allow-Origin"], None)
     for path, words in (
-        ("solve", "<solve>"), ("solve?proof&steps=10", "<solve><--proof><--steps=10>"), ("first-moves", "<--json>"), ("first-moves?record", ""),
-        ("short-proof", "<prove>"), ("tree", "<tree>"), ("check", "<check>"), ("check?short", "<check>"), ("audit", "<audit>"),
-        ("mark?target=aa,cb:db&region=9&walls=natural&to-play=white", "<mark><--target=aa,cb:db><--region=9><--walls=natural><--to-play=white>"),
-        ("picture?caption=%24(touch%20x)%3B%60y%60", "<picture><--caption=$(touch x);`y`>"), ("page?short=2", "<page><--json><--short=2>"),
-        ("status?record", "<--sgf>"), ("picture?ascii", "<picture><--ascii>"),
+        ("solve", "<solve>"),
+        ("solve?proof&steps=10", "<solve><--proof><--steps=10>"),
+        ("first-moves", "<--json>"),
+        ("first-moves?record", ""),
+        ("short-proof", "<prove>"),
+        ("tree", "<tree>"),
+        ("check", "<check>"),
+        ("check?short", "<check>"),
+        ("audit", "<audit>"),
+        (
+            "mark?target=aa,cb:db&region=9&walls=natural&to-play=white",
+            "<mark><--target=aa,cb:db><--region=9><--walls=natural><--to-play=white>",
+        ),
+        ("picture?caption=%24(touch%20x)%3B%60y%60", "<picture><--caption=$(touch x);`y`>"),
+        ("page?short=2", "<page><--json><--short=2>"),
+        ("status?record", "<--sgf>"),
+        ("picture?ascii", "<picture><--ascii>"),
     ):
         status, headers, body = server.ask(f"/{path}", b"x")
         expect(f"the words of /{path}", (status, body), (200, f"{words}\nx\n".encode()))
@@ -65,16 +80,43 @@ def test_gets(server):
     status, headers, body = server.ask("/")
     expect("the page", (status, headers.get_content_type(), body[:15]), (200, "text/html", b"<!DOCTYPE html>"))
     policy = headers["Content-Security-Policy"]
-    expect("what the page may do", ("default-src 'none'" in policy, "script-src 'sha256-" in policy, "unsafe-inline" in policy.split("style-src")[0]), (True, True, False))
-    expect("the page names no place", [it for it in body.decode().split('"') if it.startswith("http") and it != "http://www.w3.org/2000/svg"], [])
+    expect(
+        "what the page may do",
+        ("default-src 'none'" in policy, "script-src 'sha256-" in policy, "unsafe-inline" in policy.split("style-src")[0]),
+        (True, True, False),
+    )
+    expect(
+        "the page names no place",
+        [it for it in body.decode().split('"') if it.startswith("http") and it != "http://www.w3.org/2000/svg"],
+        [],
+    )
     status, headers, body = server.ask("/", headers={}, method="HEAD")
     expect("its head", (status, body), (200, b""))
     health = json.loads(server.ask("/health")[2])
     expect("health", (health["status"], health["running"], health["waiting"], health["jobs"]), ("ok", 0, 0, 2))
     version = json.loads(server.ask("/version")[2])
-    expect("versions", version["programs"], {name: "9.9" for name in ("tsumego", "group_status", "first_moves", "short_claims", "problem_tools")})
+    expect(
+        "versions",
+        version["programs"],
+        {name: "9.9" for name in ("tsumego", "group_status", "first_moves", "short_claims", "problem_tools")},
+    )
     described = json.loads(server.ask("/openapi.json")[2])
-    wanted = {"/", "/health", "/version", "/openapi.json", "/status", "/solve", "/first-moves", "/short-proof", "/tree", "/check", "/audit", "/mark", "/picture", "/page"}
+    wanted = {
+        "/",
+        "/health",
+        "/version",
+        "/openapi.json",
+        "/status",
+        "/solve",
+        "/first-moves",
+        "/short-proof",
+        "/tree",
+        "/check",
+        "/audit",
+        "/mark",
+        "/picture",
+        "/page",
+    }
     expect("openapi.json names all paths", set(described["paths"]), wanted)
     for path, methods in described["paths"].items():
         for method in methods:
@@ -83,10 +125,16 @@ def test_gets(server):
 
 def test_refusals(server):
     for what, path, part in (
-        ("a word that is none", "/status?targe=D4", "'targe' is no word"), ("a word twice", "/status?target=D4&target=D5", "twice"),
-        ("an option as a value", "/status?target=--help", "not a point"), ("a value that is none", "/status?first=black", "first"),
-        ("a number that is none", "/solve?steps=1e3", "steps"), ("steps out of bounds", "/solve?steps=0", "steps"), ("too many steps", "/solve?steps=1000001", "more than this server allows"),
-        ("a flag with a value", "/status?all=no", "takes no value"), ("a control character", "/picture?caption=a%00b", "caption"), ("a long caption", f"/picture?caption={'a' * 201}", "caption"),
+        ("a word that is none", "/status?targe=D4", "'targe' is no word"),
+        ("a word twice", "/status?target=D4&target=D5", "twice"),
+        ("an option as a value", "/status?target=--help", "not a point"),
+        ("a value that is none", "/status?first=black", "first"),
+        ("a number that is none", "/solve?steps=1e3", "steps"),
+        ("steps out of bounds", "/solve?steps=0", "steps"),
+        ("too many steps", "/solve?steps=1000001", "more than this server allows"),
+        ("a flag with a value", "/status?all=no", "takes no value"),
+        ("a control character", "/picture?caption=a%00b", "caption"),
+        ("a long caption", f"/picture?caption={'a' * 201}", "caption"),
     ):
         refused(what, server.ask(path, b"x"), 400, part)
     refused("the program's own", server.ask("/solve", b"ARGUMENT"), 400, "error: the argument cannot be used")
@@ -99,7 +147,14 @@ def test_refusals(server):
     refused("too large, and no length told", server.ask("/solve", iter([b"a" * MEBIBYTE, b"b"])), 413, "1,048,576")
     refused("a form", server.ask("/solve", b"a=b", {"Content-Type": "application/x-www-form-urlencoded"}), 415, "type")
     refused("compressed", server.ask("/solve", b"x", {**TEXT, "Content-Encoding": "gzip"}), 415, "compressed")
-    refused("a refused record", server.ask("/solve", b"REFUSED"), 422, "refused: problem 9 illegal turn at node 2: occupied", name="problem", number=9)
+    refused(
+        "a refused record",
+        server.ask("/solve", b"REFUSED"),
+        422,
+        "refused: problem 9 illegal turn at node 2: occupied",
+        name="problem",
+        number=9,
+    )
     refused("a refusal in the same words", server.ask("/status", b"NODE"), 422, "--node 1 is before it", name="problem", number=9)
     refused("a refusal without a number", server.ask("/status", b"STONE"), 422, "there is no stone at D4", name=None, number=None)
     refused("a program that fails", server.ask("/solve", b"FAILED"), 500, "failed: memory")
@@ -110,8 +165,10 @@ def test_refusals(server):
     expect("it was ended in time", 3 <= time.monotonic() - begun < 8)
     expect("no process is left", server.children(), [])
     for what, sent in (
-        ("no HTTP", b"hello\r\n\r\n"), ("a line without end", b"GET /" + b"a" * 70000 + b" HTTP/1.1\r\n\r\n"),
-        ("a head without end", b"GET / HTTP/1.1\r\nX: " + b"a" * 70000 + b"\r\n\r\n"), ("a length that is none", b"POST /solve HTTP/1.1\r\nContent-Length: x\r\n\r\n"),
+        ("no HTTP", b"hello\r\n\r\n"),
+        ("a line without end", b"GET /" + b"a" * 70000 + b" HTTP/1.1\r\n\r\n"),
+        ("a head without end", b"GET / HTTP/1.1\r\nX: " + b"a" * 70000 + b"\r\n\r\n"),
+        ("a length that is none", b"POST /solve HTTP/1.1\r\nContent-Length: x\r\n\r\n"),
     ):
         expect(f"{what} is refused", server.raw(sent, seconds=20)[9:12], b"400")
     status, _, body = server.ask("/solve", b"x")
@@ -127,7 +184,13 @@ def test_slow_clients(server):
         told[name] = server.raw(*parts, pause=pause, seconds=60)
 
     drops = [b"x"] * 18
-    cases = (("a body that stops", [head + b"\r\n", b"(;SZ"], 0.0), ("a body by drops", [head + b"\r\n", *drops], 1.0), ("half a head", [head], 0.0), ("a head by drops", [b"GET / HTTP/1.1\r\nX: ", *drops], 1.0), ("nothing", [], 0.0))
+    cases = (
+        ("a body that stops", [head + b"\r\n", b"(;SZ"], 0.0),
+        ("a body by drops", [head + b"\r\n", *drops], 1.0),
+        ("half a head", [head], 0.0),
+        ("a head by drops", [b"GET / HTTP/1.1\r\nX: ", *drops], 1.0),
+        ("nothing", [], 0.0),
+    )
     threads = [threading.Thread(target=slow, args=(name, *parts), kwargs={"pause": pause}) for name, parts, pause in cases]
     begun = time.monotonic()
     for it in threads:
@@ -195,20 +258,46 @@ def test_end(folder, programs):
         expect("a second signal ends what runs", (server.process.wait(timeout=20), os.path.exists(f"/proc/{child}")), (0, False))
 
 
+def test_connections(folder, programs):
+    """With few files the connections are fewer too; one too many is refused, and room is made again."""
+    few = f'ulimit -n 200; exec "{SERVER}" "$@"'
+    with Server(folder, "--jobs", "1", programs=programs, command=["bash", "-c", few, "bash"]) as server:
+        most = 200 - 8 - 64
+        open_ones = [socket.create_connection(("127.0.0.1", server.port)) for _ in range(most)]
+        answer = server.raw(b"GET /health HTTP/1.1\r\nHost: x\r\n\r\n", seconds=20)
+        expect("one connection too many", (answer[:12], b"too many connections" in answer), (b"HTTP/1.1 503", True))
+        for it in open_ones:
+            it.close()
+        expect("then there is room again", becomes(lambda: server.raw(b"GET /health HTTP/1.0\r\n\r\n", seconds=20)[9:12] == b"200"))
+
+
 def test_origins(folder, programs):
     own = {**TEXT, "Origin": "https://go.example"}
     with Server(folder, programs=programs) as server:
         refused("another origin", server.ask("/solve", b"x", own), 403, "another origin")
-        refused("another site, by the browser's word", server.ask("/solve", b"x", {**TEXT, "Origin": server.address()[:-1], "Sec-Fetch-Site": "cross-site"}), 403, "another origin")
+        refused(
+            "another site, by the browser's word",
+            server.ask("/solve", b"x", {**TEXT, "Origin": server.address()[:-1], "Sec-Fetch-Site": "cross-site"}),
+            403,
+            "another origin",
+        )
         expect("its own page", server.ask("/solve", b"x", {**TEXT, "Origin": server.address()[:-1]})[0], 200)
         expect("its own page behind another name", server.ask("/solve", b"x", {**own, "Sec-Fetch-Site": "same-origin"})[0], 200)
     with Server(folder, "--allow-origin", "https://go.example", programs=programs) as server:
         status, headers, _ = server.ask("/solve", b"x", own)
-        expect("an origin that is allowed", (status, headers["Access-Control-Allow-Origin"], headers["Vary"]), (200, "https://go.example", "Origin"))
+        expect(
+            "an origin that is allowed",
+            (status, headers["Access-Control-Allow-Origin"], headers["Vary"]),
+            (200, "https://go.example", "Origin"),
+        )
         status, headers, _ = server.ask("/solve", b"REFUSED", own)
         expect("refusals can be read too", (status, headers["Access-Control-Allow-Origin"]), (422, "https://go.example"))
         status, headers, _ = server.ask("/solve", b"", own, method="OPTIONS")
-        expect("a preflight", (status, headers["Access-Control-Allow-Methods"], headers["Access-Control-Allow-Headers"]), (204, "POST", "Content-Type"))
+        expect(
+            "a preflight",
+            (status, headers["Access-Control-Allow-Methods"], headers["Access-Control-Allow-Headers"]),
+            (204, "POST", "Content-Type"),
+        )
         refused("others are not", server.ask("/solve", b"x", {**TEXT, "Origin": "https://other.example"}), 403, "another origin")
 
 
@@ -216,7 +305,9 @@ def test_begin(folder, programs):
     """How it begins, and what is said where it cannot."""
 
     def ended(what, words, status, part, environment=None):
-        done = subprocess.run([SERVER, *words], capture_output=True, text=True, timeout=60, env={**os.environ, **programs, **(environment or {})})
+        done = subprocess.run(
+            [SERVER, *words], capture_output=True, text=True, timeout=60, env={**os.environ, **programs, **(environment or {})}
+        )
         came = (done.returncode, done.stderr.count("\n"), part in done.stderr, done.stdout)
         expect(what, came, (status, 1, True, ""))
 
@@ -236,7 +327,18 @@ def test_begin(folder, programs):
     broken.mkdir()
     (broken / "aiohttp.py").write_text("raise ImportError\n")
     ended("no aiohttp", [], 4, "sudo apt install python3-aiohttp", {"PYTHONPATH": str(broken)})
-    for words in (["--listen", "nowhere"], ["--listen", "1.2.3.4:99999"], ["--jobs", "0"], ["--queue", "-1"], ["--timeout", "x"], ["--allow-origin", "go"], ["--nothing"], ["word"], ["--listen", "127.0.0.1:0", "--socket", "x"], ["--memory", "1"]):
+    for words in (
+        ["--listen", "nowhere"],
+        ["--listen", "1.2.3.4:99999"],
+        ["--jobs", "0"],
+        ["--queue", "-1"],
+        ["--timeout", "x"],
+        ["--allow-origin", "go"],
+        ["--nothing"],
+        ["word"],
+        ["--listen", "127.0.0.1:0", "--socket", "x"],
+        ["--memory", "1"],
+    ):
         ended(f"wrong words {words}", words, 3, "--help says more")
     done = subprocess.run([SERVER, "--help"], capture_output=True, text=True)
     expect("help", (done.returncode, "--steps-most" in done.stdout, done.stderr), (0, True, ""))
@@ -249,7 +351,11 @@ def test_log(server):
     server.ask("/secret-in-a-path", secret)
     server.raw(b"secret-without-HTTP\r\n\r\n", seconds=20)
     lines = server.log().splitlines()
-    expect("the log has only these lines", [it for it in lines if not LINE.fullmatch(it) and not it.startswith("tsumego-server: listening on ")], [])
+    expect(
+        "the log has only these lines",
+        [it for it in lines if not LINE.fullmatch(it) and not it.startswith("tsumego-server: listening on ")],
+        [],
+    )
     expect("the log has the bytes of that record", any(it.startswith(f"{len(secret)} bytes, ") for it in lines))
 
 
@@ -265,6 +371,11 @@ def run(folder, programs):
         expect("no process is left at the end", becomes(lambda: server.children() == []))
     test_queue(folder, programs)
     test_end(folder, programs)
+    test_connections(folder, programs)
     test_origins(folder, programs)
     test_begin(folder, programs)
-    expect("the examples are unchanged", subprocess.run(["git", "-C", TOP, "status", "--porcelain", "--", "examples"], capture_output=True).stdout, b"")
+    expect(
+        "the examples are unchanged",
+        subprocess.run(["git", "-C", TOP, "status", "--porcelain", "--", "examples"], capture_output=True).stdout,
+        b"",
+    )

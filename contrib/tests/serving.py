@@ -51,11 +51,13 @@ def stand_ins(folder):
 class Server:
     """A server of its own, on a free port or on a socket."""
 
-    def __init__(self, folder, *words, programs=None, path=None):
+    def __init__(self, folder, *words, programs=None, path=None, command=(SERVER,)):
         self.log_path, self.path = pathlib.Path(folder, f"log-{time.monotonic_ns()}"), path
         where = ["--socket", path] if path else ["--listen", "127.0.0.1:0"]
         with open(self.log_path, "wb") as log:
-            self.process = subprocess.Popen([SERVER, *where, *words], stderr=log, stdout=log, env={**os.environ, **(programs or {})})
+            self.process = subprocess.Popen(
+                [*command, *where, *words], stderr=log, stdout=log, env={**os.environ, **(programs or {})}
+            )
         until = time.monotonic() + 60
         while "listening on" not in self.log() and self.process.poll() is None and time.monotonic() < until:
             time.sleep(0.05)
@@ -89,7 +91,9 @@ class Server:
         """The status, the headers and the bytes of an answer."""
         connection = self.connect()
         try:
-            connection.request(method or ("GET" if record is None else "POST"), path, record, headers if record is not None else headers or {})
+            connection.request(
+                method or ("GET" if record is None else "POST"), path, record, headers if record is not None else headers or {}
+            )
             answer = connection.getresponse()
             return answer.status, answer.headers, answer.read()
         finally:

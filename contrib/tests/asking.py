@@ -121,11 +121,15 @@ def test_playout(asking):
     asking.run("along(-129)")
     asking.click("hk")
     asking.wait()
+    asking.run("byId('further').open = true")
+    first = asking.browser.find_elements("css selector", "#every button")[0]
+    expect("the first question", first.text.startswith("If Black moves first, the group dies, by H2. Both sides play at 6 empty points;"))
+    first.click()
     asking.press("playout")
     asking.wait()
     expect("the question as a problem", asking.text("task"), "Black to move. Can it capture the marked stones?")
     asking.click("hl", "board")
-    expect("its first move is right", asking.text("said").startswith("Right. White answers with "))
+    expect("its first move is right", asking.text("said"), "Right. Black wins: marked stones are captured.")
 
 
 def test_refusals(asking):

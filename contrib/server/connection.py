@@ -77,7 +77,6 @@ class Connection(web.RequestHandler):
         if self.transport is not None:
             self.is_refused = True
             self.transport.write(raw(status, line, remedy))
-            self.transport.write_eof()
             self.stop_waiting()
             self.timer = asyncio.get_running_loop().call_later(SECONDS_TO_LEAVE, self.drop)
 

@@ -64,7 +64,8 @@ class Service:
             if status in (408, 413, 503):
                 response.force_close()
         except (asyncio.CancelledError, ConnectionError):
-            raise ConnectionResetError from None
+            # The client has gone away: aiohttp ends the connection at this, and says nothing.
+            raise asyncio.CancelledError from None
         except Exception as error:
             print(f"tsumego-server: failed: {type(error).__name__}", file=sys.stderr, flush=True)
             response, status = refusal(500, "the server failed", "Please report it."), 500

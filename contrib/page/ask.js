@@ -177,7 +177,7 @@ function propose() {
     if (at.props.SQ) props.SQ = at.props.SQ;
     else delete props.SQ;
     setProps(props);
-    tell(notes ? `Proposed. ${notes}` : "Proposed: the squares are the region. “Region” adds points and takes them away.");
+    tell(notes ? `Proposed. ${notes.replace(/problem_tools: /g, "")}` : "Proposed: the squares are the region. “Region” adds points and takes them away.");
   }, refused);
 }
 

@@ -16,8 +16,8 @@ MEGABYTE = 1 << 20
 # The most bytes of an answer, and of what a program says on standard error.
 MOST_ANSWER = 32 * MEGABYTE
 VARIABLES = {"LC_ALL": "C", "PATH": "/usr/bin:/bin"}
-# What a program says at most of where stones were put up.
-MOST_NOTES = 4096
+# Bytes of standard error that are handed on: a web server that comes first may take no more than 4 kB of headers.
+MOST_NOTES = 2000
 
 
 def program_of(name):

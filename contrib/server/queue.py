@@ -54,7 +54,9 @@ class Queue:
             await turn
         except asyncio.CancelledError:
             if turn.cancelled():
-                self.waiting.remove(turn)
+                # It may have been passed over already.
+                with contextlib.suppress(ValueError):
+                    self.waiting.remove(turn)
             elif turn.exception() is None:
                 self.give()
             raise

@@ -13,7 +13,7 @@ from aiohttp import web
 from .connection import SECONDS_IDLE, SECONDS_TO_SEND, SECONDS_TO_TAKE
 from .openapi import description
 from .page import page
-from .programs import MOST_ANSWER, Ended
+from .programs import MOST_ANSWER, MOST_NOTES, Ended
 from .questions import QUESTIONS, Refused
 from .queue import Queue
 from .refusals import COMMON, refusal
@@ -225,7 +225,7 @@ class Service:
         if status not in (0, 1):
             self.refuse(status, size, line)
         self.hold(size, kept)
-        notes = shown(run.notes().strip().replace(b"\n", b"; "), 4096)
+        notes = shown(run.notes().strip().replace(b"\n", b"; "), MOST_NOTES)
         headers = {
             **COMMON,
             "Tsumego-Exit-Code": str(status),

@@ -160,6 +160,11 @@ def test_refusals(asking):
     expect("a link that is none", asking.text("told"), "The link has no record that can be read: ask for it again.")
     asking.run("openRecord(arguments[0])", "(;SZ[9]C[" + "long " * 200_000 + "];B[aa])")
     expect("a comment of a megabyte", asking.text("told").startswith("The record is open."))
+    evil = '<img src=x onerror="window.hit = 1"><script>window.hit = 1</script> a\\]b'
+    asking.run("openRecord(arguments[0])", f"(;SZ[9]C[{evil}];B[aa])")
+    asking.press("start")
+    expect("text of a record is text", asking.hidden_text("remark"), evil.replace("\\", ""))
+    expect("nothing of it runs", asking.run("return window.hit === undefined && !document.querySelector('img')"))
     asking.drop(" " * 3 + "(;SZ[5]AB[aa]C[\u00fc])\n(;SZ[9])", "two.sgf")
     expect("a file of two", "It is the first of 2 in the file." in asking.text("told"))
     wide = "(;SZ[5]AB[ab]C[\u8a70\u7881])"

@@ -8,7 +8,7 @@ import subprocess
 import threading
 import time
 
-from .common import TOP, expect
+from .common import expect
 from .serving import LINE, SERVER, TEXT, Server, becomes
 
 MEBIBYTE = 1 << 20
@@ -378,8 +378,3 @@ def run(folder, programs):
     test_connections(folder, programs)
     test_origins(folder, programs)
     test_begin(folder, programs)
-    expect(
-        "the examples are unchanged",
-        subprocess.run(["git", "-C", TOP, "status", "--porcelain", "--", "examples"], capture_output=True).stdout,
-        b"",
-    )

@@ -1,4 +1,4 @@
-// Problems as data, the rules of the game, and pictures: what the page to click and the sheet to print share.
+// Problems as data, the rules of the game, and pictures: what the page to click, the sheet to print and the page to ask share.
 // docs/FORMATS.md has the data, which stand in the element "problems".
 "use strict";
 
@@ -210,7 +210,8 @@ function starPoints(size) {
   return stars;
 }
 
-// The picture of a position. `given` has the labels, and may have the last turn, the cursor, and what a click does.
+// The picture of a position. `given` has the labels, and may have the last turn, the cursor, what a click does, the stones that are
+// supposed (`put`), and how points are marked (`marks`).
 function drawn(problem, stones, given) {
   const { size, columns: [left, right], lines: [top, bottom] } = problem;
   const x = (column) => EDGE + CELL * (column - left + 0.5);
@@ -243,17 +244,25 @@ function drawn(problem, stones, given) {
   return svg;
 }
 
+// What a mark draws around the middle of a stone.
+const MARKS = { dead: "m-8 -8l16 16m0 -16l-16 16", alive: "m-9 0l6 7l11 -14", unsettled: "m-9 4q4.5 -14 9 -4t9 -4", kept: "m-12 -12h24v24h-24z" };
+
 function drawPoint(svg, problem, stones, given, point, x, y) {
-  const cell = stones[point], label = given.labels.get(point);
+  const isPut = Boolean(given.put && given.put.has(point));
+  const cell = isPut ? given.put.get(point) : stones[point], label = given.labels.get(point);
   const side = cell === "X" ? "black" : "white";
   if (cell !== ".") {
     const stone = element("circle", { class: `stone ${side}`, cx: x, cy: y, r: 18.5 });
     if (point === given.last) stone.classList.add("new");
+    if (isPut) stone.classList.add("put");
     svg.append(stone);
   } else if (problem.region.has(point) && label === undefined) {
     svg.append(element("rect", { class: "open", x: x - 4, y: y - 4, width: 8, height: 8, rx: 1.5 }));
   }
-  if (label !== undefined) {
+  const mark = given.marks && given.marks.get(point);
+  if (mark) {
+    svg.append(element("path", { class: `mark ${mark} on${side}`, d: `M${x} ${y}${MARKS[mark]}` }));
+  } else if (label !== undefined) {
     if (cell === ".") svg.append(element("circle", { class: "wood", cx: x, cy: y, r: 14 }));
     const small = label.length > 2 ? " small" : "";
     svg.append(element("text", { class: `label ${cell === "." ? "free" : `on${side}`}${small}`, x, y: y + 6 }, label));
@@ -303,5 +312,3 @@ function inWords(problem, stones, labels) {
     `Points to play at: ${list((cell, point) => cell === "." && problem.region.has(point))}.` +
     (labels.size ? ` Labels: ${[...labels].map(([point, text]) => `${text} at ${nameOf(problem.size, point)}`).join(", ")}.` : "");
 }
-
-const problems = JSON.parse(byId("problems").textContent).map(problemOf);

@@ -3,7 +3,7 @@
 "use strict";
 
 const solved = new Set();
-let number = 0, problem = null, line = [], cursor = null, isShown = false;
+let problems = [], number = 0, problem = null, line = [], cursor = null, isShown = false;
 
 const now = () => line[line.length - 1];
 const isOffRecord = () => line.length > 1 && !now().node;
@@ -171,9 +171,14 @@ const BUTTONS = {
   next: () => openProblem(number + 1),
 };
 
-if (problems.length > 0) {
-  for (const id in BUTTONS) byId(id).addEventListener("click", BUTTONS[id]);
-  byId("board").addEventListener("keydown", onKey);
-  byId("problem").hidden = false;
-  openProblem(0);
+// Shows these problems, each given as data.
+function begin(data) {
+  problems = data.map(problemOf);
+  solved.clear();
+  byId("problem").hidden = problems.length === 0;
+  if (problems.length > 0) openProblem(0);
 }
+
+for (const id in BUTTONS) byId(id).addEventListener("click", BUTTONS[id]);
+byId("board").addEventListener("keydown", onKey);
+begin(JSON.parse(byId("problems").textContent));

@@ -1,6 +1,8 @@
 // A sheet to print: the problems, so many on a page, and last the answers.
 "use strict";
 
+const problems = JSON.parse(byId("problems").textContent).map(problemOf);
+
 function figure(index, one, svg, told) {
   const title = `${index + 1}. ${one.name ? `${one.name}: ` : ""}`;
   return element("figure", {}, svg, element("figcaption", {}, title + told));

@@ -1,0 +1,81 @@
+// What the server's answers say, in sentences.
+"use strict";
+
+const WORDS = {
+  proved: "This is proved.",
+  sure: "Two procedures agree though everything that is supposed favours the other side. Of 99 such answers 93 agreed with people's.",
+  likely: "One procedure is sure and the other says the same. Of 66 such answers 57 agreed with people's.",
+  hint: "Both procedures say so, and neither is sure. Of 113 such hints 79 agreed with people's answers.",
+  leaning: "Only one procedure decides. Of 84 such leanings 53 agreed with people's answers.",
+  unknown: "No question was decided.",
+};
+const WALLS = {
+  open: "no stones are supposed",
+  natural: "walls stand where the attacker is nearer",
+  kind: "walls with few liberties outside fall",
+  hard: "the group is shut in, and cut off from every friend",
+  race: "walls stand where the attacker gets there first",
+  given: "such walls stand, and those with one or two liberties outside fall",
+  alone: "such walls stand, no friend helps, and ways out where a stone would be taken are shut",
+};
+const LEANS = { life: "it may live", death: "it may die", either: "it may depend on who moves first", none: "nothing is known" };
+const BY_LETTER = { B: "X", W: "O" };
+const STATUSES = ["alive", "dead", "unsettled", "unknown"];
+
+function pointNamed(size, name) {
+  const found = /^([A-HJ-Z])([0-9]{1,2})$/i.exec(name);
+  if (found && found[2] >= 1 && found[2] <= size) {
+    const column = LETTERS.indexOf(found[1].toUpperCase());
+    return column < size ? (size - found[2]) * size + column : null;
+  }
+  return /^[a-y]{2}$/.test(name) ? pointsOf(size, [name])[0] ?? null : null;
+}
+
+const pointsNamed = (size, names) => (Array.isArray(names) ? names : []).map((name) => pointNamed(size, String(name))).filter((it) => it !== null);
+
+// The first line of an answer.
+function statusSentence(found) {
+  if (found.status && found.status !== "unknown") return `${found.target} is ${found.status} (${found.word}).`;
+  return `${found.target}: unknown${found.leans && found.leans !== "none" ? `; ${LEANS[found.leans]} (${found.word})` : ""}.`;
+}
+
+// What the word means, and, where it is proved, by what.
+function wordSentences(found) {
+  const proof = found.proof;
+  if (found.word !== "proved") return [WORDS[found.word] || ""];
+  if (!proof) return ["This is proved: nothing that is played takes the group, anywhere on the board, even if its own side always passes."];
+  const list = (names) => (Array.isArray(names) ? names.join(", ") : String(names));
+  const told = ["This is proved, on the whole board: whatever is played at the squares is answered, and the stones with a frame stay."];
+  if (proof.while && proof.while.length) told.push(`It holds as long as these have liberties elsewhere: ${list(proof.while)}.`);
+  if (proof.friends && proof.friends.length) told.push(`It rests on these stones too, which stay by claims of their own: ${list(proof.friends)}.`);
+  if (proof.answers !== undefined) told.push(`Answers: ${typeof proof.answers === "object" ? JSON.stringify(proof.answers) : proof.answers}.`);
+  return told;
+}
+
+// A question in a sentence. `defender` is the side of the group.
+function questionSentence(question, defender) {
+  const winner = BY_LETTER[question.winner], first = SIDES[BY_LETTER[question.first]];
+  const end = winner ? (winner === defender ? "the group lives" : "the group dies") : `it is unknown (${question.unknown})`;
+  const by = question.move ? `, by ${question.move === "pass" ? "a pass" : question.move}` : "";
+  const put = (question.black || []).length + (question.white || []).length;
+  const supposed = `${WALLS[question.walls] || question.walls}${put ? `, so ${put === 1 ? "a stone is" : `${put} stones are`} put up` : ""}`;
+  const past = question.winner_without_past;
+  const ko = past !== undefined && past !== question.winner ? " A ko decides: without the past the other side wins." : "";
+  return `If ${first} moves first, ${end}${by}. Both sides play at ${question.points} empty points; supposed: ${supposed}.${ko}`;
+}
+
+// The number of the question that tells most where this side moves first: one that is decided, with a move, of those with the most
+// points; -1 where there is none.
+function bestQuestion(questions, side) {
+  const worth = (it) => (it.winner ? 1000 : 0) + (it.move ? 500 : 0) + it.points;
+  return questions.reduce((best, it, i) => (it.first === side && (best < 0 || worth(it) > worth(questions[best])) ? i : best), -1);
+}
+
+// The groups of a position by their statuses, in a sentence for each that occurs.
+function groupSentences(groups) {
+  const named = { alive: "Alive", dead: "Dead", unsettled: "Whoever moves first decides", unknown: "Not decided" };
+  return STATUSES.flatMap((status) => {
+    const some = groups.filter((it) => it.status === status);
+    return some.length ? [`${named[status]}: ${some.map((it) => `${it.target}${status === "unknown" ? "" : ` (${it.word})`}`).join(", ")}.`] : [];
+  });
+}

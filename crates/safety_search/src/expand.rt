@@ -1,6 +1,7 @@
 //! The children of a state.
 
-use crate::search::{Child, Key, Numbers, Search};
+use crate::numbers::Numbers;
+use crate::search::{Child, Key, Search};
 use crate::state::{Outcome, State};
 use std::alloc::AllocError;
 

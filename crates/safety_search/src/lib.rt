@@ -1,4 +1,5 @@
-//! Whether stones stand, or are taken, by answers inside one region of the board alone: the search of one such question, and its proof.
+//! Whether stones stand, or are taken, by answers inside one region of the board alone: the search of one such question, and its
+//! proof.
 //!
 //! Nothing is promised about what is found: a claim is made of it, and a judge decides whether that holds.
 #![tactic(auto)]
@@ -9,6 +10,7 @@ mod expand;
 mod life_proof;
 mod local_game;
 mod number_set;
+mod numbers;
 mod parts;
 mod place_set;
 mod search;

@@ -241,8 +241,8 @@ impl LocalGame {
         !self.targets.is_within(state.other)
     }
 
-    /// Whether the loss of this component is sure, where stones are to be taken: no named chain is in it, nothing hostile beside it,
-    /// and no stone that may really be gone.
+    /// Whether the loss of this component is sure, where stones are to be taken: no named chain is in it, nothing hostile beside
+    /// it, and no stone that may really be gone.
     pub(crate) fn is_sure_loss(&self, component: PlaceSet, near: PlaceSet, state: State) -> bool {
         if !self.is_death() || !component.is_within(self.region) || component.meets(self.edge) {
             return false;

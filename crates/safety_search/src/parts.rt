@@ -109,7 +109,8 @@ impl Parts {
         Outlook::Open { missing, far }
     }
 
-    /// Of the areas beside a component, which has these places beside it: how many are whole, and how far the two best are from that.
+    /// Of the areas beside a component, which has these places beside it: how many are whole, and how far the two best are from
+    /// that.
     fn beside(&self, game: &LocalGame, empty: PlaceSet, near: PlaceSet) -> (u32, u32, u32) {
         let mut have: u32 = 0;
         let mut best = NO_AREA;

@@ -1,4 +1,7 @@
 //! Sets of places, as bits.
+//!
+//! They are two words, not one of 128 bits: most regions have at most 64 places, and then the second word is empty and nothing is
+//! looked for in it.
 
 /// How many places there can be.
 pub const MAX_PLACES: usize = 128;
@@ -6,21 +9,28 @@ pub const MAX_PLACES: usize = 128;
 /// A set of places, which are numbers below `MAX_PLACES`.
 #[derive(Clone, Copy, Debug, PartialEq, Eq, Hash)]
 pub struct PlaceSet {
-    bits: u128,
+    /// The places below 64, and those from it on.
+    low: u64,
+    high: u64,
 }
 
 impl PlaceSet {
     /// The set without places.
     pub fn empty() -> PlaceSet {
-        PlaceSet { bits: 0 }
+        PlaceSet { low: 0, high: 0 }
     }
 
     /// The set with this place alone. A place that does not exist gives the empty set.
     pub fn of(place: usize) -> PlaceSet {
-        if place < MAX_PLACES {
-            PlaceSet { bits: 1 << place }
-        } else {
-            PlaceSet { bits: 0 }
+        if place < 64 {
+            return PlaceSet {
+                low: 1 << place,
+                high: 0,
+            };
+        }
+        PlaceSet {
+            low: 0,
+            high: high_bit(place),
         }
     }
 
@@ -35,64 +45,97 @@ impl PlaceSet {
     }
 
     pub fn is_empty(self) -> bool {
-        self.bits == 0
+        self.low | self.high == 0
     }
 
     /// The places of both.
     pub fn and(self, other: PlaceSet) -> PlaceSet {
         PlaceSet {
-            bits: self.bits & other.bits,
+            low: self.low & other.low,
+            high: self.high & other.high,
         }
     }
 
     /// The places of one or the other.
     pub fn or(self, other: PlaceSet) -> PlaceSet {
         PlaceSet {
-            bits: self.bits | other.bits,
+            low: self.low | other.low,
+            high: self.high | other.high,
         }
     }
 
     /// The places that are not in the other.
     pub fn minus(self, other: PlaceSet) -> PlaceSet {
         PlaceSet {
-            bits: self.bits & !other.bits,
+            low: self.low & !other.low,
+            high: self.high & !other.high,
         }
     }
 
     /// Whether a place is in both.
     pub fn meets(self, other: PlaceSet) -> bool {
-        self.bits & other.bits != 0
+        self.low & other.low | self.high & other.high != 0
     }
 
     /// Whether all places are in the other.
     pub fn is_within(self, other: PlaceSet) -> bool {
-        self.bits & !other.bits == 0
+        self.low & !other.low | self.high & !other.high == 0
     }
 
     /// How many places it has.
     pub fn len(self) -> u32 {
-        self.bits.count_ones()
+        if self.high == 0 {
+            return self.low.count_ones();
+        }
+        self.low.count_ones() + self.high.count_ones()
     }
 
     /// Whether it has two places or more.
     pub fn has_several(self) -> bool {
-        self.bits & self.bits.wrapping_sub(1) != 0
+        if self.low == 0 {
+            return without_lowest(self.high) != 0;
+        }
+        without_lowest(self.low) | self.high != 0
     }
 
     /// The set with only the least place.
     pub fn lowest(self) -> PlaceSet {
+        let low = self.low & self.low.wrapping_neg();
         PlaceSet {
-            bits: self.bits & self.bits.wrapping_neg(),
+            low,
+            high: if low == 0 {
+                self.high & self.high.wrapping_neg()
+            } else {
+                0
+            },
         }
     }
 
     /// Takes the least place out of the set.
     pub fn take(&mut self) -> Option<usize> {
-        if self.bits == 0 {
-            return None;
+        if self.low != 0 {
+            let place = self.low.trailing_zeros() as usize;
+            self.low = without_lowest(self.low);
+            return Some(place);
         }
-        let place = self.bits.trailing_zeros() as usize;
-        self.bits &= self.bits.wrapping_sub(1);
-        Some(place)
+        if self.high != 0 {
+            let place = self.high.trailing_zeros() as usize;
+            self.high = without_lowest(self.high);
+            return Some(64 + place);
+        }
+        None
     }
+}
+
+/// The bit of a place in the second word; 0 if there is no such place.
+fn high_bit(place: usize) -> u64 {
+    if place < 64 || place >= MAX_PLACES {
+        return 0;
+    }
+    1 << (place - 64)
+}
+
+/// The word without its lowest bit.
+fn without_lowest(word: u64) -> u64 {
+    word & word.wrapping_sub(1)
 }

@@ -6,51 +6,18 @@
 //! each state is asked again, and that is given to a judge.
 
 use crate::local_game::LocalGame;
+use crate::numbers::{Count, INFINITE, Numbers};
 use crate::parts::{Outlook, Scratch};
 use crate::place_set::PlaceSet;
 use crate::state::State;
 use indexmap::IndexMap;
 use std::alloc::{AllocError, Global};
 
-/// The number of what can never be proved, or disproved.
-pub(crate) const INFINITE: u32 = 1 << 30;
-
 /// A state, with who is to move.
 #[derive(Clone, Copy, Debug, PartialEq, Eq, Hash)]
 pub(crate) struct Key {
     pub(crate) state: State,
     pub(crate) is_own: bool,
-}
-
-/// How many states have to be proved, at least, and how many disproved.
-#[derive(Clone, Copy, Debug, PartialEq, Eq)]
-pub(crate) struct Numbers {
-    pub(crate) proof: u32,
-    pub(crate) disproof: u32,
-}
-
-impl Numbers {
-    pub(crate) fn won() -> Numbers {
-        Numbers {
-            proof: 0,
-            disproof: INFINITE,
-        }
-    }
-
-    pub(crate) fn lost() -> Numbers {
-        Numbers {
-            proof: INFINITE,
-            disproof: 0,
-        }
-    }
-
-    pub(crate) fn open(proof: u32) -> Numbers {
-        Numbers { proof, disproof: 1 }
-    }
-
-    fn is_settled(self) -> bool {
-        self.proof == 0 || self.disproof == 0
-    }
 }
 
 /// What is known of a state that was searched.
@@ -79,15 +46,6 @@ struct Frame {
     first: usize,
     /// The child that is searched.
     current: usize,
-}
-
-/// What the children of a state say together, as its mover sees it.
-#[derive(Clone, Copy, Debug)]
-struct Count {
-    least: u32,
-    second: u32,
-    best: usize,
-    sum: u32,
 }
 
 /// A question that is searched, and what is known of its states.
@@ -293,17 +251,7 @@ impl Search {
     /// Goes down from the last state of the line, or leaves it.
     fn go_on(&mut self, frame: Frame) -> Result<(), AllocError> {
         let count = self.count(frame);
-        let numbers = if frame.key.is_own {
-            Numbers {
-                proof: count.least,
-                disproof: count.sum,
-            }
-        } else {
-            Numbers {
-                proof: count.sum,
-                disproof: count.least,
-            }
-        };
+        let numbers = count.numbers(frame.key.is_own);
         let is_over = numbers.is_settled()
             || numbers.proof >= frame.limits.proof
             || numbers.disproof >= frame.limits.disproof
@@ -316,27 +264,9 @@ impl Search {
 
     /// What the children of the frame say together.
     fn count(&self, frame: Frame) -> Count {
-        let mut count = Count {
-            least: INFINITE,
-            second: INFINITE,
-            best: frame.first,
-            sum: 0,
-        };
+        let mut count = Count::none(frame.first);
         for place in frame.first..self.children.len() {
-            let numbers = self.children[place].numbers;
-            let (mine, others) = if frame.key.is_own {
-                (numbers.proof, numbers.disproof)
-            } else {
-                (numbers.disproof, numbers.proof)
-            };
-            if mine < count.least {
-                count.second = count.least;
-                count.least = mine;
-                count.best = place;
-            } else if mine < count.second {
-                count.second = mine;
-            }
-            count.sum = added(count.sum, others);
+            count.add(place, self.children[place].numbers, frame.key.is_own);
         }
         count
     }
@@ -363,7 +293,8 @@ impl Search {
         if last < self.frames.len() {
             self.frames[last].current = count.best;
         }
-        self.enter(key, limits_below(frame, numbers, count, child))
+        let limits = count.limits_below(frame.limits, numbers, child.numbers, frame.key.is_own);
+        self.enter(key, limits)
     }
 
     fn set_numbers(&mut self, place: usize, numbers: Numbers) {
@@ -409,32 +340,6 @@ impl Search {
             Some(known.when)
         } else {
             None
-        }
-    }
-}
-
-/// The sum of two numbers, below what can never be proved unless one of them is that.
-fn added(sum: u32, number: u32) -> u32 {
-    if sum >= INFINITE || number >= INFINITE {
-        return INFINITE;
-    }
-    sum.saturating_add(number).min(INFINITE - 1)
-}
-
-/// The limits of the best child: a quarter more than the second child, or what is left to those of the frame.
-fn limits_below(frame: Frame, numbers: Numbers, count: Count, child: Child) -> Numbers {
-    let next = count.second.saturating_add(count.second / 4 + 1);
-    if frame.key.is_own {
-        let left = frame.limits.disproof.saturating_sub(numbers.disproof);
-        Numbers {
-            proof: next.min(frame.limits.proof),
-            disproof: left.saturating_add(child.numbers.disproof).min(INFINITE),
-        }
-    } else {
-        let left = frame.limits.proof.saturating_sub(numbers.proof);
-        Numbers {
-            proof: left.saturating_add(child.numbers.proof).min(INFINITE),
-            disproof: next.min(frame.limits.disproof),
         }
     }
 }

@@ -1,7 +1,7 @@
 //! The order in which empty points come into a region: one walk from a chain, or from a point, cheapest points first.
 //!
-//! Points inside the owner's own shape cost least, and those along a wall of the other side most. The walk goes through weak chains,
-//! which the owner may take, and their liberties; strong chains of the other side end it (`docs/REGIONS.md`).
+//! Points inside the owner's own shape cost least, and those along a wall of the other side most. The walk goes through weak
+//! chains, which the owner may take, and their liberties; strong chains of the other side end it (`docs/REGIONS.md`).
 
 use crate::board::Board;
 use crate::number_set::NumberSet;

@@ -96,6 +96,14 @@ class Area:
     def unsafe(self, state):
         return self.stones(state) & ~self.free(state, self.held)
 
+    def is_sound(self, state):
+        """Whether all stones are free or outside, and those that this area gives are so by this area and earlier ones."""
+        return not self.unsafe(state) and not self.loose(state) and not self.gives & ~self.free(state, self.earlier)
+
+    def is_safe(self, state, point):
+        """Whether the keeper's stone at a point is not unsafe."""
+        return not self.unsafe(state) >> point & 1
+
     def rooted(self, state):
         return self.grid.joined(self.edge, state.other)
 
@@ -159,10 +167,104 @@ def hold_stones(areas):
             area.earlier, area.held = area.kept & before, area.kept & (before | given)
         before |= union(area.kept for area in group)
 
+# --- Deaths
+class DeathClaim:
+    """What follows the bodies in a claim that targets die; `claim` reads the lines."""
+    asks_passes = has_falling_numbers = True  # for play-answers, which tries a judge without either rule
+
+    def __init__(self, claim):
+        self.claim, self.demand = claim, claim.demand
+        self.moves_first = claim.mover == claim.keeper
+        self.area = self.targets = self.past = None
+        self.entries = []  # the states of those that have been judged
+
+    def judge(self, words):
+        claim = self.claim
+        self.demand(words[0] == "kill")
+        self.area = area = claim.read_area(words)
+        area.held = area.kept
+        self.targets = area.region & union(1 << target for target in claim.problem.targets)
+        self.demand(self.targets and claim.problem.defender == OTHER[claim.keeper], "C25 target not in the region")
+        self.past = [cells for cells in claim.problem.history if not area.kept & ~set_of(cells, claim.keeper)]
+        words = claim.next_words()
+        while words[0] == "entry":
+            self.judge_entry(words)
+            words = claim.next_words()
+        self.judge_last(words)
+        self.demand(claim.next_words() == ["end"])
+        return self.what_dies()
+
+    def judge_entry(self, words):
+        claim, area = self.claim, self.area
+        self.demand(len(words) == 3 and claim.is_state(area, words[1]) and words[2] in claim.board.turn_named)
+        claim.count_state()
+        state, turn = area.state_of(words[1]), claim.board.turn_named[words[2]]
+        self.demand(not area.loose(state), "C27 no liberty")
+        self.demand(turn != PASS and area.empty(state) >> turn & 1, "C06 turn barred")
+        after = area.after_keeper(state, turn)
+        self.demand(area.is_safe(after, turn), "C31 own stones taken")
+        self.compare_with_past(state, after)
+        words = claim.next_words()
+        if words == ["taken"]:
+            self.demand(self.targets & ~after.other, "C04 not won")
+        else:
+            self.demand(claim.is_line(words, "all"))
+            self.demand(not self.targets & ~after.other, "C05 wrong side or after the end")
+            self.judge_all(after, words)
+        self.entries.append(state)
+
+    def compare_with_past(self, state, after):
+        """Only the entries up to the one with which the killer may begin have to be new, or, where the
+        other side moves, those before the first one whose result is already there."""
+        fits = self.area.fits
+        if not self.moves_first and fits(self.claim.cells, after):
+            self.past = []
+        self.demand(not any(fits(cells, after) for cells in self.past), "C26 past bars")
+        if self.moves_first and fits(self.claim.cells, state):
+            self.past = []
+
+    def due_turns(self, state):
+        """The other side's turns that leave all targets there, each with the state after it."""
+        area, due = self.area, {}
+        for point in points_of(area.empty(state)):
+            after, taken = area.after_other(state, point)
+            self.demand(not taken or area.is_sure(state, taken), f"C32 unsure loss at {self.claim.name(point)}")
+            if after != state and not self.targets & ~after.other:
+                due[point] = after
+        return {**due, PASS: state} if self.asks_passes else due
+
+    def judge_all(self, state, words):
+        due = self.due_turns(state)
+        self.demand(int(words[1]) == len(due), f"C09 replies differ, {len(due)} due")
+        for turn, after in due.items():
+            number = int(self.claim.read_reply(3, turn)[2])
+            self.claim.judge_cover(self.area, self.entries, number, after)
+
+    def judge_last(self, words):
+        """What the problem's own position leads to."""
+        claim = self.claim
+        self.demand(claim.is_line(words, "use") or claim.is_line(words, "all"))
+        if words[0] == "use":
+            self.demand(self.moves_first, "C05 wrong side or after the end")
+            claim.judge_cover(self.area, self.entries, int(words[1]), self.area.root)
+        else:
+            self.demand(self.may_begin(), "C05 wrong side or after the end")
+            self.judge_all(self.area.root, words)
+
+    def may_begin(self):
+        """Whether the other side is to move, and its pass would not end the game."""
+        return not self.moves_first and self.claim.problem.start.passes == 0
+
+    def what_dies(self):
+        claim = self.claim
+        supposed = self.area.kept & ~claim.kept()
+        condition = f" while {claim.names(supposed)}" if supposed else ""
+        return f"dead {NAME[OTHER[claim.keeper]]} {claim.names(self.targets)}{condition}"
+
 # --- Claims
 class AnswerClaim(ClaimLines):
     """A claim by answers, read and judged line by line."""
-    area = Area
+    area, death, hold = Area, DeathClaim, staticmethod(hold_stones)
 
     def __init__(self, problem, text):
         super().__init__(text)
@@ -189,7 +291,7 @@ class AnswerClaim(ClaimLines):
             self.judge_heads(is_life)
             self.judge_bodies()
             words = [] if is_life else self.next_words()
-        shown = self.what_stands() if is_life else DeathClaim(self).judge(words)
+        shown = self.what_stands() if is_life else self.death(self).judge(words)
         self.end()
         return shown
 
@@ -264,7 +366,7 @@ class AnswerClaim(ClaimLines):
         return [past for past in pasts if not points & ~past]
 
     def judge_heads(self, is_life):
-        hold_stones(self.areas)
+        self.hold(self.areas)
         kept = self.kept()
         self.demand(not is_life or all(kept >> target & 1 for target in self.problem.targets), "C25 target not kept")
         self.barred = union(self.past_with(kept))
@@ -295,8 +397,7 @@ class AnswerClaim(ClaimLines):
 
     def judge_state(self, area, state):
         self.count_state()
-        has_given = not area.gives & ~area.free(state, area.earlier)
-        self.demand(not area.unsafe(state) and not area.loose(state) and has_given, "C27 no liberty")
+        self.demand(area.is_sound(state), "C27 no liberty")
 
     def judge_all(self, area, states, state, words):
         self.demand(self.is_line(words, "all"))
@@ -335,92 +436,3 @@ class AnswerClaim(ClaimLines):
     def what_stands(self):
         by = "" if self.first is None else f"by {self.name(self.first)} "
         return f"stands {NAME[self.keeper]} {by}{self.names(self.kept())}"
-
-# --- Deaths
-class DeathClaim:
-    """What follows the bodies in a claim that targets die; `claim` reads the lines."""
-    def __init__(self, claim):
-        self.claim, self.demand = claim, claim.demand
-        self.moves_first = claim.mover == claim.keeper
-        self.area = self.targets = self.past = None
-        self.entries = []  # the states of those that have been judged
-
-    def judge(self, words):
-        claim = self.claim
-        self.demand(words[0] == "kill")
-        self.area = area = claim.read_area(words)
-        area.held = area.kept
-        self.targets = area.region & union(1 << target for target in claim.problem.targets)
-        self.demand(self.targets and claim.problem.defender == OTHER[claim.keeper], "C25 target not in the region")
-        self.past = [cells for cells in claim.problem.history if not area.kept & ~set_of(cells, claim.keeper)]
-        words = claim.next_words()
-        while words[0] == "entry":
-            self.judge_entry(words)
-            words = claim.next_words()
-        self.judge_last(words)
-        self.demand(claim.next_words() == ["end"])
-        return self.what_dies()
-
-    def judge_entry(self, words):
-        claim, area = self.claim, self.area
-        self.demand(len(words) == 3 and claim.is_state(area, words[1]) and words[2] in claim.board.turn_named)
-        claim.count_state()
-        state, turn = area.state_of(words[1]), claim.board.turn_named[words[2]]
-        self.demand(not area.loose(state), "C27 no liberty")
-        self.demand(turn != PASS and area.empty(state) >> turn & 1, "C06 turn barred")
-        after = area.after_keeper(state, turn)
-        self.demand(not area.unsafe(after) >> turn & 1, "C31 own stones taken")
-        self.compare_with_past(state, after)
-        words = claim.next_words()
-        if words == ["taken"]:
-            self.demand(self.targets & ~after.other, "C04 not won")
-        else:
-            self.demand(claim.is_line(words, "all"))
-            self.demand(not self.targets & ~after.other, "C05 wrong side or after the end")
-            self.judge_all(after, words)
-        self.entries.append(state)
-
-    def compare_with_past(self, state, after):
-        """Only the entries up to the one with which the killer may begin have to be new, or, where the
-        other side moves, those before the first one whose result is already there."""
-        fits = self.area.fits
-        if not self.moves_first and fits(self.claim.cells, after):
-            self.past = []
-        self.demand(not any(fits(cells, after) for cells in self.past), "C26 past bars")
-        if self.moves_first and fits(self.claim.cells, state):
-            self.past = []
-
-    def due_turns(self, state):
-        """The other side's turns that leave all targets there, each with the state after it."""
-        area, due = self.area, {}
-        for point in points_of(area.empty(state)):
-            after, taken = area.after_other(state, point)
-            self.demand(not taken or area.is_sure(state, taken), f"C32 unsure loss at {self.claim.name(point)}")
-            if after != state and not self.targets & ~after.other:
-                due[point] = after
-        return {**due, PASS: state}
-
-    def judge_all(self, state, words):
-        due = self.due_turns(state)
-        self.demand(int(words[1]) == len(due), f"C09 replies differ, {len(due)} due")
-        for turn, after in due.items():
-            number = int(self.claim.read_reply(3, turn)[2])
-            self.claim.judge_cover(self.area, self.entries, number, after)
-
-    def judge_last(self, words):
-        """What the problem's own position leads to."""
-        claim = self.claim
-        self.demand(claim.is_line(words, "use") or claim.is_line(words, "all"))
-        if words[0] == "use":
-            self.demand(self.moves_first, "C05 wrong side or after the end")
-            claim.judge_cover(self.area, self.entries, int(words[1]), self.area.root)
-        else:
-            is_due = not self.moves_first and claim.problem.start.passes == 0
-            self.demand(is_due, "C05 wrong side or after the end")
-            self.judge_all(self.area.root, words)
-
-    def what_dies(self):
-        claim = self.claim
-        supposed = self.area.kept & ~claim.kept()
-        condition = f" while {claim.names(supposed)}" if supposed else ""
-        return f"dead {NAME[OTHER[claim.keeper]]} {claim.names(self.targets)}{condition}"

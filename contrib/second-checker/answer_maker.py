@@ -273,12 +273,16 @@ def sorted_turns(due):
     return sorted(due.items(), key=lambda item: (item[0] == PASS, item[0] if item[0] != PASS else 0))
 
 
-def make(chance, judge, kind=None):
-    """A claim on a random board, of life, of death, or with two areas; or None, where six regions of it allow none."""
+def make(chance, judge, kind=None, most=None):
+    """A claim on a random board, of life, of death, or with two areas, and regions of so many points at most; or None, where six
+    tries find none."""
     setting = Setting(chance, chance.choice([3, 3, 4, 4, 5]), 16)
     for _ in range(6):
         one = kind or chance.choice([LIFE, LIFE, LIFE, DEATH, DEATH, TWO_AREAS])
-        text = make_death(chance, judge, setting, 5) if one == DEATH else make_life(chance, judge, setting, 1 + (one == TWO_AREAS), 4)
+        if one == DEATH:
+            text = make_death(chance, judge, setting, most or 5)
+        else:
+            text = make_life(chance, judge, setting, 2 if one == TWO_AREAS else 1, most or 4)
         if text:
             return text
     return None

@@ -273,10 +273,10 @@ def sorted_turns(due):
     return sorted(due.items(), key=lambda item: (item[0] == PASS, item[0] if item[0] != PASS else 0))
 
 
-def make(chance, judge, kind=None, most=None):
-    """A claim on a random board, of life, of death, or with two areas, and regions of so many points at most; or None, where six
-    tries find none."""
-    setting = Setting(chance, chance.choice([3, 3, 4, 4, 5]), 16)
+def make(chance, judge, kind=None, most=None, sizes=(3, 3, 4, 4, 5)):
+    """A claim on a random board of one of these sizes, of life, of death, or with two areas, and regions of so many points at most;
+    or None, where six tries find none."""
+    setting = Setting(chance, chance.choice(sizes), chance.choice([0, 6, 16]))
     for _ in range(6):
         one = kind or chance.choice([LIFE, LIFE, LIFE, DEATH, DEATH, TWO_AREAS])
         if one == DEATH:

@@ -42,7 +42,7 @@ def need_games():
     """Ends the script unless the games are there. For root they are installed."""
     if not GAMES.is_dir() and os.geteuid() == 0 and shutil.which("apt-get"):
         for words in (["update"], ["install", "-y", PACKAGE]):
-            subprocess.run(["apt-get", *words], stdin=subprocess.DEVNULL, stdout=subprocess.DEVNULL, stderr=subprocess.DEVNULL, check=False)
+            subprocess.run(["apt-get", *words], stdin=subprocess.DEVNULL, capture_output=True, check=False)
     if not GAMES.is_dir():
         print(f"tools/measure_ends.py: there is no folder {GAMES} (of the package {PACKAGE})", file=sys.stderr)
         sys.exit(4)
@@ -109,7 +109,7 @@ def word_of(group):
 
 
 def by_group_status(program, options, file):
-    """What group_status says of each stone, as it says it of the group, and its processor seconds. None where it refuses the game."""
+    """What group_status says of each group, and its processor seconds. None where it refuses the game."""
     with tempfile.TemporaryFile() as out, open(file, "rb") as given:
         started = subprocess.Popen([program, "--all", "--json", *options], stdin=given, stdout=out, stderr=subprocess.DEVNULL)
         _, status, used = os.wait4(started.pid, 0)

@@ -1,6 +1,6 @@
 """Judges of claims by answers, each with one rule left out, for play-answers: what they accept wrongly, play has to refute."""
 from answer_maker import DEATH, LIFE, TWO_AREAS
-from answers import AnswerClaim, Area, DeathClaim, State, union
+from answers import AnswerClaim, Area, DeathClaim, union
 
 
 class OutsideIsNoAnchor(Area):
@@ -146,15 +146,16 @@ def judge_with(kind):
     """A judge of claims by this kind of areas, or of deaths."""
     if issubclass(kind, AnswerClaim):
         return kind
-    return type(kind.__name__, (AnswerClaim,), {"__doc__": kind.__doc__, "area" if issubclass(kind, Area) else "death": kind})
+    part = "area" if issubclass(kind, Area) else "death"
+    return type(kind.__name__, (AnswerClaim,), {"__doc__": kind.__doc__, part: kind})
 
 
 # The rules that are left out, each with the kind of claims that may show it, None where any may, the points of their regions, and
 # the rows of their boards where these are not 3 to 5.
 KINDS = {
     OutsideIsNoAnchor: (None, None), LibertyOutsideCounts: (None, None), SuicideIsNotAsked: (None, None),
-    CoverWithFewerStones: (LIFE, None), CoverWithMoreStones: (LIFE, None), EyeReachesOutside: (LIFE, None), OneEyeIsEnough: (LIFE, None),
-    AnyAreaHolds: (TWO_AREAS, None), NothingHasToBeGiven: (TWO_AREAS, None), OtherRegionIsNotOutside: (TWO_AREAS, None),
+    CoverWithFewerStones: (LIFE, None), CoverWithMoreStones: (LIFE, None), EyeReachesOutside: (LIFE, None),
+    OneEyeIsEnough: (LIFE, None), AnyAreaHolds: (TWO_AREAS, None), NothingHasToBeGiven: (TWO_AREAS, None), OtherRegionIsNotOutside: (TWO_AREAS, None),
     PastIsNotCompared: (LIFE, None), UnsureLoss: (DEATH, 5), OwnStonesTaken: (DEATH, 8), DeathWithAnyPast: (DEATH, 5),
     DeathWithoutPasses: (DEATH, 5), NumbersNeedNotFall: (DEATH, 6, [3]), DeathAfterPass: (DEATH, 5),
 }  # fmt: skip

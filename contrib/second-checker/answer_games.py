@@ -120,8 +120,13 @@ class Game:
         states = [self.stones(points, state) for state in ["".join(area.cells[point] for point in points), *area.states]]
         if self.first & region:
             states[0] = self.after_first(area, states[0], region)
-        answers = [None if body == REST else {self.bit(turn): (self.bit(answer), int(number) - 1) for turn, answer, number in body} for body in area.answers]
-        return AreaPlan([region & ~(ours | theirs) for ours, theirs in states], answers)
+        return AreaPlan([region & ~(ours | theirs) for ours, theirs in states], [self.answers(body) for body in area.answers])
+
+    def answers(self, body):
+        """The answer to each move in a state, and the place of the state after it."""
+        if body == REST:
+            return None
+        return {self.bit(turn): (self.bit(answer), int(number) - 1) for turn, answer, number in body}
 
     def after_first(self, area, state, region):
         """The first state where the owner moves first: what then has no liberty, and nothing outside beside it, is taken."""

@@ -2,7 +2,7 @@
 
 They follow the rules of the judge that is handed over, so a judge with a fault has claims made that only it accepts."""
 from answer_texts import REST, TAKEN, AnswerText, AreaLines, DeathLines, changes
-from answers import PASS, Grid, State, points_of, set_of
+from answers import PASS, Grid, points_of, set_of
 from cases import list_of, point_name, random_stones
 from reading import BLACK, EMPTY, OTHER, WHITE, board_of
 from reading import State as Position
@@ -43,7 +43,8 @@ class Setting:
 
     def cells_of(self, kept, region):
         """An area with these kept points and this region."""
-        return "".join("#" if kept >> point & 1 else self.cells[point] if region >> point & 1 else "-" for point in self.board.points)
+        inside = [cell if region >> point & 1 else "-" for point, cell in enumerate(self.cells)]
+        return "".join("#" if kept >> point & 1 else cell for point, cell in enumerate(inside))
 
     def some_chains(self, chance, colour):
         """The points of some chains of a colour, and all that are near them."""
@@ -100,7 +101,9 @@ def has_answers(found, lasting):
 
 
 def letters_of(area, state):
-    return "".join(area.colours[0] if state.keeper >> point & 1 else area.colours[1] if state.other >> point & 1 else EMPTY for point in area.points)
+    ours, theirs = area.colours
+    stones = {1: ours, 2: theirs, 0: EMPTY}
+    return "".join(stones[(state.keeper >> point & 1) + 2 * (state.other >> point & 1)] for point in area.points)
 
 
 def number_of(area, listed, state):
@@ -121,9 +124,10 @@ def write_area(chance, setting, area, gives):
     listed, bodies = [area.root], []
     while len(bodies) < len(listed):
         state = listed[len(bodies)]
-        bodies.append(REST if area.is_at_rest(state) and chance.random() < 0.8 else write_replies(chance, area, lasting, listed, state, setting.size))
-    cells = setting.cells_of(area.kept, area.region)
-    return AreaLines(cells, setting.cells_of(gives, 0) if gives else None, [letters_of(area, state) for state in listed[1:]], bodies)
+        is_resting = area.is_at_rest(state) and chance.random() < 0.8
+        bodies.append(REST if is_resting else write_replies(chance, area, lasting, listed, state, setting.size))
+    cells, given = setting.cells_of(area.kept, area.region), setting.cells_of(gives, 0) if gives else None
+    return AreaLines(cells, given, [letters_of(area, state) for state in listed[1:]], bodies)
 
 
 def write_replies(chance, area, lasting, listed, state, size):
@@ -140,17 +144,15 @@ def make_life(chance, judge, setting, number_of_areas, most):
     """A claim of life with so many areas, or None where the states allow none."""
     name = chance.choice("BW")
     colour = COLOURS[name]
-    everything, areas = setting.grid.all, []
-    used = 0
+    everything, parts, used = setting.grid.all, [], 0
     for _ in range(number_of_areas):
         kept = setting.some_chains(chance, colour) & ~used
         region = setting.grown(chance, kept, everything & ~used, chance.randint(1, most)) if kept else 0
         if not region:
             return None
         used |= region
-        areas.append(judge.area(setting.grid, setting.cells_of(kept, region), colour))
-    regions = [area.region for area in areas]
-    areas = [judge.area(setting.grid, setting.cells_of(area.kept & ~used, region), colour) for area, region in zip(areas, regions)]
+        parts.append((kept, region))
+    areas = [judge.area(setting.grid, setting.cells_of(kept & ~used, region), colour) for kept, region in parts]
     if number_of_areas > 1 and chance.random() < 0.7:
         for area in areas:
             area.gives = area.kept
@@ -261,9 +263,12 @@ def write_death(area, entries, begin, is_first, setting):
     listed = list(entries)
 
     def write(due):
-        return [[turn if turn == PASS else point_name(turn, setting.size), str(listed.index(after) + 1)] for turn, after in sorted_turns(due)]
+        turns = [(turn if turn == PASS else point_name(turn, setting.size), after) for turn, after in sorted_turns(due)]
+        return [[name, str(listed.index(after) + 1)] for name, after in turns]
 
-    lines = [[letters_of(area, state), point_name(point, setting.size), write(due) if due else TAKEN] for state, (point, due) in entries.items()]
+    lines = []
+    for state, (point, due) in entries.items():
+        lines.append([letters_of(area, state), point_name(point, setting.size), write(due) if due else TAKEN])
     last = str(listed.index(area.root) + 1) if is_first else write(begin)
     return DeathLines(setting.cells_of(area.kept, area.region), lines, last)
 

@@ -153,12 +153,24 @@ def judge_with(kind):
 # The rules that are left out, each with the kind of claims that may show it, None where any may, the points of their regions, and
 # the rows of their boards where these are not 3 to 5.
 KINDS = {
-    OutsideIsNoAnchor: (None, None), LibertyOutsideCounts: (None, None), SuicideIsNotAsked: (None, None),
-    CoverWithFewerStones: (LIFE, None), CoverWithMoreStones: (LIFE, None), EyeReachesOutside: (LIFE, None),
-    OneEyeIsEnough: (LIFE, None), AnyAreaHolds: (TWO_AREAS, None), NothingHasToBeGiven: (TWO_AREAS, None), OtherRegionIsNotOutside: (TWO_AREAS, None),
-    PastIsNotCompared: (LIFE, None), UnsureLoss: (DEATH, 5), OwnStonesTaken: (DEATH, 8), DeathWithAnyPast: (DEATH, 5),
-    DeathWithoutPasses: (DEATH, 5), NumbersNeedNotFall: (DEATH, 6, [3]), DeathAfterPass: (DEATH, 5),
-}  # fmt: skip
+    OutsideIsNoAnchor: (None, None),
+    LibertyOutsideCounts: (None, None),
+    SuicideIsNotAsked: (None, None),
+    CoverWithFewerStones: (LIFE, None),
+    CoverWithMoreStones: (LIFE, None),
+    EyeReachesOutside: (LIFE, None),
+    OneEyeIsEnough: (LIFE, None),
+    AnyAreaHolds: (TWO_AREAS, None),
+    NothingHasToBeGiven: (TWO_AREAS, None),
+    OtherRegionIsNotOutside: (TWO_AREAS, None),
+    PastIsNotCompared: (LIFE, None),
+    UnsureLoss: (DEATH, 5),
+    OwnStonesTaken: (DEATH, 8),
+    DeathWithAnyPast: (DEATH, 5),
+    DeathWithoutPasses: (DEATH, 5),
+    NumbersNeedNotFall: (DEATH, 6, [3]),
+    DeathAfterPass: (DEATH, 5),
+}
 JUDGES = {judge_with(rule): made for rule, made in KINDS.items()}
 
 

@@ -400,6 +400,8 @@ WAYS = [
     drop_state, change_entries, change_gives, change_areas, add_first, bar_answer, add_past, change_record, change_head,
 ]  # fmt: skip
 
+SECOND_WAYS = [change_answer, change_number, change_replies, change_body]  # those that can follow any other
+
 
 def spoil_bytes(chance, text):
     """A text with a byte of the claim changed, dropped or added, or with its end cut off, or with more after it."""
@@ -431,8 +433,8 @@ def spoilt(chance, text):
             parts, way = read_text(text), chance.choice(WAYS)
             if way(chance, parts) is False:
                 continue
-            if chance.random() < 0.1:
-                chance.choice(WAYS)(chance, parts)
+            if way is not change_head and chance.random() < 0.1:
+                chance.choice(SECOND_WAYS)(chance, parts)
             other = parts.write()
         if other != text:
             return other, way.__name__.replace("_", " ")

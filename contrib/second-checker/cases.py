@@ -9,6 +9,7 @@ from pathlib import Path
 HERE = Path(__file__).resolve().parent
 sys.path.insert(0, str(HERE))
 import check  # noqa: E402
+from reading import EMPTY, Board  # noqa: E402
 
 SECONDS = 60  # for one run of a program
 FAULTS = [f"C{number:02}" for number in [1, *range(3, 15), 16, 19]] + [f"A{number:02}" for number in range(1, 9)]
@@ -79,8 +80,8 @@ def random_stones(chance, board, weights):
     cells = chance.choices(".XO", weights, k=board.size**2)
     if chance.random() < 0.97:
         for point in board.points:
-            if cells[point] != check.EMPTY and board.dead_chain(cells, point):
-                cells[point] = check.EMPTY
+            if cells[point] != EMPTY and board.dead_chain(cells, point):
+                cells[point] = EMPTY
     return cells
 
 
@@ -104,7 +105,7 @@ def spoil_record(chance, record):
 
 def random_record(chance, small_region):
     """A problem on 3 to 7 rows; a small region makes it easy to solve."""
-    board = check.Board(chance.randint(3, 7))
+    board = Board(chance.randint(3, 7))
     size = board.size
     cells = random_stones(chance, board, chance.choice([(5, 2, 2), (2, 3, 2), (2, 2, 3), (1, 2, 2)]))
     black, white, empty = ([point for point in board.points if cells[point] == colour] for colour in "XO.")

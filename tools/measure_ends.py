@@ -1,0 +1,200 @@
+#!/usr/bin/env python3
+"""Compares what group_status says of every group at the ends of games with GNU Go's final_status_list.
+
+    tools/measure_ends.py [--boards N] [--seed N] [--steps N] GROUP_STATUS [FILE..]
+
+GROUP_STATUS is the built program; it is called as `GROUP_STATUS --all --json [--steps N] < FILE`. Without files the games are
+those of Debian's package goban-original-games that have a counted result, and N of them, 40 by default, are drawn by the seed, 1 by
+default, so that nobody has chosen them. For root, that package and gnugo are installed.
+
+It prints for each word how many stones and chains have it, and their shares: proved alive, proved dead, dead while named stones
+stand, other words, and none; then how many boards have a word for each chain, the processor seconds of group_status for a board
+(median and most), and each disagreement: the game, the chain's first stone, how many stones, and what both say. Chains that GNU Go
+calls alive or in seki should be alive, those that it calls dead should be dead. The status is 1 where a proved word disagrees.
+"""
+
+import argparse
+import collections
+import json
+import os
+import pathlib
+import random
+import re
+import shutil
+import statistics
+import subprocess
+import sys
+import tempfile
+import time
+
+import script_words
+
+GAMES, PACKAGE = pathlib.Path("/usr/share/goban"), "goban-original-games"
+COUNTED = re.compile(rb"RE\[[BW]\+[0-9]+(\.[05])?\]")
+COLUMNS = "ABCDEFGHJKLMNOPQRSTUVWXYZ"
+GNUGO = ["gnugo", "--mode", "gtp", "--quiet", "--level", "10", "--chinese-rules", "--positional-superko", "--allow-suicide"]
+ASKED = ["list_stones black", "list_stones white", *(f"final_status_list {it}" for it in ("alive", "dead", "seki"))]
+WORDS = ["proved alive", "proved dead", "dead while stones stand", "other words", "none"]
+SECONDS = 1_800  # for one board
+
+
+def need_games():
+    """Ends the script unless the games are there. For root they are installed."""
+    if not GAMES.is_dir() and os.geteuid() == 0 and shutil.which("apt-get"):
+        for words in (["update"], ["install", "-y", PACKAGE]):
+            subprocess.run(["apt-get", *words], stdin=subprocess.DEVNULL, capture_output=True, check=False)
+    if not GAMES.is_dir():
+        print(f"tools/measure_ends.py: there is no folder {GAMES} (of the package {PACKAGE})", file=sys.stderr)
+        sys.exit(4)
+
+
+def drawn(boards, seed):
+    """So many games with a counted result, by chance."""
+    need_games()
+    counted = [file for file in sorted(GAMES.iterdir()) if COUNTED.search(file.read_bytes())]
+    return random.Random(seed).sample(counted, min(boards, len(counted)))
+
+
+def vertices(text):
+    return re.findall(r"\b[A-HJ-Z][0-9]{1,2}\b", text)
+
+
+def by_gnugo(file):
+    """The stones at the end of a game, and what GNU Go says of each: two tables by vertex. None where it cannot read the game."""
+    commands = "".join(f"{it}\n" for it in [f"loadsgf {file}", *ASKED, "quit"])
+    said = subprocess.run(GNUGO, input=commands, capture_output=True, text=True, timeout=SECONDS, check=False).stdout
+    answers = said.split("\n\n")[1 : 1 + len(ASKED)]
+    if len(answers) < len(ASKED) or not all(it.startswith("=") for it in answers):
+        return None
+    stones = {vertex: colour for colour, text in zip("BW", answers) for vertex in vertices(text)}
+    status = {vertex: word for word, text in zip(("alive", "dead", "seki"), answers[2:]) for vertex in vertices(text)}
+    return stones, status
+
+
+def beside(vertex):
+    column, row = COLUMNS.index(vertex[0]), int(vertex[1:])
+    places = [(column - 1, row), (column + 1, row), (column, row - 1), (column, row + 1)]
+    return [f"{COLUMNS[column]}{row}" for column, row in places if 0 <= column < len(COLUMNS)]
+
+
+def chain_of(stones, vertex):
+    chain, unvisited = {vertex}, [vertex]
+    while unvisited:
+        more = [it for it in beside(unvisited.pop()) if stones.get(it) == stones[vertex] and it not in chain]
+        chain.update(more)
+        unvisited += more
+    return chain
+
+
+def chains_of(stones):
+    """All chains, each by its first stone, row by row."""
+    chains, left = [], dict(stones)
+    for vertex in sorted(stones, key=lambda it: (-int(it[1:]), it[0])):
+        if vertex in left:
+            chains.append((vertex, chain_of(stones, vertex)))
+            for it in chains[-1][1]:
+                del left[it]
+    return chains
+
+
+def word_of(group):
+    """In which of WORDS a group is. A program that names no stones on which a proof stands has no such condition."""
+    status, word, proof = group.get("status"), group.get("word"), group.get("proof") or {}
+    if status not in ("alive", "dead", "unsettled"):
+        return "none"
+    supposed = proof.get("while") if isinstance(proof, dict) else None
+    if status == "dead" and (supposed or group.get("while") or word == "while"):
+        return "dead while stones stand"
+    return f"proved {status}" if word == "proved" and status != "unsettled" else "other words"
+
+
+def by_group_status(program, options, file):
+    """What group_status says of each group, and its processor seconds. None where it refuses the game."""
+    with tempfile.TemporaryFile() as out, open(file, "rb") as given:
+        started = subprocess.Popen([program, "--all", "--json", *options], stdin=given, stdout=out, stderr=subprocess.DEVNULL)
+        _, status, used = os.wait4(started.pid, 0)
+        started.returncode = os.waitstatus_to_exitcode(status)
+        out.seek(0)
+        lines = out.read().decode(errors="replace").splitlines()
+    if started.returncode != 0:
+        print(f"{file}: group_status ended with {started.returncode}: {lines[:1]}", file=sys.stderr)
+        return None
+    return [json.loads(line) for line in lines], used.ru_utime + used.ru_stime
+
+
+class Tally:
+    """What was said of all boards."""
+
+    def __init__(self):
+        self.stones, self.chains, self.other = collections.Counter(), collections.Counter(), collections.Counter()
+        self.seconds, self.differ, self.whole, self.is_wrong = [], [], 0, False
+
+    def add_board(self, name, stones, status, groups):
+        """Each chain has the group that names one of its stones, or whose target is one of them."""
+        of_stone = {vertex: group for group in groups for vertex in [*(group.get("stones") or []), group["target"]]}
+        words = [self.add_chain(name, first, chain, status, of_stone) for first, chain in chains_of(stones)]
+        self.whole += "none" not in words
+
+    def add_chain(self, name, first, chain, status, of_stone):
+        group = next((of_stone[vertex] for vertex in sorted(chain) if vertex in of_stone), {})
+        word = word_of(group)
+        self.stones[word] += len(chain)
+        self.chains[word] += 1
+        if word == "other words":
+            self.other[f"{group['status']} ({group['word']})"] += len(chain)
+        theirs = status.get(first, "not named")
+        wanted = "dead" if theirs == "dead" else "alive"
+        if word != "none" and group["status"] != wanted:
+            self.differ.append((name, first, len(chain), f"{group['status']} ({group['word']})", theirs))
+            self.is_wrong |= word.startswith("proved")
+        return word
+
+    def show(self):
+        stones, chains = sum(self.stones.values()), sum(self.chains.values())
+        print(f"{len(self.seconds)} boards, {stones:,} stones, {chains:,} chains; {self.whole} boards have a word for each chain")
+        for word in WORDS:
+            shares = 100 * self.stones[word] / max(stones, 1), 100 * self.chains[word] / max(chains, 1)
+            print(f"{word:24} {self.stones[word]:6} stones {shares[0]:5.1f} %   {self.chains[word]:5} chains {shares[1]:5.1f} %")
+        print("stones by other words:", ", ".join(f"{word} {count}" for word, count in self.other.most_common()) or "none")
+        if self.seconds:
+            print(f"seconds a board: median {statistics.median(self.seconds):.2f}, most {max(self.seconds):.2f}")
+        print(f"{len(self.differ)} disagreements with GNU Go")
+        for name, first, count, ours, theirs in self.differ:
+            print(f"    {name} {first}, {count} stones: {ours}, GNU Go {theirs}")
+
+
+def given():
+    parser = argparse.ArgumentParser(description=__doc__, formatter_class=argparse.RawDescriptionHelpFormatter, allow_abbrev=False)
+    parser.add_argument("--boards", type=int, default=40)
+    parser.add_argument("--seed", type=int, default=1)
+    parser.add_argument("--steps", type=int)
+    parser.add_argument("program")
+    parser.add_argument("files", nargs="*", type=pathlib.Path)
+    words = parser.parse_args()
+    for file in [words.program, *words.files]:
+        if not os.path.exists(file):
+            script_words.refuse("tools/measure_ends.py", f"there is no file {file}")
+    return words
+
+
+def main():
+    words = given()
+    os.environ["PATH"] += ":/usr/games"
+    script_words.need("gnugo:gnugo")
+    files = words.files or drawn(words.boards, words.seed)
+    tally, options = Tally(), ["--steps", str(words.steps)] if words.steps else []
+    for number, file in enumerate(files, 1):
+        judged = by_gnugo(file)
+        answer = judged and by_group_status(words.program, options, file)
+        if not answer:
+            print(f"{file.name} is left out", file=sys.stderr)
+            continue
+        tally.seconds.append(answer[1])
+        tally.add_board(file.name, *judged, answer[0])
+        print(f"{time.strftime('%H:%M:%S')} {number} of {len(files)}: {file.name}, {answer[1]:.1f} s", file=sys.stderr, flush=True)
+    tally.show()
+    return 1 if tally.is_wrong else 0
+
+
+if __name__ == "__main__":
+    sys.exit(main())

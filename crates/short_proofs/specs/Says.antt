@@ -48,7 +48,7 @@ pub record SaysSafe (q : GameProblem) (o : Output) : Type 0 where
 abbrev pub Says : Request → GameProblem → Output → Type 0
 Says asks.Check q o = SaysWinnerOf q o ⊎ SaysSafe q o
 Says (asks.Tree steps) q o = end_of o ≡ Answered → (x : Colour) × (tree : GameTree) × (o ≡ Record tree) × HasVerdict x tree × Wins x (start q)
-Says (asks.Prove steps) q o = Unit
+Says (asks.Prove steps whole) q o = Unit
 
 -- What is said for a record: it is refused, or it has a problem, of which what is said is true.
 abbrev pub IsSaidOf : Request → GameTree → Output → Type 0

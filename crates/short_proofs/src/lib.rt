@@ -13,6 +13,7 @@ mod reading_record;
 mod shown;
 mod standing;
 mod walk;
+mod whole;
 mod words;
 
 pub use program::run;

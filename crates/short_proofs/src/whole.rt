@@ -1,5 +1,6 @@
 //! Claims by answers, which hold on the whole board: found for a problem, and judged before they count.
 
+use go_points::Point;
 use group_search::{Finding, Limits, find_for_stone};
 use safe_groups::{Stop, judge};
 use std::alloc::{AllocError, Global};
@@ -25,29 +26,62 @@ pub(crate) fn find_claim(
     let Some(target) = problem.targets().first() else {
         return Ok(Found::Nothing);
     };
-    let limits = Limits {
-        all_steps: steps,
-        ..Limits::default()
-    };
-    let mover = Some(problem.mover());
-    let board = problem.colouring();
-    match find_for_stone(alloc, board, problem.history(), mover, limits, target)? {
-        Some(finding) => confirmed(alloc, problem, finding),
+    match find(alloc, problem, steps, target)? {
+        Some(claim) => confirmed(alloc, problem, claim),
         None => Ok(Found::Nothing),
     }
 }
 
-/// The finding's claim, if the judge accepts it for the problem.
-fn confirmed(alloc: Global, problem: &Problem, finding: Finding) -> Result<Found, AllocError> {
-    let claim = finding.claim;
+/// The text of what is found about the target.
+fn find(
+    alloc: Global,
+    problem: &Problem,
+    steps: u64,
+    target: Point,
+) -> Result<Option<Vec<u8>>, AllocError> {
+    let limits = Limits {
+        all_steps: steps,
+        ..Limits::default()
+    };
+    let board = problem.colouring();
+    let mover = Some(problem.mover());
+    let found = find_for_stone(alloc, board, problem.history(), mover, limits, target)?;
+    copied(alloc, &found)
+}
+
+/// A copy of the finding's claim.
+fn copied(alloc: Global, found: &Option<Finding>) -> Result<Option<Vec<u8>>, AllocError> {
+    match found {
+        Some(finding) => copy_of(alloc, finding.claim.as_slice()),
+        None => Ok(None),
+    }
+}
+
+fn copy_of(alloc: Global, bytes: &[u8]) -> Result<Option<Vec<u8>>, AllocError> {
+    let mut text = Vec::new(alloc);
+    text.extend_from_slice(bytes)?;
+    Ok(Some(text))
+}
+
+/// The claim, if the judge accepts it for the problem.
+fn confirmed(alloc: Global, problem: &Problem, claim: Vec<u8>) -> Result<Found, AllocError> {
+    if is_accepted(alloc, problem, claim.as_slice())? {
+        Ok(Found::Claim(claim))
+    } else {
+        Ok(Found::Refused)
+    }
+}
+
+/// Whether the judge accepts the claim for the problem.
+fn is_accepted(alloc: Global, problem: &Problem, claim: &[u8]) -> Result<bool, AllocError> {
     let mut nothing = b"".as_slice();
-    match judge(alloc, problem, claim.as_slice(), &mut nothing) {
-        Ok(_) => Ok(Found::Claim(claim)),
+    match judge(alloc, problem, claim, &mut nothing) {
+        Ok(_) => Ok(true),
         Err(reject) => {
             if reject.stop == Stop::Memory {
                 return Err(AllocError);
             }
-            Ok(Found::Refused)
+            Ok(false)
         }
     }
 }

@@ -72,8 +72,9 @@ fn with_command<'a>(
 }
 
 fn check_command<'a>(alloc: Global) -> clap::Command<'a> {
-    clap::Command::new(alloc, "check")
-        .about("Judges the short claim, or the claim by answers, after a record.")
+    clap::Command::new(alloc, "check").about(
+        "Judges the short claim, or the claim by answers, after a record.",
+    )
 }
 
 fn prove_command<'a>(alloc: Global) -> Result<clap::Command<'a>, AllocError> {

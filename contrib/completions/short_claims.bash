@@ -23,8 +23,7 @@ _short_claims() {
     esac
     case $command in
     '') options="$commands --help -h --version -V" ;;
-    prove) options='--whole --steps --help -h' ;;
-    tree) options='--steps --help -h' ;;
+    prove | tree) options='--steps --help -h' ;;
     help) options=$commands ;;
     *) options='--help -h' ;;
     esac

@@ -1,15 +1,14 @@
 -- What a run says, for what is asked for and the problem of the record that it has read.
 --     SaysWinner x node      the comment of the node begins with this side's win
 --     Says request q output      what is said is true of the problem
-use Rattle.std.specs.Prelude.{◌≡◌, ◌≢◌, ℕ, Bool, List, [], ◌∷◌, ◌++◌, codes, Some, Ok, ◌⊎◌}
+use Rattle.std.specs.Prelude.{◌≡◌, ◌≢◌, ℕ, List, [], ◌∷◌, ◌++◌, codes, Some, Ok, ◌⊎◌}
 use Rattle.go_points.specs.declared.Colour.{Colour}
 use Rattle.sgf_text.specs.Trees.{GameTree, Node}
 use Rattle.target_game.specs.State.{GameProblem, start}
 use Rattle.target_game.specs.Wins.{Wins}
 use Rattle.tsumego_problem.specs.Walk.{problem_within, history_limit}
 use Rattle.tsumego_replies.specs.Texts.{wins_text}
-use Rattle.safe_groups.specs.Ground.{IsSafeAs}
-use Rattle.tool_parts.specs.Says.{colour_text, winner_text}
+use Rattle.tool_parts.specs.Says.{winner_text}
 use Rattle.tool_parts.specs.Written.{bytes_of, end_of}
 use Rattle.tool_parts.specs.declared.output.Output.{Output}
 use Rattle.tool_parts.specs.declared.output.Output.TheVariants.{Record}
@@ -33,22 +32,13 @@ HasVerdict x tree = (before after : List Node) × (node : Node) × (tree.nodes �
 abbrev pub IsRejection : Output → Type 0
 IsRejection o = (end_of o ≢ Answered) × (end_of o ≡ Rejected → (rest : List ℕ) × (bytes_of o ≡ codes "rejected line " ++ rest))
 
--- A side that is named wins, or it is said why the claim is rejected.
-pub record SaysWinnerOf (q : GameProblem) (o : Output) : Type 0 where
-  pub winner : end_of o ≡ Answered → (x : Colour) × (bytes_of o ≡ wins_text x) × Wins x (start q)
-  pub rejection : end_of o ≡ Rejected → (rest : List ℕ) × (bytes_of o ≡ codes "rejected line " ++ rest)
-
--- The defender's stones are said to stand, and the targets are safe by answers, at once or by a first move of his; or it is said why the
--- claim is rejected.
-pub record SaysSafe (q : GameProblem) (o : Output) : Type 0 where
-  pub safe : end_of o ≡ Answered → (by_move : Bool) × (rest : List ℕ) × (bytes_of o ≡ codes "stands " ++ colour_text q.game.defender ++ rest) × IsSafeAs by_move (start q)
-  pub rejection : end_of o ≡ Rejected → (rest : List ℕ) × (bytes_of o ≡ codes "rejected line " ++ rest)
-
--- What is said is true: by `check`, of a short claim or of one by answers; and by the record that `tree` writes, which names who wins.
+-- A side that is named wins: by `check`, which says so or why the claim is rejected; and by the record that `tree` writes.
 abbrev pub Says : Request → GameProblem → Output → Type 0
-Says asks.Check q o = SaysWinnerOf q o ⊎ SaysSafe q o
+Says asks.Check q o =
+    (end_of o ≡ Answered → (x : Colour) × (bytes_of o ≡ wins_text x) × Wins x (start q))
+    × (end_of o ≡ Rejected → (rest : List ℕ) × (bytes_of o ≡ codes "rejected line " ++ rest))
 Says (asks.Tree steps) q o = end_of o ≡ Answered → (x : Colour) × (tree : GameTree) × (o ≡ Record tree) × HasVerdict x tree × Wins x (start q)
-Says (asks.Prove steps whole) q o = Unit
+Says (asks.Prove steps) q o = Unit
 
 -- What is said for a record: it is refused, or it has a problem, of which what is said is true.
 abbrev pub IsSaidOf : Request → GameTree → Output → Type 0

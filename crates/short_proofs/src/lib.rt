@@ -11,9 +11,7 @@ mod proof;
 mod reading;
 mod reading_record;
 mod shown;
-mod standing;
 mod walk;
-mod whole;
 mod words;
 
 pub use program::run;

@@ -1,11 +1,7 @@
 -- The states of an area that are judged have answers, with all those that come of the states in which nothing is to be answered.
-use Rattle.safe_groups.proofs.Common.{sym, subst, refl, ◌≡◌, ◌≢◌, ◌∙◌, List, ℕ, zero, suc, ap, IsTrue, true, false, Bool, inl, inr, [], ◌∷◌, ◌++◌, ◌*◌, ◌<◌, ◌⊎◌, length, set, arith, get_or, nat_lt, same_cell, cell_at, Cell, Empty, Stone, or_cases, or_left, or_right, has_occurred, same_cells, same_cells_eq, Area, States, own, theirs, IsWalled, IsAtRest, IsKnown, IsAnswer, IsAnswered, Replies, Leans, after_other, area_of, states_of, Ground}
-use Rattle.std.specs.List.{All, list_any}
+use Rattle.safe_groups.proofs.Common.{sym, subst, refl, ◌≡◌, ◌≢◌, ◌∙◌, List, ℕ, zero, suc, ap, IsTrue, true, false, Bool, inl, inr, [], ◌∷◌, ◌++◌, ◌*◌, ◌<◌, ◌⊎◌, length, set, arith, get_or, nat_lt, same_cell, cell_at, Cell, Empty, Stone, or_cases, or_left, or_right, has_occurred, same_cells, same_cells_eq, Area, States, own, theirs, IsWalled, IsAtRest, IsKnown, IsAnswer, IsAnswered, Replies, Leans, after_other, area_of, states_of, Ground, All, All-tail, same_cells_refl, IsResting, AreJudged, AreStates, HasReplies, IsJudged, IsMoveAnswered, IsSettled, IsStateAnswered}
+use Rattle.std.specs.List.{list_any}
 use Rattle.std.proofs.Common.{◌||◌}
-use Rattle.std.proofs.lemmas.List.Elements.{All-tail}
-use Rattle.go_points.specs.Equal.{same_cells_refl}
-use Rattle.safe_groups.specs.Eyes.{IsResting}
-use Rattle.safe_groups.specs.Ground.{AreJudged, AreStates, HasReplies, IsJudged, IsMoveAnswered, IsSettled, IsStateAnswered}
 use Rattle.safe_groups.proofs.Fitting.{fits_self}
 use Rattle.safe_groups.proofs.Judging.{answers_inside, listed_at, of_listed}
 use Rattle.safe_groups.proofs.Resting.{IsLike, is_like, like_told, like_tells, like_self, rests, rest_untaken, like_after}

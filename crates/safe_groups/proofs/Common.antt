@@ -1,32 +1,40 @@
 -- The names that several proofs of this crate cite, passed on from one place. Declares nothing.
-pub use Rattle.std.proofs.Common.{◌≡◌, ◌<◌, ◌∙◌, sym, ap, ℕ, subst, ◌*◌, arith, IsTrue, inl, inr, List, ◌⊎◌, [], length, true, ◌∷◌, Bool, refl, false, get_or, not, ◌&&◌, cond, map, set, ◌≤◌, IsFalse, eqb-true, nat_lt, suc, zero, ◌++◌, ltb-true, nat_eq, ◌≢◌}
-pub use Rattle.std.proofs.lemmas.List.{get_or_past, get_or-set_other, get_or-set_same, length-set}
-pub use Rattle.std.specs.List.{list_all}
-pub use Rattle.go_points.proofs.Cells.{eq_same_cell, adjacent_on_board, same_cell_eq, same_cells_eq, opponent_twice}
-pub use Rattle.go_points.proofs.Clearing.{cell_at-clear, on_or_off, stone_before}
-pub use Rattle.go_points.proofs.Common.{length-map-range_with_len}
-pub use Rattle.go_points.proofs.Lists.{and_left, and_right, not_false, and_both, or_cases, or_left, or_right}
+pub use Rattle.std.proofs.Common.{◌<◌, ◌≡◌, sym, ◌∙◌, ap, ℕ, ◌*◌, arith, subst, inr, ◌⊎◌, inl, IsTrue, List, length, [], true, refl, Bool, ◌∷◌, false, not, ◌&&◌, get_or, set, ◌≢◌, cond, suc, zero, IsFalse, map, nat_lt, eqb-true, ◌≤◌, ltb-true, nat_eq, ◌++◌, eq-eqb}
+pub use Rattle.std.proofs.lemmas.Bool.{lt-ltb}
+pub use Rattle.std.proofs.lemmas.List.{get_or_past, length-set, get_or-set_other, get_or-set_same}
+pub use Rattle.std.proofs.lemmas.List.Elements.{All-tail}
+pub use Rattle.std.specs.List.{All, list_all}
+pub use Rattle.go_points.proofs.Cells.{same_cell_eq, eq_same_cell, adjacent_on_board, same_cells_eq, opponent_twice}
+pub use Rattle.go_points.proofs.Clearing.{on_or_off, cell_at-clear, length-clear, stone_before}
+pub use Rattle.go_points.proofs.Common.{length-map-range_with_len, get_or-map-range_with_len}
+pub use Rattle.go_points.proofs.Lists.{and_left, and_right, and_both, or_left, or_right, not_false, or_cases}
 pub use Rattle.go_points.proofs.Paths.{reaches_path}
 pub use Rattle.go_points.specs.Clear.{is_captured}
 unfoldable pub use Rattle.go_points.specs.Clear.{clear}
-pub use Rattle.go_points.specs.Grid.{cell_at, opponent_of, same_cell, adjacent, same_cells}
+pub use Rattle.go_points.specs.Equal.{same_cells_refl}
+pub use Rattle.go_points.specs.Grid.{cell_at, same_cell, opponent_of, adjacent, same_cells}
 unfoldable pub use Rattle.go_points.specs.Grid.{side_of}
 unfoldable pub use Rattle.go_points.specs.Move.{after_move}
-pub use Rattle.go_points.specs.Place.{number_of}
+pub use Rattle.go_points.specs.Place.{number_of, Place, place_of}
+pub use Rattle.go_points.specs.Points.{holds_place}
 pub use Rattle.go_points.specs.Reach.{Reaches, IsPath}
 unfoldable pub use Rattle.go_points.specs.Reach.{reaches}
 pub use Rattle.go_points.specs.declared.Cell.{Cell}
-pub use Rattle.go_points.specs.declared.Cell.TheVariants.{Empty, Stone}
+pub use Rattle.go_points.specs.declared.Cell.TheVariants.{Stone, Empty}
 pub use Rattle.go_points.specs.declared.Colour.{Colour}
-pub use Rattle.go_chains.proofs.Joins.{joined_self}
-pub use Rattle.go_chains.specs.Joined.{IsWay}
+pub use Rattle.go_chains.proofs.Joins.{joined_self, joined_beside, joined_on, joined_holds, reaches_beside}
+pub use Rattle.go_chains.specs.Joined.{IsWay, Joined, IsChainOf, AreLibertiesOf}
 pub use Rattle.go_turns.specs.History.{has_occurred}
 pub use Rattle.target_game.specs.Legal.{holds_point}
-pub use Rattle.target_game.specs.State.{start}
-pub use Rattle.safe_groups.specs.Areas.{own, Area, IsWalled, Replies, Fits, States, is_outside, theirs, IsAnswered, Rooted, IsAnswer, IsKnown, IsAtRest, Leans, Points, after_answer, after_other}
+pub use Rattle.target_game.specs.State.{start, GameProblem, GameState}
+pub use Rattle.safe_groups.specs.Areas.{own, Area, IsWalled, States, theirs, Fits, IsAnswered, is_outside, Leans, Replies, IsAnswer, IsAtRest, IsKnown, Rooted, after_other, Points, after_answer}
 unfoldable pub use Rattle.safe_groups.specs.Areas.{clear_loose, opened}
-pub use Rattle.safe_groups.specs.Together.{Areas, area_at, AreInOrder, RepliesTogether, PastFits, HoldsAt, AreListed, IsOwed, IsKept, in_one}
+pub use Rattle.safe_groups.specs.Eyes.{IsEye, IsResting, TwoEyes}
+pub use Rattle.safe_groups.specs.Ground.{area_of, ground_at, state_at, AreStates, lifted_cell, states_of, FitsAt, HasReplies, IsJudged, IsMoveAnswered, IsOfBoard, IsState, IsWalledAt, marked, shut_cell, AreJudged, BarsNone, IsSettled, IsSized, IsStateAnswered, areas_of, part_cell}
 pub use Rattle.safe_groups.specs.Laws.{IsSafe, IsSafeByMove}
 pub use Rattle.safe_groups.specs.Play.{StandThrough}
-pub use Rattle.safe_groups.specs.Ground.{area_of, marked, states_of, FitsAt, IsState, IsSized, IsStateAnswered, IsWalledAt, shut_cell, lifted_cell, BarsNone, IsOfBoard, part_cell}
+pub use Rattle.safe_groups.specs.Private.Order.{IsApart, IsInOrder, IsInOrderAt}
+pub use Rattle.safe_groups.specs.Private.Spaces.{IsGivenAt, IsSafeAt, alone_cell, space_cell, IsEyePoint}
+pub use Rattle.safe_groups.specs.Private.Verdict.{AreKept, BarsNothing, LacksOne}
+pub use Rattle.safe_groups.specs.Together.{Areas, area_at, AreListed, IsOwed, RepliesTogether, HoldsAt, IsKept, AreInOrder, PastFits, in_one}
 pub use Rattle.safe_groups.specs.declared.ground.Ground.{Ground}

@@ -1,11 +1,7 @@
 -- What the judge finds of the states of a claim makes them states with answers.
-use Rattle.safe_groups.proofs.Common.{sym, subst, refl, ◌≡◌, ◌∙◌, List, ℕ, zero, suc, ap, IsTrue, true, Bool, inl, inr, [], ◌∷◌, ◌*◌, ◌<◌, length, set, arith, cell_at, Reaches, Cell, Empty, Stone, Area, States, own, theirs, IsWalled, IsAnswered, Replies, Leans, clear_loose, after_other, get_or, map, nat_eq, nat_lt, eqb-true, ◌&&◌, list_all, same_cell, same_cells, and_left, and_right, or_cases, or_left, or_right, Colour, start, holds_point, has_occurred, Ground, area_of, states_of, IsState, IsStateAnswered}
-use Rattle.std.specs.List.{All}
-use Rattle.std.proofs.lemmas.List.Elements.{All-tail}
+use Rattle.safe_groups.proofs.Common.{sym, subst, refl, ◌≡◌, ◌∙◌, List, ℕ, zero, suc, ap, IsTrue, true, Bool, inl, inr, [], ◌∷◌, ◌*◌, ◌<◌, length, set, arith, cell_at, Reaches, Cell, Empty, Stone, Area, States, own, theirs, IsWalled, IsAnswered, Replies, Leans, clear_loose, after_other, get_or, map, nat_eq, nat_lt, eqb-true, ◌&&◌, list_all, same_cell, same_cells, and_left, and_right, or_cases, or_left, or_right, Colour, start, holds_point, has_occurred, Ground, area_of, states_of, IsState, IsStateAnswered, All, All-tail, same_cells_refl, GameProblem, AreStates}
 unfoldable use Rattle.go_points.specs.Grid.{side_of}
-use Rattle.go_points.specs.Equal.{same_cells_refl, same_cells_eq}
-use Rattle.target_game.specs.State.{GameProblem}
-use Rattle.safe_groups.specs.Ground.{AreStates}
+use Rattle.go_points.specs.Equal.{same_cells_eq}
 use Rattle.safe_groups.proofs.Fitting.{fits_self}
 use Rattle.safe_groups.proofs.Moving.{past_put}
 

@@ -1,7 +1,5 @@
 -- What a move on the board leaves of a state that the board fits.
-use Rattle.safe_groups.proofs.Common.{sym, subst, refl, ◌≡◌, ◌≢◌, ◌∙◌, List, ℕ, ap, IsTrue, IsFalse, true, false, Bool, inl, inr, [], ◌∷◌, ◌*◌, ◌<◌, ◌⊎◌, ◌&&◌, not, length, set, arith, get_or-set_other, get_or-set_same, length-set, opponent_twice, clear, cell_at, opponent_of, after_move, Cell, Empty, Stone, Colour, joined_self, IsWay, Area, States, own, theirs, is_outside, IsWalled, Rooted, after_other, after_answer, Fits, IsAtRest, IsKnown, IsAnswer, IsAnswered, Replies}
-use Rattle.go_points.proofs.Clearing.{length-clear}
-use Rattle.go_chains.specs.Joined.{Joined}
+use Rattle.safe_groups.proofs.Common.{sym, subst, refl, ◌≡◌, ◌≢◌, ◌∙◌, List, ℕ, ap, IsTrue, IsFalse, true, false, Bool, inl, inr, [], ◌∷◌, ◌*◌, ◌<◌, ◌⊎◌, ◌&&◌, not, length, set, arith, get_or-set_other, get_or-set_same, length-set, opponent_twice, clear, cell_at, opponent_of, after_move, Cell, Empty, Stone, Colour, joined_self, IsWay, Area, States, own, theirs, is_outside, IsWalled, Rooted, after_other, after_answer, Fits, IsAtRest, IsKnown, IsAnswer, IsAnswered, Replies, length-clear, Joined}
 use Rattle.safe_groups.proofs.Opening.{cell_cases, not_both}
 
 -- what a point holds once a stone is put down

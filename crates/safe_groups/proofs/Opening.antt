@@ -1,9 +1,7 @@
 -- Which stones of the other side's vanish from a state: those that are neither rooted nor reach empty.
-use Rattle.safe_groups.proofs.Common.{sym, subst, refl, ◌≡◌, ◌∙◌, List, ℕ, ap, IsTrue, true, false, Bool, inl, inr, [], ◌∷◌, ◌*◌, ◌<◌, ◌≤◌, ◌⊎◌, ◌&&◌, cond, not, length, arith, get_or_past, eq_same_cell, same_cell_eq, adjacent_on_board, on_or_off, reaches_path, clear, cell_at-clear, is_captured, cell_at, same_cell, adjacent, opponent_of, reaches, IsPath, Reaches, Cell, Empty, Stone, joined_self, IsWay, Area, own, theirs, is_outside, IsWalled, Rooted, opened, clear_loose, length-map-range_with_len, and_left, and_right}
+use Rattle.safe_groups.proofs.Common.{sym, subst, refl, ◌≡◌, ◌∙◌, List, ℕ, ap, IsTrue, true, false, Bool, inl, inr, [], ◌∷◌, ◌*◌, ◌<◌, ◌≤◌, ◌⊎◌, ◌&&◌, cond, not, length, arith, get_or_past, eq_same_cell, same_cell_eq, adjacent_on_board, on_or_off, reaches_path, clear, cell_at-clear, is_captured, cell_at, same_cell, adjacent, opponent_of, reaches, IsPath, Reaches, Cell, Empty, Stone, joined_self, IsWay, Area, own, theirs, is_outside, IsWalled, Rooted, opened, clear_loose, length-map-range_with_len, and_left, and_right, joined_on, joined_beside, get_or-map-range_with_len}
 use Rattle.go_points.proofs.Cells.{opponent_ne}
 use Rattle.go_points.proofs.Clearing.{one_or_other}
-use Rattle.go_chains.proofs.Joins.{joined_on, joined_beside}
-use Rattle.go_points.proofs.Common.{get_or-map-range_with_len}
 use Rattle.go_points.proofs.Lists.{not_true}
 
 -- a point is empty, or holds one side's stone or the other's

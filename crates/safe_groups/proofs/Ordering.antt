@@ -1,9 +1,6 @@
 -- Areas that are in order, place by place.
-use Rattle.safe_groups.proofs.Common.{◌≡◌, ◌*◌, ◌<◌, ◌⊎◌, ℕ, List, IsTrue, length, inl, inr, arith, same_cell_eq, Stone, Cell, Colour, get_or, AreInOrder, IsSized, area_of, Ground}
-use Rattle.std.specs.List.{All}
-use Rattle.go_points.specs.Grid.{cell_at, same_cell}
-use Rattle.safe_groups.specs.Ground.{areas_of, ground_at, IsOfSize}
-use Rattle.safe_groups.specs.Private.Order.{IsApart, IsInOrder, IsInOrderAt}
+use Rattle.safe_groups.proofs.Common.{◌≡◌, ◌*◌, ◌<◌, ◌⊎◌, ℕ, List, IsTrue, length, inl, inr, arith, same_cell_eq, Stone, Cell, Colour, get_or, AreInOrder, IsSized, area_of, Ground, All, cell_at, same_cell, areas_of, ground_at, IsApart, IsInOrder, IsInOrderAt}
+use Rattle.safe_groups.specs.Ground.{IsOfSize}
 use Rattle.safe_groups.proofs.Fitting.{stone_on}
 
 pub sized_at : (gs : List Ground) (n : ℕ) → All (IsSized n) gs → (i : ℕ) → i < length gs → IsSized n (ground_at gs i)

@@ -1,6 +1,5 @@
 -- Where several areas serve together, all stones of the keeper's reach empty on the board.
-use Rattle.safe_groups.proofs.Common.{sym, subst, refl, ◌≡◌, ◌≢◌, ◌∙◌, List, ℕ, zero, suc, ap, IsTrue, inl, inr, [], ◌∷◌, ◌*◌, ◌<◌, ◌⊎◌, arith, cell_at, IsPath, Reaches, Cell, Empty, Stone, Colour, IsWay, Fits, Leans, Areas, AreInOrder, area_at}
-use Rattle.go_chains.specs.Joined.{Joined}
+use Rattle.safe_groups.proofs.Common.{sym, subst, refl, ◌≡◌, ◌≢◌, ◌∙◌, List, ℕ, zero, suc, ap, IsTrue, inl, inr, [], ◌∷◌, ◌*◌, ◌<◌, ◌⊎◌, arith, cell_at, IsPath, Reaches, Cell, Empty, Stone, Colour, IsWay, Fits, Leans, Areas, AreInOrder, area_at, Joined}
 use Rattle.safe_groups.proofs.Fitting.{own_reaches}
 use Rattle.safe_groups.proofs.Moving.{is_or_not}
 

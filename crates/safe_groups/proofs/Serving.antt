@@ -1,7 +1,5 @@
 -- What a move on the board leaves of the states of several areas that the board fits.
-use Rattle.safe_groups.proofs.Common.{sym, subst, refl, ◌≡◌, ◌≢◌, ◌∙◌, List, ℕ, zero, suc, ap, IsTrue, IsFalse, true, false, Bool, inl, inr, ◌*◌, ◌<◌, ◌⊎◌, ◌&&◌, cond, not, length, set, arith, clear, cell_at, opponent_of, after_move, Reaches, Cell, Empty, Stone, Colour, same_cell, same_cell_eq, eq_same_cell, nat_eq, eqb-true, Area, States, own, theirs, is_outside, IsWalled, after_other, after_answer, Fits, IsAtRest, IsKnown, IsAnswer, IsAnswered, Replies, Leans, Areas, area_at, RepliesTogether, AreListed, IsOwed}
-use Rattle.std.proofs.Common.{eq-eqb}
-use Rattle.go_points.proofs.Clearing.{length-clear}
+use Rattle.safe_groups.proofs.Common.{sym, subst, refl, ◌≡◌, ◌≢◌, ◌∙◌, List, ℕ, zero, suc, ap, IsTrue, IsFalse, true, false, Bool, inl, inr, ◌*◌, ◌<◌, ◌⊎◌, ◌&&◌, cond, not, length, set, arith, clear, cell_at, opponent_of, after_move, Reaches, Cell, Empty, Stone, Colour, same_cell, same_cell_eq, eq_same_cell, nat_eq, eqb-true, Area, States, own, theirs, is_outside, IsWalled, after_other, after_answer, Fits, IsAtRest, IsKnown, IsAnswer, IsAnswered, Replies, Leans, Areas, area_at, RepliesTogether, AreListed, IsOwed, eq-eqb, length-clear}
 use Rattle.safe_groups.proofs.Opening.{cell_cases, not_both}
 use Rattle.safe_groups.proofs.Fitting.{fits_clear_own, fits_clear_rest, fits_clear_loose, fits_on, was_there, own_stays, walled_still}
 use Rattle.safe_groups.proofs.Moving.{SameOwn, is_or_not, at_put, past_put, full_put, after_is, after_theirs, fits_put, fits_put_theirs, fits_put_outside, walled_put}

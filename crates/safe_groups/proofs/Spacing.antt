@@ -1,12 +1,6 @@
 -- The keeper's stones of a state and the points between them, as the boards of a decision, and what they say of the state.
-use Rattle.safe_groups.proofs.Common.{sym, subst, refl, ◌≡◌, ◌≢◌, ◌∙◌, List, ℕ, ap, IsTrue, IsFalse, true, false, Bool, inl, inr, [], ◌∷◌, ◌*◌, ◌<◌, ◌⊎◌, ◌&&◌, cond, not, cell_at, adjacent, adjacent_on_board, Cell, Empty, Stone, Colour, same_cell, same_cell_eq, eq_same_cell, nat_lt, ltb-true, and_left, and_right, and_both, IsWay, Area, Points, own, theirs, is_outside, side_of, Ground, area_of, marked, IsState}
-use Rattle.std.proofs.lemmas.Bool.{lt-ltb}
-use Rattle.go_points.specs.Place.{Place, place_of}
-use Rattle.go_points.specs.Points.{holds_place}
-use Rattle.go_chains.specs.Joined.{Joined, IsChainOf, AreLibertiesOf}
-use Rattle.go_chains.proofs.Joins.{joined_self, joined_holds, joined_beside}
-use Rattle.safe_groups.specs.Eyes.{IsEye, TwoEyes}
-use Rattle.safe_groups.specs.Private.Spaces.{alone_cell, space_cell, these, AreAlone, AreSpaces, AreEyePoints, IsEyePoint, AreBeside, IsFreeOf, IsSafeAt, IsGivenAt, LeansOn}
+use Rattle.safe_groups.proofs.Common.{sym, subst, refl, ◌≡◌, ◌≢◌, ◌∙◌, List, ℕ, ap, IsTrue, IsFalse, true, false, Bool, inl, inr, [], ◌∷◌, ◌*◌, ◌<◌, ◌⊎◌, ◌&&◌, cond, not, cell_at, adjacent, adjacent_on_board, Cell, Empty, Stone, Colour, same_cell, same_cell_eq, eq_same_cell, nat_lt, ltb-true, and_left, and_right, and_both, IsWay, Area, Points, own, theirs, is_outside, side_of, Ground, area_of, marked, IsState, lt-ltb, Place, place_of, holds_place, Joined, IsChainOf, AreLibertiesOf, joined_self, joined_holds, joined_beside, IsEye, TwoEyes, alone_cell, space_cell, IsEyePoint, IsSafeAt, IsGivenAt}
+use Rattle.safe_groups.specs.Private.Spaces.{these, AreAlone, AreSpaces, AreEyePoints, AreBeside, IsFreeOf, LeansOn}
 use Rattle.safe_groups.proofs.Opening.{not_both}
 
 mine_or_not : (a : Area) (x : Cell) → (x ≡ own a) ⊎ (x ≢ own a)

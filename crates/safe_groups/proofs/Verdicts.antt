@@ -1,11 +1,7 @@
 -- The areas of a claim together: what the judge finds of them makes the stones safe.
-use Rattle.safe_groups.proofs.Common.{sym, subst, refl, ◌≡◌, ◌≢◌, ◌∙◌, List, ℕ, zero, suc, ap, IsTrue, true, false, Bool, inl, inr, [], ◌∷◌, ◌*◌, ◌<◌, ◌⊎◌, length, set, arith, get_or, map, list_all, same_cell, same_cell_eq, cell_at, nat_lt, ltb-true, Cell, Colour, Stone, side_of, number_of, holds_point, has_occurred, start, Area, States, own, IsWalled, Fits, Replies, IsAnswered, after_answer, Empty, Areas, area_at, RepliesTogether, PastFits, HoldsAt, AreListed, IsOwed, IsKept, area_of, BarsNone, IsOfBoard, IsSized, IsSafe, IsSafeByMove, Ground}
-use Rattle.std.specs.List.{All}
-use Rattle.std.proofs.lemmas.Bool.{lt-ltb}
-use Rattle.go_points.specs.Place.{Place}
-use Rattle.target_game.specs.State.{GameProblem, GameState}
-use Rattle.safe_groups.specs.Ground.{aimed_at, areas_of, ground_at, state_at, HasReplies, HoldsFor, IsMoveFrom, IsSafeAs, AllSafe}
-use Rattle.safe_groups.specs.Private.Verdict.{AreKept, BarsNothing, LacksOne, StandsInOne}
+use Rattle.safe_groups.proofs.Common.{sym, subst, refl, ◌≡◌, ◌≢◌, ◌∙◌, List, ℕ, zero, suc, ap, IsTrue, true, false, Bool, inl, inr, [], ◌∷◌, ◌*◌, ◌<◌, ◌⊎◌, length, set, arith, get_or, map, list_all, same_cell, same_cell_eq, cell_at, nat_lt, ltb-true, Cell, Colour, Stone, side_of, number_of, holds_point, has_occurred, start, Area, States, own, IsWalled, Fits, Replies, IsAnswered, after_answer, Empty, Areas, area_at, RepliesTogether, PastFits, HoldsAt, AreListed, IsOwed, IsKept, area_of, BarsNone, IsOfBoard, IsSized, IsSafe, IsSafeByMove, Ground, All, lt-ltb, Place, GameProblem, GameState, areas_of, ground_at, state_at, HasReplies, AreKept, BarsNothing, LacksOne}
+use Rattle.safe_groups.specs.Ground.{aimed_at, HoldsFor, IsMoveFrom, IsSafeAs, AllSafe}
+use Rattle.safe_groups.specs.Private.Verdict.{StandsInOne}
 use Rattle.safe_groups.proofs.Fitting.{fits_self}
 use Rattle.safe_groups.proofs.Moving.{is_or_not, past_put, at_put}
 use Rattle.safe_groups.proofs.Judging.{of_listed, targets_by}

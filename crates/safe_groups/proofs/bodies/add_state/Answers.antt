@@ -1,6 +1,4 @@
-use Rattle.safe_groups.proofs.Common.{◌≡◌, sym, subst, List, Cell}
-use Rattle.std.specs.List.{All}
-use Rattle.safe_groups.specs.Ground.{IsSettled}
+use Rattle.safe_groups.proofs.Common.{◌≡◌, sym, subst, List, Cell, All, IsSettled}
 use Rattle.safe_groups.proofs.Closing.{all_push}
 use Rattle.safe_groups.proofs.bodies.add_state.Goals as goal
 

@@ -1,5 +1,4 @@
-use Rattle.safe_groups.proofs.Common.{subst, sym}
-use Rattle.safe_groups.specs.Ground.{AreStates, AreJudged}
+use Rattle.safe_groups.proofs.Common.{subst, sym, AreStates, AreJudged}
 use Rattle.safe_groups.proofs.Closing.{judged_replies}
 use Rattle.safe_groups.proofs.bodies.judge_body.Goals as goal
 

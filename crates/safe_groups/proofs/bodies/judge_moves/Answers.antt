@@ -1,5 +1,4 @@
-use Rattle.safe_groups.proofs.Common.{◌≡◌, sym, ◌<◌, ◌⊎◌, inl, inr, subst, arith, Empty, cell_at, area_of, states_of}
-use Rattle.safe_groups.specs.Ground.{IsMoveAnswered}
+use Rattle.safe_groups.proofs.Common.{◌≡◌, sym, ◌<◌, ◌⊎◌, inl, inr, subst, arith, Empty, cell_at, area_of, states_of, IsMoveAnswered}
 use Rattle.safe_groups.proofs.bodies.judge_moves.Goals as goal
 
 pub loop-number-preserved : goal.loop-number-preserved

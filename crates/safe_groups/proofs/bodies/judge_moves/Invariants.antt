@@ -1,5 +1,4 @@
-use Rattle.safe_groups.proofs.Common.{◌≡◌, ◌<◌, ℕ, Empty, cell_at, area_of, states_of}
-use Rattle.safe_groups.specs.Ground.{IsMoveAnswered}
+use Rattle.safe_groups.proofs.Common.{◌≡◌, ◌<◌, ℕ, Empty, cell_at, area_of, states_of, IsMoveAnswered}
 use Rattle.safe_groups.proofs.bodies.judge_moves.Given as goal
 
 abbrev pub invariant-loop-number : goal.invariant-loop-number

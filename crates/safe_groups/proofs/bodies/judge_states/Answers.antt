@@ -1,5 +1,4 @@
-use Rattle.safe_groups.proofs.Common.{◌≡◌, sym, ◌∙◌, ap, subst, ◌<◌, ◌⊎◌, inl, inr, arith, get_or}
-use Rattle.safe_groups.specs.Ground.{IsJudged}
+use Rattle.safe_groups.proofs.Common.{◌≡◌, sym, ◌∙◌, ap, subst, ◌<◌, ◌⊎◌, inl, inr, arith, get_or, IsJudged}
 use Rattle.safe_groups.proofs.Judging.{listed_at}
 use Rattle.safe_groups.proofs.Verdicts.{default_same}
 use Rattle.safe_groups.proofs.bodies.judge_states.Goals as goal

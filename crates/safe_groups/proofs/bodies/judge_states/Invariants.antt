@@ -1,5 +1,4 @@
-use Rattle.safe_groups.proofs.Common.{◌<◌, ℕ, get_or, List, Cell}
-use Rattle.safe_groups.specs.Ground.{IsJudged}
+use Rattle.safe_groups.proofs.Common.{◌<◌, ℕ, get_or, List, Cell, IsJudged}
 use Rattle.safe_groups.proofs.bodies.judge_states.Given as goal
 
 abbrev pub invariant-loop-place : goal.invariant-loop-place

@@ -1,5 +1,4 @@
-use Rattle.safe_groups.proofs.Common.{◌≡◌, ◌*◌, ◌<◌, [], length, get_or}
-use Rattle.safe_groups.specs.Ground.{AreStates}
+use Rattle.safe_groups.proofs.Common.{◌≡◌, ◌*◌, ◌<◌, [], length, get_or, AreStates}
 use Rattle.safe_groups.proofs.bodies.read_states.Given as goal
 
 abbrev pub invariant-loop : goal.invariant-loop

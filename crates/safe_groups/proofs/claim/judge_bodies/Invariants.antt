@@ -1,5 +1,4 @@
-use Rattle.safe_groups.proofs.Common.{◌<◌, ℕ}
-use Rattle.safe_groups.specs.Ground.{ground_at, state_at, HasReplies}
+use Rattle.safe_groups.proofs.Common.{◌<◌, ℕ, ground_at, state_at, HasReplies}
 use Rattle.safe_groups.proofs.claim.judge_bodies.Given as goal
 
 abbrev pub invariant-loop-place : goal.invariant-loop-place

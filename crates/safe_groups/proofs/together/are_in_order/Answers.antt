@@ -1,6 +1,4 @@
-use Rattle.safe_groups.proofs.Common.{◌≡◌, sym, ◌<◌, ◌*◌, ℕ, ◌⊎◌, inl, inr, subst, arith}
-use Rattle.safe_groups.specs.Ground.{ground_at}
-use Rattle.safe_groups.specs.Private.Order.{IsApart, IsInOrder}
+use Rattle.safe_groups.proofs.Common.{◌≡◌, sym, ◌<◌, ◌*◌, ℕ, ◌⊎◌, inl, inr, subst, arith, ground_at, IsApart, IsInOrder}
 use Rattle.safe_groups.proofs.Ordering.{in_order_by}
 use Rattle.safe_groups.proofs.together.are_in_order.Goals as goal
 

@@ -1,6 +1,4 @@
-use Rattle.safe_groups.proofs.Common.{◌*◌, ◌<◌, ℕ}
-use Rattle.safe_groups.specs.Ground.{ground_at}
-use Rattle.safe_groups.specs.Private.Order.{IsApart, IsInOrder}
+use Rattle.safe_groups.proofs.Common.{◌*◌, ◌<◌, ℕ, ground_at, IsApart, IsInOrder}
 use Rattle.safe_groups.proofs.together.are_in_order.Given as goal
 
 abbrev pub invariant-loop-place : goal.invariant-loop-place

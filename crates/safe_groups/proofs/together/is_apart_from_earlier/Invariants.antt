@@ -1,6 +1,4 @@
-use Rattle.safe_groups.proofs.Common.{◌<◌, ℕ}
-use Rattle.safe_groups.specs.Ground.{ground_at}
-use Rattle.safe_groups.specs.Private.Order.{IsApart}
+use Rattle.safe_groups.proofs.Common.{◌<◌, ℕ, ground_at, IsApart}
 use Rattle.safe_groups.proofs.together.is_apart_from_earlier.Given as goal
 
 abbrev pub invariant-loop-other : goal.invariant-loop-other

@@ -1,5 +1,4 @@
-use Rattle.safe_groups.proofs.Common.{◌≡◌, sym, ◌<◌, ◌⊎◌, inl, inr, subst, arith}
-use Rattle.safe_groups.specs.Private.Order.{IsInOrderAt}
+use Rattle.safe_groups.proofs.Common.{◌≡◌, sym, ◌<◌, ◌⊎◌, inl, inr, subst, arith, IsInOrderAt}
 use Rattle.safe_groups.proofs.together.is_in_order.Goals as goal
 
 pub loop-number-preserved : goal.loop-number-preserved

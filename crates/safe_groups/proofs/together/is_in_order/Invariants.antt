@@ -1,5 +1,4 @@
-use Rattle.safe_groups.proofs.Common.{◌<◌, ℕ}
-use Rattle.safe_groups.specs.Private.Order.{IsInOrderAt}
+use Rattle.safe_groups.proofs.Common.{◌<◌, ℕ, IsInOrderAt}
 use Rattle.safe_groups.proofs.together.is_in_order.Given as goal
 
 abbrev pub invariant-loop-number : goal.invariant-loop-number

@@ -1,5 +1,4 @@
-use Rattle.safe_groups.proofs.Common.{◌≡◌, sym, ◌∙◌, ap, ◌<◌, ◌⊎◌, inl, inr, subst, arith, length, [], Cell, List, IsOfBoard, Ground}
-use Rattle.safe_groups.specs.Ground.{ground_at, state_at}
+use Rattle.safe_groups.proofs.Common.{◌≡◌, sym, ◌∙◌, ap, ◌<◌, ◌⊎◌, inl, inr, subst, arith, length, [], Cell, List, IsOfBoard, Ground, ground_at, state_at}
 use Rattle.safe_groups.proofs.Verdicts.{default_same}
 use Rattle.safe_groups.proofs.verdict.are_of_board.Goals as goal
 

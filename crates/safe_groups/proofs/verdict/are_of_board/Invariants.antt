@@ -1,5 +1,4 @@
-use Rattle.safe_groups.proofs.Common.{◌<◌, ℕ, IsOfBoard}
-use Rattle.safe_groups.specs.Ground.{ground_at, state_at}
+use Rattle.safe_groups.proofs.Common.{◌<◌, ℕ, IsOfBoard, ground_at, state_at}
 use Rattle.safe_groups.proofs.verdict.are_of_board.Given as goal
 
 abbrev pub invariant-loop-place : goal.invariant-loop-place

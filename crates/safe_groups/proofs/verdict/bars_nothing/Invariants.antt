@@ -1,5 +1,4 @@
-use Rattle.safe_groups.proofs.Common.{◌<◌, ℕ, BarsNone}
-use Rattle.safe_groups.specs.Ground.{ground_at, state_at}
+use Rattle.safe_groups.proofs.Common.{◌<◌, ℕ, BarsNone, ground_at, state_at}
 use Rattle.safe_groups.proofs.verdict.bars_nothing.Given as goal
 
 abbrev pub invariant-loop-place : goal.invariant-loop-place

@@ -1,5 +1,4 @@
-use Rattle.safe_groups.proofs.Common.{◌≡◌, sym, ◌∙◌, ◌*◌, ap, subst, true, length, map, list_all, eqb-true, not_false, cell_at, same_cell, Stone, side_of, number_of, start}
-use Rattle.safe_groups.specs.Private.Verdict.{AreKept}
+use Rattle.safe_groups.proofs.Common.{◌≡◌, sym, ◌∙◌, ◌*◌, ap, subst, true, length, map, list_all, eqb-true, not_false, cell_at, same_cell, Stone, side_of, number_of, start, AreKept}
 use Rattle.safe_groups.proofs.Verdicts.{past_by, targets_kept}
 use Rattle.safe_groups.proofs.verdict.hold_for.Goals as goal
 

@@ -1,5 +1,4 @@
-use Rattle.safe_groups.proofs.Common.{◌≡◌, ◌*◌, length, side_of}
-use Rattle.safe_groups.specs.Private.Verdict.{AreKept}
+use Rattle.safe_groups.proofs.Common.{◌≡◌, ◌*◌, length, side_of, AreKept}
 use Rattle.safe_groups.proofs.verdict.kept_stones.Given as goal
 
 abbrev pub invariant-loop-number : goal.invariant-loop-number

@@ -1,5 +1,4 @@
-use Rattle.safe_groups.proofs.Common.{◌≡◌, sym, ◌∙◌, ap, ◌<◌, ◌⊎◌, inl, inr, subst, arith, length, get_or, List, Cell}
-use Rattle.safe_groups.specs.Private.Verdict.{LacksOne, BarsNothing}
+use Rattle.safe_groups.proofs.Common.{◌≡◌, sym, ◌∙◌, ap, ◌<◌, ◌⊎◌, inl, inr, subst, arith, length, get_or, List, Cell, LacksOne, BarsNothing}
 use Rattle.safe_groups.proofs.Verdicts.{default_same}
 use Rattle.safe_groups.proofs.verdict.past_fits.Goals as goal
 

@@ -1,5 +1,4 @@
-use Rattle.safe_groups.proofs.Common.{◌<◌, ◌⊎◌, ℕ, get_or, List, Cell}
-use Rattle.safe_groups.specs.Private.Verdict.{LacksOne, BarsNothing}
+use Rattle.safe_groups.proofs.Common.{◌<◌, ◌⊎◌, ℕ, get_or, List, Cell, LacksOne, BarsNothing}
 use Rattle.safe_groups.proofs.verdict.past_fits.Given as goal
 
 abbrev pub invariant-loop-past : goal.invariant-loop-past

@@ -1,5 +1,4 @@
-use Rattle.safe_groups.proofs.Common.{◌≡◌, sym, ◌<◌, ◌⊎◌, inl, inr, subst, arith, IsTrue, cell_at, own, area_of}
-use Rattle.safe_groups.specs.Private.Spaces.{IsGivenAt}
+use Rattle.safe_groups.proofs.Common.{◌≡◌, sym, ◌<◌, ◌⊎◌, inl, inr, subst, arith, IsTrue, cell_at, own, area_of, IsGivenAt}
 use Rattle.safe_groups.proofs.ground.Ground.all_given.Goals as goal
 
 pub loop-number-preserved : goal.loop-number-preserved

@@ -1,5 +1,4 @@
-use Rattle.safe_groups.proofs.Common.{◌≡◌, ◌<◌, ℕ, IsTrue, cell_at, own, area_of}
-use Rattle.safe_groups.specs.Private.Spaces.{IsGivenAt}
+use Rattle.safe_groups.proofs.Common.{◌≡◌, ◌<◌, ℕ, IsTrue, cell_at, own, area_of, IsGivenAt}
 use Rattle.safe_groups.proofs.ground.Ground.all_given.Given as goal
 
 abbrev pub invariant-loop-number : goal.invariant-loop-number

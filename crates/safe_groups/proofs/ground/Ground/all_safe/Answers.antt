@@ -1,5 +1,4 @@
-use Rattle.safe_groups.proofs.Common.{◌≡◌, sym, ◌<◌, ◌⊎◌, inl, inr, subst, arith, IsTrue, cell_at, own, area_of}
-use Rattle.safe_groups.specs.Private.Spaces.{IsSafeAt}
+use Rattle.safe_groups.proofs.Common.{◌≡◌, sym, ◌<◌, ◌⊎◌, inl, inr, subst, arith, IsTrue, cell_at, own, area_of, IsSafeAt}
 use Rattle.safe_groups.proofs.ground.Ground.all_safe.Goals as goal
 
 pub loop-number-preserved : goal.loop-number-preserved

@@ -1,5 +1,4 @@
-use Rattle.safe_groups.proofs.Common.{◌≡◌, sym, ◌∙◌, ◌*◌, ◌<◌, ap, arith, side_of, number_of, area_of}
-use Rattle.safe_groups.specs.Private.Spaces.{alone_cell}
+use Rattle.safe_groups.proofs.Common.{◌≡◌, sym, ◌∙◌, ◌*◌, ◌<◌, ap, arith, side_of, number_of, area_of, alone_cell}
 use Rattle.safe_groups.proofs.Grounds.{made_set}
 use Rattle.safe_groups.proofs.ground.Ground.alone.Goals as goal
 

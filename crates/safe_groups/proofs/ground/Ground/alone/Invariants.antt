@@ -1,5 +1,4 @@
-use Rattle.safe_groups.proofs.Common.{area_of, side_of}
-use Rattle.safe_groups.specs.Private.Spaces.{alone_cell}
+use Rattle.safe_groups.proofs.Common.{area_of, side_of, alone_cell}
 use Rattle.safe_groups.proofs.Grounds.{MadeSoFar}
 use Rattle.safe_groups.proofs.ground.Ground.alone.Given as goal
 

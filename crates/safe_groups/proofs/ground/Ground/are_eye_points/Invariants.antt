@@ -1,7 +1,4 @@
-use Rattle.safe_groups.proofs.Common.{◌<◌, ℕ, IsTrue, side_of}
-use Rattle.go_points.specs.Place.{place_of}
-use Rattle.go_points.specs.Points.{holds_place}
-use Rattle.safe_groups.specs.Private.Spaces.{IsEyePoint}
+use Rattle.safe_groups.proofs.Common.{◌<◌, ℕ, IsTrue, side_of, place_of, holds_place, IsEyePoint}
 use Rattle.safe_groups.proofs.ground.Ground.are_eye_points.Given as goal
 
 abbrev pub invariant-loop-number : goal.invariant-loop-number

@@ -1,5 +1,4 @@
-use Rattle.safe_groups.proofs.Common.{◌≡◌, sym, ◌∙◌, ap, subst, ◌<◌, ◌*◌, not, true, arith, cell_at, same_cell, eq_same_cell, Empty, side_of, number_of, area_of}
-use Rattle.go_chains.specs.Joined.{IsChainOf}
+use Rattle.safe_groups.proofs.Common.{◌≡◌, sym, ◌∙◌, ap, subst, ◌<◌, ◌*◌, not, true, arith, cell_at, same_cell, eq_same_cell, Empty, side_of, number_of, area_of, IsChainOf}
 use Rattle.safe_groups.proofs.Spacing.{is_eye, is_free}
 use Rattle.safe_groups.proofs.ground.Ground.find_eye.Goals as goal
 

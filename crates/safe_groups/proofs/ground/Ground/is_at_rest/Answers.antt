@@ -1,4 +1,4 @@
-use Rattle.safe_groups.proofs.Common.{area_of}
+use Rattle.safe_groups.specs.Ground.{area_of}
 use Rattle.safe_groups.proofs.Grounds.{at_rest_by}
 use Rattle.safe_groups.proofs.ground.Ground.is_at_rest.Goals as goal
 

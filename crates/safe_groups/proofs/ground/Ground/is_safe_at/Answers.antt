@@ -1,5 +1,4 @@
-use Rattle.safe_groups.proofs.Common.{◌≡◌, sym, ◌∙◌, ap, subst, inr, cell_at, same_cell_eq, Stone, own, side_of, number_of, area_of}
-use Rattle.go_chains.specs.Joined.{IsChainOf, AreLibertiesOf}
+use Rattle.safe_groups.proofs.Common.{◌≡◌, sym, ◌∙◌, ap, subst, inr, cell_at, same_cell_eq, Stone, own, side_of, number_of, area_of, IsChainOf, AreLibertiesOf}
 use Rattle.safe_groups.proofs.Spacing.{leans_chain, near_beside}
 use Rattle.safe_groups.proofs.ground.Ground.is_safe_at.Goals as goal
 

@@ -1,5 +1,4 @@
-use Rattle.safe_groups.proofs.Common.{area_of, side_of}
-use Rattle.safe_groups.specs.Private.Spaces.{space_cell}
+use Rattle.safe_groups.proofs.Common.{area_of, side_of, space_cell}
 use Rattle.safe_groups.proofs.Grounds.{MadeSoFar}
 use Rattle.safe_groups.proofs.ground.Ground.spaces.Given as goal
 

@@ -1,5 +1,4 @@
-use Rattle.safe_groups.proofs.Common.{area_of, side_of}
-use Rattle.safe_groups.specs.Ground.{lifted_cell}
+use Rattle.safe_groups.proofs.Common.{area_of, side_of, lifted_cell}
 use Rattle.safe_groups.proofs.Grounds.{MadeSoFar}
 use Rattle.safe_groups.proofs.ground.Ground.without.Given as goal
 

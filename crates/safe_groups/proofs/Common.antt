@@ -31,7 +31,7 @@ pub use Rattle.safe_groups.specs.Areas.{own, Area, IsWalled, States, theirs, Fit
 unfoldable pub use Rattle.safe_groups.specs.Areas.{clear_loose, opened}
 pub use Rattle.safe_groups.specs.Eyes.{IsEye, IsResting, TwoEyes}
 pub use Rattle.safe_groups.specs.Ground.{area_of, ground_at, state_at, AreStates, lifted_cell, states_of, FitsAt, HasReplies, IsJudged, IsMoveAnswered, IsOfBoard, IsState, IsWalledAt, marked, shut_cell, AreJudged, BarsNone, IsSettled, IsSized, IsStateAnswered, areas_of, part_cell}
-pub use Rattle.safe_groups.specs.Laws.{IsSafe, IsSafeByMove}
+pub use Rattle.safe_groups.specs.Laws.{IsSafe, IsSafeAfter}
 pub use Rattle.safe_groups.specs.Play.{StandThrough}
 pub use Rattle.safe_groups.specs.Private.Order.{IsApart, IsInOrder, IsInOrderAt}
 pub use Rattle.safe_groups.specs.Private.Spaces.{IsGivenAt, IsSafeAt, alone_cell, space_cell, IsEyePoint}

@@ -1,5 +1,5 @@
 -- The attacker wins no state whose targets are safe by answers.
-use Rattle.safe_groups.proofs.Common.{sym, subst, refl, ◌≡◌, ◌∙◌, List, ℕ, zero, suc, ap, IsTrue, IsFalse, true, false, Bool, inl, inr, [], ◌∷◌, ◌++◌, ◌*◌, ◌<◌, ◌≤◌, ◌⊎◌, ◌&&◌, not, arith, cell_at, same_cell, eq_same_cell, same_cell_eq, opponent_of, opponent_twice, after_move, Cell, Empty, Stone, Colour, Points, States, IsWalled, IsAnswered, Areas, area_at, RepliesTogether, HoldsAt, AreListed, IsOwed, IsKept, in_one, nat_eq, nat_lt, ltb-true, and_left, and_right, and_both, has_occurred, holds_point, IsSafe, IsSafeByMove, StandThrough, eq-eqb, lt-ltb, GameState}
+use Rattle.safe_groups.proofs.Common.{sym, subst, refl, ◌≡◌, ◌∙◌, List, ℕ, zero, suc, ap, IsTrue, IsFalse, true, false, Bool, inl, inr, [], ◌∷◌, ◌++◌, ◌*◌, ◌<◌, ◌≤◌, ◌⊎◌, ◌&&◌, not, arith, cell_at, same_cell, eq_same_cell, same_cell_eq, opponent_of, opponent_twice, after_move, Cell, Empty, Stone, Colour, Points, States, IsWalled, IsAnswered, Areas, area_at, RepliesTogether, HoldsAt, AreListed, IsOwed, IsKept, in_one, nat_eq, nat_lt, ltb-true, and_left, and_right, and_both, has_occurred, holds_point, IsSafe, IsSafeAfter, StandThrough, eq-eqb, lt-ltb, GameState}
 use Rattle.std.proofs.Common.{if◌then◌else◌, Some, None}
 use Rattle.go_points.specs.Grid.{same_colour}
 use Rattle.go_points.specs.Equal.{same_colour_eq}
@@ -18,7 +18,7 @@ use Rattle.safe_groups.proofs.Serving.{pick}
 use Rattle.safe_groups.proofs.Exchanges.{other_plays, holds_passed, listed_passed, kept_passed, answer_allowed, holds_answered, listed_answered, kept_answered, kept_same, kept_there, stand_through}
 
 -- the targets stand where the keeper has them
-targets_there : (s : GameState) → ((p : ℕ) → IsTrue (holds_point s.game.targets p) → cell_at s.colouring p ≡ Stone s.game.defender) → targets_stand s ≡ true
+pub targets_there : (s : GameState) → ((p : ℕ) → IsTrue (holds_point s.game.targets p) → cell_at s.colouring p ≡ Stone s.game.defender) → targets_stand s ≡ true
 targets_there s stand = all_from (λ p. same_cell (cell_at s.colouring p) (Stone s.game.defender)) s.game.targets (λ p m. eq_same_cell _ _ (stand p (any_to (nat_eq p) p s.game.targets m (eq-eqb p p refl))))
 
 -- so nobody has won, or the defender has
@@ -42,7 +42,7 @@ legal_free s p h =
       same_cell_eq (cell_at s.colouring p) Empty (and_right (nat_lt p (s.game.size * s.game.size) && holds_point s.game.region p) (same_cell (cell_at s.colouring p) Empty) three),
     )
 
-free_legal : (s : GameState) (p : ℕ) → p < s.game.size * s.game.size → IsTrue (holds_point s.game.region p) → cell_at s.colouring p ≡ Empty → IsFalse (has_occurred s.history (after_move s.game.size s.colouring s.mover p)) → legal s (move p) ≡ true
+pub free_legal : (s : GameState) (p : ℕ) → p < s.game.size * s.game.size → IsTrue (holds_point s.game.region p) → cell_at s.colouring p ≡ Empty → IsFalse (has_occurred s.history (after_move s.game.size s.colouring s.mover p)) → legal s (move p) ≡ true
 free_legal s p on inside free new =
     and_both _ _ (and_both _ _ (and_both _ _ (lt-ltb p (s.game.size * s.game.size) on) inside) (eq_same_cell _ _ free)) (ap not new)
 
@@ -60,6 +60,12 @@ turns_win s k open_ h attacks defends = go (same_colour s.mover (opponent_of s.g
     go false turn each =
         let reply = defends turn in
         reply.2 (all_at (λ t. wins (opponent_of s.game.defender) (next s t) k) reply.0 (legal_turns s) each (legal_member s reply.0 reply.1))
+
+ends_now : (s : GameState) → targets_stand s ≡ true → wins (opponent_of s.game.defender) s 0 ≡ true → ⊥
+ends_now s there h = elim (not_taken s there) [
+  | inl e ↦ cc (wins_none (opponent_of s.game.defender) s e, h)
+  | inr e ↦ won_by_defender s 0 e h
+]
 
 module _ (A : Areas) (W : ℕ → States) where
   abbrev Allowed : GameState → Type 0
@@ -86,12 +92,6 @@ module _ (A : Areas) (W : ℕ → States) where
 
   stand : (s : GameState) (c : ℕ → List Cell) → Together s → Held s c → HasTargets s c → targets_stand s ≡ true
   stand s c together holds targets = targets_there s (λ p is. kept_there s.game.size s.game.defender A W together c s.colouring s.history holds p (targets p is))
-
-  ends_now : (s : GameState) → targets_stand s ≡ true → wins (opponent_of s.game.defender) s 0 ≡ true → ⊥
-  ends_now s there h = elim (not_taken s there) [
-    | inl e ↦ cc (wins_none (opponent_of s.game.defender) s e, h)
-    | inr e ↦ won_by_defender s 0 e h
-  ]
 
   rest_step : (j : ℕ) → Rests j → Owes j → Rests (suc j)
   rest_step j rests owes s c allowed together listed holds targets h = elim (not_taken s (stand s c together holds targets)) [
@@ -155,14 +155,18 @@ is_false false none = refl
 safe_lost : (s : GameState) (k : ℕ) → IsSafe s → wins (opponent_of s.game.defender) s k ≡ true → ⊥
 safe_lost s k safe = (never safe.areas safe.states k).0 s safe.state safe.allowed safe.replies safe.listed safe.holds safe.targets
 
-by_move_lost : (s : GameState) (k : ℕ) → IsSafeByMove s → wins (opponent_of s.game.defender) s k ≡ true → ⊥
-by_move_lost s k safe = (never safe.areas safe.states k).1 s safe.state safe.allowed safe.replies safe.walled safe.answered safe.holds safe.targets safe.to_move
+after_lost : (s : GameState) (k p : ℕ) → IsSafeAfter p s → wins (opponent_of s.game.defender) s k ≡ true → ⊥
+after_lost s zero p safe h = ends_now s safe.stand h
+after_lost s (suc j) p safe h = elim (not_taken s safe.stand) [
+  | inr e ↦ won_by_defender s (suc j) e h
+  | inl e ↦ turns_win s j e h (λ t turn is w. cc (ap (λ m. same_colour m (opponent_of s.game.defender)) safe.to_move, colour_other s.game.defender, turn)) (λ mine. (move p, safe.legal_move, safe_lost (next s (move p)) j safe.safe))
+]
 
 pub attacker_never_wins : (s : GameState) (k : ℕ) → IsSafe s → IsFalse (wins (opponent_of s.game.defender) s k)
 attacker_never_wins s k safe = is_false (wins (opponent_of s.game.defender) s k) (safe_lost s k safe)
 
-pub attacker_never_wins_after_move : (s : GameState) (k : ℕ) → IsSafeByMove s → IsFalse (wins (opponent_of s.game.defender) s k)
-attacker_never_wins_after_move s k safe = is_false (wins (opponent_of s.game.defender) s k) (by_move_lost s k safe)
+pub attacker_never_wins_after_move : (s : GameState) (k p : ℕ) → IsSafeAfter p s → IsFalse (wins (opponent_of s.game.defender) s k)
+attacker_never_wins_after_move s k p safe = is_false (wins (opponent_of s.game.defender) s k) (after_lost s k p safe)
 
 -- one side wins
 pub defender_wins : (s : GameState) → s.passes ≤ 2 → IsSafe s → Wins s.game.defender s
@@ -171,10 +175,10 @@ defender_wins s low safe = elim (one_wins s.game.defender s low) [
   | inr lost ↦ absurd (safe_lost s lost.0 safe lost.1)
 ]
 
-pub defender_wins_by_move : (s : GameState) → s.passes ≤ 2 → IsSafeByMove s → Wins s.game.defender s
-defender_wins_by_move s low safe = elim (one_wins s.game.defender s low) [
+pub defender_wins_by_move : (s : GameState) (p : ℕ) → s.passes ≤ 2 → IsSafeAfter p s → Wins s.game.defender s
+defender_wins_by_move s p low safe = elim (one_wins s.game.defender s low) [
   | inl won ↦ won
-  | inr lost ↦ absurd (by_move_lost s lost.0 safe lost.1)
+  | inr lost ↦ absurd (after_lost s lost.0 p safe lost.1)
 ]
 
 -- it is safe whoever is to move

@@ -1,10 +1,14 @@
 -- The areas of a claim together: what the judge finds of them makes the stones safe.
-use Rattle.safe_groups.proofs.Common.{sym, subst, refl, ◌≡◌, ◌≢◌, ◌∙◌, List, ℕ, zero, suc, ap, IsTrue, true, false, Bool, inl, inr, [], ◌∷◌, ◌*◌, ◌<◌, ◌⊎◌, length, set, arith, get_or, map, list_all, same_cell, same_cell_eq, cell_at, nat_lt, ltb-true, Cell, Colour, Stone, side_of, number_of, holds_point, has_occurred, start, Area, States, own, IsWalled, Fits, Replies, IsAnswered, after_answer, Empty, Areas, area_at, RepliesTogether, PastFits, HoldsAt, AreListed, IsOwed, IsKept, area_of, BarsNone, IsOfBoard, IsSized, IsSafe, IsSafeByMove, Ground, All, lt-ltb, Place, GameProblem, GameState, areas_of, ground_at, state_at, HasReplies, AreKept, BarsNothing, LacksOne}
+use Rattle.safe_groups.proofs.Common.{sym, subst, refl, ◌≡◌, ◌≢◌, ◌∙◌, List, ℕ, zero, suc, ap, IsTrue, IsFalse, true, false, Bool, inl, inr, [], ◌∷◌, ◌++◌, ◌*◌, ◌<◌, ◌⊎◌, length, set, arith, get_or, map, list_all, same_cell, same_cell_eq, cell_at, nat_lt, ltb-true, Cell, Colour, Stone, side_of, number_of, holds_point, has_occurred, after_move, start, Area, States, own, IsWalled, Fits, Replies, IsAnswered, after_answer, Empty, Areas, area_at, RepliesTogether, PastFits, HoldsAt, AreListed, IsOwed, IsKept, area_of, BarsNone, IsOfBoard, IsSized, IsSafe, IsSafeAfter, Ground, All, lt-ltb, Place, GameProblem, GameState, areas_of, ground_at, state_at, HasReplies, AreKept, BarsNothing, LacksOne}
 use Rattle.safe_groups.specs.Ground.{aimed_at, HoldsFor, IsMoveFrom, IsSafeAs, AllSafe}
 use Rattle.safe_groups.specs.Private.Verdict.{StandsInOne}
 use Rattle.safe_groups.proofs.Fitting.{fits_self}
 use Rattle.safe_groups.proofs.Moving.{is_or_not, past_put, at_put}
 use Rattle.safe_groups.proofs.Judging.{of_listed, targets_by}
+use Rattle.safe_groups.proofs.Serving.{pick}
+use Rattle.safe_groups.proofs.Exchanges.{answer_allowed, holds_answered, listed_answered, kept_answered, kept_there}
+use Rattle.safe_groups.proofs.Never.{targets_there, free_legal}
+use Rattle.std.proofs.Common.{None}
 
 pub default_same : {A : Type 0} (xs : List A) (k : ℕ) (d e : A) → k < length xs → get_or xs k d ≡ get_or xs k e
 default_same [] k d e low = absurd (omega (arith, low))
@@ -125,51 +129,75 @@ module _ (q : GameProblem) (gs : List Ground) (begins : List (List Cell)) (holds
     pub safe_targets : IsSafe (start q)
     safe_targets = safe_with q.game.targets holds.targets
 
-    pub safe_stones : (stones : List Cell) → AreKept q.game.defender begins stones → AllSafe false (start q) stones
+    pub safe_stones : (stones : List Cell) → AreKept q.game.defender begins stones → AllSafe None (start q) stones
     safe_stones stones kept = λ points on. safe_with points (λ p e. kept_by q.game.defender gs begins holds.lengths p (kept p (on p e)))
 
   module _ (l r : ℕ) (low : l < length gs) (mover : q.mover ≡ q.game.defender) (others : (i : ℕ) → i < length gs → i ≢ l → HasReplies (ground_at gs i) (state_at begins i)) (move : IsMoveFrom (ground_at gs l) (state_at begins l) r) where
     record Owing (i : ℕ) (W : States) : Type 0 where
       has : Replies (area_of (ground_at gs i)) W
       listed : i ≢ l → IsTrue (W (state_at begins i))
-      answered : i ≡ l → IsAnswered (area_of (ground_at gs i)) W (state_at begins i)
+      answer : i ≡ l → IsAnswer (area_of (ground_at gs i)) W (state_at begins i) r
 
     owing : (i : ℕ) → i < length gs → (W : States) × Owing i W
     owing i within = elim (is_or_not i l) [
-      | inl at ↦ subst (λ j. (W : States) × Owing j W) (sym at) (move.states, record { has = move.replies; listed = λ ne. absurd (ne refl); answered = λ e. inr (r, move.answer) })
-      | inr ne ↦ let one = others i within ne in (one.states, record { has = one.replies; listed = λ other. one.listed; answered = λ e. absurd (ne e) })
+      | inl at ↦ subst (λ j. (W : States) × Owing j W) (sym at) (move.states, record { has = move.replies; listed = λ ne. absurd (ne refl); answer = λ e. move.answer })
+      | inr ne ↦ let one = others i within ne in (one.states, record { has = one.replies; listed = λ other. one.listed; answer = λ e. absurd (ne e) })
     ]
 
-    owed : IsOwed q.game.size q.game.defender (areas_of gs) (chosen (length gs) Owing owing) (state_at begins)
+    abbrev states : ℕ → States
+    states = chosen (length gs) Owing owing
+
+    answer : IsAnswer (area_at n k (areas_of gs) l) (states l) (state_at begins l) r
+    answer = moved_area q gs begins l (holds.each l low) (λ a. IsAnswer a (states l) (state_at begins l) r) ((chosen_is (length gs) Owing owing l low).answer refl)
+
+    owed : IsOwed n k (areas_of gs) states (state_at begins)
     owed = record {
       place = l;
       within = low;
       others = λ i within ne. (chosen_is (length gs) Owing owing i within).listed ne;
-      answered = moved_area q gs begins l (holds.each l low) (λ a. IsAnswered a (chosen (length gs) Owing owing l) (state_at begins l)) ((chosen_is (length gs) Owing owing l low).answered refl);
+      answered = inr (r, answer);
     }
 
-    safe_move_with : (points : List ℕ) → ((p : ℕ) → IsTrue (holds_point points p) → IsKept q.game.defender (areas_of gs) (state_at begins) p) → IsSafeByMove (aimed_at points (start q))
-    safe_move_with points kept = record {
-      areas = areas_of gs;
-      states = chosen (length gs) Owing owing;
-      state = state_at begins;
-      allowed = allowed;
-      replies = record {
-        order = holds.order;
-        replies = λ i within. moved_area q gs begins i (holds.each i within) (λ a. Replies a (chosen (length gs) Owing owing i)) (chosen_is (length gs) Owing owing i within).has;
-      };
-      walled = walled;
-      answered = owed;
+    together_after : RepliesTogether n k (areas_of gs) states
+    together_after = record {
+      order = holds.order;
+      replies = λ i within. moved_area q gs begins i (holds.each i within) (λ a. Replies a (states i)) (chosen_is (length gs) Owing owing i within).has;
+    }
+
+    abbrev board : List Cell
+    board = (start q).colouring
+
+    state_after : ℕ → List Cell
+    state_after = pick l answer.known.0 (state_at begins)
+
+    new : IsFalse (has_occurred q.history (after_move n board k r))
+    new = answer_allowed n k (areas_of gs) states together_after (state_at begins) board q.history walled held owed r answer
+
+    held_after : HoldsAt n k (areas_of gs) state_after (after_move n board k r) (q.history ++ after_move n board k r ∷ [])
+    held_after = holds_answered n k (areas_of gs) states together_after (state_at begins) board q.history walled held owed r answer
+
+    safe_after_with : (points : List ℕ) → ((p : ℕ) → IsTrue (holds_point points p) → IsKept k (areas_of gs) (state_at begins) p) → IsSafeAfter r (aimed_at points (start q))
+    safe_after_with points kept = record {
+      stand = targets_there (aimed_at points (start q)) (λ p is. kept_there n k (areas_of gs) states together_after (state_at begins) board q.history held p (kept p is));
       to_move = mover;
-      holds = held;
-      targets = kept;
+      legal_move = free_legal (aimed_at points (start q)) r answer.on_board (allowed l r low answer.allowed) ((held.fits l low).has_empty r answer.empty) (subst (λ m. IsFalse (has_occurred q.history (after_move n board m r))) (sym mover) new);
+      safe = record {
+        areas = areas_of gs;
+        states = states;
+        state = state_after;
+        allowed = allowed;
+        replies = together_after;
+        listed = listed_answered n k (areas_of gs) states together_after (state_at begins) board q.history walled held owed r answer;
+        holds = subst (λ m. HoldsAt n k (areas_of gs) state_after (after_move n board m r) (q.history ++ after_move n board m r ∷ [])) (sym mover) held_after;
+        targets = λ p is. kept_answered n k (areas_of gs) states together_after (state_at begins) board q.history walled held owed r answer p (kept p is);
+      };
     }
 
-    pub safe_targets_by_move : IsSafeByMove (start q)
-    safe_targets_by_move = safe_move_with q.game.targets holds.targets
+    pub safe_targets_after : IsSafeAfter r (start q)
+    safe_targets_after = safe_after_with q.game.targets holds.targets
 
-    pub safe_stones_by_move : (stones : List Cell) → AreKept q.game.defender begins stones → AllSafe true (start q) stones
-    safe_stones_by_move stones kept = λ points on. safe_move_with points (λ p e. kept_by q.game.defender gs begins holds.lengths p (kept p (on p e)))
+    pub safe_stones_after : (stones : List Cell) → AreKept k begins stones → (points : List ℕ) → ((p : ℕ) → IsTrue (holds_point points p) → cell_at stones p ≡ Stone k) → IsSafeAfter r (aimed_at points (start q))
+    safe_stones_after stones kept = λ points on. safe_after_with points (λ p e. kept_by q.game.defender gs begins holds.lengths p (kept p (on p e)))
 
 pub move_from : (g : Ground) (c : List Cell) (r : ℕ) → r < side_of g.cells * side_of g.cells → IsTrue ((area_of g).answers r) → cell_at c r ≡ Empty → HasReplies g (after_answer (area_of g) c r) → IsMoveFrom g c r
 move_from g c r on allowed free has = record {

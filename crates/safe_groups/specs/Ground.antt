@@ -1,12 +1,13 @@
 -- An area as the judge holds it: a colouring on which the kept stones stand, the region is empty, and every other point holds a
 -- stone of the other side; and four on which the keeper's stones mark points: those at which it answers, the stones that are held, those
 -- that are kept earlier, and those that the area gives a liberty.
-use Rattle.std.specs.Prelude.{◌≡◌, ◌<◌, ◌*◌, ℕ, ◌&&◌, nat_lt, length, ◌⊎◌, IsTrue, List, [], slice_set, get_or, if◌then◌else◌, Bool, true, false}
+use Rattle.std.specs.Prelude.{◌≡◌, ◌<◌, ◌*◌, ℕ, ◌&&◌, nat_lt, length, ◌⊎◌, IsTrue, List, [], slice_set, get_or, if◌then◌else◌, Option, None, Some}
 use Rattle.std.specs.List.{All}
 use Rattle.go_points.specs.declared.Colour.TheVariants.{Black}
 use Rattle.go_points.specs.declared.Cell.{Cell}
 use Rattle.go_points.specs.declared.Cell.TheVariants.{Empty, Stone}
 use Rattle.go_points.specs.Grid.{cell_at, same_cell, side_of}
+use Rattle.go_points.specs.Place.{Place, number_of}
 use Rattle.go_points.specs.Reach.{Reaches}
 use Rattle.go_turns.specs.History.{has_occurred}
 use Rattle.target_game.specs.State.{GameProblem, GameState, start}
@@ -14,7 +15,7 @@ use Rattle.target_game.specs.Legal.{holds_point}
 use Rattle.safe_groups.specs.Areas.{Area, Points, States, own, theirs, is_outside, after_other, IsWalled, Rooted, IsAtRest, Leans, IsAnswered, IsAnswer, Replies, Fits}
 use Rattle.safe_groups.specs.Eyes.{IsResting}
 use Rattle.safe_groups.specs.Together.{Areas, AreInOrder, IsKept, PastFits}
-use Rattle.safe_groups.specs.Laws.{IsSafe, IsSafeByMove}
+use Rattle.safe_groups.specs.Laws.{IsSafe, IsSafeAfter}
 use Rattle.safe_groups.specs.declared.ground.Ground.{Ground}
 
 -- the points that hold one of the keeper's stones on the colouring
@@ -152,10 +153,10 @@ pub record HoldsFor (q : GameProblem) (gs : List Ground) (begins : List (List Ce
 abbrev pub aimed_at : List ℕ → GameState → GameState
 aimed_at points s = record { game = record { size = s.game.size; region = s.game.region; targets = points; defender = s.game.defender }; colouring = s.colouring; history = s.history; mover = s.mover; passes = s.passes }
 
--- The targets are safe, or they are if the defender, who is to move, plays first.
-abbrev pub IsSafeAs : Bool → GameState → Type 0
-IsSafeAs true s = IsSafeByMove s
-IsSafeAs false s = IsSafe s
+-- The targets are safe, or they are once the defender, who is to move, has played at this point.
+abbrev pub IsSafeAs : Option Place → GameState → Type 0
+IsSafeAs None s = IsSafe s
+IsSafeAs (Some p) s = IsSafeAfter (number_of s.game.size p) s
 
 -- The state after the keeper's move from this one, which is of an area that has answers.
 pub record IsMoveFrom (g : Ground) (c : List Cell) (r : ℕ) : Type 0 where
@@ -163,6 +164,6 @@ pub record IsMoveFrom (g : Ground) (c : List Cell) (r : ℕ) : Type 0 where
   pub replies : Replies (area_of g) states
   pub answer : IsAnswer (area_of g) states c r
 
--- The state of play with any of these stones of the defender's as its targets is safe.
-abbrev pub AllSafe : Bool → GameState → List Cell → Type 0
-AllSafe by_move s stones = (points : List ℕ) → ((p : ℕ) → IsTrue (holds_point points p) → cell_at stones p ≡ Stone s.game.defender) → IsSafeAs by_move (aimed_at points s)
+-- The same of the state with any of these stones of the defender's as its targets.
+abbrev pub AllSafe : Option Place → GameState → List Cell → Type 0
+AllSafe first s stones = (points : List ℕ) → ((p : ℕ) → IsTrue (holds_point points p) → cell_at stones p ≡ Stone s.game.defender) → IsSafeAs first (aimed_at points s)

@@ -4,11 +4,14 @@ use Rattle.go_points.specs.declared.Cell.{Cell}
 use Rattle.go_points.specs.declared.Colour.{Colour}
 use Rattle.go_points.specs.Grid.{opponent_of}
 use Rattle.target_game.specs.State.{GameState}
-use Rattle.target_game.specs.Legal.{holds_point}
+use Rattle.go_points.specs.Ply.{move}
+use Rattle.target_game.specs.Legal.{holds_point, legal}
+use Rattle.target_game.specs.Next.{next}
+use Rattle.target_game.specs.Over.{targets_stand}
 use Rattle.target_game.specs.Wins.{wins, Wins}
 use Rattle.target_game.specs.Status.{IsAlive}
-use Rattle.safe_groups.specs.Areas.{Points, States, IsWalled}
-use Rattle.safe_groups.specs.Together.{Areas, area_at, in_one, RepliesTogether, HoldsAt, AreListed, IsOwed, IsKept}
+use Rattle.safe_groups.specs.Areas.{Points, States}
+use Rattle.safe_groups.specs.Together.{Areas, in_one, RepliesTogether, HoldsAt, AreListed, IsKept}
 use Rattle.safe_groups.specs.Play.{StandThrough}
 
 -- Stones that the keeper has in the states that the board fits stand through any number of exchanges: no play of the other side takes
@@ -29,32 +32,26 @@ pub record IsSafe (s : GameState) : Type 0 where
   pub holds : HoldsAt s.game.size s.game.defender areas state s.colouring s.history
   pub targets : (p : ℕ) → IsTrue (holds_point s.game.targets p) → IsKept s.game.defender areas state p
 
--- The same of a state in which the defender is to move and has an answer.
-pub record IsSafeByMove (s : GameState) : Type 0 where
-  pub areas : Areas
-  pub states : ℕ → States
-  pub state : ℕ → List Cell
-  pub allowed : (i p : ℕ) → i < areas.count → IsTrue (areas.answers i p) → IsTrue (holds_point s.game.region p)
-  pub replies : RepliesTogether s.game.size s.game.defender areas states
-  pub walled : (i : ℕ) → i < areas.count → IsWalled (area_at s.game.size s.game.defender areas i) (state i)
-  pub answered : IsOwed s.game.size s.game.defender areas states state
+-- The targets stand, and the defender, who is to move, may play at p: after that they are safe.
+pub record IsSafeAfter (p : ℕ) (s : GameState) : Type 0 where
+  pub stand : IsTrue (targets_stand s)
   pub to_move : s.mover ≡ s.game.defender
-  pub holds : HoldsAt s.game.size s.game.defender areas state s.colouring s.history
-  pub targets : (p : ℕ) → IsTrue (holds_point s.game.targets p) → IsKept s.game.defender areas state p
+  pub legal_move : IsTrue (legal s (move p))
+  pub safe : IsSafe (next s (move p))
 
 -- The attacker wins no state whose targets are safe by answers: whoever is to move, whatever passes stand, within any number of turns.
 abbrev pub AttackerNeverWins : Type 0
 AttackerNeverWins = (s : GameState) (k : ℕ) → IsSafe s → IsFalse (wins (opponent_of s.game.defender) s k)
 
 abbrev pub AttackerNeverWinsAfterMove : Type 0
-AttackerNeverWinsAfterMove = (s : GameState) (k : ℕ) → IsSafeByMove s → IsFalse (wins (opponent_of s.game.defender) s k)
+AttackerNeverWinsAfterMove = (s : GameState) (k p : ℕ) → IsSafeAfter p s → IsFalse (wins (opponent_of s.game.defender) s k)
 
 -- So the defender wins it.
 abbrev pub DefenderWins : Type 0
 DefenderWins = (s : GameState) → s.passes ≤ 2 → IsSafe s → Wins s.game.defender s
 
 abbrev pub DefenderWinsByMove : Type 0
-DefenderWinsByMove = (s : GameState) → s.passes ≤ 2 → IsSafeByMove s → Wins s.game.defender s
+DefenderWinsByMove = (s : GameState) (p : ℕ) → s.passes ≤ 2 → IsSafeAfter p s → Wins s.game.defender s
 
 -- So the group is alive.
 abbrev pub SafeIsAlive : Type 0

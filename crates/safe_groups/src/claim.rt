@@ -1,6 +1,6 @@
 //! The judge of a whole claim for a problem.
 
-ghost use Rattle.std.specs.Prelude.{◌≡◌, ◌≢◌, ◌*◌, ◌<◌, ℕ, [], length, slice_set, IsTrue, OnOk, IfOk, is_some, true, false};
+ghost use Rattle.std.specs.Prelude.{◌≡◌, ◌≢◌, ◌*◌, ◌<◌, ℕ, [], length, slice_set, IsTrue, OnOk, IfOk};
 ghost use Rattle.std.specs.List.{All};
 ghost use Rattle.go_points.specs.declared.Cell.TheVariants.{Empty};
 ghost use Rattle.go_points.specs.Grid.{cell_at, side_of};
@@ -143,7 +143,7 @@ fn judge_after_move<R: Read>(
 fn prepare(
     problem: &Problem,
     keeper: Colour,
-    first: Option<(usize, usize)>,
+    first: Option<(usize, Point)>,
     heads: &mut Heads,
 ) -> Result<(), Fault> {
     let size = problem.size();
@@ -159,9 +159,9 @@ fn prepare(
         }
     }
     let barred = barred_points(problem, &stones, keeper);
-    if let Some((_, number)) = first
-        && number < barred.size().area()
-        && !barred.cell(number).is_empty()
+    if let Some((_, point)) = first
+        && barred.size().holds(point)
+        && !barred.get(point).is_empty()
     {
         return Err(Fault::PastBars);
     }
@@ -175,8 +175,9 @@ fn judge_lines<R: Read>(
     problem: &Problem,
     lines: &mut ClaimLines<'_, R>,
 ) -> Result<Verdict, Stop>
-    ensures targets { IfOk result (λ v. IsSafeAs (is_some v.first) (start problem.now)) }
-    ensures stones { IfOk result (λ v. AllSafe (is_some v.first) (start problem.now) v.stones) }
+    ensures keeper { IfOk result (λ v. v.keeper ≡ problem.now.game.defender) }
+    ensures targets { IfOk result (λ v. IsSafeAs v.first (start problem.now)) }
+    ensures stones { IfOk result (λ v. AllSafe v.first (start problem.now) v.stones) }
 {
     let size = problem.size();
     let keeper = read_keeper(lines, size)?;
@@ -196,11 +197,12 @@ fn judge_areas<R: Read>(
     alloc: Global,
     problem: &Problem,
     heads: &Heads,
-    first: Option<(usize, usize)>,
+    first: Option<(usize, Point)>,
     lines: &mut ClaimLines<'_, R>,
 ) -> Result<Verdict, Stop>
-    ensures targets { IfOk result (λ v. IsSafeAs (is_some v.first) (start problem.now)) }
-    ensures stones { IfOk result (λ v. AllSafe (is_some v.first) (start problem.now) v.stones) }
+    ensures keeper { IfOk result (λ v. v.keeper ≡ problem.now.game.defender) }
+    ensures targets { IfOk result (λ v. IsSafeAs v.first (start problem.now)) }
+    ensures stones { IfOk result (λ v. AllSafe v.first (start problem.now) v.stones) }
 {
     let keeper = problem.defender();
     let grounds = heads.grounds.as_slice();
@@ -220,11 +222,15 @@ fn judge_areas<R: Read>(
                 stones,
             })
         }
-        Some((place, number)) => {
+        Some((place, point)) => {
+            let size = problem.size();
+            if !size.holds(point) {
+                return Err(Stop::Fault(Fault::TurnBarred));
+            }
+            let number = point.number(size);
             judge_after_move(alloc, problem, grounds, begins, place, number, lines)?;
             lines.end_here()?;
-            are_safe_by_move(problem, grounds, begins, &stones, place, number);
-            let point = turn_point(problem, number);
+            are_safe_by_move(problem, grounds, begins, &stones, place, point);
             Ok(Verdict {
                 keeper,
                 first: Some(point),
@@ -234,18 +240,8 @@ fn judge_areas<R: Read>(
     }
 }
 
-/// The point of this number, or the first one.
-fn turn_point(problem: &Problem, number: usize) -> Point {
-    let size = problem.size();
-    if number < size.area() {
-        size.point_at(number)
-    } else {
-        Point::default()
-    }
-}
-
 /// Judges the claim in these bytes and in what the reader has after them, for the problem. If it is accepted, the targets and all stones
-/// that are told are safe by answers, whoever moves first; or, if the claim names a first move, since the defender is to move and has it.
+/// that are told are safe by answers, whoever moves first; or, if a first move is told, once the defender, who is to move, has played it.
 ///
 /// For each state it takes, at each point of the region, a few sweeps over the board.
 pub fn judge<R: Read>(
@@ -254,8 +250,9 @@ pub fn judge<R: Read>(
     front: &[u8],
     reader: &mut R,
 ) -> Result<Verdict, Reject>
-    ensures targets { IfOk result (λ v. IsSafeAs (is_some v.first) (start problem.now)) }
-    ensures stones { IfOk result (λ v. AllSafe (is_some v.first) (start problem.now) v.stones) }
+    ensures keeper { IfOk result (λ v. v.keeper ≡ problem.now.game.defender) }
+    ensures targets { IfOk result (λ v. IsSafeAs v.first (start problem.now)) }
+    ensures stones { IfOk result (λ v. AllSafe v.first (start problem.now) v.stones) }
 {
     let mut lines = match ClaimLines::new(alloc, front, reader) {
         Ok(lines) => lines,

@@ -1,6 +1,6 @@
 //! Whether the areas of a claim are of a problem's board, and what follows if each of them has answers.
 
-ghost use Rattle.std.specs.Prelude.{◌≡◌, ◌≢◌, ◌*◌, ◌<◌, ◌⊎◌, ℕ, List, map, length, get_or, IsTrue, IsFalse, OnOk, IfOk, true, false};
+ghost use Rattle.std.specs.Prelude.{◌≡◌, ◌≢◌, ◌*◌, ◌<◌, ◌⊎◌, ℕ, List, map, length, get_or, IsTrue, IsFalse, OnOk, IfOk, Some, None};
 ghost use Rattle.std.specs.List.{All, list_all};
 ghost use Rattle.go_points.specs.Grid.{cell_at, side_of};
 ghost use Rattle.go_points.specs.Place.{IsOn, number_of};
@@ -14,7 +14,7 @@ ghost use Rattle.safe_groups.specs.Private.Verdict.{AreKept, BarsNothing, LacksO
 
 use crate::ground::Ground;
 use crate::together::are_in_order;
-use go_points::{Cell, Colour, Colouring, PointSet, Size};
+use go_points::{Cell, Colour, Colouring, Point, PointSet, Size};
 use target_game::{Problem, all_hold};
 
 /// Why the areas of a claim are not those of a problem.
@@ -290,18 +290,18 @@ pub fn are_safe(problem: &Problem, grounds: &[Ground], begins: &[Colouring], sto
     requires kept { AreKept problem.now.game.defender begins.now stones.now }
     requires replies { (i : ℕ) → i < length grounds.now
         → HasReplies (ground_at grounds.now i) (state_at begins.now i) }
-    ensures targets { IsSafeAs false (start problem.now) }
-    ensures stones { AllSafe false (start problem.now) stones.now }
+    ensures targets { IsSafeAs None (start problem.now) }
+    ensures stones { AllSafe None (start problem.now) stones.now }
 {}
 
-/// The same, if the defender, who is to move, first answers in one of the areas.
+/// The same, if the defender, who is to move, first plays at this point of one of the areas.
 pub fn are_safe_by_move(
     problem: &Problem,
     grounds: &[Ground],
     begins: &[Colouring],
     stones: &Colouring,
     place: usize,
-    number: usize,
+    first: Point,
 )
     requires holds { HoldsFor problem.now grounds.now begins.now }
     requires kept { AreKept problem.now.game.defender begins.now stones.now }
@@ -309,7 +309,8 @@ pub fn are_safe_by_move(
     requires place { place < length grounds.now }
     requires others { (i : ℕ) → i < length grounds.now → i ≢ place
         → HasReplies (ground_at grounds.now i) (state_at begins.now i) }
-    requires moved { IsMoveFrom (ground_at grounds.now place) (state_at begins.now place) number }
-    ensures targets { IsSafeAs true (start problem.now) }
-    ensures stones { AllSafe true (start problem.now) stones.now }
+    requires moved { IsMoveFrom (ground_at grounds.now place) (state_at begins.now place)
+        (number_of problem.now.game.size first) }
+    ensures targets { IsSafeAs (Some first) (start problem.now) }
+    ensures stones { AllSafe (Some first) (start problem.now) stones.now }
 {}

@@ -23,7 +23,8 @@ _short_claims() {
     esac
     case $command in
     '') options="$commands --help -h --version -V" ;;
-    prove | tree) options='--steps --help -h' ;;
+    prove) options='--whole --steps --help -h' ;;
+    tree) options='--steps --help -h' ;;
     help) options=$commands ;;
     *) options='--help -h' ;;
     esac

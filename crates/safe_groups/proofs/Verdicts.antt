@@ -1,5 +1,5 @@
 -- The areas of a claim together: what the judge finds of them makes the stones safe.
-use Rattle.safe_groups.proofs.Common.{sym, subst, refl, ◌≡◌, ◌≢◌, ◌∙◌, List, ℕ, zero, suc, ap, IsTrue, IsFalse, true, false, Bool, inl, inr, [], ◌∷◌, ◌++◌, ◌*◌, ◌<◌, ◌⊎◌, length, set, arith, get_or, map, list_all, same_cell, same_cell_eq, cell_at, nat_lt, ltb-true, Cell, Colour, Stone, side_of, number_of, holds_point, has_occurred, after_move, start, Area, States, own, IsWalled, Fits, Replies, IsAnswered, after_answer, Empty, Areas, area_at, RepliesTogether, PastFits, HoldsAt, AreListed, IsOwed, IsKept, area_of, BarsNone, IsOfBoard, IsSized, IsSafe, IsSafeAfter, Ground, All, lt-ltb, Place, GameProblem, GameState, areas_of, ground_at, state_at, HasReplies, AreKept, BarsNothing, LacksOne}
+use Rattle.safe_groups.proofs.Common.{sym, subst, refl, ◌≡◌, ◌≢◌, ◌∙◌, List, ℕ, zero, suc, ap, IsTrue, IsFalse, true, false, Bool, inl, inr, [], ◌∷◌, ◌++◌, ◌*◌, ◌<◌, ◌⊎◌, length, set, arith, get_or, map, list_all, same_cell, same_cell_eq, cell_at, nat_lt, ltb-true, Cell, Colour, Stone, side_of, number_of, holds_point, has_occurred, after_move, start, Area, States, own, IsWalled, Fits, Replies, IsAnswer, after_answer, Empty, Areas, area_at, RepliesTogether, PastFits, HoldsAt, AreListed, IsOwed, IsKept, area_of, BarsNone, IsOfBoard, IsSized, IsSafe, IsSafeAfter, Ground, All, lt-ltb, Place, GameProblem, GameState, areas_of, ground_at, state_at, HasReplies, AreKept, BarsNothing, LacksOne}
 use Rattle.safe_groups.specs.Ground.{aimed_at, HoldsFor, IsMoveFrom, IsSafeAs, AllSafe}
 use Rattle.safe_groups.specs.Private.Verdict.{StandsInOne}
 use Rattle.safe_groups.proofs.Fitting.{fits_self}
@@ -150,7 +150,7 @@ module _ (q : GameProblem) (gs : List Ground) (begins : List (List Cell)) (holds
     answer : IsAnswer (area_at n k (areas_of gs) l) (states l) (state_at begins l) r
     answer = moved_area q gs begins l (holds.each l low) (λ a. IsAnswer a (states l) (state_at begins l) r) ((chosen_is (length gs) Owing owing l low).answer refl)
 
-    owed : IsOwed n k (areas_of gs) states (state_at begins)
+    abbrev owed : IsOwed n k (areas_of gs) states (state_at begins)
     owed = record {
       place = l;
       within = low;
@@ -167,7 +167,7 @@ module _ (q : GameProblem) (gs : List Ground) (begins : List (List Cell)) (holds
     abbrev board : List Cell
     board = (start q).colouring
 
-    state_after : ℕ → List Cell
+    abbrev state_after : ℕ → List Cell
     state_after = pick l answer.known.0 (state_at begins)
 
     new : IsFalse (has_occurred q.history (after_move n board k r))

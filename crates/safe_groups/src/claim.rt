@@ -143,7 +143,7 @@ fn judge_after_move<R: Read>(
 fn prepare(
     problem: &Problem,
     keeper: Colour,
-    first: Option<(usize, Point)>,
+    first: Option<(usize, usize)>,
     heads: &mut Heads,
 ) -> Result<(), Fault> {
     let size = problem.size();
@@ -159,9 +159,9 @@ fn prepare(
         }
     }
     let barred = barred_points(problem, &stones, keeper);
-    if let Some((_, point)) = first
-        && barred.size().holds(point)
-        && !barred.get(point).is_empty()
+    if let Some((_, number)) = first
+        && number < barred.size().area()
+        && !barred.cell(number).is_empty()
     {
         return Err(Fault::PastBars);
     }
@@ -175,6 +175,7 @@ fn judge_lines<R: Read>(
     problem: &Problem,
     lines: &mut ClaimLines<'_, R>,
 ) -> Result<Verdict, Stop>
+    ensures side { IfOk result (λ v. side_of v.stones ≡ problem.now.game.size) }
     ensures keeper { IfOk result (λ v. v.keeper ≡ problem.now.game.defender) }
     ensures targets { IfOk result (λ v. IsSafeAs v.first (start problem.now)) }
     ensures stones { IfOk result (λ v. AllSafe v.first (start problem.now) v.stones) }
@@ -197,9 +198,10 @@ fn judge_areas<R: Read>(
     alloc: Global,
     problem: &Problem,
     heads: &Heads,
-    first: Option<(usize, Point)>,
+    first: Option<(usize, usize)>,
     lines: &mut ClaimLines<'_, R>,
 ) -> Result<Verdict, Stop>
+    ensures side { IfOk result (λ v. side_of v.stones ≡ problem.now.game.size) }
     ensures keeper { IfOk result (λ v. v.keeper ≡ problem.now.game.defender) }
     ensures targets { IfOk result (λ v. IsSafeAs v.first (start problem.now)) }
     ensures stones { IfOk result (λ v. AllSafe v.first (start problem.now) v.stones) }
@@ -222,12 +224,12 @@ fn judge_areas<R: Read>(
                 stones,
             })
         }
-        Some((place, point)) => {
+        Some((place, number)) => {
             let size = problem.size();
-            if !size.holds(point) {
+            if number >= size.area() {
                 return Err(Stop::Fault(Fault::TurnBarred));
             }
-            let number = point.number(size);
+            let point = size.point_at(number);
             judge_after_move(alloc, problem, grounds, begins, place, number, lines)?;
             lines.end_here()?;
             are_safe_by_move(problem, grounds, begins, &stones, place, point);
@@ -250,6 +252,7 @@ pub fn judge<R: Read>(
     front: &[u8],
     reader: &mut R,
 ) -> Result<Verdict, Reject>
+    ensures side { IfOk result (λ v. side_of v.stones ≡ problem.now.game.size) }
     ensures keeper { IfOk result (λ v. v.keeper ≡ problem.now.game.defender) }
     ensures targets { IfOk result (λ v. IsSafeAs v.first (start problem.now)) }
     ensures stones { IfOk result (λ v. AllSafe v.first (start problem.now) v.stones) }

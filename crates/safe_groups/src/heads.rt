@@ -404,13 +404,13 @@ fn area_with(heads: &Heads, point: Point) -> Option<usize> {
     None
 }
 
-/// Where the keeper plays first, as the area and the point, if the line says so; then the next line is read.
+/// Where the keeper plays first, as the area and the number of the point, if the line says so; then the next line is read.
 pub(crate) fn first_turn<R: Read>(
     problem: &Problem,
     keeper: Colour,
     heads: &Heads,
     lines: &mut ClaimLines<'_, R>,
-) -> Result<Option<(usize, Point)>, Stop> {
+) -> Result<Option<(usize, usize)>, Stop> {
     if heads.grounds.is_empty() || !lines.is(b"first", 2) {
         return Ok(None);
     }
@@ -425,10 +425,9 @@ pub(crate) fn first_turn<R: Read>(
     if number >= size.area() {
         return fault(Fault::TurnBarred);
     }
-    let point = size.point_at(number);
-    let Some(place) = area_with(heads, point) else {
+    let Some(place) = area_with(heads, size.point_at(number)) else {
         return fault(Fault::TurnBarred);
     };
     lines.next_line()?;
-    Ok(Some((place, point)))
+    Ok(Some((place, number)))
 }

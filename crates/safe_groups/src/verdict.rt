@@ -261,6 +261,7 @@ pub fn hold_for(
     grounds: &[Ground],
     begins: &[Colouring],
 ) -> Result<Colouring, Misfit>
+    ensures side { IfOk result (λ stones. side_of stones ≡ problem.now.game.size) }
     ensures holds { OnOk result (HoldsFor problem.now grounds.now begins.now) }
     ensures kept { IfOk result (λ stones. AreKept problem.now.game.defender begins.now stones) }
 {

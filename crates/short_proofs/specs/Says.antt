@@ -1,14 +1,20 @@
 -- What a run says, for what is asked for and the problem of the record that it has read.
 --     SaysWinner x node      the comment of the node begins with this side's win
 --     Says request q output      what is said is true of the problem
-use Rattle.std.specs.Prelude.{◌≡◌, ◌≢◌, ℕ, List, [], ◌∷◌, ◌++◌, codes, Some, Ok, ◌⊎◌}
+use Rattle.std.specs.Prelude.{◌≡◌, ◌≢◌, ℕ, zero, suc, ◌*◌, List, [], ◌∷◌, ◌++◌, codes, Option, None, Some, Ok, ◌⊎◌, if◌then◌else◌}
+use Rattle.go_points.specs.declared.Cell.{Cell}
+use Rattle.go_points.specs.declared.Cell.TheVariants.{Stone}
 use Rattle.go_points.specs.declared.Colour.{Colour}
+use Rattle.go_points.specs.Grid.{cell_at, same_cell}
+use Rattle.go_points.specs.Place.{Place, place_of}
+use Rattle.go_points.specs.Sgf.{sgf_text}
 use Rattle.sgf_text.specs.Trees.{GameTree, Node}
 use Rattle.target_game.specs.State.{GameProblem, start}
 use Rattle.target_game.specs.Wins.{Wins}
 use Rattle.tsumego_problem.specs.Walk.{problem_within, history_limit}
-use Rattle.tsumego_replies.specs.Texts.{wins_text}
-use Rattle.tool_parts.specs.Says.{winner_text}
+use Rattle.tsumego_replies.specs.Texts.{line, wins_text}
+use Rattle.safe_groups.specs.Ground.{AllSafe, IsSafeAs}
+use Rattle.tool_parts.specs.Says.{colour_text, winner_text}
 use Rattle.tool_parts.specs.Written.{bytes_of, end_of}
 use Rattle.tool_parts.specs.declared.output.Output.{Output}
 use Rattle.tool_parts.specs.declared.output.Output.TheVariants.{Record}
@@ -32,13 +38,39 @@ HasVerdict x tree = (before after : List Node) × (node : Node) × (tree.nodes �
 abbrev pub IsRejection : Output → Type 0
 IsRejection o = (end_of o ≢ Answered) × (end_of o ≡ Rejected → (rest : List ℕ) × (bytes_of o ≡ codes "rejected line " ++ rest))
 
--- A side that is named wins: by `check`, which says so or why the claim is rejected; and by the record that `tree` writes.
+-- What is said of stones that stand: their colour, by which first move, if it takes one, and all of them, row by row.
+abbrev pub spaced : Place → List ℕ
+spaced p = 32 ∷ sgf_text p
+
+abbrev pub first_text : Option Place → List ℕ
+first_text None = []
+first_text (Some p) = codes " by" ++ spaced p
+
+-- the stones of the colour k among the first m points of a board of n rows
+abbrev pub stones_text : ℕ → Colour → List Cell → ℕ → List ℕ
+stones_text n k stones zero = []
+stones_text n k stones (suc m) = stones_text n k stones m ++ (if same_cell (cell_at stones m) (Stone k) then spaced (place_of n m) else [])
+
+abbrev pub stands_text : ℕ → Colour → Option Place → List Cell → List ℕ
+stands_text n k first stones = line (codes "stands " ++ colour_text k ++ first_text first ++ stones_text n k stones (n * n))
+
+-- The text names a side that wins; or stones of the defender's that are safe by answers, as the targets are, at once or by a first move.
+abbrev pub NamesWinner : GameProblem → List ℕ → Type 0
+NamesWinner q text = (x : Colour) × (text ≡ wins_text x) × Wins x (start q)
+
+abbrev pub NamesSafe : GameProblem → List ℕ → Type 0
+NamesSafe q text = (first : Option Place) × (stones : List Cell) × (text ≡ stands_text q.game.size q.game.defender first stones) × IsSafeAs first (start q) × AllSafe first (start q) stones
+
+-- What is answered is one of these, and what is rejected is said to be.
+pub record SaysVerdict (q : GameProblem) (o : Output) : Type 0 where
+  pub answer : end_of o ≡ Answered → NamesWinner q (bytes_of o) ⊎ NamesSafe q (bytes_of o)
+  pub rejection : end_of o ≡ Rejected → (rest : List ℕ) × (bytes_of o ≡ codes "rejected line " ++ rest)
+
+-- What is said is true: by `check`, of a short claim or of one by answers; and by the record that `tree` writes, which names who wins.
 abbrev pub Says : Request → GameProblem → Output → Type 0
-Says asks.Check q o =
-    (end_of o ≡ Answered → (x : Colour) × (bytes_of o ≡ wins_text x) × Wins x (start q))
-    × (end_of o ≡ Rejected → (rest : List ℕ) × (bytes_of o ≡ codes "rejected line " ++ rest))
+Says asks.Check q o = SaysVerdict q o
 Says (asks.Tree steps) q o = end_of o ≡ Answered → (x : Colour) × (tree : GameTree) × (o ≡ Record tree) × HasVerdict x tree × Wins x (start q)
-Says (asks.Prove steps) q o = Unit
+Says (asks.Prove steps whole) q o = Unit
 
 -- What is said for a record: it is refused, or it has a problem, of which what is said is true.
 abbrev pub IsSaidOf : Request → GameTree → Output → Type 0

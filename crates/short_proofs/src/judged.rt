@@ -7,9 +7,10 @@ ghost use Rattle.target_game.specs.Wins.{Wins};
 ghost use Rattle.tool_parts.specs.Written.{bytes_of, end_of};
 ghost use Rattle.tool_parts.specs.declared.status.Status.TheVariants.{Answered};
 ghost use Rattle.tsumego_replies.specs.Texts.{wins_text};
-ghost use Rattle.short_proofs.specs.Says.{IsRejection, Says};
+ghost use Rattle.short_proofs.specs.Says.{IsRejection, Says, SaysVerdict};
 ghost use Rattle.short_proofs.specs.declared.words.Request.TheVariants.{Check};
 
+use crate::standing::{is_by_answers, judged_answers};
 use cert_check::{Reject, Why, check_short};
 use go_points::{Colour, Size};
 use proof_cert::ReaderSource;
@@ -35,17 +36,72 @@ pub(crate) fn judged<R: Read>(
         return without_input(alloc);
     }
     if !claim.is_empty() {
-        return judged_lines(alloc, problem, claim, reader);
+        return judged_claim(alloc, problem, claim, reader);
     }
     match read_past_white(reader, MAX_WHITE + 1 - white) {
-        Ok(White::Before(first)) => judged_lines(alloc, problem, &[first], reader),
+        Ok(White::Before(first)) => judged_claim(alloc, problem, &[first], reader),
         Ok(White::End) => {
             let mut nothing = b"".as_slice();
-            judged_lines(alloc, problem, &[], &mut nothing)
+            judged_claim(alloc, problem, &[], &mut nothing)
         }
         Ok(White::TooMuch) => without_input(alloc),
         Err(_) => without_input(alloc),
     }
+}
+
+/// How many bytes tell which kind of claim it is.
+const KIND_BYTES: usize = 9;
+
+/// These bytes and those after them, as many as tell which kind of claim it is; none if the input cannot be read.
+fn first_bytes<R: Read>(
+    alloc: Global,
+    front: &[u8],
+    reader: &mut R,
+) -> Result<Option<Vec<u8>>, AllocError> {
+    let mut bytes = Vec::new(alloc);
+    bytes.extend_from_slice(front)?;
+    let mut byte = [0u8; 1];
+    for _ in front.len()..KIND_BYTES {
+        match reader.read(&mut byte) {
+            Ok(0) => return Ok(Some(bytes)),
+            Ok(_) => bytes.push(byte[0])?,
+            Err(_) => return Ok(None),
+        }
+    }
+    Ok(Some(bytes))
+}
+
+/// What is said of the claim in these bytes, which may be too few to tell its kind, and in what the reader has after them.
+fn judged_claim<R: Read>(
+    alloc: Global,
+    problem: &Problem,
+    front: &[u8],
+    reader: &mut R,
+) -> Result<Output, AllocError>
+    ensures { IfOk result (Says Check problem.now) }
+{
+    if front.len() >= KIND_BYTES {
+        return judged_by_kind(alloc, problem, front, reader);
+    }
+    match first_bytes(alloc, front, reader)? {
+        Some(bytes) => judged_by_kind(alloc, problem, bytes.as_slice(), reader),
+        None => without_input(alloc),
+    }
+}
+
+/// What is said of the claim in these bytes and in what the reader has after them, by its kind.
+fn judged_by_kind<R: Read>(
+    alloc: Global,
+    problem: &Problem,
+    front: &[u8],
+    reader: &mut R,
+) -> Result<Output, AllocError>
+    ensures { IfOk result (Says Check problem.now) }
+{
+    if is_by_answers(front) {
+        return judged_answers(alloc, problem, front, reader);
+    }
+    judged_lines(alloc, problem, front, reader)
 }
 
 /// What is said of the lines of these bytes and of what the reader has after them.
@@ -55,7 +111,7 @@ fn judged_lines<R: Read>(
     front: &[u8],
     reader: &mut R,
 ) -> Result<Output, AllocError>
-    ensures { IfOk result (Says Check problem.now) }
+    ensures { IfOk result (SaysVerdict problem.now) }
 {
     let size = problem.size();
     let mut source = ReaderSource::of_short(size, front, reader);

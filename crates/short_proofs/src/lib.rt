@@ -11,7 +11,9 @@ mod proof;
 mod reading;
 mod reading_record;
 mod shown;
+mod standing;
 mod walk;
+mod whole;
 mod words;
 
 pub use program::run;

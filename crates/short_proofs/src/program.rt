@@ -11,6 +11,7 @@ ghost use Rattle.short_proofs.specs.declared.words.Request.TheVariants.{Tree as 
 use crate::judged::judged;
 use crate::proof::{Proved, prove};
 use crate::reading::{Reading, find_reading};
+use crate::whole::{Found, find_claim};
 use crate::words::{Request, read_request};
 use pn_search::{Audience, Budget, Cause};
 use proof_cert::{Certificate, write_short};
@@ -84,7 +85,14 @@ fn output_of<R: Read>(
     };
     match request {
         Request::Check => judged(alloc, &problem, behind, reader),
-        Request::Prove { steps } => proved(alloc, &problem, budget_of(steps)?),
+        Request::Prove {
+            steps,
+            is_whole: true,
+        } => proved_whole(alloc, &problem, steps),
+        Request::Prove {
+            steps,
+            is_whole: false,
+        } => proved(alloc, &problem, budget_of(steps)?),
         Request::Tree { steps } => read_out(alloc, &problem, budget_of(steps)?),
     }
 }
@@ -106,6 +114,28 @@ fn proved(alloc: Global, problem: &Problem, budget: Budget) -> Result<Output, Al
             certificate,
         } => with_record(alloc, problem, &certificate),
         Proved::Unknown { cause, steps } => unknown(alloc, cause, steps),
+    }
+}
+
+/// The record of the problem and a claim by answers, or why there is none.
+fn proved_whole(alloc: Global, problem: &Problem, steps: u64) -> Result<Output, AllocError> {
+    match find_claim(alloc, problem, steps)? {
+        Found::Claim(claim) => with_claim(alloc, problem, claim.as_slice()),
+        Found::Refused => unknown(alloc, Cause::NotConfirmed, steps),
+        Found::Nothing => unknown(alloc, Cause::Steps, steps),
+    }
+}
+
+/// The record of the problem, and the text of a claim.
+fn with_claim(alloc: Global, problem: &Problem, claim: &[u8]) -> Result<Output, AllocError> {
+    let tree = problem_tree(alloc, problem)?;
+    let mut bytes = Vec::new(alloc);
+    written(write_tree(&tree, &mut bytes))?;
+    written(write_bytes(b"\n", &mut bytes))?;
+    written(write_bytes(claim, &mut bytes))?;
+    match String::from_utf8(bytes) {
+        Ok(text) => Ok(Output::Text(text, Status::Answered)),
+        Err(_) => Err(AllocError),
     }
 }
 

@@ -1,7 +1,7 @@
 //! The command line, read by `clap`.
 
 use clap::builder::ValueParser;
-use clap::{Arg, ArgMatches};
+use clap::{Arg, ArgAction, ArgMatches};
 use std::alloc::{AllocError, Global};
 use std::convert::AsStr;
 use tool_parts::{NoRequest, no_request};
@@ -13,10 +13,10 @@ const MOST_STEPS: u64 = 10_000_000;
 /// What the words ask for.
 #[derive(Clone, Copy, Debug, PartialEq, Eq)]
 pub(crate) enum Request {
-    /// Judge the short claim after a record.
+    /// Judge the short claim, or the claim by answers, after a record.
     Check,
-    /// Search for a short claim with at most this many steps.
-    Prove { steps: u64 },
+    /// Search for a short claim with at most this many steps; or for a claim by answers, of the whole board.
+    Prove { steps: u64, is_whole: bool },
     /// Search as for `Prove`, and write a record for readers.
     Tree { steps: u64 },
 }
@@ -38,6 +38,7 @@ fn chosen(matches: &ArgMatches<'_>) -> Request {
     match matches.subcommand() {
         Some((name, given)) if name == "prove" => Request::Prove {
             steps: steps(given),
+            is_whole: given.get_flag("whole"),
         },
         Some((name, given)) if name == "tree" => Request::Tree {
             steps: steps(given),
@@ -71,13 +72,23 @@ fn with_command<'a>(
 }
 
 fn check_command<'a>(alloc: Global) -> clap::Command<'a> {
-    clap::Command::new(alloc, "check").about("Judges the short claim after a record.")
+    clap::Command::new(alloc, "check").about(
+        "Judges the short claim, or the claim by answers, after a record.",
+    )
 }
 
 fn prove_command<'a>(alloc: Global) -> Result<clap::Command<'a>, AllocError> {
     clap::Command::new(alloc, "prove")
         .about("Searches for a short claim, and writes the record and the claim.")
-        .arg(steps_argument(alloc))
+        .arg(steps_argument(alloc))?
+        .arg(whole_argument(alloc))
+}
+
+fn whole_argument<'a>(alloc: Global) -> Arg<'a> {
+    Arg::new(alloc, "whole")
+        .help("Searches for a claim by answers, which holds whatever stands outside")
+        .long("whole")
+        .action(ArgAction::SetTrue)
 }
 
 fn tree_command<'a>(alloc: Global) -> Result<clap::Command<'a>, AllocError> {

@@ -8,6 +8,8 @@ pub mod Past
 pub mod Exchanges
 pub mod Never
 pub mod Grounds
+pub mod Beside
+pub mod Lasting
 pub mod Resting
 pub mod Spacing
 pub mod Ordering

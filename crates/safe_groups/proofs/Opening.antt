@@ -24,14 +24,14 @@ module _ (a : Area) (c : List Cell) where
   outside_at p on out = opened_at p on ∙ ap (λ b. cond b Empty (cell_at c p)) out
 
   -- an empty point is empty with nothing outside
-  empty_at : (p : ℕ) → p < a.size * a.size → cell_at c p ≡ Empty → cell_at (opened a c) p ≡ Empty
+  pub empty_at : (p : ℕ) → p < a.size * a.size → cell_at c p ≡ Empty → cell_at (opened a c) p ≡ Empty
   empty_at p on e = opened_at p on ∙ go (is_outside a p)
     where
       go : (b : Bool) → cond b Empty (cell_at c p) ≡ Empty
       go true = refl
       go false = e
 
-  pub vanishes : ℕ → Bool
+  unfoldable pub vanishes : ℕ → Bool
   vanishes p = is_captured a.size (opened a c) (opponent_of a.keeper) p
 
   -- clearing the other side when nothing is outside
@@ -55,7 +55,7 @@ module _ (a : Area) (c : List Cell) where
   clear_loose_past p past = get_or_past (clear_loose a c) p Empty (omega (arith, length-clear_loose, past))
 
   -- from a stone inside, a way to a point outside, or to an empty one, leads to an empty one when nothing is outside
-  way_open : (p q : ℕ) (rs : List ℕ) → is_outside a p ≡ false → is_outside a q ≡ true → IsWay a.size c (theirs a) p q rs → (us : List ℕ) × IsPath a.size (opened a c) (theirs a) Empty p us
+  pub way_open : (p q : ℕ) (rs : List ℕ) → is_outside a p ≡ false → is_outside a q ≡ true → IsWay a.size c (theirs a) p q rs → (us : List ℕ) × IsPath a.size (opened a c) (theirs a) Empty p us
   way_open p q [] within out w = absurd (cc (within, out, ap (is_outside a) w.1))
   way_open p q (r ∷ rs) within out w = go (is_outside a r) refl (λ e. way_open r q rs e out w.2)
     where
@@ -69,7 +69,7 @@ module _ (a : Area) (c : List Cell) where
       go true e rest = (r ∷ [], (here, w.1, outside_at r on.1 e))
       go false e rest = let further = rest e in (r ∷ further.0, (here, w.1, further.1))
 
-  path_open : (p : ℕ) (qs : List ℕ) → is_outside a p ≡ false → cell_at c p ≡ theirs a → IsPath a.size c (theirs a) Empty p qs → (us : List ℕ) × IsPath a.size (opened a c) (theirs a) Empty p us
+  pub path_open : (p : ℕ) (qs : List ℕ) → is_outside a p ≡ false → cell_at c p ≡ theirs a → IsPath a.size c (theirs a) Empty p qs → (us : List ℕ) × IsPath a.size (opened a c) (theirs a) Empty p us
   path_open p [] within is path = absurd (cc (is, path))
   path_open p (q ∷ []) within is path =
       let on = adjacent_on_board a.size p q path.1 in
@@ -87,7 +87,7 @@ module _ (a : Area) (c : List Cell) where
       go false e rest = let further = rest e in (q ∷ further.0, (here, path.1, further.1))
 
   -- what vanishes
-  theirs_inside : (p : ℕ) → p < a.size * a.size → vanishes p ≡ true → (is_outside a p ≡ false) × (cell_at c p ≡ theirs a) × (reaches a.size (opened a c) p Empty ≡ false)
+  pub theirs_inside : (p : ℕ) → p < a.size * a.size → vanishes p ≡ true → (is_outside a p ≡ false) × (cell_at c p ≡ theirs a) × (reaches a.size (opened a c) p Empty ≡ false)
   unfolding vanishes
   theirs_inside p on h = go (is_outside a p) refl (same_cell_eq _ _ (and_left (same_cell (cell_at (opened a c) p) (theirs a)) (not (reaches a.size (opened a c) p Empty)) h))
     where

@@ -4,7 +4,7 @@ use Rattle.safe_groups.proofs.Fitting.{own_reaches}
 use Rattle.safe_groups.proofs.Moving.{is_or_not}
 
 -- a way, and then a path
-along : (n : ℕ) (b : List Cell) (own : Cell) (p q : ℕ) (rs qs : List ℕ) → IsWay n b own p q rs → IsPath n b own Empty q qs → (us : List ℕ) × IsPath n b own Empty p us
+pub along : (n : ℕ) (b : List Cell) (own : Cell) (p q : ℕ) (rs qs : List ℕ) → IsWay n b own p q rs → IsPath n b own Empty q qs → (us : List ℕ) × IsPath n b own Empty p us
 along n b own p q [] qs way path = (qs, subst (λ r. IsPath n b own Empty r qs) (sym way.1) path)
 along n b own p q (r ∷ rs) qs way path = let rest = along n b own r q rs qs way.2 path in (r ∷ rest.0, (way.0, way.1, rest.1))
 

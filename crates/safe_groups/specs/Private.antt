@@ -2,3 +2,4 @@ pub mod Spaces
 pub mod Moves
 pub mod Order
 pub mod Verdict
+pub mod Liberties

@@ -5,7 +5,7 @@ ghost use Rattle.std.specs.List.{All};
 ghost use Rattle.go_points.specs.declared.Cell.TheVariants.{Empty};
 ghost use Rattle.go_points.specs.Grid.{cell_at, side_of};
 ghost use Rattle.target_game.specs.State.{start};
-ghost use Rattle.safe_groups.specs.Areas.{IsAnswered};
+ghost use Rattle.safe_groups.specs.Areas.{clear_loose, IsAnswered};
 ghost use Rattle.safe_groups.specs.Ground.{area_of, ground_at, state_at, states_of, AllSafe, AreJudged, AreStates, HasReplies, IsJudged, IsMoveAnswered, IsSafeAs, IsSettled, IsSized, IsState, IsStateAnswered};
 
 use crate::fault::{Fault, Stop};
@@ -119,7 +119,7 @@ fn read_states<R: Read>(
 /// How many replies are due in the state.
 fn count_due(ground: &Ground, state: &Colouring) -> Result<usize, Stop>
     requires sized { IsSized (side_of ground.now.cells) ground.now }
-    requires state { IsState ground.now state.now }
+    requires state { IsSettled ground.now state.now }
 {
     let size = ground.size();
     let mut due: usize = 0;
@@ -194,6 +194,7 @@ fn judge_reply<R: Read>(
     requires sized { IsSized (side_of ground.now.cells) ground.now }
     requires states { AreStates ground.now states.now }
     requires side { side_of left.now ≡ side_of ground.now.cells }
+    requires clear { clear_loose (area_of ground.now) left.now ≡ left.now }
     requires within { number < side_of ground.now.cells * side_of ground.now.cells }
     ensures { OnOk result (IsAnswered (area_of ground.now) (states_of states.now) left.now) }
 {
@@ -223,7 +224,7 @@ fn judge_move<R: Read>(
 ) -> Result<(), Stop>
     requires sized { IsSized (side_of ground.now.cells) ground.now }
     requires states { AreStates ground.now states.now }
-    requires state { IsState ground.now state.now }
+    requires state { IsSettled ground.now state.now }
     requires listed { IsTrue (states_of states.now state.now) }
     requires within { number < side_of ground.now.cells * side_of ground.now.cells }
     ensures { OnOk result (cell_at state.now number ≡ Empty
@@ -246,7 +247,7 @@ fn judge_moves<R: Read>(
 ) -> Result<(), Stop>
     requires sized { IsSized (side_of ground.now.cells) ground.now }
     requires states { AreStates ground.now states.now }
-    requires state { IsState ground.now state.now }
+    requires state { IsSettled ground.now state.now }
     requires listed { IsTrue (states_of states.now state.now) }
     ensures { OnOk result
         (IsStateAnswered (area_of ground.now) (states_of states.now) state.now) }
@@ -275,7 +276,7 @@ fn judge_state<R: Read>(
 ) -> Result<(), Stop>
     requires sized { IsSized (side_of ground.now.cells) ground.now }
     requires states { AreStates ground.now states.now }
-    requires state { IsState ground.now state.now }
+    requires state { IsSettled ground.now state.now }
     requires listed { IsTrue (states_of states.now state.now) }
     ensures { OnOk result (IsJudged ground.now states.now state.now) }
 {

@@ -330,6 +330,9 @@ impl Ground {
         requires side { side_of board.now ≡ side_of self.now.cells }
         ensures { IsTrue result → Fits (area_of self.now) board.now state.now }
     {
+        if *board == *state {
+            return true;
+        }
         let rooted = self.rooted_stones(state);
         let size = board.size();
         for number in 0..size.area() {

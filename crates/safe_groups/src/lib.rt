@@ -8,6 +8,7 @@ mod fault;
 mod ground;
 mod heads;
 pub mod laws;
+mod liberties;
 mod lines;
 mod states;
 mod together;

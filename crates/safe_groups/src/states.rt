@@ -3,8 +3,8 @@
 ghost use Rattle.std.specs.Prelude.{◌≡◌, ◌<◌, ◌*◌, ℕ, slice_set, IsTrue, IfSome, IfOk, Option, Some, None};
 ghost use Rattle.go_points.specs.declared.Cell.TheVariants.{Empty};
 ghost use Rattle.go_points.specs.Grid.{cell_at, side_of};
-ghost use Rattle.safe_groups.specs.Areas.{after_answer, after_other, own, theirs, is_outside, IsAnswer, IsAnswered, IsKnown, Leans};
-ghost use Rattle.safe_groups.specs.Ground.{area_of, states_of, AreStates, IsMoveAnswered, IsSized, IsState};
+ghost use Rattle.safe_groups.specs.Areas.{after_answer, after_other, clear_loose, own, theirs, is_outside, IsAnswer, IsAnswered, IsKnown, Leans};
+ghost use Rattle.safe_groups.specs.Ground.{area_of, states_of, AreStates, IsMoveAnswered, IsSettled, IsSized, IsState};
 ghost use Rattle.safe_groups.specs.Private.Moves.{IsLeft};
 
 use crate::ground::Ground;
@@ -35,6 +35,18 @@ impl Ground {
         self.fits(colouring, &states[place])
     }
 
+    /// The colouring with one more stone of the keeper's.
+    fn with_own(&self, state: &Colouring, number: usize) -> Colouring
+        requires side { side_of state.now ≡ side_of self.now.cells }
+        requires within { number < side_of self.now.cells * side_of self.now.cells }
+        ensures value { result ≡ slice_set state.now number (own (area_of self.now)) }
+        ensures side { side_of result ≡ side_of self.now.cells }
+    {
+        let mut placed = *state;
+        placed.set(state.size().point_at(number), self.own());
+        placed
+    }
+
     /// The colouring with one more stone of the keeper's, without the loose stones of the other side's.
     pub fn after_answer(&self, state: &Colouring, number: usize) -> Colouring
         requires side { side_of state.now ≡ side_of self.now.cells }
@@ -42,8 +54,23 @@ impl Ground {
         ensures value { result ≡ after_answer (area_of self.now) state.now number }
         ensures side { side_of result ≡ side_of self.now.cells }
     {
-        let mut placed = *state;
-        placed.set(state.size().point_at(number), self.own());
+        self.without_loose(&self.with_own(state, number))
+    }
+
+    /// The same of a colouring without loose stones: mostly the answer takes none, as the stones beside it show.
+    fn after_next_answer(&self, state: &Colouring, number: usize) -> Colouring
+        requires side { side_of state.now ≡ side_of self.now.cells }
+        requires held { side_of self.now.held ≡ side_of self.now.cells }
+        requires within { number < side_of self.now.cells * side_of self.now.cells }
+        requires clear { clear_loose (area_of self.now) state.now ≡ state.now }
+        requires free { cell_at state.now number ≡ Empty }
+        ensures value { result ≡ after_answer (area_of self.now) state.now number }
+        ensures side { side_of result ≡ side_of self.now.cells }
+    {
+        let placed = self.with_own(state, number);
+        if self.last_beside(&placed, number, self.theirs()) {
+            return placed;
+        }
         self.without_loose(&placed)
     }
 
@@ -70,9 +97,10 @@ impl Ground {
 
     /// What the other side's move at this point of the state comes to.
     ///
-    /// It takes a few sweeps over the board.
+    /// It looks at the stones beside the point, from each until a liberty is found; only a suicide of several stones takes a few sweeps
+    /// over the board.
     pub fn exchange(&self, state: &Colouring, number: usize) -> Exchange
-        requires state { IsState self.now state.now }
+        requires state { IsSettled self.now state.now }
         requires held { side_of self.now.held ≡ side_of self.now.cells }
         requires within { number < side_of self.now.cells * side_of self.now.cells }
         ensures { IsLeft (area_of self.now) state.now number result }
@@ -81,14 +109,16 @@ impl Ground {
             return Exchange::Nothing;
         }
         let placed = self.with_theirs(state, number);
-        if !self.stands(&placed) {
+        if !self.last_beside(&placed, number, self.own()) {
             return Exchange::Takes;
         }
-        let left = self.without_loose(&placed);
-        if left == *state {
+        if self.lasts(&placed, number) {
+            return Exchange::Leaves(placed);
+        }
+        if self.is_enclosed(state, number) {
             return Exchange::Nothing;
         }
-        Exchange::Leaves(left)
+        Exchange::Leaves(self.without_loose(&placed))
     }
 
     /// Whether what is left by a move of the other side fits the state at this place, or does so after this answer.
@@ -102,6 +132,8 @@ impl Ground {
         requires states { AreStates self.now states.now }
         requires side { side_of left.now ≡ side_of self.now.cells }
         requires marks { side_of self.now.marks ≡ side_of self.now.cells }
+        requires held { side_of self.now.held ≡ side_of self.now.cells }
+        requires clear { clear_loose (area_of self.now) left.now ≡ left.now }
         ensures { IsTrue result
             → IsAnswered (area_of self.now) (states_of states.now) left.now }
     {
@@ -117,6 +149,6 @@ impl Ground {
         if !left.cell(number).is_empty() {
             return false;
         }
-        self.is_known(states, &self.after_answer(left, number), next)
+        self.is_known(states, &self.after_next_answer(left, number), next)
     }
 }

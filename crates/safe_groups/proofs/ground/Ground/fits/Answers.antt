@@ -1,4 +1,5 @@
-use Rattle.safe_groups.proofs.Common.{◌≡◌, sym, ◌∙◌, ap, ◌<◌, ◌*◌, ◌⊎◌, inl, inr, subst, arith, length, side_of, area_of, FitsAt}
+use Rattle.safe_groups.proofs.Common.{◌≡◌, sym, ◌∙◌, ap, ◌<◌, ◌*◌, ◌⊎◌, inl, inr, subst, arith, length, side_of, area_of, same_cells_eq, Fits, FitsAt}
+use Rattle.safe_groups.proofs.Fitting.{fits_self}
 use Rattle.safe_groups.proofs.Grounds.{fits_by, region_within}
 use Rattle.safe_groups.proofs.ground.Ground.fits.Goals as goal
 
@@ -19,3 +20,6 @@ returns c = λ yes.
     fits_by (area_of g) b c.args.state.now c.requires.state.walled full
     (λ p is. region_within g p is)
     (λ p on. c.loop-number.invariant p (omega (arith, on, c.loop-number-test.false, c.area-number-end.ensures.value, ap (λ m. m * m) size)))
+
+pub returns-then-eq : goal.returns-then-eq
+returns-then-eq c = λ yes. subst (λ b. Fits (area_of c.args.self.now) b c.args.state.now) (sym (same_cells_eq _ _ (sym c.eq.ensures ∙ c.if-eq.true))) (fits_self (area_of c.args.self.now) c.args.state.now)

@@ -1,18 +1,15 @@
 -- Loops over the points beside a point, and sets of stones that wait to be looked at.
-use Rattle.safe_groups.proofs.Common.{◌≡◌, ◌≢◌, ℕ, ◌<◌, ◌≤◌, ◌⊎◌, inl, inr, IsTrue, List, Cell, length, map, get_or, sym, ◌∙◌, ap, subst, All, adjacent, cell_at, Place, number_of, holds_place, Joined, joined_self, joined_beside, reaches_beside, Reaches, Empty}
-use Rattle.std.proofs.Common.{◌+◌, take, true, false, not, [], ◌∷◌, Some}
+use Rattle.safe_groups.proofs.Common.{◌≡◌, ◌≢◌, ℕ, ◌<◌, ◌≤◌, ◌⊎◌, inl, inr, IsTrue, List, Cell, length, map, get_or, sym, ◌∙◌, ap, subst, All, adjacent, cell_at, Place, number_of, holds_place, Joined, joined_self, joined_beside, reaches_beside, Reaches, Empty, ◌+◌, true, false, not, [], ◌∷◌, Some, IsOn, and_right, or_cases, or_left, IsNext, AreJoined}
+use Rattle.std.proofs.Common.{take}
 use Rattle.std.proofs.lemmas.List.{take_all}
 use Rattle.go_points.specs.Grid.{neighbours}
-use Rattle.go_points.specs.Place.{IsOn}
 use Rattle.go_points.specs.Points.{first_place, same_place, with_place, without_place}
 use Rattle.go_points.proofs.Cells.{neighbours_member}
-use Rattle.go_points.proofs.Lists.{and_right, or_cases, or_left}
 use Rattle.go_points.proofs.Membership.{sets_gain, sets_lose}
 use Rattle.go_points.proofs.Common.{same_place_decides}
 use Rattle.go_chains.specs.Private.Chains.{IsIn}
 use Rattle.go_chains.proofs.Beside.{in_more, item_beside}
 use Rattle.go_chains.proofs.Counts.{member_in}
-use Rattle.safe_groups.specs.Private.Liberties.{IsNext, AreJoined}
 
 -- what has been said of the first i of the points beside a point
 abbrev pub AllBeside : ℕ → (ℕ → Type 0) → List Place → ℕ → Type 0

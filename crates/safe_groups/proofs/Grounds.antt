@@ -1,6 +1,5 @@
 -- What the judge finds of the states of an area.
-use Rattle.safe_groups.proofs.Common.{sym, subst, refl, ◌≡◌, ◌≢◌, ◌∙◌, List, ℕ, ap, IsTrue, true, false, Bool, inl, inr, [], ◌∷◌, ◌*◌, ◌<◌, ◌≤◌, ◌⊎◌, ◌&&◌, cond, not, length, set, arith, get_or-set_same, get_or-set_other, length-set, get_or_past, eq_same_cell, same_cell_eq, adjacent_on_board, on_or_off, reaches_path, clear, is_captured, cell_at, same_cell, adjacent, opponent_of, reaches, IsPath, Reaches, Cell, Empty, Stone, Colour, cell_at-clear, stone_before, joined_self, Area, own, theirs, is_outside, IsWalled, Rooted, Fits, IsAtRest, opened, clear_loose, nat_lt, ltb-true, length-map-range_with_len, and_left, and_right, and_both, not_false, Leans, Ground, area_of, IsState, IsWalledAt, shut_cell, FitsAt, Joined, joined_on, joined_beside, reaches_beside, lifted_cell}
-use Rattle.std.proofs.Common.{◌+◌}
+use Rattle.safe_groups.proofs.Common.{sym, subst, refl, ◌≡◌, ◌≢◌, ◌∙◌, List, ℕ, ap, IsTrue, true, false, Bool, inl, inr, [], ◌∷◌, ◌*◌, ◌<◌, ◌≤◌, ◌⊎◌, ◌&&◌, cond, not, length, set, arith, get_or-set_same, get_or-set_other, length-set, get_or_past, eq_same_cell, same_cell_eq, adjacent_on_board, on_or_off, reaches_path, clear, is_captured, cell_at, same_cell, adjacent, opponent_of, reaches, IsPath, Reaches, Cell, Empty, Stone, Colour, cell_at-clear, stone_before, joined_self, Area, own, theirs, is_outside, IsWalled, Rooted, Fits, IsAtRest, opened, clear_loose, nat_lt, ltb-true, length-map-range_with_len, and_left, and_right, and_both, not_false, Leans, Ground, area_of, IsState, IsWalledAt, shut_cell, FitsAt, Joined, joined_on, joined_beside, reaches_beside, lifted_cell, ◌+◌}
 use Rattle.go_points.proofs.Common.{ext_get_or}
 use Rattle.go_points.proofs.Lists.{and_false}
 unfoldable use Rattle.go_points.specs.Grid.{side_of}

@@ -1,8 +1,6 @@
 -- Whether stones keep a liberty when one more is put down, by those beside it.
-use Rattle.safe_groups.proofs.Common.{sym, subst, refl, ◌≡◌, ◌≢◌, ◌∙◌, List, ℕ, ap, IsTrue, true, false, Bool, inl, inr, [], ◌∷◌, ◌*◌, ◌<◌, ◌≤◌, ◌⊎◌, ◌&&◌, cond, not, length, arith, get_or_past, eq_same_cell, adjacent_on_board, on_or_off, reaches_path, clear, cell_at, same_cell, adjacent, opponent_of, reaches, IsPath, Reaches, Cell, Empty, Stone, joined_self, IsWay, Area, own, theirs, is_outside, IsWalled, opened, clear_loose, joined_on, joined_beside, joined_holds, Leans, Joined, length-clear, IsAtRest, set, after_other, after_answer}
-use Rattle.go_points.proofs.Cells.{adjacent_back}
+use Rattle.safe_groups.proofs.Common.{sym, subst, refl, ◌≡◌, ◌≢◌, ◌∙◌, List, ℕ, ap, IsTrue, true, false, Bool, inl, inr, [], ◌∷◌, ◌*◌, ◌<◌, ◌≤◌, ◌⊎◌, ◌&&◌, cond, not, length, arith, get_or_past, eq_same_cell, adjacent_on_board, on_or_off, reaches_path, clear, cell_at, same_cell, adjacent, opponent_of, reaches, IsPath, Reaches, Cell, Empty, Stone, joined_self, IsWay, Area, own, theirs, is_outside, IsWalled, opened, clear_loose, joined_on, joined_beside, joined_holds, Leans, Joined, length-clear, IsAtRest, set, after_other, after_answer, adjacent_back, Lasts, LastBeside}
 use Rattle.go_points.proofs.Clearing.{reaching_kept}
-use Rattle.safe_groups.specs.Private.Liberties.{Lasts, LastBeside}
 use Rattle.safe_groups.proofs.Moving.{is_or_not, at_put, past_put, full_put}
 use Rattle.safe_groups.proofs.Opening.{not_both, opened_at, inside_at, empty_at, vanishes, cleared_at, outside_spared, length-clear_loose, clear_loose_at, way_open, path_open, theirs_inside, vanishes_theirs, vanishes_unrooted, vanishes_stuck}
 use Rattle.safe_groups.proofs.Grounds.{length-opened, same_by_points}

@@ -1,6 +1,6 @@
 -- The attacker wins no state whose targets are safe by answers.
-use Rattle.safe_groups.proofs.Common.{sym, subst, refl, ◌≡◌, ◌∙◌, List, ℕ, zero, suc, ap, IsTrue, IsFalse, true, false, Bool, inl, inr, [], ◌∷◌, ◌++◌, ◌*◌, ◌<◌, ◌≤◌, ◌⊎◌, ◌&&◌, not, arith, cell_at, same_cell, eq_same_cell, same_cell_eq, opponent_of, opponent_twice, after_move, Cell, Empty, Stone, Colour, Points, States, IsWalled, IsAnswered, Areas, area_at, RepliesTogether, HoldsAt, AreListed, IsOwed, IsKept, in_one, nat_eq, nat_lt, ltb-true, and_left, and_right, and_both, has_occurred, holds_point, IsSafe, IsSafeAfter, StandThrough, eq-eqb, lt-ltb, GameState}
-use Rattle.std.proofs.Common.{if◌then◌else◌, Some, None}
+use Rattle.safe_groups.proofs.Common.{sym, subst, refl, ◌≡◌, ◌∙◌, List, ℕ, zero, suc, ap, IsTrue, IsFalse, true, false, Bool, inl, inr, [], ◌∷◌, ◌++◌, ◌*◌, ◌<◌, ◌≤◌, ◌⊎◌, ◌&&◌, not, arith, cell_at, same_cell, eq_same_cell, same_cell_eq, opponent_of, opponent_twice, after_move, Cell, Empty, Stone, Colour, Points, States, IsWalled, IsAnswered, Areas, area_at, RepliesTogether, HoldsAt, AreListed, IsOwed, IsKept, in_one, nat_eq, nat_lt, ltb-true, and_left, and_right, and_both, has_occurred, holds_point, IsSafe, IsSafeAfter, StandThrough, eq-eqb, lt-ltb, GameState, Some, None}
+use Rattle.std.proofs.Common.{if◌then◌else◌}
 use Rattle.go_points.specs.Grid.{same_colour}
 use Rattle.go_points.specs.Equal.{same_colour_eq}
 use Rattle.go_points.specs.Ply.{Ply, pass, move}

@@ -1,6 +1,5 @@
 -- A state in which nothing is to be answered stays one, whatever the other side plays.
-use Rattle.safe_groups.proofs.Common.{sym, subst, refl, ◌≡◌, ◌≢◌, ◌∙◌, List, ℕ, ap, IsTrue, IsFalse, true, false, Bool, inl, inr, [], ◌∷◌, ◌*◌, ◌<◌, ◌≤◌, ◌⊎◌, ◌&&◌, cond, not, length, map, set, arith, nat_eq, eqb-true, same_cell, same_cell_eq, eq_same_cell, same_cells, same_cells_eq, and_left, and_right, and_both, length-map-range_with_len, opponent_of, cell_at, adjacent, adjacent_on_board, on_or_off, get_or_past, IsPath, Reaches, Cell, Empty, Stone, Colour, IsWay, Area, Points, States, own, theirs, is_outside, IsWalled, Rooted, clear_loose, after_other, Leans, IsAtRest, eq-eqb, get_or-map-range_with_len, same_cells_refl, joined_on, joined_beside, joined_holds, reaches_beside, Joined, IsEye, TwoEyes, IsResting}
-use Rattle.go_points.proofs.Cells.{adjacent_back}
+use Rattle.safe_groups.proofs.Common.{sym, subst, refl, ◌≡◌, ◌≢◌, ◌∙◌, List, ℕ, ap, IsTrue, IsFalse, true, false, Bool, inl, inr, [], ◌∷◌, ◌*◌, ◌<◌, ◌≤◌, ◌⊎◌, ◌&&◌, cond, not, length, map, set, arith, nat_eq, eqb-true, same_cell, same_cell_eq, eq_same_cell, same_cells, same_cells_eq, and_left, and_right, and_both, length-map-range_with_len, opponent_of, cell_at, adjacent, adjacent_on_board, on_or_off, get_or_past, IsPath, Reaches, Cell, Empty, Stone, Colour, IsWay, Area, Points, States, own, theirs, is_outside, IsWalled, Rooted, clear_loose, after_other, Leans, IsAtRest, eq-eqb, get_or-map-range_with_len, same_cells_refl, joined_on, joined_beside, joined_holds, reaches_beside, Joined, IsEye, TwoEyes, IsResting, adjacent_back}
 use Rattle.go_points.specs.Grid.{points}
 use Rattle.safe_groups.proofs.Opening.{cell_cases, not_both, vanishes, clear_loose_at, length-clear_loose, stays_cases, vanishes_theirs, vanishes_stuck, vanishes_unrooted}
 use Rattle.safe_groups.proofs.Fitting.{stone_on, was_there, own_stays, kept_at, walled_still, rooted_still}

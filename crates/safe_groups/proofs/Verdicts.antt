@@ -1,5 +1,5 @@
 -- The areas of a claim together: what the judge finds of them makes the stones safe.
-use Rattle.safe_groups.proofs.Common.{sym, subst, refl, ◌≡◌, ◌≢◌, ◌∙◌, List, ℕ, zero, suc, ap, IsTrue, IsFalse, true, false, Bool, inl, inr, [], ◌∷◌, ◌++◌, ◌*◌, ◌<◌, ◌⊎◌, length, set, arith, get_or, map, list_all, same_cell, same_cell_eq, cell_at, nat_lt, ltb-true, Cell, Colour, Stone, side_of, number_of, holds_point, has_occurred, after_move, start, Area, States, own, IsWalled, Fits, Replies, IsAnswer, after_answer, Empty, Areas, area_at, RepliesTogether, PastFits, HoldsAt, AreListed, IsOwed, IsKept, area_of, BarsNone, IsOfBoard, IsSized, IsSafe, IsSafeAfter, Ground, All, lt-ltb, Place, GameProblem, GameState, areas_of, ground_at, state_at, HasReplies, AreKept, BarsNothing, LacksOne}
+use Rattle.safe_groups.proofs.Common.{sym, subst, refl, ◌≡◌, ◌≢◌, ◌∙◌, List, ℕ, zero, suc, ap, IsTrue, IsFalse, true, false, Bool, inl, inr, [], ◌∷◌, ◌++◌, ◌*◌, ◌<◌, ◌⊎◌, length, set, arith, get_or, map, list_all, same_cell, same_cell_eq, cell_at, nat_lt, ltb-true, Cell, Colour, Stone, side_of, number_of, holds_point, has_occurred, after_move, start, Area, States, own, IsWalled, Fits, Replies, IsAnswer, after_answer, Empty, Areas, area_at, RepliesTogether, PastFits, HoldsAt, AreListed, IsOwed, IsKept, area_of, BarsNone, IsOfBoard, IsSized, IsSafe, IsSafeAfter, Ground, All, lt-ltb, Place, GameProblem, GameState, areas_of, ground_at, state_at, HasReplies, AreKept, BarsNothing, LacksOne, None}
 use Rattle.safe_groups.specs.Ground.{aimed_at, HoldsFor, IsMoveFrom, IsSafeAs, AllSafe}
 use Rattle.safe_groups.specs.Private.Verdict.{StandsInOne}
 use Rattle.safe_groups.proofs.Fitting.{fits_self}
@@ -8,7 +8,6 @@ use Rattle.safe_groups.proofs.Judging.{of_listed, targets_by}
 use Rattle.safe_groups.proofs.Serving.{pick}
 use Rattle.safe_groups.proofs.Exchanges.{answer_allowed, holds_answered, listed_answered, kept_answered, kept_there}
 use Rattle.safe_groups.proofs.Never.{targets_there, free_legal}
-use Rattle.std.proofs.Common.{None}
 
 pub default_same : {A : Type 0} (xs : List A) (k : ℕ) (d e : A) → k < length xs → get_or xs k d ≡ get_or xs k e
 default_same [] k d e low = absurd (omega (arith, low))

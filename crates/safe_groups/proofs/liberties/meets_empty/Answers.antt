@@ -1,5 +1,4 @@
-use Rattle.safe_groups.proofs.Common.{◌≡◌, sym, ◌∙◌, subst, refl, true, Empty, cell_at, side_of, number_of, same_cell_eq, adjacent}
-use Rattle.safe_groups.specs.Private.Liberties.{IsNext}
+use Rattle.safe_groups.proofs.Common.{◌≡◌, sym, ◌∙◌, subst, refl, true, Empty, cell_at, side_of, number_of, same_cell_eq, adjacent, IsNext}
 use Rattle.safe_groups.proofs.Beside.{HasMore, more_one, beside_on, beside_adjacent}
 use Rattle.safe_groups.proofs.liberties.meets_empty.Goals as goal
 use Rattle.safe_groups.proofs.liberties.meets_empty.Goals.{then-are_same+then-not-has, else-are_same}

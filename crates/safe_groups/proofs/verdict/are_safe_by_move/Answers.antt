@@ -1,4 +1,4 @@
-use Rattle.safe_groups.proofs.Common.{number_of}
+use Rattle.go_points.specs.Place.{number_of}
 use Rattle.safe_groups.proofs.Verdicts.{safe_targets_after, safe_stones_after}
 use Rattle.safe_groups.proofs.verdict.are_safe_by_move.Goals as goal
 

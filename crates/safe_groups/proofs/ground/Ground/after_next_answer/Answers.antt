@@ -1,6 +1,5 @@
-use Rattle.safe_groups.proofs.Common.{◌≡◌, ◌*◌, ◌∙◌, sym, ap, subst, length, side_of, clear_loose, area_of}
+use Rattle.safe_groups.proofs.Common.{◌≡◌, ◌*◌, ◌∙◌, sym, ap, subst, length, side_of, clear_loose, area_of, LastBeside}
 use Rattle.safe_groups.proofs.Opening.{length-clear_loose}
-use Rattle.safe_groups.specs.Private.Liberties.{LastBeside}
 use Rattle.safe_groups.proofs.Lasting.{answer_clear}
 use Rattle.safe_groups.proofs.ground.Ground.after_next_answer.Goals as goal
 

@@ -1,5 +1,4 @@
-use Rattle.safe_groups.proofs.Common.{◌≡◌, ◌∙◌, sym, ap, subst, same_cell_eq, cell_at, Empty, area_of}
-use Rattle.safe_groups.specs.Private.Liberties.{LastBeside}
+use Rattle.safe_groups.proofs.Common.{◌≡◌, ◌∙◌, sym, ap, subst, same_cell_eq, cell_at, Empty, area_of, LastBeside}
 use Rattle.safe_groups.proofs.Lasting.{keeps, lasting_left, lasting_clear, goes_again, loose_left, clear_again}
 use Rattle.safe_groups.proofs.ground.Ground.exchange.Goals as goal
 

@@ -1,5 +1,4 @@
-use Rattle.safe_groups.proofs.Common.{◌≡◌, sym, ◌∙◌, ap, subst, map, side_of, number_of, holds_point}
-use Rattle.go_points.specs.Place.{IsOn}
+use Rattle.safe_groups.proofs.Common.{◌≡◌, sym, ◌∙◌, ap, subst, map, side_of, number_of, holds_point, IsOn}
 use Rattle.target_game.proofs.Playing.{holds_numbered}
 use Rattle.safe_groups.proofs.ground.Ground.is_allowed.Goals as goal
 

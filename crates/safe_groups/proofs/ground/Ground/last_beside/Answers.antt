@@ -1,5 +1,4 @@
-use Rattle.safe_groups.proofs.Common.{◌≡◌, sym, ◌∙◌, ap, subst, ℕ, cell_at, side_of, number_of, area_of}
-use Rattle.safe_groups.specs.Private.Liberties.{Lasts}
+use Rattle.safe_groups.proofs.Common.{◌≡◌, sym, ◌∙◌, ap, subst, ℕ, cell_at, side_of, number_of, area_of, Lasts}
 use Rattle.safe_groups.proofs.Beside.{beside_all, beside_more, beside_those}
 use Rattle.safe_groups.proofs.ground.Ground.last_beside.Goals as goal
 

@@ -1,5 +1,4 @@
-use Rattle.safe_groups.proofs.Common.{◌≡◌, ℕ, cell_at, side_of, area_of}
-use Rattle.safe_groups.specs.Private.Liberties.{Lasts}
+use Rattle.safe_groups.proofs.Common.{◌≡◌, ℕ, cell_at, side_of, area_of, Lasts}
 use Rattle.safe_groups.proofs.Beside.{AllBeside}
 use Rattle.safe_groups.proofs.ground.Ground.last_beside.Given as goal
 

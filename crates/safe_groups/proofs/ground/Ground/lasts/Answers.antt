@@ -1,5 +1,4 @@
-use Rattle.safe_groups.proofs.Common.{◌≡◌, sym, ◌∙◌, ap, inl, inr, subst, IsTrue, side_of, number_of, holds_place, area_of}
-use Rattle.go_points.specs.Place.{IsOn}
+use Rattle.safe_groups.proofs.Common.{◌≡◌, sym, ◌∙◌, ap, inl, inr, subst, IsTrue, side_of, number_of, holds_place, area_of, IsOn}
 use Rattle.safe_groups.specs.Private.Liberties.{NeedsNone}
 use Rattle.safe_groups.proofs.Beside.{first_held, joined_first, joined_more, more_at, empty_found}
 use Rattle.safe_groups.proofs.ground.Ground.lasts.Goals as goal

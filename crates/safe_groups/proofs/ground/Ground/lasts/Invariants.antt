@@ -1,5 +1,4 @@
-use Rattle.safe_groups.proofs.Common.{side_of}
-use Rattle.safe_groups.specs.Private.Liberties.{AreJoined}
+use Rattle.safe_groups.proofs.Common.{side_of, AreJoined}
 use Rattle.safe_groups.proofs.ground.Ground.lasts.Given as goal
 
 abbrev pub invariant-loop : goal.invariant-loop

@@ -1,12 +1,11 @@
 -- Loops over the points beside a point, and sets of stones that wait to be looked at.
-use Rattle.safe_groups.proofs.Common.{◌≡◌, ◌≢◌, ℕ, ◌<◌, ◌≤◌, ◌⊎◌, inl, inr, IsTrue, List, Cell, length, map, get_or, sym, ◌∙◌, ap, subst, All, adjacent, cell_at, Place, number_of, holds_place, Joined, joined_self, joined_beside, reaches_beside, Reaches, Empty, ◌+◌, true, false, not, [], ◌∷◌, Some, IsOn, and_right, or_cases, or_left, IsNext, AreJoined}
+use Rattle.safe_groups.proofs.Common.{◌≡◌, ◌≢◌, ℕ, ◌<◌, ◌≤◌, ◌⊎◌, inl, inr, IsTrue, List, Cell, length, map, get_or, sym, ◌∙◌, ap, subst, All, adjacent, cell_at, Place, number_of, holds_place, Joined, joined_self, joined_beside, reaches_beside, Reaches, Empty, ◌+◌, true, false, not, [], ◌∷◌, Some, IsOn, and_right, or_cases, or_left, IsNext, AreJoined, same_place, with_place, sets_gain, same_place_decides}
 use Rattle.std.proofs.Common.{take}
 use Rattle.std.proofs.lemmas.List.{take_all}
 use Rattle.go_points.specs.Grid.{neighbours}
-use Rattle.go_points.specs.Points.{first_place, same_place, with_place, without_place}
+use Rattle.go_points.specs.Points.{first_place, without_place}
 use Rattle.go_points.proofs.Cells.{neighbours_member}
-use Rattle.go_points.proofs.Membership.{sets_gain, sets_lose}
-use Rattle.go_points.proofs.Common.{same_place_decides}
+use Rattle.go_points.proofs.Membership.{sets_lose}
 use Rattle.go_chains.specs.Private.Chains.{IsIn}
 use Rattle.go_chains.proofs.Beside.{in_more, item_beside}
 use Rattle.go_chains.proofs.Counts.{member_in}

@@ -1,5 +1,8 @@
 -- The keeper's stones of a state and the points between them, as the boards of a decision, and what they say of the state.
-use Rattle.safe_groups.proofs.Common.{sym, subst, refl, ◌≡◌, ◌≢◌, ◌∙◌, List, ℕ, ap, IsTrue, IsFalse, true, false, Bool, inl, inr, [], ◌∷◌, ◌*◌, ◌<◌, ◌⊎◌, ◌&&◌, cond, not, cell_at, adjacent, adjacent_on_board, Cell, Empty, Stone, Colour, same_cell, same_cell_eq, eq_same_cell, nat_lt, ltb-true, and_left, and_right, and_both, IsWay, Area, Points, own, theirs, is_outside, side_of, Ground, area_of, marked, IsState, lt-ltb, Place, place_of, holds_place, Joined, IsChainOf, AreLibertiesOf, joined_self, joined_holds, joined_beside, IsEye, TwoEyes, alone_cell, space_cell, IsEyePoint, IsSafeAt, IsGivenAt}
+use Rattle.safe_groups.proofs.Common.{sym, subst, refl, ◌≡◌, ◌≢◌, ◌∙◌, List, ℕ, ap, IsTrue, IsFalse, true, false, Bool, inl, inr, [], ◌∷◌, ◌*◌, ◌<◌, ◌⊎◌, ◌&&◌, cond, not, cell_at, adjacent, adjacent_on_board, Cell, Empty, Stone, Colour, same_cell, same_cell_eq, eq_same_cell, nat_lt, ltb-true, and_left, and_right, and_both, IsWay, Area, Points, own, theirs, is_outside, side_of, Ground, area_of, marked, IsState, lt-ltb, Place, place_of, holds_place, Joined, IsChainOf, AreLibertiesOf, joined_self, joined_holds, joined_beside, IsEye, TwoEyes, alone_cell, space_cell, IsEyePoint, IsSafeAt, IsGivenAt, same_place_decides, or_cases, or_left, or_right, sets_gain, IsOn, number_of, same_place, with_place, joined_on, IsOfChain}
+use Rattle.go_points.proofs.Sides.{number_below}
+use Rattle.go_turns.proofs.Openings.{place_back}
+use Rattle.go_chains.proofs.Joins.{joined_back}
 use Rattle.safe_groups.specs.Private.Spaces.{these, AreAlone, AreSpaces, AreEyePoints, AreBeside, IsFreeOf, LeansOn}
 use Rattle.safe_groups.proofs.Opening.{not_both}
 
@@ -11,7 +14,7 @@ mine_or_not a x = go (same_cell x (own a)) refl
     go false e = inr (λ same. cc (e, eq_same_cell x (own a) same))
 
 module _ (a : Area) (c stones : List Cell) (alone : AreAlone a c stones) where
-  alone_back : (p : ℕ) → p < a.size * a.size → cell_at stones p ≡ own a → cell_at c p ≡ own a
+  pub alone_back : (p : ℕ) → p < a.size * a.size → cell_at stones p ≡ own a → cell_at c p ≡ own a
   alone_back p on e = go (same_cell (cell_at c p) (own a)) refl (sym (alone p on) ∙ e)
     where
       go : (b : Bool) → same_cell (cell_at c p) (own a) ≡ b → cond b (own a) Empty ≡ own a → cell_at c p ≡ own a
@@ -25,7 +28,7 @@ module _ (a : Area) (c stones : List Cell) (alone : AreAlone a c stones) where
   alone_way p q [] on way = (alone_back p on way.0, way.1)
   alone_way p q (r ∷ rs) on way = (alone_back p on way.0, way.1, alone_way r q rs (adjacent_on_board a.size p r way.1).1 way.2)
 
-  alone_joined : (p q : ℕ) → p < a.size * a.size → cell_at c p ≡ own a → Joined a.size stones p q → Joined a.size c p q
+  pub alone_joined : (p q : ℕ) → p < a.size * a.size → cell_at c p ≡ own a → Joined a.size stones p q → Joined a.size c p q
   alone_joined p q on is joined = (joined.0, subst (λ x. IsWay a.size c x p q joined.0) (sym is) (alone_way p q joined.0 on (subst (λ x. IsWay a.size stones x p q joined.0) (alone_there p on is) joined.1)))
 
   pub near_beside : (p : ℕ) (s : List Place) → p < a.size * a.size → cell_at c p ≡ own a → AreLibertiesOf a.size stones p s → AreBeside a c p s
@@ -107,3 +110,62 @@ module _ (g : Ground) (c spaces : List Cell) (are : AreSpaces (area_of g) c spac
 
 pub two_eyes : (a : Area) (c : List Cell) (p : ℕ) (first second : List Place) → IsEye a c p (these a.size first) → IsEye a c p (these a.size second) → IsFreeOf a.size second first → TwoEyes a c p
 two_eyes a c p first second one other free = record { first = these a.size second; second = these a.size first; is_first = other; is_second = one; apart = free }
+
+-- what is true of a stone is true of those that it is joined with
+safe_eye : (a : Area) (c : List Cell) (p q : ℕ) (eye : Points) → Joined a.size c p q → IsEye a c p eye → IsEye a c q eye
+safe_eye a c p q eye joined is = record {
+  some = is.some;
+  on_board = is.on_board;
+  inside = is.inside;
+  not_own = is.not_own;
+  enclosed = is.enclosed;
+  beside = λ r e. (let at = is.beside r e in (at.0, at.1, joined_on a.size c q p at.0 (joined_back a.size c p q joined) at.2));
+}
+
+pub safe_joined : (a : Area) (c : List Cell) (p q : ℕ) → Joined a.size c p q → IsSafeAt a c p → IsSafeAt a c q
+safe_joined a c p q joined (inl eyes) = inl (record { first = eyes.first; second = eyes.second; is_first = safe_eye a c p q eyes.first joined eyes.is_first; is_second = safe_eye a c p q eyes.second joined eyes.is_second; apart = eyes.apart })
+safe_joined a c p q joined (inr lean) = inr (lean.0, lean.1, joined_on a.size c q p lean.0 (joined_back a.size c p q joined) lean.2)
+
+-- the stones of chains that are safe
+abbrev pub AreSafe : Area → List Cell → List Place → Type 0
+AreSafe a c set = (q : Place) → IsTrue (holds_place set q) → IsOn a.size q × IsSafeAt a c (number_of a.size q)
+
+pub safe_more : (a : Area) (c stones : List Cell) (p : ℕ) (old new : List Place) → AreAlone a c stones → p < a.size * a.size → (cell_at c p ≡ own a → IsSafeAt a c p) → AreSafe a c old
+    → ((q : Place) → IsTrue (holds_place new q) → IsTrue (holds_place old q) ⊎ IsOfChain a.size stones p q) → AreSafe a c new
+safe_more a c stones p old new alone on here safe more q held = elim (more q held) [
+  | inl had ↦ safe q had
+  | inr chain ↦
+      let mine : cell_at c p ≡ own a = go (same_cell (cell_at c p) (own a)) refl (alone p on) chain.stone in
+      (chain.on_board, safe_joined a c p (number_of a.size q) (alone_joined a c stones alone p (number_of a.size q) on mine chain.joined) (here mine))
+]
+  where
+    go : (b : Bool) → same_cell (cell_at c p) (own a) ≡ b → cell_at stones p ≡ cond (same_cell (cell_at c p) (own a)) (own a) Empty → cell_at stones p ≢ Empty → cell_at c p ≡ own a
+    go true e is some = same_cell_eq (cell_at c p) (own a) e
+    go false e is some = absurd (some (is ∙ ap (λ b. cond b (own a) Empty) e))
+
+-- there is a stone, if there is a chain
+pub some_there : (c : List Cell) (p : ℕ) → true ≡ not (same_cell (cell_at c p) Empty) → cell_at c p ≢ Empty
+some_there c p some e = cc (some, eq_same_cell (cell_at c p) Empty e)
+
+-- One stone of the chain after another is added.
+module _ (n : ℕ) (c : List Cell) (p : ℕ) (old : List Place) where
+  abbrev pub HasChain : List Place → Type 0
+  HasChain new = (q : Place) → IsTrue (holds_place new q) → IsTrue (holds_place old q) ⊎ IsOfChain n c p q
+
+  pub chain_one : (new : List Place) (x : Place) → IsOfChain n c p x → HasChain new → HasChain (with_place new x)
+  chain_one new x is more q held = elim (or_cases (same_place q x) (holds_place new q) (sym (sets_gain new x q) ∙ held)) [
+    | inl same ↦ inr (subst (IsOfChain n c p) (sym ((same_place_decides q x).0 same)) is)
+    | inr had ↦ more q had
+  ]
+
+  -- what is left of the chain is of it
+  pub chain_first : (left rest chain : List Place) (x : Place) → left ≡ x ∷ rest → ((q : Place) → IsTrue (holds_place left q) → IsTrue (holds_place chain q)) → IsTrue (holds_place chain x)
+  chain_first left rest chain x is among = among x (ap (λ l. holds_place l x) is ∙ or_left (same_place x x) (holds_place rest x) ((same_place_decides x x).1 refl))
+
+  pub chain_rest : (left rest chain : List Place) (x : Place) → left ≡ x ∷ rest → ((q : Place) → IsTrue (holds_place left q) → IsTrue (holds_place chain q)) → (q : Place) → IsTrue (holds_place rest q) → IsTrue (holds_place chain q)
+  chain_rest left rest chain x is among q held = among q (ap (λ l. holds_place l q) is ∙ or_right (same_place q x) (holds_place rest q) held)
+
+  pub of_chain : (chain : List Place) (x : Place) → IsChainOf n c p chain → cell_at c p ≢ Empty → IsTrue (holds_place chain x) → IsOfChain n c p x
+  of_chain chain x are some held =
+      let on = are.on_board x held in
+      record { on_board = on; stone = some; joined = (are.joined (number_of n x) (number_below n x on)).0 (subst (λ y. IsTrue (holds_place chain y)) (sym (place_back n x on)) held) }

@@ -3,15 +3,30 @@
 ghost use Rattle.std.specs.Prelude.{◌≡◌, ◌*◌, ◌<◌, ◌⊎◌, ℕ, IsTrue, IsFalse, IfSome, if◌then◌else◌};
 ghost use Rattle.go_points.specs.declared.Cell.TheVariants.{Empty};
 ghost use Rattle.go_points.specs.Grid.{cell_at, same_cell, side_of};
-ghost use Rattle.go_points.specs.Place.{IsOn, number_of};
+ghost use Rattle.go_points.specs.Place.{Place, IsOn, number_of};
+ghost use Rattle.go_points.specs.Points.{holds_place};
 ghost use Rattle.safe_groups.specs.Areas.{own, theirs};
 ghost use Rattle.safe_groups.specs.Eyes.{IsEye, IsResting, TwoEyes};
 ghost use Rattle.safe_groups.specs.Ground.{area_of, marked, IsSized, IsState};
-ghost use Rattle.safe_groups.specs.Private.Spaces.{alone_cell, space_cell, these, AreAlone, AreSpaces, AreEyePoints, AreBeside, IsFreeOf, IsSafeAt, IsGivenAt, LeansOn};
+ghost use Rattle.safe_groups.specs.Private.Spaces.{alone_cell, space_cell, these, AreAlone, AreSpaces, AreEyePoints, AreBeside, IsFreeOf, IsOfChain, IsSafeAt, IsGivenAt, LeansOn};
 
 use crate::ground::Ground;
 use go_chains::ChainBoard;
 use go_points::{Cell, Colouring, Point, PointSet};
+
+/// Adds the stones of the chain at the point, if there is one.
+fn add_chain(stones: &ChainBoard, point: Point, set: &mut PointSet)
+    requires { IsOn (side_of stones.now) point }
+    ensures { (q : Place) → IsTrue (holds_place set.new q) → IsTrue (holds_place set.old q)
+        ⊎ IsOfChain (side_of stones.now) stones.now (number_of (side_of stones.now) point) q }
+{
+    let Some(chain) = stones.chain_of(point) else {
+        return;
+    };
+    for stone in chain.iter() {
+        set.insert(stone);
+    }
+}
 
 impl Ground {
     /// What the point holds where only the keeper's stones are left.
@@ -226,7 +241,7 @@ impl Ground {
         true
     }
 
-    /// Whether all stones of the keeper's are safe for ever.
+    /// Whether all stones of the keeper's are safe for ever. Each chain is looked at once.
     fn all_safe(&self, state: &Colouring, stones: &ChainBoard, spaces: &ChainBoard) -> bool
         requires state { IsState self.now state.now }
         requires held { side_of self.now.held ≡ side_of self.now.cells }
@@ -237,10 +252,17 @@ impl Ground {
         ensures { IsTrue result → (p : ℕ) → cell_at state.now p ≡ own (area_of self.now)
             → IsSafeAt (area_of self.now) state.now p }
     {
-        for number in 0..state.size().area() {
+        let size = state.size();
+        let mut safe = PointSet::new();
+        for number in 0..size.area() {
+            let point = size.point_at(number);
+            if safe.has(point) {
+                continue;
+            }
             if !self.is_safe_at(state, stones, spaces, number) {
                 return false;
             }
+            add_chain(stones, point, &mut safe);
         }
         true
     }

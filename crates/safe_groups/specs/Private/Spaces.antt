@@ -1,9 +1,9 @@
 -- The keeper's stones of a state, and the points between them, as two boards.
-use Rattle.std.specs.Prelude.{◌≡◌, ℕ, ◌*◌, ◌<◌, ◌⊎◌, ◌&&◌, nat_lt, IsTrue, IsFalse, List, if◌then◌else◌}
+use Rattle.std.specs.Prelude.{◌≡◌, ◌≢◌, ℕ, ◌*◌, ◌<◌, ◌⊎◌, ◌&&◌, nat_lt, IsTrue, IsFalse, List, if◌then◌else◌}
 use Rattle.go_points.specs.declared.Cell.{Cell}
 use Rattle.go_points.specs.declared.Cell.TheVariants.{Empty}
 use Rattle.go_points.specs.Grid.{cell_at, same_cell, adjacent, side_of}
-use Rattle.go_points.specs.Place.{Place, place_of}
+use Rattle.go_points.specs.Place.{Place, IsOn, number_of, place_of}
 use Rattle.go_points.specs.Points.{holds_place}
 use Rattle.go_chains.specs.Joined.{Joined}
 use Rattle.safe_groups.specs.Areas.{Area, Points, own, theirs}
@@ -53,3 +53,9 @@ IsSafeAt a c p = TwoEyes a c p ⊎ ((q : ℕ) × IsTrue (a.held q) × Joined a.s
 
 abbrev pub IsGivenAt : Area → List Cell → ℕ → Type 0
 IsGivenAt a c p = ((eye : Points) × IsEye a c p eye) ⊎ ((q : ℕ) × IsTrue (a.earlier q) × Joined a.size c p q)
+
+-- a stone that the one at p is joined with
+pub record IsOfChain (n : ℕ) (c : List Cell) (p : ℕ) (q : Place) : Type 0 where
+  pub on_board : IsOn n q
+  pub stone : cell_at c p ≢ Empty
+  pub joined : Joined n c p (number_of n q)

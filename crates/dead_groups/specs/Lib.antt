@@ -1,0 +1,2 @@
+pub mod Kills
+pub mod Laws

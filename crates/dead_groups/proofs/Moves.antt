@@ -17,18 +17,18 @@ stood n m k p e =
     (reaches_path n m p Empty).0 (not_false _ (and_false _ _ before.1 (eq_same_cell (cell_at m p) (Stone k) before.0)))
 
 -- A move by k, where its stone has a liberty, takes none of its own.
-module _ (n : ℕ) (k : Colour) (b : List Cell) (full : length b ≡ n * n) (every : EveryStoneReaches n b) (v : ℕ) (on : v < n * n) (free : cell_at b v ≡ Empty) where
+module _ (n : ℕ) (k : Colour) (b : List Cell) (full : length b ≡ n * n) (v : ℕ) (on : v < n * n) (free : cell_at b v ≡ Empty) where
   abbrev left : List Cell
   left = clear n (set b v (Stone k)) (opponent_of k)
 
-  own_left : (p : ℕ) → cell_at b p ≡ Stone k → cell_at (clear n (set b v (Stone k)) (opponent_of k)) p ≡ Stone k
+  pub own_left : (p : ℕ) → cell_at b p ≡ Stone k → cell_at (clear n (set b v (Stone k)) (opponent_of k)) p ≡ Stone k
   own_left p e = other_stays n (set b v (Stone k)) (opponent_of k) k p (full_put n b v (Stone k) full) (λ same. opponent_ne k (cc same))
       (past_put b v p (Stone k) (λ here. cc (e, ap (cell_at b) here, free)) ∙ e)
 
   v_left : cell_at (clear n (set b v (Stone k)) (opponent_of k)) v ≡ Stone k
   v_left = other_stays n (set b v (Stone k)) (opponent_of k) k v (full_put n b v (Stone k) full) (λ same. opponent_ne k (cc same)) (at_put n b v (Stone k) full on)
 
-  module _ (breathes : Reaches n (clear n (set b v (Stone k)) (opponent_of k)) v Empty) where
+  module _ (every : EveryStoneReaches n b) (breathes : Reaches n (clear n (set b v (Stone k)) (opponent_of k)) v Empty) where
     from_v : (us : List ℕ) × IsPath n (clear n (set b v (Stone k)) (opponent_of k)) (Stone k) Empty v us
     from_v = (breathes.1.0, subst (λ x. IsPath n (clear n (set b v (Stone k)) (opponent_of k)) x Empty v breathes.1.0) v_left breathes.1.1)
 
@@ -228,7 +228,7 @@ module _ (a : Area) (b c : List Cell) (fits : Fits a b c) (full : length b ≡ a
       breathes : (p : ℕ) → cell_at (after_answer a c v) p ≡ own a → Reaches a.size (clear a.size (set b v (own a)) (opponent_of a.keeper)) p Empty
       breathes p e = elim (is_or_not p v) [
         | inl here ↦ subst (λ q. Reaches a.size (clear a.size (set b v (own a)) (opponent_of a.keeper)) q Empty) (sym here) v_breathes
-        | inr ne ↦ own_breathes a.size a.keeper b full every v on gone v_breathes p
+        | inr ne ↦ own_breathes a.size a.keeper b full v on gone every v_breathes p
             (fits.has_own p (sym (past_put c v p (own a) ne) ∙ (was_there a (set c v (own a)) wall a.keeper p e).0))
       ]
 
@@ -236,7 +236,7 @@ module _ (a : Area) (b c : List Cell) (fits : Fits a b c) (full : length b ≡ a
   pub killed_elsewhere : is_outside a v ≡ true → IsFalse (a.region v) → cell_at b v ≡ Empty → cell_at (after_move a.size b a.keeper v) v ≡ own a → Fits a (after_move a.size b a.keeper v) c
   killed_elsewhere out beyond gone stands = subst (λ z. Fits a z c) (sym (after_is a.size b a.keeper v))
       (fits_clear_own a left_ c left_fits (length-clear a.size (set b v (own a)) (opponent_of a.keeper))
-      (λ p mine. own_breathes a.size a.keeper b full every v on gone v_breathes p (fits.has_own p mine)))
+      (λ p mine. own_breathes a.size a.keeper b full v on gone every v_breathes p (fits.has_own p mine)))
     where
       left_ : List Cell
       left_ = clear a.size (set b v (own a)) (opponent_of a.keeper)

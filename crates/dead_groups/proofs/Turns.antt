@@ -10,22 +10,18 @@ use Rattle.target_game.specs.State.{Game, GameState}
 use Rattle.target_game.specs.Legal.{legal}
 use Rattle.target_game.specs.Next.{next}
 use Rattle.target_game.specs.Over.{targets_stand, over}
-use Rattle.target_game.specs.Wins.{wins}
-use Rattle.target_game.proofs.Winning.{wins_over, wins_by_turn, wins_by_replies}
 use Rattle.safe_groups.proofs.Opening.{cell_cases, not_both}
 use Rattle.safe_groups.proofs.Fitting.{fits_on, walled_still}
 use Rattle.safe_groups.proofs.Moving.{walled_put}
 use Rattle.safe_groups.proofs.Serving.{pick, pick_same}
 use Rattle.safe_groups.proofs.Past.{occurred_or, answer_at}
 use Rattle.safe_groups.proofs.Exchanges.{one_has, other_plays, Owed, holds_passed, listed_passed, kept_passed, answer_allowed, holds_answered, listed_answered, kept_answered, kept_same, kept_there, holds_elsewhere}
+use Rattle.dead_groups.proofs.While.{lost_passes, lost_not_won, lost_by_turn, lost_by_reply}
+use Rattle.dead_groups.proofs.Supposed.{free_there, free_stays}
 use Rattle.dead_groups.specs.Kills.{killing, Entries, result, IsTaken, IsFurther, IsLost, IsEntry, after_attack}
+use Rattle.dead_groups.specs.While.{are_free, wins_while}
 use Rattle.dead_groups.proofs.Moves.{attacked, attacked_elsewhere, killed, killed_elsewhere}
 use Rattle.dead_groups.proofs.Areas.{in_none, left, no_more_left, less_left, other_elsewhere}
-
--- what cannot be false is true
-pub stable : (b : Bool) → (b ≡ false → ⊥) → b ≡ true
-stable true ever = refl
-stable false ever = absurd (ever refl)
 
 -- where something holds of a number, it is not so that it holds of no least one
 least_below : (P : ℕ → Type 0) (i : ℕ) → ((j : ℕ) → j < i → P j → ((l : ℕ) → l < j → P l → ⊥) → ⊥) → (j : ℕ) → j < i → P j → ⊥
@@ -54,28 +50,22 @@ free_legal : (s : GameState) (p : ℕ) → p < s.game.size * s.game.size → IsT
 free_legal s p on inside free new =
     and_both _ _ (and_both _ _ (and_both _ _ (lt-ltb p (s.game.size * s.game.size) on) inside) (eq_same_cell _ _ free)) (ap not new)
 
-same_self : (k : Colour) → same_colour k k ≡ true
-same_self Black = refl
-same_self White = refl
-
 other_not : (k : Colour) → same_colour (opponent_of k) k ≡ false
 other_not Black = refl
 other_not White = refl
 
 -- nobody has won a state that the killer has not won, with less than two passes
-not_over : (s : GameState) (k : Colour) (j : ℕ) → s.game.defender ≡ opponent_of k → s.passes ≤ 1 → wins k s j ≡ false → over s ≡ None
-not_over s k j other low lost = go (targets_stand s) (nat_eq s.passes 2) refl refl
+not_over : (s : GameState) (k : Colour) → s.game.defender ≡ opponent_of k → s.passes ≤ 1 → (over s ≡ Some k → ⊥) → over s ≡ None
+not_over s k other low lost = go (targets_stand s) (nat_eq s.passes 2) refl refl
   where
     go : (x y : Bool) → targets_stand s ≡ x → nat_eq s.passes 2 ≡ y → over s ≡ None
     go true true e f = absurd (omega (arith, low, eqb-true s.passes 2 f))
     go true false e f = ap (λ x. (if x then (if nat_eq s.passes 2 then Some s.game.defender else None) else Some (opponent_of s.game.defender))) e ∙ ap (λ y. (if y then Some s.game.defender else None)) f
-    go false y e f =
-        let won : over s ≡ Some k = ap (λ x. (if x then (if nat_eq s.passes 2 then Some s.game.defender else None) else Some (opponent_of s.game.defender))) e ∙ ap Some (ap opponent_of other ∙ opponent_twice k) in
-        absurd (cc (wins_over k k s j won, same_self k, lost))
+    go false y e f = absurd (lost (ap (λ x. (if x then (if nat_eq s.passes 2 then Some s.game.defender else None) else Some (opponent_of s.game.defender))) e ∙ ap Some (ap opponent_of other ∙ opponent_twice k)))
 
 -- it has won a state in which a target is not there
-taken_won : (s : GameState) (k : Colour) (j p : ℕ) → s.game.defender ≡ opponent_of k → IsTrue (holds_point s.game.targets p) → (cell_at s.colouring p ≡ Stone (opponent_of k) → ⊥) → wins k s j ≡ false → ⊥
-taken_won s k j p other target gone lost = cc (wins_over k k s j won, same_self k, lost)
+taken_won : (s : GameState) (k : Colour) (p : ℕ) → s.game.defender ≡ opponent_of k → IsTrue (holds_point s.game.targets p) → (cell_at s.colouring p ≡ Stone (opponent_of k) → ⊥) → over s ≡ Some k
+taken_won s k p other target gone = ap (λ x. (if x then (if nat_eq s.passes 2 then Some s.game.defender else None) else Some (opponent_of s.game.defender))) (none (targets_stand s) refl) ∙ ap Some (ap opponent_of other ∙ opponent_twice k)
   where
     none : (x : Bool) → targets_stand s ≡ x → x ≡ false
     none true e =
@@ -84,18 +74,7 @@ taken_won s k j p other target gone lost = cc (wins_over k k s j won, same_self 
         absurd (gone (ap (cell_at s.colouring) (eqb-true p found.0 found.2) ∙ same_cell_eq (cell_at s.colouring found.0) (Stone s.game.defender) there ∙ ap Stone other))
     none false e = refl
 
-    won : over s ≡ Some k
-    won = ap (λ x. (if x then (if nat_eq s.passes 2 then Some s.game.defender else None) else Some (opponent_of s.game.defender))) (none (targets_stand s) refl) ∙ ap Some (ap opponent_of other ∙ opponent_twice k)
-
--- the killer's own turn
-turn_lost : (s : GameState) (k : Colour) (j i : ℕ) (t : Ply) → over s ≡ None → s.mover ≡ k → legal s t ≡ true → suc j ≡ i → wins k s i ≡ false → wins k (next s t) j ≡ false
-turn_lost s k j i t open_ mine is size lost = go (wins k (next s t) j) refl
-  where
-    go : (b : Bool) → wins k (next s t) j ≡ b → b ≡ false
-    go true e = absurd (cc (wins_by_turn k s j t open_ (ap (λ m. same_colour m k) mine ∙ same_self k) is e, ap (wins k s) size, lost))
-    go false e = refl
-
-module _ (g : Game) (k : Colour) (other : g.defender ≡ opponent_of k) (A : Areas) (W : ℕ → States) (kept region : Points) (D : Entries) (together : RepliesTogether g.size k A W)
+module _ (g : Game) (k : Colour) (other : g.defender ≡ opponent_of k) (A : Areas) (W : ℕ → States) (kept region : Points) (supposed : List ℕ) (D : Entries) (together : RepliesTogether g.size k A W)
     (answers_allowed : (i p : ℕ) → i < A.count → IsTrue (A.answers i p) → IsTrue (holds_point g.region p)) (moves_allowed : (j : ℕ) → j < D.count → IsTrue (holds_point g.region (D.move j)))
     (apart : (i p : ℕ) → i < A.count → IsTrue (region p) → IsFalse (A.region i p)) (each : (j : ℕ) → j < D.count → IsEntry (killing g.size k kept region) (holds_point g.targets) D j) where
   abbrev n : ℕ
@@ -110,19 +89,32 @@ module _ (g : Game) (k : Colour) (other : g.defender ≡ opponent_of k) (A : Are
   abbrev open_left : List Cell → ℕ
   open_left b = left g.size k A W together b
 
+  -- kept stones are those of the areas, or supposed to have a liberty outside
+  abbrev pub Stands : (ℕ → List Cell) → Type 0
+  Stands c = (p : ℕ) → IsTrue (kept p) → IsKept k A c p ⊎ IsTrue (holds_point supposed p)
+
   -- The killer's areas hold, the region's kept stones are theirs, and each stone has a liberty.
   pub record Keeps (c : ℕ → List Cell) (b : List Cell) (h : List (List Cell)) : Type 0 where
     pub listed : AreListed A W c
     pub holds : HoldsAt g.size k A c b h
-    pub stands : (p : ℕ) → IsTrue (kept p) → IsKept k A c p
+    pub stands : Stands c
     pub sound : EveryStoneReaches g.size b
 
   -- nothing that has occurred fits what these entries lead to
   abbrev pub New : ℕ → List (List Cell) → Type 0
   New bound h = (i : ℕ) → i < bound → (q : List Cell) → has_occurred h q ≡ true → Fits (killing g.size k kept region) q (result (killing g.size k kept region) D i) → ⊥
 
-  abbrev Loses : List Cell → List (List Cell) → Colour → ℕ → ℕ → Type 0
-  Loses b h mover passes turns = wins k (at b h mover passes) turns ≡ false
+  abbrev pub test : List Cell → Bool
+  test b = are_free (killing g.size k kept region) supposed b
+
+  abbrev pub Loses : List Cell → List (List Cell) → Colour → ℕ → ℕ → Type 0
+  Loses b h mover passes turns = wins_while test k (at b h mover passes) turns ≡ false
+
+  free_now : (b : List Cell) (h : List (List Cell)) (mover : Colour) (passes turns : ℕ) → Loses b h mover passes turns → test b ≡ true
+  free_now b h mover passes turns lost = lost_passes test k (at b h mover passes) turns lost
+
+  open_now : (b : List Cell) (h : List (List Cell)) (mover : Colour) (passes turns : ℕ) → passes ≤ 1 → Loses b h mover passes turns → over (at b h mover passes) ≡ None
+  open_now b h mover passes turns few lost = not_over (at b h mover passes) k other few (lost_not_won test k (at b h mover passes) turns lost)
 
   -- The killer is to move, and the board fits an entry; or the other side is, and is lost.
   abbrev pub Moves : ℕ → Type 0
@@ -133,7 +125,7 @@ module _ (g : Game) (k : Colour) (other : g.defender ≡ opponent_of k) (A : Are
       → IsLost (killing g.size k kept region) (holds_point g.targets) D bound e → bound ≤ D.count → New bound h → bound + open_left b ≤ m → Loses b h (opponent_of k) 0 (2 * m + 1) → ⊥
 
   pub taken : (b : List Cell) (h : List (List Cell)) (mover : Colour) (passes turns : ℕ) (d : List Cell) → Fits (killing g.size k kept region) b d → IsTaken (killing g.size k kept region) (holds_point g.targets) d → Loses b h mover passes turns → ⊥
-  taken b h mover passes turns d fits gone lost = taken_won (at b h mover passes) k turns gone.0 other gone.1 there lost
+  taken b h mover passes turns d fits gone lost = lost_not_won test k (at b h mover passes) turns lost (taken_won (at b h mover passes) k gone.0 other gone.1 there)
     where
       there : cell_at b gone.0 ≡ Stone (opponent_of k) → ⊥
       there is = elim (cell_cases (killing g.size k kept region) (cell_at d gone.0)) [
@@ -144,8 +136,12 @@ module _ (g : Game) (k : Colour) (other : g.defender ≡ opponent_of k) (A : Are
         ]
       ]
 
-  there_still : (c : ℕ → List Cell) (b : List Cell) (h : List (List Cell)) → HoldsAt g.size k A c b h → ((p : ℕ) → IsTrue (kept p) → IsKept k A c p) → (p : ℕ) → IsTrue (kept p) → cell_at b p ≡ Stone k
-  there_still c b h holds stands p is = kept_there g.size k A W together c b h holds p (stands p is)
+  -- kept stones are there, on a board that passes the test
+  there_still : (c : ℕ → List Cell) (b : List Cell) (h : List (List Cell)) → HoldsAt g.size k A c b h → Stands c → test b ≡ true → (p : ℕ) → IsTrue (kept p) → cell_at b p ≡ Stone k
+  there_still c b h holds stands free p is = elim (stands p is) [
+    | inl kept_ ↦ kept_there g.size k A W together c b h holds p kept_
+    | inr one ↦ free_there (killing g.size k kept region) b supposed free p one
+  ]
 
   -- a point that is empty in a state is in the region, and so in no area
   free_inside : (c : List Cell) → IsWalled (killing g.size k kept region) c → (p : ℕ) → p < g.size * g.size → cell_at c p ≡ Empty → region p ≡ true
@@ -178,7 +174,11 @@ module _ (g : Game) (k : Colour) (other : g.defender ≡ opponent_of k) (A : Are
 
       after_fits : Fits (killing g.size k kept region) (after_move g.size b k (D.move j)) (result (killing g.size k kept region) D j)
       after_fits = killed (killing g.size k kept region) b (D.state j) fits keeps.holds.full entry.walled keeps.sound (D.move j) entry.on_board entry.empty entry.stands
-          (there_still c (after_move g.size b k (D.move j)) (h ++ after_move g.size b k (D.move j) ∷ []) holds keeps.stands)
+          (λ p is. elim (keeps.stands p is) [
+            | inl kept_ ↦ kept_there g.size k A W together c (after_move g.size b k (D.move j)) (h ++ after_move g.size b k (D.move j) ∷ []) holds p kept_
+            | inr one ↦ free_stays (killing g.size k kept region) b supposed (free_now b h k passes (2 * suc m) lost) p one keeps.holds.full (D.move j) entry.on_board free
+                (free_inside (D.state j) entry.walled (D.move j) entry.on_board entry.empty)
+          ])
 
       fresh : (x : Bool) → has_occurred h (after_move g.size b k (D.move j)) ≡ x → x ≡ false
       fresh true e = absurd (new j (omega arith) (after_move g.size b k (D.move j)) e after_fits)
@@ -188,7 +188,7 @@ module _ (g : Game) (k : Colour) (other : g.defender ≡ opponent_of k) (A : Are
       size_of = omega arith
 
       lost_after : Loses (after_move g.size b k (D.move j)) (h ++ after_move g.size b k (D.move j) ∷ []) (opponent_of k) 0 (2 * m + 1)
-      lost_after = turn_lost (at b h k passes) k (2 * m + 1) (2 * suc m) (move (D.move j)) (not_over (at b h k passes) k (2 * suc m) other few lost) refl
+      lost_after = lost_by_turn test k (at b h k passes) (2 * m + 1) (2 * suc m) (move (D.move j)) (open_now b h k passes (2 * suc m) few lost) refl
           (free_legal (at b h k passes) (D.move j) entry.on_board (moves_allowed j low) free (fresh (has_occurred h (after_move g.size b k (D.move j))) refl)) size_of lost
 
       first : (i : ℕ) → i ≤ j → Fits (killing g.size k kept region) (after_move g.size b k (D.move j)) (result (killing g.size k kept region) D i)
@@ -274,7 +274,8 @@ module _ (g : Game) (k : Colour) (other : g.defender ≡ opponent_of k) (A : Are
       within empty lost_now = further m moving c (after_move g.size b (opponent_of k) x) (h ++ after_move g.size b (opponent_of k) x ∷ []) 0 (after_attack (killing g.size k kept region) e x) bound
           (record { listed = keeps.listed; holds = holds; stands = keeps.stands; sound = sound }) (omega arith)
           (attacked (killing g.size k kept region) b e fits keeps.holds.full walled x on empty (is_lost.sure x on empty)
-          (there_still c (after_move g.size b (opponent_of k) x) (h ++ after_move g.size b (opponent_of k) x ∷ []) holds keeps.stands))
+          (there_still c (after_move g.size b (opponent_of k) x) (h ++ after_move g.size b (opponent_of k) x ∷ []) holds keeps.stands
+          (free_now (after_move g.size b (opponent_of k) x) (h ++ after_move g.size b (opponent_of k) x ∷ []) (opponent_of (opponent_of k)) 0 (2 * m) lost_now)))
           (is_lost.moved x on empty) most old_now
           (omega (arith, size, no_more_left g.size k A W together c c b (after_move g.size b (opponent_of k) x) h (h ++ after_move g.size b (opponent_of k) x ∷ []) keeps.holds holds (λ p kept_. kept_)))
           lost_now
@@ -283,28 +284,32 @@ module _ (g : Game) (k : Colour) (other : g.defender ≡ opponent_of k) (A : Are
           holds = other_elsewhere g.size k A W together c b h keeps.listed keeps.holds x on free (λ i low. apart i x low (free_inside e walled x on empty))
 
       -- Elsewhere: the state stays, and the areas serve.
-      module _ (there : cell_at e x ≡ Stone (opponent_of k)) where
+      module _ (there : cell_at e x ≡ Stone (opponent_of k)) (lost_now : Now) where
         owed : Owed g.size k A W together c (after_move g.size b (opponent_of k) x) (h ++ after_move g.size b (opponent_of k) x ∷ [])
         owed = other_plays g.size k A W together c b h keeps.listed keeps.holds x on free
 
         still : (p : ℕ) → IsKept k A c p → IsKept k A owed.state p
         still p kept_ = kept_same g.size k A W together c owed.state owed.same p kept_
 
-        stands : (p : ℕ) → IsTrue (kept p) → IsKept k A owed.state p
-        stands p is = still p (keeps.stands p is)
+        stands : Stands owed.state
+        stands p is = elim (keeps.stands p is) [ inl kept_ ↦ inl (still p kept_) | inr one ↦ inr one ]
+
+        stand_now : (p : ℕ) → IsTrue (kept p) → cell_at (after_move g.size b (opponent_of k) x) p ≡ Stone k
+        stand_now = there_still owed.state (after_move g.size b (opponent_of k) x) (h ++ after_move g.size b (opponent_of k) x ∷ []) owed.holds stands
+            (free_now (after_move g.size b (opponent_of k) x) (h ++ after_move g.size b (opponent_of k) x ∷ []) (opponent_of (opponent_of k)) 0 (2 * m) lost_now)
 
         fits_still : Fits (killing g.size k kept region) (after_move g.size b (opponent_of k) x) e
         fits_still = attacked_elsewhere (killing g.size k kept region) b e fits keeps.holds.full walled x on there free keeps.sound place.0 place.1 place.2 (is_lost.sure place.0 place.1 place.2)
-            (there_still owed.state (after_move g.size b (opponent_of k) x) (h ++ after_move g.size b (opponent_of k) x ∷ []) owed.holds stands)
+            stand_now
 
         fewer_left : open_left (after_move g.size b (opponent_of k) x) ≤ open_left b
         fewer_left = no_more_left g.size k A W together c owed.state b (after_move g.size b (opponent_of k) x) h (h ++ after_move g.size b (opponent_of k) x ∷ []) keeps.holds owed.holds still
 
         -- nothing is to be answered
         quiet : (d : ℕ → List Cell) → AreListed A W d → HoldsAt g.size k A d (after_move g.size b (opponent_of k) x) (h ++ after_move g.size b (opponent_of k) x ∷ [])
-            → ((p : ℕ) → IsTrue (kept p) → IsKept k A d p) → Now → ⊥
+            → Stands d → ⊥
         quiet d listed holds stand = further m moving d (after_move g.size b (opponent_of k) x) (h ++ after_move g.size b (opponent_of k) x ∷ []) 0 e bound
-            (record { listed = listed; holds = holds; stands = stand; sound = sound }) (omega arith) fits_still is_lost.passed most old_now (omega (arith, size, fewer_left))
+            (record { listed = listed; holds = holds; stands = stand; sound = sound }) (omega arith) fits_still is_lost.passed most old_now (omega (arith, size, fewer_left)) lost_now
 
         -- an area is owed an answer, and gets it
         module _ (one : IsOwed g.size k A W owed.state) (r : ℕ) (answer : IsAnswer (area_at g.size k A one.place) (W one.place) (owed.state one.place) r) where
@@ -344,7 +349,7 @@ module _ (g : Game) (k : Colour) (other : g.defender ≡ opponent_of k) (A : Are
           beyond false is = refl
 
           not_kept : (v : Bool) → kept r ≡ v → v ≡ false
-          not_kept true is = absurd (cc (there_still owed.state b1 h1 owed.holds stands r is, r_free))
+          not_kept true is = absurd (cc (stand_now r is, r_free))
           not_kept false is = refl
 
           carried : (w : List Cell) → IsWalled (killing g.size k kept region) w → Fits (killing g.size k kept region) b1 w → Fits (killing g.size k kept region) b2 w
@@ -355,12 +360,12 @@ module _ (g : Game) (k : Colour) (other : g.defender ≡ opponent_of k) (A : Are
           less = less_left g.size k A W together owed.state (pick one.place answer.known.0 owed.state) b1 b2 h1 h2 owed.holds holds kept_on r answer.on_board
               (one_has A.count A.answers one.place r one.within answer.allowed) r_free r_there
 
-          module _ (before : ℕ) (is_suc : m ≡ suc before) (lost_now : Now) where
+          module _ (before : ℕ) (is_suc : m ≡ suc before) where
             size_of : suc (2 * before + 1) ≡ 2 * m
             size_of = omega (arith, is_suc)
 
             lost_after : Loses b2 h2 (opponent_of k) 0 (2 * before + 1)
-            lost_after = turn_lost (at b1 h1 k 0) k (2 * before + 1) (2 * m) (move r) (not_over (at b1 h1 k 0) k (2 * m) other (omega arith) lost_k) refl
+            lost_after = lost_by_turn test k (at b1 h1 k 0) (2 * before + 1) (2 * m) (move r) (open_now b1 h1 k 0 (2 * m) (omega arith) lost_k) refl
                 (free_legal (at b1 h1 k 0) r answer.on_board (answers_allowed one.place r one.within answer.allowed) r_free
                 (answer_allowed g.size k A W together owed.state b1 h1 owed.walled owed.holds one r answer)) size_of lost_k
               where
@@ -371,7 +376,7 @@ module _ (g : Game) (k : Colour) (other : g.defender ≡ opponent_of k) (A : Are
             kept_keeps = record {
               listed = listed_answered g.size k A W together owed.state b1 h1 owed.walled owed.holds one r answer;
               holds = holds;
-              stands = λ p is. kept_on p (stands p is);
+              stands = λ p is. elim (stands p is) [ inl kept_ ↦ inl (kept_on p kept_) | inr one_ ↦ inr one_ ];
               sound = after_move_reaches g.size b1 k r;
             }
 
@@ -407,42 +412,41 @@ module _ (g : Game) (k : Colour) (other : g.defender ≡ opponent_of k) (A : Are
             unfolding Least
             answer_wins = least Least bound (inl refl) go_on
 
-        serve : (one : IsOwed g.size k A W owed.state) → IsAnswered (area_at g.size k A one.place) (W one.place) (owed.state one.place) → Now → ⊥
+        serve : (one : IsOwed g.size k A W owed.state) → IsAnswered (area_at g.size k A one.place) (W one.place) (owed.state one.place) → ⊥
         serve one (inl known) = quiet (pick one.place known.0 owed.state)
             (listed_passed g.size k A W together owed.state (after_move g.size b (opponent_of k) x) (h ++ after_move g.size b (opponent_of k) x ∷ []) owed.walled owed.holds one known)
             (holds_passed g.size k A W together owed.state (after_move g.size b (opponent_of k) x) (h ++ after_move g.size b (opponent_of k) x ∷ []) owed.walled owed.holds one known)
-            (λ p is. kept_passed g.size k A W together owed.state (after_move g.size b (opponent_of k) x) (h ++ after_move g.size b (opponent_of k) x ∷ []) owed.walled owed.holds one known p (stands p is))
-        serve one (inr (r, answer)) = λ lost_now. by_size m refl lost_now
+            (λ p is. elim (stands p is) [
+              | inl kept_ ↦ inl (kept_passed g.size k A W together owed.state (after_move g.size b (opponent_of k) x) (h ++ after_move g.size b (opponent_of k) x ∷ []) owed.walled owed.holds one known p kept_)
+              | inr one_ ↦ inr one_
+            ])
+        serve one (inr (r, answer)) = by_size m refl
           where
-            by_size : (j : ℕ) → m ≡ j → Now → ⊥
-            by_size zero is lost_now = omega (arith, is, size, fewer_left, less one r answer)
-            by_size (suc before) is lost_now = answer_wins one r answer before is lost_now
+            by_size : (j : ℕ) → m ≡ j → ⊥
+            by_size zero is = omega (arith, is, size, fewer_left, less one r answer)
+            by_size (suc before) is = answer_wins one r answer before is
 
-        elsewhere : Now → ⊥
+        elsewhere : ⊥
         elsewhere = elim owed.answered [
           | inl listed ↦ quiet owed.state listed owed.holds stands
           | inr one ↦ serve one one.answered
         ]
 
       played : Now → ⊥
-      played = elim (cell_cases (killing g.size k kept region) (cell_at e x)) [
-        | inl empty ↦ within empty
+      played lost_now = elim (cell_cases (killing g.size k kept region) (cell_at e x)) [
+        | inl empty ↦ within empty lost_now
         | inr stone ↦ elim stone [
-          | inl mine ↦ absurd (cc (fits.has_own x mine, free))
-          | inr there ↦ elsewhere there
+          | inl mine ↦ cc (fits.has_own x mine, free)
+          | inr there ↦ elsewhere there lost_now
         ]
       ]
 
-    replied : (t : Ply) → legal (at b h (opponent_of k) 0) t ≡ true → wins k (next (at b h (opponent_of k) 0) t) (2 * m) ≡ false → ⊥
+    replied : (t : Ply) → legal (at b h (opponent_of k) 0) t ≡ true → wins_while test k (next (at b h (opponent_of k) 0) t) (2 * m) ≡ false → ⊥
     replied pass is lost_now = passes lost_now
     replied (move x) is lost_now = let open_ = legal_free (at b h (opponent_of k) 0) x is in played x open_.0 open_.1 lost_now
 
     pub waits_step : ⊥
-    waits_step =
-        let open_ = not_over (at b h (opponent_of k) 0) k (2 * m + 1) other (omega arith) lost in
-        let won = wins_by_replies k (at b h (opponent_of k) 0) (2 * m) open_ (other_not k) (λ t is. stable (wins k (next (at b h (opponent_of k) 0) t) (2 * m)) (replied t is)) in
-        let same : suc (2 * m) ≡ 2 * m + 1 = omega arith in
-        cc (won, ap (wins k (at b h (opponent_of k) 0)) same, lost)
+    waits_step = lost_by_reply test k (at b h (opponent_of k) 0) (2 * m) (2 * m + 1) (open_now b h (opponent_of k) 0 (2 * m + 1) (omega arith) lost) (other_not k) (omega arith) lost replied
 
   waits : (m : ℕ) → Moves m → ((p : ℕ) → m ≡ suc p → Waits p) → Waits m
   waits m moving answered c b h e bound keeps walled fits is_lost most new size lost = waits_step m moving answered c b h e bound keeps walled fits is_lost most new size lost

@@ -1,2 +1,3 @@
 pub mod Kills
+pub mod While
 pub mod Laws

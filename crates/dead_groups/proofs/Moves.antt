@@ -1,10 +1,10 @@
 -- What a move leaves of a state of the killer's region that the board fits.
-use Rattle.safe_groups.proofs.Common.{sym, subst, refl, ◌≡◌, ◌∙◌, List, ℕ, ap, IsTrue, IsFalse, true, false, Bool, inl, inr, [], ◌∷◌, ◌*◌, ◌<◌, ◌≤◌, ◌⊎◌, cond, not, length, set, eq_same_cell, on_or_off, reaches_path, clear, cell_at-clear, length-clear, is_captured, cell_at, adjacent, opponent_of, after_move, reaches, IsPath, Reaches, Cell, Empty, Stone, Colour, IsWay, Joined, joined_holds, Area, own, theirs, is_outside, IsWalled, Rooted, Fits, Leans, after_answer, stone_before, and_both}
+use Rattle.safe_groups.proofs.Common.{sym, subst, refl, ◌≡◌, ◌∙◌, List, ℕ, ap, IsTrue, IsFalse, true, false, Bool, inl, inr, [], ◌∷◌, ◌*◌, ◌<◌, ◌≤◌, ◌⊎◌, cond, not, length, set, eq_same_cell, on_or_off, reaches_path, clear, cell_at-clear, length-clear, is_captured, cell_at, adjacent, opponent_of, after_move, reaches, IsPath, Reaches, Cell, Empty, Stone, Colour, IsWay, Area, own, theirs, is_outside, IsWalled, Rooted, Fits, after_answer, stone_before, and_both}
 use Rattle.go_points.proofs.Lists.{not_false, and_false}
 use Rattle.go_points.proofs.Cells.{opponent_ne}
 use Rattle.go_points.proofs.Clearing.{EveryStoneReaches, empty_stays, reaching_stays, cell_at_past}
 use Rattle.safe_groups.proofs.Opening.{not_both}
-use Rattle.safe_groups.proofs.Fitting.{stone_on, other_stays, own_reaches, loose_stuck, fits_clear_own, fits_clear_rest, fits_clear_loose, was_there, own_stays}
+use Rattle.safe_groups.proofs.Fitting.{stone_on, other_stays, loose_stuck, fits_clear_own, fits_clear_rest, fits_clear_loose, was_there, own_stays, walled_still}
 use Rattle.safe_groups.proofs.Moving.{is_or_not, at_put, past_put, full_put, after_is, after_theirs, fits_put, fits_put_theirs, fits_put_outside, walled_put}
 unfoldable use Rattle.dead_groups.specs.Kills.{clear_unsafe}
 use Rattle.dead_groups.specs.Kills.{is_unsafe, IsSureLoss, after_attack}
@@ -46,19 +46,6 @@ module _ (n : ℕ) (k : Colour) (b : List Cell) (full : length b ≡ n * n) (v :
         let path = path_left p r.1.0 e (subst (λ x. IsPath n b x Empty p r.1.0) e r.1.1) in
         let there : cell_at (clear n (set b v (Stone k)) (opponent_of k)) p ≡ Stone k = own_left p e in
         ((λ f. cc (there, f)), (path.0, subst (λ x. IsPath n (clear n (set b v (Stone k)) (opponent_of k)) x Empty p path.0) (sym there) path.1))
-
--- a stone that is joined in a state to one which breathes on the board does so, too
-module _ (a : Area) (m e : List Cell) (fits : Fits a m e) where
-  path_by : (p q : ℕ) (rs : List ℕ) → IsWay a.size e (own a) p q rs → (us : List ℕ) × IsPath a.size m (own a) Empty q us → (us : List ℕ) × IsPath a.size m (own a) Empty p us
-  path_by p q [] way path = (path.0, subst (λ r. IsPath a.size m (own a) Empty r path.0) (sym way.1) path.1)
-  path_by p q (r ∷ rs) way path = let rest = path_by r q rs way.2 path in (r ∷ rest.0, (fits.has_own p way.0, way.1, rest.1))
-
-  pub joined_breathes : (p q : ℕ) → cell_at e p ≡ own a → Joined a.size e p q → Reaches a.size m q Empty → Reaches a.size m p Empty
-  joined_breathes p q is joined r =
-      let there : cell_at m p ≡ own a = fits.has_own p is in
-      let last : cell_at m q ≡ own a = fits.has_own q (joined_holds a.size e p q joined ∙ is) in
-      let path = path_by p q joined.0 (subst (λ x. IsWay a.size e x p q joined.0) is joined.1) (r.1.0, subst (λ x. IsPath a.size m x Empty q r.1.0) last r.1.1) in
-      ((λ f. cc (there, f)), (path.0, subst (λ x. IsPath a.size m x Empty p path.0) (sym there) path.1))
 
 -- Clearing the killer's stones takes those that are unsafe in the state.
 module _ (a : Area) (d : List Cell) (walled : IsWalled a d) (b : List Cell) (full : length b ≡ a.size * a.size) (fits : Fits a b d) (breathe : (p : ℕ) → IsTrue (a.kept p) → Reaches a.size b p Empty)
@@ -198,9 +185,9 @@ module _ (a : Area) (b c : List Cell) (fits : Fits a b c) (full : length b ≡ a
 
 -- The killer's move at an empty point of the state, where its stone is not unsafe.
 module _ (a : Area) (b c : List Cell) (fits : Fits a b c) (full : length b ≡ a.size * a.size) (walled : IsWalled a c) (every : EveryStoneReaches a.size b) (v : ℕ) (on : v < a.size * a.size) where
-  pub killed : cell_at c v ≡ Empty → Leans a a.kept (after_answer a c v) v → ((p : ℕ) → IsTrue (a.kept p) → cell_at (after_move a.size b a.keeper v) p ≡ own a)
+  pub killed : cell_at c v ≡ Empty → IsFalse (is_unsafe a (after_answer a c v) v) → ((p : ℕ) → IsTrue (a.kept p) → cell_at (after_move a.size b a.keeper v) p ≡ own a)
       → Fits a (after_move a.size b a.keeper v) (after_answer a c v)
-  killed free leans stand = subst (λ z. Fits a z (after_answer a c v)) (sym (after_is a.size b a.keeper v))
+  killed free safe stand = subst (λ z. Fits a z (after_answer a c v)) (sym (after_is a.size b a.keeper v))
       (fits_clear_own a left_ (after_answer a c v) left_fits (length-clear a.size (set b v (own a)) (opponent_of a.keeper)) breathes)
     where
       left_ : List Cell
@@ -219,11 +206,8 @@ module _ (a : Area) (b c : List Cell) (fits : Fits a b c) (full : length b ≡ a
       v_there = own_stays a (set c v (own a)) wall v (at_put a.size c v (own a) walled.full on)
 
       v_breathes : Reaches a.size (clear a.size (set b v (own a)) (opponent_of a.keeper)) v Empty
-      v_breathes = elim leans [
-        | inl r ↦ own_reaches a (clear a.size (set b v (own a)) (opponent_of a.keeper)) (after_answer a c v) left_fits v v_there r
-        | inr lean ↦ joined_breathes a (clear a.size (set b v (own a)) (opponent_of a.keeper)) (after_answer a c v) left_fits v lean.0 v_there lean.2
-            (stood a.size (clear a.size (set b v (own a)) (opponent_of a.keeper)) a.keeper lean.0 (ap (λ z. cell_at z lean.0) (sym (after_is a.size b a.keeper v)) ∙ stand lean.0 lean.1))
-      ]
+      v_breathes = safe_breathes a (after_answer a c v) (walled_still a (set c v (own a)) wall) (clear a.size (set b v (own a)) (opponent_of a.keeper)) left_fits.has_own left_fits.has_empty
+          (λ p is. stood a.size (clear a.size (set b v (own a)) (opponent_of a.keeper)) a.keeper p (ap (λ z. cell_at z p) (sym (after_is a.size b a.keeper v)) ∙ stand p is)) v v_there safe
 
       breathes : (p : ℕ) → cell_at (after_answer a c v) p ≡ own a → Reaches a.size (clear a.size (set b v (own a)) (opponent_of a.keeper)) p Empty
       breathes p e = elim (is_or_not p v) [

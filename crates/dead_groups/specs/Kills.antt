@@ -5,14 +5,14 @@
 --     after_attack a c x      the state after a move of the other side's, which may take stones of the killer's
 --     IsSureLoss a c x      what that move takes is taken on each board that fits the state
 --     IsEntry a targets D j      the move of the entry j leads to the taking of a target, by entries of lower numbers
-use Rattle.std.specs.Prelude.{◌≡◌, ◌≢◌, ◌≤◌, ℕ, ◌*◌, ◌<◌, Bool, false, ◌⊎◌, IsTrue, List, map, slice_set, if◌then◌else◌}
+use Rattle.std.specs.Prelude.{◌≡◌, ◌≢◌, ◌≤◌, ℕ, ◌*◌, ◌<◌, Bool, false, ◌⊎◌, IsTrue, IsFalse, List, map, slice_set, if◌then◌else◌}
 use Rattle.go_points.specs.declared.Colour.{Colour}
 use Rattle.go_points.specs.declared.Cell.{Cell}
 use Rattle.go_points.specs.declared.Cell.TheVariants.{Empty}
 use Rattle.go_points.specs.Grid.{adjacent, points, cell_at}
 use Rattle.go_points.specs.Clear.{is_captured}
 use Rattle.go_turns.specs.History.{has_occurred}
-use Rattle.safe_groups.specs.Areas.{Area, Points, theirs, clear_loose, after_answer, IsWalled, Rooted, Fits, Leans}
+use Rattle.safe_groups.specs.Areas.{Area, Points, theirs, clear_loose, after_answer, IsWalled, Rooted, Fits}
 
 -- The region in which the killer plays. Its kept stones need no liberty there, since areas of their own keep them.
 abbrev pub killing : ℕ → Colour → Points → Points → Area
@@ -22,7 +22,7 @@ killing n k kept region = record { size = n; keeper = k; kept = kept; region = r
 unfoldable pub freed : Area → List Cell → List Cell
 freed a c = map (λ p. (if a.kept p then Empty else cell_at c p)) (points a.size)
 
--- A stone of the killer's is unsafe if it does not reach empty there: it has no liberty in the region, and is joined to no kept stone.
+-- A stone of the killer's is unsafe if it does not reach empty there: its chain has no liberty in the region, and no kept stone.
 abbrev pub is_unsafe : Area → List Cell → ℕ → Bool
 is_unsafe a c p = is_captured a.size (freed a c) a.keeper p
 
@@ -66,7 +66,7 @@ pub record IsEntry (a : Area) (targets : Points) (D : Entries) (j : ℕ) : Type 
   pub walled : IsWalled a (D.state j)
   pub on_board : D.move j < a.size * a.size
   pub empty : cell_at (D.state j) (D.move j) ≡ Empty
-  pub stands : Leans a a.kept (result a D j) (D.move j)
+  pub stands : IsFalse (is_unsafe a (result a D j) (D.move j))
   pub leads : IsTaken a targets (result a D j) ⊎ IsLost a targets D j (result a D j)
 
 -- The past bars no move of the killer's, who is to move: nothing that has occurred fits what an entry leads to, but for entries after

@@ -5,3 +5,4 @@ pub mod While
 pub mod Supposed
 pub mod Turns
 pub mod Deaths
+pub mod Grounds

@@ -8,18 +8,18 @@ unfoldable use Rattle.dead_groups.specs.Kills.{freed, clear_unsafe}
 use Rattle.dead_groups.specs.Kills.{is_unsafe, IsSureLoss}
 
 module _ (a : Area) (c : List Cell) where
-  freed_at : (p : ℕ) → p < a.size * a.size → cell_at (freed a c) p ≡ cond (a.kept p) Empty (cell_at c p)
+  pub freed_at : (p : ℕ) → p < a.size * a.size → cell_at (freed a c) p ≡ cond (a.kept p) Empty (cell_at c p)
   unfolding freed
   freed_at p on = get_or-map-range_with_len (λ q. cond (a.kept q) Empty (cell_at c q)) 0 (a.size * a.size) p p Empty on (omega arith)
 
-  length-freed : length (freed a c) ≡ a.size * a.size
+  pub length-freed : length (freed a c) ≡ a.size * a.size
   unfolding freed
   length-freed = length-map-range_with_len (λ q. cond (a.kept q) Empty (cell_at c q)) 0 (a.size * a.size)
 
-  kept_free : (p : ℕ) → p < a.size * a.size → a.kept p ≡ true → cell_at (freed a c) p ≡ Empty
+  pub kept_free : (p : ℕ) → p < a.size * a.size → a.kept p ≡ true → cell_at (freed a c) p ≡ Empty
   kept_free p on is = freed_at p on ∙ ap (λ b. cond b Empty (cell_at c p)) is
 
-  not_kept : (p : ℕ) → p < a.size * a.size → a.kept p ≡ false → cell_at (freed a c) p ≡ cell_at c p
+  pub not_kept : (p : ℕ) → p < a.size * a.size → a.kept p ≡ false → cell_at (freed a c) p ≡ cell_at c p
   not_kept p on is = freed_at p on ∙ ap (λ b. cond b Empty (cell_at c p)) is
 
   free_free : (p : ℕ) → p < a.size * a.size → cell_at c p ≡ Empty → cell_at (freed a c) p ≡ Empty

@@ -2,3 +2,6 @@
 #![tactic(auto)]
 
 pub mod laws;
+mod states;
+
+pub use states::{freed, without_loose, without_unsafe};

@@ -1,5 +1,5 @@
 -- What the judge finds of the states of the killer's region.
-use Rattle.safe_groups.proofs.Common.{sym, subst, refl, ◌≡◌, ◌∙◌, List, [], ◌∷◌, inl, inr, ℕ, ap, set, IsTrue, IsPath, IsWay, IsWalled, Fits, Rooted, adjacent, adjacent_on_board, stone_before, same_cell_eq, eq_same_cell, true, false, Bool, ◌*◌, ◌<◌, ◌&&◌, cond, not, length, lt-ltb, nat_lt, clear, cell_at-clear, is_captured, cell_at, same_cell, opponent_of, reaches, Cell, Empty, Stone, Colour, Area, is_outside, opened, clear_loose, side_of}
+use Rattle.safe_groups.proofs.Common.{map, list_all, holds_point, number_of, Place, or_left, or_right, nat_eq, eq-eqb, sym, subst, refl, ◌≡◌, ◌∙◌, List, [], ◌∷◌, inl, inr, ℕ, ap, set, IsTrue, IsPath, IsWay, IsWalled, Fits, Rooted, adjacent, adjacent_on_board, stone_before, same_cell_eq, eq_same_cell, true, false, Bool, ◌*◌, ◌<◌, ◌&&◌, cond, not, length, lt-ltb, nat_lt, clear, cell_at-clear, is_captured, cell_at, same_cell, opponent_of, reaches, Cell, Empty, Stone, Colour, Area, is_outside, opened, clear_loose, side_of}
 use Rattle.safe_groups.specs.Ground.{area_of}
 use Rattle.safe_groups.specs.declared.ground.Ground.{Ground}
 use Rattle.go_points.specs.declared.Colour.TheVariants.{Black, White}
@@ -179,3 +179,13 @@ module _ (g : Ground) (c rooted taken : List Cell) (x : ℕ) (walled : IsWalled 
 
   pub sure_by : IsSureLoss (kill_area g) c x
   sure_by = sure_at
+
+-- where not all of these points hold this, one holds something else
+pub one_lacks : (n : ℕ) (c : List Cell) (x : Cell) (s : List Place) → list_all (λ p. same_cell (cell_at c (number_of n p)) x) s ≡ false → (q : ℕ) × (holds_point (map (number_of n) s) q ≡ true) × (cell_at c q ≡ x → ⊥)
+one_lacks n c x [] e = absurd (cc e)
+one_lacks n c x (p ∷ s) e = go (same_cell (cell_at c (number_of n p)) x) refl (λ rest. one_lacks n c x s rest) e
+  where
+    go : (b : Bool) → same_cell (cell_at c (number_of n p)) x ≡ b → (list_all (λ p. same_cell (cell_at c (number_of n p)) x) s ≡ false → (q : ℕ) × (holds_point (map (number_of n) s) q ≡ true) × (cell_at c q ≡ x → ⊥))
+        → (b && list_all (λ p. same_cell (cell_at c (number_of n p)) x) s) ≡ false → (q : ℕ) × (holds_point (map (number_of n) (p ∷ s)) q ≡ true) × (cell_at c q ≡ x → ⊥)
+    go true is further none = let found = further none in (found.0, or_right (nat_eq found.0 (number_of n p)) (holds_point (map (number_of n) s) found.0) found.1, found.2)
+    go false is further none = (number_of n p, or_left (nat_eq (number_of n p) (number_of n p)) (holds_point (map (number_of n) s) (number_of n p)) (eq-eqb (number_of n p) (number_of n p) refl), (λ same. cc (is, eq_same_cell (cell_at c (number_of n p)) x same)))

@@ -1,12 +1,12 @@
 //! Local states of the killer's region on a board: what the other side's moves leave of them.
 
-ghost use Rattle.std.specs.Prelude.{◌≡◌, ◌*◌, ◌<◌, ℕ, IsTrue, false, length, slice_set};
+ghost use Rattle.std.specs.Prelude.{◌≡◌, ◌*◌, ◌<◌, ℕ, IsTrue, length, slice_set};
 ghost use Rattle.go_points.specs.declared.Cell.TheVariants.{Empty};
 ghost use Rattle.go_points.specs.Grid.{cell_at, side_of};
-ghost use Rattle.safe_groups.specs.Areas.{own, theirs, is_outside, Rooted, clear_loose, opened};
+ghost use Rattle.safe_groups.specs.Areas.{own, theirs, Fits, clear_loose, opened};
 ghost use Rattle.safe_groups.specs.Ground.{IsState};
 ghost use Rattle.dead_groups.specs.Kills.{after_attack, clear_unsafe, freed, IsSureLoss};
-ghost use Rattle.dead_groups.specs.Ground.{kill_area, masked_cell};
+ghost use Rattle.dead_groups.specs.Ground.{kill_area, masked_cell, IsRootedOn};
 
 use go_points::{Cell, Colouring, Size};
 use go_turns::cleared;
@@ -129,11 +129,7 @@ pub fn attacked(ground: &Ground, state: &Colouring, number: usize) -> Colouring
 fn rooted_stones(ground: &Ground, state: &Colouring) -> Colouring
     requires { side_of state.now ≡ side_of ground.now.cells }
     ensures side { side_of result ≡ side_of ground.now.cells }
-    ensures rooted { (p : ℕ) → p < side_of ground.now.cells * side_of ground.now.cells
-        → is_outside (kill_area ground.now) p ≡ false
-        → cell_at state.now p ≡ theirs (kill_area ground.now)
-        → Rooted (kill_area ground.now) state.now p
-        → cell_at result p ≡ theirs (kill_area ground.now) }
+    ensures rooted { IsRootedOn (kill_area ground.now) state.now result }
     ensures only { (p : ℕ) → cell_at result p ≡ theirs (kill_area ground.now)
         → cell_at state.now p ≡ theirs (kill_area ground.now) }
 {
@@ -173,4 +169,51 @@ pub fn is_sure(ground: &Ground, state: &Colouring, number: usize) -> bool
     let open = opened(ground, &masked(&rooted, ground.theirs(), &none, &bare));
     let left = cleared(&open, ground.keeper);
     all_there(&left, &cleared(&bare, ground.keeper), ground.own())
+}
+
+/// Whether the board surely does not fit the state at this point, given a colouring with the state's rooted stones.
+fn misfits_at(
+    ground: &Ground,
+    board: &Colouring,
+    state: &Colouring,
+    rooted: &Colouring,
+    number: usize,
+) -> bool
+    requires board { side_of board.now ≡ side_of ground.now.cells }
+    requires state { IsState ground.now state.now }
+    requires side { side_of rooted.now ≡ side_of ground.now.cells }
+    requires within { number < side_of ground.now.cells * side_of ground.now.cells }
+    requires rooted { IsRootedOn (kill_area ground.now) state.now rooted.now }
+    ensures { IsTrue result → Fits (kill_area ground.now) board.now state.now → ⊥ }
+{
+    if ground.cells.cell(number) == ground.theirs() {
+        return false;
+    }
+    let there = board.cell(number);
+    let cell = state.cell(number);
+    if there == cell {
+        return false;
+    }
+    if !there.is_empty() {
+        return true;
+    }
+    if cell != ground.theirs() {
+        return true;
+    }
+    rooted.cell(number) != ground.theirs()
+}
+
+/// Whether the board surely does not fit the state.
+pub fn misfits(ground: &Ground, board: &Colouring, state: &Colouring) -> bool
+    requires board { side_of board.now ≡ side_of ground.now.cells }
+    requires state { IsState ground.now state.now }
+    ensures { IsTrue result → Fits (kill_area ground.now) board.now state.now → ⊥ }
+{
+    let rooted = rooted_stones(ground, state);
+    for number in 0..state.size().area() {
+        if misfits_at(ground, board, state, &rooted, number) {
+            return true;
+        }
+    }
+    false
 }

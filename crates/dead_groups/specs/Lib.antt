@@ -1,0 +1,4 @@
+pub mod Kills
+pub mod Ground
+pub mod While
+pub mod Laws

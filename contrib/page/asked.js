@@ -30,8 +30,7 @@ function drawnAnswer(now) {
   const { size, stones } = now, props = ask.node.props;
   const shown = { region: new Set(pointsOf(size, props.SQ)), targets: pointsOf(size, props.TR), put: new Map(), marks: new Map(), labels: new Map() };
   for (const group of ask.groups || []) {
-    const point = pointNamed(size, group.target);
-    if (group.status !== "unknown" && point !== null) for (const one of chainAt(size, stones, point)) shown.marks.set(one, group.status);
+    if (group.status !== "unknown") for (const one of pointsNamed(size, group.stones)) shown.marks.set(one, group.status);
   }
   if (!ask.answer) return shown;
   const point = pointNamed(size, ask.answer.target), question = (ask.answer.questions || [])[ask.chosen];

@@ -43,12 +43,14 @@ function statusSentence(found) {
 function wordSentences(found) {
   const proof = found.proof;
   if (found.word !== "proved") return [WORDS[found.word] || ""];
-  if (!proof) return ["This is proved: nothing that is played takes the group, anywhere on the board, even if its own side always passes."];
+  if (!proof || proof.kind === "shape") {
+    return ["This is proved: nothing that is played takes the group, anywhere on the board, even if its own side always passes."];
+  }
   const list = (names) => (Array.isArray(names) ? names.join(", ") : String(names));
   const told = ["This is proved, on the whole board: whatever is played at the squares is answered, and the stones with a frame stay."];
   if (proof.while && proof.while.length) told.push(`It holds as long as these have liberties elsewhere: ${list(proof.while)}.`);
   if (proof.friends && proof.friends.length) told.push(`It rests on these stones too, which stay by claims of their own: ${list(proof.friends)}.`);
-  if (proof.answers !== undefined) told.push(`Answers: ${typeof proof.answers === "object" ? JSON.stringify(proof.answers) : proof.answers}.`);
+  if (proof.answers && proof.answers.length) told.push(`Answers: ${proof.answers.map((pair) => pair.join(" → ")).join(", ")}.`);
   return told;
 }
 

@@ -1,22 +1,227 @@
-//! The groups of a position, one after another.
+//! The groups of a position: first those that a search over the whole board proves to be alive, and then the others, one after
+//! another. Each is written as soon as it is known.
 
-use crate::by_shape::{by_shape_line, by_shape_object, lives_anywhere};
+use crate::alive::{Alive, judged};
+use crate::asking::search_of;
+use crate::by_shape::lives_anywhere;
 use crate::group::Group;
 use crate::json::judged_object;
 use crate::lines::{first_line, open_line};
 use crate::past::without_past;
 use crate::progress::tell_stones;
+use crate::proof::proved_line;
+use crate::proof_json::proof_object;
 use crate::table::Table;
+use crate::totals::{Said, Totals};
 use crate::verdict::judge;
 use go_points::{Cell, Colouring, Point, PointSet};
 use group_words::{Form, Judgement, Request, Word};
 use pn_search::Budget;
+use sgf_text::write_bytes;
 use std::alloc::{AllocError, Global};
 use std::io::Write;
 use target_game::Problem;
 
 /// The first, quick look at a group gets one part in this many of the steps.
 const QUICK_SHARE: u64 = 10;
+
+/// Why a run over all groups ends early.
+#[derive(Clone, Copy, Debug, PartialEq, Eq)]
+pub(crate) enum Stop {
+    Memory,
+    Write,
+}
+
+impl From<AllocError> for Stop {
+    fn from(_: AllocError) -> Stop {
+        Stop::Memory
+    }
+}
+
+/// The stones whose group was said, and how many of them live, die, or are open.
+#[derive(Clone, Copy, Debug)]
+struct Course {
+    stones: PointSet,
+    totals: Totals,
+    /// How many stones the board has.
+    all: usize,
+}
+
+/// Writes what is said about every group of the problem's position.
+pub(crate) fn all_groups<W: Write, N: Write>(
+    alloc: Global,
+    problem: &Problem,
+    request: &Request,
+    budget: Budget,
+    writer: &mut W,
+    notes: &mut N,
+) -> Result<(), Stop> {
+    if request.is_position_only {
+        return match without_past(alloc, problem)? {
+            Some(same) => each_group(alloc, &same, request, budget, writer, notes),
+            None => Ok(()),
+        };
+    }
+    each_group(alloc, problem, request, budget, writer, notes)
+}
+
+/// Like `all_groups`, for this problem with its past.
+fn each_group<W: Write, N: Write>(
+    alloc: Global,
+    problem: &Problem,
+    request: &Request,
+    budget: Budget,
+    writer: &mut W,
+    notes: &mut N,
+) -> Result<(), Stop> {
+    let mut course = Course {
+        stones: PointSet::new(),
+        totals: Totals::none(),
+        all: stone_count(problem.colouring()),
+    };
+    say_proved(alloc, problem, request, &mut course, writer, notes)?;
+    say_others(alloc, problem, request, budget, &mut course, writer, notes)?;
+    if request.form == Form::Json {
+        return Ok(());
+    }
+    let line = course.totals.line(alloc)?;
+    say(line.as_str(), writer)
+}
+
+/// Writes a whole line.
+fn say<W: Write>(line: &str, writer: &mut W) -> Result<(), Stop> {
+    match write_bytes(line.as_bytes(), writer) {
+        Ok(()) => Ok(()),
+        Err(_) => Err(Stop::Write),
+    }
+}
+
+/// How many stones are on the board.
+fn stone_count(colouring: &Colouring) -> usize {
+    let size = colouring.size();
+    let mut count: usize = 0;
+    for number in 0..size.area() {
+        if is_stone(colouring, number) {
+            count = count.saturating_add(1);
+        }
+    }
+    count
+}
+
+/// Whether a stone is at the point of this number.
+fn is_stone(colouring: &Colouring, number: usize) -> bool {
+    number < colouring.size().area() && matches!(colouring.cell(number), Cell::Stone(_))
+}
+
+/// Notes these stones of a group of which this was said.
+fn note(course: &mut Course, stones: &PointSet, said: Said) {
+    course.totals.add(said, stones.len());
+    for stone in stones.iter() {
+        course.stones.insert(stone);
+    }
+}
+
+/// Says of each finding that a judge accepts, as soon as it is found, that its stones live.
+fn say_proved<W: Write, N: Write>(
+    alloc: Global,
+    problem: &Problem,
+    request: &Request,
+    course: &mut Course,
+    writer: &mut W,
+    notes: &mut N,
+) -> Result<(), Stop> {
+    let mut search = search_of(alloc, problem, request.steps)?;
+    for _ in 0..u64::MAX {
+        let Some(finding) = search.next_finding()? else {
+            break;
+        };
+        if let Some(alive) = judged(alloc, problem, finding)? {
+            say_alive(alloc, problem, request, &alive, course, writer, notes)?;
+        }
+    }
+    Ok(())
+}
+
+/// Says that the stones of a finding live. They are named by the first of them.
+fn say_alive<W: Write, N: Write>(
+    alloc: Global,
+    problem: &Problem,
+    request: &Request,
+    alive: &Alive,
+    course: &mut Course,
+    writer: &mut W,
+    notes: &mut N,
+) -> Result<(), Stop> {
+    let stones = alive.finding.stones;
+    let Some(target) = stones.first() else {
+        return Ok(());
+    };
+    if course.stones.has(target) {
+        return Ok(());
+    }
+    let size = problem.size();
+    let line = if request.form == Form::Json {
+        let owner = alive.finding.colour;
+        proof_object(alloc, size, target, owner, None, &stones, Some(alive))?
+    } else {
+        proved_line(alloc, size, target)?
+    };
+    note(course, &stones, Said::Proved);
+    say(line.as_str(), writer)?;
+    if request.is_told {
+        tell_stones(alloc, size, target, course.stones.len(), course.all, notes)?;
+    }
+    Ok(())
+}
+
+/// Says of each other group, by row and column of its first stone, what the procedures find.
+fn say_others<W: Write, N: Write>(
+    alloc: Global,
+    problem: &Problem,
+    request: &Request,
+    budget: Budget,
+    course: &mut Course,
+    writer: &mut W,
+    notes: &mut N,
+) -> Result<(), Stop> {
+    let size = problem.size();
+    for number in 0..size.area() {
+        let point = size.point_at(number);
+        if is_stone(problem.colouring(), number) && !course.stones.has(point) {
+            say_other(
+                alloc, problem, point, request, budget, course, writer, notes,
+            )?;
+        }
+    }
+    Ok(())
+}
+
+/// Says what the procedures find of the group of this stone.
+fn say_other<W: Write, N: Write>(
+    alloc: Global,
+    problem: &Problem,
+    point: Point,
+    request: &Request,
+    budget: Budget,
+    course: &mut Course,
+    writer: &mut W,
+    notes: &mut N,
+) -> Result<(), Stop> {
+    let Some(asked) = problem_at(alloc, problem, point)? else {
+        return Ok(());
+    };
+    let Some(group) = Group::new(alloc, asked)? else {
+        return Ok(());
+    };
+    let (said, line) = said_and_line(alloc, &group, request, budget)?;
+    note(course, &group.position.stones(group.target), said);
+    say(line.as_str(), writer)?;
+    if request.is_told {
+        let size = problem.size();
+        tell_stones(alloc, size, point, course.stones.len(), course.all, notes)?;
+    }
+    Ok(())
+}
 
 /// The problem of the stone at the point in the same position, with the same past. `None` if there is no stone.
 fn problem_at(
@@ -36,95 +241,18 @@ fn problem_at(
     }
 }
 
-/// How many stones are on the board.
-fn stone_count(colouring: &Colouring) -> usize {
-    let size = colouring.size();
-    let mut count: usize = 0;
-    for number in 0..size.area() {
-        let point = size.point_at(number);
-        if let Cell::Stone(_) = colouring.get(point) {
-            count = count.saturating_add(1);
-        }
-    }
-    count
-}
-
-/// What is said about every group of the problem's position, by row and column of its first stone.
-pub(crate) fn all_groups<N: Write>(
-    alloc: Global,
-    problem: &Problem,
-    request: &Request,
-    budget: Budget,
-    notes: &mut N,
-) -> Result<String, AllocError> {
-    if request.is_position_only {
-        return match without_past(alloc, problem)? {
-            Some(same) => each_group(alloc, &same, request, budget, notes),
-            None => Ok(String::new(alloc)),
-        };
-    }
-    each_group(alloc, problem, request, budget, notes)
-}
-
-/// Like `all_groups`, for this problem with its past.
-fn each_group<N: Write>(
-    alloc: Global,
-    problem: &Problem,
-    request: &Request,
-    budget: Budget,
-    notes: &mut N,
-) -> Result<String, AllocError> {
-    let size = problem.size();
-    let all = stone_count(problem.colouring());
-    let mut said = PointSet::new();
-    let mut text = String::new(alloc);
-    for number in 0..size.area() {
-        let point = size.point_at(number);
-        if !said.has(point) {
-            if let Some(other) = problem_at(alloc, problem, point)? {
-                let part = one_group(alloc, other, request, budget, all, &mut said, notes)?;
-                text.push_str(part.as_str())?;
-            }
-        }
-    }
-    Ok(text)
-}
-
-/// What is said about one group. Its stones are noted.
-fn one_group<N: Write>(
-    alloc: Global,
-    problem: Problem,
-    request: &Request,
-    budget: Budget,
-    all: usize,
-    said: &mut PointSet,
-    notes: &mut N,
-) -> Result<String, AllocError> {
-    let Some(group) = Group::new(alloc, problem)? else {
-        return Ok(String::new(alloc));
-    };
-    for stone in group.position.stones(group.target).iter() {
-        said.insert(stone);
-    }
-    let text = text_of(alloc, &group, request, budget)?;
-    if request.is_told {
-        tell_stones(alloc, &group, said.len(), all, notes)?;
-    }
-    Ok(text)
-}
-
 /// What is said about the group: what a quick look found, if that is sure, and otherwise what both procedures find.
-fn text_of(
+fn said_and_line(
     alloc: Global,
     group: &Group,
     request: &Request,
     budget: Budget,
-) -> Result<String, AllocError> {
+) -> Result<(Said, String), AllocError> {
     // The notes of a run are about its groups, not about their questions.
     let mut silent: Vec<u8> = Vec::new(alloc);
     let is_json = request.form == Form::Json;
     if lives_anywhere(group.problem.colouring(), group.target, group.defender) {
-        return said_by_shape(alloc, group, budget, is_json);
+        return Ok((Said::Proved, line_by_shape(alloc, group, is_json)?));
     }
     let quick = Budget {
         steps: (budget.steps / QUICK_SHARE).max(1),
@@ -133,39 +261,37 @@ fn text_of(
     let mut table = Table::new(alloc, quick, false);
     let judged = judge(alloc, group, &mut table, true, &mut silent)?;
     if judged.word == Word::Sure || request.is_quick {
-        return said_of(alloc, group, &table, &judged, is_json);
+        return line_of(alloc, group, &table, &judged, is_json);
     }
     let mut table = Table::new(alloc, budget, false);
     let judged = judge(alloc, group, &mut table, false, &mut silent)?;
-    said_of(alloc, group, &table, &judged, is_json)
+    line_of(alloc, group, &table, &judged, is_json)
 }
 
 /// The line or the object of a group that lives by its shape.
-fn said_by_shape(
-    alloc: Global,
-    group: &Group,
-    budget: Budget,
-    is_json: bool,
-) -> Result<String, AllocError> {
+fn line_by_shape(alloc: Global, group: &Group, is_json: bool) -> Result<String, AllocError> {
+    let (size, target) = (group.problem.size(), group.target);
     if is_json {
-        return by_shape_object(alloc, group, &Table::new(alloc, budget, false), None);
+        let stones = group.position.stones(target);
+        return proof_object(alloc, size, target, group.defender, None, &stones, None);
     }
-    by_shape_line(alloc, group)
+    proved_line(alloc, size, target)
 }
 
-/// The line or the object of a group. A group about which nothing was decided is open.
-fn said_of(
+/// The line or the object of a group, and what it says. A group about which nothing was decided is open.
+fn line_of(
     alloc: Global,
     group: &Group,
     table: &Table,
     judged: &Judgement,
     is_json: bool,
-) -> Result<String, AllocError> {
+) -> Result<(Said, String), AllocError> {
+    let said = Said::of(judged);
     if is_json {
-        return judged_object(alloc, group, table, judged);
+        return Ok((said, judged_object(alloc, group, table, judged)?));
     }
     if table.is_open() {
-        return open_line(alloc, group);
+        return Ok((said, open_line(alloc, group)?));
     }
-    first_line(alloc, group, judged)
+    Ok((said, first_line(alloc, group, judged)?))
 }

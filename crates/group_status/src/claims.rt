@@ -1,11 +1,12 @@
 //! The questions that were decided, each as a record with its claim, one after another.
 
+use crate::alive::Alive;
 use crate::group::Group;
 use crate::json::cause_name;
 use crate::lines::push_point;
 use crate::table::Table;
 use cert_check::Checked;
-use go_points::Colour;
+use go_points::{Colour, Point};
 use group_words::Length;
 use pn_search::{Audience, Budget, Cause, Verdict, solve};
 use proof_cert::{CertWrite, Certificate, write_cert, write_short};
@@ -44,10 +45,34 @@ pub(crate) fn claims(
             )?;
         }
     }
+    text_of(bytes)
+}
+
+/// The bytes as a text, which all of them are.
+fn text_of(bytes: Vec<u8>) -> Result<String, AllocError> {
     match String::from_utf8(bytes) {
         Ok(text) => Ok(text),
         Err(_) => Err(AllocError),
     }
+}
+
+/// The lines, and after them the claim by answers of the group: a line that says so, its record, and the claim.
+pub(crate) fn proof_claim(
+    alloc: Global,
+    alive: &Alive,
+    target: Point,
+    lines: &str,
+) -> Result<String, AllocError> {
+    let mut bytes = Vec::new(alloc);
+    bytes.extend_from_slice(lines.as_bytes())?;
+    let mut head = String::new(alloc);
+    head.push_str("== 1 ")?;
+    push_point(&mut head, alive.safe.problem.size(), target)?;
+    let owner = colour_name(alive.finding.colour);
+    write!(head, ", by answers: {owner} stands\n")?;
+    push_question(alloc, &alive.safe.problem, head.as_str(), &mut bytes)?;
+    bytes.extend_from_slice(alive.finding.claim.as_slice())?;
+    text_of(bytes)
 }
 
 /// What the line of a question begins with: its number, who moves first, and the sizes and walls that ask it.

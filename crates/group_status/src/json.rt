@@ -3,7 +3,7 @@
 use crate::group::Group;
 use crate::lines::{push_point, push_turn_name};
 use crate::table::{Row, Table};
-use go_points::{Colour, PointSet, Size};
+use go_points::{Colour, Point, PointSet, Size};
 use group_words::{Fate, Finding, Judgement, Side, Word};
 use pn_search::Cause;
 use std::alloc::{AllocError, Global};
@@ -70,10 +70,15 @@ pub(crate) fn found_object(
 }
 
 /// The beginning of an object, with its target.
-pub(crate) fn begun(alloc: Global, group: &Group) -> Result<String, AllocError> {
+fn begun(alloc: Global, group: &Group) -> Result<String, AllocError> {
+    begun_at(alloc, group.position.colouring().size(), group.target)
+}
+
+/// The beginning of an object with this target.
+pub(crate) fn begun_at(alloc: Global, size: Size, target: Point) -> Result<String, AllocError> {
     let mut text = String::new(alloc);
     text.push_str("{\"target\":\"")?;
-    push_point(&mut text, group.position.colouring().size(), group.target)?;
+    push_point(&mut text, size, target)?;
     text.push('"')?;
     Ok(text)
 }
@@ -101,8 +106,10 @@ fn push_named_winner(
     }
 }
 
-/// Appends all questions and the end of the object.
-pub(crate) fn push_rows(text: &mut String, group: &Group, table: &Table) -> Result<(), AllocError> {
+/// Appends the stones of the group, all questions, and the end of the object.
+fn push_rows(text: &mut String, group: &Group, table: &Table) -> Result<(), AllocError> {
+    let stones = group.position.stones(group.target);
+    push_points(text, "stones", group.position.colouring().size(), &stones)?;
     text.push_str(",\"questions\":[")?;
     let mut is_first = true;
     for row in table.rows.as_slice() {
@@ -133,10 +140,10 @@ fn push_row(text: &mut String, group: &Group, table: &Table, row: &Row) -> Resul
     push_forgotten(text, group, table, row)?;
     push_move(text, group, table, row)?;
     let size = group.position.colouring().size();
-    push_set(text, "inside", size, &row.inside)?;
-    push_set(text, colour_key(group.defender), size, &row.given)?;
-    push_set(text, colour_key(group.defender.opponent()), size, &row.held)?;
-    push_set(text, "shut", size, &row.shut)?;
+    push_points(text, "inside", size, &row.inside)?;
+    push_points(text, colour_key(group.defender), size, &row.given)?;
+    push_points(text, colour_key(group.defender.opponent()), size, &row.held)?;
+    push_points(text, "shut", size, &row.shut)?;
     text.push('}')
 }
 
@@ -193,9 +200,25 @@ fn push_move(text: &mut String, group: &Group, table: &Table, row: &Row) -> Resu
     }
 }
 
+/// Appends a list of points after another key.
+pub(crate) fn push_points(
+    text: &mut String,
+    name: &str,
+    size: Size,
+    set: &PointSet,
+) -> Result<(), AllocError> {
+    text.push(',')?;
+    push_set(text, name, size, set)
+}
+
 /// Appends a list of points.
-fn push_set(text: &mut String, name: &str, size: Size, set: &PointSet) -> Result<(), AllocError> {
-    write!(text, ",\"{name}\":[")?;
+pub(crate) fn push_set(
+    text: &mut String,
+    name: &str,
+    size: Size,
+    set: &PointSet,
+) -> Result<(), AllocError> {
+    write!(text, "\"{name}\":[")?;
     let mut is_first = true;
     for point in set.iter() {
         text.push_str(if is_first { "\"" } else { ",\"" })?;

@@ -1,20 +1,28 @@
 //! group_status: says whether a group is alive, dead or unsettled, and on what suppositions.
 #![tactic(auto)]
 
+mod alive;
 mod all_groups;
 mod asked;
+mod asking;
 mod by_shape;
 mod claims;
 mod first_procedure;
 mod group;
 mod json;
+mod last_turn;
 mod lines;
 mod past;
 mod program;
 mod progress;
+mod proof;
+mod proof_json;
+mod score;
 mod second_procedure;
 mod solutions;
 mod table;
+mod together;
+mod totals;
 mod variation;
 mod verdict;
 

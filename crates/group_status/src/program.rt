@@ -1,13 +1,18 @@
 //! A run of the program: from its words and its input to its answer.
 
-use crate::all_groups::all_groups;
-use crate::by_shape::{by_shape_lines, by_shape_object, lives_anywhere};
-use crate::claims::claims;
+use crate::all_groups::{Stop, all_groups};
+use crate::asking::alive_stone;
+use crate::by_shape::lives_anywhere;
+use crate::claims::{claims, proof_claim};
 use crate::group::Group;
 use crate::json::{found_object, judged_object};
+use crate::last_turn::turn_at_node;
 use crate::lines::{found_lines, judged_lines};
 use crate::past::without_past;
-use crate::solutions::{Told, solutions};
+use crate::proof::{Proof, proof_lines};
+use crate::proof_json::proof_object;
+use crate::score::score;
+use crate::solutions::{Told, answers_record, solutions};
 use crate::table::Table;
 use crate::verdict::{found, judge};
 use go_points::to_sgf;
@@ -39,14 +44,16 @@ pub fn run<S: AsStr, R: Read, W: Write, N: Write>(
     writer: &mut W,
     notes: &mut N,
 ) -> Status {
-    write_output(writer, output(alloc, words, reader, notes))
+    let output = output(alloc, words, reader, writer, notes);
+    write_output(writer, output)
 }
 
-/// What is written for the words and the input.
-fn output<S: AsStr, R: Read, N: Write>(
+/// What is written for the words and the input, after the lines of all groups, which are written as they become known.
+fn output<S: AsStr, R: Read, W: Write, N: Write>(
     alloc: Global,
     words: &[S],
     reader: &mut R,
+    writer: &mut W,
     notes: &mut N,
 ) -> Result<Output, AllocError> {
     let request = match read_request(alloc, words) {
@@ -60,7 +67,7 @@ fn output<S: AsStr, R: Read, N: Write>(
     match read_tree(alloc, bytes.as_slice()) {
         Ok((tree, end)) => {
             tell_others(alloc, bytes.as_slice(), end, notes);
-            output_of(alloc, &request, &tree, notes)
+            output_of(alloc, &request, &tree, writer, notes)
         }
         Err(fault) => no_tree(alloc, fault),
     }
@@ -78,17 +85,21 @@ fn tell_others<N: Write>(alloc: Global, bytes: &[u8], end: usize, notes: &mut N)
 }
 
 /// What is written for what is asked for and this record.
-fn output_of<N: Write>(
+fn output_of<W: Write, N: Write>(
     alloc: Global,
     request: &Request,
     tree: &Tree,
+    writer: &mut W,
     notes: &mut N,
 ) -> Result<Output, AllocError> {
     let Some(budget) = budget_of(request) else {
         return Err(AllocError);
     };
+    if request.is_score {
+        return score_answered(alloc, request, tree, notes);
+    }
     if request.is_all {
-        return all_answered(alloc, request, tree, budget, notes);
+        return all_answered(alloc, request, tree, budget, writer, notes);
     }
     let problem = match problem_asked(alloc, request, tree) {
         Ok(problem) => problem,
@@ -147,23 +158,47 @@ fn budget_of(request: &Request) -> Option<Budget> {
     })
 }
 
-/// What is said about all groups.
-fn all_answered<N: Write>(
+/// What is written after the lines about all groups.
+fn all_answered<W: Write, N: Write>(
     alloc: Global,
     request: &Request,
     tree: &Tree,
     budget: Budget,
+    writer: &mut W,
     notes: &mut N,
 ) -> Result<Output, AllocError> {
     let problem = match position_asked(alloc, tree, request.node, notes) {
         Ok(problem) => problem,
         Err(none) => return no_stone(alloc, tree, request.node, "", none),
     };
-    let text = all_groups(alloc, &problem, request, budget, notes)?;
-    Ok(Output::Text(text, Status::Answered))
+    match all_groups(alloc, &problem, request, budget, writer, notes) {
+        Ok(()) => text_of(String::new(alloc)),
+        Err(Stop::Memory) => Err(AllocError),
+        Err(Stop::Write) => Ok(Output::Text(String::new(alloc), Status::Failed)),
+    }
 }
 
-/// The problem of the first stone of the position. If no node is named and the game ends there with two passes, the position is the
+/// The score of the position.
+fn score_answered<N: Write>(
+    alloc: Global,
+    request: &Request,
+    tree: &Tree,
+    notes: &mut N,
+) -> Result<Output, AllocError> {
+    let problem = match position_asked(alloc, tree, request.node, notes) {
+        Ok(problem) => problem,
+        Err(none) => return no_stone(alloc, tree, request.node, "", none),
+    };
+    if !request.is_position_only {
+        return text_of(score(alloc, &problem, request)?);
+    }
+    match without_past(alloc, &problem)? {
+        Some(same) => text_of(score(alloc, &same, request)?),
+        None => text_of(String::new(alloc)),
+    }
+}
+
+/// The problem of a stone of the position. If no node is named and the game ends there with two passes, the position is the
 /// one before them, which is the same with the turn to move.
 fn position_asked<N: Write>(
     alloc: Global,
@@ -200,8 +235,14 @@ fn tell_passes<N: Write>(
     Ok(())
 }
 
-/// The problem of the first stone of the position.
+/// The problem of some stone of the position: of the one that was placed last, or else of the first.
 fn any_problem(alloc: Global, tree: &Tree, node: Option<usize>) -> Result<Problem, NoStone> {
+    // Each stone that is asked for has the game replayed.
+    if let Some(value) = turn_at_node(tree, node_asked(tree, node))
+        && let Ok(problem) = stone_problem(alloc, tree, node, value.as_slice())
+    {
+        return Ok(problem);
+    }
     let Some(size) = board_size(&tree.nodes()[0]) else {
         return Err(NoStone::NoPoint);
     };
@@ -224,10 +265,10 @@ fn answered<N: Write>(
     budget: Budget,
     notes: &mut N,
 ) -> Result<Output, AllocError> {
-    let mut table = Table::new(alloc, budget, request.is_told);
-    if lives_anywhere(group.problem.colouring(), group.target, group.defender) {
-        return answered_by_shape(alloc, request, group, &table);
+    if let Some(proof) = proof_of(alloc, group, request.steps)? {
+        return answered_by_proof(alloc, request, group, &proof);
     }
+    let mut table = Table::new(alloc, budget, request.is_told);
     match request.first {
         Some(first) => {
             let finding = found(alloc, group, &mut table, first, request.is_quick, notes)?;
@@ -240,18 +281,45 @@ fn answered<N: Write>(
     }
 }
 
-/// The answer if the group lives by its shape, so that nothing was asked.
-fn answered_by_shape(
+/// Why the group is alive, where that is proved.
+fn proof_of(alloc: Global, group: &Group, steps: u64) -> Result<Option<Proof>, AllocError> {
+    if lives_anywhere(group.problem.colouring(), group.target, group.defender) {
+        let alive = alive_stone(alloc, &group.problem, group.target, 0)?;
+        return Ok(Some(Proof::Shape(alive)));
+    }
+    match alive_stone(alloc, &group.problem, group.target, steps)? {
+        Some(alive) => Ok(Some(Proof::Answers(alive))),
+        None => Ok(None),
+    }
+}
+
+/// The answer if the group is proved to be alive, so that nothing is asked of the procedures.
+fn answered_by_proof(
     alloc: Global,
     request: &Request,
     group: &Group,
-    table: &Table,
+    proof: &Proof,
 ) -> Result<Output, AllocError> {
+    let size = group.problem.size();
+    let (target, defender, first) = (group.target, group.defender, request.first);
     if request.form == Form::Json {
-        return text_of(by_shape_object(alloc, group, table, request.first)?);
+        let stones = group.position.stones(target);
+        return text_of(proof_object(alloc, size, target, defender, first, &stones, proof.alive())?);
     }
-    let lines = by_shape_lines(alloc, group, request.first)?;
-    in_form(alloc, request.form, group, table, &[], lines)
+    let lines = proof_lines(alloc, size, target, defender, first, proof)?;
+    match (request.form, proof.alive()) {
+        (Form::Claims(_), Some(alive)) => {
+            text_of(proof_claim(alloc, alive, target, lines.as_str())?)
+        }
+        (Form::Record, Some(alive)) => {
+            let answers = alive.finding.answers.as_slice();
+            Ok(Output::Record(answers_record(alloc, group, answers, lines.as_str())?))
+        }
+        (Form::Record, None) => {
+            Ok(Output::Record(answers_record(alloc, group, &[], lines.as_str())?))
+        }
+        _ => text_of(lines),
+    }
 }
 
 /// The answer if only one side was asked about.

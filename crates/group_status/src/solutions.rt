@@ -6,13 +6,14 @@ use crate::lines::{push_end, walls_text};
 use crate::past::without_past;
 use crate::table::{Row, Table};
 use crate::variation::{Question, alone, node_with, solved, tree_with};
-use go_points::{PointSet, to_sgf as letters_of};
+use go_points::{PointSet, Turn, to_sgf as letters_of};
+use group_search::Answer;
 use group_words::{Finding, Side};
 use sgf_text::{Bytes, Property, SgfNode, Tree, Values};
 use std::alloc::{AllocError, Global};
 use target_game::Problem;
 use tool_parts::{copy_properties, single};
-use tsumego_problem::past_nodes;
+use tsumego_problem::{past_nodes, turn_node};
 
 /// The greatest number of turns of all solutions of a record.
 const MOST_TURNS: usize = 90_000;
@@ -24,6 +25,54 @@ pub(crate) struct Told {
     pub(crate) finding: Finding,
 }
 
+/// The record of a group that is proved to be alive, with these lines as the comment of its position, and a variation for each
+/// answer to the other side's first moves.
+pub(crate) fn answers_record(
+    alloc: Global,
+    group: &Group,
+    answers: &[Answer],
+    lines: &str,
+) -> Result<Tree, AllocError> {
+    let Some(before) = without_past(alloc, &group.problem)? else {
+        return Err(AllocError);
+    };
+    let nodes = shown_nodes(alloc, group, &before, lines)?;
+    let mut branches = Vec::new(alloc);
+    for one in answers {
+        branches.push(answer_branch(alloc, group, *one)?)?;
+    }
+    tree_with(nodes, branches)
+}
+
+/// A move of the other side's and the answer.
+fn answer_branch(alloc: Global, group: &Group, one: Answer) -> Result<Tree, AllocError> {
+    let size = group.problem.size();
+    let other = group.defender.opponent();
+    let answer = match one.answer {
+        Some(point) => Turn::At(point),
+        None => Turn::Pass,
+    };
+    let mut nodes = Vec::new(alloc);
+    nodes.push(turn_node(alloc, size, other, Turn::At(one.point))?)?;
+    nodes.push(turn_node(alloc, size, group.defender, answer)?)?;
+    tree_with(nodes, Vec::new(alloc))
+}
+
+/// The nodes of the position, the last of which has circles on the group and a comment.
+fn shown_nodes(
+    alloc: Global,
+    group: &Group,
+    before: &Problem,
+    lines: &str,
+) -> Result<Vec<SgfNode>, AllocError> {
+    let mut nodes = past_nodes(alloc, before)?;
+    let Some(last) = nodes.pop() else {
+        return Err(AllocError);
+    };
+    nodes.push(shown_node(alloc, &last, group, lines)?)?;
+    Ok(nodes)
+}
+
 /// The record of what is found, with these lines as the comment of its position.
 pub(crate) fn solutions(
     alloc: Global,
@@ -33,11 +82,7 @@ pub(crate) fn solutions(
     lines: &str,
 ) -> Result<Tree, AllocError> {
     let before = shown_past(alloc, group, table)?;
-    let mut nodes = past_nodes(alloc, &before)?;
-    let Some(last) = nodes.pop() else {
-        return Err(AllocError);
-    };
-    nodes.push(shown_node(alloc, &last, group, lines)?)?;
+    let nodes = shown_nodes(alloc, group, &before, lines)?;
     let mut left = MOST_TURNS;
     let mut branches = Vec::new(alloc);
     for one in told {

@@ -55,6 +55,8 @@ pub struct Request {
     pub is_quick: bool,
     /// Whether all groups of the position are asked about.
     pub is_all: bool,
+    /// Whether the score is asked for.
+    pub is_score: bool,
     pub form: Form,
     /// Whether the past is ignored.
     pub is_position_only: bool,
@@ -85,6 +87,7 @@ fn chosen(alloc: Global, given: &ArgMatches<'_>) -> Result<Request, NoRequest> {
         steps: steps(given),
         is_quick: flag(given, "quick"),
         is_all: flag(given, "all"),
+        is_score: flag(given, "score"),
         form: chosen_form(given),
         is_position_only: flag(given, "position-only"),
         is_told: flag(given, "progress"),
@@ -105,18 +108,32 @@ fn fault_of(given: &ArgMatches<'_>) -> Option<&'static str> {
         );
     }
     let has_target = given.get_str("target").is_some();
-    if flag(given, "all") {
-        if has_target {
-            return Some("'--all' asks about every group, '--target' about one; name one of them");
-        }
-        let has_claims = flag(given, "claims") || flag(given, "full-claims");
-        if flag(given, "sgf") || has_claims || given.get_str("first").is_some() {
-            return Some("'--first', '--sgf' and claims are for one target, and not for '--all'");
-        }
-        return None;
+    if flag(given, "all") || flag(given, "score") {
+        return fault_of_board(given, has_target);
     }
     if given.get_one::<u64>("node").is_some() && !has_target {
-        return Some("'--node' wants a '--target' at that node, or '--all'");
+        return Some("'--node' wants a '--target' at that node, '--all' or '--score'");
+    }
+    None
+}
+
+/// The same where the whole board is asked about.
+fn fault_of_board(given: &ArgMatches<'_>, has_target: bool) -> Option<&'static str> {
+    if has_target {
+        return Some(
+            "'--all' and '--score' ask about every group, '--target' about one; name one of them",
+        );
+    }
+    let has_claims = flag(given, "claims") || flag(given, "full-claims");
+    if flag(given, "sgf") || has_claims || given.get_str("first").is_some() {
+        return Some(
+            "'--first', '--sgf' and claims are for one target, and not for '--all' or '--score'",
+        );
+    }
+    if flag(given, "all") && flag(given, "score") {
+        return Some(
+            "'--all' says a line of each group, '--score' who has which points; name one of them",
+        );
     }
     None
 }
@@ -155,7 +172,7 @@ fn steps(given: &ArgMatches<'_>) -> u64 {
     if let Some(steps) = given.get_one::<u64>("steps") {
         return steps;
     }
-    if flag(given, "all") {
+    if flag(given, "all") || flag(given, "score") {
         STEPS_FOR_ALL
     } else {
         STEPS
@@ -195,6 +212,7 @@ fn program<'a>(alloc: Global) -> Result<clap::Command<'a>, AllocError> {
     let program = with_argument(program, steps_argument(alloc))?;
     let program = with_argument(program, quick_argument(alloc))?;
     let program = with_argument(program, all_argument(alloc))?;
+    let program = with_argument(program, score_argument(alloc))?;
     let program = with_argument(program, json_argument(alloc))?;
     let program = with_argument(program, sgf_argument(alloc))?;
     let program = with_argument(program, claims_argument(alloc))?;
@@ -228,7 +246,7 @@ fn first_argument<'a>(alloc: Global) -> Arg<'a> {
 fn steps_argument<'a>(alloc: Global) -> Arg<'a> {
     Arg::new(alloc, "steps")
         .help(
-            "The most steps of the search for each question, 1 to 10000000 [default: 100000, with --all 20000]",
+            "The most steps of the search for each question, 1 to 10000000 [default: 100000, with --all or --score 20000]",
         )
         .long("steps")
         .value_name("N")
@@ -248,6 +266,13 @@ fn all_argument<'a>(alloc: Global) -> Arg<'a> {
     Arg::new(alloc, "all")
         .help("Asks about every group of the position, quickly first, and says a line of each")
         .long("all")
+        .action(ArgAction::SetTrue)
+}
+
+fn score_argument<'a>(alloc: Global) -> Arg<'a> {
+    Arg::new(alloc, "score")
+        .help("Says by what is proved who has each point of the board, and the score or its bounds")
+        .long("score")
         .action(ArgAction::SetTrue)
 }
 

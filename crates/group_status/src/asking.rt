@@ -1,0 +1,60 @@
+//! What the search of answers is asked: how much, and about which stone.
+
+use crate::alive::{Alive, judged};
+use go_points::Point;
+use group_search::{GroupSearch, Limits, find_for_stone};
+use std::alloc::{AllocError, Global};
+use target_game::Problem;
+
+/// How many times the steps of a question all questions about one stone may take.
+const QUESTIONS: u64 = 2;
+
+/// All questions about a board may take the square of the steps of one, divided by this: with few steps little is asked.
+const SHARE: u64 = 200;
+
+/// The limits by which one question takes at most these steps, and all of them so many.
+fn limits(steps: u64, all_steps: u64) -> Limits {
+    let most = Limits::default();
+    Limits {
+        steps: most.steps.min(steps),
+        closed_steps: most.closed_steps.min(steps),
+        all_steps: most.all_steps.min(all_steps),
+        ..most
+    }
+}
+
+/// What is proved of the stone at the point in the position of the problem. With no steps only a shape is looked at.
+pub(crate) fn alive_stone(
+    alloc: Global,
+    problem: &Problem,
+    point: Point,
+    steps: u64,
+) -> Result<Option<Alive>, AllocError> {
+    let found = find_for_stone(
+        alloc,
+        problem.colouring(),
+        problem.history(),
+        Some(problem.mover()),
+        limits(steps, steps.saturating_mul(QUESTIONS)),
+        point,
+    )?;
+    match found {
+        Some(finding) if finding.stones.has(point) => judged(alloc, problem, finding),
+        _ => Ok(None),
+    }
+}
+
+/// A search over the whole board of the problem.
+pub(crate) fn search_of(
+    alloc: Global,
+    problem: &Problem,
+    steps: u64,
+) -> Result<GroupSearch, AllocError> {
+    GroupSearch::new(
+        alloc,
+        problem.colouring(),
+        problem.history(),
+        Some(problem.mover()),
+        limits(steps, (steps.saturating_mul(steps) / SHARE).max(steps)),
+    )
+}

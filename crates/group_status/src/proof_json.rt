@@ -1,0 +1,102 @@
+//! A group that is proved to be alive, as an object of JSON.
+
+use crate::alive::Alive;
+use crate::json::{begun_at, push_points, push_set};
+use crate::lines::push_point;
+use crate::proof::push_answer_name;
+use go_points::{Colour, Point, PointSet, Size};
+use group_search::{Answer, Kind};
+use group_words::Side;
+use std::alloc::{AllocError, Global};
+use tool_parts::colour_letter;
+
+/// How the stones live, as a word.
+fn kind_name(kind: Kind) -> &'static str {
+    match kind {
+        Kind::PassAlive => "shape",
+        Kind::OneRegion => "region",
+        Kind::WithFriends => "friends",
+        Kind::TwoRegions => "two regions",
+        Kind::Dead => "taken",
+        Kind::DeadWhile => "taken while",
+    }
+}
+
+/// The object of a group, in which nothing is asked of the procedures. `stones` are its own where no finding names more.
+pub(crate) fn proof_object(
+    alloc: Global,
+    size: Size,
+    target: Point,
+    defender: Colour,
+    first: Option<Side>,
+    stones: &PointSet,
+    alive: Option<&Alive>,
+) -> Result<String, AllocError> {
+    let mut text = begun_at(alloc, size, target)?;
+    push_word(&mut text, defender, first)?;
+    match alive {
+        Some(alive) => {
+            push_points(&mut text, "stones", size, &alive.finding.stones)?;
+            push_proof(&mut text, size, alive)?;
+        }
+        None => push_points(&mut text, "stones", size, stones)?,
+    }
+    text.push_str(",\"questions\":[]}\n")?;
+    Ok(text)
+}
+
+/// Appends the status, or who wins if one side moves first, and the word.
+fn push_word(text: &mut String, defender: Colour, first: Option<Side>) -> Result<(), AllocError> {
+    match first {
+        None => text.push_str(",\"status\":\"alive\",\"word\":\"proved\""),
+        Some(side) => {
+            let mover = colour_letter(side.colour(defender));
+            let winner = colour_letter(defender);
+            write!(
+                text,
+                ",\"first\":\"{mover}\",\"word\":\"proved\",\"winner\":\"{winner}\""
+            )
+        }
+    }
+}
+
+/// Appends what a judge has accepted.
+fn push_proof(text: &mut String, size: Size, alive: &Alive) -> Result<(), AllocError> {
+    let finding = &alive.finding;
+    let kind = kind_name(finding.kind);
+    write!(text, ",\"proof\":{{\"kind\":\"{kind}\",")?;
+    push_set(text, "kept", size, &finding.kept)?;
+    push_points(text, "region", size, &finding.region)?;
+    push_points(text, "friends", size, &finding.friends)?;
+    push_answers(text, size, finding.answers.as_slice())?;
+    push_claim(text, finding.claim.as_slice())?;
+    text.push('}')
+}
+
+/// Appends the answers to the other side's first moves.
+fn push_answers(text: &mut String, size: Size, answers: &[Answer]) -> Result<(), AllocError> {
+    text.push_str(",\"answers\":[")?;
+    let mut is_first = true;
+    for one in answers {
+        text.push_str(if is_first { "[\"" } else { ",[\"" })?;
+        is_first = false;
+        push_point(text, size, one.point)?;
+        text.push_str("\",\"")?;
+        push_answer_name(text, size, *one)?;
+        text.push_str("\"]")?;
+    }
+    text.push(']')
+}
+
+/// Appends the text of the claim, whose lines have no byte that JSON writes in another way but their ends.
+fn push_claim(text: &mut String, claim: &[u8]) -> Result<(), AllocError> {
+    text.push_str(",\"claim\":\"")?;
+    for byte in claim {
+        if *byte == b'\n' {
+            text.push_str("\\n")?;
+        } else {
+            text.push(char::from(*byte))?;
+        }
+    }
+    text.push('"')
+}

@@ -1,1 +1,2 @@
 pub mod Winners
+pub mod Stones

@@ -52,7 +52,7 @@ stones_text n k stones zero = []
 stones_text n k stones (suc m) = stones_text n k stones m ++ (if same_cell (cell_at stones m) (Stone k) then spaced (place_of n m) else [])
 
 abbrev pub stands_text : ℕ → Colour → Option Place → List Cell → List ℕ
-stands_text n k first stones = line (codes "stands " ++ colour_text k ++ first_text first ++ stones_text n k stones (n * n))
+stands_text n k first stones = line (codes "stands " ++ (colour_text k ++ (first_text first ++ stones_text n k stones (n * n))))
 
 -- The text names a side that wins; or stones of the defender's that are safe by answers, as the targets are, at once or by a first move.
 abbrev pub NamesWinner : GameProblem → List ℕ → Type 0

@@ -1,0 +1,13 @@
+-- The line of stones that stand.
+use Rattle.std.proofs.Common.{◌≡◌, ℕ, List, [], ◌∷◌, ◌++◌, ◌*◌, codes, sym, ◌∙◌, ap, Option, append_assoc}
+use Rattle.go_points.specs.declared.Cell.{Cell}
+use Rattle.go_points.specs.declared.Colour.{Colour}
+use Rattle.go_points.specs.Place.{Place}
+use Rattle.tool_parts.specs.Says.{colour_text}
+use Rattle.short_proofs.specs.Says.{first_text, stands_text, stones_text}
+
+-- the text that is put together is that line
+pub stands_is : (n : ℕ) (k : Colour) (first : Option Place) (stones : List Cell) (side rest text : List ℕ) → side ≡ colour_text k → rest ≡ first_text first ++ stones_text n k stones (n * n) → text ≡ codes "stands " ++ (side ++ (rest ++ 10 ∷ [])) → text ≡ stands_text n k first stones
+stands_is n k first stones side rest text named told is =
+    is ∙ ap (λ l. codes "stands " ++ l) (ap (λ s. s ++ (rest ++ 10 ∷ [])) named ∙ ap (λ r. colour_text k ++ (r ++ 10 ∷ [])) told ∙ sym (append_assoc (colour_text k) (first_text first ++ stones_text n k stones (n * n)) (10 ∷ [])))
+    ∙ sym (append_assoc (codes "stands ") (colour_text k ++ (first_text first ++ stones_text n k stones (n * n))) (10 ∷ []))

@@ -4,5 +4,7 @@ pub mod Areas
 pub mod While
 pub mod Supposed
 pub mod Turns
+pub mod Entering
+pub mod Killing
 pub mod Deaths
 pub mod Grounds

@@ -1,10 +1,8 @@
 -- The killer's region as its judge holds it: the ground of an area, of which only the kept stones and the region count.
-use Rattle.std.specs.Prelude.{◌≡◌, ◌*◌, ◌<◌, ◌⊎◌, ℕ, false, List, [], length, get_or, map, if◌then◌else◌}
+use Rattle.std.specs.Prelude.{◌≡◌, ◌*◌, ◌<◌, ◌⊎◌, ℕ, false, List, [], length, get_or, if◌then◌else◌}
 use Rattle.go_points.specs.declared.Cell.{Cell}
-use Rattle.go_points.specs.declared.Cell.TheVariants.{Empty}
-use Rattle.go_points.specs.Grid.{cell_at, same_cell, side_of}
-use Rattle.go_points.specs.Place.{Place, number_of}
-use Rattle.target_game.specs.Legal.{holds_point}
+use Rattle.go_points.specs.declared.Cell.TheVariants.{Empty, Stone}
+use Rattle.go_points.specs.Grid.{cell_at, opponent_of, same_cell, side_of}
 use Rattle.safe_groups.specs.Areas.{Area, Points, theirs, is_outside, Rooted}
 use Rattle.safe_groups.specs.Ground.{area_of}
 use Rattle.safe_groups.specs.declared.ground.Ground.{Ground}
@@ -23,9 +21,9 @@ masked_cell mask cell there elsewhere p = (if same_cell (cell_at mask p) cell th
 abbrev pub IsRootedOn : Area → List Cell → List Cell → Type 0
 IsRootedOn a c rooted = (p : ℕ) → p < a.size * a.size → is_outside a p ≡ false → cell_at c p ≡ theirs a → Rooted a c p → cell_at rooted p ≡ theirs a
 
--- The points of a set, by their numbers.
-abbrev pub points_of : ℕ → List Place → Points
-points_of n s = holds_point (map (number_of n) s)
+-- The targets: the other side's stones on a colouring.
+abbrev pub targets_of : Ground → List Cell → Points
+targets_of g targets = λ p. same_cell (cell_at targets p) (Stone (opponent_of g.keeper))
 
 -- What a move of the other side in a state comes to.
 abbrev pub IsOutcome : Area → Points → List Cell → ℕ → Outcome → Type 0

@@ -3,16 +3,14 @@
 ghost use Rattle.std.specs.Prelude.{◌≡◌, ◌*◌, ◌<◌, ℕ, [], length, get_or, IsTrue};
 ghost use Rattle.std.specs.List.{All};
 ghost use Rattle.go_points.specs.Grid.{side_of};
-ghost use Rattle.go_points.specs.Place.{IsOn};
 ghost use Rattle.safe_groups.specs.Areas.{Fits};
 ghost use Rattle.safe_groups.specs.Ground.{IsState};
 ghost use Rattle.dead_groups.specs.Kills.{IsTaken};
-ghost use Rattle.dead_groups.specs.Ground.{kill_area, points_of, IsOutcome};
+ghost use Rattle.dead_groups.specs.Ground.{kill_area, targets_of, IsOutcome};
 
 use crate::states::{attacked, is_sure};
-use go_points::{Colouring, PointSet};
+use go_points::Colouring;
 use safe_groups::Ground;
-use target_game::all_hold;
 
 /// What the other side's move in a state comes to.
 #[derive(Clone, Copy, Debug)]
@@ -27,24 +25,30 @@ pub enum Outcome {
     Leaves(Colouring),
 }
 
-/// Whether a target is not there in the state.
-pub fn is_taken(ground: &Ground, targets: &PointSet, state: &Colouring) -> bool
-    requires targets { All (IsOn (side_of ground.now.cells)) targets.now }
+/// Whether a target is not there in the state. The targets are those of the other side's stones that the colouring has.
+pub fn is_taken(ground: &Ground, targets: &Colouring, state: &Colouring) -> bool
+    requires targets { side_of targets.now ≡ side_of ground.now.cells }
     requires side { side_of state.now ≡ side_of ground.now.cells }
     ensures { IsTrue result
-        → IsTaken (kill_area ground.now) (points_of (side_of ground.now.cells) targets.now) state.now }
+        → IsTaken (kill_area ground.now) (targets_of ground.now targets.now) state.now }
 {
-    !all_hold(state, targets, ground.theirs())
+    let theirs = ground.theirs();
+    for number in 0..targets.size().area() {
+        if targets.cell(number) == theirs && state.cell(number) != theirs {
+            return true;
+        }
+    }
+    false
 }
 
 /// What the other side's move at this point of the state comes to.
 ///
 /// It takes some ten sweeps over the board.
-pub fn attack(ground: &Ground, targets: &PointSet, state: &Colouring, number: usize) -> Outcome
-    requires targets { All (IsOn (side_of ground.now.cells)) targets.now }
+pub fn attack(ground: &Ground, targets: &Colouring, state: &Colouring, number: usize) -> Outcome
+    requires targets { side_of targets.now ≡ side_of ground.now.cells }
     requires state { IsState ground.now state.now }
     requires within { number < side_of ground.now.cells * side_of ground.now.cells }
-    ensures { IsOutcome (kill_area ground.now) (points_of (side_of ground.now.cells) targets.now)
+    ensures { IsOutcome (kill_area ground.now) (targets_of ground.now targets.now)
         state.now number result }
 {
     if !state.cell(number).is_empty() {

@@ -1,6 +1,6 @@
 -- The areas of a claim together: what the judge finds of them makes the stones safe.
 use Rattle.safe_groups.proofs.Common.{sym, subst, refl, ◌≡◌, ◌≢◌, ◌∙◌, List, ℕ, zero, suc, ap, IsTrue, IsFalse, true, false, Bool, inl, inr, [], ◌∷◌, ◌++◌, ◌*◌, ◌<◌, ◌⊎◌, length, set, arith, get_or, map, list_all, same_cell, same_cell_eq, cell_at, nat_lt, ltb-true, Cell, Colour, Stone, side_of, number_of, holds_point, has_occurred, after_move, start, Area, States, own, IsWalled, Fits, Replies, IsAnswer, after_answer, Empty, Areas, area_at, RepliesTogether, PastFits, HoldsAt, AreListed, IsOwed, IsKept, area_of, BarsNone, IsOfBoard, IsSized, IsSafe, IsSafeAfter, Ground, All, lt-ltb, Place, GameProblem, GameState, areas_of, ground_at, state_at, HasReplies, AreKept, BarsNothing, LacksOne, None}
-use Rattle.safe_groups.specs.Ground.{aimed_at, HoldsFor, IsMoveFrom, IsSafeAs, AllSafe}
+use Rattle.safe_groups.specs.Ground.{aimed_at, HoldsFor, HoldsOn, IsMoveFrom, IsSafeAs, AllSafe}
 use Rattle.safe_groups.specs.Private.Verdict.{StandsInOne}
 use Rattle.safe_groups.proofs.Fitting.{fits_self}
 use Rattle.safe_groups.proofs.Moving.{is_or_not, past_put, at_put}
@@ -20,25 +20,25 @@ kept_more n k begins stones new i j x full on same is stands kept = λ p e. elim
   | inr ne ↦ kept p (sym (past_put stones j p x (λ at. ne (at ∙ same))) ∙ ap (λ d. cell_at d p) (sym is) ∙ e)
 ]
 
-pub all_sized : (q : GameProblem) (gs : List Ground) (begins : List (List Cell)) → ((i : ℕ) → i < length gs → IsOfBoard q (ground_at gs i) (state_at begins i)) → All (IsSized q.game.size) gs
-all_sized q gs begins each = λ k d low. subst (IsSized q.game.size) (default_same gs k _ d low) (each k low).sized
+pub all_sized : (q : GameProblem) (k : Colour) (gs : List Ground) (begins : List (List Cell)) → ((i : ℕ) → i < length gs → IsOfBoard q k (ground_at gs i) (state_at begins i)) → All (IsSized q.game.size) gs
+all_sized q k gs begins each = λ i d low. subst (IsSized q.game.size) (default_same gs i _ d low) (each i low).sized
 
-pub begins_sized : (q : GameProblem) (gs : List Ground) (begins : List (List Cell)) → length gs ≡ length begins → ((i : ℕ) → i < length gs → IsOfBoard q (ground_at gs i) (state_at begins i)) → All (λ c. side_of c ≡ q.game.size) begins
-begins_sized q gs begins same each = λ k d low.
-    let within : k < length gs = omega (arith, low, same) in
-    ap side_of (default_same begins k d [] low) ∙ (each k within).state.side ∙ (each k within).sized.cells.side
+pub begins_sized : (q : GameProblem) (k : Colour) (gs : List Ground) (begins : List (List Cell)) → length gs ≡ length begins → ((i : ℕ) → i < length gs → IsOfBoard q k (ground_at gs i) (state_at begins i)) → All (λ c. side_of c ≡ q.game.size) begins
+begins_sized q k gs begins same each = λ i d low.
+    let within : i < length gs = omega (arith, low, same) in
+    ap side_of (default_same begins i d [] low) ∙ (each i within).state.side ∙ (each i within).sized.cells.side
 
 -- the keeper's stones in one of the states are kept
 pub kept_by : (k : Colour) (gs : List Ground) (begins : List (List Cell)) → length gs ≡ length begins → (p : ℕ) → StandsInOne k begins p → IsKept k (areas_of gs) (state_at begins) p
 kept_by k gs begins same p stands = (stands.0, omega (arith, stands.1, same), stands.2)
 
-pub past_by : (q : GameProblem) (gs : List Ground) (begins : List (List Cell)) (stones : List Cell) → length gs ≡ length begins → ((i : ℕ) → i < length gs → IsOfBoard q (ground_at gs i) (state_at begins i)) → AreKept q.game.defender begins stones
-    → All (λ c. LacksOne q.game.defender stones c ⊎ BarsNothing gs begins c) q.history → PastFits q.game.defender (areas_of gs) (state_at begins) q.history
-past_by q gs begins stones same each kept found = λ past old all i p within allowed e.
-    elim (of_listed (λ c. LacksOne q.game.defender stones c ⊎ BarsNothing gs begins c) q.history past found old) [
-      | inl lacks ↦ absurd (let one = kept_by q.game.defender gs begins same lacks.0 (kept lacks.0 lacks.1) in lacks.2 (all one.0 lacks.0 one.1 one.2))
+pub past_by : (q : GameProblem) (k : Colour) (gs : List Ground) (begins : List (List Cell)) (stones : List Cell) → length gs ≡ length begins → ((i : ℕ) → i < length gs → IsOfBoard q k (ground_at gs i) (state_at begins i)) → AreKept k begins stones
+    → All (λ c. LacksOne k stones c ⊎ BarsNothing gs begins c) q.history → PastFits k (areas_of gs) (state_at begins) q.history
+past_by q k gs begins stones same each kept found = λ past old all i p within allowed e.
+    elim (of_listed (λ c. LacksOne k stones c ⊎ BarsNothing gs begins c) q.history past found old) [
+      | inl lacks ↦ absurd (let one = kept_by k gs begins same lacks.0 (kept lacks.0 lacks.1) in lacks.2 (all one.0 lacks.0 one.1 one.2))
       | inr bars ↦
-          let keeper : Stone (ground_at gs i).keeper ≡ Stone q.game.defender = ap Stone (each i within).keeper in
+          let keeper : Stone (ground_at gs i).keeper ≡ Stone k = ap Stone (each i within).keeper in
           bars i within p allowed (e ∙ sym keeper) ∙ keeper
     ]
 
@@ -47,11 +47,11 @@ pub targets_kept : (q : GameProblem) (gs : List Ground) (begins : List (List Cel
 targets_kept q gs begins stones points n same kept are all p held = kept_by q.game.defender gs begins same p (kept p (same_cell_eq _ _ (targets_by (number_of n) (λ r. same_cell (cell_at stones r) (Stone q.game.defender)) points p all (ap (λ l. holds_point l p) are ∙ held))))
 
 -- An area of the claim is that of its ground.
-module _ (q : GameProblem) (gs : List Ground) (begins : List (List Cell)) (i : ℕ) (is : IsOfBoard q (ground_at gs i) (state_at begins i)) where
+module _ (q : GameProblem) (k : Colour) (gs : List Ground) (begins : List (List Cell)) (i : ℕ) (is : IsOfBoard q k (ground_at gs i) (state_at begins i)) where
   abbrev with_parts : ℕ → Colour → Area
-  with_parts n k = record {
+  with_parts n j = record {
     size = n;
-    keeper = k;
+    keeper = j;
     kept = (area_of (ground_at gs i)).kept;
     region = (area_of (ground_at gs i)).region;
     answers = (area_of (ground_at gs i)).answers;
@@ -60,8 +60,8 @@ module _ (q : GameProblem) (gs : List Ground) (begins : List (List Cell)) (i : �
     gives = (area_of (ground_at gs i)).gives;
   }
 
-  pub moved_area : (P : Area → Type 0) → P (area_of (ground_at gs i)) → P (area_at q.game.size q.game.defender (areas_of gs) i)
-  moved_area P h = subst (λ k. P (with_parts q.game.size k)) is.keeper (subst (λ n. P (with_parts n (ground_at gs i).keeper)) is.sized.cells.side h)
+  pub moved_area : (P : Area → Type 0) → P (area_of (ground_at gs i)) → P (area_at q.game.size k (areas_of gs) i)
+  moved_area P h = subst (λ j. P (with_parts q.game.size j)) is.keeper (subst (λ n. P (with_parts n (ground_at gs i).keeper)) is.sized.cells.side h)
 
 -- The states of each area, from what is known of each.
 module _ (m : ℕ) (P : ℕ → States → Type 0) (all : (i : ℕ) → i < m → (W : States) × P i W) where
@@ -80,6 +80,40 @@ module _ (m : ℕ) (P : ℕ → States → Type 0) (all : (i : ℕ) → i < m �
       go true e = (all i (ltb-true i m e)).1
       go false e = absurd (cc (e, lt-ltb i m low))
 
+-- Areas that hold, whoever keeps.
+module _ (q : GameProblem) (k : Colour) (gs : List Ground) (begins : List (List Cell)) (holds : HoldsOn q k gs begins) where
+  pub fits_all : (i : ℕ) → i < length gs → Fits (area_at q.game.size k (areas_of gs) i) (start q).colouring (state_at begins i)
+  fits_all i low = moved_area q k gs begins i (holds.each i low) (λ a. Fits a (start q).colouring (state_at begins i)) (holds.each i low).fits
+
+  pub held : HoldsAt q.game.size k (areas_of gs) (state_at begins) (start q).colouring q.history
+  held = record { full = holds.full; fits = fits_all; past = holds.past }
+
+  pub walled : (i : ℕ) → i < length gs → IsWalled (area_at q.game.size k (areas_of gs) i) (state_at begins i)
+  walled i low = moved_area q k gs begins i (holds.each i low) (λ a. IsWalled a (state_at begins i)) (holds.each i low).state.walled
+
+  pub allowed : (i p : ℕ) → i < length gs → IsTrue ((area_of (ground_at gs i)).answers p) → IsTrue (holds_point q.game.region p)
+  allowed i p low e = (holds.each i low).allowed p e
+
+  module _ (replies : (i : ℕ) → i < length gs → HasReplies (ground_at gs i) (state_at begins i)) where
+    pub record Good (i : ℕ) (W : States) : Type 0 where
+      pub has : Replies (area_of (ground_at gs i)) W
+      pub listed : IsTrue (W (state_at begins i))
+
+    pub good : (i : ℕ) → i < length gs → (W : States) × Good i W
+    good i low = let one = replies i low in (one.states, record { has = one.replies; listed = one.listed })
+
+    abbrev pub all_states : ℕ → States
+    all_states = chosen (length gs) Good good
+
+    pub together : RepliesTogether q.game.size k (areas_of gs) all_states
+    together = record {
+      order = holds.order;
+      replies = λ i low. moved_area q k gs begins i (holds.each i low) (λ a. Replies a (chosen (length gs) Good good i)) (chosen_is (length gs) Good good i low).has;
+    }
+
+    pub all_listed : AreListed (areas_of gs) all_states (state_at begins)
+    all_listed = λ i low. (chosen_is (length gs) Good good i low).listed
+
 module _ (q : GameProblem) (gs : List Ground) (begins : List (List Cell)) (holds : HoldsFor q gs begins) where
   abbrev n : ℕ
   n = q.game.size
@@ -87,41 +121,19 @@ module _ (q : GameProblem) (gs : List Ground) (begins : List (List Cell)) (holds
   abbrev k : Colour
   k = q.game.defender
 
-  fits_all : (i : ℕ) → i < length gs → Fits (area_at q.game.size q.game.defender (areas_of gs) i) (start q).colouring (state_at begins i)
-  fits_all i low = moved_area q gs begins i (holds.each i low) (λ a. Fits a (start q).colouring (state_at begins i)) (holds.each i low).fits
-
-  held : HoldsAt q.game.size q.game.defender (areas_of gs) (state_at begins) (start q).colouring q.history
-  held = record { full = holds.full; fits = fits_all; past = holds.past }
-
-  walled : (i : ℕ) → i < length gs → IsWalled (area_at q.game.size q.game.defender (areas_of gs) i) (state_at begins i)
-  walled i low = moved_area q gs begins i (holds.each i low) (λ a. IsWalled a (state_at begins i)) (holds.each i low).state.walled
-
-  allowed : (i p : ℕ) → i < length gs → IsTrue ((area_of (ground_at gs i)).answers p) → IsTrue (holds_point q.game.region p)
-  allowed i p low e = (holds.each i low).allowed p e
+  abbrev on : HoldsOn q q.game.defender gs begins
+  on = holds.areas
 
   module _ (replies : (i : ℕ) → i < length gs → HasReplies (ground_at gs i) (state_at begins i)) where
-    record Good (i : ℕ) (W : States) : Type 0 where
-      has : Replies (area_of (ground_at gs i)) W
-      listed : IsTrue (W (state_at begins i))
-
-    good : (i : ℕ) → i < length gs → (W : States) × Good i W
-    good i low = let one = replies i low in (one.states, record { has = one.replies; listed = one.listed })
-
-    together : RepliesTogether q.game.size q.game.defender (areas_of gs) (chosen (length gs) Good good)
-    together = record {
-      order = holds.order;
-      replies = λ i low. moved_area q gs begins i (holds.each i low) (λ a. Replies a (chosen (length gs) Good good i)) (chosen_is (length gs) Good good i low).has;
-    }
-
     safe_with : (points : List ℕ) → ((p : ℕ) → IsTrue (holds_point points p) → IsKept q.game.defender (areas_of gs) (state_at begins) p) → IsSafe (aimed_at points (start q))
     safe_with points kept = record {
       areas = areas_of gs;
-      states = chosen (length gs) Good good;
+      states = all_states q q.game.defender gs begins on replies;
       state = state_at begins;
-      allowed = allowed;
-      replies = together;
-      listed = λ i low. (chosen_is (length gs) Good good i low).listed;
-      holds = held;
+      allowed = allowed q q.game.defender gs begins on;
+      replies = together q q.game.defender gs begins on replies;
+      listed = all_listed q q.game.defender gs begins on replies;
+      holds = held q q.game.defender gs begins on;
       targets = kept;
     }
 
@@ -129,7 +141,7 @@ module _ (q : GameProblem) (gs : List Ground) (begins : List (List Cell)) (holds
     safe_targets = safe_with q.game.targets holds.targets
 
     pub safe_stones : (stones : List Cell) → AreKept q.game.defender begins stones → AllSafe None (start q) stones
-    safe_stones stones kept = λ points on. safe_with points (λ p e. kept_by q.game.defender gs begins holds.lengths p (kept p (on p e)))
+    safe_stones stones kept = λ points is. safe_with points (λ p e. kept_by q.game.defender gs begins on.lengths p (kept p (is p e)))
 
   module _ (l r : ℕ) (low : l < length gs) (mover : q.mover ≡ q.game.defender) (others : (i : ℕ) → i < length gs → i ≢ l → HasReplies (ground_at gs i) (state_at begins i)) (move : IsMoveFrom (ground_at gs l) (state_at begins l) r) where
     record Owing (i : ℕ) (W : States) : Type 0 where
@@ -147,7 +159,7 @@ module _ (q : GameProblem) (gs : List Ground) (begins : List (List Cell)) (holds
     states = chosen (length gs) Owing owing
 
     answer : IsAnswer (area_at n k (areas_of gs) l) (states l) (state_at begins l) r
-    answer = moved_area q gs begins l (holds.each l low) (λ a. IsAnswer a (states l) (state_at begins l) r) ((chosen_is (length gs) Owing owing l low).answer refl)
+    answer = moved_area q k gs begins l (on.each l low) (λ a. IsAnswer a (states l) (state_at begins l) r) ((chosen_is (length gs) Owing owing l low).answer refl)
 
     abbrev owed : IsOwed n k (areas_of gs) states (state_at begins)
     owed = record {
@@ -159,8 +171,8 @@ module _ (q : GameProblem) (gs : List Ground) (begins : List (List Cell)) (holds
 
     together_after : RepliesTogether n k (areas_of gs) states
     together_after = record {
-      order = holds.order;
-      replies = λ i within. moved_area q gs begins i (holds.each i within) (λ a. Replies a (states i)) (chosen_is (length gs) Owing owing i within).has;
+      order = on.order;
+      replies = λ i within. moved_area q k gs begins i (on.each i within) (λ a. Replies a (states i)) (chosen_is (length gs) Owing owing i within).has;
     }
 
     abbrev board : List Cell
@@ -170,25 +182,25 @@ module _ (q : GameProblem) (gs : List Ground) (begins : List (List Cell)) (holds
     state_after = pick l answer.known.0 (state_at begins)
 
     new : IsFalse (has_occurred q.history (after_move n board k r))
-    new = answer_allowed n k (areas_of gs) states together_after (state_at begins) board q.history walled held owed r answer
+    new = answer_allowed n k (areas_of gs) states together_after (state_at begins) board q.history (walled q k gs begins on) (held q k gs begins on) owed r answer
 
     held_after : HoldsAt n k (areas_of gs) state_after (after_move n board k r) (q.history ++ after_move n board k r ∷ [])
-    held_after = holds_answered n k (areas_of gs) states together_after (state_at begins) board q.history walled held owed r answer
+    held_after = holds_answered n k (areas_of gs) states together_after (state_at begins) board q.history (walled q k gs begins on) (held q k gs begins on) owed r answer
 
     safe_after_with : (points : List ℕ) → ((p : ℕ) → IsTrue (holds_point points p) → IsKept k (areas_of gs) (state_at begins) p) → IsSafeAfter r (aimed_at points (start q))
     safe_after_with points kept = record {
-      stand = targets_there (aimed_at points (start q)) (λ p is. kept_there n k (areas_of gs) states together_after (state_at begins) board q.history held p (kept p is));
+      stand = targets_there (aimed_at points (start q)) (λ p is. kept_there n k (areas_of gs) states together_after (state_at begins) board q.history (held q k gs begins on) p (kept p is));
       to_move = mover;
-      legal_move = free_legal (aimed_at points (start q)) r answer.on_board (allowed l r low answer.allowed) ((held.fits l low).has_empty r answer.empty) (subst (λ m. IsFalse (has_occurred q.history (after_move n board m r))) (sym mover) new);
+      legal_move = free_legal (aimed_at points (start q)) r answer.on_board (allowed q k gs begins on l r low answer.allowed) ((fits_all q k gs begins on l low).has_empty r answer.empty) (subst (λ m. IsFalse (has_occurred q.history (after_move n board m r))) (sym mover) new);
       safe = record {
         areas = areas_of gs;
         states = states;
         state = state_after;
-        allowed = allowed;
+        allowed = allowed q k gs begins on;
         replies = together_after;
-        listed = listed_answered n k (areas_of gs) states together_after (state_at begins) board q.history walled held owed r answer;
+        listed = listed_answered n k (areas_of gs) states together_after (state_at begins) board q.history (walled q k gs begins on) (held q k gs begins on) owed r answer;
         holds = subst (λ m. HoldsAt n k (areas_of gs) state_after (after_move n board m r) (q.history ++ after_move n board m r ∷ [])) (sym mover) held_after;
-        targets = λ p is. kept_answered n k (areas_of gs) states together_after (state_at begins) board q.history walled held owed r answer p (kept p is);
+        targets = λ p is. kept_answered n k (areas_of gs) states together_after (state_at begins) board q.history (walled q k gs begins on) (held q k gs begins on) owed r answer p (kept p is);
       };
     }
 
@@ -196,7 +208,7 @@ module _ (q : GameProblem) (gs : List Ground) (begins : List (List Cell)) (holds
     safe_targets_after = safe_after_with q.game.targets holds.targets
 
     pub safe_stones_after : (stones : List Cell) → AreKept k begins stones → (points : List ℕ) → ((p : ℕ) → IsTrue (holds_point points p) → cell_at stones p ≡ Stone k) → IsSafeAfter r (aimed_at points (start q))
-    safe_stones_after stones kept = λ points on. safe_after_with points (λ p e. kept_by q.game.defender gs begins holds.lengths p (kept p (on p e)))
+    safe_stones_after stones kept = λ points is. safe_after_with points (λ p e. kept_by q.game.defender gs begins on.lengths p (kept p (is p e)))
 
 pub move_from : (g : Ground) (c : List Cell) (r : ℕ) → r < side_of g.cells * side_of g.cells → IsTrue ((area_of g).answers r) → cell_at c r ≡ Empty → HasReplies g (after_answer (area_of g) c r) → IsMoveFrom g c r
 move_from g c r on allowed free has = record {

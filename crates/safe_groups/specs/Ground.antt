@@ -3,6 +3,7 @@
 -- that are kept earlier, and those that the area gives a liberty.
 use Rattle.std.specs.Prelude.{◌≡◌, ◌<◌, ◌*◌, ℕ, ◌&&◌, nat_lt, length, ◌⊎◌, IsTrue, List, [], slice_set, get_or, if◌then◌else◌, Option, None, Some}
 use Rattle.std.specs.List.{All}
+use Rattle.go_points.specs.declared.Colour.{Colour}
 use Rattle.go_points.specs.declared.Colour.TheVariants.{Black}
 use Rattle.go_points.specs.declared.Cell.{Cell}
 use Rattle.go_points.specs.declared.Cell.TheVariants.{Empty, Stone}
@@ -131,22 +132,26 @@ areas_of gs = record {
   gives = λ i. (area_of (ground_at gs i)).gives;
 }
 
--- A ground of the problem's board, whose keeper is its defender, and the state that the board fits.
-pub record IsOfBoard (q : GameProblem) (g : Ground) (c : List Cell) : Type 0 where
+-- A ground of the problem's board, where this side keeps, and the state that the board fits.
+pub record IsOfBoard (q : GameProblem) (k : Colour) (g : Ground) (c : List Cell) : Type 0 where
   pub sized : IsSized q.game.size g
-  pub keeper : g.keeper ≡ q.game.defender
+  pub keeper : g.keeper ≡ k
   pub state : IsState g c
   pub fits : Fits (area_of g) (start q).colouring c
   pub allowed : (p : ℕ) → IsTrue ((area_of g).answers p) → IsTrue (holds_point q.game.region p)
 
--- The areas of a claim are of the problem's board, they are in order, no earlier position bars an answer, and all targets are kept.
-pub record HoldsFor (q : GameProblem) (gs : List Ground) (begins : List (List Cell)) : Type 0 where
+-- The areas of a claim, where this side keeps, are of the problem's board, they are in order, and no earlier position bars an answer.
+pub record HoldsOn (q : GameProblem) (k : Colour) (gs : List Ground) (begins : List (List Cell)) : Type 0 where
   pub board : side_of (start q).colouring ≡ q.game.size
   pub full : length (start q).colouring ≡ q.game.size * q.game.size
   pub lengths : length gs ≡ length begins
-  pub each : (i : ℕ) → i < length gs → IsOfBoard q (ground_at gs i) (state_at begins i)
+  pub each : (i : ℕ) → i < length gs → IsOfBoard q k (ground_at gs i) (state_at begins i)
   pub order : AreInOrder (areas_of gs)
-  pub past : PastFits q.game.defender (areas_of gs) (state_at begins) q.history
+  pub past : PastFits k (areas_of gs) (state_at begins) q.history
+
+-- The defender keeps, and all targets are kept.
+pub record HoldsFor (q : GameProblem) (gs : List Ground) (begins : List (List Cell)) : Type 0 where
+  pub areas : HoldsOn q q.game.defender gs begins
   pub targets : (p : ℕ) → IsTrue (holds_point q.game.targets p) → IsKept q.game.defender (areas_of gs) (state_at begins) p
 
 -- The state of play with these points as its targets.

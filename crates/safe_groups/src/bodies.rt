@@ -25,13 +25,23 @@ const MAX_REPLIES: usize = 10_000_000;
 
 /// How many states and replies a claim has had.
 #[derive(Clone, Copy, Debug)]
-pub(crate) struct Counts {
-    pub(crate) states: usize,
-    pub(crate) replies: usize,
+pub struct Counts {
+    pub states: usize,
+    pub replies: usize,
+}
+
+impl Counts {
+    /// None so far.
+    pub fn new() -> Counts {
+        Counts {
+            states: 0,
+            replies: 0,
+        }
+    }
 }
 
 /// Counts one state more.
-fn count_state(counts: &mut Counts) -> Result<(), Stop> {
+pub fn count_state(counts: &mut Counts) -> Result<(), Stop> {
     counts.states = counts.states.saturating_add(1);
     if counts.states > MAX_STATES {
         return Err(Stop::Fault(Fault::Limit));
@@ -39,8 +49,17 @@ fn count_state(counts: &mut Counts) -> Result<(), Stop> {
     Ok(())
 }
 
+/// Counts one reply more.
+pub fn count_reply(counts: &mut Counts) -> Result<(), Stop> {
+    counts.replies = counts.replies.saturating_add(1);
+    if counts.replies > MAX_REPLIES {
+        return Err(Stop::Fault(Fault::Limit));
+    }
+    Ok(())
+}
+
 /// The state that these letters spell, one for each point of the region.
-fn spelled_state(ground: &Ground, word: &[u8]) -> Option<Colouring> {
+pub fn spelled_state(ground: &Ground, word: &[u8]) -> Option<Colouring> {
     let mut state = ground.cells;
     let mut place: usize = 0;
     for number in 0..state.size().area() {
@@ -153,10 +172,7 @@ fn read_reply<R: Read>(
     let next = lines.number_at(3)?;
     let turn = lines.turn_at(size, 1)?;
     let answer = lines.turn_at(size, 2)?;
-    counts.replies = counts.replies.saturating_add(1);
-    if counts.replies > MAX_REPLIES {
-        return Err(Stop::Fault(Fault::Limit));
-    }
+    count_reply(counts)?;
     if turn != Some(number) {
         return Err(Stop::Fault(Fault::ReplyDue {
             point: size.point_at(number),

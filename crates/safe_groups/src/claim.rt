@@ -39,7 +39,7 @@ pub struct Reject {
 }
 
 /// The fault of areas that are not those of the problem.
-fn fault_of(misfit: Misfit) -> Fault {
+pub(crate) fn fault_of(misfit: Misfit) -> Fault {
     match misfit {
         Misfit::Board | Misfit::Order => Fault::BoardDiffers,
         Misfit::Target => Fault::TargetNotKept,
@@ -48,11 +48,12 @@ fn fault_of(misfit: Misfit) -> Fault {
 }
 
 /// Judges the bodies of all areas, whose first states are given; the first line of the first has been read.
-fn judge_bodies<R: Read>(
+pub(crate) fn judge_bodies<R: Read>(
     alloc: Global,
     grounds: &[Ground],
     starts: &[Colouring],
     lines: &mut ClaimLines<'_, R>,
+    counts: &mut Counts,
 ) -> Result<(), Stop>
     requires sized { (i : ℕ) → i < length grounds.now
         → IsSized (side_of (ground_at grounds.now i).cells) (ground_at grounds.now i) }
@@ -63,15 +64,11 @@ fn judge_bodies<R: Read>(
     ensures { OnOk result ((i : ℕ) → i < length grounds.now
         → HasReplies (ground_at grounds.now i) (state_at starts.now i)) }
 {
-    let mut counts = Counts {
-        states: 0,
-        replies: 0,
-    };
     for place in 0..grounds.len() {
         if place > 0 {
             lines.next_line()?;
         }
-        judge_body(alloc, &grounds[place], &starts[place], lines, &mut counts)?;
+        judge_body(alloc, &grounds[place], &starts[place], lines, counts)?;
     }
     Ok(())
 }
@@ -108,6 +105,7 @@ fn judge_after_move<R: Read>(
     place: usize,
     number: usize,
     lines: &mut ClaimLines<'_, R>,
+    counts: &mut Counts,
 ) -> Result<(), Stop>
     requires holds { HoldsFor problem.now grounds.now begins.now }
     ensures mover { OnOk result (problem.now.mover ≡ problem.now.game.defender) }
@@ -135,38 +133,45 @@ fn judge_after_move<R: Read>(
     let Ok(starts) = with_state(alloc, begins, place, &after) else {
         return Err(Stop::Memory);
     };
-    judge_bodies(alloc, grounds, starts.as_slice(), lines)
+    judge_bodies(alloc, grounds, starts.as_slice(), lines, counts)
+}
+
+/// Whether the areas keep all targets.
+fn are_kept(problem: &Problem, keeper: Colour, heads: &Heads) -> bool {
+    let size = problem.size();
+    let stones = own_stones(heads, size, keeper);
+    for target in problem.targets().iter() {
+        if !size.holds(target) || stones.size() != size {
+            return false;
+        }
+        if problem.defender() != keeper || !stones.get(target).is_stone_of(keeper) {
+            return false;
+        }
+    }
+    true
 }
 
 /// Makes the areas ready to be judged: their groups, what they lean on, and where they may answer. `first` is where the keeper plays
-/// first.
-fn prepare(
+/// first; returns whether the past allows that.
+pub(crate) fn prepare(
     problem: &Problem,
     keeper: Colour,
     first: Option<(usize, usize)>,
     heads: &mut Heads,
-) -> Result<(), Fault> {
+) -> bool {
     let size = problem.size();
     number_groups(heads);
     mark_held(heads, size);
     let stones = own_stones(heads, size, keeper);
-    for target in problem.targets().iter() {
-        if !size.holds(target) || stones.size() != size {
-            return Err(Fault::TargetNotKept);
-        }
-        if problem.defender() != keeper || !stones.get(target).is_stone_of(keeper) {
-            return Err(Fault::TargetNotKept);
-        }
-    }
     let barred = barred_points(problem, &stones, keeper);
     if let Some((_, number)) = first
         && number < barred.size().area()
         && !barred.cell(number).is_empty()
     {
-        return Err(Fault::PastBars);
+        return false;
     }
     mark_answers(heads, &barred, size);
-    Ok(())
+    true
 }
 
 /// Judges all lines.
@@ -181,14 +186,17 @@ fn judge_lines<R: Read>(
     ensures stones { IfOk result (λ v. AllSafe v.first (start problem.now) v.stones) }
 {
     let size = problem.size();
-    let keeper = read_keeper(lines, size)?;
+    let keeper = read_keeper(lines, b"tsureply", size)?;
     let mut heads = read_heads(alloc, problem, keeper, lines)?;
     let first = first_turn(problem, keeper, &heads, lines)?;
     if heads.grounds.is_empty() || !lines.is(b"body", 1) {
         return Err(Stop::Fault(Fault::Malformed));
     }
-    if let Err(fault) = prepare(problem, keeper, first, &mut heads) {
-        return Err(Stop::Fault(fault));
+    if !are_kept(problem, keeper, &heads) {
+        return Err(Stop::Fault(Fault::TargetNotKept));
+    }
+    if !prepare(problem, keeper, first, &mut heads) {
+        return Err(Stop::Fault(Fault::PastBars));
     }
     judge_areas(alloc, problem, &heads, first, lines)
 }
@@ -213,9 +221,10 @@ fn judge_areas<R: Read>(
         Ok(stones) => stones,
         Err(misfit) => return Err(Stop::Fault(fault_of(misfit))),
     };
+    let mut counts = Counts::new();
     match first {
         None => {
-            judge_bodies(alloc, grounds, begins, lines)?;
+            judge_bodies(alloc, grounds, begins, lines, &mut counts)?;
             lines.end_here()?;
             are_safe(problem, grounds, begins, &stones);
             Ok(Verdict {
@@ -230,7 +239,16 @@ fn judge_areas<R: Read>(
                 return Err(Stop::Fault(Fault::TurnBarred));
             }
             let point = size.point_at(number);
-            judge_after_move(alloc, problem, grounds, begins, place, number, lines)?;
+            judge_after_move(
+                alloc,
+                problem,
+                grounds,
+                begins,
+                place,
+                number,
+                lines,
+                &mut counts,
+            )?;
             lines.end_here()?;
             are_safe_by_move(problem, grounds, begins, &stones, place, point);
             Ok(Verdict {

@@ -10,12 +10,16 @@ pub enum Fault {
     Malformed,
     SizeDiffers,
     WrongSide,
+    /// All targets in the region stand.
+    NotWon,
     /// An answer outside the region, or at a point that is not empty.
     TurnBarred,
     /// So many replies are due.
     ReplyCount { due: usize },
     /// A reply to a move at this point is due.
     ReplyDue { point: Point },
+    /// A reply to a pass is due.
+    PassDue,
     NoSuchNumber,
     Limit,
     TextAfterEnd,
@@ -24,14 +28,17 @@ pub enum Fault {
     BoardDiffers,
     GivesNotKept,
     TargetNotKept,
+    TargetNotInRegion,
     PastBars,
     NoLiberty,
     /// The other side's move at this point takes stones.
     StonesTaken { point: Point },
     NotCovered,
     NotAtRest,
-    /// Claims of this kind are not judged.
-    NotJudged,
+    /// The stone that is played has no liberty.
+    OwnStonesTaken,
+    /// The other side's move at this point takes stones that may stand in truth.
+    UnsureLoss { point: Point },
 }
 
 /// Why a claim is not accepted, or was not judged.
@@ -69,6 +76,10 @@ impl Fault {
                 let at = vertex(alloc, point)?;
                 format!(in alloc; "C28 stones taken at {at}")
             }
+            Fault::UnsureLoss { point } => {
+                let at = vertex(alloc, point)?;
+                format!(in alloc; "C32 unsure loss at {at}")
+            }
             _ => self.words().to_string(alloc),
         }
     }
@@ -78,8 +89,10 @@ impl Fault {
         match self {
             Fault::Malformed => "C01 malformed",
             Fault::SizeDiffers => "C02 size differs",
+            Fault::NotWon => "C04 not won",
             Fault::WrongSide => "C05 wrong side or after the end",
             Fault::TurnBarred => "C06 turn barred",
+            Fault::PassDue => "C09 replies differ, due pass",
             Fault::NoSuchNumber => "C10 number not there",
             Fault::Limit => "C15 limit",
             Fault::TextAfterEnd => "C16 text after the end",
@@ -88,11 +101,13 @@ impl Fault {
             Fault::BoardDiffers => "C23 board differs",
             Fault::GivesNotKept => "C24 gives what is not kept",
             Fault::TargetNotKept => "C25 target not kept",
+            Fault::TargetNotInRegion => "C25 target not in the region",
             Fault::PastBars => "C26 past bars",
             Fault::NoLiberty => "C27 no liberty",
             Fault::NotCovered => "C29 state not covered",
             Fault::NotAtRest => "C30 not at rest",
-            Fault::NotJudged => "not judged: a claim of death",
+            Fault::OwnStonesTaken => "C31 own stones taken",
+            Fault::UnsureLoss { .. } => "C32 unsure loss",
             Fault::ReplyCount { .. } | Fault::ReplyDue { .. } => "C09 replies differ",
             Fault::StonesTaken { .. } => "C28 stones taken",
         }

@@ -36,14 +36,14 @@ fn put(colouring: &mut Colouring, point: Point, cell: Cell) {
     }
 }
 
-/// The keeper that the first line names.
-pub(crate) fn read_keeper<R: Read>(
+/// The keeper that the first line names, which begins with this word.
+pub fn read_keeper<R: Read>(
     lines: &mut ClaimLines<'_, R>,
+    word: &[u8],
     size: Size,
 ) -> Result<Colour, Stop> {
     lines.next_line()?;
-    let is_death = lines.is(b"tsudeath", 4);
-    if !is_death && !lines.is(b"tsureply", 4) {
+    if !lines.is(word, 4) {
         return fault(Fault::Malformed);
     }
     if lines.word(1) != Some(b"1".as_slice()) {
@@ -57,9 +57,6 @@ pub(crate) fn read_keeper<R: Read>(
     };
     if rows != usize::from(size.rows()) {
         return fault(Fault::SizeDiffers);
-    }
-    if is_death {
-        return fault(Fault::NotJudged);
     }
     Ok(keeper)
 }
@@ -143,13 +140,13 @@ fn keeps_what_is_there(ground: &Ground, board: &Colouring, size: Size) -> bool {
 
 /// Whether the points of the region are in the problem's region, in no region before, and no kept stone is in one of these, nor the
 /// other way round.
-fn is_free(heads: &Heads, ground: &Ground, problem: &Problem, size: Size) -> bool {
+fn is_free(before: &[Ground], ground: &Ground, problem: &Problem, size: Size) -> bool {
     for point in size.points() {
         let cell = at(&ground.cells, point);
         if cell.is_empty() && !problem.region().has(point) {
             return false;
         }
-        for other in heads.grounds.as_slice() {
+        for other in before {
             let there = at(&other.cells, point);
             let both = cell.is_empty() && there.is_empty();
             let kept = there.is_stone_of(ground.keeper);
@@ -170,15 +167,16 @@ fn is_as_supposed(ground: &Ground, begin: &Colouring, board: &Colouring) -> bool
     ground.fits(board, begin)
 }
 
-/// Reads the area of the line.
-fn read_area<R: Read>(
+/// The area of the line, which begins with this word, and its state as the claim supposes it. Other areas come before it.
+pub fn area_of_line<R: Read>(
     problem: &Problem,
     keeper: Colour,
     lines: &ClaimLines<'_, R>,
-    heads: &mut Heads,
-) -> Result<(), Stop> {
+    word: &[u8],
+    before: &[Ground],
+) -> Result<(Ground, Colouring), Stop> {
     let size = problem.size();
-    if !lines.is(b"area", 2) {
+    if !lines.is(word, 2) {
         return fault(Fault::Malformed);
     }
     let Some((ground, begin)) = lines.word(1).and_then(|word| spelled(word, size, keeper)) else {
@@ -187,12 +185,24 @@ fn read_area<R: Read>(
     if !keeps_what_is_there(&ground, problem.colouring(), size) {
         return fault(Fault::KeptStoneMissing);
     }
-    if !is_free(heads, &ground, problem, size) {
+    if !is_free(before, &ground, problem, size) {
         return fault(Fault::PointNotFree);
     }
     if !is_as_supposed(&ground, &begin, problem.colouring()) {
         return fault(Fault::BoardDiffers);
     }
+    Ok((ground, begin))
+}
+
+/// Reads the area of the line.
+fn read_area<R: Read>(
+    problem: &Problem,
+    keeper: Colour,
+    lines: &ClaimLines<'_, R>,
+    heads: &mut Heads,
+) -> Result<(), Stop> {
+    let before = heads.grounds.as_slice();
+    let (ground, begin) = area_of_line(problem, keeper, lines, b"area", before)?;
     let is_kept = heads.grounds.push(ground).is_ok()
         && heads.begins.push(begin).is_ok()
         && heads.gives.push(false).is_ok();

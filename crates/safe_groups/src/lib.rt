@@ -10,10 +10,15 @@ mod heads;
 pub mod laws;
 mod liberties;
 mod lines;
+mod standing;
 mod states;
 mod together;
 mod verdict;
 
+pub use bodies::{Counts, count_reply, count_state, spelled_state};
 pub use claim::{Reject, Verdict, judge};
 pub use fault::{Fault, Stop};
 pub use ground::Ground;
+pub use heads::{area_of_line, read_keeper};
+pub use lines::ClaimLines;
+pub use standing::{Standing, judge_standing};

@@ -91,7 +91,7 @@ impl<'a, R: Read> ClaimLines<'a, R> {
     }
 
     /// Reads the next line, which has to be there, and ended.
-    pub(crate) fn next_line(&mut self) -> Result<(), Stop> {
+    pub fn next_line(&mut self) -> Result<(), Stop> {
         self.number = self.number.saturating_add(1);
         self.line.clear();
         for _ in 0..MAX_LINE {
@@ -109,7 +109,7 @@ impl<'a, R: Read> ClaimLines<'a, R> {
     }
 
     /// That nothing comes after the last line.
-    pub(crate) fn end_here(&mut self) -> Result<(), Stop> {
+    pub fn end_here(&mut self) -> Result<(), Stop> {
         self.number = self.number.saturating_add(1);
         match self.next_byte()? {
             Some(_) => Err(Stop::Fault(Fault::TextAfterEnd)),
@@ -118,7 +118,7 @@ impl<'a, R: Read> ClaimLines<'a, R> {
     }
 
     /// The word of the line at this place, which is empty if a space stands where it should begin; none where the line has fewer.
-    pub(crate) fn word(&self, place: usize) -> Option<&[u8]> {
+    pub fn word(&self, place: usize) -> Option<&[u8]> {
         let mut rest = self.line.as_slice();
         for _ in 0..place {
             let space = rest.iter().position(|byte| *byte == b' ')?;
@@ -132,14 +132,14 @@ impl<'a, R: Read> ClaimLines<'a, R> {
     }
 
     /// Whether the line has this first word, and so many words.
-    pub(crate) fn is(&self, first: &[u8], count: usize) -> bool {
+    pub fn is(&self, first: &[u8], count: usize) -> bool {
         self.word(0) == Some(first)
             && self.word(count.saturating_sub(1)).is_some()
             && self.word(count).is_none()
     }
 
     /// The number that the word at this place spells: one to eight digits, with no zero in front.
-    pub(crate) fn number_at(&self, place: usize) -> Result<usize, Stop> {
+    pub fn number_at(&self, place: usize) -> Result<usize, Stop> {
         match self.word(place).and_then(number_of) {
             Some(number) => Ok(number),
             None => Err(Stop::Fault(Fault::Malformed)),
@@ -147,7 +147,7 @@ impl<'a, R: Read> ClaimLines<'a, R> {
     }
 
     /// The number of the point that the word at this place names; none for `pass`.
-    pub(crate) fn turn_at(&self, size: Size, place: usize) -> Result<Option<usize>, Stop> {
+    pub fn turn_at(&self, size: Size, place: usize) -> Result<Option<usize>, Stop> {
         let Some(word) = self.word(place) else {
             return Err(Stop::Fault(Fault::Malformed));
         };

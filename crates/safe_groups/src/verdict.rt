@@ -9,7 +9,7 @@ ghost use Rattle.target_game.specs.State.{start};
 ghost use Rattle.target_game.specs.Legal.{holds_point};
 ghost use Rattle.safe_groups.specs.Areas.{own, IsAnswer};
 ghost use Rattle.safe_groups.specs.Together.{IsKept, PastFits};
-ghost use Rattle.safe_groups.specs.Ground.{AllSafe, area_of, areas_of, ground_at, state_at, BarsNone, HasReplies, HoldsFor, IsOfBoard, IsSafeAs, IsSized, IsState, IsMoveFrom};
+ghost use Rattle.safe_groups.specs.Ground.{AllSafe, area_of, areas_of, ground_at, state_at, BarsNone, HasReplies, HoldsFor, HoldsOn, IsOfBoard, IsSafeAs, IsSized, IsState, IsMoveFrom};
 ghost use Rattle.safe_groups.specs.Private.Verdict.{AreKept, BarsNothing, LacksOne, StandsInOne};
 
 use crate::ground::Ground;
@@ -98,15 +98,15 @@ impl Ground {
     }
 }
 
-/// Whether the ground is of the problem's board, its keeper is the defender, and the board fits the state.
-fn is_of_board(problem: &Problem, ground: &Ground, begin: &Colouring) -> bool
+/// Whether the ground is of the problem's board, this side keeps, and the board fits the state.
+fn is_of_board(problem: &Problem, keeper: Colour, ground: &Ground, begin: &Colouring) -> bool
     requires { side_of (start problem.now).colouring ≡ problem.now.game.size }
-    ensures { IsTrue result → IsOfBoard problem.now ground.now begin.now }
+    ensures { IsTrue result → IsOfBoard problem.now keeper ground.now begin.now }
 {
     if !ground.is_sized(problem.size()) {
         return false;
     }
-    if !ground.own().is_stone_of(problem.defender()) {
+    if !ground.own().is_stone_of(keeper) {
         return false;
     }
     if !ground.is_state(begin) {
@@ -119,17 +119,17 @@ fn is_of_board(problem: &Problem, ground: &Ground, begin: &Colouring) -> bool
 }
 
 /// The same of each area.
-fn are_of_board(problem: &Problem, grounds: &[Ground], begins: &[Colouring]) -> bool
+fn are_of_board(problem: &Problem, keeper: Colour, grounds: &[Ground], begins: &[Colouring]) -> bool
     requires { side_of (start problem.now).colouring ≡ problem.now.game.size }
     ensures lengths { IsTrue result → length grounds.now ≡ length begins.now }
     ensures each { IsTrue result → (i : ℕ) → i < length grounds.now
-        → IsOfBoard problem.now (ground_at grounds.now i) (state_at begins.now i) }
+        → IsOfBoard problem.now keeper (ground_at grounds.now i) (state_at begins.now i) }
 {
     if grounds.len() != begins.len() {
         return false;
     }
     for place in 0..grounds.len() {
-        if !is_of_board(problem, &grounds[place], &begins[place]) {
+        if !is_of_board(problem, keeper, &grounds[place], &begins[place]) {
             return false;
         }
     }
@@ -210,6 +210,7 @@ fn bars_nothing(grounds: &[Ground], begins: &[Colouring], size: Size, past: &Col
 /// where he is not now.
 fn is_harmless(
     problem: &Problem,
+    keeper: Colour,
     grounds: &[Ground],
     begins: &[Colouring],
     stones: &Colouring,
@@ -220,10 +221,10 @@ fn is_harmless(
     requires lengths { length grounds.now ≡ length begins.now }
     requires stones { side_of stones.now ≡ problem.now.game.size }
     requires past { side_of past.now ≡ problem.now.game.size }
-    ensures { IsTrue result → LacksOne problem.now.game.defender stones.now past.now
+    ensures { IsTrue result → LacksOne keeper stones.now past.now
         ⊎ BarsNothing grounds.now begins.now past.now }
 {
-    if lacks_one(stones, past, problem.defender()) {
+    if lacks_one(stones, past, keeper) {
         return true;
     }
     bars_nothing(grounds, begins, problem.size(), past)
@@ -233,6 +234,7 @@ fn is_harmless(
 /// where he is not now.
 fn past_fits(
     problem: &Problem,
+    keeper: Colour,
     grounds: &[Ground],
     begins: &[Colouring],
     stones: &Colouring,
@@ -241,21 +243,48 @@ fn past_fits(
     requires begins { All (λ c. side_of c ≡ problem.now.game.size) begins.now }
     requires lengths { length grounds.now ≡ length begins.now }
     requires stones { side_of stones.now ≡ problem.now.game.size }
-    ensures { IsTrue result → All (λ q. LacksOne problem.now.game.defender stones.now q
+    ensures { IsTrue result → All (λ q. LacksOne keeper stones.now q
         ⊎ BarsNothing grounds.now begins.now q) problem.now.history }
 {
     for past in problem.history() {
-        if !is_harmless(problem, grounds, begins, stones, past) {
+        if !is_harmless(problem, keeper, grounds, begins, stones, past) {
             return false;
         }
     }
     true
 }
 
-/// Whether the areas are of the problem's board, may serve together, and keep all targets, and no earlier position bars an answer. Gives
-/// the stones that are kept, as the keeper's on a colouring.
+/// Whether the areas, where this side keeps, are of the problem's board, and may serve together, and no earlier position bars an answer.
+/// Gives the stones that are kept, as the keeper's on a colouring.
 ///
 /// For each pair of areas it looks at each point, and for each colouring of the past at each point of each area.
+pub fn hold_on(
+    problem: &Problem,
+    keeper: Colour,
+    grounds: &[Ground],
+    begins: &[Colouring],
+) -> Result<Colouring, Misfit>
+    ensures side { IfOk result (λ stones. side_of stones ≡ problem.now.game.size) }
+    ensures holds { OnOk result (HoldsOn problem.now keeper grounds.now begins.now) }
+    ensures kept { IfOk result (λ stones. AreKept keeper begins.now stones) }
+{
+    if problem.colouring().size() != problem.size() {
+        return Err(Misfit::Board);
+    }
+    if !are_of_board(problem, keeper, grounds, begins) {
+        return Err(Misfit::Board);
+    }
+    if !are_in_order(grounds, problem.size()) {
+        return Err(Misfit::Order);
+    }
+    let stones = kept_stones(begins, problem.size(), keeper);
+    if !past_fits(problem, keeper, grounds, begins, &stones) {
+        return Err(Misfit::Past);
+    }
+    Ok(stones)
+}
+
+/// The same where the defender keeps, and whether all targets are kept.
 pub fn hold_for(
     problem: &Problem,
     grounds: &[Ground],
@@ -265,22 +294,10 @@ pub fn hold_for(
     ensures holds { OnOk result (HoldsFor problem.now grounds.now begins.now) }
     ensures kept { IfOk result (λ stones. AreKept problem.now.game.defender begins.now stones) }
 {
-    if problem.colouring().size() != problem.size() {
-        return Err(Misfit::Board);
-    }
-    if !are_of_board(problem, grounds, begins) {
-        return Err(Misfit::Board);
-    }
-    if !are_in_order(grounds, problem.size()) {
-        return Err(Misfit::Order);
-    }
     let keeper = problem.defender();
-    let stones = kept_stones(begins, problem.size(), keeper);
+    let stones = hold_on(problem, keeper, grounds, begins)?;
     if !all_hold(&stones, problem.targets(), Cell::Stone(keeper)) {
         return Err(Misfit::Target);
-    }
-    if !past_fits(problem, grounds, begins, &stones) {
-        return Err(Misfit::Past);
     }
     Ok(stones)
 }

@@ -12,5 +12,5 @@ loop-place-preserved c = λ i low.
       | inr here ↦
           let ground : c.index-grounds-place.result ≡ ground_at gs k = c.index-grounds-place.is ∙ default_same gs k c.index-grounds-place.result _ c.loop-place-test.true in
           let begin : c.index-begins-place.result ≡ state_at begins k = c.index-begins-place.is ∙ default_same begins k c.index-begins-place.result [] (omega (arith, c.loop-place-test.true, lengths)) in
-          subst (λ j. IsOfBoard q (ground_at gs j) (state_at begins j)) (sym here) (subst (λ g. IsOfBoard q g (state_at begins k)) ground (subst (IsOfBoard q c.index-grounds-place.result) begin (c.is_of_board.ensures c.if-not-is_of_board.false)))
+          subst (λ j. IsOfBoard q c.args.keeper (ground_at gs j) (state_at begins j)) (sym here) (subst (λ g. IsOfBoard q c.args.keeper g (state_at begins k)) ground (subst (IsOfBoard q c.args.keeper c.index-grounds-place.result) begin (c.is_of_board.ensures c.if-not-is_of_board.false)))
     ]

@@ -10,7 +10,7 @@ loop-past-preserved c = λ k d low.
       | inl less ↦ c.loop-past.invariant k d less
       | inr here ↦
           let same : c.past-item.result ≡ get_or q.history k d = c.past-item.is ∙ default_same past c.loop-past.past-index c.past-item.result d c.loop-past-test.true ∙ ap (λ j. get_or past j d) (sym here) ∙ ap (λ l. get_or l k d) c.history-past-items.ensures.value in
-          subst (λ p. LacksOne q.game.defender c.args.stones.now p ⊎ BarsNothing c.args.grounds.now c.args.begins.now p) same (c.is_harmless.ensures c.if-not-is_harmless.false)
+          subst (λ p. LacksOne c.args.keeper c.args.stones.now p ⊎ BarsNothing c.args.grounds.now c.args.begins.now p) same (c.is_harmless.ensures c.if-not-is_harmless.false)
     ]
 
 pub returns : goal.returns

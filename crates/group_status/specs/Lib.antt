@@ -1,3 +1,4 @@
+pub mod Dead
 pub mod First
 pub mod Shape
 pub mod Winner

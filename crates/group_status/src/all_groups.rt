@@ -1,7 +1,6 @@
-//! The groups of a position: first those that a search over the whole board proves to be alive, and then the others, one after
+//! The groups of a position: first those that a search over the whole board proves to be alive or dead, and then the others, one after
 //! another. Each is written as soon as it is known.
 
-use crate::alive::{Alive, judged};
 use crate::asking::search_of;
 use crate::by_shape::lives_anywhere;
 use crate::group::Group;
@@ -11,6 +10,7 @@ use crate::past::without_past;
 use crate::progress::tell_stones;
 use crate::proof::proved_line;
 use crate::proof_json::proof_object;
+use crate::proven::{Proven, judged};
 use crate::table::Table;
 use crate::totals::{Said, Totals};
 use crate::verdict::judge;
@@ -121,7 +121,8 @@ fn note(course: &mut Course, stones: &PointSet, said: Said) {
     }
 }
 
-/// Says of each finding that a judge accepts, as soon as it is found, that its stones live.
+/// Says of each finding that a judge accepts, as soon as it is found, that its stones live or die. One that depends on stones that are
+/// only supposed to stand is left to the procedures.
 fn say_proved<W: Write, N: Write>(
     alloc: Global,
     problem: &Problem,
@@ -135,24 +136,27 @@ fn say_proved<W: Write, N: Write>(
         let Some(finding) = search.next_finding()? else {
             break;
         };
-        if let Some(alive) = judged(alloc, problem, finding)? {
-            say_alive(alloc, problem, request, &alive, course, writer, notes)?;
+        if !finding.supposed.is_empty() {
+            continue;
+        }
+        if let Some(proven) = judged(alloc, problem, finding)? {
+            say_finding(alloc, problem, request, &proven, course, writer, notes)?;
         }
     }
     Ok(())
 }
 
-/// Says that the stones of a finding live. They are named by the first of them.
-fn say_alive<W: Write, N: Write>(
+/// Says that the stones of a finding live, or die. They are named by the first of them.
+fn say_finding<W: Write, N: Write>(
     alloc: Global,
     problem: &Problem,
     request: &Request,
-    alive: &Alive,
+    proven: &Proven,
     course: &mut Course,
     writer: &mut W,
     notes: &mut N,
 ) -> Result<(), Stop> {
-    let stones = alive.finding.stones;
+    let stones = proven.finding.stones;
     let Some(target) = stones.first() else {
         return Ok(());
     };
@@ -161,12 +165,12 @@ fn say_alive<W: Write, N: Write>(
     }
     let size = problem.size();
     let line = if request.form == Form::Json {
-        let owner = alive.finding.colour;
-        proof_object(alloc, size, target, owner, None, &stones, Some(alive))?
+        let owner = proven.finding.colour;
+        proof_object(alloc, size, target, owner, None, &stones, Some(proven))?
     } else {
-        proved_line(alloc, size, target)?
+        proved_line(alloc, size, target, Some(proven))?
     };
-    note(course, &stones, Said::Proved);
+    note(course, &stones, Said::proved(proven.is_alive()));
     say(line.as_str(), writer)?;
     if request.is_told {
         tell_stones(alloc, size, target, course.stones.len(), course.all, notes)?;
@@ -252,7 +256,7 @@ fn said_and_line(
     let mut silent: Vec<u8> = Vec::new(alloc);
     let is_json = request.form == Form::Json;
     if lives_anywhere(group.problem.colouring(), group.target, group.defender) {
-        return Ok((Said::Proved, line_by_shape(alloc, group, is_json)?));
+        return Ok((Said::ProvedAlive, line_by_shape(alloc, group, is_json)?));
     }
     let quick = Budget {
         steps: (budget.steps / QUICK_SHARE).max(1),
@@ -275,7 +279,7 @@ fn line_by_shape(alloc: Global, group: &Group, is_json: bool) -> Result<String, 
         let stones = group.position.stones(target);
         return proof_object(alloc, size, target, group.defender, None, &stones, None);
     }
-    proved_line(alloc, size, target)
+    proved_line(alloc, size, target, None)
 }
 
 /// The line or the object of a group, and what it says. A group about which nothing was decided is open.

@@ -1,6 +1,6 @@
 //! What the search of answers is asked: how much, and about which stone.
 
-use crate::alive::{Alive, judged};
+use crate::proven::{Proven, judged};
 use go_points::Point;
 use group_search::{GroupSearch, Limits, find_for_stone};
 use std::alloc::{AllocError, Global};
@@ -23,18 +23,19 @@ fn limits(steps: u64, all_steps: u64) -> Limits {
     }
 }
 
-/// What is proved of the stone at the point in the position of the problem. With no steps only a shape is looked at.
-pub(crate) fn alive_stone(
+/// What is proved of the stone at the point in the position of the problem, whoever moves first. With no steps only a shape is looked
+/// at.
+pub(crate) fn proven_stone(
     alloc: Global,
     problem: &Problem,
     point: Point,
     steps: u64,
-) -> Result<Option<Alive>, AllocError> {
+) -> Result<Option<Proven>, AllocError> {
     let found = find_for_stone(
         alloc,
         problem.colouring(),
         problem.history(),
-        Some(problem.mover()),
+        None,
         limits(steps, steps.saturating_mul(QUESTIONS)),
         point,
     )?;
@@ -54,7 +55,7 @@ pub(crate) fn search_of(
         alloc,
         problem.colouring(),
         problem.history(),
-        Some(problem.mover()),
+        None,
         limits(steps, (steps.saturating_mul(steps) / SHARE).max(steps)),
     )
 }

@@ -1,9 +1,9 @@
 //! The questions that were decided, each as a record with its claim, one after another.
 
-use crate::alive::Alive;
 use crate::group::Group;
 use crate::json::cause_name;
 use crate::lines::push_point;
+use crate::proven::Proven;
 use crate::table::Table;
 use cert_check::Checked;
 use go_points::{Colour, Point};
@@ -59,7 +59,7 @@ fn text_of(bytes: Vec<u8>) -> Result<String, AllocError> {
 /// The lines, and after them the claim by answers of the group: a line that says so, its record, and the claim.
 pub(crate) fn proof_claim(
     alloc: Global,
-    alive: &Alive,
+    proven: &Proven,
     target: Point,
     lines: &str,
 ) -> Result<String, AllocError> {
@@ -67,11 +67,12 @@ pub(crate) fn proof_claim(
     bytes.extend_from_slice(lines.as_bytes())?;
     let mut head = String::new(alloc);
     head.push_str("== 1 ")?;
-    push_point(&mut head, alive.safe.problem.size(), target)?;
-    let owner = colour_name(alive.finding.colour);
-    write!(head, ", by answers: {owner} stands\n")?;
-    push_question(alloc, &alive.safe.problem, head.as_str(), &mut bytes)?;
-    bytes.extend_from_slice(alive.finding.claim.as_slice())?;
+    push_point(&mut head, proven.problem().size(), target)?;
+    let owner = colour_name(proven.finding.colour);
+    let fate = if proven.is_alive() { "stands" } else { "dies" };
+    write!(head, ", by answers: {owner} {fate}\n")?;
+    push_question(alloc, proven.problem(), head.as_str(), &mut bytes)?;
+    bytes.extend_from_slice(proven.finding.claim.as_slice())?;
     text_of(bytes)
 }
 

@@ -1,7 +1,7 @@
 //! A run of the program: from its words and its input to its answer.
 
 use crate::all_groups::{Stop, all_groups};
-use crate::asking::alive_stone;
+use crate::asking::proven_stone;
 use crate::by_shape::lives_anywhere;
 use crate::claims::{claims, proof_claim};
 use crate::group::Group;
@@ -11,11 +11,12 @@ use crate::lines::{found_lines, judged_lines};
 use crate::past::without_past;
 use crate::proof::{Proof, proof_lines};
 use crate::proof_json::proof_object;
+use crate::proven::Proven;
 use crate::score::score;
 use crate::solutions::{Told, answers_record, solutions};
 use crate::table::Table;
 use crate::verdict::{found, judge};
-use go_points::to_sgf;
+use go_points::{Colour, to_sgf};
 use group_words::{
     Finding, Form, Judgement, Length, Request, Side, before_passes, no_marks, no_stone, no_tree,
     node_asked, read_request,
@@ -281,19 +282,19 @@ fn answered<N: Write>(
     }
 }
 
-/// Why the group is alive, where that is proved.
+/// Why the group is alive or dead, where that is proved.
 fn proof_of(alloc: Global, group: &Group, steps: u64) -> Result<Option<Proof>, AllocError> {
     if lives_anywhere(group.problem.colouring(), group.target, group.defender) {
-        let alive = alive_stone(alloc, &group.problem, group.target, 0)?;
-        return Ok(Some(Proof::Shape(alive)));
+        let proven = proven_stone(alloc, &group.problem, group.target, 0)?;
+        return Ok(Some(Proof::Shape(proven)));
     }
-    match alive_stone(alloc, &group.problem, group.target, steps)? {
-        Some(alive) => Ok(Some(Proof::Answers(alive))),
+    match proven_stone(alloc, &group.problem, group.target, steps)? {
+        Some(proven) => Ok(Some(Proof::Answers(proven))),
         None => Ok(None),
     }
 }
 
-/// The answer if the group is proved to be alive, so that nothing is asked of the procedures.
+/// The answer if the fate of the group is proved, so that nothing is asked of the procedures.
 fn answered_by_proof(
     alloc: Global,
     request: &Request,
@@ -304,21 +305,41 @@ fn answered_by_proof(
     let (target, defender, first) = (group.target, group.defender, request.first);
     if request.form == Form::Json {
         let stones = group.position.stones(target);
-        return text_of(proof_object(alloc, size, target, defender, first, &stones, proof.alive())?);
+        return text_of(proof_object(
+            alloc,
+            size,
+            target,
+            defender,
+            first,
+            &stones,
+            proof.proven(),
+        )?);
     }
     let lines = proof_lines(alloc, size, target, defender, first, proof)?;
-    match (request.form, proof.alive()) {
-        (Form::Claims(_), Some(alive)) => {
-            text_of(proof_claim(alloc, alive, target, lines.as_str())?)
+    match (request.form, proof.proven()) {
+        (Form::Claims(_), Some(proven)) => {
+            text_of(proof_claim(alloc, proven, target, lines.as_str())?)
         }
-        (Form::Record, Some(alive)) => {
-            let answers = alive.finding.answers.as_slice();
-            Ok(Output::Record(answers_record(alloc, group, answers, lines.as_str())?))
+        (Form::Record, Some(proven)) => {
+            let answers = proven.finding.answers.as_slice();
+            let first = first_in_answers(proven);
+            let record = answers_record(alloc, group, first, answers, lines.as_str())?;
+            Ok(Output::Record(record))
         }
         (Form::Record, None) => {
-            Ok(Output::Record(answers_record(alloc, group, &[], lines.as_str())?))
+            let record = answers_record(alloc, group, defender, &[], lines.as_str())?;
+            Ok(Output::Record(record))
         }
         _ => text_of(lines),
+    }
+}
+
+/// The side whose moves are answered: the owner's of stones that die, else the other.
+fn first_in_answers(proven: &Proven) -> Colour {
+    if proven.is_alive() {
+        proven.finding.colour.opponent()
+    } else {
+        proven.finding.colour
     }
 }
 

@@ -1,28 +1,35 @@
-//! Why a group is alive, where that is proved, as lines for a reader.
+//! Why a group is alive or dead, where that is proved, as lines for a reader.
 
-use crate::alive::Alive;
 use crate::lines::push_point;
+use crate::proven::{Judged, Proven};
 use go_points::{Colour, Point, PointSet, Size};
 use group_search::{Answer, Kind};
 use group_words::Side;
 use std::alloc::{AllocError, Global};
 use tool_parts::colour_name;
 
-/// Why a group is alive.
+/// Why a group is alive, or dead.
 #[derive(Drop)]
 pub(crate) enum Proof {
-    /// By its shape, with the finding that says so, if there is one.
-    Shape(Option<Alive>),
+    /// It lives by its shape. With the finding that says so, if there is one.
+    Shape(Option<Proven>),
     /// By answers.
-    Answers(Alive),
+    Answers(Proven),
 }
 
 impl Proof {
     /// What a judge has accepted of the group.
-    pub(crate) fn alive(&self) -> Option<&Alive> {
+    pub(crate) fn proven(&self) -> Option<&Proven> {
         match self {
-            Proof::Shape(alive) => alive.as_ref(),
-            Proof::Answers(alive) => Some(alive),
+            Proof::Shape(proven) => proven.as_ref(),
+            Proof::Answers(proven) => Some(proven),
+        }
+    }
+
+    pub(crate) fn is_alive(&self) -> bool {
+        match self {
+            Proof::Shape(_) => true,
+            Proof::Answers(proven) => proven.is_alive(),
         }
     }
 }
@@ -38,16 +45,14 @@ pub(crate) fn proof_lines(
 ) -> Result<String, AllocError> {
     let mut text = String::new(alloc);
     push_point(&mut text, size, target)?;
-    match first {
-        None => text.push_str(": alive (proved)\n")?,
-        Some(_) => {
-            let winner = colour_name(defender);
-            write!(text, ": {winner} wins (proved)\n")?;
-        }
+    push_status(&mut text, defender, first, proof.is_alive())?;
+    if let Some(proven) = proof.proven() {
+        push_condition(&mut text, size, proven)?;
     }
+    text.push_str(")\n")?;
     match proof {
-        Proof::Answers(alive) if alive.finding.kind != Kind::PassAlive => {
-            push_answers_text(&mut text, size, defender, alive)?;
+        Proof::Answers(proven) if proven.finding.kind != Kind::PassAlive => {
+            push_answers_text(&mut text, size, defender, proven)?;
         }
         _ => text.push_str(
             "  by its shape: nothing that is played takes it, anywhere on the board, even if its own side always passes\n",
@@ -56,32 +61,106 @@ pub(crate) fn proof_lines(
     Ok(text)
 }
 
-/// The line of a group whose stones live by a proof.
-pub(crate) fn proved_line(alloc: Global, size: Size, target: Point) -> Result<String, AllocError> {
+/// Appends the status, or who wins if one side moves first, and the word, up to what it depends on.
+fn push_status(
+    text: &mut String,
+    defender: Colour,
+    first: Option<Side>,
+    is_alive: bool,
+) -> Result<(), AllocError> {
+    if first.is_none() {
+        return text.push_str(if is_alive {
+            ": alive (proved"
+        } else {
+            ": dead (proved"
+        });
+    }
+    let winner = colour_name(if is_alive {
+        defender
+    } else {
+        defender.opponent()
+    });
+    write!(text, ": {winner} wins (proved")
+}
+
+/// Appends on which stones it depends that they have liberties elsewhere, if on any.
+fn push_condition(text: &mut String, size: Size, proven: &Proven) -> Result<(), AllocError> {
+    let stones = &proven.finding.supposed;
+    if stones.is_empty() {
+        return Ok(());
+    }
+    let killer = match proven.finding.colour.opponent() {
+        Colour::Black => "black",
+        Colour::White => "white",
+    };
+    let (one, have) = if stones.len() == 1 {
+        ("stone", "has")
+    } else {
+        ("stones", "have")
+    };
+    write!(text, ", as long as the {killer} {one} at ")?;
+    push_names(text, size, stones)?;
+    write!(text, " {have} liberties elsewhere")
+}
+
+/// The line of a group whose fate is proved, whoever moves first. `proven` is none where it lives by its shape.
+pub(crate) fn proved_line(
+    alloc: Global,
+    size: Size,
+    target: Point,
+    proven: Option<&Proven>,
+) -> Result<String, AllocError> {
     let mut text = String::new(alloc);
     push_point(&mut text, size, target)?;
-    text.push_str(": alive (proved)\n")?;
+    let is_alive = match proven {
+        Some(proven) => proven.is_alive(),
+        None => true,
+    };
+    push_status(&mut text, Colour::Black, None, is_alive)?;
+    if let Some(proven) = proven {
+        push_condition(&mut text, size, proven)?;
+    }
+    text.push_str(")\n")?;
     Ok(text)
 }
 
-/// Appends what stands, where its owner answers, and what it rests on.
+/// Appends what stands, where is played, and what it rests on.
 fn push_answers_text(
     text: &mut String,
     size: Size,
     defender: Colour,
-    alive: &Alive,
+    proven: &Proven,
 ) -> Result<(), AllocError> {
     let owner = colour_name(defender);
     let other = colour_name(defender.opponent());
-    let finding = &alive.finding;
-    write!(
-        text,
-        "  by answers: nothing that {other} plays takes the kept stones, anywhere on the board, if {owner} answers in the region\n"
-    )?;
+    let finding = &proven.finding;
+    match &proven.judged {
+        Judged::Alive(_) => write!(
+            text,
+            "  by answers: nothing that {other} plays takes the kept stones, anywhere on the board, if {owner} answers in the region\n"
+        )?,
+        Judged::Dead(_) => write!(
+            text,
+            "  by answers: whatever {owner} plays, anywhere on the board, {other} takes a stone of it by playing in the region\n"
+        )?,
+    }
     push_points(text, "kept stones", size, &finding.kept)?;
     push_points(text, "region", size, &finding.region)?;
     push_answers(text, size, finding.answers.as_slice())?;
     push_points(text, "rests on", size, &finding.friends)
+}
+
+/// Appends the names of these points.
+fn push_names(text: &mut String, size: Size, points: &PointSet) -> Result<(), AllocError> {
+    let mut is_first = true;
+    for point in points.iter() {
+        if !is_first {
+            text.push_str(", ")?;
+        }
+        is_first = false;
+        push_point(text, size, point)?;
+    }
+    Ok(())
 }
 
 /// Appends a line with these points, if there are any.
@@ -95,14 +174,7 @@ fn push_points(
         return Ok(());
     }
     write!(text, "  {name}: ")?;
-    let mut is_first = true;
-    for point in points.iter() {
-        if !is_first {
-            text.push_str(", ")?;
-        }
-        is_first = false;
-        push_point(text, size, point)?;
-    }
+    push_names(text, size, points)?;
     text.push('\n')
 }
 

@@ -1,16 +1,16 @@
-//! A group that is proved to be alive, as an object of JSON.
+//! A group whose fate is proved, as an object of JSON.
 
-use crate::alive::Alive;
 use crate::json::{begun_at, push_points, push_set};
 use crate::lines::push_point;
 use crate::proof::push_answer_name;
+use crate::proven::Proven;
 use go_points::{Colour, Point, PointSet, Size};
 use group_search::{Answer, Kind};
 use group_words::Side;
 use std::alloc::{AllocError, Global};
 use tool_parts::colour_letter;
 
-/// How the stones live, as a word.
+/// How the stones live or die, as a word.
 fn kind_name(kind: Kind) -> &'static str {
     match kind {
         Kind::PassAlive => "shape",
@@ -30,14 +30,18 @@ pub(crate) fn proof_object(
     defender: Colour,
     first: Option<Side>,
     stones: &PointSet,
-    alive: Option<&Alive>,
+    proven: Option<&Proven>,
 ) -> Result<String, AllocError> {
     let mut text = begun_at(alloc, size, target)?;
-    push_word(&mut text, defender, first)?;
-    match alive {
-        Some(alive) => {
-            push_points(&mut text, "stones", size, &alive.finding.stones)?;
-            push_proof(&mut text, size, alive)?;
+    let is_alive = match proven {
+        Some(proven) => proven.is_alive(),
+        None => true,
+    };
+    push_word(&mut text, defender, first, is_alive)?;
+    match proven {
+        Some(proven) => {
+            push_points(&mut text, "stones", size, &proven.finding.stones)?;
+            push_proof(&mut text, size, proven)?;
         }
         None => push_points(&mut text, "stones", size, stones)?,
     }
@@ -46,12 +50,22 @@ pub(crate) fn proof_object(
 }
 
 /// Appends the status, or who wins if one side moves first, and the word.
-fn push_word(text: &mut String, defender: Colour, first: Option<Side>) -> Result<(), AllocError> {
+fn push_word(
+    text: &mut String,
+    defender: Colour,
+    first: Option<Side>,
+    is_alive: bool,
+) -> Result<(), AllocError> {
     match first {
-        None => text.push_str(",\"status\":\"alive\",\"word\":\"proved\""),
+        None if is_alive => text.push_str(",\"status\":\"alive\",\"word\":\"proved\""),
+        None => text.push_str(",\"status\":\"dead\",\"word\":\"proved\""),
         Some(side) => {
             let mover = colour_letter(side.colour(defender));
-            let winner = colour_letter(defender);
+            let winner = colour_letter(if is_alive {
+                defender
+            } else {
+                defender.opponent()
+            });
             write!(
                 text,
                 ",\"first\":\"{mover}\",\"word\":\"proved\",\"winner\":\"{winner}\""
@@ -61,13 +75,14 @@ fn push_word(text: &mut String, defender: Colour, first: Option<Side>) -> Result
 }
 
 /// Appends what a judge has accepted.
-fn push_proof(text: &mut String, size: Size, alive: &Alive) -> Result<(), AllocError> {
-    let finding = &alive.finding;
+fn push_proof(text: &mut String, size: Size, proven: &Proven) -> Result<(), AllocError> {
+    let finding = &proven.finding;
     let kind = kind_name(finding.kind);
     write!(text, ",\"proof\":{{\"kind\":\"{kind}\",")?;
     push_set(text, "kept", size, &finding.kept)?;
     push_points(text, "region", size, &finding.region)?;
     push_points(text, "friends", size, &finding.friends)?;
+    push_points(text, "while", size, &finding.supposed)?;
     push_answers(text, size, finding.answers.as_slice())?;
     push_claim(text, finding.claim.as_slice())?;
     text.push('}')

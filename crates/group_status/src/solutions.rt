@@ -6,7 +6,7 @@ use crate::lines::{push_end, walls_text};
 use crate::past::without_past;
 use crate::table::{Row, Table};
 use crate::variation::{Question, alone, node_with, solved, tree_with};
-use go_points::{PointSet, Turn, to_sgf as letters_of};
+use go_points::{Colour, PointSet, Turn, to_sgf as letters_of};
 use group_search::Answer;
 use group_words::{Finding, Side};
 use sgf_text::{Bytes, Property, SgfNode, Tree, Values};
@@ -25,11 +25,12 @@ pub(crate) struct Told {
     pub(crate) finding: Finding,
 }
 
-/// The record of a group that is proved to be alive, with these lines as the comment of its position, and a variation for each
-/// answer to the other side's first moves.
+/// The record of a group whose fate is proved, with these lines as the comment of its position, and a variation for each answer to
+/// the moves of this side.
 pub(crate) fn answers_record(
     alloc: Global,
     group: &Group,
+    first: Colour,
     answers: &[Answer],
     lines: &str,
 ) -> Result<Tree, AllocError> {
@@ -39,22 +40,26 @@ pub(crate) fn answers_record(
     let nodes = shown_nodes(alloc, group, &before, lines)?;
     let mut branches = Vec::new(alloc);
     for one in answers {
-        branches.push(answer_branch(alloc, group, *one)?)?;
+        branches.push(answer_branch(alloc, group, first, *one)?)?;
     }
     tree_with(nodes, branches)
 }
 
-/// A move of the other side's and the answer.
-fn answer_branch(alloc: Global, group: &Group, one: Answer) -> Result<Tree, AllocError> {
+/// A move of this side's and the answer.
+fn answer_branch(
+    alloc: Global,
+    group: &Group,
+    first: Colour,
+    one: Answer,
+) -> Result<Tree, AllocError> {
     let size = group.problem.size();
-    let other = group.defender.opponent();
     let answer = match one.answer {
         Some(point) => Turn::At(point),
         None => Turn::Pass,
     };
     let mut nodes = Vec::new(alloc);
-    nodes.push(turn_node(alloc, size, other, Turn::At(one.point))?)?;
-    nodes.push(turn_node(alloc, size, group.defender, answer)?)?;
+    nodes.push(turn_node(alloc, size, first, Turn::At(one.point))?)?;
+    nodes.push(turn_node(alloc, size, first.opponent(), answer)?)?;
     tree_with(nodes, Vec::new(alloc))
 }
 

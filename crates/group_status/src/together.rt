@@ -1,6 +1,7 @@
 //! All stones of one side that live together: the claims of several findings as one claim, which is judged as a whole.
 
-use crate::alive::{Safe, is_life, safe_stones};
+use crate::alive::{Safe, safe_stones};
+use crate::proven::is_life;
 use go_points::{Colour, PointSet};
 use group_search::Finding;
 use std::alloc::{AllocError, Global};

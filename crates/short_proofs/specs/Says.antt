@@ -1,19 +1,21 @@
 -- What a run says, for what is asked for and the problem of the record that it has read.
 --     SaysWinner x node      the comment of the node begins with this side's win
 --     Says request q output      what is said is true of the problem
-use Rattle.std.specs.Prelude.{◌≡◌, ◌≢◌, ℕ, zero, suc, ◌*◌, List, [], ◌∷◌, ◌++◌, codes, Option, None, Some, Ok, ◌⊎◌, if◌then◌else◌}
+use Rattle.std.specs.Prelude.{◌≡◌, ◌≢◌, ℕ, zero, suc, ◌*◌, List, [], ◌∷◌, ◌++◌, codes, Option, None, Some, Ok, ◌⊎◌, IsTrue, if◌then◌else◌}
 use Rattle.go_points.specs.declared.Cell.{Cell}
 use Rattle.go_points.specs.declared.Cell.TheVariants.{Stone}
 use Rattle.go_points.specs.declared.Colour.{Colour}
-use Rattle.go_points.specs.Grid.{cell_at, same_cell}
+use Rattle.go_points.specs.Grid.{cell_at, opponent_of, same_cell}
 use Rattle.go_points.specs.Place.{Place, place_of}
 use Rattle.go_points.specs.Sgf.{sgf_text}
 use Rattle.sgf_text.specs.Trees.{GameTree, Node}
 use Rattle.target_game.specs.State.{GameProblem, start}
+use Rattle.target_game.specs.Legal.{holds_point}
 use Rattle.target_game.specs.Wins.{Wins}
 use Rattle.tsumego_problem.specs.Walk.{problem_within, history_limit}
 use Rattle.tsumego_replies.specs.Texts.{line, wins_text}
 use Rattle.safe_groups.specs.Ground.{AllSafe, IsSafeAs}
+use Rattle.dead_groups.specs.Claims.{AreDead}
 use Rattle.tool_parts.specs.Says.{colour_text, winner_text}
 use Rattle.tool_parts.specs.Written.{bytes_of, end_of}
 use Rattle.tool_parts.specs.declared.output.Output.{Output}
@@ -54,16 +56,29 @@ stones_text n k stones (suc m) = stones_text n k stones m ++ (if same_cell (cell
 abbrev pub stands_text : ℕ → Colour → Option Place → List Cell → List ℕ
 stands_text n k first stones = line (codes "stands " ++ (colour_text k ++ (first_text first ++ stones_text n k stones (n * n))))
 
--- The text names a side that wins; or stones of the defender's that are safe by answers, as the targets are, at once or by a first move.
+-- What is said of targets that die: their colour, all of them, and the stones that are only supposed to have liberties elsewhere.
+abbrev pub while_text : List ℕ → List ℕ
+while_text [] = []
+while_text (x ∷ xs) = codes " while" ++ (x ∷ xs)
+
+abbrev pub dead_text : ℕ → Colour → List Cell → List Cell → List ℕ
+dead_text n k targets supposed = line (codes "dead " ++ (colour_text k ++ (stones_text n k targets (n * n) ++ while_text (stones_text n (opponent_of k) supposed (n * n)))))
+
+-- The text names a side that wins; or stones of the defender's that are safe by answers, as the targets are, at once or by a first move;
+-- or targets that are dead by answers, as long as the stones that it names after them stand.
 abbrev pub NamesWinner : GameProblem → List ℕ → Type 0
 NamesWinner q text = (x : Colour) × (text ≡ wins_text x) × Wins x (start q)
 
 abbrev pub NamesSafe : GameProblem → List ℕ → Type 0
 NamesSafe q text = (first : Option Place) × (stones : List Cell) × (text ≡ stands_text q.game.size q.game.defender first stones) × IsSafeAs first (start q) × AllSafe first (start q) stones
 
+abbrev pub NamesDead : GameProblem → List ℕ → Type 0
+NamesDead q text = (targets supposed : List Cell) × (text ≡ dead_text q.game.size q.game.defender targets supposed)
+    × ((p : ℕ) → cell_at targets p ≡ Stone q.game.defender → IsTrue (holds_point q.game.targets p)) × AreDead (start q) targets supposed
+
 -- What is answered is one of these, and what is rejected is said to be.
 pub record SaysVerdict (q : GameProblem) (o : Output) : Type 0 where
-  pub answer : end_of o ≡ Answered → NamesWinner q (bytes_of o) ⊎ NamesSafe q (bytes_of o)
+  pub answer : end_of o ≡ Answered → NamesWinner q (bytes_of o) ⊎ (NamesSafe q (bytes_of o) ⊎ NamesDead q (bytes_of o))
   pub rejection : end_of o ≡ Rejected → (rest : List ℕ) × (bytes_of o ≡ codes "rejected line " ++ rest)
 
 -- What is said is true: by `check`, of a short claim or of one by answers; and by the record that `tree` writes, which names who wins.

@@ -10,7 +10,8 @@ ghost use Rattle.tsumego_replies.specs.Texts.{wins_text};
 ghost use Rattle.short_proofs.specs.Says.{IsRejection, Says, SaysVerdict};
 ghost use Rattle.short_proofs.specs.declared.words.Request.TheVariants.{Check};
 
-use crate::standing::{is_by_answers, judged_answers};
+use crate::death::judged_death;
+use crate::standing::judged_answers;
 use cert_check::{Reject, Why, check_short};
 use go_points::{Colour, Size};
 use proof_cert::ReaderSource;
@@ -98,8 +99,11 @@ fn judged_by_kind<R: Read>(
 ) -> Result<Output, AllocError>
     ensures { IfOk result (Says Check problem.now) }
 {
-    if is_by_answers(front) {
+    if front.starts_with(b"tsureply ") {
         return judged_answers(alloc, problem, front, reader);
+    }
+    if front.starts_with(b"tsudeath ") {
+        return judged_death(alloc, problem, front, reader);
     }
     judged_lines(alloc, problem, front, reader)
 }

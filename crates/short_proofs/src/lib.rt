@@ -2,6 +2,7 @@
 //! time.
 #![tactic(auto)]
 
+mod death;
 mod eyes;
 mod first_turn;
 mod judged;

@@ -14,12 +14,7 @@ use std::io::Read;
 use target_game::Problem;
 use tool_parts::{Output, Status, colour_name, without_input};
 
-/// Whether a claim by answers begins with these bytes.
-pub(crate) fn is_by_answers(front: &[u8]) -> bool {
-    front.starts_with(b"tsureply ") || front.starts_with(b"tsudeath ")
-}
-
-/// What is said of the claim by answers in these bytes and in what the reader has after them.
+/// What is said of the claim of life by answers in these bytes and in what the reader has after them.
 pub(crate) fn judged_answers<R: Read>(
     alloc: Global,
     problem: &Problem,
@@ -82,7 +77,12 @@ fn push_point(text: &mut Vec<u8>, point: Point) -> Result<(), AllocError>
     text.extend_from_slice(&to_sgf(point))
 }
 
-fn push_stones(text: &mut Vec<u8>, keeper: Colour, stones: &Colouring) -> Result<(), AllocError>
+/// Appends the stones of this colour, each after a space.
+pub(crate) fn push_stones(
+    text: &mut Vec<u8>,
+    keeper: Colour,
+    stones: &Colouring,
+) -> Result<(), AllocError>
     ensures { OnOk result (text.new.items ≡ text.old.items
         ++ stones_text (side_of stones.now) keeper stones.now
         (side_of stones.now * side_of stones.now)) }
@@ -97,7 +97,7 @@ fn push_stones(text: &mut Vec<u8>, keeper: Colour, stones: &Colouring) -> Result
 }
 
 /// Which line is refused, and why; or why the claim was not judged.
-fn rejected(alloc: Global, reject: &Reject) -> Result<Output, AllocError>
+pub(crate) fn rejected(alloc: Global, reject: &Reject) -> Result<Output, AllocError>
     ensures { IfOk result IsRejection }
 {
     match reject.stop {

@@ -2,7 +2,7 @@
 
 use go_points::Point;
 use group_search::{Finding, Limits, find_for_stone};
-use safe_groups::{Stop, judge};
+use safe_groups::{Reject, Stop};
 use std::alloc::{AllocError, Global};
 use target_game::Problem;
 
@@ -11,7 +11,7 @@ use target_game::Problem;
 pub(crate) enum Found {
     /// The text of a claim that the judge accepts for the problem.
     Claim(Vec<u8>),
-    /// Something was found, but the judge does not accept it: a death, or answers that the problem's region or targets do not allow.
+    /// Something was found, but the judge does not accept it: answers that the problem's region or targets do not allow.
     Refused,
     /// Nothing was found with these steps.
     Nothing,
@@ -72,16 +72,25 @@ fn confirmed(alloc: Global, problem: &Problem, claim: Vec<u8>) -> Result<Found, 
     }
 }
 
-/// Whether the judge accepts the claim for the problem.
+/// Whether the judge of its kind accepts the claim for the problem.
 fn is_accepted(alloc: Global, problem: &Problem, claim: &[u8]) -> Result<bool, AllocError> {
     let mut nothing = b"".as_slice();
-    match judge(alloc, problem, claim, &mut nothing) {
-        Ok(_) => Ok(true),
-        Err(reject) => {
-            if reject.stop == Stop::Memory {
-                return Err(AllocError);
-            }
-            Ok(false)
-        }
+    if claim.starts_with(b"tsudeath ") {
+        return match dead_groups::judge(alloc, problem, claim, &mut nothing) {
+            Ok(_) => Ok(true),
+            Err(reject) => refused(&reject),
+        };
     }
+    match safe_groups::judge(alloc, problem, claim, &mut nothing) {
+        Ok(_) => Ok(true),
+        Err(reject) => refused(&reject),
+    }
+}
+
+/// That the claim is not accepted, unless memory ran out.
+fn refused(reject: &Reject) -> Result<bool, AllocError> {
+    if reject.stop == Stop::Memory {
+        return Err(AllocError);
+    }
+    Ok(false)
 }

@@ -199,12 +199,28 @@ fn move_at(state: &PlayState, point: Point) -> Move
             is_barred: false,
             wins: child.winner.is_some(),
         },
-        None => Move {
-            point,
-            position: key_of(&state.result(point)),
-            is_barred: true,
-            wins: false,
-        },
+        None => barred_move(state, point),
+    }
+}
+
+/// The move at the open point, which is barred. Most often it is a suicide of one stone, and changes nothing.
+fn barred_move(state: &PlayState, point: Point) -> Move
+    requires on_board { IsOn state.now.state.game.size point }
+    requires empty { same_cell
+        (cell_at state.now.state.colouring (number_of state.now.state.game.size point)) Empty
+        ≡ true }
+{
+    let after = state.result(point);
+    let position = if after == state.colouring() {
+        state.key()
+    } else {
+        key_of(&after)
+    };
+    Move {
+        point,
+        position,
+        is_barred: true,
+        wins: false,
     }
 }
 

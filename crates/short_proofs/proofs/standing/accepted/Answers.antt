@@ -16,6 +16,6 @@ returns c =
     let text : string_bytes c.in_ok-text.text ≡ stands_text q.game.size q.game.defender v.first v.stones =
     stands_is q.game.size q.game.defender v.first v.stones c.colour_name-side.result.now (string_bytes c.in_ok-rest.rest) (string_bytes c.in_ok-text.text) side told c.in_ok-text.ensures.ok in
     record {
-      answer = λ e. inr (v.first, v.stones, text, c.requires.targets, c.requires.stones);
+      answer = λ e. inr (inl (v.first, v.stones, text, c.requires.targets, c.requires.stones));
       rejection = λ e. absurd (cc e);
     }

@@ -1,0 +1,51 @@
+//! Groups that die by answers: problems for which a judge has accepted a claim of death.
+
+ghost use Rattle.std.specs.Prelude.{◌≡◌, IfOk, IfSome};
+ghost use Rattle.group_status.specs.Dead.{IsLost};
+
+use crate::alive::problem_of;
+use dead_groups::judge;
+use go_points::{Colour, Colouring, PointSet};
+use safe_groups::Stop;
+use std::alloc::{AllocError, Global};
+use target_game::Problem;
+
+/// A problem with the defender to move, whose targets are dead by answers, since a judge has accepted a claim for it: the other side takes
+/// one of them, as long as the supposed stones, which are its own on the colouring, have liberties elsewhere.
+#[derive(Drop)]
+pub(crate) struct Dead {
+    pub(crate) problem: Problem,
+    pub(crate) supposed: Colouring,
+    ghost dead: { ∥ IsLost problem supposed ∥₁ },
+}
+
+/// The problem, if a judge accepts this claim for it. It fails only if memory is refused.
+fn accepted(alloc: Global, problem: Problem, claim: &[u8]) -> Result<Option<Dead>, AllocError>
+    ensures { IfOk result (λ o. IfSome o (λ a. a.problem ≡ problem)) }
+{
+    let mut nothing = b"".as_slice();
+    match judge(alloc, &problem, claim, &mut nothing) {
+        Ok(verdict) => {
+            let supposed = verdict.supposed;
+            Ok(Some(Dead { problem, supposed }))
+        }
+        Err(reject) => match reject.stop {
+            Stop::Memory => Err(AllocError),
+            _ => Ok(None),
+        },
+    }
+}
+
+/// The problem of these stones of one side, which is to move, in the position of the problem, if a judge accepts this claim for it.
+pub(crate) fn dead_stones(
+    alloc: Global,
+    problem: &Problem,
+    owner: Colour,
+    stones: PointSet,
+    claim: &[u8],
+) -> Result<Option<Dead>, AllocError> {
+    match problem_of(alloc, problem, owner, stones)? {
+        Some(made) => accepted(alloc, made, claim),
+        None => Ok(None),
+    }
+}

@@ -25,7 +25,8 @@ use target_game::Problem;
 /// One more than the greatest number of entries of a claim.
 const MAX_ENTRIES: usize = 65_536;
 
-/// What an accepted claim shows: the killer takes one of these targets, as long as those of its stones stand that are only supposed to.
+/// What an accepted claim shows: the killer takes one of these targets, as long as those of its stones stand that are only supposed
+/// to.
 #[derive(Clone, Copy, Debug)]
 pub struct Verdict {
     pub killer: Colour,
@@ -241,9 +242,9 @@ fn judge_lines<R: Read>(
     judge_death(alloc, problem, killer, &standing, lines, &mut counts)
 }
 
-/// Judges the claim of death in these bytes and in what the reader has after them, for the problem. If it is accepted, the attacker takes one
-/// of the targets that are told, on the whole board, whatever the other side plays anywhere; where it supposes stones, unless first a
-/// board comes on which one of these is gone, or has no liberty outside the region.
+/// Judges the claim of death in these bytes and in what the reader has after them, for the problem. If it is accepted, the attacker
+/// takes one of the targets that are told, on the whole board, whatever the other side plays anywhere. Where stones are supposed, it
+/// does so unless first a board comes on which one of these is gone, or has no liberty outside the region.
 ///
 /// For each state it takes, at each point of the region, some twenty sweeps over the board.
 pub fn judge<R: Read>(

@@ -1,5 +1,8 @@
 //! The data of a page to click, as JSON. docs/FORMATS.md describes the format.
 
+ghost use Rattle.std.specs.Prelude.{◌≡◌, ◌++◌, IfOk, OnOk, string_bytes};
+ghost use Rattle.record_pages.specs.Puzzle.{answer_text, side_text, winner_field, SaysAnswer};
+
 use crate::json_notes::{push_labels, push_note, push_note_after_comma};
 use crate::json_text::push_string;
 use crate::lines::Cut;
@@ -24,7 +27,9 @@ pub fn page_json(
     original: Option<&Tree>,
     cut: Cut,
     shows_unaudited: bool,
-) -> Result<String, NoPage> {
+) -> Result<String, NoPage>
+    ensures { IfOk result (λ text. SaysAnswer record.now (string_bytes text)) }
+{
     let puzzle = puzzle_of(alloc, record, cut, shows_unaudited)?;
     if !is_of_problem(alloc, &puzzle.problem, original)? {
         return Err(NoPage::OtherProblem);
@@ -32,12 +37,15 @@ pub fn page_json(
     let mut text = String::new(alloc);
     push_problem(alloc, &mut text, &puzzle.problem)?;
     push_titles(alloc, &mut text, record, original)?;
-    push_answer(alloc, &mut text, &puzzle, record)?;
-    text.push_str("}\n")?;
+    let turns = turns_text(alloc, &puzzle, record)?;
+    push_winner(&mut text, puzzle.answer)?;
+    text.push_str(turns.as_str())?;
     Ok(text)
 }
 
-fn side(colour: Colour) -> &'static str {
+fn side(colour: Colour) -> &'static str
+    ensures { result.now ≡ side_text colour }
+{
     match colour {
         Colour::Black => "black",
         Colour::White => "white",
@@ -164,24 +172,28 @@ fn push_comments(alloc: Global, text: &mut String, other: &Tree) -> Result<(), A
     push_labels(alloc, text, node)
 }
 
-/// Appends who wins, if the record says so as a whole, and the turns.
-fn push_answer(
-    alloc: Global,
-    text: &mut String,
-    puzzle: &Puzzle,
-    record: &Tree,
-) -> Result<(), AllocError> {
-    match puzzle.answer {
-        Answer::Audited(winner) => push_winner(text, winner)?,
+/// Appends who wins, if the record says so as a whole.
+fn push_winner(text: &mut String, answer: Answer) -> Result<(), AllocError>
+    ensures { OnOk result (string_bytes text.new ≡ string_bytes text.old ++ answer_text answer) }
+{
+    match answer {
+        Answer::Audited(winner) => push_side(text, winner),
         Answer::Unaudited(winner) => {
-            push_winner(text, winner)?;
-            text.push_str(",\"unaudited\":true")?;
-            if let Some(node) = marked_node(record) {
-                text.push_str(",\"note\":")?;
-                push_note(alloc, text, node, false)?;
-            }
+            push_side(text, winner)?;
+            text.push_str(",\"unaudited\":true")
         }
-        Answer::Judged => {}
+        Answer::Judged => Ok(()),
+    }
+}
+
+/// The turns, after a note of what nobody has audited, and the end of the object.
+fn turns_text(alloc: Global, puzzle: &Puzzle, record: &Tree) -> Result<String, AllocError> {
+    let mut text = String::new(alloc);
+    if let Answer::Unaudited(_) = puzzle.answer
+        && let Some(node) = marked_node(record)
+    {
+        text.push_str(",\"note\":")?;
+        push_note(alloc, &mut text, node, false)?;
     }
     text.push_str(",\"turns\":[")?;
     let size = puzzle.problem.size();
@@ -193,12 +205,15 @@ fn push_answer(
         if i > 0 {
             text.push(',')?;
         }
-        push_branch(alloc, text, size, &puzzle.branches[i], judged)?;
+        push_branch(alloc, &mut text, size, &puzzle.branches[i], judged)?;
     }
-    text.push(']')
+    text.push_str("]}\n")?;
+    Ok(text)
 }
 
-fn push_winner(text: &mut String, winner: Colour) -> Result<(), AllocError> {
+fn push_side(text: &mut String, winner: Colour) -> Result<(), AllocError>
+    ensures { OnOk result (string_bytes text.new ≡ string_bytes text.old ++ winner_field winner) }
+{
     let name = side(winner);
     write!(text, ",\"winner\":\"{name}\"")
 }

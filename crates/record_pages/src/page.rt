@@ -1,17 +1,20 @@
 //! A reader's copy of a solution record.
 
-ghost use Rattle.std.specs.Prelude.{◌≡◌, ◌⊎◌, IfOk, OnOk, IsSome, IsTrue, Ok, Some};
+ghost use Rattle.std.specs.Prelude.{◌≡◌, ◌⊎◌, ◌++◌, ◌∷◌, [], List, IfOk, OnOk, IsSome, IsTrue, Ok, Some};
+ghost use Rattle.sgf_text.specs.Trees.{Node};
 ghost use Rattle.tsumego_problem.specs.Walk.{problem_node, problem_within, history_limit};
 ghost use Rattle.solution_tree.specs.Audit.{audit};
 ghost use Rattle.record_pages.specs.Bare.{IsBare};
-ghost use Rattle.record_pages.specs.Page.{IsPage};
+ghost use Rattle.record_pages.specs.Page.{HasNamedWinner, IsPage, NamesWinner};
 ghost use Rattle.tool_parts.specs.Says.{winner_text};
 
 use crate::bare::without_past;
 use crate::lines::{Cut, Lines, shown_lines};
 use crate::returning::may_return;
 use crate::same::are_same;
-use crate::titles::{add_comment, add_paragraph, push_comment, push_labels, push_titles};
+use crate::titles::{
+    add_comment, add_paragraph, push_comment, push_labels, push_titles, write_comment,
+};
 use go_points::{Colour, Size};
 use sgf_text::{Property, SgfNode, Tree};
 use solution_tree::{AuditFault, AuditWhy, audit};
@@ -125,7 +128,9 @@ fn verdict(winner: Colour) -> &'static [u8]
 }
 
 /// Appends the node of these properties.
-fn push_node(properties: Vec<Property>, into: &mut Vec<SgfNode>) -> Result<(), NoPage> {
+fn push_node(properties: Vec<Property>, into: &mut Vec<SgfNode>) -> Result<(), NoPage>
+    ensures { OnOk result (into.new.items ≡ into.old.items ++ properties.items ∷ []) }
+{
     let Some(node) = SgfNode::new(properties) else {
         return Err(NoPage::NotThePage);
     };
@@ -163,7 +168,9 @@ fn push_marks(
     original: Option<&Tree>,
     is_joined: bool,
     into: &mut Vec<Property>,
-) -> Result<(), NoPage> {
+) -> Result<(), NoPage>
+    ensures { OnOk result (NamesWinner winner into.new.items) }
+{
     let marks = marks_node(alloc, problem)?;
     let mut some = copy_properties(alloc, marks.as_slice())?;
     into.append(&mut some)?;
@@ -178,7 +185,7 @@ fn push_marks(
         }
     }
     add_paragraph(verdict(winner), &mut text)?;
-    push_comment(alloc, text.as_slice(), into)?;
+    write_comment(alloc, text.as_slice(), into)?;
     Ok(())
 }
 
@@ -188,7 +195,10 @@ fn front_nodes(
     problem: &Problem,
     winner: Colour,
     original: Option<&Tree>,
-) -> Result<Vec<SgfNode>, NoPage> {
+) -> Result<Vec<SgfNode>, NoPage>
+    ensures { IfOk result (λ nodes. (before : List Node) × (node : Node)
+        × (nodes.items ≡ before ++ node ∷ []) × NamesWinner winner node) }
+{
     let past = past_nodes(alloc, problem)?;
     let is_joined = past.len() <= 1;
     let mut nodes = Vec::new(alloc);
@@ -217,7 +227,9 @@ fn page_tree(
     winner: Colour,
     original: Option<&Tree>,
     lines: Lines,
-) -> Result<Tree, NoPage> {
+) -> Result<Tree, NoPage>
+    ensures { IfOk result (HasNamedWinner winner) }
+{
     let mut nodes = front_nodes(alloc, problem, winner, original)?;
     let mut below = lines.nodes;
     nodes.append(&mut below)?;

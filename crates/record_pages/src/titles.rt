@@ -1,5 +1,7 @@
 //! Titles and comments of a record.
 
+ghost use Rattle.std.specs.Prelude.{◌≡◌, ◌++◌, ◌∷◌, [], List, ℕ, codes, OnOk};
+
 use sgf_text::{Property, SgfNode};
 use std::alloc::{AllocError, Global};
 use tool_parts::{copy_property, single};
@@ -53,7 +55,9 @@ pub(crate) fn add_comment(node: &SgfNode, text: &mut Vec<u8>) -> Result<(), Allo
 }
 
 /// Appends the paragraph to the text, after an empty line if the text is not empty.
-pub(crate) fn add_paragraph(words: &[u8], text: &mut Vec<u8>) -> Result<(), AllocError> {
+pub(crate) fn add_paragraph(words: &[u8], text: &mut Vec<u8>) -> Result<(), AllocError>
+    ensures { OnOk result ((front : List ℕ) × (text.new.items ≡ front ++ words.now)) }
+{
     if !text.is_empty() {
         text.extend_from_slice(b"\n\n")?;
     }
@@ -67,8 +71,21 @@ pub(crate) fn push_comment(
     text: &[u8],
     into: &mut Vec<Property>,
 ) -> Result<(), AllocError> {
-    if !text.is_empty() {
-        into.push(single(alloc, b"C", text)?)?;
+    if text.is_empty() {
+        return Ok(());
     }
+    write_comment(alloc, text, into)
+}
+
+/// Appends a comment with this text.
+pub(crate) fn write_comment(
+    alloc: Global,
+    text: &[u8],
+    into: &mut Vec<Property>,
+) -> Result<(), AllocError>
+    ensures { OnOk result (into.new.items ≡ into.old.items
+        ++ record { ident = codes "C"; values = text.now ∷ [] } ∷ []) }
+{
+    into.push(single(alloc, b"C", text)?)?;
     Ok(())
 }

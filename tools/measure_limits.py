@@ -12,7 +12,7 @@ It prints a line for each kind of problem: how many were asked; how many were de
 written, unknown by their steps, unknown by another limit, refused by problem_tools, and ended by the limit of time; the processor seconds
 of all runs, those of the longest, and its name; and how many steps a second the runs made that ended by their steps. The status is 1 where
 a run was ended by the limit of time, or by a signal, or with a status other than 0 and 1. Each record of such a run, and of a run of more
-than half of the limit, is written to the folder of `--keep`.
+than half of the limit, is written to the folder of `--keep`. Interrupted, it prints the table of what has been asked.
 """
 
 import argparse
@@ -23,6 +23,7 @@ import os
 import pathlib
 import re
 import resource
+import signal
 import subprocess
 import sys
 import tempfile
@@ -126,18 +127,28 @@ def show(kinds, steps):
         print("| " + " | ".join(row_of(kind, all_found, steps)) + " |", flush=True)
 
 
+def tell(found, given):
+    """Names a run that was ended or took long, and keeps its record."""
+    if found.end == ENDED or found.seconds > given.seconds / 2:
+        print(f"{found.name}: {found.end}, {found.seconds:.1f} s, {found.said[:60]}", file=sys.stderr, flush=True)
+        if given.keep:
+            keep(given.keep, found)
+
+
 def ask_all(programs, given, asked):
-    """What came of all, by kinds. Runs that were ended or took long are named at once, and their records kept."""
+    """What came of all, by kinds, up to an interrupt."""
     kinds = collections.defaultdict(list)
+    signal.signal(signal.SIGTERM, signal.default_int_handler)
     with concurrent.futures.ThreadPoolExecutor(given.jobs) as pool:
-        for number, found in enumerate(pool.map(lambda it: find(programs, given, it), asked), 1):
-            kinds[found.kind].append(found)
-            if found.end == ENDED or found.seconds > given.seconds / 2:
-                print(f"{found.name}: {found.end}, {found.seconds:.1f} s, {found.said[:60]}", file=sys.stderr, flush=True)
-                if given.keep:
-                    keep(given.keep, found)
-            if number % 500 == 0:
-                print(f"{number} of {len(asked)}", file=sys.stderr, flush=True)
+        waiting = [pool.submit(find, programs, given, it) for it in asked]
+        try:
+            for done in concurrent.futures.as_completed(waiting):
+                found = done.result()
+                kinds[found.kind].append(found)
+                tell(found, given)
+        except KeyboardInterrupt:
+            pool.shutdown(wait=False, cancel_futures=True)
+            print(f"interrupted after {sum(map(len, kinds.values()))} of {len(asked)}", file=sys.stderr, flush=True)
     return kinds
 
 

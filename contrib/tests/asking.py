@@ -10,6 +10,7 @@ import urllib.parse
 
 from .asking_looks import test_looks, test_seen
 from .asking_page import PROBLEM, SECONDS, Asking, game_of_250, points
+from .asking_records import test_records, test_sizes, test_variations
 from .common import TOP, expect, new_browser, set_size
 from .serving import Server, becomes, stand_ins
 
@@ -362,6 +363,9 @@ def run(folder, shots, programs):
             test_playout(asking)
             test_refusals(asking)
             test_hands(asking, Keys)
+            test_records(asking, folder)
+            test_variations(asking)
+            test_sizes(asking)
             test_looks(asking)
             test_seen(asking)
             test_proof(asking)

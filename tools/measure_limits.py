@@ -164,6 +164,7 @@ def given_words():
     parser.add_argument("--every", type=int, default=1, metavar="K", help="only each K-th question [%(default)s]")
     parser.add_argument("--keep", type=pathlib.Path, metavar="FOLDER", help="the folder for records that took long")
     parser.add_argument("programs", type=pathlib.Path, metavar="PROGRAMS")
+    parser.error = lambda why: script_words.refuse(NAME, why)
     given = parser.parse_args()
     if (given.questions is None) != (given.games is None):
         script_words.refuse(NAME, "--questions and --games are given together")

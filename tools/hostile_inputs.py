@@ -434,6 +434,17 @@ def full_but(count, seed):
     return f"(;SZ[25]AW[{']['.join(stones)}]PL[B]TR[{stones[0]}]SQ[{']['.join(names_of[it] for it in empty)}])"
 
 
+def session_of_full_but(count, seed):
+    """The same as a session: its stones are played, and it is asked whether Black wins."""
+    columns = "ABCDEFGHJKLMNOPQRSTUVWXYZ"
+    empty = set(random.Random(seed).sample(range(625), count))
+    names_of = [f"{columns[number % 25]}{25 - number // 25}" for number in range(625)]
+    stones = [names_of[number] for number in range(625) if number not in empty]
+    region = " ".join(names_of[number] for number in sorted(empty))
+    lines = ["boardsize 25", *(f"play w {it}" for it in stones), f"tsu-target {stones[0]}", f"tsu-region {region}", "tsu-solve b"]
+    return "\n".join([*lines, "quit", ""])
+
+
 def useless_moves(count):
     """A record whose answer has 2 to the power of this many states: Black may play at so many points apart, in any order."""
     points = [column + row for row in "dfhjl" for column in "acegikm"][:count]

@@ -119,8 +119,8 @@ const refused = (text) => tell(text, "refused");
 const nodeNumber = () => pathTo(ask.node).length - 1;
 
 // The question that is drawn first: of the side whose first move is told. An answer with a proof has its own region.
-function firstShown(found) {
-  const best = ["B", "W"].map((side) => bestQuestion(found.questions || [], side)).filter((it) => it >= 0);
+function firstShown(found, defender) {
+  const best = bestQuestions(found, defender);
   const withMove = best.find((it) => found.questions[it].move);
   return found.proof || best.length === 0 ? -1 : withMove === undefined ? best[0] : withMove;
 }
@@ -133,7 +133,7 @@ function askAbout(point) {
     const { text, code, line } = await asked(`status?node=${nodeNumber()}&target=${name}`, recordTo(ask.node));
     if (code !== 0) throw new Error(line);
     ask.answer = JSON.parse(text);
-    ask.chosen = firstShown(ask.answer);
+    ask.chosen = firstShown(ask.answer, now.stones[point]);
     tell(statusSentence(ask.answer), ask.answer.status);
     showAsked();
   }, refused);

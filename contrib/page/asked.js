@@ -10,6 +10,7 @@ const chooseTool = (name) => { document.querySelector(`input[name="tool"][value=
 function tell(text, kind = "") {
   byId("told").textContent = text;
   byId("told").dataset.kind = kind;
+  if (text) byId("told").scrollIntoView({ block: "nearest" });
 }
 
 // The lines that are shown: all, or a quarter of the board with a bit more.
@@ -140,8 +141,7 @@ function drawMeaning() {
   const sentences = found ? wordSentences(found) : groupSentences(ask.groups || []);
   byId("meaning").replaceChildren(...sentences.map((it) => element("p", {}, it)));
   const now = positionAt(ask.node), defender = found && now.stones[pointNamed(now.size, found.target)];
-  const best = ["B", "W"].map((side) => bestQuestion(questions, side)).filter((it) => it >= 0);
-  byId("questions").replaceChildren(...best.map((it) => questionItem(it, defender)));
+  byId("questions").replaceChildren(...(found ? bestQuestions(found, defender) : []).map((it) => questionItem(it, defender)));
   byId("count").textContent = `All ${questions.length} questions that were asked`;
   byId("every").replaceChildren(...questions.map((_, i) => questionItem(i, defender)));
 }

@@ -66,11 +66,23 @@ function questionSentence(question, defender) {
   return `If ${first} moves first, ${end}${by}. Both sides play at ${question.points} empty points; supposed: ${supposed}.${ko}`;
 }
 
-// The number of the question that tells most where this side moves first: one that is decided, with a move, of those with the most
-// points; -1 where there is none.
-function bestQuestion(questions, side) {
-  const worth = (it) => (it.winner ? 1000 : 0) + (it.move ? 500 : 0) + it.points;
-  return questions.reduce((best, it, i) => (it.first === side && (best < 0 || worth(it) > worth(questions[best])) ? i : best), -1);
+// Who wins by the status where this side moves first; nothing where none is named.
+function winnerBy(status, side, defender) {
+  const [own, other] = defender === "X" ? ["B", "W"] : ["W", "B"];
+  return { alive: own, dead: other, unsettled: side }[status];
+}
+
+// The number of the question that tells most where this side moves first: one that says what the status says, then one that is
+// decided, with a move, of those with the most points; -1 where there is none.
+function bestQuestion(found, side, defender) {
+  const wins = winnerBy(found.status, side, defender);
+  const worth = (it) => (it.winner && it.winner === wins ? 2000 : 0) + (it.winner ? 1000 : 0) + (it.move ? 500 : 0) + it.points;
+  return found.questions.reduce((best, it, i) => (it.first === side && (best < 0 || worth(it) > worth(found.questions[best])) ? i : best), -1);
+}
+
+// The best question of each side that moves first.
+function bestQuestions(found, defender) {
+  return found.questions ? ["B", "W"].map((side) => bestQuestion(found, side, defender)).filter((it) => it >= 0) : [];
 }
 
 // The groups of a position by their statuses, in a sentence for each that occurs.

@@ -44,6 +44,7 @@ async function working(what, task, told) {
   const timer = setInterval(tick, 500);
   tick();
   byId("work").hidden = false;
+  byId("work").scrollIntoView({ block: "nearest" });
   try {
     await task((path, record) => fetched(path, record, running.signal));
   } catch (error) {

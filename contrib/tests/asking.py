@@ -8,7 +8,9 @@ import subprocess
 import threading
 import urllib.parse
 
+from .asking_looks import test_looks, test_seen
 from .asking_page import PROBLEM, SECONDS, Asking, game_of_250, points
+from .asking_records import test_records, test_sizes, test_variations
 from .common import TOP, expect, new_browser, set_size
 from .serving import Server, becomes, stand_ins
 
@@ -221,42 +223,6 @@ def test_hands(asking, keys):
     expect("a picture is saved", asking.text("told"), "The picture is saved as position.svg.")
 
 
-def test_looks(asking):
-    """A telephone with a finger, dark and light; nothing wider than the screen."""
-    for width, height, dark, touch in ((320, 640, False, True), (375, 667, True, True), (1400, 900, False, False)):
-        set_size(asking.browser, width, height, dark, touch)
-        asking.open()
-        expect(f"{width} wide: no scrolling sideways", asking.is_no_wider(width))
-        small = asking.run(
-            "return [...document.querySelectorAll('button, select, .choices span')].filter((it) => it.offsetParent && it.getBoundingClientRect().height < 36).map((it) => it.id || it.textContent)"
-        )
-        expect(f"{width} wide: nothing is too small to touch", small, [])
-        asking.shoot(f"asked-{width}{'-dark' if dark else ''}")
-    colours = []
-    for dark in (False, True):
-        set_size(asking.browser, 375, 667, dark, True)
-        colours.append(asking.run("return getComputedStyle(document.body).backgroundColor"))
-    expect("dark and light differ", colours[0] != colours[1])
-    asking.open()
-    asking.choose("size", 19)
-    asking.press("new")
-    asking.click("dd")
-    expect(
-        "on small points the first touch names the point", (asking.stones()["black"], asking.text("confirm")), (0, "● Black at D16")
-    )
-    asking.press("confirm")
-    expect("the button acts", asking.stones()["black"], 1)
-    asking.click("dp")
-    asking.click("dp")
-    expect("or a second touch", asking.stones()["black"], 2)
-    asking.choose("part", "ul")
-    expect("a quarter of the board", asking.run("return document.querySelectorAll('#asked .hit').length"), 121)
-    asking.click("cc")
-    expect("where points are large enough at once", asking.stones()["black"], 2)
-    expect("no wider with a board of 19 rows", asking.is_no_wider(375))
-    set_size(asking.browser, 820, 1000)
-
-
 def test_gone(asking, folder):
     """A question that is given up ends its process; the server that goes in the middle is told of."""
     programs = stand_ins(folder)
@@ -344,7 +310,7 @@ def test_proof(asking):
         },
     }
     asking.run(
-        "ask.answer = arguments[0]; ask.chosen = firstShown(ask.answer); tell(statusSentence(ask.answer), 'alive'); showAsked()",
+        "ask.answer = arguments[0]; ask.chosen = firstShown(ask.answer, 'X'); tell(statusSentence(ask.answer), 'alive'); showAsked()",
         found,
     )
     expect("the status", asking.text("told"), "A6 is alive (proved).")
@@ -357,8 +323,25 @@ def test_proof(asking):
         ["liberties elsewhere: G2" in meaning, "rests on these stones too" in meaning and "F7" in meaning],
         [True, True],
     )
-    asking.run("ask.answer.proof = undefined; ask.answer.questions = undefined; ask.chosen = firstShown(ask.answer); showAsked()")
+    asking.run("ask.answer.proof = undefined; ask.answer.questions = undefined; ask.chosen = firstShown(ask.answer, 'X'); showAsked()")
     expect("by its shape", "nothing that is played takes the group" in asking.text("meaning"))
+
+
+def test_status(asking):
+    """The sentences that are shown first say what the status says, not what a question says that supposes more against it."""
+    asking.open()
+    asking.run("openRecord(arguments[0])", PROBLEM)
+    questions = [
+        {"first": "W", "points": 6, "walls": "natural", "winner": "B", "move": None, "inside": []},
+        {"first": "W", "points": 12, "walls": "hard", "winner": "W", "move": "B7", "inside": []},
+        {"first": "B", "points": 9, "walls": "race", "winner": "W", "move": None, "inside": []},
+        {"first": "B", "points": 6, "walls": "natural", "winner": "B", "move": "C7", "inside": []},
+    ]
+    show = "ask.answer = arguments[0]; ask.chosen = firstShown(ask.answer, 'X'); showAsked()"
+    for status, ends in (("alive", ["lives, by C7", "lives."]), ("dead", ["dies.", "dies, by B7"]), ("unsettled", ["lives, by C7", "dies, by B7"])):
+        asking.run(show, {"target": "A6", "status": status, "word": "likely", "questions": questions})
+        told = [it.text for it in asking.browser.find_elements("css selector", "#questions button")]
+        expect(f"{status}: a sentence for each side", [end in it for it, end in zip(told, ends)], [True, True])
 
 
 def console(browser):
@@ -380,8 +363,13 @@ def run(folder, shots, programs):
             test_playout(asking)
             test_refusals(asking)
             test_hands(asking, Keys)
+            test_records(asking, folder)
+            test_variations(asking)
+            test_sizes(asking)
             test_looks(asking)
+            test_seen(asking)
             test_proof(asking)
+            test_status(asking)
             test_path(asking)
             asking.open()
             resources = asking.run("return performance.getEntriesByType('resource').map((it) => it.name)")

@@ -1,7 +1,7 @@
 """What becomes of a game: its groups are found, cut out and answered, and of each group the hardest problem is kept."""
 
 from .answers import answers_of, has_one_answer
-from .boards import name_of, point_of
+from .boards import EMPTY, name_of, point_of
 from .cut import cut_out, walls_hold
 from .find import Finder
 from .grade import LEAST_TURNS, points
@@ -10,6 +10,8 @@ from .records import Unreadable, main_lines, positions, text_of
 from .same import canonical, name_of_problem
 
 STEPS = 5_000
+# More stones than a person takes in.
+MOST_STONES = 40
 COUNTED = ("nodes", "unsettled", "cut out", "walls hold", "one answer", "judged", "long enough", "kept")
 
 
@@ -60,7 +62,7 @@ class Game:
     def problems_of(self, item):
         """The problems of an unsettled group that nothing speaks against, for each side to move first."""
         problem = cut_out(self.programs, item.problem)
-        if problem is None:
+        if problem is None or len(problem.cells) - problem.cells.count(EMPTY) > MOST_STONES:
             return []
         self.counts["cut out"] += 1
         sides = [canonical(problem.with_mover(it))[0] for it in (problem.attacker, problem.defender)]

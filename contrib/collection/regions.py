@@ -105,8 +105,8 @@ def closed(board, chain, most_put):
 
 
 def closed_by(board, chain, inside, rim):
-    """The problem with these empty points inside, and the attacker's stones on the rim; None where another chain that the game
-    shuts in is larger than the target, or where stones on the rim would leave a chain without liberty."""
+    """The problem with these empty points inside, and the attacker's stones on the rim; None where another chain inside is larger than
+    the target, or where stones on the rim would leave a chain without liberty."""
     defender = board.cells[min(chain)]
     cells = list(board.cells)
     for point in rim:
@@ -120,7 +120,7 @@ def closed_by(board, chain, inside, rim):
         if liberties <= inside:
             region |= stones
         is_larger = (len(stones), -min(stones)) > (len(chain), -min(chain))
-        if cells[first] == defender and is_larger and board.chain_of[first][1] <= inside:
+        if cells[first] == defender and is_larger:
             return None
     return Problem(board.size, cells, OTHER[defender], tuple(sorted(chain)), tuple(sorted(region)), tuple(sorted(rim)))
 

@@ -19,7 +19,7 @@ from .games import COUNTED, Game
 from .items import from_data, to_data
 from .out import INDEX, write_collection
 from .programs import Programs, find_programs
-from .words import BAD_WORDS, FAILED, SOLVED, UNKNOWN, Interrupted, Stop, shown, tell
+from .words import BAD_WORDS, FAILED, SOLVED, UNKNOWN, Stop, shown, tell
 
 OPTIONS = ("every", "stones", "liberties", "put_up")
 # It changes where what is kept of a game would be made otherwise.
@@ -198,6 +198,3 @@ def finish(given, due, out):
         write_collection(out, list(items.values()), given)
         print(f"{os.path.join(out, INDEX)}: {len(items)} problems")
     return UNKNOWN if faults else SOLVED
-
-
-__all__ = ["Interrupted", "keep", "run", "work_on_game"]

@@ -1,5 +1,6 @@
 """The steps of a collection, each as a command of its own: records in, records out."""
 
+import json
 import os
 import sys
 
@@ -12,6 +13,7 @@ from .out import write_collection
 from .programs import Programs, find_programs
 from .records import Unreadable, main_lines
 from .same import canonical
+from .run import OPTIONS, work_on_game
 from .words import FAILED, REFUSED, SOLVED, UNKNOWN, Stop, shown, tell
 
 
@@ -120,4 +122,12 @@ def out(given):
     return status
 
 
-STEPS = {"find": find, "cut": cut, "first": first, "grade": grades, "same": same, "out": out}
+def game(given):
+    """What a host does for `--hosts`: the name of a file of games, a zero byte, and its content on standard input; data as JSON."""
+    label, _, content = sys.stdin.buffer.read().partition(b"\0")
+    options = {it: getattr(given, it) for it in OPTIONS}
+    write(json.dumps(work_on_game(Programs(find_programs()), options, os.fsdecode(label), content), separators=(",", ":")) + "\n")
+    return SOLVED
+
+
+STEPS = {"find": find, "cut": cut, "first": first, "grade": grades, "same": same, "out": out, "game": game}

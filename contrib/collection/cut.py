@@ -1,10 +1,12 @@
 """Cuts a problem out of its game: the fewest stones and the smallest board with which the answers stay, proved again each time."""
 
-from .boards import EMPTY, chains, neighbours, without
+from .boards import EMPTY, chain_at, chains, neighbours, without
 
 STEPS = 5_000
-# Lines that stay free between the stones and the edges that they do not touch.
-MARGIN = 1
+# Lines that stay free between the stones and the edges that they do not touch; the second where walls do not hold with the first.
+MARGINS = (1, 3)
+# A wall keeps so many liberties, if it has them.
+LIBERTIES = 4
 # So near an edge, in lines, that a problem stays as far from it as it is.
 NEAR = 2
 
@@ -39,24 +41,32 @@ def distances(problem):
 
 
 def with_fewest_stones(programs, problem):
-    """The problem without the stones that it does not need: at once all that are not beside the region, then one by one."""
+    """The problem without the stones that it does not need: at once all that are far from the region, then one by one."""
     stones, distance = outer_stones(problem), distances(problem)
-    for least in (2, 3, 5):
+    for least in (3, 5):
         made = problem._replace(cells=without(problem.cells, [it for it in stones if distance[it] >= least]))
         if is_unsettled(programs, made):
             problem = made
             break
     for stone in outer_stones(problem):
         made = problem._replace(cells=without(problem.cells, [stone]))
-        if is_held(made, stone) and is_unsettled(programs, made):
+        if is_held(problem, made, stone) and is_unsettled(programs, made):
             problem = made
     return problem
 
 
-def is_held(problem, stone):
-    """Whether a stone that went leaves no hole for people: no point of the region is opened to the outside by it."""
-    inside = set(problem.region) | set(problem.targets)
-    return not any(near in inside for near in neighbours(problem.size)[stone])
+def is_held(before, made, stone):
+    """Whether a stone that went leaves no hole for people: it was not beside the region or a target, no wall falls apart, and none is
+    easier to take."""
+    inside = set(made.region) | set(made.targets)
+    if any(near in inside for near in neighbours(made.size)[stone]):
+        return False
+    chain, liberties = chain_at(before.size, before.cells, stone)
+    left = chain - {stone}
+    if not left:
+        return True
+    rest, rest_liberties = chain_at(made.size, made.cells, min(left))
+    return rest == left and len(rest_liberties) >= min(LIBERTIES, len(liberties))
 
 
 def extent(lines, size):
@@ -65,24 +75,24 @@ def extent(lines, size):
     return first, last, first < NEAR, size - 1 - last < NEAR
 
 
-def placed(first, last, is_low, is_high, old, new):
+def placed(first, last, is_low, is_high, old, new, margin):
     """By how much lines move on a board of `new` rows in place of `old`; None where it is too small."""
     if is_low and is_high:
         return 0 if new == old else None
-    room = last - first + 1 + (first if is_low else MARGIN) + (old - 1 - last if is_high else MARGIN)
+    room = last - first + 1 + (first if is_low else margin) + (old - 1 - last if is_high else margin)
     if room > new:
         return None
     if is_high:
         return new - old
-    return 0 if is_low else MARGIN - first
+    return 0 if is_low else margin - first
 
 
-def on_board(problem, rows):
+def on_board(problem, rows, margin):
     """The problem on a board of so many rows, in a corner as far as its edges allow; None where there is no room."""
     size = problem.size
     used = [it for it, cell in enumerate(problem.cells) if cell != EMPTY] + list(problem.region)
-    down = placed(*extent([it // size for it in used], size), size, rows)
-    right = placed(*extent([it % size for it in used], size), size, rows)
+    down = placed(*extent([it // size for it in used], size), size, rows, margin)
+    right = placed(*extent([it % size for it in used], size), size, rows, margin)
     if down is None or right is None:
         return None
 
@@ -96,25 +106,28 @@ def on_board(problem, rows):
     return problem.moved(rows, "".join(cells), place)
 
 
-def on_smallest_board(programs, problem):
+def on_smallest_board(programs, problem, margin):
     """The problem on the smallest board on which it is the same."""
     for rows in range(2, problem.size):
-        made = on_board(problem, rows)
+        made = on_board(problem, rows, margin)
         if made and is_unsettled(programs, made):
             return made
     return problem
 
 
-def cut_out(programs, problem):
-    """The least position that is the same problem; None where more steps than a quick look's do not prove it."""
+def cut_out(programs, problem, want_walls=False):
+    """The least position that is the same problem; None where more steps than a quick look's do not prove it, or the walls of none
+    hold and that is wanted."""
     if not is_unsettled(programs, problem):
         return None
     fewest = with_fewest_stones(programs, problem)
     standing = tuple(it for it in fewest.put if fewest.cells[it] != EMPTY)
-    return on_smallest_board(programs, fewest._replace(put=standing))
+    fewest = fewest._replace(put=standing)
+    boards = [on_smallest_board(programs, fewest, margin) for margin in MARGINS]
+    return next((it for it in boards if walls_hold(programs, it)), None) if want_walls else boards[0]
 
 
-def walls_hold(programs, problem, steps):
+def walls_hold(programs, problem, steps=STEPS):
     """Whether nothing shows that the answers change where both sides may also play at the walls and two lines beyond them."""
     grown = set(problem.region)
     for chain, liberties in chains(problem.size, problem.cells):

@@ -2,7 +2,7 @@
 
 from .answers import answers_of, has_one_answer
 from .boards import EMPTY, name_of, point_of
-from .cut import cut_out, walls_hold
+from .cut import cut_out
 from .find import Finder
 from .grade import LEAST_TURNS, points
 from .items import Item
@@ -12,7 +12,7 @@ from .same import canonical, name_of_problem
 STEPS = 5_000
 # More stones than a person takes in.
 MOST_STONES = 40
-COUNTED = ("nodes", "unsettled", "cut out", "walls hold", "one answer", "judged", "long enough", "kept")
+COUNTED = ("nodes", "unsettled", "cut out", "new", "one answer", "judged", "long enough", "kept")
 
 
 class Game:
@@ -60,18 +60,17 @@ class Game:
         return Item(problem, f"{title} ({where})" if title else where, found.node, problem.targets)
 
     def problems_of(self, item):
-        """The problems of an unsettled group that nothing speaks against, for each side to move first."""
-        problem = cut_out(self.programs, item.problem)
+        """The problems of an unsettled group that nothing speaks against, for each side to move first. One that another node has had is
+        not asked about again."""
+        problem = cut_out(self.programs, item.problem, want_walls=True)
         if problem is None or len(problem.cells) - problem.cells.count(EMPTY) > MOST_STONES:
             return []
         self.counts["cut out"] += 1
         sides = [canonical(problem.with_mover(it))[0] for it in (problem.attacker, problem.defender)]
         names = [name_of_problem(it) for it in sides]
         if names[0] not in self.names:
-            self.names.update(dict.fromkeys(names))
-            if walls_hold(self.programs, problem, STEPS):
-                self.counts["walls hold"] += 1
-                self.names.update({name: self.answered(side) for name, side in zip(names, sides)})
+            self.counts["new"] += 1
+            self.names.update({name: self.answered(side) for name, side in zip(names, sides)})
         pairs = [(side, self.names[name]) for side, name in zip(sides, names)]
         return [item._replace(problem=side, answers=answers) for side, answers in pairs if answers]
 

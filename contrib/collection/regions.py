@@ -117,7 +117,7 @@ def closed_by(board, chain, inside, rim):
         stones, liberties = chain_at(board.size, cells, first)
         if not liberties:
             return None
-        if liberties <= inside:
+        if liberties <= inside and first not in chain:
             region |= stones
         is_larger = (len(stones), -min(stones)) > (len(chain), -min(chain))
         if cells[first] == defender and is_larger:

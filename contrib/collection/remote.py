@@ -10,7 +10,7 @@ from folders.records import read_file
 from .words import UNKNOWN, tell
 
 # What a host has to say to be of use.
-PROBE = "{program} game probe </dev/null 2>/dev/null | grep -q counts && echo \"solves $(nproc || echo 1)\""
+PROBE = "command -v {program} >/dev/null || exit 127; {program} game probe </dev/null 2>/dev/null | grep -q counts && echo \"solves $(nproc || echo 1)\""
 
 
 def work_on_hosts(given, due, tasks):

@@ -71,10 +71,10 @@ def key_of(label, content, given):
 class Due:
     """The games of a call: each with its name and where what is known of it is kept."""
 
-    def __init__(self, given, part):
+    def __init__(self, given, games, part):
         self.part, self.keys, self.unread = part, {}, []
         self.given = given
-        for label, path in find_games(given.names[0]):
+        for label, path in games:
             content = self.read(label, path)
             if content is not None and self.is_ours(label):
                 self.keys[label] = (key_of(label, content, given), path)
@@ -160,7 +160,8 @@ def run(given):
     games, out = given.names
     check_out(games, out)
     find_programs()
-    due = Due(given, take(out, given.shard))
+    found = find_games(games)
+    due = Due(given, found, take(out, given.shard))
     tasks = due.tasks()
     if tasks:
         if given.hosts:
@@ -170,6 +171,10 @@ def run(given):
         else:
             work_here(given, tasks)
     return finish(given, due, out)
+
+
+def counted(count):
+    return f"{count} problem{'' if count == 1 else 's'}"
 
 
 def finish(given, due, out):
@@ -190,11 +195,11 @@ def finish(given, due, out):
             before = items.setdefault(item.name(), item)
             if before is not item:
                 items[item.name()] = before._replace(source=f"{before.source}; {item.source}")
-    print(f"{len(due.keys)} files: " + ", ".join(f"{count} {name}" for name, count in counts.items()) + f"; {len(items)} problems")
+    print(f"{len(due.keys)} file{'' if len(due.keys) == 1 else 's'}: " + ", ".join(f"{count} {name}" for name, count in counts.items()) + f"; {counted(len(items))}")
     if missing:
         tell(f"{missing} files were not worked on: call it again")
         return FAILED
     if given.shard is None:
         write_collection(out, list(items.values()), given)
-        print(f"{os.path.join(out, INDEX)}: {len(items)} problems")
+        print(f"{os.path.join(out, INDEX)}: {counted(len(items))}")
     return UNKNOWN if faults else SOLVED

@@ -64,7 +64,7 @@ def parser_of():
     add("--liberties", type=a_number(1, 100), default=8, metavar="N", help="and of so many liberties or fewer [8]")
     add("--put-up", type=a_number(0, 20), default=6, metavar="N", help="the most stones that may be put up to close a region [6]")
     add("--jobs", type=a_number(1, 10_000), metavar="N", help="games at once [as this machine has processors]")
-    add("--hosts", metavar="FILE", help="works on these machines by ssh, one a line, as for parallel --sshloginfile")
+    add("--hosts", metavar="FILE", help="works on machines by ssh, one a line in FILE")
     add("--program", metavar="PATH", help="with --hosts: make-collection there [make-collection]")
     add("--shard", type=shard, metavar="I/N", help="works on share I of N alone; a call without it then makes the collection")
     add("--title", metavar="TEXT", help="the title of the collection")

@@ -31,7 +31,7 @@ function showIndex() {
 function markSolved() {
   const keys = solvedKeys();
   for (const link of document.querySelectorAll("[data-key]")) link.classList.toggle("solved", keys.has(link.dataset.key));
-  byId("count").textContent = `${problems.length} problems, ${problems.filter((one) => keys.has(one.key)).length} solved on this device.`;
+  byId("count").textContent = `${problems.length} problem${problems.length === 1 ? "" : "s"}, ${problems.filter((one) => keys.has(one.key)).length} solved on this device.`;
 }
 
 showIndex();

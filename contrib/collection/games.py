@@ -1,4 +1,4 @@
-"""What becomes of a game: its groups are found, cut out and answered, and of each group the hardest problem is kept."""
+"""What becomes of a game: its groups are found, cut out and answered, and of each group the best problem is kept."""
 
 from .answers import answers_of, has_one_answer
 from .boards import EMPTY, name_of, point_of
@@ -40,7 +40,7 @@ class Game:
                 found += self.problems_of(item)
         except Unreadable as why:
             self.faults.append(f"game {number}: {why}" if number > 1 else str(why))
-        chosen = hardest_of_groups(found)
+        chosen = best_of_groups(found)
         self.counts["kept"] += len(chosen)
         self.items += chosen
 
@@ -109,10 +109,15 @@ def title_of(root):
     return ", ".join(it for it in (players, event, date) if it)
 
 
-def hardest_of_groups(found):
-    """Of the problems of one group the hardest, and of these the first. Groups are one where they share a stone."""
+def rank(item):
+    """Few stones that were put up come first, counted by threes; then the hardest problem; then the first node."""
+    return len(item.problem.put) // 3, -points(item.answers), item.node, item.problem
+
+
+def best_of_groups(found):
+    """Of the problems of one group the best. Groups are one where they share a stone."""
     chosen, taken = [], set()
-    for item in sorted(found, key=lambda it: (-points(it.answers), it.node, it.problem)):
+    for item in sorted(found, key=rank):
         if taken.isdisjoint(item.group):
             chosen.append(item)
             taken.update(item.group)

@@ -154,9 +154,16 @@ function after(problem, at, point) {
   };
 }
 
-// The positions of the solution: the first right turn, or the first one with its refutation, and the first replies.
+// The positions of the solution: the line that the record gives, or the first right turn, or the first one with its refutation, and
+// the first replies.
 function solution(problem) {
   const line = [problem.start];
+  for (const turn of problem.line || []) {
+    const at = line[line.length - 1], point = pointOf(problem.size, turn);
+    if (barred(problem, at, point)) return line.slice(1);
+    line.push(after(problem, at, point));
+  }
+  if (problem.line) return line.slice(1);
   for (;;) {
     const at = line[line.length - 1];
     const nodes = nextNodes(problem, at);

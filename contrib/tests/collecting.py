@@ -276,6 +276,9 @@ def test_page_data(folder):
     """What the index shows is what the table says."""
     data = json.loads(re.search(r'id="problems">(.*)</script>', (folder / "made/index.html").read_text())[1])
     shown = [(it["name"], it["grade"], it["page"]) for it in data]
+    page = json.loads(re.search(r'id="problems">(.*)</script>', (folder / "made/0002.html").read_text())[1])[0]
+    line = re.search(r"\(;B\[(..)\]TE\[1\]([^)]*)\)", (folder / "made/0002.sgf").read_text())
+    expect("a page shows the solution of the record", page["line"], [line[1], *re.findall(r"[BW]\[(..)\]", line[2])])
     expect("the index shows the table", shown, [(it["number"], int(it["grade"]), it["number"] + ".html") for it in rows(folder / "made")])
 
 

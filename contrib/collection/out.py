@@ -11,7 +11,7 @@ from .grade import grade, points
 from .items import put_list, record_of
 from .pictures import Picture
 from .programs import Programs, find_programs, read_text
-from .words import FAILED, Stop, shown
+from .words import BAD_WORDS, FAILED, Stop, shown
 
 INDEX, TABLE, SHEET = "index.html", "index.tsv", "sheet.html"
 COLUMNS = ("number", "name", "grade", "points", "task", "turns", "tries", "sacrifices", "ko", "put up", "rows", "source")
@@ -43,6 +43,21 @@ def write_file(folder, name, text):
     with open(path + ".new", "wb") as file:
         file.write(content)
     os.replace(path + ".new", path)
+
+
+def check_ours(folder):
+    """A folder with files is one of a former collection."""
+    if os.path.lexists(folder) and not os.path.isdir(folder):
+        raise Stop(BAD_WORDS, f"{shown(folder)} is no folder")
+    if not os.path.isdir(folder) or not os.listdir(folder):
+        return
+    path = os.path.join(folder, TABLE)
+    if os.path.isfile(path):
+        with open(path, encoding="utf-8", errors="surrogateescape") as file:
+            if file.readline() == "\t".join(COLUMNS) + "\n":
+                return
+    if not os.path.isdir(os.path.join(folder, ".part")):
+        raise Stop(BAD_WORDS, f"{shown(folder)} has files that make-collection did not write")
 
 
 def remove_former(folder, count):

@@ -41,15 +41,18 @@ class Picture:
 
     def lines(self):
         """The lines and their names; where the board goes on, a line does for half a step."""
-        last, half, made = self.problem.size - 1, CELL // 2, []
-        ends = [(it, self.left, self.right, self.top, self.bottom) for it in range(self.left, self.right + 1)]
+        last, half = self.problem.size - 1, CELL // 2
         from_y, to_y = self.y(self.top) - half * (self.top > 0), self.y(self.bottom) + half * (self.bottom < last)
         from_x, to_x = self.x(self.left) - half * (self.left > 0), self.x(self.right) + half * (self.right < last)
-        for column, *_ in ends:
-            made.append(f'<path class="l" d="M{self.x(column)} {from_y}V{to_y}"/><text x="{self.x(column)}" y="14">{COLUMNS[column]}</text>')
-        for row in range(self.top, self.bottom + 1):
-            made.append(f'<path class="l" d="M{from_x} {self.y(row)}H{to_x}"/><text x="9" y="{self.y(row) + 4}">{self.problem.size - row}</text>')
-        return made
+        columns = [
+            f'<path class="l" d="M{self.x(it)} {from_y}V{to_y}"/><text x="{self.x(it)}" y="14">{COLUMNS[it]}</text>'
+            for it in range(self.left, self.right + 1)
+        ]
+        rows = [
+            f'<path class="l" d="M{from_x} {self.y(it)}H{to_x}"/><text x="9" y="{self.y(it) + 4}">{self.problem.size - it}</text>'
+            for it in range(self.top, self.bottom + 1)
+        ]
+        return columns + rows
 
     def stones(self):
         made, targets, put = [], set(self.problem.targets), set(self.problem.put)

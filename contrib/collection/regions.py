@@ -108,10 +108,7 @@ def closed_by(board, chain, inside, rim):
     """The problem with these empty points inside, and the attacker's stones on the rim; None where another chain inside is larger than
     the target, or where stones on the rim would leave a chain without liberty."""
     defender = board.cells[min(chain)]
-    cells = list(board.cells)
-    for point in rim:
-        cells[point] = OTHER[defender]
-    cells = "".join(cells)
+    cells = "".join(OTHER[defender] if point in rim else cell for point, cell in enumerate(board.cells))
     region = set(inside)
     for first in {min(board.chain_of[it][0]) for it in beside_stones(board, inside)}:
         stones, liberties = chain_at(board.size, cells, first)

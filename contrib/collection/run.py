@@ -17,7 +17,7 @@ from folders.records import read_file
 
 from .games import COUNTED, Game
 from .items import from_data, to_data
-from .out import INDEX, write_collection
+from .out import INDEX, check_ours, write_collection
 from .programs import Programs, find_programs
 from .words import BAD_WORDS, FAILED, SOLVED, UNKNOWN, Stop, shown, tell
 
@@ -43,10 +43,7 @@ def check_out(games, out):
     inner, outer = os.path.realpath(out), os.path.realpath(games)
     if os.path.isdir(games) and os.path.commonpath([inner, outer]) in (inner, outer):
         raise Stop(BAD_WORDS, f"{shown(out)} and {shown(games)} are one folder, or one is in the other")
-    if os.path.lexists(out) and not os.path.isdir(out):
-        raise Stop(BAD_WORDS, f"{shown(out)} is no folder")
-    if os.path.isdir(out) and os.listdir(out) and not os.path.isdir(os.path.join(out, ".part")):
-        raise Stop(BAD_WORDS, f"{shown(out)} has files that make-collection did not write")
+    check_ours(out)
 
 
 def take(out, is_shard):
@@ -179,27 +176,29 @@ def counted(count):
 
 def finish(given, due, out):
     """Tells what was passed over, and writes the collection, where this is no share."""
-    counts, items, missing = dict.fromkeys(COUNTED, 0), {}, 0
-    for fault in due.unread:
+    known = {label: due.known(key) for label, (key, _) in due.keys.items()}
+    missing = sum(it is None for it in known.values())
+    known = {label: data for label, data in known.items() if data}
+    faults = due.unread + [f"{shown(label)}: {fault}" for label, data in known.items() for fault in data["faults"]]
+    for fault in faults:
         tell(fault)
-    faults = len(due.unread)
-    for label, (key, _) in due.keys.items():
-        data = due.known(key)
-        missing += data is None
-        for fault in data["faults"] if data else ():
-            tell(f"{shown(label)}: {fault}")
-            faults += 1
-        for name in COUNTED:
-            counts[name] += data["counts"][name] if data else 0
-        for item in map(from_data, data["items"] if data else ()):
-            before = items.setdefault(item.name(), item)
-            if before is not item:
-                items[item.name()] = before._replace(source=f"{before.source}; {item.source}")
-    print(f"{len(due.keys)} file{'' if len(due.keys) == 1 else 's'}: " + ", ".join(f"{count} {name}" for name, count in counts.items()) + f"; {counted(len(items))}")
+    counts = {name: sum(data["counts"][name] for data in known.values()) for name in COUNTED}
+    items = merged(from_data(it) for data in known.values() for it in data["items"])
+    files = f"{len(due.keys)} file{'' if len(due.keys) == 1 else 's'}"
+    print(f"{files}: " + ", ".join(f"{count} {name}" for name, count in counts.items()) + f"; {counted(len(items))}")
     if missing:
-        tell(f"{missing} files were not worked on: call it again")
+        tell(f"files that were not worked on: {missing}; call it again")
         return FAILED
     if given.shard is None:
-        write_collection(out, list(items.values()), given)
+        write_collection(out, items, given)
         print(f"{os.path.join(out, INDEX)}: {counted(len(items))}")
     return UNKNOWN if faults else SOLVED
+
+
+def merged(items):
+    """Each problem once, with all that it came from."""
+    found = {}
+    for item in items:
+        before = found.get(item.name())
+        found[item.name()] = before._replace(source=f"{before.source}; {item.source}") if before else item
+    return list(found.values())

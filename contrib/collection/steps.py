@@ -9,7 +9,7 @@ from .cut import cut_out
 from .games import Game, item_of_file
 from .grade import grade
 from .items import put_list, read_items, record_of
-from .out import write_collection
+from .out import check_ours, write_collection
 from .programs import Programs, find_programs
 from .records import Unreadable, main_lines
 from .same import canonical
@@ -110,6 +110,7 @@ def same(given):
 def out(given):
     """A collection of records: of problems that are one, the first."""
     folder, programs = given.names[0], Programs(find_programs())
+    check_ours(folder)
     items, status = {}, SOLVED
     for name, number, item in items_of(given.names[1:]):
         item = item_of_file(programs, item, f"{os.path.basename(name)} {number}")

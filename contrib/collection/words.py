@@ -25,6 +25,7 @@ steps, each a command of its own, from records on standard input or in files to 
   grade FILE..    the grade of each problem, and what it was measured by, as a table
   same FILE..     which records are one problem: name, file, number of the record, as a table
   out OUT FILE..  a collection of problems that stand in records
+  game            what a host does for --hosts
 
 exit codes: 0 made; 1 something was passed over, each named by a line; 2 a record of a step is refused; 3 invalid arguments, or the
 folders cannot be used so; 4 something could not be run, read or written: call it again."""

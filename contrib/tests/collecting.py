@@ -139,6 +139,7 @@ def test_bad_words(folder, games):
     refused("OUT is GAMES", [games, games], 3, "are one folder")
     refused("OUT is a file", [games, folder / "full/mine.txt"], 3, "is no folder")
     refused("OUT has other files", [games, folder / "full"], 3, "did not write")
+    refused("out into a folder with other files", ["out", folder / "full", TOP / "examples/bulky-five.sgf"], 3, "did not write")
     refused("no games", [folder / "full", folder / "x"], 3, "no file below")
     refused("a bad number", ["--every", "0", games, folder / "x"], 3, "no number from 1")
     refused("a bad share", ["--shard", "3/2", games, folder / "x"], 3, "no share")

@@ -6,13 +6,13 @@ _make_page() {
     case $before in
     # What follows is typed.
     --per-page | --short | --depth | --title) return ;;
-    '<' | '>' | '>>' | '2>')
+    --into | '<' | '>' | '>>' | '2>')
         compopt -o default
         return
         ;;
     esac
     case $word in
-    -*) mapfile -t COMPREPLY < <(compgen -W '--sheet --per-page --unaudited --short --depth --title --help -h' -- "$word") ;;
+    -*) mapfile -t COMPREPLY < <(compgen -W '--sheet --per-page --into --keep-going --unaudited --short --depth --title --help -h' -- "$word") ;;
     # Files and folders.
     *) compopt -o default ;;
     esac

@@ -3,6 +3,8 @@
 complete -c make-page -s h -l help -d 'Print help'
 complete -c make-page -l sheet -d 'A sheet to print in place of a page to click'
 complete -c make-page -l per-page -x -d 'Problems on each page of a sheet'
+complete -c make-page -l into -r -F -d 'A page for each record, and an index, into this folder'
+complete -c make-page -l keep-going -d 'Leave out records that are refused'
 complete -c make-page -l unaudited -d 'Show what the audit refuses too, and say so'
 complete -c make-page -l short -x -d 'Leave out replies whose lines end within so many turns'
 complete -c make-page -l depth -x -d 'Show at most so many turns of each line'

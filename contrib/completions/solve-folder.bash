@@ -5,14 +5,14 @@ _solve_folder() {
     COMPREPLY=()
     case $before in
     # What follows is typed.
-    --steps | --timeout | --jobs | --shard) return ;;
+    --run | --steps | --timeout | --jobs | --shard) return ;;
     --program | --hosts | '<' | '>' | '>>' | '2>')
         compopt -o default
         return
         ;;
     esac
     case $word in
-    -*) mapfile -t COMPREPLY < <(compgen -W '--steps --timeout --recursive --all-games --jobs --program --hosts --shard --totals --help -h' -- "$word") ;;
+    -*) mapfile -t COMPREPLY < <(compgen -W '--run --steps --timeout --recursive --all-games --jobs --program --hosts --shard --totals --help -h' -- "$word") ;;
     # Files and folders.
     *) compopt -o default ;;
     esac

@@ -1,6 +1,7 @@
 # Completions of solve-folder for fish: install this file as PREFIX/share/fish/vendor_completions.d/solve-folder.fish.
 
 complete -c solve-folder -s h -l help -d 'Print help'
+complete -c solve-folder -l run -x -d 'Ask another program, as first_moves --json'
 complete -c solve-folder -l steps -x -d 'Steps for each record'
 complete -c solve-folder -l timeout -x -d 'End the search of a record after so many seconds'
 complete -c solve-folder -l recursive -d 'Take the files of subfolders too'

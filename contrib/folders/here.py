@@ -55,7 +55,7 @@ class Job:
 def solve_here(run):
     """Asks the due records."""
     given, due, jobs = run.given, run.due(), {}
-    words = [given.program, "solve", "--steps", str(given.steps)]
+    words = [given.program, *given.asked]
     signal.pthread_sigmask(signal.SIG_BLOCK, [signal.SIGCHLD])
     watcher = subprocess.Popen(["sh", "-c", WATCH], stdin=subprocess.PIPE, preexec_fn=os.setpgrp)
     try:

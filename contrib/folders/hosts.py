@@ -17,17 +17,26 @@ from .words import BAD_WORDS, FAILED, Stop, shown, tell
 MOST_BYTES = 1_048_577  # `tsumego solve` reads no more
 TINY_PROBLEM, TINY_ANSWER = "(;SZ[3]AB[ab]AW[aa]PL[B]TR[aa]SQ[ba])", "C[Black wins]"
 
-# Run by `sh` on a host, with the record as a line of base64 on its input, which counts only where it came whole. It writes
-# one line: the number of the record, what the program wrote, its status, and the times before and after. It fails where the
-# record should be asked elsewhere.
+# So many records travel on a connection at most: to open one costs more than most records do.
+MOST_RECORDS = 50
+# Each host gets so many connections or more for each of its jobs, so that none waits long for the last.
+CONNECTIONS = 4
+# Run by `sh` on a host, with a record on each line of its input, as base64, which counts only where it came whole. It writes a
+# line for each: the number of the connection, that of the record on it, what the program wrote, its status, and the times before
+# and after. It fails where all its records should be asked elsewhere.
 ASK = """
-IFS= read -r record || exit 1
 exec 4>&1
-start=$(date +%s.%N)
-printf "%s " "$1"
-status=$({{ {{ printf "%s" "$record" | base64 -d | {command}; echo $? >&3; }} | base64 -w 0 >&4; }} 3>&1)
-printf " %s %s %s\\n" "$status" "$start" "$(date +%s.%N)"
-case $status in 0 | 1 | 2 | 124) ;; *) exit 1 ;; esac
+count=0 bad=0
+while IFS= read -r record; do
+    count=$((count + 1))
+    start=$(date +%s.%N)
+    printf "%s %s " "$1" "$count"
+    status=$({{ {{ printf "%s" "$record" | base64 -d | {command}; echo $? >&3; }} | base64 -w 0 >&4; }} 3>&1)
+    printf " %s %s %s\\n" "$status" "$start" "$(date +%s.%N)"
+    case $status in 0 | 1 | 2 | 124) ;; *) bad=$((bad + 1)) ;; esac
+    record=
+done
+[ -z "$record" ] && [ "$bad" -lt "$count" ]
 """
 # Whether a host has the program, and it solves a problem; and how many processors it has. Logins may write lines of their own.
 PROBE = """
@@ -35,6 +44,13 @@ answer=$(printf "%s" "{problem}" | {program} solve 2>/dev/null)
 status=$?
 case $answer in *"{answer}"*) echo "solves $(nproc || echo 1)"; exit 0 ;; esac
 [ "$status" != 0 ] || exit 1
+exit "$status"
+"""
+# The same for another program: whether it answers anything about the problem.
+PROBE_OF_RUN = """
+printf "%s" "{problem}" | {command} >/dev/null 2>&1
+status=$?
+case $status in 0 | 1) echo "solves $(nproc || echo 1)"; exit 0 ;; esac
 exit "$status"
 """
 WHY = {
@@ -75,9 +91,15 @@ def read_hosts(path):
     return hosts
 
 
-def ask_hosts(given):
-    """The hosts that solve a problem, each with its number of processors. The others are told."""
-    script = PROBE.format(problem=TINY_PROBLEM, answer=TINY_ANSWER, program=shlex.quote(given.program))
+def probe_of(given):
+    if given.run:
+        return PROBE_OF_RUN.format(problem=TINY_PROBLEM, command=" ".join(map(shlex.quote, [given.program, *given.asked])))
+    return PROBE.format(problem=TINY_PROBLEM, answer=TINY_ANSWER, program=shlex.quote(given.program))
+
+
+def ask_hosts(given, script=None):
+    """The hosts that solve a problem, or pass another probe, each with its number of processors. The others are told."""
+    script = script or probe_of(given)
     found = {}
     for line, (status, processors, why) in probed(read_hosts(given.hosts), for_parallel(script)).items():
         if status == 0 and processors:
@@ -106,26 +128,47 @@ def probed(lines, command):
 
 
 def solve_by_parallel(run, hosts):
-    """Asks the due records on hosts. The records travel on the connection, a line of base64 each, and so do the answers."""
-    given, asked, longest = run.given, [], 1 << 20
-    command = f"{shlex.quote(given.program)} solve --steps {given.steps}"
+    """Asks the due records on hosts, and keeps each answer as it comes."""
+    given, asked = run.given, []
+    command = " ".join(map(shlex.quote, [given.program, *given.asked]))
     if given.timeout is not None:
         command = f"timeout {given.timeout:g} {command}"
-    with tempfile.TemporaryFile() as lines, tempfile.NamedTemporaryFile() as logins:
+
+    def contents():
         for record, content, checksum in run.due():
-            line = base64.b64encode(content[:MOST_BYTES]) + b"\n"
-            longest = max(longest, len(line))
-            lines.write(line)
             asked.append((record, checksum))
+            yield content[:MOST_BYTES]
+
+    for number, status, text, seconds in answers_from_hosts(given, hosts, command, contents()):
+        record, checksum = asked[number]
+        run.keep(record, checksum, status, text, seconds)
+
+
+def answers_from_hosts(given, hosts, command, contents):
+    """Has a command run on hosts for each content, and yields the answers as they come: the content's number, the status, what was
+    written, and the seconds. The contents travel on the connections, a line of base64 each, and so do the answers."""
+    lengths = []
+    with tempfile.TemporaryFile() as lines, tempfile.NamedTemporaryFile() as logins:
+        for content in contents:
+            lengths.append(lines.write(base64.b64encode(content) + b"\n"))
         lines.seek(0)
         logins.write(b"".join(login_line(line, count) for line, count in hosts.items()))
         logins.flush()
-        words = ["parallel", "--plain", "--pipe", "-N1", "--recend", "\n", "--block", str(longest), "--retries", str(len(hosts) + 2)]
+        jobs = sum(jobs_of(line, given.jobs or count) for line, count in hosts.items())
+        together = max(1, min(MOST_RECORDS, len(lengths) // (CONNECTIONS * jobs)))
+        longest = max([1 << 20, *(sum(lengths[i : i + together]) for i in range(0, len(lengths), together))])
+        words = ["parallel", "--plain", "--pipe", f"-N{together}", "--recend", "\n", "--block", str(longest), "--retries", str(len(hosts) + 2)]
         words += ["--ssh", "ssh -o BatchMode=yes -o ConnectTimeout=20 -o ServerAliveInterval=20"]
-        words += ["--sshloginfile", logins.name, "--jobs", str(given.jobs) if given.jobs else "100%", *given.words]
+        words += ["--sshloginfile", logins.name, "--jobs", str(given.jobs) if given.jobs else "100%", *getattr(given, "words", [])]
         words.append(for_parallel(ASK.format(command=command)) + " sh {#}")
-        if asked:
-            read_answers(run, asked, words, lines)
+        if lengths:
+            yield from read_answers(words, lines, together, len(lengths))
+
+
+def jobs_of(line, processors):
+    """How many jobs a host has at once: as many as its line says, or else as it has processors."""
+    found = re.match(rb"(?:@[^/]+/)?(\d+)/", line)
+    return int(found[1]) if found else processors
 
 
 def login_line(line, processors):
@@ -134,15 +177,15 @@ def login_line(line, processors):
     return group + (count if count.strip(b"/") else b"%d/" % processors) + login + b"\n"
 
 
-def read_answers(run, asked, words, lines):
-    """Runs GNU parallel, and keeps each answer as it comes. What a host that failed wrote is not read."""
+def read_answers(words, lines, together, count):
+    """Runs GNU parallel, and yields each answer as it comes. What a host that failed wrote is not read."""
     process = subprocess.Popen(words, stdin=lines, stdout=subprocess.PIPE, preexec_fn=end_with_parent(signal.SIGINT))
     try:
         for line in process.stdout:
-            found = re.fullmatch(rb"(\d+) ([A-Za-z0-9+/=]*) (\d+) (\S+) (\S+)\n", line)
-            if found and 0 < int(found[1]) <= len(asked):
-                record, checksum = asked[int(found[1]) - 1]
-                run.keep(record, checksum, int(found[3]), base64.b64decode(found[2]), seconds_between(found[4], found[5]))
+            found = re.fullmatch(rb"(\d+) (\d+) ([A-Za-z0-9+/=]*) (\d+) (\S+) (\S+)\n", line)
+            number = (int(found[1]) - 1) * together + int(found[2]) - 1 if found else -1
+            if 0 <= number < count:
+                yield number, int(found[4]), base64.b64decode(found[3]), seconds_between(found[5], found[6])
     finally:
         if process.poll() is None:
             process.send_signal(signal.SIGINT)

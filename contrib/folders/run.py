@@ -54,14 +54,14 @@ class Run:
     def keep(self, record, checksum, status, text, seconds):
         """Keeps what came of a record: the status, and what the program wrote."""
         said = text.split(b"\n")[0].strip()
-        if status == SOLVED:
+        if status == SOLVED and not self.given.run:
             winner = WINNER.search(text)
             if not winner:
                 return self.fail(record, "the program names no winner")
             said = b"wins " + winner[1]
         elif status == TIMED_OUT:
             said, seconds = b"timeout: %g seconds" % self.given.timeout, self.given.timeout
-        elif status not in (UNKNOWN, REFUSED):
+        elif status not in (SOLVED, UNKNOWN, REFUSED):
             return self.fail(record, f"the program ended with status {status}" + f" ({shown(said)})" * bool(said))
         try:
             self.answers.store(Line(record.name, status, said, self.given.steps, seconds, checksum), text)
@@ -96,10 +96,11 @@ def totals(count, lines):
     """The totals in words, and the status that they give."""
     lines = list(lines)
     by_status = {status: sum(it.status == status for it in lines) for status in (SOLVED, UNKNOWN, TIMED_OUT, REFUSED, FAILED)}
-    black = sum(it.answer == b"wins Black" for it in lines)
+    black, white = (sum(it.answer == answer for it in lines) for answer in (b"wins Black", b"wins White"))
     solved, unknown, late, refused, failed = by_status.values()
+    winners = f"solved ({black} Black, {white} White)" if black + white == solved else "answered"
     text = (
-        f"{count} records: {solved} solved ({black} Black, {solved - black} White), {unknown} unknown, {late} timed out, "
+        f"{count} records: {solved} {winners}, {unknown} unknown, {late} timed out, "
         f"{refused} refused, {failed} failed, {count - len(lines)} not asked; {sum(it.seconds for it in lines):.1f} s"
     )
     return text, 0 if solved == count else FAILED if failed or len(lines) < count else 1

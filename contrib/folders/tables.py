@@ -99,6 +99,22 @@ class Answers:
         except OSError as error:
             raise Stop(FAILED, f"the answers cannot be written to {shown(self.folder)}: {error.strerror}") from None
 
+    def claim_words(self, words):
+        """Answers of several programs are not mixed in one folder."""
+        path = os.path.join(self.parts, b"run")
+        wanted = "\n".join(words or []).encode()
+        found = b""
+        if os.path.exists(path):
+            with open(path, "rb") as file:
+                found = file.read()
+        elif not self.lines and wanted:
+            with open(path, "wb") as file:
+                file.write(wanted)
+            return
+        if found != wanted:
+            asked = shown(found.replace(b"\n", b" ") or b"tsumego solve")
+            raise Stop(BAD_WORDS, f"{shown(self.folder)} has answers of {asked}")
+
     def lock(self, name, how):
         self.locks.append(os.open(os.path.join(self.parts, name), os.O_RDWR | os.O_CREAT | os.O_CLOEXEC, 0o666))
         try:

@@ -91,6 +91,18 @@ hosts() {
     expect "two hosts: the answers are those of this machine" same_as_here
     host_without_program
     host_ended
+    many_on_a_connection
+}
+many_on_a_connection() {
+    local i
+    mkdir many
+    for i in $(seq 300); do { record B && echo "$i"; } >"many/$i.sgf"; done
+    echo '1/:' >here-alone
+    solve --hosts here-alone --program "$REAL" many many-answers -- --joblog joblog
+    expect "300 records: all are solved" says "300 records: 300 solved (300 Black, 0 White)"
+    expect "300 records: fifty on a connection" is "$(($(wc -l <joblog) - 1))" 6
+    expect "300 records: each answer is that of its record" is "$(cut -f 1,6 many-answers/answers.tsv)" \
+        "$(cd many && for i in *.sgf; do printf '%s\t%s\n' "$i" "$(sha256sum <"$i" | cut -d ' ' -f 1)"; done)"
 }
 same_as_here() {
     "$solve_folder" problems here >/dev/null && diff <(cut -f 1-4,6 here/answers.tsv) <(cut -f 1-4,6 solved/answers.tsv) && diff -r -x '*.tsv' here solved

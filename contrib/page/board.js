@@ -64,7 +64,7 @@ function problemOf(data) {
   const targets = points(data.targets);
   const mover = CELLS[data.mover];
   const region = points(data.region);
-  const used = [...region, ...stones.keys()].filter((point, i) => i < region.length || stones[point] !== ".");
+  const used = usedPoints(data.size, stones, [...region, ...targets]);
   return {
     ...data,
     columns: shownLines(data.size, used.map((point) => point % data.size)),
@@ -75,6 +75,7 @@ function problemOf(data) {
     targets,
     defender: stones[targets[0]],
     region: new Set(region),
+    put: new Set(points(data.put || [])),
     start: {
       stones,
       mover,
@@ -85,6 +86,11 @@ function problemOf(data) {
       worth: null,
     },
   };
+}
+
+// What belongs to a problem: its region and targets, and the stones beside these.
+function usedPoints(size, stones, inside) {
+  return [...new Set([...inside, ...inside.flatMap((point) => neighbours(size, point)).filter((near) => stones[near] !== ".")])];
 }
 
 // Who has won, if anybody has.
@@ -148,9 +154,16 @@ function after(problem, at, point) {
   };
 }
 
-// The positions of the solution: the first right turn, or the first one with its refutation, and the first replies.
+// The positions of the solution: the line that the record gives, or the first right turn, or the first one with its refutation, and
+// the first replies.
 function solution(problem) {
   const line = [problem.start];
+  for (const turn of problem.line || []) {
+    const at = line[line.length - 1], point = pointOf(problem.size, turn);
+    if (barred(problem, at, point)) return line.slice(1);
+    line.push(after(problem, at, point));
+  }
+  if (problem.line) return line.slice(1);
   for (;;) {
     const at = line[line.length - 1];
     const nodes = nextNodes(problem, at);
@@ -177,6 +190,9 @@ function isWon(problem) {
   return words.includes("wins") || (words.length && words.every((word) => word === "loses") ? false : null);
 }
 
+// What is asked, as books say it.
+const shortTask = (problem) => `${SIDES[problem.mover]} to play and ${problem.mover === problem.defender ? "live" : "kill"}`;
+
 function taskOf(problem) {
   const side = SIDES[problem.mover];
   const verb = problem.mover === problem.defender ? "save" : "capture";
@@ -194,8 +210,7 @@ function element(name, attributes, ...inner) {
   return made;
 }
 
-// The first and the last line that are shown: those of the stones and the region and one more, or to the edge where that is
-// near.
+// The first and the last line that are shown: those in use and one more, or to the edge where that is near.
 function shownLines(size, used) {
   const low = Math.min(...used) - 1, high = Math.max(...used) + 1, last = size - 1;
   return size <= 9 ? [0, last] : [low <= 2 ? 0 : low, high >= last - 2 ? last : high];
@@ -256,6 +271,7 @@ function drawPoint(svg, problem, stones, given, point, x, y) {
     if (point === given.last) stone.classList.add("new");
     if (isPut) stone.classList.add("put");
     svg.append(stone);
+    if (problem.put && problem.put.has(point) && cell === problem.stones[point]) svg.append(element("circle", { class: "ring", cx: x, cy: y, r: 15 }));
   } else if (problem.region.has(point) && label === undefined) {
     svg.append(element("rect", { class: "open", x: x - 4, y: y - 4, width: 8, height: 8, rx: 1.5 }));
   }

@@ -2,12 +2,32 @@
 // is "not judged".
 "use strict";
 
-const solved = new Set();
+// What was solved on this device, of this page and of others: by the keys of problems.
+const SOLVED = "tsumego-solved";
+const solved = new Set(solvedBefore());
 let problems = [], number = 0, problem = null, line = [], cursor = null, isShown = false;
 
 const now = () => line[line.length - 1];
 const isOffRecord = () => line.length > 1 && !now().node;
 const nameHere = (point) => nameOf(problem.size, point);
+
+// Where a browser keeps nothing, as for some files, a page remembers for itself alone.
+function solvedBefore() {
+  try {
+    return JSON.parse(localStorage.getItem(SOLVED)) || [];
+  } catch {
+    return [];
+  }
+}
+
+function remember(key) {
+  solved.add(key);
+  try {
+    localStorage.setItem(SOLVED, JSON.stringify([...new Set([...solvedBefore(), ...solved])]));
+  } catch {
+    return;
+  }
+}
 
 function overText(at) {
   const winner = winnerOf(problem, at);
@@ -43,7 +63,7 @@ function play(point) {
 function answer(mine, turn) {
   const reply = turn && after(problem, mine, pointOf(problem.size, turn));
   if (reply) line.push(reply);
-  if (mine.worth === "wins" && (winnerOf(problem, now()) === problem.mover || isAlive(now()))) solved.add(number);
+  if (mine.worth === "wins" && (winnerOf(problem, now()) === problem.mover || isAlive(now()))) remember(keyOf(number));
   show();
   say(saidOf(mine, reply), mine.worth || "unknown");
 }
@@ -114,12 +134,14 @@ function show(moves) {
   byId("note").textContent = shown.comment;
   byId("audit").textContent = auditOf(problem, moves ? moves[0] : line[1]);
   byId("words").textContent = inWords(problem, at.stones, labels);
-  byId("place").textContent = `Problem ${number + 1} of ${problems.length}${solved.has(number) ? " · solved" : ""}`;
+  byId("place").textContent = `Problem ${number + 1} of ${problems.length}${solved.has(keyOf(number)) ? " · solved" : ""}`;
   byId("pass").disabled = isShown || Boolean(winnerOf(problem, at)) || isAlive(at) || isOffRecord();
   byId("back").disabled = byId("again").disabled = !isShown && line.length < 2;
   byId("show").disabled = isShown || (problem.turns.length === 0 && !problem.note);
   showOthers();
 }
+
+const keyOf = (which) => problems[which].key || which;
 
 function openProblem(which) {
   number = which;
@@ -174,7 +196,6 @@ const BUTTONS = {
 // Shows these problems, each given as data.
 function begin(data) {
   problems = data.map(problemOf);
-  solved.clear();
   byId("problem").hidden = problems.length === 0;
   if (problems.length > 0) openProblem(0);
 }

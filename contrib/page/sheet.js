@@ -16,7 +16,7 @@ function sheets(perPage) {
     }
     return made;
   };
-  const asked = problems.map((one, i) => figure(i, one, drawn(one, one.stones, { labels: labelsAt(one, one.labels) }), taskOf(one)));
+  const asked = problems.map((one, i) => figure(i, one, drawn(one, one.stones, { labels: labelsAt(one, one.labels) }), `${shortTask(one)}.`));
   const answers = problems.map((one, i) => {
     const moves = solution(one), won = isWon(one);
     const { svg, told, comment } = diagram(one, moves);

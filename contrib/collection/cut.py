@@ -1,0 +1,142 @@
+"""Cuts a problem out of its game: the fewest stones and the smallest board with which the answers stay, proved again each time."""
+
+from .boards import EMPTY, chain_at, chains, neighbours, without
+
+STEPS = 5_000
+# Lines that stay free between the stones and the edges that they do not touch; the second where walls do not hold with the first.
+MARGINS = (1, 3)
+# A wall keeps so many liberties, if it has them.
+LIBERTIES = 4
+# So near an edge, in lines, that a problem stays as far from it as it is.
+NEAR = 2
+
+
+def is_unsettled(programs, problem, steps=STEPS):
+    """Whether the targets die if the attacker begins, and live if the defender does."""
+    attacker, defender = problem.attacker, problem.defender
+    return (
+        programs.winner(problem.with_mover(attacker), steps) == attacker
+        and programs.winner(problem.with_mover(defender), steps) == defender
+    )
+
+
+def outer_stones(problem):
+    """The stones that may go: those outside the region that are no targets, the farthest from the region first."""
+    distance = distances(problem)
+    kept = set(problem.targets) | set(problem.region)
+    stones = [it for it, cell in enumerate(problem.cells) if cell != EMPTY and it not in kept]
+    return sorted(stones, key=lambda it: (-distance[it], it))
+
+
+def distances(problem):
+    """How many steps each point is from the region and the targets."""
+    distance = {it: 0 for it in (*problem.region, *problem.targets)}
+    waiting = list(distance)
+    for point in waiting:
+        for near in neighbours(problem.size)[point]:
+            if near not in distance:
+                distance[near] = distance[point] + 1
+                waiting.append(near)
+    return distance
+
+
+def with_fewest_stones(programs, problem):
+    """The problem without the stones that it does not need: at once all that are far from the region, then one by one."""
+    stones, distance = outer_stones(problem), distances(problem)
+    for least in (3, 5):
+        made = problem._replace(cells=without(problem.cells, [it for it in stones if distance[it] >= least]))
+        if is_unsettled(programs, made):
+            problem = made
+            break
+    for stone in outer_stones(problem):
+        made = problem._replace(cells=without(problem.cells, [stone]))
+        if is_held(problem, made, stone) and is_unsettled(programs, made):
+            problem = made
+    return problem
+
+
+def is_held(before, made, stone):
+    """Whether a stone that went leaves no hole for people: it was not beside the region or a target, no wall falls apart, and none is
+    easier to take."""
+    inside = set(made.region) | set(made.targets)
+    if any(near in inside for near in neighbours(made.size)[stone]):
+        return False
+    chain, liberties = chain_at(before.size, before.cells, stone)
+    left = chain - {stone}
+    if not left:
+        return True
+    rest, rest_liberties = chain_at(made.size, made.cells, min(left))
+    return rest == left and len(rest_liberties) >= min(LIBERTIES, len(liberties))
+
+
+def extent(lines, size):
+    """The first and last line of these, and where the first one comes on a board of another size: None where anywhere."""
+    first, last = min(lines), max(lines)
+    return first, last, first < NEAR, size - 1 - last < NEAR
+
+
+def placed(first, last, is_low, is_high, old, new, margin):
+    """By how much lines move on a board of `new` rows in place of `old`; None where it is too small."""
+    if is_low and is_high:
+        return 0 if new == old else None
+    room = last - first + 1 + (first if is_low else margin) + (old - 1 - last if is_high else margin)
+    if room > new:
+        return None
+    if is_high:
+        return new - old
+    return 0 if is_low else margin - first
+
+
+def on_board(problem, rows, margin):
+    """The problem on a board of so many rows, in a corner as far as its edges allow; None where there is no room."""
+    size = problem.size
+    used = [it for it, cell in enumerate(problem.cells) if cell != EMPTY] + list(problem.region)
+    down = placed(*extent([it // size for it in used], size), size, rows, margin)
+    right = placed(*extent([it % size for it in used], size), size, rows, margin)
+    if down is None or right is None:
+        return None
+
+    def place(point):
+        return (point // size + down) * rows + point % size + right
+
+    cells = [EMPTY] * (rows * rows)
+    for point, cell in enumerate(problem.cells):
+        if cell != EMPTY:
+            cells[place(point)] = cell
+    return problem.moved(rows, "".join(cells), place)
+
+
+def on_smallest_board(programs, problem, margin):
+    """The problem on the smallest board on which it is the same."""
+    for rows in range(2, problem.size):
+        made = on_board(problem, rows, margin)
+        if made and is_unsettled(programs, made):
+            return made
+    return problem
+
+
+def cut_out(programs, problem, want_walls=False):
+    """The least position that is the same problem; None where more steps than a quick look's do not prove it, or the walls of none
+    hold and that is wanted."""
+    if not is_unsettled(programs, problem):
+        return None
+    fewest = with_fewest_stones(programs, problem)
+    standing = tuple(it for it in fewest.put if fewest.cells[it] != EMPTY)
+    fewest = fewest._replace(put=standing)
+    boards = [on_smallest_board(programs, fewest, margin) for margin in MARGINS]
+    return next((it for it in boards if walls_hold(programs, it)), None) if want_walls else boards[0]
+
+
+def walls_hold(programs, problem, steps=STEPS):
+    """Whether nothing shows that the answers change where both sides may also play at the walls and two lines beyond them."""
+    grown = set(problem.region)
+    for chain, liberties in chains(problem.size, problem.cells):
+        if not liberties.isdisjoint(grown) or any(near in grown for it in chain for near in neighbours(problem.size)[it]):
+            grown |= chain
+    for _ in range(2):
+        grown |= {near for it in grown for near in neighbours(problem.size)[it] if problem.cells[near] == EMPTY}
+    wider = problem._replace(region=tuple(sorted(grown)))
+    attacker, defender = problem.attacker, problem.defender
+    return (
+        programs.winner(wider.with_mover(attacker), steps) != defender and programs.winner(wider.with_mover(defender), steps) != attacker
+    )

@@ -1,6 +1,6 @@
 //! What is said of a claim of death by answers that comes after a record.
 
-ghost use Rattle.std.specs.Prelude.{◌≡◌, ◌++◌, ◌*◌, string_bytes, IfOk, OnOk, IsTrue};
+ghost use Rattle.std.specs.Prelude.{◌≡◌, ◌++◌, ◌*◌, ℕ, string_bytes, IfOk, OnOk, IsTrue};
 ghost use Rattle.go_points.specs.declared.Cell.TheVariants.{Stone};
 ghost use Rattle.go_points.specs.Grid.{cell_at, opponent_of, side_of};
 ghost use Rattle.target_game.specs.State.{start};

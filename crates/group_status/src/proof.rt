@@ -1,7 +1,7 @@
 //! Why a group is alive or dead, where that is proved, as lines for a reader.
 
 use crate::lines::push_point;
-use crate::proven::{Judged, Proven};
+use crate::proven::{Accepted, Proven};
 use go_points::{Colour, Point, PointSet, Size};
 use group_search::{Answer, Kind};
 use group_words::Side;
@@ -134,12 +134,12 @@ fn push_answers_text(
     let owner = colour_name(defender);
     let other = colour_name(defender.opponent());
     let finding = &proven.finding;
-    match &proven.judged {
-        Judged::Alive(_) => write!(
+    match &proven.claim {
+        Accepted::Alive(_) => write!(
             text,
             "  by answers: nothing that {other} plays takes the kept stones, anywhere on the board, if {owner} answers in the region\n"
         )?,
-        Judged::Dead(_) => write!(
+        Accepted::Dead(_) => write!(
             text,
             "  by answers: whatever {owner} plays, anywhere on the board, {other} takes a stone of it by playing in the region\n"
         )?,

@@ -10,7 +10,7 @@ use target_game::Problem;
 
 /// What a judge has accepted of the stones of a finding: a problem with these as its targets, and the whole board as its region.
 #[derive(Drop)]
-pub(crate) enum Judged {
+pub(crate) enum Accepted {
     Alive(Safe),
     Dead(Dead),
 }
@@ -19,22 +19,22 @@ pub(crate) enum Judged {
 #[derive(Drop)]
 pub(crate) struct Proven {
     pub(crate) finding: Finding,
-    pub(crate) judged: Judged,
+    pub(crate) claim: Accepted,
 }
 
 impl Proven {
     /// The problem for which the finding's claim was accepted.
     pub(crate) fn problem(&self) -> &Problem {
-        match &self.judged {
-            Judged::Alive(safe) => &safe.problem,
-            Judged::Dead(dead) => &dead.problem,
+        match &self.claim {
+            Accepted::Alive(safe) => &safe.problem,
+            Accepted::Dead(dead) => &dead.problem,
         }
     }
 
     pub(crate) fn is_alive(&self) -> bool {
-        match &self.judged {
-            Judged::Alive(_) => true,
-            Judged::Dead(_) => false,
+        match &self.claim {
+            Accepted::Alive(_) => true,
+            Accepted::Dead(_) => false,
         }
     }
 }
@@ -55,7 +55,7 @@ pub(crate) fn judged(
         return match safe_stones(alloc, problem, finding.stones, claim)? {
             Some(safe) => Ok(Some(Proven {
                 finding,
-                judged: Judged::Alive(safe),
+                claim: Accepted::Alive(safe),
             })),
             None => Ok(None),
         };
@@ -63,7 +63,7 @@ pub(crate) fn judged(
     match dead_stones(alloc, problem, finding.colour, finding.stones, claim)? {
         Some(dead) => Ok(Some(Proven {
             finding,
-            judged: Judged::Dead(dead),
+            claim: Accepted::Dead(dead),
         })),
         None => Ok(None),
     }

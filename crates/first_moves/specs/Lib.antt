@@ -1,4 +1,3 @@
-pub mod Branch
 pub mod Judged
 pub mod Line
 pub mod Outputs

@@ -170,12 +170,21 @@ fn say_finding<W: Write, N: Write>(
     } else {
         proved_line(alloc, size, target, Some(proven))?
     };
-    note(course, &stones, Said::proved(proven.is_alive()));
+    note(course, &stones, said_of(proven));
     say(line.as_str(), writer)?;
     if request.is_told {
         tell_stones(alloc, size, target, course.stones.len(), course.all, notes)?;
     }
     Ok(())
+}
+
+/// What a proof says of a group.
+fn said_of(proven: &Proven) -> Said {
+    if proven.is_alive() {
+        Said::Proved
+    } else {
+        Said::Dead
+    }
 }
 
 /// Says of each other group, by row and column of its first stone, what the procedures find.
@@ -256,7 +265,7 @@ fn said_and_line(
     let mut silent: Vec<u8> = Vec::new(alloc);
     let is_json = request.form == Form::Json;
     if lives_anywhere(group.problem.colouring(), group.target, group.defender) {
-        return Ok((Said::ProvedAlive, line_by_shape(alloc, group, is_json)?));
+        return Ok((Said::Proved, line_by_shape(alloc, group, is_json)?));
     }
     let quick = Budget {
         steps: (budget.steps / QUICK_SHARE).max(1),

@@ -82,7 +82,9 @@ fn push_proof(text: &mut String, size: Size, proven: &Proven) -> Result<(), Allo
     push_set(text, "kept", size, &finding.kept)?;
     push_points(text, "region", size, &finding.region)?;
     push_points(text, "friends", size, &finding.friends)?;
-    push_points(text, "while", size, &finding.supposed)?;
+    if !finding.supposed.is_empty() {
+        push_points(text, "while", size, &finding.supposed)?;
+    }
     push_answers(text, size, finding.answers.as_slice())?;
     push_claim(text, finding.claim.as_slice())?;
     text.push('}')

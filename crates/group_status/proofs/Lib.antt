@@ -1,1 +1,2 @@
+pub mod Dying
 pub mod Winners

@@ -1,6 +1,6 @@
 //! Groups that die by answers: problems for which a judge has accepted a claim of death.
 
-ghost use Rattle.std.specs.Prelude.{◌≡◌, IfOk, IfSome};
+ghost use Rattle.std.specs.Prelude.{◌≡◌, IfOk, IfSome, IsTrue};
 ghost use Rattle.group_status.specs.Dead.{IsLost};
 
 use crate::alive::problem_of;
@@ -10,8 +10,8 @@ use safe_groups::Stop;
 use std::alloc::{AllocError, Global};
 use target_game::Problem;
 
-/// A problem with the defender to move, whose targets are dead by answers, since a judge has accepted a claim for it: the other side takes
-/// one of them, as long as the supposed stones, which are its own on the colouring, have liberties elsewhere.
+/// A problem whose targets are dead by answers whoever is to move, since a judge has accepted a claim for it with the defender to move:
+/// the other side takes one of them, as long as the supposed stones, which are its own on the colouring, have liberties elsewhere.
 #[derive(Drop)]
 pub(crate) struct Dead {
     pub(crate) problem: Problem,
@@ -19,10 +19,24 @@ pub(crate) struct Dead {
     ghost dead: { ∥ IsLost problem supposed ∥₁ },
 }
 
+/// Whether the defender is to move, and nobody has just passed. A claim with the attacker to move would not show that the group is dead.
+fn is_owners_turn(problem: &Problem) -> bool
+    ensures mover { IsTrue result → problem.now.mover ≡ problem.now.game.defender }
+    ensures passes { IsTrue result → problem.now.passes ≡ 0 }
+{
+    if problem.mover() != problem.defender() {
+        return false;
+    }
+    problem.passes() == 0
+}
+
 /// The problem, if a judge accepts this claim for it. It fails only if memory is refused.
 fn accepted(alloc: Global, problem: Problem, claim: &[u8]) -> Result<Option<Dead>, AllocError>
     ensures { IfOk result (λ o. IfSome o (λ a. a.problem ≡ problem)) }
 {
+    if !is_owners_turn(&problem) {
+        return Ok(None);
+    }
     let mut nothing = b"".as_slice();
     match judge(alloc, &problem, claim, &mut nothing) {
         Ok(verdict) => {

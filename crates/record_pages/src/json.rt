@@ -23,21 +23,21 @@ use tsumego_problem::{first_marked, turn_at, values_at};
 /// What the audit refuses is refused, unless `shows_unaudited`: then it is shown as it is written, and said not to be audited.
 pub fn page_json(
     alloc: Global,
-    record: &Tree,
+    tree: &Tree,
     original: Option<&Tree>,
     cut: Cut,
     shows_unaudited: bool,
 ) -> Result<String, NoPage>
-    ensures { IfOk result (λ text. SaysAnswer record.now (string_bytes text)) }
+    ensures { IfOk result (λ text. SaysAnswer tree.now (string_bytes text)) }
 {
-    let puzzle = puzzle_of(alloc, record, cut, shows_unaudited)?;
+    let puzzle = puzzle_of(alloc, tree, cut, shows_unaudited)?;
     if !is_of_problem(alloc, &puzzle.problem, original)? {
         return Err(NoPage::OtherProblem);
     }
     let mut text = String::new(alloc);
     push_problem(alloc, &mut text, &puzzle.problem)?;
-    push_titles(alloc, &mut text, record, original)?;
-    let turns = turns_text(alloc, &puzzle, record)?;
+    push_titles(alloc, &mut text, tree, original)?;
+    let turns = turns_text(alloc, &puzzle, tree)?;
     push_winner(&mut text, puzzle.answer)?;
     text.push_str(turns.as_str())?;
     Ok(text)

@@ -16,6 +16,6 @@ _group_status() {
         return
         ;;
     esac
-    mapfile -t COMPREPLY < <(compgen -W '--target --node --all --score --quick --first --steps --position-only --json --sgf --claims --full-claims --progress --help -h --version -V' -- "$word")
+    mapfile -t COMPREPLY < <(compgen -W '--target --node --all --score --quick --why --first --answer --steps --position-only --json --sgf --claims --full-claims --progress --help -h --version -V' -- "$word")
 }
 complete -F _group_status group_status

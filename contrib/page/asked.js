@@ -45,6 +45,11 @@ function drawnAnswer(now) {
   } else if (ask.answer.proof) {
     shown.region = new Set(pointsNamed(size, ask.answer.proof.region));
     for (const one of pointsNamed(size, ask.answer.proof.kept)) shown.marks.set(one, "kept");
+  } else {
+    for (const one of ask.answer.first_moves || []) {
+      for (const inside of pointsNamed(size, one.proof.region)) shown.region.add(inside);
+      for (const move of pointsNamed(size, [one.move])) shown.labels.set(move, one.first);
+    }
   }
   return shown;
 }
@@ -138,9 +143,9 @@ function drawMeaning() {
   byId("answer").hidden = !found && !ask.groups;
   byId("playing").hidden = !questions[ask.chosen];
   byId("further").hidden = questions.length === 0;
-  const sentences = found ? wordSentences(found) : groupSentences(ask.groups || []);
-  byId("meaning").replaceChildren(...sentences.map((it) => element("p", {}, it)));
   const now = positionAt(ask.node), defender = found && now.stones[pointNamed(now.size, found.target)];
+  const sentences = found ? wordSentences(found, defender) : groupSentences(ask.groups || []);
+  byId("meaning").replaceChildren(...sentences.map((it) => element("p", {}, it)));
   byId("questions").replaceChildren(...(found ? bestQuestions(found, defender) : []).map((it) => questionItem(it, defender)));
   byId("count").textContent = `All ${questions.length} questions that were asked`;
   byId("every").replaceChildren(...questions.map((_, i) => questionItem(i, defender)));

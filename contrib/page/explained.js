@@ -39,19 +39,37 @@ function statusSentence(found) {
   return `${found.target}: unknown${found.leans && found.leans !== "none" ? `; ${LEANS[found.leans]} (${found.word})` : ""}.`;
 }
 
+const listed = (names) => (Array.isArray(names) ? names.join(", ") : String(names));
+
+// What a proof rests on, and its answers.
+function proofSentences(proof) {
+  const told = [];
+  if (proof.while && proof.while.length) told.push(`It holds as long as these have liberties elsewhere: ${listed(proof.while)}.`);
+  if (proof.friends && proof.friends.length) told.push(`It rests on these stones too, which stay by claims of their own: ${listed(proof.friends)}.`);
+  if (proof.answers && proof.answers.length) told.push(`Answers: ${proof.answers.map((pair) => pair.join(" → ")).join(", ")}.`);
+  return told;
+}
+
+// What a first move does that is proved to decide the group, whose side is `defender`.
+function firstMoveSentences(one, defender) {
+  const side = BY_LETTER[one.first], by = one.move ? ` at ${one.move}` : "";
+  const end = side === defender ? "the group lives, whatever is played then" : "the group is taken, whatever its owner plays then";
+  return [`If ${SIDES[side]} moves first${by}, ${end}. This is proved, on the whole board.`, ...proofSentences(one.proof)];
+}
+
 // What the word means, and, where it is proved, by what.
-function wordSentences(found) {
-  const proof = found.proof;
-  if (found.word !== "proved") return [WORDS[found.word] || ""];
+function wordSentences(found, defender) {
+  const proof = found.proof, firsts = (found.first_moves || []).flatMap((one) => firstMoveSentences(one, defender));
+  if (found.word !== "proved") return [WORDS[found.word] || "", ...firsts];
+  if (firsts.length) return firsts;
   if (!proof || proof.kind === "shape") {
     return ["This is proved: nothing that is played takes the group, anywhere on the board, even if its own side always passes."];
   }
-  const list = (names) => (Array.isArray(names) ? names.join(", ") : String(names));
-  const told = ["This is proved, on the whole board: whatever is played at the squares is answered, and the stones with a frame stay."];
-  if (proof.while && proof.while.length) told.push(`It holds as long as these have liberties elsewhere: ${list(proof.while)}.`);
-  if (proof.friends && proof.friends.length) told.push(`It rests on these stones too, which stay by claims of their own: ${list(proof.friends)}.`);
-  if (proof.answers && proof.answers.length) told.push(`Answers: ${proof.answers.map((pair) => pair.join(" → ")).join(", ")}.`);
-  return told;
+  const meaning =
+    found.status === "dead"
+      ? "This is proved, on the whole board: whatever its owner plays, the other side takes the group by playing at the squares."
+      : "This is proved, on the whole board: whatever is played at the squares is answered, and the stones with a frame stay.";
+  return [meaning, ...proofSentences(proof)];
 }
 
 // A question in a sentence. `defender` is the side of the group.

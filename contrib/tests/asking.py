@@ -323,8 +323,31 @@ def test_proof(asking):
         ["liberties elsewhere: G2" in meaning, "rests on these stones too" in meaning and "F7" in meaning],
         [True, True],
     )
-    asking.run("ask.answer.proof = undefined; ask.answer.questions = undefined; ask.chosen = firstShown(ask.answer, 'X'); showAsked()")
+    asking.run("ask.answer.status = 'dead'; showAsked()")
+    expect("who takes a dead group", "whatever its owner plays, the other side takes the group" in asking.text("meaning"))
+    asking.run("ask.answer.proof = undefined; ask.answer.questions = undefined; ask.answer.status = 'alive'; ask.chosen = firstShown(ask.answer, 'X'); showAsked()")
     expect("by its shape", "nothing that is played takes the group" in asking.text("meaning"))
+
+
+def test_first_moves(asking):
+    """Of a group that each side decides by moving first both moves are named, and shown on the board."""
+    asking.open()
+    asking.run("openRecord(arguments[0])", PROBLEM)
+    proofs = {move: {"kept": [], "region": [move], "friends": [], "answers": [["D7", move]]} for move in ("B7", "C7")}
+    first_moves = [
+        {"first": "W", "winner": "W", "move": "B7", "proof": proofs["B7"]},
+        {"first": "B", "winner": "B", "move": "C7", "proof": proofs["C7"]},
+    ]
+    found = {"target": "A6", "status": "unsettled", "word": "proved", "questions": [], "first_moves": first_moves}
+    asking.run(
+        "ask.answer = arguments[0]; ask.chosen = firstShown(ask.answer, 'X'); tell(statusSentence(ask.answer), 'unsettled'); showAsked()",
+        found,
+    )
+    expect("the status", asking.text("told"), "A6 is unsettled (proved).")
+    expect("the first moves", [asking.cell(it) for it in ("ba", "ca")], ["B7, empty, in the region, first move", "C7, empty, in the region, first move"])
+    meaning = asking.text("meaning")
+    expect("what White's does", "If White moves first at B7, the group is taken" in meaning)
+    expect("what Black's does", "If Black moves first at C7, the group lives" in meaning)
 
 
 def test_status(asking):
@@ -369,6 +392,7 @@ def run(folder, shots, programs):
             test_looks(asking)
             test_seen(asking)
             test_proof(asking)
+            test_first_moves(asking)
             test_status(asking)
             test_path(asking)
             asking.open()

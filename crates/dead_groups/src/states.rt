@@ -171,19 +171,11 @@ pub fn is_sure(ground: &Ground, state: &Colouring, number: usize) -> bool
     all_there(&left, &cleared(&bare, ground.keeper), ground.own())
 }
 
-/// Whether the board surely does not fit the state at this point, given a colouring with the state's rooted stones.
-fn misfits_at(
-    ground: &Ground,
-    board: &Colouring,
-    state: &Colouring,
-    rooted: &Colouring,
-    number: usize,
-) -> bool
+/// Whether the board surely does not fit the state at this point, whatever is rooted there.
+fn differs_at(ground: &Ground, board: &Colouring, state: &Colouring, number: usize) -> bool
     requires board { side_of board.now ≡ side_of ground.now.cells }
     requires state { IsState ground.now state.now }
-    requires side { side_of rooted.now ≡ side_of ground.now.cells }
     requires within { number < side_of ground.now.cells * side_of ground.now.cells }
-    requires rooted { IsRootedOn (kill_area ground.now) state.now rooted.now }
     ensures { IsTrue result → Fits (kill_area ground.now) board.now state.now → ⊥ }
 {
     if ground.cells.cell(number) == ground.theirs() {
@@ -197,10 +189,46 @@ fn misfits_at(
     if !there.is_empty() {
         return true;
     }
-    if cell != ground.theirs() {
+    cell != ground.theirs()
+}
+
+/// Whether the board differs so anywhere. Of nearly all boards of a game this is true, and it is soon asked.
+fn differs(ground: &Ground, board: &Colouring, state: &Colouring) -> bool
+    requires board { side_of board.now ≡ side_of ground.now.cells }
+    requires state { IsState ground.now state.now }
+    ensures { IsTrue result → Fits (kill_area ground.now) board.now state.now → ⊥ }
+{
+    for number in 0..state.size().area() {
+        if differs_at(ground, board, state, number) {
+            return true;
+        }
+    }
+    false
+}
+
+/// Whether the board lacks a rooted stone of the state at this point.
+fn lacks_rooted(
+    ground: &Ground,
+    board: &Colouring,
+    state: &Colouring,
+    rooted: &Colouring,
+    number: usize,
+) -> bool
+    requires board { side_of board.now ≡ side_of ground.now.cells }
+    requires state { IsState ground.now state.now }
+    requires side { side_of rooted.now ≡ side_of ground.now.cells }
+    requires within { number < side_of ground.now.cells * side_of ground.now.cells }
+    requires rooted { IsRootedOn (kill_area ground.now) state.now rooted.now }
+    ensures { IsTrue result → Fits (kill_area ground.now) board.now state.now → ⊥ }
+{
+    if differs_at(ground, board, state, number) {
         return true;
     }
-    rooted.cell(number) != ground.theirs()
+    let is_outside = ground.cells.cell(number) == ground.theirs();
+    if is_outside || state.cell(number) != ground.theirs() {
+        return false;
+    }
+    board.cell(number).is_empty() && rooted.cell(number) != ground.theirs()
 }
 
 /// Whether the board surely does not fit the state.
@@ -209,9 +237,12 @@ pub fn misfits(ground: &Ground, board: &Colouring, state: &Colouring) -> bool
     requires state { IsState ground.now state.now }
     ensures { IsTrue result → Fits (kill_area ground.now) board.now state.now → ⊥ }
 {
+    if differs(ground, board, state) {
+        return true;
+    }
     let rooted = rooted_stones(ground, state);
     for number in 0..state.size().area() {
-        if misfits_at(ground, board, state, &rooted, number) {
+        if lacks_rooted(ground, board, state, &rooted, number) {
             return true;
         }
     }

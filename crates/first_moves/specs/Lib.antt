@@ -1,3 +1,4 @@
+pub mod Branch
 pub mod Judged
 pub mod Line
 pub mod Outputs

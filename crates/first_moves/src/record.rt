@@ -1,7 +1,10 @@
 //! What is found, as a record: a branch for each first turn, with the answer tree below it. A right turn with a large answer tree
 //! has the lines of a short claim below it instead, if one is found.
 
-ghost use Rattle.std.specs.Prelude.{◌≤◌, length};
+ghost use Rattle.std.specs.Prelude.{◌≡◌, ◌≤◌, ◌++◌, ◌∷◌, [], List, codes, length, string_bytes, IfOk, IfSome};
+ghost use Rattle.sgf_text.specs.Trees.{Node};
+ghost use Rattle.tool_parts.specs.Says.{winner_text};
+ghost use Rattle.first_moves.specs.Branch.{label_text, HasLabel, IsLabelled};
 
 use crate::found::{Found, Tally};
 use crate::judged::Judged;
@@ -16,7 +19,7 @@ use sgf_text::{SgfNode, Tree};
 use solution_tree::{Expand, expand, to_sgf};
 use std::alloc::{AllocError, Global};
 use target_game::Problem;
-use tool_parts::{copy_properties, push_nodes, push_trees, single};
+use tool_parts::{copy_properties, push_nodes, push_trees, single, winner_said};
 use tsumego_problem::{first_marked, marks_node, past_nodes, turn_node, values_at};
 
 /// The greatest number of turns of an answer tree below a right turn that is always played out.
@@ -102,7 +105,10 @@ pub(crate) fn branch(
     right: &str,
     short: Option<Budget>,
     left: &mut usize,
-) -> Result<Tree, AllocError> {
+) -> Result<Tree, AllocError>
+    ensures { IfOk result
+        (HasLabel (label_text right.now problem.now.mover one.now.judged)) }
+{
     let turn = turn_node(alloc, problem.size(), problem.mover(), one.turn)?;
     let mover = problem.mover();
     match &one.judged {
@@ -129,12 +135,12 @@ pub(crate) fn branch(
 }
 
 /// Whether the turn is right, and who wins.
-fn said(alloc: Global, word: &str, winner: Colour) -> Result<String, AllocError> {
-    let side = match winner {
-        Colour::Black => "Black",
-        Colour::White => "White",
-    };
-    format!(in alloc; "{word}: {side} wins")
+fn said(alloc: Global, word: &str, winner: Colour) -> Result<String, AllocError>
+    ensures { IfOk result
+        (λ text. string_bytes text ≡ word.now ++ (codes ": " ++ winner_text winner)) }
+{
+    let wins = winner_said(alloc, winner)?;
+    format!(in alloc; "{word}: {wins}")
 }
 
 /// The node with a comment and, if one is named, a mark for the turn.
@@ -143,7 +149,9 @@ pub(crate) fn with_comment(
     node: &SgfNode,
     mark: Option<&[u8]>,
     text: &str,
-) -> Result<SgfNode, AllocError> {
+) -> Result<SgfNode, AllocError>
+    ensures { IfOk result (IsLabelled text.now) }
+{
     let mut properties = copy_properties(alloc, node.as_slice())?;
     if let Some(name) = mark {
         properties.push(single(alloc, name, b"1")?)?;
@@ -156,14 +164,18 @@ pub(crate) fn with_comment(
 }
 
 /// The tree of one node.
-fn single_node(alloc: Global, node: SgfNode) -> Result<Tree, AllocError> {
+fn single_node(alloc: Global, node: SgfNode) -> Result<Tree, AllocError>
+    ensures { IfOk result (λ tree. tree.nodes ≡ node ∷ []) }
+{
     let mut nodes = Vec::new(alloc);
     nodes.push(node)?;
     tree_with(nodes, Vec::new(alloc))
 }
 
 /// The tree of these nodes and child trees.
-pub(crate) fn tree_with(nodes: Vec<SgfNode>, children: Vec<Tree>) -> Result<Tree, AllocError> {
+pub(crate) fn tree_with(nodes: Vec<SgfNode>, children: Vec<Tree>) -> Result<Tree, AllocError>
+    ensures { IfOk result (λ tree. tree.nodes ≡ nodes.items) }
+{
     match Tree::new(nodes, children) {
         Some(tree) => Ok(tree),
         None => Err(AllocError),
@@ -178,7 +190,9 @@ fn tree_of_claim(
     skipped: usize,
     first: SgfNode,
     left: &mut usize,
-) -> Result<Tree, AllocError> {
+) -> Result<Tree, AllocError>
+    ensures { IfOk result (λ tree. (later : List Node) × (tree.nodes ≡ first ∷ later)) }
+{
     let answer = match expand(alloc, checked, *left) {
         Ok(answer) => answer,
         Err(Expand::TooLarge) => return single_node(alloc, first),
@@ -205,7 +219,9 @@ fn read_out(
     text: &str,
     short: Option<Budget>,
     left: &mut usize,
-) -> Result<Option<Tree>, AllocError> {
+) -> Result<Option<Tree>, AllocError>
+    ensures { IfOk result (λ o. IfSome o (HasLabel text.now)) }
+{
     let Some(budget) = short else {
         return Ok(None);
     };
@@ -221,33 +237,47 @@ fn read_out(
 }
 
 /// The branch of the record's first turn, with this comment before the turn's own.
-fn read_branch(alloc: Global, whole: &Tree, text: &str) -> Result<Tree, AllocError> {
+fn read_branch(alloc: Global, whole: &Tree, text: &str) -> Result<Tree, AllocError>
+    ensures { IfOk result (HasLabel text.now) }
+{
     let from = first_below(whole.nodes(), 0);
+    let Some((first, later)) = whole.nodes()[from..].split_first() else {
+        // No record is without a turn.
+        return Err(AllocError);
+    };
     let mut nodes = Vec::new(alloc);
-    if let Some((first, later)) = whole.nodes()[from..].split_first() {
-        nodes.push(right_node(alloc, first, text)?)?;
-        push_nodes(alloc, later, &mut nodes)?;
-    }
+    nodes.push(right_node(alloc, first, text)?)?;
+    push_nodes(alloc, later, &mut nodes)?;
     let mut children = Vec::new(alloc);
     push_trees(alloc, whole.children(), &mut children)?;
     tree_with(nodes, children)
 }
 
 /// The node as that of a right turn, with this comment before its own.
-fn right_node(alloc: Global, node: &SgfNode, text: &str) -> Result<SgfNode, AllocError> {
+fn right_node(alloc: Global, node: &SgfNode, text: &str) -> Result<SgfNode, AllocError>
+    ensures { IfOk result (IsLabelled text.now) }
+{
     let mut properties = copy_properties(alloc, node.as_slice())?;
     properties.retain(|property| property.ident.as_slice() != b"C".as_slice());
     properties.push(single(alloc, b"TE", b"1")?)?;
-    let mut comment = text.as_bytes().to_vec(alloc)?;
-    if let Some(own) = values_at(b"C", node).first() {
-        comment.push(b'\n')?;
-        comment.extend_from_slice(own.as_slice())?;
-    }
+    let comment = comment_after(alloc, node, text)?;
     properties.push(single(alloc, b"C", comment.as_slice())?)?;
     match SgfNode::new(properties) {
         Some(node) => Ok(node),
         None => Err(AllocError),
     }
+}
+
+/// The text, and on the next lines the node's own comment if it has one.
+fn comment_after(alloc: Global, node: &SgfNode, text: &str) -> Result<Vec<u8>, AllocError>
+    ensures { IfOk result (λ v. (rest : List ℕ) × (v.items ≡ text.now ++ rest)) }
+{
+    let mut comment = text.as_bytes().to_vec(alloc)?;
+    if let Some(own) = values_at(b"C", node).first() {
+        comment.push(b'\n')?;
+        comment.extend_from_slice(own.as_slice())?;
+    }
+    Ok(comment)
 }
 
 /// The place after the problem node and this many more nodes.

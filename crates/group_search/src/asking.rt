@@ -25,18 +25,24 @@ pub fn find_for_stone(
     search.find_for(point)
 }
 
+/// What is found of the stone at the point where this side moves first: that it lives once its owner has moved, or that it is taken by
+/// the other side's first move. That it lives or is taken anyway is not asked, and may be found. `None` if nothing is found.
+pub fn find_by_first_move(
+    alloc: Global,
+    board: &Colouring,
+    past: &[Colouring],
+    mover: Colour,
+    limits: Limits,
+    point: Point,
+) -> Result<Option<Finding>, AllocError> {
+    let mut search = GroupSearch::new(alloc, board, past, Some(mover), limits)?;
+    search.find_for_mover(mover, point)
+}
+
 impl GroupSearch {
     /// What is found of the stone at the point.
     fn find_for(&mut self, point: Point) -> Result<Option<Finding>, AllocError> {
-        let size = self.board.size();
-        if !size.holds(point) {
-            return Ok(None);
-        }
-        let number = point.number(size);
-        let Some(chain) = self.board.chain_at(number) else {
-            return Ok(None);
-        };
-        let Some(owner) = self.board.colour_at(number) else {
+        let Some((owner, chain)) = self.chain_of(point) else {
             return Ok(None);
         };
         self.look_for_life(owner, chain)?;
@@ -44,6 +50,38 @@ impl GroupSearch {
             self.look_for_death(owner.opponent(), chain)?;
         }
         Ok(self.finding_of(point))
+    }
+
+    /// What is found of the stone at the point by this side's first move.
+    fn find_for_mover(
+        &mut self,
+        mover: Colour,
+        point: Point,
+    ) -> Result<Option<Finding>, AllocError> {
+        let Some((owner, chain)) = self.chain_of(point) else {
+            return Ok(None);
+        };
+        if mover != owner {
+            self.look_for_death(mover, chain)?;
+            return Ok(self.finding_of(point));
+        }
+        self.look_at_side(owner)?;
+        if !self.proofs.is_known(chain) {
+            let _found = self.try_first_moves(owner, chain)?;
+        }
+        Ok(self.finding_of(point))
+    }
+
+    /// The colour and the chain of the stone at the point.
+    fn chain_of(&self, point: Point) -> Option<(Colour, usize)> {
+        let size = self.board.size();
+        if !size.holds(point) {
+            return None;
+        }
+        let number = point.number(size);
+        let chain = self.board.chain_at(number)?;
+        let owner = self.board.colour_at(number)?;
+        Some((owner, chain))
     }
 
     /// Asks whether the chain lives: by a first look at its side, then by itself, then if its owner, who is to move, does so first.

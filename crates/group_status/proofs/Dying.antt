@@ -1,20 +1,28 @@
--- A claim of death that is judged with the defender to move shows that the group is dead whoever is.
-use Rattle.std.proofs.Common.{◌≡◌, sym, ◌∙◌, ℕ, IsTrue, List, inl, inr}
+-- What a claim of death shows that is judged with one side or the other to move.
+use Rattle.std.proofs.Common.{◌≡◌, sym, ◌∙◌, List, inl, inr}
 use Rattle.go_points.specs.declared.Cell.{Cell}
-use Rattle.go_points.specs.declared.Cell.TheVariants.{Stone}
-use Rattle.go_points.specs.Grid.{cell_at, opponent_of}
+use Rattle.go_points.specs.Grid.{opponent_of}
 use Rattle.go_points.proofs.Cells.{opponent_ne}
-use Rattle.target_game.specs.State.{GameProblem, start}
-use Rattle.target_game.specs.Legal.{holds_point}
-use Rattle.dead_groups.specs.Claims.{IsDeadNow}
-use Rattle.group_status.specs.Dead.{IsLost}
+use Rattle.target_game.specs.State.{GameProblem}
+use Rattle.group_status.specs.Dead.{IsTakenNow, IsLost, IsLostByMove}
 
-pub lost_by : (q : GameProblem) (supposed : List Cell) → q.mover ≡ q.game.defender → q.passes ≡ 0
-    → ((stones : List ℕ) → ((p : ℕ) → cell_at supposed p ≡ Stone (opponent_of q.game.defender) → IsTrue (holds_point stones p)) → IsDeadNow stones (start q)) → IsLost q supposed
+-- With the defender to move: the group is dead whoever is.
+pub lost_by : (q : GameProblem) (supposed : List Cell) → q.mover ≡ q.game.defender → q.passes ≡ 0 → IsTakenNow q supposed → IsLost q supposed
 lost_by q supposed mine none now = (
   none,
   λ stones standing. elim (now stones standing) [
     | inl killer ↦ absurd (opponent_ne q.game.defender (sym mine ∙ killer.0))
     | inr answered ↦ answered.1.1
+  ],
+)
+
+-- With the attacker to move: it is taken by that move.
+pub lost_by_move : (q : GameProblem) (supposed : List Cell) → q.mover ≡ opponent_of q.game.defender → q.passes ≡ 0 → IsTakenNow q supposed → IsLostByMove q supposed
+lost_by_move q supposed mine none now = (
+  none,
+  mine,
+  λ stones standing. elim (now stones standing) [
+    | inl killer ↦ killer.1.1
+    | inr answered ↦ absurd (opponent_ne q.game.defender (sym answered.0 ∙ mine))
   ],
 )

@@ -3,19 +3,21 @@
 
 use crate::asking::search_of;
 use crate::by_shape::lives_anywhere;
+use crate::first_moves::FirstMoves;
 use crate::group::Group;
 use crate::json::judged_object;
 use crate::lines::{first_line, open_line};
+use crate::move_proof::unsettled_line;
 use crate::past::without_past;
 use crate::progress::tell_stones;
 use crate::proof::proved_line;
-use crate::proof_json::proof_object;
+use crate::proof_json::{first_moves_object, proof_object};
 use crate::proven::{Proven, judged};
 use crate::table::Table;
 use crate::totals::{Said, Totals};
 use crate::verdict::judge;
 use go_points::{Cell, Colouring, Point, PointSet};
-use group_words::{Form, Judgement, Request, Word};
+use group_words::{Form, Judgement, Request, Side, Word};
 use pn_search::Budget;
 use sgf_text::write_bytes;
 use std::alloc::{AllocError, Global};
@@ -254,7 +256,8 @@ fn problem_at(
     }
 }
 
-/// What is said about the group: what a quick look found, if that is sure, and otherwise what both procedures find.
+/// What is said about the group: that each side's first move decides it, if that is proved; what a quick look found, if that is sure;
+/// and otherwise what both procedures find.
 fn said_and_line(
     alloc: Global,
     group: &Group,
@@ -271,14 +274,39 @@ fn said_and_line(
         steps: (budget.steps / QUICK_SHARE).max(1),
         table: budget.table,
     };
+    let moves = FirstMoves::of(alloc, group, None, quick.steps)?;
+    if let Some(line) = line_by_moves(alloc, group, &moves, is_json)? {
+        return Ok((Said::Unsettled, line));
+    }
     let mut table = Table::new(alloc, quick, false);
-    let judged = judge(alloc, group, &mut table, true, &mut silent)?;
+    let judged = judge(alloc, group, &mut table, true, &moves, &mut silent)?;
     if judged.word == Word::Sure || request.is_quick {
-        return line_of(alloc, group, &table, &judged, is_json);
+        return line_of(alloc, group, &table, &judged, &moves, is_json);
     }
     let mut table = Table::new(alloc, budget, false);
-    let judged = judge(alloc, group, &mut table, false, &mut silent)?;
-    line_of(alloc, group, &table, &judged, is_json)
+    let judged = judge(alloc, group, &mut table, false, &moves, &mut silent)?;
+    line_of(alloc, group, &table, &judged, &moves, is_json)
+}
+
+/// The line or the object of a group that each side is proved to decide by moving first, where nothing is supposed for it.
+fn line_by_moves(
+    alloc: Global,
+    group: &Group,
+    moves: &FirstMoves,
+    is_json: bool,
+) -> Result<Option<String>, AllocError> {
+    let (size, target) = (group.problem.size(), group.target);
+    match moves.both() {
+        Some((attacker, _)) if moves.outright(Side::Attacker).is_some() => {
+            if !is_json {
+                return Ok(Some(unsettled_line(alloc, size, target, attacker)?));
+            }
+            let stones = group.position.stones(target);
+            let text = first_moves_object(alloc, size, target, &stones, None, moves)?;
+            Ok(Some(text))
+        }
+        _ => Ok(None),
+    }
 }
 
 /// The line or the object of a group that lives by its shape.
@@ -297,11 +325,12 @@ fn line_of(
     group: &Group,
     table: &Table,
     judged: &Judgement,
+    moves: &FirstMoves,
     is_json: bool,
 ) -> Result<(Said, String), AllocError> {
     let said = Said::of(judged);
     if is_json {
-        return Ok((said, judged_object(alloc, group, table, judged)?));
+        return Ok((said, judged_object(alloc, group, table, judged, moves)?));
     }
     if table.is_open() {
         return Ok((said, open_line(alloc, group)?));

@@ -1,8 +1,8 @@
 //! What the search of answers is asked: how much, and about which stone.
 
-use crate::proven::{Proven, judged};
-use go_points::Point;
-use group_search::{GroupSearch, Limits, find_for_stone};
+use crate::proven::{Proven, ProvenByMove, judged, judged_by_move};
+use go_points::{Colour, Point};
+use group_search::{GroupSearch, Limits, find_by_first_move, find_for_stone};
 use std::alloc::{AllocError, Global};
 use target_game::Problem;
 
@@ -41,6 +41,30 @@ pub(crate) fn proven_stone(
     )?;
     match found {
         Some(finding) if finding.stones.has(point) => judged(alloc, problem, finding),
+        _ => Ok(None),
+    }
+}
+
+/// What is proved of the stone at the point in the position of the problem by the first move of this side, whoever's turn it is there.
+pub(crate) fn proven_by_move(
+    alloc: Global,
+    problem: &Problem,
+    point: Point,
+    mover: Colour,
+    steps: u64,
+) -> Result<Option<ProvenByMove>, AllocError> {
+    let found = find_by_first_move(
+        alloc,
+        problem.colouring(),
+        problem.history(),
+        mover,
+        limits(steps, steps.saturating_mul(QUESTIONS)),
+        point,
+    )?;
+    match found {
+        Some(finding) if finding.stones.has(point) && finding.first.is_some() => {
+            judged_by_move(alloc, problem, finding)
+        }
         _ => Ok(None),
     }
 }

@@ -1,13 +1,14 @@
 //! The questions that were decided, each as a record with its claim, one after another.
 
+use crate::first_moves::FirstMoves;
 use crate::group::Group;
 use crate::json::cause_name;
 use crate::lines::push_point;
-use crate::proven::Proven;
+use crate::proven::{Proven, ProvenByMove};
 use crate::table::Table;
 use cert_check::Checked;
 use go_points::{Colour, Point};
-use group_words::Length;
+use group_words::{Length, Side};
 use pn_search::{Audience, Budget, Cause, Verdict, solve};
 use proof_cert::{CertWrite, Certificate, write_cert, write_short};
 use sgf_text::{WriteFault, write_bytes, write_tree};
@@ -17,8 +18,8 @@ use target_game::Problem;
 use tool_parts::colour_name;
 use tsumego_problem::problem_tree;
 
-/// The lines, and after them each question that was decided: a line that says which, its record, and its claim. If the steps find
-/// no claim of this length, or memory is refused to the search, the line of the question says so, and nothing follows it.
+/// The lines, and after them each first move that is proved to win, and each question that was decided: a line that says which, its
+/// record, and its claim. If the steps find no claim of this length, or memory is refused to the search, the line of the question says so, and nothing follows it.
 ///
 /// The questions are asked again for their claims, which were not kept. The same steps find the same short claims.
 pub(crate) fn claims(
@@ -26,14 +27,16 @@ pub(crate) fn claims(
     group: &Group,
     table: &Table,
     length: Length,
+    first_moves: &FirstMoves,
     lines: &str,
 ) -> Result<String, AllocError> {
     let mut bytes = Vec::new(alloc);
     bytes.extend_from_slice(lines.as_bytes())?;
+    let before = push_first_moves(alloc, group, first_moves, true, &mut bytes)?;
     let asked = table.asked.as_slice();
     for i in 0..asked.len() {
         if let Some(winner) = asked[i].winner {
-            let head = head_of(alloc, group, table, i, &asked[i].problem)?;
+            let head = head_of(alloc, group, table, i, before, &asked[i].problem)?;
             push_claim(
                 alloc,
                 table.budget,
@@ -76,16 +79,72 @@ pub(crate) fn proof_claim(
     text_of(bytes)
 }
 
-/// What the line of a question begins with: its number, who moves first, and the sizes and walls that ask it.
+/// The lines, and after them the claim by answers of each first move that is proved to win.
+pub(crate) fn first_moves_claims(
+    alloc: Global,
+    group: &Group,
+    first_moves: &FirstMoves,
+    lines: &str,
+) -> Result<String, AllocError> {
+    let mut bytes = Vec::new(alloc);
+    bytes.extend_from_slice(lines.as_bytes())?;
+    push_first_moves(alloc, group, first_moves, false, &mut bytes)?;
+    text_of(bytes)
+}
+
+/// Appends these claims, only those for which nothing is supposed if `is_outright`. Returns how many there are.
+fn push_first_moves(
+    alloc: Global,
+    group: &Group,
+    first_moves: &FirstMoves,
+    is_outright: bool,
+    bytes: &mut Vec<u8>,
+) -> Result<usize, AllocError> {
+    let mut count: usize = 0;
+    for side in [Side::Attacker, Side::Defender] {
+        let found = if is_outright {
+            first_moves.outright(side)
+        } else {
+            first_moves.by(side)
+        };
+        if let Some(proven) = found {
+            count = count.saturating_add(1);
+            push_first_move(alloc, group.target, count, proven, bytes)?;
+        }
+    }
+    Ok(count)
+}
+
+/// Appends the claim with this number.
+fn push_first_move(
+    alloc: Global,
+    target: Point,
+    number: usize,
+    proven: &ProvenByMove,
+    bytes: &mut Vec<u8>,
+) -> Result<(), AllocError> {
+    let mut head = String::new(alloc);
+    write!(head, "== {number} ")?;
+    push_point(&mut head, proven.problem().size(), target)?;
+    let mover = colour_name(proven.mover());
+    let owner = colour_name(proven.finding.colour);
+    let fate = if proven.is_alive() { "stands" } else { "dies" };
+    write!(head, ", {mover} first, by answers: {owner} {fate}\n")?;
+    push_question(alloc, proven.problem(), head.as_str(), bytes)?;
+    bytes.extend_from_slice(proven.finding.claim.as_slice())
+}
+
+/// What the line of a question begins with: its number, after so many others, who moves first, and the sizes and walls that ask it.
 fn head_of(
     alloc: Global,
     group: &Group,
     table: &Table,
     place: usize,
+    before: usize,
     problem: &Problem,
 ) -> Result<String, AllocError> {
     let mut text = String::new(alloc);
-    let number = place.saturating_add(1);
+    let number = place.saturating_add(1).saturating_add(before);
     let mover = colour_name(problem.mover());
     write!(text, "== {number} ")?;
     let size = group.position.colouring().size();

@@ -1,7 +1,9 @@
 //! What is found, as JSON: one object for each target, each on its own line.
 
+use crate::first_moves::FirstMoves;
 use crate::group::Group;
 use crate::lines::{push_point, push_turn_name};
+use crate::proof_json::push_first_moves;
 use crate::table::{Row, Table};
 use go_points::{Colour, Point, PointSet, Size};
 use group_words::{Fate, Finding, Judgement, Side, Word};
@@ -30,6 +32,7 @@ pub(crate) fn judged_object(
     group: &Group,
     table: &Table,
     judged: &Judgement,
+    first_moves: &FirstMoves,
 ) -> Result<String, AllocError> {
     let mut text = begun(alloc, group)?;
     let word = judged.word.name();
@@ -43,6 +46,8 @@ pub(crate) fn judged_object(
         let leans = leans(judged.fate);
         write!(text, ",\"leans\":\"{leans}\"")?;
     }
+    push_stones(&mut text, group)?;
+    push_first_moves(&mut text, group.problem.size(), first_moves, true)?;
     push_rows(&mut text, group, table)?;
     Ok(text)
 }
@@ -65,6 +70,7 @@ pub(crate) fn found_object(
         None
     };
     push_winner(&mut text, group.defender, winner)?;
+    push_stones(&mut text, group)?;
     push_rows(&mut text, group, table)?;
     Ok(text)
 }
@@ -106,10 +112,14 @@ fn push_named_winner(
     }
 }
 
-/// Appends the stones of the group, all questions, and the end of the object.
-fn push_rows(text: &mut String, group: &Group, table: &Table) -> Result<(), AllocError> {
+/// Appends the stones of the group.
+fn push_stones(text: &mut String, group: &Group) -> Result<(), AllocError> {
     let stones = group.position.stones(group.target);
-    push_points(text, "stones", group.position.colouring().size(), &stones)?;
+    push_points(text, "stones", group.position.colouring().size(), &stones)
+}
+
+/// Appends all questions, and the end of the object.
+fn push_rows(text: &mut String, group: &Group, table: &Table) -> Result<(), AllocError> {
     text.push_str(",\"questions\":[")?;
     let mut is_first = true;
     for row in table.rows.as_slice() {

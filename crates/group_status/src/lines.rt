@@ -3,7 +3,9 @@
 ghost use Rattle.std.specs.Prelude.{◌≡◌};
 ghost use Rattle.group_words.specs.Sides.{end_text};
 
+use crate::first_moves::FirstMoves;
 use crate::group::Group;
+use crate::move_proof::push_by_move;
 use crate::table::{Row, Table};
 use go_points::{Colour, Point, Size, Turn, to_gtp};
 use group_words::{Fate, Finding, Judgement, Side, Word};
@@ -56,26 +58,42 @@ pub(crate) fn walls_text(walls: Walls) -> &'static str {
     }
 }
 
-/// The lines of a group: its fate, and for each side to move first who wins and on what suppositions.
+/// What is told of a group.
+#[derive(Clone, Copy)]
+pub(crate) struct Report<'a> {
+    pub(crate) group: &'a Group,
+    pub(crate) table: &'a Table,
+    pub(crate) first_moves: &'a FirstMoves,
+    /// Whether what happens at each size is told, with what was supposed.
+    pub(crate) is_why: bool,
+}
+
+/// The lines of a group: its fate, and for each side to move first who wins, or why that is proved.
 pub(crate) fn judged_lines(
     alloc: Global,
-    group: &Group,
-    table: &Table,
+    report: Report<'_>,
     judged: &Judgement,
 ) -> Result<String, AllocError> {
-    let mut text = first_line(alloc, group, judged)?;
-    push_finding(
-        &mut text,
-        group,
-        table,
-        Side::Attacker,
-        &judged.attacker_first,
-    )?;
+    let mut text = first_line(alloc, report.group, judged)?;
+    push_side(&mut text, report, Side::Attacker, &judged.attacker_first)?;
     if let Some(finding) = judged.defender_first {
-        push_finding(&mut text, group, table, Side::Defender, &finding)?;
+        push_side(&mut text, report, Side::Defender, &finding)?;
     }
     text.push_str(trust_text(judged.word))?;
     Ok(text)
+}
+
+/// Appends the lines for one first mover, by what is proved if that is something.
+fn push_side(
+    text: &mut String,
+    report: Report<'_>,
+    first: Side,
+    finding: &Finding,
+) -> Result<(), AllocError> {
+    match report.first_moves.outright(first) {
+        Some(proven) => push_by_move(text, report.group.problem.size(), proven),
+        None => push_finding(text, report, first, finding),
+    }
 }
 
 /// How far a word may be trusted, and what is proved, as a line; empty if no status is named.
@@ -154,11 +172,11 @@ pub(crate) fn leans_text(fate: Fate) -> &'static str {
 /// The lines if only one side was asked about: the winner, if it is decided, and the suppositions.
 pub(crate) fn found_lines(
     alloc: Global,
-    group: &Group,
-    table: &Table,
+    report: Report<'_>,
     first: Side,
     finding: &Finding,
 ) -> Result<String, AllocError> {
+    let group = report.group;
     let mut text = String::new(alloc);
     push_point(&mut text, group.position.colouring().size(), group.target)?;
     let word = finding.word.name();
@@ -169,7 +187,7 @@ pub(crate) fn found_lines(
         }
         _ => write!(text, ": unknown\n")?,
     }
-    push_finding(&mut text, group, table, first, finding)?;
+    push_finding(&mut text, report, first, finding)?;
     text.push_str(trust_text(finding.word))?;
     Ok(text)
 }
@@ -177,16 +195,18 @@ pub(crate) fn found_lines(
 /// Appends the lines for one first mover.
 fn push_finding(
     text: &mut String,
-    group: &Group,
-    table: &Table,
+    report: Report<'_>,
     first: Side,
     finding: &Finding,
 ) -> Result<(), AllocError> {
+    let (group, table) = (report.group, report.table);
     text.push_str("  ")?;
     push_end(text, group, table, first, finding)?;
     text.push('\n')?;
-    for walls in WALLS {
-        push_walls(text, table, group.defender, first, walls)?;
+    if report.is_why {
+        for walls in WALLS {
+            push_walls(text, table, group.defender, first, walls)?;
+        }
     }
     push_ko(text, table, group.defender, first)
 }

@@ -3,16 +3,22 @@
 
 mod alive;
 mod all_groups;
+mod answer;
+mod answer_lines;
+mod answer_record;
+mod answer_to;
 mod asked;
 mod asking;
 mod by_shape;
 mod claims;
 mod dead;
+mod first_moves;
 mod first_procedure;
 mod group;
 mod json;
 mod last_turn;
 mod lines;
+mod move_proof;
 mod past;
 mod program;
 mod progress;

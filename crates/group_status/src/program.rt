@@ -1,26 +1,13 @@
 //! A run of the program: from its words and its input to its answer.
 
 use crate::all_groups::{Stop, all_groups};
-use crate::asking::proven_stone;
-use crate::by_shape::lives_anywhere;
-use crate::claims::{claims, proof_claim};
+use crate::answer::{answered, text_of};
 use crate::group::Group;
-use crate::json::{found_object, judged_object};
 use crate::last_turn::turn_at_node;
-use crate::lines::{found_lines, judged_lines};
 use crate::past::without_past;
-use crate::proof::{Proof, proof_lines};
-use crate::proof_json::proof_object;
-use crate::proven::Proven;
 use crate::score::score;
-use crate::solutions::{Told, answers_record, solutions};
-use crate::table::Table;
-use crate::verdict::{found, judge};
-use go_points::{Colour, to_sgf};
-use group_words::{
-    Finding, Form, Judgement, Length, Request, Side, before_passes, no_marks, no_stone, no_tree,
-    node_asked, read_request,
-};
+use go_points::to_sgf;
+use group_words::{Request, before_passes, no_marks, no_stone, no_tree, node_asked, read_request};
 use pn_search::Budget;
 use record_marks::{NoStone, marked_problem, stone_problem};
 use sgf_text::{Tree, read_tree, write_bytes};
@@ -256,153 +243,4 @@ fn any_problem(alloc: Global, tree: &Tree, node: Option<usize>) -> Result<Proble
         }
     }
     Err(NoStone::NoPoint)
-}
-
-/// The answer.
-fn answered<N: Write>(
-    alloc: Global,
-    request: &Request,
-    group: &Group,
-    budget: Budget,
-    notes: &mut N,
-) -> Result<Output, AllocError> {
-    if let Some(proof) = proof_of(alloc, group, request.steps)? {
-        return answered_by_proof(alloc, request, group, &proof);
-    }
-    let mut table = Table::new(alloc, budget, request.is_told);
-    match request.first {
-        Some(first) => {
-            let finding = found(alloc, group, &mut table, first, request.is_quick, notes)?;
-            answered_one(alloc, request.form, group, &table, first, finding)
-        }
-        None => {
-            let judged = judge(alloc, group, &mut table, request.is_quick, notes)?;
-            answered_both(alloc, request.form, group, &table, &judged)
-        }
-    }
-}
-
-/// Why the group is alive or dead, where that is proved.
-fn proof_of(alloc: Global, group: &Group, steps: u64) -> Result<Option<Proof>, AllocError> {
-    if lives_anywhere(group.problem.colouring(), group.target, group.defender) {
-        let proven = proven_stone(alloc, &group.problem, group.target, 0)?;
-        return Ok(Some(Proof::Shape(proven)));
-    }
-    match proven_stone(alloc, &group.problem, group.target, steps)? {
-        Some(proven) => Ok(Some(Proof::Answers(proven))),
-        None => Ok(None),
-    }
-}
-
-/// The answer if the fate of the group is proved, so that nothing is asked of the procedures.
-fn answered_by_proof(
-    alloc: Global,
-    request: &Request,
-    group: &Group,
-    proof: &Proof,
-) -> Result<Output, AllocError> {
-    let size = group.problem.size();
-    let (target, defender, first) = (group.target, group.defender, request.first);
-    if request.form == Form::Json {
-        let stones = group.position.stones(target);
-        return text_of(proof_object(
-            alloc,
-            size,
-            target,
-            defender,
-            first,
-            &stones,
-            proof.proven(),
-        )?);
-    }
-    let lines = proof_lines(alloc, size, target, defender, first, proof)?;
-    match (request.form, proof.proven()) {
-        (Form::Claims(_), Some(proven)) => {
-            text_of(proof_claim(alloc, proven, target, lines.as_str())?)
-        }
-        (Form::Record, Some(proven)) => {
-            let answers = proven.finding.answers.as_slice();
-            let first = first_in_answers(proven);
-            let record = answers_record(alloc, group, first, answers, lines.as_str())?;
-            Ok(Output::Record(record))
-        }
-        (Form::Record, None) => {
-            let record = answers_record(alloc, group, defender, &[], lines.as_str())?;
-            Ok(Output::Record(record))
-        }
-        _ => text_of(lines),
-    }
-}
-
-/// The side whose moves are answered: the owner's of stones that die, else the other.
-fn first_in_answers(proven: &Proven) -> Colour {
-    if proven.is_alive() {
-        proven.finding.colour.opponent()
-    } else {
-        proven.finding.colour
-    }
-}
-
-/// The answer if only one side was asked about.
-fn answered_one(
-    alloc: Global,
-    form: Form,
-    group: &Group,
-    table: &Table,
-    first: Side,
-    finding: Finding,
-) -> Result<Output, AllocError> {
-    if form == Form::Json {
-        return text_of(found_object(alloc, group, table, first, &finding)?);
-    }
-    let lines = found_lines(alloc, group, table, first, &finding)?;
-    let told = [Told { first, finding }];
-    in_form(alloc, form, group, table, &told, lines)
-}
-
-/// The answer if both sides were asked about.
-fn answered_both(
-    alloc: Global,
-    form: Form,
-    group: &Group,
-    table: &Table,
-    judged: &Judgement,
-) -> Result<Output, AllocError> {
-    if form == Form::Json {
-        return text_of(judged_object(alloc, group, table, judged)?);
-    }
-    let lines = judged_lines(alloc, group, table, judged)?;
-    let attacker = Told {
-        first: Side::Attacker,
-        finding: judged.attacker_first,
-    };
-    match judged.defender_first {
-        Some(finding) => {
-            let first = Side::Defender;
-            let told = [attacker, Told { first, finding }];
-            in_form(alloc, form, group, table, &told, lines)
-        }
-        None => in_form(alloc, form, group, table, &[attacker], lines),
-    }
-}
-
-/// The lines, with the solutions or the claims if they are asked for.
-fn in_form(
-    alloc: Global,
-    form: Form,
-    group: &Group,
-    table: &Table,
-    told: &[Told],
-    lines: String,
-) -> Result<Output, AllocError> {
-    match form {
-        Form::Record => Ok(Output::Record(solutions(alloc, group, table, told, lines.as_str())?)),
-        Form::Claims(length) => text_of(claims(alloc, group, table, length, lines.as_str())?),
-        _ => text_of(lines),
-    }
-}
-
-/// The text, as an answer.
-fn text_of(text: String) -> Result<Output, AllocError> {
-    Ok(Output::Text(text, Status::Answered))
 }

@@ -1,9 +1,9 @@
 //! Why a group is alive or dead, where that is proved, as lines for a reader.
 
 use crate::lines::push_point;
-use crate::proven::{Accepted, Proven};
+use crate::proven::Proven;
 use go_points::{Colour, Point, PointSet, Size};
-use group_search::{Answer, Kind};
+use group_search::{Answer, Finding, Kind};
 use group_words::Side;
 use std::alloc::{AllocError, Global};
 use tool_parts::colour_name;
@@ -47,12 +47,13 @@ pub(crate) fn proof_lines(
     push_point(&mut text, size, target)?;
     push_status(&mut text, defender, first, proof.is_alive())?;
     if let Some(proven) = proof.proven() {
-        push_condition(&mut text, size, proven)?;
+        push_condition(&mut text, size, &proven.finding)?;
     }
     text.push_str(")\n")?;
     match proof {
         Proof::Answers(proven) if proven.finding.kind != Kind::PassAlive => {
-            push_answers_text(&mut text, size, defender, proven)?;
+            push_by_answers(&mut text, defender, proven.is_alive())?;
+            push_details(&mut text, size, &proven.finding, "  ")?;
         }
         _ => text.push_str(
             "  by its shape: nothing that is played takes it, anywhere on the board, even if its own side always passes\n",
@@ -84,12 +85,16 @@ fn push_status(
 }
 
 /// Appends on which stones it depends that they have liberties elsewhere, if on any.
-fn push_condition(text: &mut String, size: Size, proven: &Proven) -> Result<(), AllocError> {
-    let stones = &proven.finding.supposed;
+pub(crate) fn push_condition(
+    text: &mut String,
+    size: Size,
+    finding: &Finding,
+) -> Result<(), AllocError> {
+    let stones = &finding.supposed;
     if stones.is_empty() {
         return Ok(());
     }
-    let killer = match proven.finding.colour.opponent() {
+    let killer = match finding.colour.opponent() {
         Colour::Black => "black",
         Colour::White => "white",
     };
@@ -118,36 +123,40 @@ pub(crate) fn proved_line(
     };
     push_status(&mut text, Colour::Black, None, is_alive)?;
     if let Some(proven) = proven {
-        push_condition(&mut text, size, proven)?;
+        push_condition(&mut text, size, &proven.finding)?;
     }
     text.push_str(")\n")?;
     Ok(text)
 }
 
-/// Appends what stands, where is played, and what it rests on.
-fn push_answers_text(
-    text: &mut String,
-    size: Size,
-    defender: Colour,
-    proven: &Proven,
-) -> Result<(), AllocError> {
+/// Appends the line that says how the group lives or is taken.
+fn push_by_answers(text: &mut String, defender: Colour, is_alive: bool) -> Result<(), AllocError> {
     let owner = colour_name(defender);
     let other = colour_name(defender.opponent());
-    let finding = &proven.finding;
-    match &proven.claim {
-        Accepted::Alive(_) => write!(
+    if is_alive {
+        write!(
             text,
             "  by answers: nothing that {other} plays takes the kept stones, anywhere on the board, if {owner} answers in the region\n"
-        )?,
-        Accepted::Dead(_) => write!(
+        )
+    } else {
+        write!(
             text,
             "  by answers: whatever {owner} plays, anywhere on the board, {other} takes a stone of it by playing in the region\n"
-        )?,
+        )
     }
-    push_points(text, "kept stones", size, &finding.kept)?;
-    push_points(text, "region", size, &finding.region)?;
-    push_answers(text, size, finding.answers.as_slice())?;
-    push_points(text, "rests on", size, &finding.friends)
+}
+
+/// Appends what stands, where is played, and what it rests on, in lines that begin so.
+pub(crate) fn push_details(
+    text: &mut String,
+    size: Size,
+    finding: &Finding,
+    indent: &str,
+) -> Result<(), AllocError> {
+    push_points(text, indent, "kept stones", size, &finding.kept)?;
+    push_points(text, indent, "region", size, &finding.region)?;
+    push_answers(text, indent, size, finding.answers.as_slice())?;
+    push_points(text, indent, "rests on", size, &finding.friends)
 }
 
 /// Appends the names of these points.
@@ -166,6 +175,7 @@ fn push_names(text: &mut String, size: Size, points: &PointSet) -> Result<(), Al
 /// Appends a line with these points, if there are any.
 fn push_points(
     text: &mut String,
+    indent: &str,
     name: &str,
     size: Size,
     points: &PointSet,
@@ -173,17 +183,22 @@ fn push_points(
     if points.is_empty() {
         return Ok(());
     }
-    write!(text, "  {name}: ")?;
+    write!(text, "{indent}{name}: ")?;
     push_names(text, size, points)?;
     text.push('\n')
 }
 
 /// Appends a line with the answers to the other side's first moves, if there are any: first those that must be made.
-fn push_answers(text: &mut String, size: Size, answers: &[Answer]) -> Result<(), AllocError> {
+fn push_answers(
+    text: &mut String,
+    indent: &str,
+    size: Size,
+    answers: &[Answer],
+) -> Result<(), AllocError> {
     if answers.is_empty() {
         return Ok(());
     }
-    text.push_str("  answers: ")?;
+    write!(text, "{indent}answers: ")?;
     let made = push_those(text, size, answers, true, 0)?;
     push_those(text, size, answers, false, made)?;
     text.push('\n')

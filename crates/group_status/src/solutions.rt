@@ -1,13 +1,14 @@
 //! What is found, as one record: the position, and for each side to move first the solution of the largest size that was decided,
 //! with the stones that were placed.
 
+use crate::answer_record::first_move_branch;
+use crate::first_moves::FirstMoves;
 use crate::group::Group;
 use crate::lines::{push_end, walls_text};
 use crate::past::without_past;
 use crate::table::{Row, Table};
 use crate::variation::{Question, alone, node_with, solved, tree_with};
 use go_points::{Colour, PointSet, Turn, to_sgf as letters_of};
-use group_search::Answer;
 use group_words::{Finding, Side};
 use sgf_text::{Bytes, Property, SgfNode, Tree, Values};
 use std::alloc::{AllocError, Global};
@@ -25,56 +26,21 @@ pub(crate) struct Told {
     pub(crate) finding: Finding,
 }
 
-/// The record of a group whose fate is proved, with these lines as the comment of its position, and a variation for each answer to
-/// the moves of this side.
-pub(crate) fn answers_record(
+/// The nodes of the position, the last of which has these marks and a comment.
+pub(crate) fn shown_nodes(
     alloc: Global,
-    group: &Group,
-    first: Colour,
-    answers: &[Answer],
-    lines: &str,
-) -> Result<Tree, AllocError> {
-    let Some(before) = without_past(alloc, &group.problem)? else {
-        return Err(AllocError);
-    };
-    let nodes = shown_nodes(alloc, group, &before, lines)?;
-    let mut branches = Vec::new(alloc);
-    for one in answers {
-        branches.push(answer_branch(alloc, group, first, *one)?)?;
-    }
-    tree_with(nodes, branches)
-}
-
-/// A move of this side's and the answer.
-fn answer_branch(
-    alloc: Global,
-    group: &Group,
-    first: Colour,
-    one: Answer,
-) -> Result<Tree, AllocError> {
-    let size = group.problem.size();
-    let answer = match one.answer {
-        Some(point) => Turn::At(point),
-        None => Turn::Pass,
-    };
-    let mut nodes = Vec::new(alloc);
-    nodes.push(turn_node(alloc, size, first, Turn::At(one.point))?)?;
-    nodes.push(turn_node(alloc, size, first.opponent(), answer)?)?;
-    tree_with(nodes, Vec::new(alloc))
-}
-
-/// The nodes of the position, the last of which has circles on the group and a comment.
-fn shown_nodes(
-    alloc: Global,
-    group: &Group,
     before: &Problem,
+    marks: &Marks,
     lines: &str,
 ) -> Result<Vec<SgfNode>, AllocError> {
     let mut nodes = past_nodes(alloc, before)?;
     let Some(last) = nodes.pop() else {
         return Err(AllocError);
     };
-    nodes.push(shown_node(alloc, &last, group, lines)?)?;
+    let marked = marked_node(alloc, &last, marks)?;
+    let mut properties = copy_properties(alloc, marked.as_slice())?;
+    properties.push(single(alloc, b"C", without_line_end(lines.as_bytes()))?)?;
+    nodes.push(node_with(properties)?)?;
     Ok(nodes)
 }
 
@@ -84,14 +50,22 @@ pub(crate) fn solutions(
     group: &Group,
     table: &Table,
     told: &[Told],
+    first_moves: &FirstMoves,
     lines: &str,
 ) -> Result<Tree, AllocError> {
     let before = shown_past(alloc, group, table)?;
-    let nodes = shown_nodes(alloc, group, &before, lines)?;
+    let marks = Marks {
+        circles: group.position.stones(group.target),
+        crosses: PointSet::new(),
+    };
+    let nodes = shown_nodes(alloc, &before, &marks, lines)?;
     let mut left = MOST_TURNS;
     let mut branches = Vec::new(alloc);
     for one in told {
-        branches.push(branch(alloc, group, table, &before, *one, &mut left)?)?;
+        branches.push(match first_moves.outright(one.first) {
+            Some(proven) => first_move_branch(alloc, group, proven)?,
+            None => branch(alloc, group, table, &before, *one, &mut left)?,
+        })?;
     }
     tree_with(nodes, branches)
 }
@@ -107,20 +81,6 @@ fn shown_past(alloc: Global, group: &Group, table: &Table) -> Result<Problem, Al
     }
 }
 
-/// The node of the position with circles on the group, and a comment.
-fn shown_node(
-    alloc: Global,
-    node: &SgfNode,
-    group: &Group,
-    lines: &str,
-) -> Result<SgfNode, AllocError> {
-    let mut properties = copy_properties(alloc, node.as_slice())?;
-    let stones = group.position.stones(group.target);
-    properties.push(circles(alloc, &stones)?)?;
-    properties.push(single(alloc, b"C", without_line_end(lines.as_bytes()))?)?;
-    node_with(properties)
-}
-
 /// The text without its last line end.
 fn without_line_end(text: &[u8]) -> &[u8] {
     if text.is_empty() {
@@ -129,15 +89,42 @@ fn without_line_end(text: &[u8]) -> &[u8] {
     &text[..text.len() - 1]
 }
 
-/// A circle on each of the points.
-fn circles(alloc: Global, set: &PointSet) -> Result<Property, AllocError> {
+/// Marks on a board (SGF FF[4], "Markup properties").
+#[derive(Clone, Copy)]
+pub(crate) struct Marks {
+    pub(crate) circles: PointSet,
+    pub(crate) crosses: PointSet,
+}
+
+/// The node with these marks as well.
+pub(crate) fn marked_node(
+    alloc: Global,
+    node: &SgfNode,
+    marks: &Marks,
+) -> Result<SgfNode, AllocError> {
+    let mut properties = copy_properties(alloc, node.as_slice())?;
+    push_marks(alloc, b"CR", &marks.circles, &mut properties)?;
+    push_marks(alloc, b"MA", &marks.crosses, &mut properties)?;
+    node_with(properties)
+}
+
+/// Appends a mark of this name on each of the points, if there are any.
+fn push_marks(
+    alloc: Global,
+    name: &[u8],
+    set: &PointSet,
+    properties: &mut Vec<Property>,
+) -> Result<(), AllocError> {
+    if set.is_empty() {
+        return Ok(());
+    }
     let mut values = Vec::new(alloc);
     for point in set.iter() {
         let letters = letters_of(point);
         values.push(Bytes::from_vec(letters.as_slice().to_vec(alloc)?))?;
     }
-    Ok(Property {
-        ident: Bytes::from_vec(b"CR".to_vec(alloc)?),
+    properties.push(Property {
+        ident: Bytes::from_vec(name.to_vec(alloc)?),
         values: Values::from_vec(values),
     })
 }

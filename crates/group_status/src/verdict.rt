@@ -3,6 +3,7 @@
 ghost use Rattle.std.specs.Prelude.{IfOk};
 ghost use Rattle.group_words.specs.Rule.{IsByRule};
 
+use crate::first_moves::FirstMoves;
 use crate::first_procedure::first_procedure;
 use crate::group::Group;
 use crate::second_procedure::second_procedure;
@@ -29,17 +30,21 @@ pub(crate) fn found<N: Write>(
     Ok(together(&one, &other))
 }
 
-/// What becomes of the group.
+/// What becomes of the group. Where a side's first move is proved to win, the procedures are not asked about it.
 pub(crate) fn judge<N: Write>(
     alloc: Global,
     group: &Group,
     table: &mut Table,
     is_quick: bool,
+    first_moves: &FirstMoves,
     notes: &mut N,
 ) -> Result<Judgement, AllocError>
     ensures { IfOk result (λ j. IsByRule j) }
 {
-    let attacker_first = found(alloc, group, table, Side::Attacker, is_quick, notes)?;
+    let attacker_first = match first_moves.finding(Side::Attacker) {
+        Some(proved) => proved,
+        None => found(alloc, group, table, Side::Attacker, is_quick, notes)?,
+    };
     if attacker_first.is_sure_of(Side::Defender) {
         // It also lives if it moves first: it passes.
         return Ok(Judgement {
@@ -49,6 +54,9 @@ pub(crate) fn judge<N: Write>(
             defender_first: None,
         });
     }
-    let asked = found(alloc, group, table, Side::Defender, is_quick, notes)?;
+    let asked = match first_moves.finding(Side::Defender) {
+        Some(proved) => proved,
+        None => found(alloc, group, table, Side::Defender, is_quick, notes)?,
+    };
     Ok(judged_by(attacker_first, &asked))
 }

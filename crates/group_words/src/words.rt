@@ -49,10 +49,14 @@ pub struct Request {
     pub target: String,
     /// The side that moves first, if only one is asked about.
     pub first: Option<Side>,
+    /// The point of a move to which an answer is asked for; none if this is empty.
+    pub answer: String,
     /// The greatest number of steps of the search for each question.
     pub steps: u64,
     /// Whether one procedure is asked in place of two.
     pub is_quick: bool,
+    /// Whether each question of the procedures is told, by its size and walls.
+    pub is_why: bool,
     /// Whether all groups of the position are asked about.
     pub is_all: bool,
     /// Whether the score is asked for.
@@ -80,12 +84,15 @@ fn chosen(alloc: Global, given: &ArgMatches<'_>) -> Result<Request, NoRequest> {
     }
     let target = text(alloc, given, "target")?;
     let first = first(alloc, given)?;
+    let answer = text(alloc, given, "answer")?;
     Ok(Request {
         node: number(given, "node"),
         target,
         first,
+        answer,
         steps: steps(given),
         is_quick: flag(given, "quick"),
+        is_why: flag(given, "why"),
         is_all: flag(given, "all"),
         is_score: flag(given, "score"),
         form: chosen_form(given),
@@ -111,6 +118,21 @@ fn fault_of(given: &ArgMatches<'_>) -> Option<&'static str> {
     if flag(given, "all") || flag(given, "score") {
         return fault_of_board(given, has_target);
     }
+    if given.get_str("answer").is_some() {
+        return fault_of_answer(given, has_target);
+    }
+    if given.get_one::<u64>("node").is_some() && !has_target {
+        return Some("'--node' wants a '--target' at that node, '--all' or '--score'");
+    }
+    None
+}
+
+/// The same where the answer to a move is asked for.
+fn fault_of_answer(given: &ArgMatches<'_>, has_target: bool) -> Option<&'static str> {
+    let has_claims = flag(given, "claims") || flag(given, "full-claims");
+    if flag(given, "sgf") || has_claims || given.get_str("first").is_some() {
+        return Some("'--answer' is told in lines or with '--json', without '--first'");
+    }
     if given.get_one::<u64>("node").is_some() && !has_target {
         return Some("'--node' wants a '--target' at that node, '--all' or '--score'");
     }
@@ -125,9 +147,10 @@ fn fault_of_board(given: &ArgMatches<'_>, has_target: bool) -> Option<&'static s
         );
     }
     let has_claims = flag(given, "claims") || flag(given, "full-claims");
-    if flag(given, "sgf") || has_claims || given.get_str("first").is_some() {
+    let is_of_one = given.get_str("first").is_some() || given.get_str("answer").is_some();
+    if flag(given, "sgf") || has_claims || is_of_one {
         return Some(
-            "'--first', '--sgf' and claims are for one target, and not for '--all' or '--score'",
+            "'--first', '--answer', '--sgf' and claims are for one target, and not for '--all' or '--score'",
         );
     }
     if flag(given, "all") && flag(given, "score") {
@@ -209,8 +232,10 @@ fn program<'a>(alloc: Global) -> Result<clap::Command<'a>, AllocError> {
     let program = with_argument(program, node_argument(alloc))?;
     let program = with_argument(program, target_argument(alloc))?;
     let program = with_argument(program, first_argument(alloc))?;
+    let program = with_argument(program, answer_argument(alloc))?;
     let program = with_argument(program, steps_argument(alloc))?;
     let program = with_argument(program, quick_argument(alloc))?;
+    let program = with_argument(program, why_argument(alloc))?;
     let program = with_argument(program, all_argument(alloc))?;
     let program = with_argument(program, score_argument(alloc))?;
     let program = with_argument(program, json_argument(alloc))?;
@@ -243,6 +268,15 @@ fn first_argument<'a>(alloc: Global) -> Arg<'a> {
         .value_name("SIDE")
 }
 
+fn answer_argument<'a>(alloc: Global) -> Arg<'a> {
+    Arg::new(alloc, "answer")
+        .help(
+            "Says how a group whose status is proved is kept, or taken, after the other side's move at this point",
+        )
+        .long("answer")
+        .value_name("POINT")
+}
+
 fn steps_argument<'a>(alloc: Global) -> Arg<'a> {
     Arg::new(alloc, "steps")
         .help(
@@ -259,6 +293,13 @@ fn quick_argument<'a>(alloc: Global) -> Arg<'a> {
             "Asks by one procedure in place of two: less time, and a word that is right less often",
         )
         .long("quick")
+        .action(ArgAction::SetTrue)
+}
+
+fn why_argument<'a>(alloc: Global) -> Arg<'a> {
+    Arg::new(alloc, "why")
+        .help("Adds what happens at which size, and what was supposed outside")
+        .long("why")
         .action(ArgAction::SetTrue)
 }
 

@@ -99,6 +99,36 @@ impl Ground {
         true
     }
 
+    /// The eye of the chain of this stone that has the point of this number, if it is near the chain and no point of the eye is to be
+    /// avoided; the points near the chain are given.
+    fn eye_at(
+        &self,
+        state: &Colouring,
+        spaces: &ChainBoard,
+        stone: usize,
+        near: &PointSet,
+        avoided: &PointSet,
+        number: usize,
+    ) -> Option<PointSet>
+        requires state { IsState self.now state.now }
+        requires spaces { AreSpaces (area_of self.now) state.now spaces.now }
+        requires side { side_of spaces.now ≡ side_of self.now.cells }
+        requires near { AreBeside (area_of self.now) state.now stone near.now }
+        requires within { number < side_of self.now.cells * side_of self.now.cells }
+        ensures { IfSome result (λ eye. IsEye (area_of self.now) state.now stone
+            (these (side_of self.now.cells) eye)
+            × IsFreeOf (side_of self.now.cells) eye avoided.now) }
+    {
+        let Some(space) = spaces.chain_of(self.size().point_at(number)) else {
+            return None;
+        };
+        if self.are_eye_points(&space, near, avoided) {
+            Some(space)
+        } else {
+            None
+        }
+    }
+
     /// An eye of the chain of this stone, with no point that is to be avoided; the points near the chain are given.
     fn find_eye(
         &self,
@@ -117,13 +147,12 @@ impl Ground {
             × IsFreeOf (side_of self.now.cells) eye avoided.now) }
     {
         let size = self.size();
-        for number in 0..size.area() {
-            let point = size.point_at(number);
-            if near.has(point)
-                && let Some(space) = spaces.chain_of(point)
-                && self.are_eye_points(&space, near, avoided)
-            {
-                return Some(space);
+        for point in near.iter() {
+            if size.holds(point) {
+                let number = point.number(size);
+                if let Some(eye) = self.eye_at(state, spaces, stone, near, avoided, number) {
+                    return Some(eye);
+                }
             }
         }
         None
@@ -152,14 +181,23 @@ impl Ground {
         true
     }
 
+    /// Whether the point of this number has one of the keeper's marks on the colouring, and is in the chain.
+    fn marks_at(&self, marks: &Colouring, chain: &PointSet, number: usize) -> bool
+        requires side { side_of marks.now ≡ side_of self.now.cells }
+        requires within { number < side_of self.now.cells * side_of self.now.cells }
+        ensures { IsTrue result → LeansOn self.now marks.now chain.now }
+    {
+        marks.cell(number).is_stone_of(self.keeper) && chain.has(self.size().point_at(number))
+    }
+
     /// Whether one of the keeper's marks on the colouring is in the chain.
     fn marks_one(&self, marks: &Colouring, chain: &PointSet) -> bool
         requires { side_of marks.now ≡ side_of self.now.cells }
         ensures { IsTrue result → LeansOn self.now marks.now chain.now }
     {
         let size = self.size();
-        for number in 0..size.area() {
-            if marks.cell(number).is_stone_of(self.keeper) && chain.has(size.point_at(number)) {
+        for stone in chain.iter() {
+            if size.holds(stone) && self.marks_at(marks, chain, stone.number(size)) {
                 return true;
             }
         }

@@ -4,4 +4,4 @@ use Rattle.safe_groups.specs.Ground.{IsSafeAs}
 use Rattle.group_status.proofs.alive.accepted.Goals as goal
 
 pub invariant_of-result : goal.invariant_of-result
-invariant_of-result c = record { safe = ∣ subst (λ first. IsSafeAs first (start c.args.problem)) c.in-None.is c.in-Ok.ensures.targets ∣₁ }
+invariant_of-result c = record { safe = ∣ subst (λ first. IsSafeAs first (start c.args.problem)) c.in-None.is c.in-Some.ensures ∣₁ }

@@ -4,4 +4,4 @@ use Rattle.group_status.proofs.dead.accepted.Goals as goal
 pub invariant_of-result : goal.invariant_of-result
 invariant_of-result c =
     let q = c.args.problem in
-    record { dead = ∣ lost_by q c.in-Ok.verdict.supposed (c.is_owners_turn.ensures.mover c.if-not-is_owners_turn.false) (c.is_owners_turn.ensures.passes c.if-not-is_owners_turn.false) (λ stones standing. c.in-Ok.ensures.dead q.game.targets stones c.in-Ok.ensures.targets standing) ∣₁ }
+    record { dead = ∣ lost_by q c.in-Some.supposed (c.is_owners_turn.ensures.mover c.if-not-is_owners_turn.false) (c.is_owners_turn.ensures.passes c.if-not-is_owners_turn.false) c.in-Some.ensures ∣₁ }

@@ -1,12 +1,12 @@
 use Rattle.safe_groups.proofs.Common.{◌≡◌, sym, ◌∙◌, ap, subst, ◌<◌, ◌*◌, not, true, arith, cell_at, same_cell, eq_same_cell, Empty, side_of, number_of, area_of, IsChainOf}
 use Rattle.safe_groups.proofs.Spacing.{is_eye, is_free}
-use Rattle.safe_groups.proofs.ground.Ground.find_eye.Goals as goal
+use Rattle.safe_groups.proofs.ground.Ground.eye_at.Goals as goal
 
-pub returns-in-loop-number : goal.returns-in-loop-number
-returns-in-loop-number c =
-    let g = c.args.self.now in let n = side_of g.cells in let board = c.args.spaces.now in let point = c.point_at-point.result in
-    let back : number_of n point ≡ c.loop-number.number = ap (λ m. number_of m point) (sym c.size-size.ensures.value) ∙ c.point_at-point.ensures.number_back in
-    let on : number_of n point < n * n = omega (arith, back, c.loop-number-test.true, c.area-number-end.ensures.value, ap (λ m. m * m) c.size-size.ensures.value) in
+pub returns-then-are_eye_points : goal.returns-then-are_eye_points
+returns-then-are_eye_points c =
+    let g = c.args.self.now in let n = side_of g.cells in let board = c.args.spaces.now in let point = c.point_at.result in
+    let back : number_of n point ≡ c.args.number = ap (λ m. number_of m point) (sym c.size.ensures.value) ∙ c.point_at.ensures.number_back in
+    let on : number_of n point < n * n = omega (arith, back, c.requires.within) in
     let chain : IsChainOf n board (number_of n point) c.in-Some.space = subst (λ m. IsChainOf m board (number_of m point) c.in-Some.space) c.requires.side c.in-Some.ensures.chain in
     let some : true ≡ not (same_cell (cell_at board (number_of n point)) Empty) = subst (λ m. true ≡ not (same_cell (cell_at board (number_of m point)) Empty)) c.requires.side c.in-Some.ensures.variant in
     let stone : cell_at board (number_of n point) ≡ Empty → ⊥ = λ e. cc (some, ap not (eq_same_cell (cell_at board (number_of n point)) Empty e)) in

@@ -40,16 +40,47 @@ impl From<AllocError> for Stop {
     }
 }
 
-/// The stones whose group was said, and how many of them live, die, or are open.
+/// The stones whose group was said: which of them live, die, are unsettled or open, and how many these are.
 #[derive(Clone, Copy, Debug)]
-struct Course {
+pub(crate) struct Course {
     stones: PointSet,
+    pub(crate) alive: PointSet,
+    pub(crate) dead: PointSet,
+    pub(crate) unsettled: PointSet,
+    pub(crate) open: PointSet,
     totals: Totals,
     /// How many stones the board has.
     all: usize,
 }
 
-/// Writes what is said about every group of the problem's position.
+impl Course {
+    /// Nothing was said of a board with so many stones.
+    fn of(all: usize) -> Course {
+        Course {
+            stones: PointSet::new(),
+            alive: PointSet::new(),
+            dead: PointSet::new(),
+            unsettled: PointSet::new(),
+            open: PointSet::new(),
+            totals: Totals::none(),
+            all,
+        }
+    }
+
+    /// Notes this stone, of which this was said.
+    fn insert(&mut self, said: Said, stone: Point) {
+        self.stones.insert(stone);
+        match said {
+            Said::Proved => self.alive.insert(stone),
+            Said::Alive => self.alive.insert(stone),
+            Said::Dead => self.dead.insert(stone),
+            Said::Unsettled => self.unsettled.insert(stone),
+            Said::Open => self.open.insert(stone),
+        }
+    }
+}
+
+/// Writes what is said about every group of the problem's position. Returns of which stones what was said.
 pub(crate) fn all_groups<W: Write, N: Write>(
     alloc: Global,
     problem: &Problem,
@@ -57,11 +88,11 @@ pub(crate) fn all_groups<W: Write, N: Write>(
     budget: Budget,
     writer: &mut W,
     notes: &mut N,
-) -> Result<(), Stop> {
+) -> Result<Course, Stop> {
     if request.is_position_only {
         return match without_past(alloc, problem)? {
             Some(same) => each_group(alloc, &same, request, budget, writer, notes),
-            None => Ok(()),
+            None => Ok(Course::of(0)),
         };
     }
     each_group(alloc, problem, request, budget, writer, notes)
@@ -75,19 +106,16 @@ fn each_group<W: Write, N: Write>(
     budget: Budget,
     writer: &mut W,
     notes: &mut N,
-) -> Result<(), Stop> {
-    let mut course = Course {
-        stones: PointSet::new(),
-        totals: Totals::none(),
-        all: stone_count(problem.colouring()),
-    };
+) -> Result<Course, Stop> {
+    let mut course = Course::of(stone_count(problem.colouring()));
     say_proved(alloc, problem, request, &mut course, writer, notes)?;
     say_others(alloc, problem, request, budget, &mut course, writer, notes)?;
     if request.form == Form::Json {
-        return Ok(());
+        return Ok(course);
     }
     let line = course.totals.line(alloc)?;
-    say(line.as_str(), writer)
+    say(line.as_str(), writer)?;
+    Ok(course)
 }
 
 /// Writes a whole line.
@@ -119,7 +147,7 @@ fn is_stone(colouring: &Colouring, number: usize) -> bool {
 fn note(course: &mut Course, stones: &PointSet, said: Said) {
     course.totals.add(said, stones.len());
     for stone in stones.iter() {
-        course.stones.insert(stone);
+        course.insert(said, stone);
     }
 }
 

@@ -36,10 +36,7 @@ pub(crate) fn answers_record(
 
 /// Circles on the group's stones and on those that are kept, and crosses on the empty points of the region.
 fn marks_of(group: &Group, finding: Option<&Finding>) -> Marks {
-    let mut marks = Marks {
-        circles: group.position.stones(group.target),
-        crosses: PointSet::new(),
-    };
+    let mut marks = Marks::of(group.position.stones(group.target), PointSet::new());
     let Some(finding) = finding else {
         return marks;
     };

@@ -9,6 +9,7 @@ mod answer_record;
 mod answer_to;
 mod asked;
 mod asking;
+mod board_record;
 mod by_shape;
 mod claims;
 mod dead;

@@ -2,12 +2,15 @@
 
 use crate::all_groups::{Stop, all_groups};
 use crate::answer::{answered, text_of};
+use crate::board_record::board_record;
 use crate::group::Group;
 use crate::last_turn::turn_at_node;
 use crate::past::without_past;
 use crate::score::score;
 use go_points::to_sgf;
-use group_words::{Request, before_passes, no_marks, no_stone, no_tree, node_asked, read_request};
+use group_words::{
+    Form, Request, before_passes, no_marks, no_stone, no_tree, node_asked, read_request,
+};
 use pn_search::Budget;
 use record_marks::{NoStone, marked_problem, stone_problem};
 use sgf_text::{Tree, read_tree, write_bytes};
@@ -159,11 +162,32 @@ fn all_answered<W: Write, N: Write>(
         Ok(problem) => problem,
         Err(none) => return no_stone(alloc, tree, request.node, "", none),
     };
+    if request.form == Form::Record {
+        return all_marked(alloc, &problem, request, budget, notes);
+    }
     match all_groups(alloc, &problem, request, budget, writer, notes) {
-        Ok(()) => text_of(String::new(alloc)),
+        Ok(_) => text_of(String::new(alloc)),
         Err(Stop::Memory) => Err(AllocError),
         Err(Stop::Write) => Ok(Output::Text(String::new(alloc), Status::Failed)),
     }
+}
+
+/// The record in which each stone of the position has a mark.
+fn all_marked<N: Write>(
+    alloc: Global,
+    problem: &Problem,
+    request: &Request,
+    budget: Budget,
+    notes: &mut N,
+) -> Result<Output, AllocError> {
+    let mut bytes = Vec::new(alloc);
+    let Ok(course) = all_groups(alloc, problem, request, budget, &mut bytes, notes) else {
+        return Err(AllocError);
+    };
+    let Ok(lines) = String::from_utf8(bytes) else {
+        return Err(AllocError);
+    };
+    Ok(Output::Record(board_record(alloc, problem, &course, lines)?))
 }
 
 /// The score of the position.

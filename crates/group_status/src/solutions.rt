@@ -54,10 +54,7 @@ pub(crate) fn solutions(
     lines: &str,
 ) -> Result<Tree, AllocError> {
     let before = shown_past(alloc, group, table)?;
-    let marks = Marks {
-        circles: group.position.stones(group.target),
-        crosses: PointSet::new(),
-    };
+    let marks = Marks::of(group.position.stones(group.target), PointSet::new());
     let nodes = shown_nodes(alloc, &before, &marks, lines)?;
     let mut left = MOST_TURNS;
     let mut branches = Vec::new(alloc);
@@ -94,6 +91,21 @@ fn without_line_end(text: &[u8]) -> &[u8] {
 pub(crate) struct Marks {
     pub(crate) circles: PointSet,
     pub(crate) crosses: PointSet,
+    /// Stones with the label `u`, and with the label `?`.
+    pub(crate) unsettled: PointSet,
+    pub(crate) open: PointSet,
+}
+
+impl Marks {
+    /// Circles and crosses alone.
+    pub(crate) fn of(circles: PointSet, crosses: PointSet) -> Marks {
+        Marks {
+            circles,
+            crosses,
+            unsettled: PointSet::new(),
+            open: PointSet::new(),
+        }
+    }
 }
 
 /// The node with these marks as well.
@@ -105,6 +117,12 @@ pub(crate) fn marked_node(
     let mut properties = copy_properties(alloc, node.as_slice())?;
     push_marks(alloc, b"CR", &marks.circles, &mut properties)?;
     push_marks(alloc, b"MA", &marks.crosses, &mut properties)?;
+    let mut labels = Vec::new(alloc);
+    push_labelled(alloc, &marks.unsettled, b":u", &mut labels)?;
+    push_labelled(alloc, &marks.open, b":?", &mut labels)?;
+    if !labels.is_empty() {
+        properties.push(property(alloc, b"LB", labels)?)?;
+    }
     node_with(properties)
 }
 
@@ -119,11 +137,29 @@ fn push_marks(
         return Ok(());
     }
     let mut values = Vec::new(alloc);
+    push_labelled(alloc, set, b"", &mut values)?;
+    properties.push(property(alloc, name, values)?)
+}
+
+/// Appends the letters of each of the points, with this behind them.
+fn push_labelled(
+    alloc: Global,
+    set: &PointSet,
+    behind: &[u8],
+    values: &mut Vec<Bytes>,
+) -> Result<(), AllocError> {
     for point in set.iter() {
         let letters = letters_of(point);
-        values.push(Bytes::from_vec(letters.as_slice().to_vec(alloc)?))?;
+        let mut text = letters.as_slice().to_vec(alloc)?;
+        text.extend_from_slice(behind)?;
+        values.push(Bytes::from_vec(text))?;
     }
-    properties.push(Property {
+    Ok(())
+}
+
+/// The property of this name with these values.
+fn property(alloc: Global, name: &[u8], values: Vec<Bytes>) -> Result<Property, AllocError> {
+    Ok(Property {
         ident: Bytes::from_vec(name.to_vec(alloc)?),
         values: Values::from_vec(values),
     })

@@ -148,10 +148,13 @@ fn fault_of_board(given: &ArgMatches<'_>, has_target: bool) -> Option<&'static s
     }
     let has_claims = flag(given, "claims") || flag(given, "full-claims");
     let is_of_one = given.get_str("first").is_some() || given.get_str("answer").is_some();
-    if flag(given, "sgf") || has_claims || is_of_one {
+    if has_claims || is_of_one {
         return Some(
-            "'--first', '--answer', '--sgf' and claims are for one target, and not for '--all' or '--score'",
+            "'--first', '--answer' and claims are for one target, and not for '--all' or '--score'",
         );
+    }
+    if flag(given, "score") && flag(given, "sgf") {
+        return Some("'--score' has no record; '--all --sgf' marks the stones of all groups");
     }
     if flag(given, "all") && flag(given, "score") {
         return Some(

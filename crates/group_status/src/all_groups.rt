@@ -6,7 +6,7 @@ use crate::by_shape::lives_anywhere;
 use crate::first_moves::FirstMoves;
 use crate::group::Group;
 use crate::json::judged_object;
-use crate::lines::{first_line, open_line};
+use crate::lines::{Report, first_line, open_line};
 use crate::move_proof::unsettled_line;
 use crate::past::without_past;
 use crate::progress::tell_stones;
@@ -15,7 +15,7 @@ use crate::proof_json::{first_moves_object, proof_object};
 use crate::proven::{Proven, judged};
 use crate::table::Table;
 use crate::totals::{Said, Totals};
-use crate::verdict::judge;
+use crate::verdict::{Procedures, is_named, judge_by};
 use go_points::{Cell, Colouring, Point, PointSet};
 use group_words::{Form, Judgement, Request, Side, Word};
 use pn_search::Budget;
@@ -307,13 +307,52 @@ fn said_and_line(
         return Ok((Said::Unsettled, line));
     }
     let mut table = Table::new(alloc, quick, false);
-    let judged = judge(alloc, group, &mut table, true, &moves, &mut silent)?;
-    if judged.word == Word::Sure || request.is_quick {
-        return line_of(alloc, group, &table, &judged, &moves, is_json);
+    let first = judge_by(
+        alloc,
+        group,
+        &mut table,
+        Procedures::First,
+        &moves,
+        &mut silent,
+    )?;
+    let quick = report_of(group, &table, &moves, Procedures::First);
+    if first.word == Word::Sure || request.is_quick {
+        return line_of(alloc, quick, &first, is_json);
     }
-    let mut table = Table::new(alloc, budget, false);
-    let judged = judge(alloc, group, &mut table, false, &moves, &mut silent)?;
-    line_of(alloc, group, &table, &judged, &moves, is_json)
+    let mut other = Table::new(alloc, budget, false);
+    let both = judge_by(
+        alloc,
+        group,
+        &mut other,
+        Procedures::Both,
+        &moves,
+        &mut silent,
+    )?;
+    if !is_named(both.word) && is_named(first.word) {
+        return line_of(alloc, quick, &first, is_json);
+    }
+    line_of(
+        alloc,
+        report_of(group, &other, &moves, Procedures::Both),
+        &both,
+        is_json,
+    )
+}
+
+/// What is told of a group among others.
+fn report_of<'a>(
+    group: &'a Group,
+    table: &'a Table,
+    first_moves: &'a FirstMoves,
+    procedures: Procedures,
+) -> Report<'a> {
+    Report {
+        group,
+        table,
+        first_moves,
+        procedures,
+        is_why: false,
+    }
 }
 
 /// The line or the object of a group that each side is proved to decide by moving first, where nothing is supposed for it.
@@ -350,18 +389,16 @@ fn line_by_shape(alloc: Global, group: &Group, is_json: bool) -> Result<String, 
 /// The line or the object of a group, and what it says. A group about which nothing was decided is open.
 fn line_of(
     alloc: Global,
-    group: &Group,
-    table: &Table,
+    report: Report<'_>,
     judged: &Judgement,
-    moves: &FirstMoves,
     is_json: bool,
 ) -> Result<(Said, String), AllocError> {
     let said = Said::of(judged);
     if is_json {
-        return Ok((said, judged_object(alloc, group, table, judged, moves)?));
+        return Ok((said, judged_object(alloc, report, judged)?));
     }
-    if table.is_open() {
-        return Ok((said, open_line(alloc, group)?));
+    if report.table.is_open() {
+        return Ok((said, open_line(alloc, report.group)?));
     }
-    Ok((said, first_line(alloc, group, judged)?))
+    Ok((said, first_line(alloc, report.group, judged)?))
 }

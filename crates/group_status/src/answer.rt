@@ -64,20 +64,22 @@ fn answered_by_procedures<N: Write>(
     let is_quick = request.is_quick;
     let mut table = Table::new(alloc, budget, request.is_told);
     if let Some(first) = request.first {
-        let finding = found(alloc, group, &mut table, first, is_quick, notes)?;
+        let (finding, procedures) = found(alloc, group, &mut table, first, is_quick, notes)?;
         let report = Report {
             group,
             table: &table,
             first_moves,
+            procedures,
             is_why: request.is_why,
         };
         return answered_one(alloc, request.form, report, first, finding);
     }
-    let judged = judge(alloc, group, &mut table, is_quick, first_moves, notes)?;
+    let (judged, procedures) = judge(alloc, group, &mut table, is_quick, first_moves, notes)?;
     let report = Report {
         group,
         table: &table,
         first_moves,
+        procedures,
         is_why: request.is_why,
     };
     answered_both(alloc, request.form, report, &judged)
@@ -228,7 +230,7 @@ fn answered_one(
     finding: Finding,
 ) -> Result<Output, AllocError> {
     if form == Form::Json {
-        return text_of(found_object(alloc, report.group, report.table, first, &finding)?);
+        return text_of(found_object(alloc, report, first, &finding)?);
     }
     let lines = found_lines(alloc, report, first, &finding)?;
     let told = [Told { first, finding }];
@@ -243,8 +245,7 @@ fn answered_both(
     judged: &Judgement,
 ) -> Result<Output, AllocError> {
     if form == Form::Json {
-        let (group, table) = (report.group, report.table);
-        return text_of(judged_object(alloc, group, table, judged, report.first_moves)?);
+        return text_of(judged_object(alloc, report, judged)?);
     }
     let lines = judged_lines(alloc, report, judged)?;
     let attacker = Told {

@@ -1,10 +1,10 @@
 //! What is found, as JSON: one object for each target, each on its own line.
 
-use crate::first_moves::FirstMoves;
 use crate::group::Group;
-use crate::lines::{push_point, push_turn_name};
+use crate::lines::{Report, push_point, push_turn_name};
 use crate::proof_json::push_first_moves;
 use crate::table::{Row, Table};
+use crate::verdict::Procedures;
 use go_points::{Colour, Point, PointSet, Size};
 use group_words::{Fate, Finding, Judgement, Side, Word};
 use pn_search::Cause;
@@ -29,11 +29,10 @@ fn is_decided(word: Word) -> bool {
 /// The object of a group.
 pub(crate) fn judged_object(
     alloc: Global,
-    group: &Group,
-    table: &Table,
+    report: Report<'_>,
     judged: &Judgement,
-    first_moves: &FirstMoves,
 ) -> Result<String, AllocError> {
+    let group = report.group;
     let mut text = begun(alloc, group)?;
     let word = judged.word.name();
     let fate = if is_decided(judged.word) {
@@ -46,20 +45,29 @@ pub(crate) fn judged_object(
         let leans = leans(judged.fate);
         write!(text, ",\"leans\":\"{leans}\"")?;
     }
+    push_procedures(&mut text, report.procedures)?;
     push_stones(&mut text, group)?;
-    push_first_moves(&mut text, group.problem.size(), first_moves, true)?;
-    push_rows(&mut text, group, table)?;
+    push_first_moves(&mut text, group.problem.size(), report.first_moves, true)?;
+    push_rows(&mut text, group, report.table)?;
     Ok(text)
+}
+
+/// Appends how many procedures the word stands on.
+fn push_procedures(text: &mut String, procedures: Procedures) -> Result<(), AllocError> {
+    text.push_str(match procedures {
+        Procedures::First => ",\"procedures\":1",
+        Procedures::Both => ",\"procedures\":2",
+    })
 }
 
 /// The object if only one side was asked about.
 pub(crate) fn found_object(
     alloc: Global,
-    group: &Group,
-    table: &Table,
+    report: Report<'_>,
     first: Side,
     finding: &Finding,
 ) -> Result<String, AllocError> {
+    let group = report.group;
     let mut text = begun(alloc, group)?;
     let mover = colour_letter(first.colour(group.defender));
     let word = finding.word.name();
@@ -70,8 +78,9 @@ pub(crate) fn found_object(
         None
     };
     push_winner(&mut text, group.defender, winner)?;
+    push_procedures(&mut text, report.procedures)?;
     push_stones(&mut text, group)?;
-    push_rows(&mut text, group, table)?;
+    push_rows(&mut text, group, report.table)?;
     Ok(text)
 }
 

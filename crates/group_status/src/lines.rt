@@ -7,6 +7,7 @@ use crate::first_moves::FirstMoves;
 use crate::group::Group;
 use crate::move_proof::push_by_move;
 use crate::table::{Row, Table};
+use crate::verdict::Procedures;
 use go_points::{Colour, Point, Size, Turn, to_gtp};
 use group_words::{Fate, Finding, Judgement, Side, Word};
 use regions::Walls;
@@ -64,6 +65,8 @@ pub(crate) struct Report<'a> {
     pub(crate) group: &'a Group,
     pub(crate) table: &'a Table,
     pub(crate) first_moves: &'a FirstMoves,
+    /// By which procedures the status is named.
+    pub(crate) procedures: Procedures,
     /// Whether what happens at each size is told, with what was supposed.
     pub(crate) is_why: bool,
 }
@@ -79,7 +82,7 @@ pub(crate) fn judged_lines(
     if let Some(finding) = judged.defender_first {
         push_side(&mut text, report, Side::Defender, &finding)?;
     }
-    text.push_str(trust_text(judged.word))?;
+    text.push_str(trust_text(judged.word, report.procedures))?;
     Ok(text)
 }
 
@@ -97,13 +100,19 @@ fn push_side(
 }
 
 /// How far a word may be trusted, and what is proved, as a line; empty if no status is named.
-pub(crate) fn trust_text(word: Word) -> &'static str {
-    match word {
-        Word::Sure => {
+pub(crate) fn trust_text(word: Word, procedures: Procedures) -> &'static str {
+    match (word, procedures) {
+        (Word::Sure, Procedures::Both) => {
             "  sure: more than 9 of 10 agree with people's answers; what is proved is each question's winner, with the stones put up\n"
         }
-        Word::Likely => {
+        (Word::Likely, Procedures::Both) => {
             "  likely: more than 8 of 10 agree with people's answers; what is proved is each question's winner, with the stones put up\n"
+        }
+        (Word::Sure, Procedures::First) => {
+            "  sure, by one procedure: 40 of 46 agree with people's answers; what is proved is each question's winner, with the stones put up\n"
+        }
+        (Word::Likely, Procedures::First) => {
+            "  likely, by one procedure: 32 of 38 agree with people's answers; what is proved is each question's winner, with the stones put up\n"
         }
         _ => "",
     }
@@ -188,7 +197,7 @@ pub(crate) fn found_lines(
         _ => write!(text, ": unknown\n")?,
     }
     push_finding(&mut text, report, first, finding)?;
-    text.push_str(trust_text(finding.word))?;
+    text.push_str(trust_text(finding.word, report.procedures))?;
     Ok(text)
 }
 

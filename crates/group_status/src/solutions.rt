@@ -138,7 +138,8 @@ fn push_marks(
     }
     let mut values = Vec::new(alloc);
     push_labelled(alloc, set, b"", &mut values)?;
-    properties.push(property(alloc, name, values)?)
+    properties.push(property(alloc, name, values)?)?;
+    Ok(())
 }
 
 /// Appends the letters of each of the points, with this behind them.

@@ -1,4 +1,4 @@
-//! What both procedures find, and what that says about the group.
+//! What the procedures find, and what that says about the group.
 
 ghost use Rattle.std.specs.Prelude.{IfOk};
 ghost use Rattle.group_words.specs.Rule.{IsByRule};
@@ -13,7 +13,40 @@ use regions::Walls;
 use std::alloc::{AllocError, Global};
 use std::io::Write;
 
-/// What is found if this side moves first: by both procedures, or quickly by the first one alone.
+/// Which procedures an answer stands on.
+#[derive(Clone, Copy, Debug, PartialEq, Eq)]
+pub(crate) enum Procedures {
+    /// The first one alone, with its own choice of walls.
+    First,
+    Both,
+}
+
+/// Whether a status is named with this word.
+pub(crate) fn is_named(word: Word) -> bool {
+    word.rank() <= Word::Likely.rank()
+}
+
+/// What these procedures find if this side moves first.
+fn found_by<N: Write>(
+    alloc: Global,
+    group: &Group,
+    table: &mut Table,
+    first: Side,
+    procedures: Procedures,
+    notes: &mut N,
+) -> Result<Finding, AllocError> {
+    match procedures {
+        Procedures::First => first_procedure(alloc, group, table, first, Walls::Alone, notes),
+        Procedures::Both => {
+            let one = first_procedure(alloc, group, table, first, Walls::Hard, notes)?;
+            let other = second_procedure(alloc, group, table, first, notes)?;
+            Ok(together(&one, &other))
+        }
+    }
+}
+
+/// What is found if this side moves first, and by which procedures: by the first one alone if that is sure, or nothing else is wanted;
+/// by both, if they name a winner; else by the first again, if it does.
 pub(crate) fn found<N: Write>(
     alloc: Global,
     group: &Group,
@@ -21,21 +54,24 @@ pub(crate) fn found<N: Write>(
     first: Side,
     is_quick: bool,
     notes: &mut N,
-) -> Result<Finding, AllocError> {
-    if is_quick {
-        return first_procedure(alloc, group, table, first, Walls::Alone, notes);
+) -> Result<(Finding, Procedures), AllocError> {
+    let quick = found_by(alloc, group, table, first, Procedures::First, notes)?;
+    if is_quick || quick.word == Word::Sure {
+        return Ok((quick, Procedures::First));
     }
-    let one = first_procedure(alloc, group, table, first, Walls::Hard, notes)?;
-    let other = second_procedure(alloc, group, table, first, notes)?;
-    Ok(together(&one, &other))
+    let both = found_by(alloc, group, table, first, Procedures::Both, notes)?;
+    if !is_named(both.word) && is_named(quick.word) {
+        return Ok((quick, Procedures::First));
+    }
+    Ok((both, Procedures::Both))
 }
 
-/// What becomes of the group. Where a side's first move is proved to win, the procedures are not asked about it.
-pub(crate) fn judge<N: Write>(
+/// What becomes of the group by these procedures. Where a side's first move is proved to win, they are not asked about it.
+pub(crate) fn judge_by<N: Write>(
     alloc: Global,
     group: &Group,
     table: &mut Table,
-    is_quick: bool,
+    procedures: Procedures,
     first_moves: &FirstMoves,
     notes: &mut N,
 ) -> Result<Judgement, AllocError>
@@ -43,7 +79,7 @@ pub(crate) fn judge<N: Write>(
 {
     let attacker_first = match first_moves.finding(Side::Attacker) {
         Some(proved) => proved,
-        None => found(alloc, group, table, Side::Attacker, is_quick, notes)?,
+        None => found_by(alloc, group, table, Side::Attacker, procedures, notes)?,
     };
     if attacker_first.is_sure_of(Side::Defender) {
         // It also lives if it moves first: it passes.
@@ -56,7 +92,29 @@ pub(crate) fn judge<N: Write>(
     }
     let asked = match first_moves.finding(Side::Defender) {
         Some(proved) => proved,
-        None => found(alloc, group, table, Side::Defender, is_quick, notes)?,
+        None => found_by(alloc, group, table, Side::Defender, procedures, notes)?,
     };
     Ok(judged_by(attacker_first, &asked))
+}
+
+/// What becomes of the group, and by which procedures, chosen as `found` does.
+pub(crate) fn judge<N: Write>(
+    alloc: Global,
+    group: &Group,
+    table: &mut Table,
+    is_quick: bool,
+    first_moves: &FirstMoves,
+    notes: &mut N,
+) -> Result<(Judgement, Procedures), AllocError>
+    ensures { IfOk result (λ j. IsByRule j.0) }
+{
+    let quick = judge_by(alloc, group, table, Procedures::First, first_moves, notes)?;
+    if is_quick || quick.word == Word::Sure {
+        return Ok((quick, Procedures::First));
+    }
+    let both = judge_by(alloc, group, table, Procedures::Both, first_moves, notes)?;
+    if !is_named(both.word) && is_named(quick.word) {
+        return Ok((quick, Procedures::First));
+    }
+    Ok((both, Procedures::Both))
 }

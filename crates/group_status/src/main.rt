@@ -16,6 +16,7 @@ mod dead;
 mod first_moves;
 mod first_procedure;
 mod group;
+mod group_line;
 mod json;
 mod last_turn;
 mod lines;

@@ -9,6 +9,10 @@ const WORDS = {
   leaning: "Only one procedure decides. Of 84 such leanings 53 agreed with people's answers.",
   unknown: "No question was decided.",
 };
+const WORDS_OF_ONE = {
+  sure: "One procedure says so though everything that is supposed favours the other side. Of 46 such answers 40 agreed with people's.",
+  likely: "One procedure says so, by walls as they stand. Of 38 such answers 32 agreed with people's.",
+};
 const WALLS = {
   open: "no stones are supposed",
   natural: "walls stand where the attacker is nearer",
@@ -60,7 +64,8 @@ function firstMoveSentences(one, defender) {
 // What the word means, and, where it is proved, by what.
 function wordSentences(found, defender) {
   const proof = found.proof, firsts = (found.first_moves || []).flatMap((one) => firstMoveSentences(one, defender));
-  if (found.word !== "proved") return [WORDS[found.word] || "", ...firsts];
+  const words = found.procedures === 1 ? { ...WORDS, ...WORDS_OF_ONE } : WORDS;
+  if (found.word !== "proved") return [words[found.word] || "", ...firsts];
   if (firsts.length) return firsts;
   if (!proof || proof.kind === "shape") {
     return ["This is proved: nothing that is played takes the group, anywhere on the board, even if its own side always passes."];

@@ -121,6 +121,7 @@ QUESTIONS = {
             "node": NODE,
             "target": TARGET,
             "first": Choice("the side that moves first", "attacker", "defender"),
+            "answer": Points("a move of the side that would change a proved status, as D17 or dc"),
             "all": Flag("every group of the position"),
             "quick": Flag("one procedure in place of two"),
             "steps": STEPS,

@@ -59,10 +59,15 @@ pub(crate) fn solutions(
     let mut left = MOST_TURNS;
     let mut branches = Vec::new(alloc);
     for one in told {
-        branches.push(match first_moves.outright(one.first) {
-            Some(proven) => first_move_branch(alloc, group, proven)?,
-            None => branch(alloc, group, table, &before, *one, &mut left)?,
-        })?;
+        if first_moves.outright(one.first).is_none() {
+            branches.push(branch(alloc, group, table, &before, *one, &mut left)?)?;
+        }
+    }
+    // What is proved comes last, so that the main line is a solution, which can be audited.
+    for one in told {
+        if let Some(proven) = first_moves.outright(one.first) {
+            branches.push(first_move_branch(alloc, group, proven)?)?;
+        }
     }
     tree_with(nodes, branches)
 }

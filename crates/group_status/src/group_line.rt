@@ -134,5 +134,5 @@ fn line_of(
     if report.table.is_open() {
         return Ok((said, open_line(alloc, report.group)?));
     }
-    Ok((said, first_line(alloc, report.group, judged)?))
+    Ok((said, first_line(alloc, report, judged)?))
 }

@@ -1,7 +1,7 @@
 //! What is found, as JSON: one object for each target, each on its own line.
 
 use crate::group::Group;
-use crate::lines::{Report, push_point, push_turn_name};
+use crate::lines::{Report, is_by_ko, push_point, push_turn_name};
 use crate::proof_json::push_first_moves;
 use crate::table::{Row, Table};
 use crate::verdict::Procedures;
@@ -46,6 +46,9 @@ pub(crate) fn judged_object(
         write!(text, ",\"leans\":\"{leans}\"")?;
     }
     push_procedures(&mut text, report.procedures)?;
+    if is_decided(judged.word) && is_by_ko(report, judged.fate) {
+        text.push_str(",\"ko\":true")?;
+    }
     push_stones(&mut text, group)?;
     push_first_moves(&mut text, group.problem.size(), report.first_moves, true)?;
     push_rows(&mut text, group, report.table)?;

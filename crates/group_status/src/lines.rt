@@ -77,7 +77,7 @@ pub(crate) fn judged_lines(
     report: Report<'_>,
     judged: &Judgement,
 ) -> Result<String, AllocError> {
-    let mut text = first_line(alloc, report.group, judged)?;
+    let mut text = first_line(alloc, report, judged)?;
     push_side(&mut text, report, Side::Attacker, &judged.attacker_first)?;
     if let Some(finding) = judged.defender_first {
         push_side(&mut text, report, Side::Defender, &finding)?;
@@ -121,16 +121,15 @@ pub(crate) fn trust_text(word: Word, procedures: Procedures) -> &'static str {
 /// The line of a group with only its fate and, if that is not decided, which way it leans.
 pub(crate) fn first_line(
     alloc: Global,
-    group: &Group,
+    report: Report<'_>,
     judged: &Judgement,
 ) -> Result<String, AllocError> {
+    let group = report.group;
     let mut text = String::new(alloc);
     push_point(&mut text, group.position.colouring().size(), group.target)?;
-    let fate = judged.fate.name();
-    let word = judged.word.name();
     match judged.word {
-        Word::Sure => write!(text, ": {fate} ({word})\n")?,
-        Word::Likely => write!(text, ": {fate} ({word})\n")?,
+        Word::Sure => push_fate(&mut text, report, judged)?,
+        Word::Likely => push_fate(&mut text, report, judged)?,
         Word::Hint => {
             let leans = leans_text(judged.fate);
             write!(
@@ -145,6 +144,47 @@ pub(crate) fn first_line(
         Word::Unknown => push_unknown(&mut text, judged)?,
     }
     Ok(text)
+}
+
+/// Appends the fate, whether it depends on a ko, and the word.
+fn push_fate(text: &mut String, report: Report<'_>, judged: &Judgement) -> Result<(), AllocError> {
+    let fate = judged.fate.name();
+    write!(text, ": {fate}")?;
+    if is_by_ko(report, judged.fate) {
+        match ko_winner(report.group.defender, judged.fate) {
+            Some(winner) => {
+                let name = colour_name(winner);
+                write!(text, ", if {name} wins the ko")?;
+            }
+            None => text.push_str(", by a ko")?,
+        }
+    }
+    let word = judged.word.name();
+    write!(text, " ({word})\n")
+}
+
+/// Whether a question that this fate stands on is won by who took last in a ko.
+pub(crate) fn is_by_ko(report: Report<'_>, fate: Fate) -> bool {
+    let table = report.table;
+    let defender = report.group.defender;
+    match fate {
+        Fate::Alive => table.has_ko(Side::Attacker, defender),
+        Fate::Dead => table.has_ko(Side::Defender, defender),
+        Fate::Unsettled => {
+            table.has_ko(Side::Attacker, defender) || table.has_ko(Side::Defender, defender)
+        }
+        Fate::Unknown => false,
+    }
+}
+
+/// The side that has to win the ko.
+fn ko_winner(defender: Colour, fate: Fate) -> Option<Colour> {
+    match fate {
+        Fate::Alive => Some(defender),
+        Fate::Dead => Some(defender.opponent()),
+        Fate::Unsettled => None,
+        Fate::Unknown => None,
+    }
 }
 
 /// Appends what is said if nothing is decided: it may depend on the walls.

@@ -100,6 +100,16 @@ impl Table {
             && self.winner_at(row.place, defender) != self.winner_at(row.forgotten, defender)
     }
 
+    /// Whether a question with this side to move first has a winner that depends on who took last.
+    pub(crate) fn has_ko(&self, first: Side, defender: Colour) -> bool {
+        for row in self.rows.as_slice() {
+            if row.first == first && self.is_ko(row, defender) {
+                return true;
+            }
+        }
+        false
+    }
+
     /// Whether no problem that was asked has a winner that is known.
     pub(crate) fn is_open(&self) -> bool {
         for one in self.asked.as_slice() {

@@ -6,23 +6,13 @@ ghost use Rattle.group_words.specs.Sides.{end_text};
 use crate::first_moves::FirstMoves;
 use crate::group::Group;
 use crate::move_proof::push_by_move;
-use crate::table::{Row, Table};
+use crate::question_lines::{push_all_walls, push_ko};
+use crate::table::Table;
 use crate::verdict::Procedures;
 use go_points::{Colour, Point, Size, Turn, to_gtp};
 use group_words::{Fate, Finding, Judgement, Side, Word};
-use regions::Walls;
 use std::alloc::{AllocError, Global};
 use tool_parts::colour_name;
-
-/// All walls that are asked about, in the order in which they are reported.
-const WALLS: [Walls; 6] = [
-    Walls::Natural,
-    Walls::Kind,
-    Walls::Hard,
-    Walls::Race,
-    Walls::Given,
-    Walls::Alone,
-];
 
 /// Appends the name of the point, as in diagrams.
 pub(crate) fn push_point(text: &mut String, size: Size, point: Point) -> Result<(), AllocError> {
@@ -43,19 +33,6 @@ pub(crate) fn end_name(winner: Option<Side>) -> &'static str
         Some(Side::Attacker) => "dies",
         Some(Side::Defender) => "lives",
         None => "unknown",
-    }
-}
-
-/// What is supposed with these walls.
-pub(crate) fn walls_text(walls: Walls) -> &'static str {
-    match walls {
-        Walls::Open => "nothing is supposed",
-        Walls::Kind => "walls with few liberties outside fall",
-        Walls::Natural => "walls stand where the attacker is nearer",
-        Walls::Hard => "it is shut in and cut off from every friend",
-        Walls::Race => "walls stand where the attacker gets there first",
-        Walls::Given => "such walls stand, and those with one or two liberties outside fall",
-        Walls::Alone => "such walls stand, no friend helps, and unsafe ways out are shut",
     }
 }
 
@@ -253,9 +230,7 @@ fn push_finding(
     push_end(text, group, table, first, finding)?;
     text.push('\n')?;
     if report.is_why {
-        for walls in WALLS {
-            push_walls(text, table, group.defender, first, walls)?;
-        }
+        push_all_walls(text, table, group.defender, first)?;
     }
     push_ko(text, table, group.defender, first)
 }
@@ -282,34 +257,6 @@ pub(crate) fn push_end(
         write!(text, " ({word})")?;
     }
     Ok(())
-}
-
-/// Appends a line if a winner depends on who took last, with what happens at which sizes if the past is forgotten.
-fn push_ko(
-    text: &mut String,
-    table: &Table,
-    defender: Colour,
-    first: Side,
-) -> Result<(), AllocError> {
-    let mut is_first = true;
-    for row in table.rows.as_slice() {
-        if row.first == first && table.is_ko(row, defender) {
-            text.push_str(if is_first {
-                "    ko: it depends on who took last; without the past "
-            } else {
-                ", "
-            })?;
-            is_first = false;
-            let end = end_name(table.winner_at(row.forgotten, defender));
-            let count = row.count;
-            let walls = row.walls.name();
-            write!(text, "{end} at {count} ({walls})")?;
-        }
-    }
-    if is_first {
-        return Ok(());
-    }
-    text.push('\n')
 }
 
 /// Appends the first move of the largest size at which the mover wins.
@@ -348,56 +295,4 @@ fn turn_of(table: &Table, defender: Colour, first: Side) -> Option<Turn> {
         }
     }
     found
-}
-
-/// Appends a line for each end that came about with these walls, with its sizes.
-fn push_walls(
-    text: &mut String,
-    table: &Table,
-    defender: Colour,
-    first: Side,
-    walls: Walls,
-) -> Result<(), AllocError> {
-    for end in [Some(Side::Attacker), Some(Side::Defender), None] {
-        let mut count: usize = 0;
-        for row in table.rows.as_slice() {
-            if is_told(table, row, defender, first, walls, end) {
-                push_size(text, end, count, row.count)?;
-                count = count.saturating_add(1);
-            }
-        }
-        if count > 0 {
-            let name = walls.name();
-            let supposed = walls_text(walls);
-            write!(text, " points, {name}: {supposed}\n")?;
-        }
-    }
-    Ok(())
-}
-
-/// Whether the row is one of these.
-fn is_told(
-    table: &Table,
-    row: &Row,
-    defender: Colour,
-    first: Side,
-    walls: Walls,
-    end: Option<Side>,
-) -> bool {
-    row.first == first && row.walls == walls && table.winner_at(row.place, defender) == end
-}
-
-/// Appends a size. Before the first of them is what happens there.
-fn push_size(
-    text: &mut String,
-    end: Option<Side>,
-    before: usize,
-    size: usize,
-) -> Result<(), AllocError> {
-    if before == 0 {
-        let name = end_name(end);
-        write!(text, "    {name} at {size}")
-    } else {
-        write!(text, ", {size}")
-    }
 }

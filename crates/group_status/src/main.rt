@@ -27,6 +27,7 @@ mod progress;
 mod proof;
 mod proof_json;
 mod proven;
+mod question_lines;
 mod score;
 mod second_procedure;
 mod solutions;

@@ -4,8 +4,9 @@
 use crate::answer_record::first_move_branch;
 use crate::first_moves::FirstMoves;
 use crate::group::Group;
-use crate::lines::{push_end, walls_text};
+use crate::lines::push_end;
 use crate::past::without_past;
+use crate::question_lines::walls_text;
 use crate::table::{Row, Table};
 use crate::variation::{Question, alone, node_with, solved, tree_with};
 use go_points::{Colour, PointSet, Turn, to_sgf as letters_of};

@@ -148,15 +148,6 @@ def dawdling(found, rounds, last):
     return text.count("\n"), text
 
 
-def cells(number, rows):
-    """The colouring of this number: its digits to the base 3."""
-    text = []
-    for _ in range(rows * rows):
-        text.append(".OX"[number % 3])
-        number //= 3
-    return "".join(reversed(text))
-
-
 APART = ["bg", "dg", "fg", "hg", "ai", "ci", "ei", "gi", "ii", "ah"]
 MAX_NODES = 10_000_000
 MAX_LISTED = 1_000_000

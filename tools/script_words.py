@@ -1,5 +1,5 @@
-"""The words of a script, by argparse: `--help` prints what the script is for, and wrong words end it in one line, with status 3. And
-the commands that it needs: where one is missing, it ends in one line, with status 4."""
+"""The words of a script, by argparse: `--help` prints what the script is for, and wrong words end it in one line, with status 3.
+And the commands that it needs: where one is missing, it ends in one line, with status 4."""
 
 import argparse
 import os
@@ -12,8 +12,8 @@ TOP = pathlib.Path(__file__).resolve().parent.parent
 
 
 class Words(argparse.ArgumentParser):
-    """Reads the words that a script was called with. `about` is its docstring: `--help` prints it, and after it each option that has
-    a help of its own."""
+    """Reads the words that a script was called with. `about` is its docstring: `--help` prints it, and after it each option that
+    has a help of its own."""
 
     def __init__(self, about: str, prog: str | None = None) -> None:
         super().__init__(prog=prog or name_of_script(), usage=argparse.SUPPRESS, description=about.strip(), allow_abbrev=False,

@@ -1,6 +1,7 @@
 """One run of a program: its processor time and memory, what it wrote, and how it ended."""
 
 import collections.abc
+import contextlib
 import os
 import pathlib
 import resource
@@ -80,12 +81,11 @@ class opened:
 
 def write(pipe: typing.IO[bytes], parts: collections.abc.Iterable[bytes]) -> None:
     """Writes the parts, as long as they are read."""
-    try:
+    with contextlib.suppress(BrokenPipeError):
         for part in parts:
             pipe.write(part)
+    with contextlib.suppress(BrokenPipeError):
         pipe.close()
-    except BrokenPipeError:
-        pass
 
 
 def least(words: Words, stdin: Input, turns: int) -> Run:

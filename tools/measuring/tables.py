@@ -36,7 +36,6 @@ from measuring.sizes import RUNS, SIZES, WORDS, record as fight
 NAME = "tools/measure tables"
 TOP = script_words.TOP
 PAGE, FOLDER = TOP / "docs/PERFORMANCE.md", TOP / "docs/measured"
-TURNS = 5
 # Where the time of another run is taken off, which may be most of it.
 MANY_TURNS = 60
 

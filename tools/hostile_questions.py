@@ -3,6 +3,7 @@
 import pathlib
 import re
 import subprocess
+from collections.abc import Iterator
 
 GAME = pathlib.Path(__file__).resolve().parent.parent / "examples/unmarked/game.sgf"
 # The nodes whose own move is the target.
@@ -10,7 +11,7 @@ NODES = range(9, 132, 14)
 POINTS, WALLS = (9, 12, 15, 18), ("natural", "hard", "race", "alone")
 
 
-def questions(problem_tools):
+def questions(problem_tools: str) -> Iterator[tuple[str, str]]:
     """The name and the record of each question: of a move at its node, whose side moves first by turns, with each number of empty
     points and each kind of walls. Those that problem_tools refuses are left out."""
     moves = re.findall(r";[BW]\[(\w\w)\]", GAME.read_text())

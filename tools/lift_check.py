@@ -8,13 +8,14 @@ repository's `examples/`. A line is printed for each: the side that wins, and of
 the lines of their `had` and `not` lists. The exit code is 1 where a claim is rejected, where the two claims name different
 sides, or where one is written and the other is not.
 """
-import argparse
 import pathlib
 import re
 import subprocess
 import sys
 
-EXAMPLES = pathlib.Path(__file__).resolve().parent.parent / "examples"
+import script_words
+
+EXAMPLES = script_words.TOP / "examples"
 
 
 def run(words, text):
@@ -40,10 +41,10 @@ def claim_of(program, record, steps, more):
 
 
 def main():
-    words = argparse.ArgumentParser(description=__doc__, formatter_class=argparse.RawDescriptionHelpFormatter)
-    words.add_argument("program")
-    words.add_argument("folder", nargs="?")
-    words.add_argument("--steps", type=int, default=100_000)
+    words = script_words.Words(__doc__)
+    words.add_argument("program", type=script_words.program, metavar="PROGRAM")
+    words.add_argument("folder", nargs="?", type=script_words.file, metavar="FOLDER")
+    words.add_argument("--steps", type=script_words.a_number(1), default=100_000)
     words.add_argument("--word", default="ko")
     given = words.parse_args()
     records = sorted(EXAMPLES.glob("*.sgf"))

@@ -1,8 +1,8 @@
 #!/usr/bin/env python3
 """Writes a record of one long line of play on 19 rows that repeats nothing.
 
-Thirteen ko shapes, or seventeen where a longer line wants them: Black's capture sets a bit, White's clears it, and a Gray code sets and clears them so that each position
-stands once. Where the other side would be to move, it passes.
+Thirteen ko shapes, or seventeen where a longer line wants them: Black's capture sets a bit, White's clears it, and a Gray code
+sets and clears them so that each position stands once. Where the other side would be to move, it passes.
 
     tools/long_line.py TURNS audit   a problem and TURNS turns after it, as `tsumego audit` reads them
     tools/long_line.py TURNS past    a problem after TURNS turns; two thirds of them are moves
@@ -14,19 +14,20 @@ import script_words
 FEW_TURNS = 10_000
 
 
-def name(column, row):
+def name(column: int, row: int) -> str:
     return chr(97 + column) + chr(97 + row)
 
 
-def places(points):
+def places(points: list[tuple[int, int]]) -> str:
     return "".join(f"[{name(*point)}]" for point in points)
 
 
-def main():
-    words = script_words.given(__doc__, 2, 2, files=False)
-    if not words[0].isdecimal() or words[1] not in ("audit", "past"):
-        script_words.refuse("tools/long_line.py", "wants a number of turns, and audit or past")
-    turns, is_audit = int(words[0]), words[1] == "audit"
+def main() -> None:
+    words = script_words.Words(__doc__)
+    words.add_argument("turns", type=script_words.a_number(0), metavar="TURNS")
+    words.add_argument("kind", choices=("audit", "past"))
+    given = words.parse_args()
+    turns, is_audit = given.turns, given.kind == "audit"
     shapes = 13 if turns <= FEW_TURNS else 17
     corners = [(number % 4 * 4, number // 4 * 3) for number in range(shapes)]
     black = [(x + c, y + r) for x, y in corners for c, r in ((1, 0), (0, 1), (1, 2))]

@@ -162,4 +162,6 @@ def main(names):
 
 
 if __name__ == "__main__":
-    sys.exit(main(script_words.given(__doc__, 1, None)))
+    words = script_words.Words(__doc__)
+    words.add_argument("records", nargs="+", type=script_words.file, metavar="RECORD")
+    sys.exit(main(words.parse_args().records))

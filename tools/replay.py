@@ -25,7 +25,7 @@ UNKNOWN = b"\x01not known yet\x01\n"
 MOST_MISSED = 30
 
 
-def without_folder(words):
+def without_folder(words: tuple[str, ...]) -> tuple[tuple[str, ...], str | None]:
     """Returns the words of a call with no name for the new folder that it writes into, and that name, or nothing."""
     for at in range(1, len(words)):
         if words[at - 1] == "--into" and is_new(words[at]):
@@ -33,16 +33,16 @@ def without_folder(words):
     return words, None
 
 
-def is_new(folder):
+def is_new(folder: str) -> bool:
     """Whether the folder is empty, or not there."""
     return not os.path.lexists(folder) or os.path.isdir(folder) and not os.listdir(folder)
 
 
-def key_of(program, words, stdin):
+def key_of(program: str, words: tuple[str, ...], stdin: bytes) -> str:
     return hashlib.sha256(repr((program, tuple(words), stdin)).encode()).hexdigest()
 
 
-def stand_in(root, folder, program):
+def stand_in(root, folder, program: str):
     """Makes the file that is called in place of a program: it stands where one that was built would."""
     place = root / program / "out" / program
     place.parent.mkdir(parents=True)
@@ -51,7 +51,7 @@ def stand_in(root, folder, program):
     return place
 
 
-def main(folder, program, *words):
+def main(folder: str, program: str, *words: str) -> None:
     stdin = b"" if sys.stdin.isatty() else sys.stdin.buffer.read()
     words, new_folder = without_folder(words)
     key = key_of(program, words, stdin)

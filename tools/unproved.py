@@ -9,6 +9,7 @@ import shutil
 import subprocess
 import tempfile
 import threading
+from collections.abc import Iterator
 from typing import NamedTuple
 
 from replay import NEW_FOLDER
@@ -49,13 +50,13 @@ class Answer(NamedTuple):
     files: dict[str, bytes] = {}
 
 
-def free_memory():
+def free_memory() -> int:
     """Returns how many megabytes of memory are free."""
     sizes = dict(re.findall(r"^(\w+): +(\d+) kB", pathlib.Path("/proc/meminfo").read_text(), re.MULTILINE))
     return (int(sizes["MemAvailable"]) + int(sizes["SwapFree"])) // 1024
 
 
-def what_is_missing():
+def what_is_missing() -> str | None:
     """Returns what keeps a program from being compiled here, in a line, or nothing."""
     folder = tempfile.gettempdir()
     if shutil.which("rt") is None:
@@ -71,14 +72,14 @@ def what_is_missing():
 TREE = threading.Lock()
 
 
-def tree():
+def tree() -> pathlib.Path:
     """Returns the folder that `new_tree` made; there is one for all threads."""
     with TREE:
         return pathlib.Path(new_tree().name)
 
 
 @functools.cache
-def new_tree():
+def new_tree() -> tempfile.TemporaryDirectory:
     """Makes a copy of the crates' code in which each program answers the calls that come on standard input, and makes no call of
     its own: `rt try` needs half a second for each run, whatever is asked."""
     folder = tempfile.TemporaryDirectory(prefix="tree-")
@@ -95,19 +96,19 @@ def new_tree():
     return folder
 
 
-def change(file, old, new):
+def change(file: pathlib.Path, old: str, new: str) -> None:
     """Puts another text for one that a file has once."""
     text = file.read_text()
     assert text.count(old) == 1, f"{file} has '{old}' {text.count(old)} times"
     file.write_text(text.replace(old, new))
 
 
-def is_written(status):
+def is_written(status: pathlib.Path) -> bool:
     """Whether the last file of an answer is there, with all its bytes."""
     return status.exists() and status.read_bytes().endswith(b"\n")
 
 
-def counted(text):
+def counted(text: bytes) -> bytes:
     """Returns the bytes after how many they are."""
     return f"{len(text)}\n".encode() + text
 
@@ -116,7 +117,7 @@ class Run:
     """One call of `rt try --cases`: it compiles a program and asks it each call, in order. A case of `rt try` makes some calls, one
     after another; where one of them does not end, those after it have no answer."""
 
-    def __init__(self, program, calls, seconds, calls_of_case):
+    def __init__(self, program: str, calls: list[Call], seconds: int, calls_of_case: int) -> None:
         self.calls, self.calls_of_case = calls, calls_of_case
         self.ends, self.last_words, self.told = {}, None, threading.Condition()
         self.folder = tempfile.TemporaryDirectory(prefix="calls-")
@@ -133,10 +134,10 @@ class Run:
         )
         threading.Thread(target=self.read_ends, daemon=True).start()
 
-    def place(self, *names):
+    def place(self, *names: str) -> pathlib.Path:
         return pathlib.Path(self.folder.name, *names)
 
-    def asked(self, number):
+    def asked(self, number: int) -> bytes:
         """Returns the call as `many_calls.rt.txt` reads it: its number, how many words it has, these, and its input."""
         call = self.calls[number]
         words = [call.program, *call.words]
@@ -146,7 +147,7 @@ class Run:
         parts = [counted(it.encode()) for it in words] + [counted(call.stdin)]
         return f"{number}\n{len(words)}\n".encode() + b"".join(parts)
 
-    def read_ends(self):
+    def read_ends(self) -> None:
         """Keeps what was said of each case until it ended."""
         before = b""
         for line in self.process.stderr:
@@ -160,14 +161,14 @@ class Run:
             self.last_words = before or b"rt try gave no answer\n"
             self.told.notify_all()
 
-    def answers(self):
+    def answers(self) -> Iterator[Answer]:
         """Yields the answer of each call, in order, as soon as it is there."""
         for number in range(len(self.calls)):
             yield self.answer(number)
         self.process.wait()
         self.folder.cleanup()
 
-    def answer(self, number):
+    def answer(self, number: int) -> Answer:
         """Waits for one answer. It says nothing of where its new folder was."""
         status, case = self.place("answers", f"{number}.status"), number // self.calls_of_case
         with self.told:
@@ -181,6 +182,6 @@ class Run:
         return Answer(int(status.read_text()), *(it.replace(str(new).encode(), NEW_FOLDER.encode()) for it in texts), files)
 
 
-def ask(program, calls, seconds=600, calls_of_case=1):
+def ask(program: str, calls: list[Call], seconds: int = 600, calls_of_case: int = 1) -> Iterator[Answer]:
     """Compiles a program and yields its answer to each call. A case of so many calls has this time."""
     return Run(program, calls, seconds, calls_of_case).answers()

@@ -109,7 +109,7 @@ def make_pages(folder, work, numbers, given):
     records = [os.path.join(work, it + ".sgf") for it in numbers]
     common = [sys.executable, MAKE_PAGE, *PAGE_WORDS, "--title", title]
     if not records:
-        write_file(folder, INDEX, f"<!DOCTYPE html>\n<title>No problems</title>\n<p>No problems.\n")
+        write_file(folder, INDEX, "<!DOCTYPE html>\n<title>No problems</title>\n<p>No problems.\n")
         return
     environment = {**os.environ, "PROBLEM_TOOLS": find_programs()["problem_tools"]}
     for words in (["--into", folder], ["--sheet", "--per-page", str(PER_PAGE)]):

@@ -10,7 +10,10 @@ import os
 import signal
 import subprocess
 import time
+from collections.abc import Iterator
 
+from .records import Record
+from .run import Run
 from .words import FAILED, TIMED_OUT, Stop, shown
 
 WATCH = "read line; kill -KILL 0"
@@ -19,7 +22,7 @@ WATCH = "read line; kill -KILL 0"
 class Job:
     """A program at work on a record, as `Run.due` gives it."""
 
-    def __init__(self, words, group, found):
+    def __init__(self, words: list[str], group: int, found: tuple[Record, bytes, bytes]) -> None:
         self.found, self.start, self.is_late = found, time.monotonic(), False
         self.answer = os.memfd_create("answer")
         source = os.memfd_create("record")
@@ -34,15 +37,15 @@ class Job:
         finally:
             os.close(source)
 
-    def seconds(self):
+    def seconds(self) -> float:
         return time.monotonic() - self.start
 
-    def end(self):
+    def end(self) -> None:
         """Ends it, being out of time."""
         self.is_late = True
         os.kill(self.pid, signal.SIGKILL)
 
-    def keep(self, run, status):
+    def keep(self, run: Run, status: int) -> None:
         """Keeps what it wrote, now that it has ended."""
         with open(self.answer, "rb") as file:
             file.seek(0)
@@ -52,7 +55,7 @@ class Job:
         run.keep(record, checksum, TIMED_OUT if self.is_late else code, text, self.seconds())
 
 
-def solve_here(run):
+def solve_here(run: Run) -> None:
     """Asks the due records."""
     given, due, jobs = run.given, run.due(), {}
     words = [given.program, *given.asked]
@@ -72,7 +75,7 @@ def solve_here(run):
         watcher.wait()
 
 
-def ended(jobs, timeout):
+def ended(jobs: dict[int, Job], timeout: float | None) -> Iterator[tuple[int, int]]:
     """Waits until a program has ended, or one is out of time, which is ended then. The signal is blocked, so none is missed."""
     if timeout is None:
         signal.sigwaitinfo([signal.SIGCHLD])

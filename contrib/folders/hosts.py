@@ -11,8 +11,15 @@ import shlex
 import signal
 import subprocess
 import tempfile
+from argparse import Namespace
+from collections.abc import Callable, Iterable, Iterator
+from typing import IO
 
+from .run import Run
 from .words import BAD_WORDS, FAILED, Stop, shown, tell
+
+# The number of a content, the status, what was written, and the seconds.
+Answer = tuple[int, int, bytes, float]
 
 MOST_BYTES = 1_048_577  # `tsumego solve` reads no more
 TINY_PROBLEM, TINY_ANSWER = "(;SZ[3]AB[ab]AW[aa]PL[B]TR[aa]SQ[ba])", "C[Black wins]"
@@ -61,11 +68,11 @@ WHY = {
 }
 
 
-def end_with_parent(how):
+def end_with_parent(how: int) -> Callable[[], None]:
     """What a started program does before it begins: it asks for this signal when its parent ends, however that ends."""
     prctl, parent = ctypes.CDLL(None).prctl, os.getpid()
 
-    def begin():
+    def begin() -> None:
         prctl(1, how)  # PR_SET_PDEATHSIG
         if os.getppid() != parent:
             os._exit(1)
@@ -73,12 +80,12 @@ def end_with_parent(how):
     return begin
 
 
-def for_parallel(script):
+def for_parallel(script: str) -> str:
     """A script as one word of GNU parallel's, which would replace {}, {#} and more in it."""
     return "sh -c " + shlex.quote(script).replace("{", "{''")
 
 
-def read_hosts(path):
+def read_hosts(path: str) -> list[bytes]:
     """The lines of a file of hosts, in the form of GNU parallel's --sshloginfile."""
     try:
         with open(path, "rb") as file:
@@ -91,13 +98,13 @@ def read_hosts(path):
     return hosts
 
 
-def probe_of(given):
+def probe_of(given: Namespace) -> str:
     if given.run:
         return PROBE_OF_RUN.format(problem=TINY_PROBLEM, command=" ".join(map(shlex.quote, [given.program, *given.asked])))
     return PROBE.format(problem=TINY_PROBLEM, answer=TINY_ANSWER, program=shlex.quote(given.program))
 
 
-def ask_hosts(given, script=None):
+def ask_hosts(given: Namespace, script: str | None = None) -> dict[bytes, int]:
     """The hosts that solve a problem, or pass another probe, each with its number of processors. The others are told."""
     script = script or probe_of(given)
     found = {}
@@ -112,7 +119,7 @@ def ask_hosts(given, script=None):
     return found
 
 
-def probed(lines, command):
+def probed(lines: list[bytes], command: str) -> dict[bytes, tuple[int, bytes | None, bytes]]:
     """What each host answers to the probe: its status, the processors that it tells, and the first line of its errors."""
     with tempfile.NamedTemporaryFile() as hosts, tempfile.NamedTemporaryFile() as log:
         hosts.write(b"\n".join(lines) + b"\n")
@@ -127,14 +134,14 @@ def probed(lines, command):
     return {line: (statuses.get(it, 255), processors.get(it), errors.get(it, b"").strip()) for line, it in logins.items()}
 
 
-def solve_by_parallel(run, hosts):
+def solve_by_parallel(run: Run, hosts: dict[bytes, int]) -> None:
     """Asks the due records on hosts, and keeps each answer as it comes."""
     given, asked = run.given, []
     command = " ".join(map(shlex.quote, [given.program, *given.asked]))
     if given.timeout is not None:
         command = f"timeout {given.timeout:g} {command}"
 
-    def contents():
+    def contents() -> Iterator[bytes]:
         for record, content, checksum in run.due():
             asked.append((record, checksum))
             yield content[:MOST_BYTES]
@@ -144,7 +151,9 @@ def solve_by_parallel(run, hosts):
         run.keep(record, checksum, status, text, seconds)
 
 
-def answers_from_hosts(given, hosts, command, contents):
+def answers_from_hosts(
+    given: Namespace, hosts: dict[bytes, int], command: str, contents: Iterable[bytes]
+) -> Iterator[Answer]:
     """Has a command run on hosts for each content, and yields the answers as they come: the content's number, the status, what was
     written, and the seconds. The contents travel on the connections, a line of base64 each, and so do the answers."""
     lengths = []
@@ -157,7 +166,8 @@ def answers_from_hosts(given, hosts, command, contents):
         jobs = sum(jobs_of(line, given.jobs or count) for line, count in hosts.items())
         together = max(1, min(MOST_RECORDS, len(lengths) // (CONNECTIONS * jobs)))
         longest = max([1 << 20, *(sum(lengths[i : i + together]) for i in range(0, len(lengths), together))])
-        words = ["parallel", "--plain", "--pipe", f"-N{together}", "--recend", "\n", "--block", str(longest), "--retries", str(len(hosts) + 2)]
+        words = ["parallel", "--plain", "--pipe", f"-N{together}", "--recend", "\n", "--block", str(longest)]
+        words += ["--retries", str(len(hosts) + 2)]
         words += ["--ssh", "ssh -o BatchMode=yes -o ConnectTimeout=20 -o ServerAliveInterval=20"]
         words += ["--sshloginfile", logins.name, "--jobs", str(given.jobs) if given.jobs else "100%", *getattr(given, "words", [])]
         words.append(for_parallel(ASK.format(command=command)) + " sh {#}")
@@ -165,19 +175,19 @@ def answers_from_hosts(given, hosts, command, contents):
             yield from read_answers(words, lines, together, len(lengths))
 
 
-def jobs_of(line, processors):
+def jobs_of(line: bytes, processors: int) -> int:
     """How many jobs a host has at once: as many as its line says, or else as it has processors."""
     found = re.match(rb"(?:@[^/]+/)?(\d+)/", line)
     return int(found[1]) if found else processors
 
 
-def login_line(line, processors):
+def login_line(line: bytes, processors: int) -> bytes:
     """A host's line with its number of processors, where it names none."""
     group, count, login = re.fullmatch(rb"(@[^/]+/)?(\d*/)?(.*)", line).groups(b"")
     return group + (count if count.strip(b"/") else b"%d/" % processors) + login + b"\n"
 
 
-def read_answers(words, lines, together, count):
+def read_answers(words: list[str], lines: IO[bytes], together: int, count: int) -> Iterator[Answer]:
     """Runs GNU parallel, and yields each answer as it comes. What a host that failed wrote is not read."""
     process = subprocess.Popen(words, stdin=lines, stdout=subprocess.PIPE, preexec_fn=end_with_parent(signal.SIGINT))
     try:
@@ -193,7 +203,7 @@ def read_answers(words, lines, together, count):
         process.wait()
 
 
-def seconds_between(start, end):
+def seconds_between(start: bytes, end: bytes) -> float:
     """Where a host's clock has whole seconds alone, as none."""
     try:
         return max(0, float(end) - float(start))

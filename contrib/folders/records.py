@@ -17,14 +17,14 @@ class Record(NamedTuple):
 
     name: bytes
     path: bytes
-    content: bytes = None
-    refusal: bytes = None
+    content: bytes | None = None
+    refusal: bytes | None = None
 
-    def read(self):
+    def read(self) -> bytes:
         return read_file(self.path) if self.content is None else self.content
 
 
-def read_file(path):
+def read_file(path: bytes | str) -> bytes:
     """The bytes of a file. A pipe or a device might never end."""
     with open(os.open(path, os.O_RDONLY | os.O_NONBLOCK | os.O_CLOEXEC), "rb") as file:
         if not stat.S_ISREG(os.fstat(file.fileno()).st_mode):
@@ -32,7 +32,7 @@ def read_file(path):
         return file.read()
 
 
-def find_files(folder, is_recursive):
+def find_files(folder: bytes, is_recursive: bool) -> tuple[list[bytes], int]:
     """The names of the records' files, and how many subfolders were left out: links to folders always are."""
     found, left_out, waiting = [], 0, [b""]
     while waiting:
@@ -49,7 +49,7 @@ def find_files(folder, is_recursive):
     return sorted(found), left_out
 
 
-def count_trees(content):
+def count_trees(content: bytes) -> int:
     """How many game trees a text seems to have, by its brackets outside of values."""
     depth = count = 0
     for bracket in re.sub(rb"\[[^\\\]]*(?:\\.[^\\\]]*)*\]|[^()\[]+|\[", b"", content, flags=re.DOTALL):
@@ -58,11 +58,11 @@ def count_trees(content):
     return count
 
 
-def split_file(tools, name, path):
+def split_file(tools: str, name: bytes, path: bytes) -> list[Record]:
     """The game trees of a file, as records NAME.0001.sgf, NAME.0002.sgf and so on."""
     stem, suffix = os.path.splitext(name)
 
-    def named(number):
+    def named(number: int) -> bytes:
         return b"%s.%04d%s" % (stem, number, suffix)
 
     try:
@@ -83,7 +83,7 @@ def split_file(tools, name, path):
     return [records[number] for number in sorted(records)] or [Record(named(1), path, content)]
 
 
-def find_records(folder, is_recursive, tools):
+def find_records(folder: bytes, is_recursive: bool, tools: str | None) -> tuple[list[Record], list[str]]:
     """All records, of which each game tree is one where `tools`, the program problem_tools, is given; and what is to be told."""
     files, left_out = find_files(folder, is_recursive)
     notes = []
@@ -98,6 +98,6 @@ def find_records(folder, is_recursive, tools):
     return records, notes
 
 
-def is_of_shard(record, part, parts):
+def is_of_shard(record: Record, part: int, parts: int) -> bool:
     """Shares go by name, so that each run knows its own without knowing of the others."""
     return int(hashlib.sha256(record.name).hexdigest(), 16) % parts == part - 1

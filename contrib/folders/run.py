@@ -4,9 +4,11 @@ import errno
 import hashlib
 import os
 import re
+from argparse import Namespace
+from collections.abc import Iterable, Iterator
 
-from .records import count_trees
-from .tables import Line
+from .records import Record, count_trees
+from .tables import Answers, Line
 from .words import FAILED, REFUSED, SOLVED, TIMED_OUT, UNKNOWN, Stop, shown, tell
 
 WINNER = re.compile(rb"C\[(Black|White) wins\]")
@@ -17,11 +19,11 @@ NO_ROOM = (errno.ENOSPC, errno.EDQUOT, errno.EROFS, errno.EIO)
 class Run:
     """The records of a call, those that still wait, and those that failed."""
 
-    def __init__(self, given, answers, records):
+    def __init__(self, given: Namespace, answers: Answers, records: list[Record]) -> None:
         self.given, self.answers, self.records = given, answers, records
         self.waiting, self.failed, self.further_games = {it.name for it in records}, {}, 0
 
-    def is_due(self, name, checksum):
+    def is_due(self, name: bytes, checksum: bytes) -> bool:
         """Whether a record has to be asked: it has no answer, or it has changed, or there is more to spend on it."""
         line = self.answers.lines.get(name)
         if line is None or line.checksum != checksum:
@@ -34,7 +36,7 @@ class Run:
             return self.given.timeout is None or self.given.timeout > line.seconds
         return line.status != REFUSED
 
-    def due(self):
+    def due(self) -> Iterator[tuple[Record, bytes, bytes]]:
         """The records to be asked, each with its bytes and their checksum, read as it comes."""
         for record in self.records:
             try:
@@ -51,7 +53,7 @@ class Run:
             else:
                 yield record, content, checksum
 
-    def keep(self, record, checksum, status, text, seconds):
+    def keep(self, record: Record, checksum: bytes, status: int, text: bytes, seconds: float) -> None:
         """Keeps what came of a record: the status, and what the program wrote."""
         said = text.split(b"\n")[0].strip()
         if status == SOLVED and not self.given.run:
@@ -73,7 +75,7 @@ class Run:
                 raise Stop(FAILED, f"{why}; the next call goes on") from None
             self.fail(record, why)
 
-    def fail(self, record, why):
+    def fail(self, record: Record, why: str) -> None:
         """What failed says nothing of the record: the next call asks it again, and no former answer is taken away."""
         tell(f"{shown(record.path)}: {why}")
         self.waiting.discard(record.name)
@@ -85,14 +87,14 @@ class Run:
             except OSError as error:
                 raise Stop(FAILED, f"{shown(self.answers.folder)} cannot be written to: {error.strerror}") from None
 
-    def lines(self):
+    def lines(self) -> Iterator[Line]:
         """The line of each record that was asked, now or before."""
         for record in self.records:
             if record.name not in self.waiting:
                 yield self.failed.get(record.name) or self.answers.lines[record.name]
 
 
-def totals(count, lines):
+def totals(count: int, lines: Iterable[Line]) -> tuple[str, int]:
     """The totals in words, and the status that they give."""
     lines = list(lines)
     by_status = {status: sum(it.status == status for it in lines) for status in (SOLVED, UNKNOWN, TIMED_OUT, REFUSED, FAILED)}

@@ -9,8 +9,10 @@ import fcntl
 import os
 import re
 import secrets
+from collections.abc import Iterable
 from typing import NamedTuple
 
+from .records import Record
 from .words import BAD_WORDS, FAILED, SOLVED, Stop, escaped, shown, unescaped
 
 LINE = re.compile(rb"([^\t]+)\t(\d+)\t([^\t]*)\t(\d+)\t(\d+\.\d\d)\t([0-9a-f]{64}|-)")
@@ -26,12 +28,12 @@ class Line(NamedTuple):
     seconds: float
     checksum: bytes
 
-    def text(self):
+    def text(self) -> bytes:
         numbers = self.status, escaped(self.answer), self.steps, self.seconds, self.checksum
         return escaped(self.name) + b"\t%d\t%b\t%d\t%.2f\t%b\n" % numbers
 
 
-def read_table(path):
+def read_table(path: bytes) -> dict[bytes, Line]:
     """The lines of a table by name, the last of each. Where a run was cut off, its last line has no end and does not count."""
     with open(path, "rb") as file:
         texts = file.read().split(b"\n")[:-1]
@@ -48,34 +50,34 @@ def read_table(path):
 class Answers:
     """A folder of answers: those of a shard, as (2, 8), have a table of their own."""
 
-    def __init__(self, folder, shard=None):
+    def __init__(self, folder: bytes, shard: tuple[int, int] | None = None) -> None:
         self.folder, self.shard = folder, shard
         self.own = b"answers.%d-of-%d.tsv" % shard if shard else b"answers.tsv"
         self.parts = os.path.join(folder, b".part")
         self.part = os.path.join(self.parts, b"%s.%s" % (self.own, secrets.token_hex(8).encode()))
         self.lines, self.table, self.locks = {}, None, []
 
-    def path(self, name):
+    def path(self, name: bytes) -> bytes:
         return os.path.join(self.folder, name)
 
-    def has(self, name):
+    def has(self, name: bytes) -> bool:
         """Whether an answer is there: an empty file is none, as a machine that lost its power may leave it."""
         try:
             return os.stat(self.path(name)).st_size > 0
         except OSError:
             return False
 
-    def tables(self):
+    def tables(self) -> list[bytes]:
         """The names of all tables, the joined one first: those of shards hold what is later."""
         names = os.listdir(self.folder) if os.path.isdir(self.folder) else []
         return sorted((it for it in names if TABLE.fullmatch(it)), key=lambda it: (it != b"answers.tsv", it))
 
-    def load(self):
+    def load(self) -> None:
         self.lines = {}
         for table in self.tables():
             self.lines.update(read_table(self.path(table)))
 
-    def unclaimed(self, records):
+    def unclaimed(self, records: Iterable[Record]) -> bytes | None:
         """The first file that has the name of an answer, though no line says that it is one."""
         for record in records:
             line = self.lines.get(record.name)
@@ -83,7 +85,7 @@ class Answers:
                 return self.path(record.name)
         return None
 
-    def take(self):
+    def take(self) -> None:
         """Makes the folder, or this share of it, the run's own."""
         try:
             os.makedirs(self.parts, exist_ok=True)
@@ -99,7 +101,7 @@ class Answers:
         except OSError as error:
             raise Stop(FAILED, f"the answers cannot be written to {shown(self.folder)}: {error.strerror}") from None
 
-    def claim_words(self, words):
+    def claim_words(self, words: list[str] | None) -> None:
         """Answers of several programs are not mixed in one folder."""
         path = os.path.join(self.parts, b"run")
         wanted = "\n".join(words or []).encode()
@@ -115,14 +117,14 @@ class Answers:
             asked = shown(found.replace(b"\n", b" ") or b"tsumego solve")
             raise Stop(BAD_WORDS, f"{shown(self.folder)} has answers of {asked}")
 
-    def lock(self, name, how):
+    def lock(self, name: bytes, how: int) -> None:
         self.locks.append(os.open(os.path.join(self.parts, name), os.O_RDWR | os.O_CREAT | os.O_CLOEXEC, 0o666))
         try:
             fcntl.flock(self.locks[-1], how | fcntl.LOCK_NB)
         except BlockingIOError:
             raise Stop(FAILED, f"another run is at work in {shown(self.folder)}") from None
 
-    def claim_share(self):
+    def claim_share(self) -> None:
         """Makes the table of a share, and only then looks for others: of two runs at once neither may miss the other."""
         path = self.path(self.own)
         open(path, "ab").close()
@@ -133,7 +135,7 @@ class Answers:
                 os.unlink(path)
             raise
 
-    def refuse_other_shards(self):
+    def refuse_other_shards(self) -> None:
         """Of two numbers of shards each has its own shares, and no table would say which line of a name is the later."""
         for table in self.tables():
             parts = TABLE.fullmatch(table)[1]
@@ -141,7 +143,7 @@ class Answers:
                 path, folder = shown(self.path(table)), shown(self.folder)
                 raise Stop(BAD_WORDS, f"{path} is of another number of shards: solve-folder --totals {folder} joins it")
 
-    def join(self):
+    def join(self) -> None:
         """Writes the run's table anew, sorted, a line a name; where it is no shard's, with those of all shards."""
         joined = [self.own] if self.shard else self.tables()
         lines = {}
@@ -156,7 +158,7 @@ class Answers:
             os.close(self.table)
         self.table = os.open(self.path(self.own), os.O_WRONLY | os.O_APPEND | os.O_CLOEXEC)
 
-    def add(self, line):
+    def add(self, line: Line) -> None:
         """Adds a line, whole or not at all."""
         text, end = line.text(), os.lseek(self.table, 0, os.SEEK_END)
         try:
@@ -167,7 +169,7 @@ class Answers:
             raise
         self.lines[line.name] = line
 
-    def store(self, line, answer):
+    def store(self, line: Line, answer: bytes) -> None:
         """Adds a line; and the answer, or else takes a former one away."""
         path, before = self.path(line.name), self.lines.get(line.name)
         if line.status == SOLVED:
@@ -180,7 +182,7 @@ class Answers:
         if line.status == SOLVED:
             os.rename(self.part, path)
 
-    def discard(self):
+    def discard(self) -> None:
         """Takes away what was being written."""
         if os.path.lexists(self.part):
             os.unlink(self.part)

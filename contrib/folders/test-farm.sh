@@ -1,5 +1,6 @@
 # Parts of contrib/test-folders, which reads this file: shares of a folder, two hosts, a Slurm of one node.
 # shellcheck shell=bash disable=SC2034,SC2154 # said, status, work and top are that script's
+# shellcheck disable=SC2030,SC2031 # a PATH is for one call alone
 
 # guide PATTERN: the one line of docs/GUIDE.md that has it, without what stands before the command or the value.
 guide() { grep -F -- "$1" "$top/docs/GUIDE.md" | sed -E 's/^    (\$ |[a-z_]+ *= )//'; }

@@ -324,9 +324,11 @@ def build(folder):
 
 def programs():
     """The paths of the programs that there are."""
-    named = script_words.given(__doc__, 0, None)
+    words = script_words.Words(__doc__)
+    words.add_argument("programs", nargs="*", type=script_words.program)
+    named = words.parse_args().programs
     if named:
-        return [os.path.abspath(path) for path in named]
+        return named
     built = [f"crates/{name}/out/{name}" for name in ["tsumego", *HELPER_RUNS]]
     return [os.path.abspath(path) for path in built if os.path.exists(path)]
 

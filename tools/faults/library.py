@@ -6,7 +6,6 @@ n-th on, for each n until a run meets none. What each refusal left is compared w
 
 It prints a table of runs by call, and each finding; the exit code is 1 where there is one.
 """
-import os
 import re
 import sys
 import tempfile
@@ -43,7 +42,9 @@ def fits(program, words, text, fault, own, got):
 
 
 def main():
-    path = os.path.abspath((script_words.given(__doc__, 0, 1) or ["crates/library_driver/out/library_driver"])[0])
+    words = script_words.Words(__doc__)
+    words.add_argument("program", nargs="?", type=script_words.program, default="crates/library_driver/out/library_driver")
+    path = words.parse_args().program
     total, bad = 0, 0
     print("| Call | Runs that met a refusal | In so many a call was refused |\n|---|---|---|")
     with tempfile.TemporaryDirectory() as folder:

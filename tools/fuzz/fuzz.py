@@ -9,7 +9,6 @@ It begins with the inputs of `tools/fuzz/corpus`: a line of words, and then the 
 them installed), and runs some twenty inputs a second. Inputs that reach new code are written to FOLDER; each finding is printed, and written there
 too. The exit code is 1 where there is a finding. It is no part of the gate.
 """
-import argparse
 import os
 import pathlib
 import random
@@ -135,13 +134,13 @@ def begin():
 
 
 def main():
-    parser = argparse.ArgumentParser()
-    parser.add_argument("--seed", type=int, default=1)
-    parser.add_argument("--seconds", type=int, default=60)
-    parser.add_argument("--keep")
-    parser.add_argument("path", nargs="?", default="crates/tsumego/out/tsumego")
-    asked = parser.parse_args()
-    path, chance = os.path.abspath(asked.path), random.Random(asked.seed)
+    words = script_words.Words(__doc__)
+    words.add_argument("--seed", type=int, default=1)
+    words.add_argument("--seconds", type=script_words.a_number(1), default=60)
+    words.add_argument("--keep")
+    words.add_argument("path", nargs="?", type=script_words.program, default="crates/tsumego/out/tsumego")
+    asked = words.parse_args()
+    path, chance = asked.path, random.Random(asked.seed)
     findings, runs, corpus = 0, 0, begin()
     with tempfile.TemporaryDirectory() as folder:
         runner = Runner(path, folder)

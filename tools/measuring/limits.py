@@ -1,18 +1,18 @@
-#!/usr/bin/env python3
 """Asks whether each search ends by its steps: many problems go to `tsumego solve`, each with a limit of time.
 
-    tools/measure_limits.py [options] PROGRAMS
+    tools/measure limits [OPTIONS] PROGRAMS
 
-The programs are PROGRAMS/NAME/out/NAME. The problems are those of `random_problem` in tools/hostile_inputs.py, 12 to 18 empty points on 7
-to 9 rows; and, with `--games`, the questions of a list about positions of games: problem_tools puts up walls of four kinds round 9, 12, 15
-and 18 empty points. A list is a table with a line of names first (`id`, `file`, `node`, `target`, `to play`), tabs between; a `file` is
-looked for below GAMES.
+The programs are PROGRAMS/NAME/out/NAME. The problems are those of `random_problem` in tools/hostile_inputs.py, 12 to 18 empty
+points on 7 to 9 rows; and, with `--games`, the questions of a list about positions of games: problem_tools puts up walls of
+four kinds round 9, 12, 15 and 18 empty points. A list is a table with a line of names first (`id`, `file`, `node`, `target`,
+`to play`), tabs between; a `file` is looked for below GAMES.
 
-It prints a line for each kind of problem: how many were asked; how many were decided, decided with an answer tree that is too large to be
-written, unknown by their steps, unknown by another limit, refused by problem_tools, and ended by the limit of time; the processor seconds
-of all runs, those of the longest, and its name; and how many steps a second the runs made that ended by their steps. The status is 1 where
-a run was ended by the limit of time, or by a signal, or with a status other than 0 and 1. Each record of such a run, and of a run of more
-than half of the limit, is written to the folder of `--keep`. Interrupted, it prints the table of what has been asked.
+It prints a line for each kind of problem: how many were asked; how many were decided, decided with an answer tree that is too
+large to be written, unknown by their steps, unknown by another limit, refused by problem_tools, and ended by the limit of time;
+the processor seconds of all runs, those of the longest, and its name; and how many steps a second the runs made that ended by
+their steps. The status is 1 where a run was ended by the limit of time, or by a signal, or with a status other than 0 and 1.
+Each record of such a run, and of a run of more than half of the limit, is written to the folder of `--keep`. Interrupted, it
+prints the table of what has been asked.
 """
 
 import argparse
@@ -26,15 +26,18 @@ import resource
 import signal
 import subprocess
 import sys
-import tempfile
+from collections.abc import Iterator
 
 import hostile_inputs
 import script_words
+from measuring.runs import timed
 
-NAME = "tools/measure_limits.py"
+NAME = "tools/measure limits"
 POINTS, WALLS = (9, 12, 15, 18), ("natural", "hard", "race", "alone")
 # How a run ended, and the column that counts those.
-DECIDED, TREE, STEPS, OTHER, REFUSED, ENDED = ENDS = ["Decided", "Tree too large", "Out of steps", "Other limit", "Refused", "Out of time"]
+DECIDED, TREE, STEPS, OTHER, REFUSED, ENDED = ENDS = [
+    "Decided", "Tree too large", "Out of steps", "Other limit", "Refused", "Out of time",
+]
 COLUMNS = ["Problems", "Asked", *ENDS, "Seconds in all", "Longest", "Which", "Steps a second"]
 # How many times as long as the limit a run may take by the clock, on a machine that other work shares.
 SHARED = 20
@@ -43,25 +46,28 @@ SHARED = 20
 class Asked:
     """A problem: its kind, its name, and its record or the words with which problem_tools makes it from a file."""
 
-    def __init__(self, kind, name, text=None, file=None, words=None):
+    def __init__(
+        self, kind: str, name: str, text: str = "", file: pathlib.Path | None = None, words: list[str] | None = None
+    ) -> None:
         self.kind, self.name, self.text, self.file, self.words = kind, name, text, file, words
 
-    def record(self, programs):
+    def record(self, programs: dict[str, str]) -> bytes | None:
         """The bytes of the record. None where problem_tools refuses to make one."""
         if self.words is None:
             return self.text.encode()
-        made = subprocess.run([programs["problem_tools"], *self.words], input=self.file.read_bytes(), capture_output=True, check=False)
+        words = [programs["problem_tools"], *self.words]
+        made = subprocess.run(words, input=self.file.read_bytes(), capture_output=True, check=False)
         return made.stdout if made.returncode == 0 else None
 
 
 class Found:
     """What came of a problem: its kind and name, the record, how it ended, processor seconds, and what was written."""
 
-    def __init__(self, asked, record, end, seconds=0.0, said=""):
+    def __init__(self, asked: Asked, record: bytes, end: str, seconds: float = 0.0, said: str = "") -> None:
         self.kind, self.name, self.record, self.end, self.seconds, self.said = asked.kind, asked.name, record, end, seconds, said
 
 
-def end_of(code, said):
+def end_of(code: int, said: str) -> str:
     """How a run ended, by its status and what it wrote."""
     for words, end in (("unknown: step budget", STEPS), ("unknown: tree too large", TREE)):
         if code == 1 and said.startswith(words):
@@ -71,30 +77,23 @@ def end_of(code, said):
     return OTHER if code == 1 else ENDED
 
 
-def find(programs, given, asked):
+def find(programs: dict[str, str], given: argparse.Namespace, asked: Asked) -> Found:
     """Solves one problem. The limit is one of processor seconds, so that other work on the machine ends no run."""
     record = asked.record(programs)
     if record is None:
         return Found(asked, b"", REFUSED)
     words = [programs["tsumego"], "solve", "--steps", str(given.steps)]
-    with tempfile.TemporaryFile() as out, tempfile.TemporaryFile() as stdin:
-        stdin.write(record)
-        stdin.seek(0)
-        limit = lambda: resource.setrlimit(resource.RLIMIT_CPU, (given.seconds, given.seconds + 1))
-        started = subprocess.Popen(["timeout", str(SHARED * given.seconds), *words], stdin=stdin, stdout=out, preexec_fn=limit)
-        _, status, used = os.wait4(started.pid, 0)
-        started.returncode = os.waitstatus_to_exitcode(status)
-        out.seek(0)
-        said = out.read(100).decode(errors="replace").strip()
-    return Found(asked, record, end_of(started.returncode, said), used.ru_utime + used.ru_stime, said)
+    run = timed(words, record, limits={resource.RLIMIT_CPU: given.seconds}, clock=SHARED * given.seconds)
+    said = run.output[:100].decode(errors="replace").strip()
+    return Found(asked, record, end_of(run.status, said), run.seconds, said)
 
 
-def random_problems(given):
+def random_problems(given: argparse.Namespace) -> Iterator[Asked]:
     for number in range(given.start, given.start + given.random):
         yield Asked("random", f"random-{number}", text=hostile_inputs.random_problem(number))
 
 
-def questions(given):
+def questions(given: argparse.Namespace) -> Iterator[Asked]:
     """Each question with each number of points and each kind of walls."""
     with open(given.questions, newline="") as lines:
         rows = list(csv.DictReader(lines, delimiter="\t", quoting=csv.QUOTE_NONE))
@@ -102,32 +101,35 @@ def questions(given):
         for points in POINTS:
             for walls in WALLS:
                 mover = {"B": "black", "W": "white"}[row["to play"]]
-                words = ["mark", "--node", row["node"], "--target", row["target"], "--to-play", mover, "--region", str(points), "--walls", walls]
-                yield Asked(f"{points} points, {walls}", f"{row['id']}-{points}-{walls}", file=given.games / row["file"], words=words)
+                words = ["mark", "--node", row["node"], "--target", row["target"], "--to-play", mover]
+                words += ["--region", str(points), "--walls", walls]
+                name = f"{row['id']}-{points}-{walls}"
+                yield Asked(f"{points} points, {walls}", name, file=given.games / row["file"], words=words)
 
 
-def keep(folder, found):
+def keep(folder: pathlib.Path, found: Found) -> None:
     folder.mkdir(parents=True, exist_ok=True)
     (folder / f"{re.sub('[^A-Za-z0-9-]', '_', found.name)}.sgf").write_bytes(found.record)
 
 
-def row_of(kind, all_found, steps):
+def row_of(kind: str, all_found: list[Found], steps: int) -> list[str]:
     """The line of the table for a kind of problem."""
     ends = collections.Counter(it.end for it in all_found)
     longest = max(all_found, key=lambda it: it.seconds)
     spent = sum(it.seconds for it in all_found if it.end == STEPS)
     rate = f"{round(ends[STEPS] * steps / spent):,}" if spent else ""
     counts = [len(all_found), *(ends[it] for it in ENDS)]
-    return [kind, *(f"{it:,}" for it in counts), f"{sum(it.seconds for it in all_found):,.0f}", f"{longest.seconds:.1f}", longest.name, rate]
+    seconds = f"{sum(it.seconds for it in all_found):,.0f}"
+    return [kind, *(f"{it:,}" for it in counts), seconds, f"{longest.seconds:.1f}", longest.name, rate]
 
 
-def show(kinds, steps):
+def show(kinds: dict[str, list[Found]], steps: int) -> None:
     print("| " + " | ".join(COLUMNS) + " |\n" + "|---" * len(COLUMNS) + "|")
     for kind, all_found in kinds.items():
         print("| " + " | ".join(row_of(kind, all_found, steps)) + " |", flush=True)
 
 
-def tell(found, given):
+def tell(found: Found, given: argparse.Namespace) -> None:
     """Names a run that was ended or took long, and keeps its record."""
     if found.end == ENDED or found.seconds > given.seconds / 2:
         print(f"{found.name}: {found.end}, {found.seconds:.1f} s, {found.said[:60]}", file=sys.stderr, flush=True)
@@ -135,7 +137,7 @@ def tell(found, given):
             keep(given.keep, found)
 
 
-def ask_all(programs, given, asked):
+def ask_all(programs: dict[str, str], given: argparse.Namespace, asked: list[Asked]) -> dict[str, list[Found]]:
     """What came of all, by kinds, up to an interrupt."""
     kinds = collections.defaultdict(list)
     signal.signal(signal.SIGTERM, signal.default_int_handler)
@@ -152,33 +154,32 @@ def ask_all(programs, given, asked):
     return kinds
 
 
-def given_words():
-    parser = argparse.ArgumentParser(description=__doc__, formatter_class=argparse.RawDescriptionHelpFormatter, allow_abbrev=False)
-    parser.add_argument("--random", type=int, default=5_000, metavar="N", help="how many random problems [%(default)s]")
-    parser.add_argument("--start", type=int, default=0, metavar="N", help="the number of the first of them [%(default)s]")
-    parser.add_argument("--steps", type=int, default=300_000, metavar="N", help="the steps of a search [%(default)s]")
-    parser.add_argument("--seconds", type=int, default=20, metavar="N", help="the limit, in seconds of a processor [%(default)s]")
-    parser.add_argument("--jobs", type=int, default=1, metavar="N", help="how many run at once [%(default)s]")
-    parser.add_argument("--questions", type=pathlib.Path, metavar="LIST", help="the list of questions about games")
-    parser.add_argument("--games", type=pathlib.Path, help="the folder with their records")
-    parser.add_argument("--every", type=int, default=1, metavar="K", help="only each K-th question [%(default)s]")
-    parser.add_argument("--keep", type=pathlib.Path, metavar="FOLDER", help="the folder for records that took long")
-    parser.add_argument("programs", type=pathlib.Path, metavar="PROGRAMS")
-    parser.error = lambda why: script_words.refuse(NAME, why)
-    given = parser.parse_args()
+def add_words(words: script_words.Words) -> None:
+    some, any_ = script_words.a_number(1), script_words.a_number(0)
+    words.add_argument("--random", type=any_, default=5_000, metavar="N", help="how many random problems [%(default)s]")
+    words.add_argument("--start", type=any_, default=0, metavar="N", help="the number of the first of them [%(default)s]")
+    words.add_argument("--steps", type=some, default=300_000, metavar="N", help="the steps of a search [%(default)s]")
+    words.add_argument("--seconds", type=some, default=20, metavar="N", help="the limit, in seconds of a processor [%(default)s]")
+    words.add_argument("--jobs", type=some, default=1, metavar="N", help="how many run at once [%(default)s]")
+    words.add_argument("--questions", type=pathlib.Path, metavar="LIST", help="the list of questions about games")
+    words.add_argument("--games", type=pathlib.Path, help="the folder with their records")
+    words.add_argument("--every", type=some, default=1, metavar="K", help="only each K-th question [%(default)s]")
+    words.add_argument("--keep", type=pathlib.Path, metavar="FOLDER", help="the folder for records that took long")
+    words.add_argument("programs", type=pathlib.Path, metavar="PROGRAMS")
+
+
+def check_words(given: argparse.Namespace) -> None:
     if (given.questions is None) != (given.games is None):
         script_words.refuse(NAME, "--questions and --games are given together")
     for path in filter(None, [given.questions, given.games]):
         if not path.exists():
             script_words.refuse(NAME, f"there is no {path}")
-    if min(given.steps, given.seconds, given.jobs, given.every) < 1 or min(given.random, given.start) < 0:
-        script_words.refuse(NAME, "a number is too small")
-    return given
 
 
-def main():
-    given = given_words()
-    programs = {it: str(given.programs.resolve() / it / "out" / it) for it in ("tsumego", *(["problem_tools"] if given.games else []))}
+def main(given: argparse.Namespace) -> int:
+    check_words(given)
+    names = ["tsumego", *(["problem_tools"] if given.games else [])]
+    programs = {it: str(given.programs.resolve() / it / "out" / it) for it in names}
     for path in programs.values():
         if not os.access(path, os.X_OK):
             script_words.refuse(NAME, f"there is no program {path}")
@@ -191,7 +192,3 @@ def main():
         script_words.refuse(NAME, "nothing is asked")
     show(kinds, given.steps)
     return 1 if any(it.end == ENDED for all_found in kinds.values() for it in all_found) else 0
-
-
-if __name__ == "__main__":
-    sys.exit(main())

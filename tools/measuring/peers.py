@@ -1,7 +1,6 @@
-#!/usr/bin/env python3
 """Measures tsumego beside plain C++ programs that do the same work, in the same run.
 
-    tools/measure_peers.py [--instructions] [--problems FOLDER] [--search PEER] PROGRAM [ROW..]
+    tools/measure peers [--instructions] [--problems FOLDER] [--search PEER] PROGRAM [ROW..]
 
 PROGRAM is a built tsumego. The peers are tools/peers/*.cpp, which are compiled with `g++ -O2` first. Without rows, all of them:
 
@@ -16,26 +15,29 @@ PROGRAM is a built tsumego. The peers are tools/peers/*.cpp, which are compiled 
 
 It prints a table: for each row the inputs, the processor seconds of both (the least of nine alternating runs each, all inputs
 together), and the median and the greatest ratio, ours to the peer's; with --instructions also those of the instructions that
-valgrind counts in one run. For `sgf` the seconds of a small record are taken off, and megabytes a second are printed too. Both have
-to give the same answer for each input, except to `gtp`; the status is 1 where one differs.
+valgrind counts in one run. For `sgf` the seconds of a small record are taken off, and megabytes a second are printed too. Both
+have to give the same answer for each input, except to `gtp`; the status is 1 where one differs.
 """
+
 import argparse
 import itertools
 import os
 import pathlib
 import re
-import shutil
 import statistics
 import subprocess
 import sys
 import tempfile
+import typing
+from collections.abc import Callable
 
-from measure_check import Wide
-from measure_gtp import commands
-from measure_sizes import SIZES, record as fight
-from script_words import refuse
+import script_words
+from measuring.claims import Wide
+from measuring.gtp import commands, gnugo
+from measuring.runs import timed
+from measuring.sizes import SIZES, record as fight
 
-TOP = pathlib.Path(__file__).resolve().parent.parent
+NAME = "tools/measure peers"
 ROWS = ("claims", "nodes", "within", "audit", "sgf", "search", "gtp")
 TURNS = 9
 MOST_INPUTS = 12
@@ -43,19 +45,7 @@ STATES = "4294967295"
 STEPS = "10000"
 
 
-def run(words, given):
-    """What is written, and the processor seconds."""
-    with tempfile.TemporaryFile() as out, tempfile.TemporaryFile() as stdin:
-        stdin.write(given)
-        stdin.seek(0)
-        process = subprocess.Popen(words, stdin=stdin, stdout=out, stderr=subprocess.DEVNULL)
-        _, _, used = os.wait4(process.pid, 0)
-        process.returncode = 0
-        out.seek(0)
-        return out.read(), used.ru_utime + used.ru_stime
-
-
-def instructions(words, given):
+def instructions(words: list[str], given: bytes) -> int:
     """How many instructions valgrind counts."""
     with tempfile.NamedTemporaryFile() as found:
         count = ["valgrind", "--tool=callgrind", f"--callgrind-out-file={found.name}"]
@@ -66,27 +56,40 @@ def instructions(words, given):
 class Row:
     """The inputs of one row, each with the words of both programs and what both have to agree on."""
 
-    def __init__(self, name, ours, peer, inputs, part=rb".*", small=None):
+    def __init__(
+        self,
+        name: str,
+        ours: list[str],
+        peer: list[str] | None,
+        inputs: list[bytes],
+        part: bytes = rb".*",
+        small: bytes = b"",
+    ) -> None:
         self.name, self.ours, self.peer, self.inputs, self.part, self.small = name, ours, peer, inputs, part, small
         self.seconds, self.counted, self.differ = [], [], 0
 
-    def measure(self, counts):
+    def measure(self, is_counted: bool) -> None:
         for given in self.inputs:
-            theirs = [run(words, given) for _ in range(TURNS) for words in (self.ours, self.peer)]
-            ours, peer = theirs[::2], theirs[1::2]
-            if re.search(self.part, ours[0][0])[0] != re.search(self.part, peer[0][0])[0]:
+            runs = [timed(words, given) for _ in range(TURNS) for words in (self.ours, self.peer)]
+            ours, peer = runs[::2], runs[1::2]
+            if self.answer(ours[0].output) != self.answer(peer[0].output):
                 self.differ += 1
-                print(f"{self.name}: ours {ours[0][0][:80]!r}, the peer {peer[0][0][:80]!r}", file=sys.stderr)
+                print(f"{self.name}: ours {ours[0].output[:80]!r}, the peer {peer[0].output[:80]!r}", file=sys.stderr)
             both = ((ours, self.ours), (peer, self.peer))
-            self.seconds.append([min(used for _, used in runs) - self.start(words) for runs, words in both])
-            if counts:
+            self.seconds.append([min(it.seconds for it in runs) - self.start(words) for runs, words in both])
+            if is_counted:
                 self.counted.append([instructions(words, given) for words in (self.ours, self.peer)])
 
-    def start(self, words):
-        """The seconds of the small input, if there is one."""
-        return min(run(words, self.small)[1] for _ in range(TURNS)) if self.small else 0
+    def answer(self, output: bytes) -> bytes | None:
+        """The part on which both have to agree; None where there is none."""
+        found = re.search(self.part, output)
+        return found[0] if found else None
 
-    def print(self):
+    def start(self, words: list[str]) -> float:
+        """The seconds of the small input, if there is one."""
+        return min(timed(words, self.small).seconds for _ in range(TURNS)) if self.small else 0
+
+    def print(self) -> None:
         ours, peer = (sum(each) for each in zip(*self.seconds))
         cells = [f"`{self.name}`", len(self.inputs), f"{ours:.3f}, {peer:.3f}", *ratios(self.seconds)]
         cells += ratios(self.counted) if self.counted else []
@@ -97,28 +100,29 @@ class Row:
         print("| " + " | ".join(map(str, cells)) + " |", flush=True)
 
 
-def ratios(pairs):
+def ratios(pairs: list[list[float]]) -> list[str]:
     """The median and the greatest ratio of pairs; times under a hundredth of a second say nothing."""
     each = [one / max(other, 0.001) for one, other in pairs]
     return [f"{statistics.median(each):.2f}", f"{max(each):.2f}"]
 
 
-def records(folder):
-    paths = sorted((TOP / "examples").glob("*.sgf")) + (sorted(pathlib.Path(folder).glob("**/*.sgf")) if folder else [])
+def records(folder: str | None) -> list[bytes]:
+    paths = sorted((script_words.TOP / "examples").glob("*.sgf"))
+    paths += sorted(pathlib.Path(folder).glob("**/*.sgf")) if folder else []
     return [path.read_bytes() for path in paths]
 
 
-def solved(program, problems, words, is_wanted):
+def solved(program: str, problems: list[bytes], words: list[str], is_wanted: Callable[[bytes], bool]) -> list[bytes]:
     """Answers of `solve` with these words, the largest ones first."""
     found = []
     for record in problems:
-        answer = run([program, "solve", "--steps", "100000", *words], record)[0]
+        answer = timed([program, "solve", "--steps", "100000", *words], record).output
         if is_wanted(answer):
             found.append(answer)
     return sorted(found, key=len, reverse=True)[:MOST_INPUTS]
 
 
-def wide_claims():
+def wide_claims() -> list[bytes]:
     """A record and the front of a wide claim, of three lengths; both checkers reject it where it is cut."""
     wide, parts, length = Wide(), [], 0
     for part in wide.claim():
@@ -130,41 +134,40 @@ def wide_claims():
     return [(wide.record() + text[: text.rindex("\n", 0, size) + 1]).encode() for size in (1_000_000, 4_000_000, 16_000_000)]
 
 
-def wide_fight():
+def wide_fight() -> bytes:
     """Seven points apart, at which Black plays in any order while White passes."""
     return b"(;SZ[9]AW[aa]PL[B]TR[aa]SQ[bg][dg][fg][hg][ai][ci][ei])"
 
 
-def long_nodes():
+def long_nodes() -> bytes:
     node = ";B[aa]C[" + "a comment of some words, as records of games have them, " * 4 + "]"
     return ("(;SZ[9]AW[aa]PL[B]TR[aa]" + ("(" + node + ";W[bb])") * 3_800 + ")").encode()
 
 
-def short_nodes():
+def short_nodes() -> bytes:
     return ("(;SZ[9]AW[aa]PL[B]TR[aa]" + "(;B[ba];W[ca];B[da];W[ea];B[fa];W[ga];B[ha];W[ia])" * 9_000 + ")").encode()
 
 
-def unsolved(ours, peer, problems):
+def unsolved(ours: list[str], peer: list[str], problems: list[bytes]) -> list[bytes]:
     """Records that both leave unknown."""
-    left = (record for record in problems if all(b"unknown" in run(words, record)[0] for words in (ours, peer)))
+    left = (record for record in problems if all(b"unknown" in timed(words, record).output for words in (ours, peer)))
     return list(itertools.islice(left, MOST_INPUTS))
 
 
-def row_of(name, program, peers, problems):
+def row_of(name: str, program: str, peers: dict[str, str | None], problems: list[bytes]) -> Row:
     if name == "search":
         ours = [program, "solve", "--proof", "--steps", STEPS]
         peer = [peers["search"], "run", f"steps={STEPS}", "shrink=0", "claim=0", "/dev/stdin"]
         return Row(name, ours, peer, unsolved(ours, peer, problems) if peers["search"] else [], rb"unknown")
     if name == "gtp":
-        gnugo = shutil.which("gnugo", path=os.environ["PATH"] + ":/usr/games")
-        return Row(name, [program, "gtp"], [gnugo, "--mode", "gtp"], [commands(19, 1).encode()] if gnugo else [], rb"")
+        return Row(name, [program, "gtp"], peer := gnugo(), [commands(19, 1)] if peer else [], rb"")
     if name == "claims":
         claims = solved(program, problems, ["--proof"], lambda answer: len(answer) > 100_000 and b"\nlemma " in answer)
         return Row(name, [program, "check"], [peers["checker"]], claims)
     if name == "nodes":
         return Row(name, [program, "check"], [peers["checker"]], wide_claims(), rb"rejected line \d+")
     if name == "within":
-        inputs = [fight(rows).encode() for rows in SIZES] + [wide_fight()]
+        inputs = [*map(fight, SIZES), wide_fight()]
         return Row(name, [program, "within", "9", "--nodes", STATES], [peers["within"], "9", STATES], inputs)
     if name == "audit":
         trees = solved(program, problems, [], lambda answer: answer.count(b";") > 3_000)
@@ -173,47 +176,47 @@ def row_of(name, program, peers, problems):
     return Row(name, [program, "within", "0"], [peers["sgf_reader"]], [long_nodes(), short_nodes()], rb"", small)
 
 
-def compiled(folder):
+def compiled(folder: str) -> dict[str, str]:
     """The peers, compiled into this folder."""
-    if not shutil.which("g++"):
-        sys.exit("tools/measure_peers.py: there is no g++, which compiles the peers (Debian: apt-get install g++)")
+    script_words.need("g++:g++")
     peers = {}
-    for source in sorted((TOP / "tools/peers").glob("*.cpp")):
+    for source in sorted((script_words.TOP / "tools/peers").glob("*.cpp")):
         peers[source.stem] = os.path.join(folder, source.stem)
         subprocess.run(["g++", "-std=c++17", "-O2", "-pthread", "-o", peers[source.stem], source], check=True)
     return peers
 
 
-def main():
-    parser = argparse.ArgumentParser(description=__doc__, formatter_class=argparse.RawDescriptionHelpFormatter)
-    parser.add_argument("--instructions", action="store_true")
-    parser.add_argument("--problems", metavar="FOLDER")
-    parser.add_argument("--search", metavar="PEER")
-    parser.add_argument("program")
-    parser.add_argument("rows", nargs="*", metavar="ROW")
-    asked = parser.parse_args()
-    unknown = [name for name in asked.rows if name not in ROWS]
-    if unknown or not os.path.isfile(asked.program) or (asked.problems and not os.path.isdir(asked.problems)):
-        refuse("tools/measure_peers.py", f"there is no row {unknown[0]}" if unknown else "there is no such program or folder")
-    if asked.instructions and not shutil.which("valgrind"):
-        sys.exit("tools/measure_peers.py: there is no valgrind, which counts instructions (Debian: apt-get install valgrind)")
-    program, differ = os.path.abspath(asked.program), 0
+def show_head(is_counted: bool) -> None:
     columns = ["Row", "Inputs", "Seconds: ours, the peer", "Ratio: median", "Greatest"]
-    columns += ["Instructions: median", "Greatest"] if asked.instructions else []
+    columns += ["Instructions: median", "Greatest"] if is_counted else []
     print("| " + " | ".join([*columns, ""]) + " |\n|" + "---|" * (len(columns) + 1))
+
+
+def add_words(words: script_words.Words) -> None:
+    words.add_argument("--instructions", action="store_true")
+    words.add_argument("--problems", metavar="FOLDER", type=script_words.file)
+    words.add_argument("--search", metavar="PEER", type=script_words.program)
+    words.add_argument("program", type=script_words.program)
+    words.add_argument("rows", nargs="*", metavar="ROW")
+
+
+def main(given: argparse.Namespace) -> int:
+    unknown = [name for name in given.rows if name not in ROWS]
+    if unknown:
+        script_words.refuse(NAME, f"there is no row {unknown[0]}")
+    if given.instructions:
+        script_words.need("valgrind:valgrind")
+    differ = 0
     with tempfile.TemporaryDirectory() as folder:
-        peers, problems = compiled(folder), records(asked.problems)
-        peers["search"] = asked.search and os.path.abspath(asked.search)
-        for name in asked.rows or ROWS:
-            row = row_of(name, program, peers, problems)
+        peers: dict[str, typing.Any] = {**compiled(folder), "search": given.search}
+        problems = records(given.problems)
+        show_head(given.instructions)
+        for name in given.rows or ROWS:
+            row = row_of(name, given.program, peers, problems)
             if not row.inputs:
                 print(f"| `{name}` | nothing to measure with: --help says what it takes |", flush=True)
                 continue
-            row.measure(asked.instructions)
+            row.measure(given.instructions)
             row.print()
             differ += row.differ
     return 1 if differ else 0
-
-
-if __name__ == "__main__":
-    sys.exit(main())

@@ -1,16 +1,16 @@
-#!/usr/bin/env python3
 """Compares what group_status says of every group at the ends of games with GNU Go's final_status_list.
 
-    tools/measure_ends.py [--boards N] [--seed N] [--steps N] GROUP_STATUS [FILE..]
+    tools/measure ends [--boards N] [--seed N] [--steps N] GROUP_STATUS [FILE..]
 
 GROUP_STATUS is the built program; it is called as `GROUP_STATUS --all --json [--steps N] < FILE`. Without files the games are
-those of Debian's package goban-original-games that have a counted result, and N of them, 40 by default, are drawn by the seed, 1 by
-default, so that nobody has chosen them. For root, that package and gnugo are installed.
+those of Debian's package goban-original-games that have a counted result, and N of them, 40 by default, are drawn by the seed,
+1 by default, so that nobody has chosen them. For root, that package and gnugo are installed.
 
 It prints for each word how many stones and chains have it, and their shares: proved alive, proved dead, dead while named stones
 stand, other words, and none; then how many boards have a word for each chain, the processor seconds of group_status for a board
-(median and most), and each disagreement: the game, the chain's first stone, how many stones, and what both say. Chains that GNU Go
-calls alive or in seki should be alive, those that it calls dead should be dead. The status is 1 where a proved word disagrees.
+(median and most), and each disagreement: the game, the chain's first stone, how many stones, and what both say. Chains that GNU
+Go calls alive or in seki should be alive, those that it calls dead should be dead. The status is 1 where a proved word
+disagrees.
 """
 
 import argparse
@@ -24,11 +24,12 @@ import shutil
 import statistics
 import subprocess
 import sys
-import tempfile
 import time
 
 import script_words
+from measuring.runs import timed
 
+NAME = "tools/measure ends"
 GAMES, PACKAGE = pathlib.Path("/usr/share/goban"), "goban-original-games"
 COUNTED = re.compile(rb"RE\[[BW]\+[0-9]+(\.[05])?\]")
 COLUMNS = "ABCDEFGHJKLMNOPQRSTUVWXYZ"
@@ -38,28 +39,28 @@ WORDS = ["proved alive", "proved dead", "dead while stones stand", "other words"
 SECONDS = 1_800  # for one board
 
 
-def need_games():
+def need_games() -> None:
     """Ends the script unless the games are there. For root they are installed."""
     if not GAMES.is_dir() and os.geteuid() == 0 and shutil.which("apt-get"):
         for words in (["update"], ["install", "-y", PACKAGE]):
             subprocess.run(["apt-get", *words], stdin=subprocess.DEVNULL, capture_output=True, check=False)
     if not GAMES.is_dir():
-        print(f"tools/measure_ends.py: there is no folder {GAMES} (of the package {PACKAGE})", file=sys.stderr)
+        print(f"{NAME}: there is no folder {GAMES} (of the package {PACKAGE})", file=sys.stderr)
         sys.exit(4)
 
 
-def drawn(boards, seed):
+def drawn(boards: int, seed: int) -> list[pathlib.Path]:
     """So many games with a counted result, by chance."""
     need_games()
     counted = [file for file in sorted(GAMES.iterdir()) if COUNTED.search(file.read_bytes())]
     return random.Random(seed).sample(counted, min(boards, len(counted)))
 
 
-def vertices(text):
+def vertices(text: str) -> list[str]:
     return re.findall(r"\b[A-HJ-Z][0-9]{1,2}\b", text)
 
 
-def by_gnugo(file):
+def by_gnugo(file: pathlib.Path) -> tuple[dict[str, str], dict[str, str]] | None:
     """The stones at the end of a game, and what GNU Go says of each: two tables by vertex. None where it cannot read the game."""
     commands = "".join(f"{it}\n" for it in [f"loadsgf {file}", *ASKED, "quit"])
     said = subprocess.run(GNUGO, input=commands, capture_output=True, text=True, timeout=SECONDS, check=False).stdout
@@ -71,13 +72,13 @@ def by_gnugo(file):
     return stones, status
 
 
-def beside(vertex):
+def beside(vertex: str) -> list[str]:
     column, row = COLUMNS.index(vertex[0]), int(vertex[1:])
     places = [(column - 1, row), (column + 1, row), (column, row - 1), (column, row + 1)]
     return [f"{COLUMNS[column]}{row}" for column, row in places if 0 <= column < len(COLUMNS)]
 
 
-def chain_of(stones, vertex):
+def chain_of(stones: dict[str, str], vertex: str) -> set[str]:
     chain, unvisited = {vertex}, [vertex]
     while unvisited:
         more = [it for it in beside(unvisited.pop()) if stones.get(it) == stones[vertex] and it not in chain]
@@ -86,7 +87,7 @@ def chain_of(stones, vertex):
     return chain
 
 
-def chains_of(stones):
+def chains_of(stones: dict[str, str]) -> list[tuple[str, set[str]]]:
     """All chains, each by its first stone, row by row."""
     chains, left = [], dict(stones)
     for vertex in sorted(stones, key=lambda it: (-int(it[1:]), it[0])):
@@ -97,7 +98,7 @@ def chains_of(stones):
     return chains
 
 
-def word_of(group):
+def word_of(group: dict) -> str:
     """In which of WORDS a group is. A program that names no stones on which a proof stands has no such condition."""
     status, word, proof = group.get("status"), group.get("word"), group.get("proof") or {}
     if status not in ("alive", "dead", "unsettled"):
@@ -108,34 +109,30 @@ def word_of(group):
     return f"proved {status}" if word == "proved" and status != "unsettled" else "other words"
 
 
-def by_group_status(program, options, file):
+def by_group_status(program: str, options: list[str], file: pathlib.Path) -> tuple[list[dict], float] | None:
     """What group_status says of each group, and its processor seconds. None where it refuses the game."""
-    with tempfile.TemporaryFile() as out, open(file, "rb") as given:
-        started = subprocess.Popen([program, "--all", "--json", *options], stdin=given, stdout=out, stderr=subprocess.DEVNULL)
-        _, status, used = os.wait4(started.pid, 0)
-        started.returncode = os.waitstatus_to_exitcode(status)
-        out.seek(0)
-        lines = out.read().decode(errors="replace").splitlines()
-    if started.returncode != 0:
-        print(f"{file}: group_status ended with {started.returncode}: {lines[:1]}", file=sys.stderr)
+    run = timed([program, "--all", "--json", *options], file)
+    lines = run.text().splitlines()
+    if run.status != 0:
+        print(f"{file}: group_status ended with {run.status}: {lines[:1]}", file=sys.stderr)
         return None
-    return [json.loads(line) for line in lines], used.ru_utime + used.ru_stime
+    return [json.loads(line) for line in lines], run.seconds
 
 
 class Tally:
     """What was said of all boards."""
 
-    def __init__(self):
+    def __init__(self) -> None:
         self.stones, self.chains, self.other = collections.Counter(), collections.Counter(), collections.Counter()
         self.seconds, self.differ, self.whole, self.is_wrong = [], [], 0, False
 
-    def add_board(self, name, stones, status, groups):
+    def add_board(self, name: str, stones: dict[str, str], status: dict[str, str], groups: list[dict]) -> None:
         """Each chain has the group that names one of its stones, or whose target is one of them."""
         of_stone = {vertex: group for group in groups for vertex in [*(group.get("stones") or []), group["target"]]}
         words = [self.add_chain(name, first, chain, status, of_stone) for first, chain in chains_of(stones)]
         self.whole += "none" not in words
 
-    def add_chain(self, name, first, chain, status, of_stone):
+    def add_chain(self, name: str, first: str, chain: set[str], status: dict[str, str], of_stone: dict[str, dict]) -> str:
         group = next((of_stone[vertex] for vertex in sorted(chain) if vertex in of_stone), {})
         word = word_of(group)
         self.stones[word] += len(chain)
@@ -149,7 +146,7 @@ class Tally:
             self.is_wrong |= word.startswith("proved")
         return word
 
-    def show(self):
+    def show(self) -> None:
         stones, chains = sum(self.stones.values()), sum(self.chains.values())
         print(f"{len(self.seconds)} boards, {stones:,} stones, {chains:,} chains; {self.whole} boards have a word for each chain")
         for word in WORDS:
@@ -163,29 +160,22 @@ class Tally:
             print(f"    {name} {first}, {count} stones: {ours}, GNU Go {theirs}")
 
 
-def given():
-    parser = argparse.ArgumentParser(description=__doc__, formatter_class=argparse.RawDescriptionHelpFormatter, allow_abbrev=False)
-    parser.add_argument("--boards", type=int, default=40)
-    parser.add_argument("--seed", type=int, default=1)
-    parser.add_argument("--steps", type=int)
-    parser.add_argument("program")
-    parser.add_argument("files", nargs="*", type=pathlib.Path)
-    words = parser.parse_args()
-    for file in [words.program, *words.files]:
-        if not os.path.exists(file):
-            script_words.refuse("tools/measure_ends.py", f"there is no file {file}")
-    return words
+def add_words(words: script_words.Words) -> None:
+    words.add_argument("--boards", type=script_words.a_number(1), default=40)
+    words.add_argument("--seed", type=int, default=1)
+    words.add_argument("--steps", type=script_words.a_number(1))
+    words.add_argument("program", type=script_words.program)
+    words.add_argument("files", nargs="*", type=script_words.file)
 
 
-def main():
-    words = given()
+def main(given: argparse.Namespace) -> int:
     os.environ["PATH"] += ":/usr/games"
     script_words.need("gnugo:gnugo")
-    files = words.files or drawn(words.boards, words.seed)
-    tally, options = Tally(), ["--steps", str(words.steps)] if words.steps else []
+    files = [pathlib.Path(it) for it in given.files] or drawn(given.boards, given.seed)
+    tally, options = Tally(), ["--steps", str(given.steps)] if given.steps else []
     for number, file in enumerate(files, 1):
         judged = by_gnugo(file)
-        answer = judged and by_group_status(words.program, options, file)
+        answer = judged and by_group_status(given.program, options, file)
         if not answer:
             print(f"{file.name} is left out", file=sys.stderr)
             continue
@@ -194,7 +184,3 @@ def main():
         print(f"{time.strftime('%H:%M:%S')} {number} of {len(files)}: {file.name}, {answer[1]:.1f} s", file=sys.stderr, flush=True)
     tally.show()
     return 1 if tally.is_wrong else 0
-
-
-if __name__ == "__main__":
-    sys.exit(main())

@@ -9,6 +9,8 @@ from script_tests.common import TOP, Case, Setting, case, example, executable, n
 
 # Compiled without the proofs it makes some hundred steps in a second, so most is tried with few: the straight three needs no more.
 FEW = ("--quick", "--steps", "1000")
+# What the proof of the straight three depends on, which takes more steps.
+THREE = "(proved, as long as the white stones at F7, F6, A5, B5, C5, D5, E5 have liberties elsewhere)"
 GAME = "(;GM[1]SZ[9];B[cc];W[gg];B[cg];W[gc];B[];W[])\n"
 HANDICAP = "(;GM[1]SZ[9]HA[2]AB[gc][cg];W[ba];B[ab])\n"
 ILLEGAL = "(;GM[1]SZ[9];B[cc];W[cc];B[dd])\n"
@@ -31,12 +33,16 @@ class Groups(Case):
     @case("group_status: a straight three", "straight-three", "A7: unsettled (sure)", "--steps", "1000")
     @case("group_status --quick", "straight-three", "A7: unsettled (sure)", *FEW)
     @case("group_status --first attacker", "straight-three", "A7: White wins (sure)", "--first", "attacker", "--steps", "1000")
-    @case("group_status --first defender", "straight-three", "A7: Black wins (sure)", "--first", "defender", "--steps", "1000")
+    @case("group_status --first defender", "straight-three", "A7: Black wins (proved)", "--first", "defender", "--steps", "1000")
+    @case("group_status: a straight three, by its proof", "straight-three", f"A7: unsettled {THREE}", "--steps", "20000")
+    @case("group_status --first attacker, by its proof", "straight-three", f"A7: White wins {THREE}",
+          "--first", "attacker", "--steps", "20000")
+    @case("group_status: a ko that decides", "ko-eye", "B7: alive, if Black wins the ko (sure)")
     def is_said(self, record, wanted, *words):
         self.assertEqual(group(*words, stdin=example(record)).lines()[0], wanted)
 
     @case("group_status: bent four in the corner", "bent-four", "D7: dead (sure)")
-    @case("group_status: a seki", "seki", "A7: alive (likely)")
+    @case("group_status: a seki", "seki", "A7: alive (sure)")
     def is_said_slowly(self, record, wanted):
         if Setting.is_unproved:
             self.skipTest("it takes minutes without the proofs")
@@ -59,7 +65,7 @@ class Groups(Case):
     def leaves_out(self):
         """The attacker wins at 6 points, and neither the natural nor the weak walls are decided at 9: no answer with hard walls
         counts then."""
-        lines = group("--steps", "200", stdin=example("bent-four")).lines()
+        lines = group("--steps", "200", "--why", stdin=example("bent-four")).lines()
         begin = next(at for at, line in enumerate(lines) if line.startswith("  White first"))
         end = next((at for at, line in enumerate(lines) if at > begin and line.startswith("  Black first")), len(lines))
         said = "\n".join(lines[begin:end + 1])
@@ -198,6 +204,17 @@ class Claims(Case):
         self.assertEqual(done.lines()[-1], f"1 claims in {folder}: 1 accepted, 0 not")
         rows = (folder / "claims.tsv").read_text().rstrip("\n")
         self.assertEqual(rows.partition("\t")[2], "1 A3, by answers: White stands\tstands White aa ca bb cb")
+
+    @case("contrib/group-claims with a group that each side decides by moving first")
+    def keeps_first_moves(self):
+        """A claim of death and one of life, which short_claims judges."""
+        folder = new_place() / "moves"
+        done = run("contrib/group-claims", folder, stdin=example("straight-three"))
+        self.ends(0, done)
+        self.assertEqual(done.lines()[-1], f"2 claims in {folder}: 2 accepted, 0 not")
+        dead, alive = (folder / "claims.tsv").read_text().splitlines()
+        self.assertTrue(dead.startswith("001.txt\t1 A7, White first, by answers: Black dies\tdead Black aa "), dead)
+        self.assertTrue(alive.startswith("002.txt\t2 A7, Black first, by answers: Black stands\tstands Black by ca aa "), alive)
 
     @case("contrib/group-claims with a question that has no claim")
     def says_unknown(self):

@@ -2,4 +2,4 @@
 #![tactic(auto)]
 
 /// What `--version` prints after a program's name.
-pub const VERSION: &str = "1.0.0";
+pub const VERSION: &str = "1.1.0";

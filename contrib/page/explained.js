@@ -10,8 +10,8 @@ const WORDS = {
   unknown: "No question was decided.",
 };
 const WORDS_OF_ONE = {
-  sure: "One procedure says so though everything that is supposed favours the other side. Of 46 such answers 40 agreed with people's.",
-  likely: "One procedure says so, by walls as they stand. Of 38 such answers 32 agreed with people's.",
+  sure: "One procedure says so though everything that is supposed favours the other side. Of 69 such answers 62 agreed with people's.",
+  likely: "One procedure says so, by walls as they stand. Of 73 such answers 54 agreed with people's.",
 };
 const WALLS = {
   open: "no stones are supposed",

@@ -10,7 +10,7 @@ use crate::proof::proved_line;
 use crate::proof_json::{first_moves_object, proof_object};
 use crate::table::Table;
 use crate::totals::Said;
-use crate::verdict::{Procedures, is_named, judge_by};
+use crate::verdict::{Procedures, judge_by};
 use group_words::{Form, Judgement, Request, Side, Word};
 use pn_search::Budget;
 use std::alloc::{AllocError, Global};
@@ -62,9 +62,6 @@ pub(crate) fn said_and_line(
         &moves,
         &mut silent,
     )?;
-    if !is_named(both.word) && is_named(first.word) {
-        return line_of(alloc, quick, &first, is_json);
-    }
     line_of(
         alloc,
         report_of(group, &other, &moves, Procedures::Both),

@@ -86,10 +86,10 @@ pub(crate) fn trust_text(word: Word, procedures: Procedures) -> &'static str {
             "  likely: more than 8 of 10 agree with people's answers; what is proved is each question's winner, with the stones put up\n"
         }
         (Word::Sure, Procedures::First) => {
-            "  sure, by one procedure: 40 of 46 agree with people's answers; what is proved is each question's winner, with the stones put up\n"
+            "  sure, by one procedure: 9 of 10 agree with people's answers; what is proved is each question's winner, with the stones put up\n"
         }
         (Word::Likely, Procedures::First) => {
-            "  likely, by one procedure: 32 of 38 agree with people's answers; what is proved is each question's winner, with the stones put up\n"
+            "  likely, by one procedure: 7 of 10 agree with people's answers; what is proved is each question's winner, with the stones put up\n"
         }
         _ => "",
     }

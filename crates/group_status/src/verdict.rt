@@ -21,11 +21,6 @@ pub(crate) enum Procedures {
     Both,
 }
 
-/// Whether a status is named with this word.
-pub(crate) fn is_named(word: Word) -> bool {
-    word.rank() <= Word::Likely.rank()
-}
-
 /// What these procedures find if this side moves first.
 fn found_by<N: Write>(
     alloc: Global,
@@ -45,8 +40,7 @@ fn found_by<N: Write>(
     }
 }
 
-/// What is found if this side moves first, and by which procedures: by the first one alone if that is sure, or nothing else is wanted;
-/// by both, if they name a winner; else by the first again, if it does.
+/// What is found if this side moves first, and by which procedures: by the first one alone if that is sure, or nothing else is wanted.
 pub(crate) fn found<N: Write>(
     alloc: Global,
     group: &Group,
@@ -60,9 +54,6 @@ pub(crate) fn found<N: Write>(
         return Ok((quick, Procedures::First));
     }
     let both = found_by(alloc, group, table, first, Procedures::Both, notes)?;
-    if !is_named(both.word) && is_named(quick.word) {
-        return Ok((quick, Procedures::First));
-    }
     Ok((both, Procedures::Both))
 }
 
@@ -113,8 +104,5 @@ pub(crate) fn judge<N: Write>(
         return Ok((quick, Procedures::First));
     }
     let both = judge_by(alloc, group, table, Procedures::Both, first_moves, notes)?;
-    if !is_named(both.word) && is_named(quick.word) {
-        return Ok((quick, Procedures::First));
-    }
     Ok((both, Procedures::Both))
 }

@@ -45,18 +45,30 @@ def distances(problem):
 
 
 def with_fewest_stones(programs, problem):
-    """The problem without the stones that it does not need: at once all that are far from the region, then one by one."""
+    """The problem without the stones that it does not need: at once all that are far from the region, then chain by chain, then one
+    by one."""
     stones, distance = outer_stones(problem), distances(problem)
     for least in (3, 5):
         made = problem._replace(cells=without(problem.cells, [it for it in stones if distance[it] >= least]))
         if is_unsettled(programs, made):
             problem = made
             break
+    for chain in far_chains(problem):
+        made = problem._replace(cells=without(problem.cells, chain))
+        if is_unsettled(programs, made):
+            problem = made
     for stone in outer_stones(problem):
         made = problem._replace(cells=without(problem.cells, [stone]))
         if is_held(problem, made, stone) and is_unsettled(programs, made):
             problem = made
     return problem
+
+
+def far_chains(problem):
+    """The chains outside the region that touch neither it nor a target."""
+    inside = {*problem.region, *problem.targets}
+    near = {*inside, *(it for point in inside for it in neighbours(problem.size)[point])}
+    return [chain for chain, _ in chains(problem.size, problem.cells) if near.isdisjoint(chain)]
 
 
 def is_held(before, made, stone):

@@ -5,7 +5,7 @@ from .boards import name_of, point_of
 from .cut import cut_for_collection
 from .find import Finder
 from .items import Item
-from .natural import NATURAL
+from .natural import NATURAL, may_be_seen_at_once
 from .quality import QUALITIES, score
 from .records import Unreadable, main_lines, positions, text_of
 from .same import canonical, name_of_problem
@@ -13,7 +13,7 @@ from .same import canonical, name_of_problem
 STEPS = 5_000
 # What is counted: how many are left after each step.
 COUNTED = (
-    *("nodes", "unsettled", "cut out", "new", *(name for name, _ in NATURAL)),
+    *("nodes", "unsettled", "small", "cut out", "new", *(name for name, _ in NATURAL)),
     *("one answer", "judged", *(name for name, _ in QUALITIES), "one of each group", "kept"),
 )
 
@@ -67,6 +67,9 @@ class Game:
     def problems_of(self, item):
         """The problems of an unsettled group that nothing speaks against, for each side to move first. One that another node has had is
         not asked about again."""
+        if not may_be_seen_at_once(item.problem):
+            return []
+        self.counts["small"] += 1
         problem = cut_for_collection(self.programs, item.problem, self.given.put_up)
         if problem is None:
             return []

@@ -4,7 +4,7 @@ A wall is what the attacker has outside the region. Its stones are joined where 
 cut, and where an empty point outside the region is all that is between two on one line.
 """
 
-from .boards import EMPTY, OTHER, around, chains, neighbours
+from .boards import EMPTY, around, chains, neighbours
 
 # A part of a wall that nobody asks about has so many stones, and so many liberties outside the region.
 WALL_STONES, WALL_LIBERTIES = 3, 3
@@ -110,13 +110,12 @@ def strange_stones(problem):
 def way_to_others(problem, part, free):
     """The fewest stones that join a part of a wall to another, as points; empty where there is no other so near."""
     others = wall_of(problem) - part
-    ways, seen = [[it] for it in sorted(part)], set()
+    ways = [[it] for it in sorted(part)]
     for _ in range(MOST_JOINING):
         ways = [[*way, near] for way in ways for near in neighbours(problem.size)[way[-1]] if near in free and near not in way]
         found = next((way for way in ways if joined_to(problem, way[-1], others)), None)
         if found:
             return found[1:]
-        seen.update(way[-1] for way in ways)
     return []
 
 
@@ -132,16 +131,25 @@ def has_whole_walls(problem):
 
 
 def has_one_group(problem):
-    """Whether all stones of the defender's are of the group, and those of the attacker's inside are few beside it."""
+    """Whether all stones of the defender's are of the group."""
     return not strange_stones(problem)
+
+
+def is_small(problem, points):
+    """Whether points stand on a part of the board that is seen at once."""
+    spans = [max(lines) - min(lines) + 1 for lines in ([it // problem.size for it in points], [it % problem.size for it in points])]
+    return spans[0] * spans[1] <= MOST_SHOWN and max(spans) <= MOST_LINES
+
+
+def may_be_seen_at_once(problem):
+    """Whether what cannot be cut off is on a small part of the board."""
+    return is_small(problem, {*problem.targets, *problem.region, *problem.put})
 
 
 def is_seen_at_once(problem):
     """Whether there are few stones, on a small part of the board."""
-    used = [it for it, cell in enumerate(problem.cells) if cell != EMPTY] + list(problem.region)
-    spans = [max(lines) - min(lines) + 1 for lines in ([it // problem.size for it in used], [it % problem.size for it in used])]
-    stones = sum(cell != EMPTY for cell in problem.cells)
-    return stones <= MOST_STONES and spans[0] * spans[1] <= MOST_SHOWN and max(spans) <= MOST_LINES
+    used = [it for it, cell in enumerate(problem.cells) if cell != EMPTY]
+    return len(used) <= MOST_STONES and is_small(problem, {*used, *problem.region})
 
 
 # In the order in which they are asked: what the count of those left is called, and the question.

@@ -220,7 +220,7 @@ def test_counted(folder):
     (folder / "three.sgf").write_text(problem.record().partition(";PL")[0] + ";B[])")
     code, said, told = call("--put-up", "0", folder / "three.sgf", folder / "three")
     expect("it is no problem for people", (code, told, said.splitlines()[-1].endswith("index.html: 0 problems")), (0, "", True))
-    counts = "2 nodes, 1 unsettled, 1 cut out, 1 new, 1 whole walls, 1 one group, 1 seen at once, 2 one answer, 2 judged, 0 long enough"
+    counts = "2 nodes, 1 unsettled, 1 small, 1 cut out, 1 new, 1 whole walls, 1 one group, 1 seen at once, 2 one answer, 2 judged, 0 long enough"
     expect("each step says how many it left", counts in said, True)
 
 

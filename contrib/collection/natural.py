@@ -11,7 +11,7 @@ WALL_STONES, WALL_LIBERTIES = 3, 3
 # So many stones at once are put up to join a part of a wall to the others.
 MOST_JOINING = 2
 # More than a person takes in: stones, points of the part of the board that has them, and lines one way.
-MOST_STONES, MOST_SHOWN, MOST_LINES = 32, 80, 12
+MOST_STONES, MOST_SHOWN, MOST_LINES = 36, 80, 12
 
 
 def group_of(problem):

@@ -63,7 +63,7 @@ def parser_of():
     add("--every", type=a_number(1, 1_000), default=1, metavar="K", help="looks at each Kth node of a game [1]")
     add("--stones", type=a_number(1, 100), default=3, metavar="N", help="looks at chains of so many stones or more [3]")
     add("--liberties", type=a_number(1, 100), default=8, metavar="N", help="and of so many liberties or fewer [8]")
-    add("--put-up", type=a_number(0, 20), default=6, metavar="N", help="the most stones that may be put up to close a region [6]")
+    add("--put-up", type=a_number(0, 20), default=6, metavar="N", help="the most stones that may be put up to close a region and its walls [6]")
     add("--best", type=a_number(1, 1_000), default=3, metavar="N", help="takes the N best problems of a game, of each group one [3]")
     add("--jobs", type=a_number(1, 10_000), metavar="N", help="games at once [as this machine has processors]")
     add("--hosts", metavar="FILE", help="works on machines by ssh, one a line in FILE")

@@ -138,8 +138,10 @@ def test_strangers():
 def test_seen_at_once():
     spread = ["+++QX" + "." * 14, "QQQQX" + "." * 14, "XXXXX" + "." * 14, *["." * 19] * 9, "..XXX" + "." * 14, *["." * 19] * 6]
     expect("stones thirteen lines apart are not seen at once", is_natural("\n".join(spread)), ["seen at once"])
-    crowd = WHOLE.replace("XXXXX....", "XXXXX....", 1).replace("    .........\n", "    XXXXXXXX.\n", 3)
-    expect("nor are more than 32 stones", (len([it for it in crowd if it in "XQ"]), is_natural(crowd)), (36, ["seen at once"]))
+    crowd = WHOLE.replace("    .........\n", "    XXXXXXXX.\n", 3)
+    expect("36 stones are", (len([it for it in crowd if it in "XQ"]), is_natural(crowd)), (36, []))
+    crowd = crowd.replace("XXXXXXXX.", "XXXXXXXXX", 1)
+    expect("37 are not", (len([it for it in crowd if it in "XQ"]), is_natural(crowd)), (37, ["seen at once"]))
 
 
 def answers(first, tries, turns=3, sacrifices=0):

@@ -1,7 +1,7 @@
 """Cuts a problem out of its game: the fewest stones and the smallest board with which the answers stay, proved again each time."""
 
 from .boards import EMPTY, chain_at, chains, neighbours, without
-from .natural import is_on_first_line, joining, with_wall_stones
+from .natural import joining, odd_stones, with_wall_stones
 
 STEPS = 5_000
 # Lines that stay free between the stones and the edges that they do not touch: in a collection so many that pictures and pages show
@@ -123,7 +123,7 @@ def on_board(problem, rows, margin):
 
 
 def on_smallest_board(programs, problem, margin):
-    """The problem on the smallest board that has so many free lines; on its own where there is none. A small board may grow by them."""
+    """The problem on the smallest board that has so many free lines, which may be larger than its own; on its own where there is none."""
     for rows in range(2, problem.size + margin):
         made = on_board(problem, rows, margin)
         if made and is_unsettled(programs, made):
@@ -132,9 +132,8 @@ def on_smallest_board(programs, problem, margin):
 
 
 def with_open_walls(programs, problem):
-    """The problem without the stones put up in whose place the answers stay where both sides may play there, those of a first line
-    first."""
-    for stone in sorted(problem.put, key=lambda it: (not is_on_first_line(problem.size, it), it)):
+    """The problem without those of the odd stones in whose place the answers stay where both sides may play there."""
+    for stone in odd_stones(problem):
         left, region = set(problem.put) - {stone}, {*problem.region, stone}
         made = problem._replace(cells=without(problem.cells, [stone]), put=tuple(sorted(left)), region=tuple(sorted(region)))
         if is_unsettled(programs, made):
@@ -170,7 +169,8 @@ def cut_for_collection(programs, problem, most_put):
     if not is_unsettled(programs, problem):
         return None
     fewest = with_standing(with_fewest_stones(programs, with_open_walls(programs, problem)))
-    made = on_smallest_board(programs, with_whole_walls(programs, fewest, most_put), COLLECTION_MARGIN)
+    whole = with_whole_walls(programs, with_open_walls(programs, fewest), most_put)
+    made = on_smallest_board(programs, whole, COLLECTION_MARGIN)
     return made if walls_hold(programs, made) else None
 
 

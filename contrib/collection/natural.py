@@ -1,7 +1,7 @@
 """What looks natural to a player: walls that are whole, no stone that stands for itself, a part of the board that is seen at once.
 
-A wall is what the attacker has outside the region. Its stones are joined where they touch, where they stand across a corner that is not
-cut, and where an empty point outside the region is all that is between two on one line.
+A wall is what the attacker has outside the region. Its stones are joined where they touch, where they stand across a corner that is
+not cut, and where an empty point outside the region is all that is between two on one line.
 """
 
 from .boards import EMPTY, around, chains, neighbours
@@ -69,6 +69,13 @@ def hanging(problem):
     """The stones put up on a first line with no stone of their side above them."""
     wall, size = wall_of(problem), problem.size
     return [it for it in problem.put if is_on_first_line(size, it) and not any(near in wall for near in above(size, it))]
+
+
+def odd_stones(problem):
+    """The stones put up that hang on the first line or stand in a weak part of the wall, the first ones first."""
+    weak = {it for part in wall_parts(problem) if not is_strong(problem, part) for it in part}
+    hang = hanging(problem)
+    return hang + [it for it in problem.put if it in weak and it not in hang]
 
 
 def is_on_first_line(size, point):

@@ -1,7 +1,7 @@
 """What a teacher would show: problems that are drawn here, with what a player sees in them.
 
-A drawing has a row of the board on each line. Empty points of the region are `+`, others `.`; black and white stones are X and O, the
-targets Y and Q, stones in the region x and o, and stones that were put up # and @.
+A drawing has a row of the board on each line. Empty points of the region are `+`, others `.`; black and white stones are X and O,
+the targets Y and Q, stones in the region x and o, and stones that were put up # and @.
 """
 
 import sys
@@ -16,6 +16,7 @@ from collection.answers import Answers
 from collection.boards import letters_of, point_of
 from collection.games import best_of_game, best_of_groups
 from collection.items import Item
+from collection.pictures import Picture
 from collection.problems import Problem
 from collection.programs import Programs, find_programs
 
@@ -54,7 +55,8 @@ WHOLE = """
 
 def test_walls():
     expect("a whole wall is natural", is_natural(WHOLE), [])
-    expect("so it is with a stone put up on the first line, where one stands above it", is_natural(WHOLE.replace("+++QX", "+++Q#")), [])
+    put = WHOLE.replace("+++QX", "+++Q#")
+    expect("so it is with a stone put up on the first line, where one stands above it", is_natural(put), [])
     hanging = """
         +++Q#....
         QQQQ+X...
@@ -85,10 +87,10 @@ def test_walls():
 
 
 def test_joined():
-    """Stones are joined side by side, across a corner that is not cut, and by a jump that is not in the region; not by a knight's move."""
+    """Stones are joined side by side, across a corner that is not cut, and by a jump outside the region; not by a knight's move."""
     problem = drawn("XO... OX... ...X. X+X.X ..... ".strip(" "))
     parts = [named(problem, it) for it in natural.wall_parts(problem._replace(targets=(1,)))]
-    expect("a corner that is cut joins nothing, nor does a knight's move, nor a jump in the region", parts, ["aa", "bb", "dc cd ed", "ad"])
+    expect("a corner that is cut joins nothing, nor a knight's move, nor a jump in the region", parts, ["aa", "bb", "dc cd ed", "ad"])
 
 
 def test_joining():
@@ -104,7 +106,8 @@ def test_joining():
         .........
         .........
     """
-    expect("one above the first line and the wall are joined already, across a corner", is_natural(gap.replace("XXXX.", "XXX.X")), [])
+    expect("a knight's move does not join the parts", is_natural(gap), ["whole walls"])
+    expect("two jumps do", is_natural(gap.replace("XXXX.", "XXX.X")), [])
     wide = """
         +++QX....
         QQQQ.....
@@ -120,7 +123,8 @@ def test_joining():
     added = natural.joining(problem)
     made = natural.with_wall_stones(problem, added)
     expect("two stones and a jump join the parts", (named(problem, added), len(natural.wall_parts(made))), ("eb ec", 1))
-    expect("they count as put up, and are the attacker's", (named(made, made.put), {made.cells[it] for it in added}), ("eb ec", {"X"}))
+    colours = {made.cells[it] for it in added}
+    expect("they count as put up, and are the attacker's", (named(made, made.put), colours), ("eb ec", {"X"}))
     expect("three would be too many", natural.joining(drawn(wide.replace("XXX", "XX."))), [])
     expect("nothing is added to a whole wall", natural.joining(drawn(WHOLE)), [])
     hanging = drawn(WHOLE.replace("+++QX", "+++Q#").replace("QQQQX", "QQQQ."))
@@ -132,7 +136,8 @@ def test_strangers():
     expect("a stone of another group is strange", is_natural(strange), ["one group"])
     problem = drawn(strange)
     expect("it is no stone of the group", named(problem, natural.strange_stones(problem)), "gd")
-    expect("beside it no wall is put up", [it for it in natural.free_points(problem) if it in (point_of(9, "gc"), point_of(9, "fd"))], [])
+    beside = {point_of(9, "gc"), point_of(9, "fd")}
+    expect("beside it no wall is put up", beside & natural.free_points(problem), set())
 
 
 def test_seen_at_once():
@@ -142,6 +147,20 @@ def test_seen_at_once():
     expect("36 stones are", (len([it for it in crowd if it in "XQ"]), is_natural(crowd)), (36, []))
     crowd = crowd.replace("XXXXXXXX.", "XXXXXXXXX", 1)
     expect("37 are not", (len([it for it in crowd if it in "XQ"]), is_natural(crowd)), (37, ["seen at once"]))
+
+
+def test_pictures():
+    """A picture has the lines in use and one more, and goes on to an edge that is at most two lines from these."""
+
+    def lines(drawing):
+        picture = Picture(drawn(drawing))
+        return picture.left, picture.right, picture.top, picture.bottom
+
+    expect("a corner is cropped", lines(WHOLE), (0, 5, 0, 3))
+    expect("the picture is so large", 'viewBox="0 0 170 122"' in Picture(drawn(WHOLE)).svg(), True)
+    expect("up to an edge that is near", lines(WHOLE.replace("XXXXX....", "XXXXXXX..")), (0, 8, 0, 3))
+    right = "\n".join(it[5:] + it[:5] for it in WHOLE.split())
+    expect("where nothing is near the left edge, it is not shown", lines(right), (3, 8, 0, 3))
 
 
 def answers(first, tries, turns=3, sacrifices=0):
@@ -170,7 +189,8 @@ def test_best():
     """Of two problems of one group the better is taken, and of a game so many as are wanted, in the order of the game."""
     problem = drawn(WHOLE)
     put = problem._replace(put=(4,))
-    dull, good = Item(problem, node=1, group=(3,), answers=answers(1, 2)), Item(problem, node=2, group=(3, 4), answers=answers(1, 4, 5))
+    dull = Item(problem, node=1, group=(3,), answers=answers(1, 2))
+    good = Item(problem, node=2, group=(3, 4), answers=answers(1, 4, 5))
     other = Item(put, node=3, group=(80,), answers=answers(1, 3))
     expect("a longer one with more tries is better", quality.score(good) > quality.score(dull), True)
     expect("one with a stone put up is worse", quality.score(dull._replace(problem=put)) < quality.score(dull), True)
@@ -193,13 +213,15 @@ THREE = """
 
 
 def test_open_walls():
-    """Stones put up on the first line go, where White's crawl is stopped also without them: both sides may play there. One through
-    whose place White gets out stays."""
+    """A stone put up that hangs on the first line goes, where the answers stay when both sides may play there. One that is not odd
+    stays, and so does one through whose place White gets out."""
     programs = Programs(find_programs())
     made = cut.with_open_walls(programs, drawn(THREE.replace("+++QX..", "+++Q##.")))
-    expect("those of the first line go", (named(made, made.put), named(made, made.region), made.cells[4:6]), ("", "aa ba ca ea fa", ".."))
-    made = cut.with_open_walls(programs, drawn(THREE.replace("QQQQX..", "QQQQ#..").replace("XXXXX..", "XXXX.X.")))
-    expect("the one of the second line stays", (named(made, made.put), named(made, made.region)), ("eb", "aa ba ca"))
+    came = named(made, made.put), named(made, made.region), made.cells[4:6]
+    expect("the outer one goes", came, ("ea", "aa ba ca fa", "X."))
+    problem = drawn(THREE.replace("+++QX..", "+++Q#..").replace("QQQQX..", "QQQQ+.."))
+    expect("one that hangs is odd", named(problem, natural.odd_stones(problem)), "ea")
+    expect("it stays where White gets out", cut.with_open_walls(programs, problem), problem)
 
 
 def on_rows(rows):
@@ -222,13 +244,13 @@ def test_counted(folder):
     (folder / "three.sgf").write_text(problem.record().partition(";PL")[0] + ";B[])")
     code, said, told = call("--put-up", "0", folder / "three.sgf", folder / "three")
     expect("it is no problem for people", (code, told, said.splitlines()[-1].endswith("index.html: 0 problems")), (0, "", True))
-    counts = "2 nodes, 1 unsettled, 1 small, 1 cut out, 1 new, 1 whole walls, 1 one group, 1 seen at once, 2 one answer, 2 judged, 0 long enough"
-    expect("each step says how many it left", counts in said, True)
+    found = "2 nodes, 1 unsettled, 1 small, 1 cut out, 1 new, 1 whole walls, 1 one group, 1 seen at once, 2 one answer, 2 judged, "
+    expect("each step says how many it left", found + "0 long enough" in said, True)
 
 
 def run(folder):
-    for test in (test_walls, test_joined, test_joining, test_strangers, test_seen_at_once, test_qualities, test_best):
+    for test in (test_walls, test_joined, test_joining, test_strangers, test_seen_at_once, test_pictures):
         test()
-    for test in (test_open_walls, test_board):
+    for test in (test_qualities, test_best, test_open_walls, test_board):
         test()
     test_counted(folder)

@@ -1,10 +1,14 @@
 """Cuts a problem out of its game: the fewest stones and the smallest board with which the answers stay, proved again each time."""
 
 from .boards import EMPTY, chain_at, chains, neighbours, without
+from .natural import joining, odd_stones, with_wall_stones
 
 STEPS = 5_000
-# Lines that stay free between the stones and the edges that they do not touch; the second where walls do not hold with the first.
-MARGINS = (1, 3)
+# Lines that stay free between the stones and the edges that they do not touch: in a collection so many that pictures and pages show
+# that the board goes on there.
+MARGIN, COLLECTION_MARGIN = 1, 4
+# How often walls are mended.
+MOST_MENDED = 4
 # A wall keeps so many liberties, if it has them.
 LIBERTIES = 4
 # So near an edge, in lines, that a problem stays as far from it as it is.
@@ -41,18 +45,30 @@ def distances(problem):
 
 
 def with_fewest_stones(programs, problem):
-    """The problem without the stones that it does not need: at once all that are far from the region, then one by one."""
+    """The problem without the stones that it does not need: at once all that are far from the region, then chain by chain, then one
+    by one."""
     stones, distance = outer_stones(problem), distances(problem)
     for least in (3, 5):
         made = problem._replace(cells=without(problem.cells, [it for it in stones if distance[it] >= least]))
         if is_unsettled(programs, made):
             problem = made
             break
+    for chain in far_chains(problem):
+        made = problem._replace(cells=without(problem.cells, chain))
+        if is_unsettled(programs, made):
+            problem = made
     for stone in outer_stones(problem):
         made = problem._replace(cells=without(problem.cells, [stone]))
         if is_held(problem, made, stone) and is_unsettled(programs, made):
             problem = made
     return problem
+
+
+def far_chains(problem):
+    """The chains outside the region that touch neither it nor a target."""
+    inside = {*problem.region, *problem.targets}
+    near = {*inside, *(it for point in inside for it in neighbours(problem.size)[point])}
+    return [chain for chain, _ in chains(problem.size, problem.cells) if near.isdisjoint(chain)]
 
 
 def is_held(before, made, stone):
@@ -107,24 +123,55 @@ def on_board(problem, rows, margin):
 
 
 def on_smallest_board(programs, problem, margin):
-    """The problem on the smallest board on which it is the same."""
-    for rows in range(2, problem.size):
+    """The problem on the smallest board that has so many free lines, which may be larger than its own; on its own where there is none."""
+    for rows in range(2, problem.size + margin):
         made = on_board(problem, rows, margin)
         if made and is_unsettled(programs, made):
             return made
     return problem
 
 
-def cut_out(programs, problem, want_walls=False):
-    """The least position that is the same problem; None where more steps than a quick look's do not prove it, or the walls of none
-    hold and that is wanted."""
+def with_open_walls(programs, problem):
+    """The problem without those of the odd stones in whose place the answers stay where both sides may play there."""
+    for stone in odd_stones(problem):
+        left, region = set(problem.put) - {stone}, {*problem.region, stone}
+        made = problem._replace(cells=without(problem.cells, [stone]), put=tuple(sorted(left)), region=tuple(sorted(region)))
+        if is_unsettled(programs, made):
+            problem = made
+    return problem
+
+
+def with_whole_walls(programs, problem, most_put):
+    """The problem with the stones put up that make its walls whole, as far as that many do; the answers stay."""
+    for _ in range(MOST_MENDED):
+        wanted = joining(problem)
+        made = with_wall_stones(problem, wanted)
+        if not wanted or len(made.put) > most_put or not is_unsettled(programs, made):
+            return problem
+        problem = made
+    return problem
+
+
+def with_standing(problem):
+    """The problem with those of the stones put up that still stand."""
+    return problem._replace(put=tuple(it for it in problem.put if problem.cells[it] != EMPTY))
+
+
+def cut_out(programs, problem):
+    """The least position that is the same problem; None where more steps than a quick look's do not prove it."""
     if not is_unsettled(programs, problem):
         return None
-    fewest = with_fewest_stones(programs, problem)
-    standing = tuple(it for it in fewest.put if fewest.cells[it] != EMPTY)
-    fewest = fewest._replace(put=standing)
-    boards = [on_smallest_board(programs, fewest, margin) for margin in MARGINS]
-    return next((it for it in boards if walls_hold(programs, it)), None) if want_walls else boards[0]
+    return on_smallest_board(programs, with_standing(with_fewest_stones(programs, problem)), MARGIN)
+
+
+def cut_for_collection(programs, problem, most_put):
+    """The least position with walls that are whole as far as so many stones put up make them so, and that hold; else None."""
+    if not is_unsettled(programs, problem):
+        return None
+    fewest = with_standing(with_fewest_stones(programs, with_open_walls(programs, problem)))
+    whole = with_whole_walls(programs, with_open_walls(programs, fewest), most_put)
+    made = on_smallest_board(programs, whole, COLLECTION_MARGIN)
+    return made if walls_hold(programs, made) else None
 
 
 def walls_hold(programs, problem, steps=STEPS):

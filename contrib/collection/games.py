@@ -1,18 +1,21 @@
 """What becomes of a game: its groups are found, cut out and answered, and of each group the best problem is kept."""
 
 from .answers import answers_of, has_one_answer
-from .boards import EMPTY, name_of, point_of
-from .cut import cut_out
+from .boards import name_of, point_of
+from .cut import cut_for_collection
 from .find import Finder
-from .grade import LEAST_TURNS, points
 from .items import Item
+from .natural import NATURAL, may_be_seen_at_once
+from .quality import QUALITIES, score
 from .records import Unreadable, main_lines, positions, text_of
 from .same import canonical, name_of_problem
 
 STEPS = 5_000
-# More stones than a person takes in.
-MOST_STONES = 40
-COUNTED = ("nodes", "unsettled", "cut out", "new", "one answer", "judged", "long enough", "kept")
+# What is counted: how many are left after each step.
+COUNTED = (
+    *("nodes", "unsettled", "small", "cut out", "new", *(name for name, _ in NATURAL)),
+    *("one answer", "judged", *(name for name, _ in QUALITIES), "one of each group", "kept"),
+)
 
 
 class Game:
@@ -40,7 +43,9 @@ class Game:
                 found += self.problems_of(item)
         except Unreadable as why:
             self.faults.append(f"game {number}: {why}" if number > 1 else str(why))
-        chosen = best_of_groups(found)
+        groups = best_of_groups(found)
+        chosen = best_of_game(groups, self.given.best)
+        self.counts["one of each group"] += len(groups)
         self.counts["kept"] += len(chosen)
         self.items += chosen
 
@@ -62,20 +67,32 @@ class Game:
     def problems_of(self, item):
         """The problems of an unsettled group that nothing speaks against, for each side to move first. One that another node has had is
         not asked about again."""
-        problem = cut_out(self.programs, item.problem, want_walls=True)
-        if problem is None or len(problem.cells) - problem.cells.count(EMPTY) > MOST_STONES:
+        if not may_be_seen_at_once(item.problem):
+            return []
+        self.counts["small"] += 1
+        problem = cut_for_collection(self.programs, item.problem, self.given.put_up)
+        if problem is None:
             return []
         self.counts["cut out"] += 1
         sides = [canonical(problem.with_mover(it))[0] for it in (problem.attacker, problem.defender)]
         names = [name_of_problem(it) for it in sides]
         if names[0] not in self.names:
             self.counts["new"] += 1
-            self.names.update({name: self.answered(side) for name, side in zip(names, sides)})
+            is_natural = self.passes(NATURAL, problem)
+            self.names.update({name: self.answered(side) if is_natural else None for name, side in zip(names, sides)})
         pairs = [(side, self.names[name]) for side, name in zip(sides, names)]
         return [item._replace(problem=side, answers=answers) for side, answers in pairs if answers]
 
+    def passes(self, questions, *about):
+        """Whether all questions are answered with yes; those that are, up to the first that is not, are counted."""
+        for name, question in questions:
+            if not question(*about):
+                return False
+            self.counts[name] += 1
+        return True
+
     def answered(self, problem):
-        """The answers, where one first move is right, both claims are judged, and the solution is long enough."""
+        """The answers, where one first move is right, both claims are judged, and a teacher would show the problem."""
         if not has_one_answer(self.programs, problem):
             return None
         self.counts["one answer"] += 1
@@ -83,10 +100,7 @@ class Game:
             return None
         self.counts["judged"] += 1
         answers = answers_of(self.programs, problem)
-        if answers is None or len(answers.line) < LEAST_TURNS:
-            return None
-        self.counts["long enough"] += 1
-        return answers
+        return answers if answers and self.passes(QUALITIES, problem, answers) else None
 
 
 def is_judged(programs, problem):
@@ -110,8 +124,8 @@ def title_of(root):
 
 
 def rank(item):
-    """Few stones that were put up come first, counted by threes; then the hardest problem; then the first node."""
-    return len(item.problem.put) // 3, -points(item.answers), item.node, item.problem
+    """The best comes first, then the first node."""
+    return -score(item), item.node, item.problem
 
 
 def best_of_groups(found):
@@ -123,7 +137,12 @@ def best_of_groups(found):
             taken.update(item.group)
         elif any(not set(it.group).isdisjoint(item.group) for it in chosen):
             taken.update(item.group)
-    return sorted(chosen, key=lambda it: (it.node, it.problem))
+    return chosen
+
+
+def best_of_game(chosen, most):
+    """So many of these, which come from the best to the worst; in the order of the game."""
+    return sorted(chosen[:most], key=lambda it: (it.node, it.problem))
 
 
 def item_of_file(programs, item, where):

@@ -21,9 +21,9 @@ from .out import INDEX, check_ours, write_collection
 from .programs import Programs, find_programs
 from .words import BAD_WORDS, FAILED, SOLVED, UNKNOWN, Stop, shown, tell
 
-OPTIONS = ("every", "stones", "liberties", "put_up")
+OPTIONS = ("every", "stones", "liberties", "put_up", "best")
 # It changes where what is kept of a game would be made otherwise.
-VERSION = 1
+VERSION = 2
 
 
 def find_games(path):

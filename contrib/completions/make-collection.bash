@@ -5,14 +5,14 @@ _make_collection() {
     COMPREPLY=()
     case $before in
     # What follows is typed.
-    --every | --stones | --liberties | --put-up | --jobs | --shard | --title) return ;;
+    --every | --stones | --liberties | --put-up | --best | --jobs | --shard | --title) return ;;
     --hosts | --program | '<' | '>' | '>>' | '2>')
         compopt -o default
         return
         ;;
     esac
     case $word in
-    -*) mapfile -t COMPREPLY < <(compgen -W '--every --stones --liberties --put-up --jobs --hosts --program --shard --title --help -h' -- "$word") ;;
+    -*) mapfile -t COMPREPLY < <(compgen -W '--every --stones --liberties --put-up --best --jobs --hosts --program --shard --title --help -h' -- "$word") ;;
     *)
         # A step comes first; else files and folders.
         [ "$COMP_CWORD" != 1 ] || mapfile -t COMPREPLY < <(compgen -W 'find cut first grade same out game' -- "$word")

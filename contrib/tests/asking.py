@@ -89,7 +89,7 @@ def test_game(asking):
     asking.click("hk")
     asking.wait()
     expect("the group of the guide", asking.text("told"), "H3 is dead (sure).")
-    expect("what the word means", "Of 99 such answers 93 agreed" in asking.text("meaning"))
+    expect("what the word means", "Of 69 such answers 62 agreed" in asking.text("meaning"))
     put = len(asking.browser.find_elements("css selector", "#asked .stone.put"))
     expect("stones that are supposed are drawn otherwise", put > 0)
     asking.shoot("game")

@@ -43,11 +43,11 @@ function drawnAnswer(now) {
     const move = pointNamed(size, question.move || "");
     if (move !== null) shown.labels.set(move, "1");
   } else if (ask.answer.proof) {
-    shown.region = new Set(pointsNamed(size, ask.answer.proof.region));
+    shown.region = new Set(pointsNamed(size, ask.answer.proof.region).filter((inside) => stones[inside] === "."));
     for (const one of pointsNamed(size, ask.answer.proof.kept)) shown.marks.set(one, "kept");
   } else {
     for (const one of ask.answer.first_moves || []) {
-      for (const inside of pointsNamed(size, one.proof.region)) shown.region.add(inside);
+      for (const inside of pointsNamed(size, one.proof.region)) if (stones[inside] === ".") shown.region.add(inside);
       for (const move of pointsNamed(size, [one.move])) shown.labels.set(move, one.first);
     }
   }

@@ -48,7 +48,7 @@ function drawnAnswer(now) {
   } else {
     for (const one of ask.answer.first_moves || []) {
       for (const inside of pointsNamed(size, one.proof.region)) if (stones[inside] === ".") shown.region.add(inside);
-      for (const move of pointsNamed(size, [one.move])) shown.labels.set(move, one.first);
+      for (const move of pointsNamed(size, [one.move])) shown.labels.set(move, "1");
     }
   }
   return shown;

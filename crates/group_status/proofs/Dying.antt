@@ -12,7 +12,7 @@ lost_by q supposed mine none now = (
   none,
   λ stones standing. elim (now stones standing) [
     | inl killer ↦ absurd (opponent_ne q.game.defender (sym mine ∙ killer.0))
-    | inr answered ↦ answered.1.1
+    | inr answered ↦ answered.2
   ],
 )
 
@@ -22,7 +22,7 @@ lost_by_move q supposed mine none now = (
   none,
   mine,
   λ stones standing. elim (now stones standing) [
-    | inl killer ↦ killer.1.1
+    | inl killer ↦ killer.2
     | inr answered ↦ absurd (opponent_ne q.game.defender (sym answered.0 ∙ mine))
   ],
 )

@@ -1,7 +1,10 @@
+use Rattle.std.proofs.Common.{IfSome, subst}
+use Rattle.group_status.specs.Dead.{IsTakenNow}
 use Rattle.group_status.proofs.Dying.{lost_by}
 use Rattle.group_status.proofs.dead.accepted.Goals as goal
 
 pub invariant_of-result : goal.invariant_of-result
 invariant_of-result c =
     let q = c.args.problem in
-    record { dead = ∣ lost_by q c.in-Some.supposed (c.is_owners_turn.ensures.mover c.if-not-is_owners_turn.false) (c.is_owners_turn.ensures.passes c.if-not-is_owners_turn.false) c.in-Some.ensures ∣₁ }
+    let taken : IsTakenNow q c.in-Some.supposed = subst (λ o. IfSome o (λ supposed. IsTakenNow q supposed)) c.in-Some.is c.in_ok-supposed.ensures in
+    record { dead = ∣ lost_by q c.in-Some.supposed (c.is_owners_turn.ensures.mover c.if-not-is_owners_turn.false) (c.is_owners_turn.ensures.passes c.if-not-is_owners_turn.false) taken ∣₁ }

@@ -1,7 +1,7 @@
 //! What is found, as a record: a branch for each first turn, with the answer tree below it. A right turn with a large answer tree
 //! has the lines of a short claim below it instead, if one is found.
 
-ghost use Rattle.std.specs.Prelude.{◌≡◌, ◌≤◌, ◌++◌, ◌∷◌, [], List, codes, length, string_bytes, IfOk, IfSome};
+ghost use Rattle.std.specs.Prelude.{◌≡◌, ◌≤◌, ◌++◌, ◌∷◌, ℕ, [], List, codes, length, string_bytes, IfOk, IfSome};
 ghost use Rattle.sgf_text.specs.Trees.{Node};
 ghost use Rattle.tool_parts.specs.Says.{winner_text};
 ghost use Rattle.first_moves.specs.Branch.{label_text, HasLabel, IsLabelled};

@@ -43,6 +43,10 @@ IsFreeOf n s avoided = (q : ℕ) → IsTrue (these n s q) → IsFalse (these n a
 abbrev pub AreBeside : Area → List Cell → ℕ → List Place → Type 0
 AreBeside a c p near = (q : ℕ) → q < a.size * a.size → IsTrue (holds_place near (place_of a.size q)) → (r : ℕ) × IsTrue (adjacent a.size q r) × Joined a.size c p r
 
+-- each point of the set is beside a stone of the chain
+abbrev pub AreNear : ℕ → List Place → List Place → Type 0
+AreNear n chain near = (q : Place) → IsTrue (holds_place near q) → (r : Place) × IsOn n r × IsTrue (holds_place chain r) × IsTrue (adjacent n (number_of n r) (number_of n q))
+
 -- a marked point is in the chain
 abbrev pub LeansOn : Ground → List Cell → List Place → Type 0
 LeansOn g marks chain = (q : ℕ) × (q < side_of g.cells * side_of g.cells) × IsTrue (marked g marks q) × IsTrue (holds_place chain (place_of (side_of g.cells) q))

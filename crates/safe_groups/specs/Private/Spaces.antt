@@ -8,7 +8,7 @@ use Rattle.go_points.specs.Points.{holds_place}
 use Rattle.go_chains.specs.Joined.{Joined}
 use Rattle.safe_groups.specs.Areas.{Area, Points, own, theirs}
 use Rattle.safe_groups.specs.Eyes.{IsEye, TwoEyes}
-use Rattle.safe_groups.specs.Ground.{area_of, marked}
+use Rattle.safe_groups.specs.Ground.{marked}
 use Rattle.safe_groups.specs.declared.ground.Ground.{Ground}
 
 abbrev pub alone_cell : Area → List Cell → ℕ → Cell

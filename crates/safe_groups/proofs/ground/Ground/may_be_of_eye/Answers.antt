@@ -1,4 +1,4 @@
-use Rattle.safe_groups.proofs.Common.{◌≡◌, sym, ◌∙◌, subst, Empty, IsTrue, IsFalse, same_cell_eq, side_of, holds_place}
+use Rattle.safe_groups.proofs.Common.{sym, ◌∙◌, subst, Empty, IsTrue, IsFalse, same_cell_eq, side_of, holds_place}
 use Rattle.go_turns.proofs.Openings.{place_back}
 use Rattle.safe_groups.proofs.ground.Ground.may_be_of_eye.Goals as goal
 

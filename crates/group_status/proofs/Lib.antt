@@ -1,2 +1,1 @@
-pub mod Dying
 pub mod Winners

@@ -1,6 +1,6 @@
 -- The keeper's stones of a state and the points between them, as the boards of a decision, and what they say of the state.
-use Rattle.safe_groups.proofs.Common.{sym, subst, refl, ◌≡◌, ◌≢◌, ◌∙◌, List, ℕ, ap, IsTrue, IsFalse, true, false, Bool, inl, inr, [], ◌∷◌, ◌*◌, ◌<◌, ◌⊎◌, ◌&&◌, cond, not, cell_at, adjacent, adjacent_back, adjacent_on_board, Cell, Empty, Stone, Colour, same_cell, same_cell_eq, eq_same_cell, nat_lt, ltb-true, and_left, and_right, and_both, IsWay, Area, Points, own, theirs, is_outside, side_of, Ground, area_of, marked, IsState, lt-ltb, Place, place_of, holds_place, Joined, IsChainOf, joined_self, joined_holds, joined_beside, IsEye, TwoEyes, alone_cell, space_cell, IsEyePoint, IsSafeAt, IsGivenAt, same_place_decides, or_cases, or_left, or_right, sets_gain, IsOn, number_of, same_place, with_place, joined_on, IsOfChain}
-use Rattle.std.proofs.Common.{div-add-mod', arith}
+use Rattle.safe_groups.proofs.Common.{arith, sym, subst, refl, ◌≡◌, ◌≢◌, ◌∙◌, List, ℕ, ap, IsTrue, IsFalse, true, false, Bool, inl, inr, [], ◌∷◌, ◌*◌, ◌<◌, ◌⊎◌, ◌&&◌, cond, not, cell_at, adjacent, adjacent_back, adjacent_on_board, Cell, Empty, Stone, Colour, same_cell, same_cell_eq, eq_same_cell, nat_lt, ltb-true, and_left, and_right, and_both, IsWay, Area, Points, own, theirs, is_outside, side_of, Ground, area_of, marked, IsState, lt-ltb, Place, place_of, holds_place, Joined, IsChainOf, joined_self, joined_holds, joined_beside, IsEye, TwoEyes, alone_cell, space_cell, IsEyePoint, IsSafeAt, IsGivenAt, same_place_decides, or_cases, or_left, or_right, sets_gain, IsOn, number_of, same_place, with_place, joined_on, IsOfChain}
+use Rattle.std.proofs.Common.{div-add-mod'}
 use Rattle.std.proofs.lemmas.Nat.{div_below, mod_below}
 use Rattle.go_points.proofs.Sides.{number_below}
 use Rattle.go_turns.proofs.Openings.{place_back}

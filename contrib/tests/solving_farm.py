@@ -191,8 +191,8 @@ class Hosts(Part):
         self.ended("every host was ended: status 4", 4)
         text = ", 0 unknown, 0 timed out, 0 refused, 0 failed, "
         self.says("every host was ended: nothing is unknown, refused or failed", text)
-        left = re.search(r", ([0-9]+) not asked", self.said.split("\n")[-1])
-        self.expect("every host was ended: the rest is not asked", left and int(left[1]) > 0)
+        left = re.findall(r", ([0-9]+) not asked", self.said)
+        self.expect("every host was ended: the rest is not asked", left and int(left[-1]) > 0)
         self.solve("problems", "solved")
         self.says("every host was ended: this machine goes on", "12 solved")
 

@@ -171,7 +171,8 @@ class Tally:
             shares = 100 * self.stones[word] / max(stones, 1), 100 * self.chains[word] / max(chains, 1)
             print(f"{word:24} {self.stones[word]:6} stones {shares[0]:5.1f} %   {self.chains[word]:5} chains {shares[1]:5.1f} %")
         for said, it in sorted(self.agreements.items(), key=lambda item: -item[1].stones):
-            print(f"{said:24} GNU Go agrees on {it.agreeing_stones} of {it.stones} stones, {it.agreeing_chains} of {it.chains} chains")
+            agreed = f"{it.agreeing_stones} of {it.stones} stones, {it.agreeing_chains} of {it.chains} chains"
+            print(f"{said:24} GNU Go agrees on {agreed}")
         if self.seconds:
             print(f"seconds a board: median {statistics.median(self.seconds):.2f}, most {max(self.seconds):.2f}")
         print(f"{len(self.differ)} disagreements with GNU Go")
@@ -180,8 +181,9 @@ class Tally:
 
     def write(self, file: pathlib.Path) -> None:
         """A line for each board: the stones of each word, and the seconds."""
-        lines = [("game", *WORDS, "seconds"), *self.boards]
-        file.write_text("".join("\t".join(map(str, line)) + "\n" for line in lines))
+        about = f"# {time.strftime('%Y-%m-%d')}, stones of each word and seconds of the processor, load {os.getloadavg()[0]:.1f}\n"
+        lines = [("Game", *WORDS, "Seconds"), *self.boards]
+        file.write_text(about + "".join("\t".join(map(str, line)) + "\n" for line in lines))
 
 
 def ask_all(tally: Tally, program: str, options: list[str], files: list[pathlib.Path]) -> None:

@@ -1,16 +1,17 @@
 """Compares what group_status says of every group at the ends of games with GNU Go's final_status_list.
 
-    tools/measure ends [--boards N] [--seed N] [--steps N] GROUP_STATUS [FILE..]
+    tools/measure ends [--boards N] [--seed N] [--steps N] [--table FILE] GROUP_STATUS [FILE..]
 
 GROUP_STATUS is the built program; it is called as `GROUP_STATUS --all --json [--steps N] < FILE`. Without files the games are
 those of Debian's package goban-original-games that have a counted result, and N of them, 40 by default, are drawn by the seed,
 1 by default, so that nobody has chosen them. For root, that package and gnugo are installed.
 
 It prints for each word how many stones and chains have it, and their shares: proved alive, proved dead, dead while named stones
-stand, other words, and none; then how many boards have a word for each chain, the processor seconds of group_status for a board
-(median and most), and each disagreement: the game, the chain's first stone, how many stones, and what both say. Chains that GNU
-Go calls alive or in seki should be alive, those that it calls dead should be dead. The status is 1 where a proved word
-disagrees.
+stand, other words, and none; then of how many stones and chains with each status and word GNU Go says the same, how many boards
+have a word for each chain, the processor seconds of group_status for a board (median and most), and each disagreement: the game,
+the chain's first stone, how many stones, and what both say. Chains that GNU Go calls alive or in seki should be alive, those that
+it calls dead should be dead. FILE is given a line for each board. Interrupted, it prints what came of the boards that were asked.
+The status is 1 where a proved word disagrees.
 """
 
 import argparse
@@ -21,6 +22,7 @@ import pathlib
 import random
 import re
 import shutil
+import signal
 import statistics
 import subprocess
 import sys
@@ -119,30 +121,46 @@ def by_group_status(program: str, options: list[str], file: pathlib.Path) -> tup
     return [json.loads(line) for line in lines], run.seconds
 
 
+class Agreement:
+    """How many chains and stones have a status and a word, and of how many GNU Go says the same."""
+
+    def __init__(self) -> None:
+        self.chains, self.stones, self.agreeing_chains, self.agreeing_stones = 0, 0, 0, 0
+
+    def add(self, stones: int, agrees: bool) -> None:
+        self.chains, self.stones = self.chains + 1, self.stones + stones
+        self.agreeing_chains, self.agreeing_stones = self.agreeing_chains + agrees, self.agreeing_stones + agrees * stones
+
+
 class Tally:
     """What was said of all boards."""
 
     def __init__(self) -> None:
-        self.stones, self.chains, self.other = collections.Counter(), collections.Counter(), collections.Counter()
-        self.seconds, self.differ, self.whole, self.is_wrong = [], [], 0, False
+        self.stones, self.chains = collections.Counter(), collections.Counter()
+        self.agreements = collections.defaultdict(Agreement)
+        self.seconds, self.boards, self.differ, self.whole, self.is_wrong = [], [], [], 0, False
 
-    def add_board(self, name: str, stones: dict[str, str], status: dict[str, str], groups: list[dict]) -> None:
+    def add_board(self, name: str, stones: dict[str, str], status: dict[str, str], groups: list[dict], seconds: float) -> None:
         """Each chain has the group that names one of its stones, or whose target is one of them."""
         of_stone = {vertex: group for group in groups for vertex in [*(group.get("stones") or []), group["target"]]}
+        before = self.stones.copy()
         words = [self.add_chain(name, first, chain, status, of_stone) for first, chain in chains_of(stones)]
         self.whole += "none" not in words
+        self.seconds.append(seconds)
+        self.boards.append((name, *(self.stones[word] - before[word] for word in WORDS), f"{seconds:.2f}"))
 
     def add_chain(self, name: str, first: str, chain: set[str], status: dict[str, str], of_stone: dict[str, dict]) -> str:
         group = next((of_stone[vertex] for vertex in sorted(chain) if vertex in of_stone), {})
         word = word_of(group)
         self.stones[word] += len(chain)
         self.chains[word] += 1
-        if word == "other words":
-            self.other[f"{group['status']} ({group['word']})"] += len(chain)
-        theirs = status.get(first, "not named")
-        wanted = "dead" if theirs == "dead" else "alive"
-        if word != "none" and group["status"] != wanted:
-            self.differ.append((name, first, len(chain), f"{group['status']} ({group['word']})", theirs))
+        if word == "none":
+            return word
+        theirs, said = status.get(first, "not named"), f"{group['status']} ({group['word']})"
+        agrees = group["status"] == ("dead" if theirs == "dead" else "alive")
+        self.agreements[said].add(len(chain), agrees)
+        if not agrees:
+            self.differ.append((name, first, len(chain), said, theirs))
             self.is_wrong |= word.startswith("proved")
         return word
 
@@ -152,18 +170,39 @@ class Tally:
         for word in WORDS:
             shares = 100 * self.stones[word] / max(stones, 1), 100 * self.chains[word] / max(chains, 1)
             print(f"{word:24} {self.stones[word]:6} stones {shares[0]:5.1f} %   {self.chains[word]:5} chains {shares[1]:5.1f} %")
-        print("stones by other words:", ", ".join(f"{word} {count}" for word, count in self.other.most_common()) or "none")
+        for said, it in sorted(self.agreements.items(), key=lambda item: -item[1].stones):
+            agreed = f"{it.agreeing_stones} of {it.stones} stones, {it.agreeing_chains} of {it.chains} chains"
+            print(f"{said:24} GNU Go agrees on {agreed}")
         if self.seconds:
             print(f"seconds a board: median {statistics.median(self.seconds):.2f}, most {max(self.seconds):.2f}")
         print(f"{len(self.differ)} disagreements with GNU Go")
         for name, first, count, ours, theirs in self.differ:
             print(f"    {name} {first}, {count} stones: {ours}, GNU Go {theirs}")
 
+    def write(self, file: pathlib.Path) -> None:
+        """A line for each board: the stones of each word, and the seconds."""
+        about = f"# {time.strftime('%Y-%m-%d')}, stones of each word and seconds of the processor, load {os.getloadavg()[0]:.1f}\n"
+        lines = [("Game", *WORDS, "Seconds"), *self.boards]
+        file.write_text(about + "".join("\t".join(map(str, line)) + "\n" for line in lines))
+
+
+def ask_all(tally: Tally, program: str, options: list[str], files: list[pathlib.Path]) -> None:
+    """Asks about each board."""
+    for number, file in enumerate(files, 1):
+        judged = by_gnugo(file)
+        answer = judged and by_group_status(program, options, file)
+        if not answer:
+            print(f"{file.name} is left out", file=sys.stderr)
+            continue
+        tally.add_board(file.name, *judged, *answer)
+        print(f"{time.strftime('%H:%M:%S')} {number} of {len(files)}: {file.name}, {answer[1]:.1f} s", file=sys.stderr, flush=True)
+
 
 def add_words(words: script_words.Words) -> None:
     words.add_argument("--boards", type=script_words.a_number(1), default=40)
     words.add_argument("--seed", type=int, default=1)
     words.add_argument("--steps", type=script_words.a_number(1))
+    words.add_argument("--table", type=pathlib.Path, metavar="FILE")
     words.add_argument("program", type=script_words.program)
     words.add_argument("files", nargs="*", type=script_words.file)
 
@@ -173,14 +212,12 @@ def main(given: argparse.Namespace) -> int:
     script_words.need("gnugo:gnugo")
     files = [pathlib.Path(it) for it in given.files] or drawn(given.boards, given.seed)
     tally, options = Tally(), ["--steps", str(given.steps)] if given.steps else []
-    for number, file in enumerate(files, 1):
-        judged = by_gnugo(file)
-        answer = judged and by_group_status(given.program, options, file)
-        if not answer:
-            print(f"{file.name} is left out", file=sys.stderr)
-            continue
-        tally.seconds.append(answer[1])
-        tally.add_board(file.name, *judged, answer[0])
-        print(f"{time.strftime('%H:%M:%S')} {number} of {len(files)}: {file.name}, {answer[1]:.1f} s", file=sys.stderr, flush=True)
+    signal.signal(signal.SIGTERM, signal.default_int_handler)
+    try:
+        ask_all(tally, given.program, options, files)
+    except KeyboardInterrupt:
+        print(f"interrupted after {len(tally.seconds)} of {len(files)}", file=sys.stderr, flush=True)
     tally.show()
+    if given.table:
+        tally.write(given.table)
     return 1 if tally.is_wrong else 0

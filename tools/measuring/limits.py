@@ -8,11 +8,12 @@ four kinds round 9, 12, 15 and 18 empty points. A list is a table with a line of
 `to play`), tabs between; a `file` is looked for below GAMES.
 
 It prints a line for each kind of problem: how many were asked; how many were decided, decided with an answer tree that is too
-large to be written, unknown by their steps, unknown by another limit, refused by problem_tools, and ended by the limit of time;
-the processor seconds of all runs, those of the longest, and its name; and how many steps a second the runs made that ended by
-their steps. The status is 1 where a run was ended by the limit of time, or by a signal, or with a status other than 0 and 1.
-Each record of such a run, and of a run of more than half of the limit, is written to the folder of `--keep`. Interrupted, it
-prints the table of what has been asked.
+large to be written, unknown by their steps, unknown by another limit, refused by problem_tools, ended by the limit of time, and
+ended by the clock, because other work left them too little of a processor to reach that limit; the processor seconds of all runs,
+those of the longest, and its name; and how many steps a second the runs made that ended by their steps. The status is 1 where a
+run was ended by the limit of time or by the clock, or by a signal, or with a status other than 0 and 1. Each record of such a run,
+and of a run of more than half of the limit, is written to the folder of `--keep`. Interrupted, it prints the table of what has
+been asked.
 """
 
 import argparse
@@ -35,12 +36,12 @@ from measuring.runs import timed
 NAME = "tools/measure limits"
 POINTS, WALLS = (9, 12, 15, 18), ("natural", "hard", "race", "alone")
 # How a run ended, and the column that counts those.
-DECIDED, TREE, STEPS, OTHER, REFUSED, ENDED = ENDS = [
-    "Decided", "Tree too large", "Out of steps", "Other limit", "Refused", "Out of time",
+DECIDED, TREE, STEPS, OTHER, REFUSED, ENDED, CLOCK = ENDS = [
+    "Decided", "Tree too large", "Out of steps", "Other limit", "Refused", "Out of time", "By the clock",
 ]
 COLUMNS = ["Problems", "Asked", *ENDS, "Seconds in all", "Longest", "Which", "Steps a second"]
 # How many times as long as the limit a run may take by the clock, on a machine that other work shares.
-SHARED = 20
+SHARED = 200
 
 
 class Asked:
@@ -85,7 +86,8 @@ def find(programs: dict[str, str], given: argparse.Namespace, asked: Asked) -> F
     words = [programs["tsumego"], "solve", "--steps", str(given.steps)]
     run = timed(words, record, limits={resource.RLIMIT_CPU: given.seconds}, clock=SHARED * given.seconds)
     said = run.output[:100].decode(errors="replace").strip()
-    return Found(asked, record, end_of(run.status, said), run.seconds, said)
+    is_clock = run.status == -signal.SIGKILL and run.seconds < given.seconds
+    return Found(asked, record, CLOCK if is_clock else end_of(run.status, said), run.seconds, said)
 
 
 def random_problems(given: argparse.Namespace) -> Iterator[Asked]:
@@ -131,7 +133,7 @@ def show(kinds: dict[str, list[Found]], steps: int) -> None:
 
 def tell(found: Found, given: argparse.Namespace) -> None:
     """Names a run that was ended or took long, and keeps its record."""
-    if found.end == ENDED or found.seconds > given.seconds / 2:
+    if found.end in (ENDED, CLOCK) or found.seconds > given.seconds / 2:
         print(f"{found.name}: {found.end}, {found.seconds:.1f} s, {found.said[:60]}", file=sys.stderr, flush=True)
         if given.keep:
             keep(given.keep, found)
@@ -191,4 +193,4 @@ def main(given: argparse.Namespace) -> int:
     if not kinds:
         script_words.refuse(NAME, "nothing is asked")
     show(kinds, given.steps)
-    return 1 if any(it.end == ENDED for all_found in kinds.values() for it in all_found) else 0
+    return 1 if any(it.end in (ENDED, CLOCK) for all_found in kinds.values() for it in all_found) else 0

@@ -87,6 +87,11 @@ def above(size, point):
     return [it for it in neighbours(size)[point] if not is_on_first_line(size, it)]
 
 
+def weakness(problem):
+    """How much is wanting of the walls: weak parts, and stones put up that hang on the first line."""
+    return len(hanging(problem)) + sum(not is_strong(problem, it) for it in wall_parts(problem))
+
+
 def joining(problem):
     """The stones that a natural wall lacks first: above a stone on the first line, or between a weak part and another. Empty where
     nothing is wanted, or where so few stones do not help."""
@@ -146,11 +151,6 @@ def is_small(problem, points):
     """Whether points stand on a part of the board that is seen at once."""
     spans = [max(lines) - min(lines) + 1 for lines in ([it // problem.size for it in points], [it % problem.size for it in points])]
     return spans[0] * spans[1] <= MOST_SHOWN and max(spans) <= MOST_LINES
-
-
-def may_be_seen_at_once(problem):
-    """Whether what cannot be cut off is on a small part of the board."""
-    return is_small(problem, {*problem.targets, *problem.region, *problem.put})
 
 
 def is_seen_at_once(problem):

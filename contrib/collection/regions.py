@@ -10,14 +10,15 @@ from .boards import EMPTY, OTHER, chain_at, neighbours
 from .problems import Problem
 
 MOST_POINTS, LEAST_POINTS = 15, 3
-MOST_SIZES = 4
+MOST_SIZES = 8
 
 
 class Board:
     """A position with its chains: `chain_of` has for each stone its chain and that chain's liberties."""
 
     def __init__(self, size, cells, found):
-        self.size, self.cells, self.beside, self.chain_of = size, cells, neighbours(size), [None] * len(cells)
+        self.size, self.cells, self.found, self.beside = size, cells, found, neighbours(size)
+        self.chain_of = [None] * len(cells)
         for chain, liberties in found:
             for point in chain:
                 self.chain_of[point] = (chain, liberties)

@@ -153,6 +153,11 @@ def is_small(problem, points):
     return spans[0] * spans[1] <= MOST_SHOWN and max(spans) <= MOST_LINES
 
 
+def may_be_seen_at_once(problem):
+    """Whether what cannot be cut off is on a small part of the board."""
+    return is_small(problem, {*problem.targets, *problem.region, *problem.put})
+
+
 def is_seen_at_once(problem):
     """Whether there are few stones, on a small part of the board."""
     used = [it for it, cell in enumerate(problem.cells) if cell != EMPTY]

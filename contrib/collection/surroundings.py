@@ -5,7 +5,7 @@ proved as it stands in the game, and again as it is shown.
 """
 
 from .boards import OTHER, chain_at, neighbours, without
-from .natural import is_seen_at_once, is_strong, joining, wall_parts, weakness, with_wall_stones
+from .natural import is_strong, joining, may_be_seen_at_once, wall_parts, weakness, with_wall_stones
 
 # Stones of the wall are kept that are fewer lines away, the first of these numbers with which the walls are whole.
 LINES = (3, 4, 5)
@@ -65,12 +65,13 @@ def may_be_whole(problem):
 
 
 def shown(problem, most_put):
-    """The problem as people are shown it, with walls that are whole, or may be; None where they cannot be, or where it is too large."""
+    """The problem as people are shown it, with walls that are whole, or may be; None where they cannot be, or where what cannot be cut
+    off is too large."""
     group, steps = group_nearby(problem), steps_away(problem, max(LINES))
     nearby = [with_wall_within(problem, group, steps, it) for it in LINES]
     made = next((it for near in nearby for it in (near, mended(near, most_put)) if weakness(it) == 0), None)
     made = made or next((it for it in nearby if may_be_whole(it)), None)
-    return made if made and is_seen_at_once(made) and has_liberties(made) else None
+    return made if made and may_be_seen_at_once(made) and has_liberties(made) else None
 
 
 def has_liberties(problem):

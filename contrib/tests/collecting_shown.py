@@ -8,8 +8,8 @@ from .collecting import call
 from .collecting_quality import drawn, named
 from .common import expect
 
-from collection import find, surroundings, variations
-from collection.boards import point_of
+from collection import find, regions, surroundings, variations
+from collection.boards import chains, point_of
 from collection.programs import Programs, find_programs
 
 # White's three points in the corner. Black's wall has a part that a stone two lines away joins to the rest; far off stand others.
@@ -97,7 +97,31 @@ def test_words(folder: pathlib.Path) -> None:
     expect("the source names the turn", "node 1 without White C12, " in found, True)
 
 
+# White's three points in the corner, with a point to get out by.
+CORNER = """
+    ..Q......
+    .QQX.....
+    QQXX.....
+    XXX......
+    .........
+    .........
+    .........
+    .........
+    .........
+"""
+
+
+def test_regions() -> None:
+    """No stone is put up among the group's own points, and no region is asked about that is part of one which no more stones close."""
+    problem = drawn(CORNER)
+    board = regions.Board(9, problem.cells, chains(9, problem.cells))
+    expect("the corner is filled, the way out is not", regions.filled(board, {1, 9}, "O"), ({0, 1, 9}, {3}))
+    sizes = {(0, 1): {5, 6}, (0, 1, 2): {5}, (0, 1, 3): {7, 8}}
+    expect("parts of a wider region are left out", regions.widest(sizes), [(0, 1, 2), (0, 1, 3)])
+
+
 def run(folder: pathlib.Path) -> None:
+    test_regions()
     test_shown()
     test_near()
     test_variations()

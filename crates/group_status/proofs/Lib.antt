@@ -1,2 +1,2 @@
-pub mod Dying
+pub mod Saying
 pub mod Winners

@@ -1,4 +1,3 @@
-pub mod Dead
 pub mod First
-pub mod Shape
+pub mod Lines
 pub mod Winner

@@ -1,18 +1,17 @@
 //! The groups of a position: first those that a search over the whole board proves to be alive or dead, and then the others, one after
 //! another. Each is written as soon as it is known.
 
-use crate::asking::search_of;
 use crate::group::Group;
 use crate::group_line::said_and_line;
 use crate::past::without_past;
 use crate::progress::tell_stones;
-use crate::proof::proved_line;
+use crate::proof::{Proof, proved_line};
 use crate::proof_json::proof_object;
-use crate::proven::{Proven, judged};
 use crate::totals::{Said, Totals};
 use go_points::{Cell, Colouring, Point, PointSet};
 use group_words::{Form, Request};
 use pn_search::Budget;
+use proved_groups::{Proven, judged, search_of};
 use sgf_text::write_bytes;
 use std::alloc::{AllocError, Global};
 use std::io::Write;
@@ -99,8 +98,17 @@ fn each_group<W: Write, N: Write>(
     notes: &mut N,
 ) -> Result<Course, Stop> {
     let mut course = Course::of(stone_count(problem.colouring()));
-    say_proved(alloc, problem, request, &mut course, writer, notes)?;
-    say_others(alloc, problem, request, budget, &mut course, writer, notes)?;
+    let conditional = say_proved(alloc, problem, request, &mut course, writer, notes)?;
+    say_others(
+        alloc,
+        problem,
+        request,
+        budget,
+        conditional.as_slice(),
+        &mut course,
+        writer,
+        notes,
+    )?;
     if request.form == Form::Json {
         return Ok(course);
     }
@@ -142,8 +150,8 @@ fn note(course: &mut Course, stones: &PointSet, said: Said) {
     }
 }
 
-/// Says of each finding that a judge accepts, as soon as it is found, that its stones live or die. One that depends on stones that are
-/// only supposed to stand is left to the procedures.
+/// Says of each finding that a judge accepts, as soon as it is found, that its stones live or die. Returns those that depend on stones
+/// that are only supposed to stand: of these nothing is said yet.
 fn say_proved<W: Write, N: Write>(
     alloc: Global,
     problem: &Problem,
@@ -151,19 +159,26 @@ fn say_proved<W: Write, N: Write>(
     course: &mut Course,
     writer: &mut W,
     notes: &mut N,
-) -> Result<(), Stop> {
+) -> Result<Vec<Proof>, Stop> {
     let mut search = search_of(alloc, problem, request.steps)?;
+    let mut conditional = Vec::new(alloc);
     for _ in 0..u64::MAX {
         let Some(finding) = search.next_finding()? else {
             break;
         };
-        if !finding.supposed.is_empty() {
-            continue;
-        }
         if let Some(proven) = judged(alloc, problem, finding)? {
-            say_finding(alloc, problem, request, &proven, course, writer, notes)?;
+            if proven.supposed().is_empty() {
+                say_finding(alloc, problem, request, proven, course, writer, notes)?;
+            } else {
+                keep(&mut conditional, Proof::Answers(proven))?;
+            }
         }
     }
+    Ok(conditional)
+}
+
+fn keep(proofs: &mut Vec<Proof>, proof: Proof) -> Result<(), AllocError> {
+    proofs.push(proof)?;
     Ok(())
 }
 
@@ -172,26 +187,26 @@ fn say_finding<W: Write, N: Write>(
     alloc: Global,
     problem: &Problem,
     request: &Request,
-    proven: &Proven,
+    proven: Proven,
     course: &mut Course,
     writer: &mut W,
     notes: &mut N,
 ) -> Result<(), Stop> {
-    let stones = proven.finding.stones;
+    let stones = proven.finding().stones;
     let Some(target) = stones.first() else {
         return Ok(());
     };
     if course.stones.has(target) {
         return Ok(());
     }
-    let size = problem.size();
+    let (size, owner) = (problem.size(), proven.problem().defender());
+    let proof = Proof::Answers(proven);
     let line = if request.form == Form::Json {
-        let owner = proven.finding.colour;
-        proof_object(alloc, size, target, owner, None, &stones, Some(proven))?
+        proof_object(alloc, size, target, owner, None, &stones, &proof)?
     } else {
-        proved_line(alloc, size, target, Some(proven))?
+        proved_line(alloc, size, target, &proof)?
     };
-    note(course, &stones, said_of(proven));
+    note(course, &stones, proof.said());
     say(line.as_str(), writer)?;
     if request.is_told {
         tell_stones(alloc, size, target, course.stones.len(), course.all, notes)?;
@@ -199,21 +214,13 @@ fn say_finding<W: Write, N: Write>(
     Ok(())
 }
 
-/// What a proof says of a group.
-fn said_of(proven: &Proven) -> Said {
-    if proven.is_alive() {
-        Said::Proved
-    } else {
-        Said::Dead
-    }
-}
-
-/// Says of each other group, by row and column of its first stone, what the procedures find.
+/// Says of each other group, by row and column of its first stone, what the procedures find, or one of these proofs.
 fn say_others<W: Write, N: Write>(
     alloc: Global,
     problem: &Problem,
     request: &Request,
     budget: Budget,
+    conditional: &[Proof],
     course: &mut Course,
     writer: &mut W,
     notes: &mut N,
@@ -222,21 +229,35 @@ fn say_others<W: Write, N: Write>(
     for number in 0..size.area() {
         let point = size.point_at(number);
         if is_stone(problem.colouring(), number) && !course.stones.has(point) {
+            let proof = proof_at(conditional, point);
             say_other(
-                alloc, problem, point, request, budget, course, writer, notes,
+                alloc, problem, point, request, budget, proof, course, writer, notes,
             )?;
         }
     }
     Ok(())
 }
 
-/// Says what the procedures find of the group of this stone.
+/// The first of these proofs that is about the stone at the point.
+fn proof_at(proofs: &[Proof], point: Point) -> Option<&Proof> {
+    for proof in proofs {
+        if let Some(proven) = proof.proven() {
+            if proven.finding().stones.has(point) {
+                return Some(proof);
+            }
+        }
+    }
+    None
+}
+
+/// Says of the group of this stone what the procedures find, or this proof.
 fn say_other<W: Write, N: Write>(
     alloc: Global,
     problem: &Problem,
     point: Point,
     request: &Request,
     budget: Budget,
+    proof: Option<&Proof>,
     course: &mut Course,
     writer: &mut W,
     notes: &mut N,
@@ -247,7 +268,7 @@ fn say_other<W: Write, N: Write>(
     let Some(group) = Group::new(alloc, asked)? else {
         return Ok(());
     };
-    let (said, line) = said_and_line(alloc, &group, request, budget)?;
+    let (said, line) = said_and_line(alloc, &group, request, budget, proof)?;
     note(course, &group.position.stones(group.target), said);
     say(line.as_str(), writer)?;
     if request.is_told {

@@ -2,24 +2,20 @@
 
 use crate::answer_lines::{MoveAsked, answer_lines, answer_object, barred_line};
 use crate::answer_record::{answers_record, first_moves_record};
-use crate::answer_to::{AnswerTo, answer_to};
-use crate::asking::proven_stone;
-use crate::by_shape::lives_anywhere;
 use crate::claims::{claims, first_moves_claims, proof_claim};
-use crate::first_moves::FirstMoves;
 use crate::group::Group;
 use crate::json::{found_object, judged_object};
 use crate::lines::{Report, found_lines, judged_lines};
 use crate::move_proof::{by_move_lines, unsettled_lines};
 use crate::proof::{Proof, proof_lines};
 use crate::proof_json::{first_moves_object, proof_object};
-use crate::proven::Proven;
 use crate::solutions::{Told, solutions};
 use crate::table::Table;
 use crate::verdict::{found, judge};
 use go_points::Colour;
 use group_words::{Finding, Form, Judgement, Request, Side};
 use pn_search::Budget;
+use proved_groups::{AnswerTo, FirstMoves, Proven, answer_to, lives_anywhere, proven_stone};
 use regions::named_point;
 use std::alloc::{AllocError, Global};
 use std::io::Write;
@@ -45,8 +41,8 @@ pub(crate) fn answered<N: Write>(
             "refused: the group is not proved to be alive or dead, so there is no answer to name\n"
         )?);
     }
-    let first_moves = FirstMoves::of(alloc, group, request.first, request.steps)?;
-    if is_decided(request, &first_moves) {
+    let first_moves = group.first_moves(alloc, request.first, request.steps)?;
+    if is_decided(request, group, &first_moves) {
         return answered_by_moves(alloc, request, group, &first_moves);
     }
     answered_by_procedures(alloc, request, group, budget, &first_moves, notes)
@@ -65,23 +61,11 @@ fn answered_by_procedures<N: Write>(
     let mut table = Table::new(alloc, budget, request.is_told);
     if let Some(first) = request.first {
         let (finding, procedures) = found(alloc, group, &mut table, first, is_quick, notes)?;
-        let report = Report {
-            group,
-            table: &table,
-            first_moves,
-            procedures,
-            is_why: request.is_why,
-        };
+        let report = Report::of(group, &table, first_moves, procedures, request.is_why);
         return answered_one(alloc, request.form, report, first, finding);
     }
     let (judged, procedures) = judge(alloc, group, &mut table, is_quick, first_moves, notes)?;
-    let report = Report {
-        group,
-        table: &table,
-        first_moves,
-        procedures,
-        is_why: request.is_why,
-    };
+    let report = Report::of(group, &table, first_moves, procedures, request.is_why);
     answered_both(alloc, request.form, report, &judged)
 }
 
@@ -109,7 +93,15 @@ fn answered_to_move(
         mover,
         point,
     };
-    let answer = answer_to(alloc, group, is_alive, mover, point, request.steps)?;
+    let answer = answer_to(
+        alloc,
+        &group.problem,
+        group.target,
+        is_alive,
+        mover,
+        point,
+        request.steps,
+    )?;
     if let AnswerTo::Barred = answer {
         return refused(barred_line(alloc, asked)?);
     }
@@ -121,9 +113,9 @@ fn answered_to_move(
 }
 
 /// Whether the first moves that are proved to win answer all that is asked.
-fn is_decided(request: &Request, first_moves: &FirstMoves) -> bool {
+fn is_decided(request: &Request, group: &Group, first_moves: &FirstMoves) -> bool {
     match request.first {
-        Some(side) => first_moves.by(side).is_some(),
+        Some(side) => first_moves.by(side.colour(group.defender)).is_some(),
         None => first_moves.both().is_some(),
     }
 }
@@ -138,13 +130,13 @@ fn answered_by_moves(
     let (size, target, first) = (group.problem.size(), group.target, request.first);
     if request.form == Form::Json {
         let stones = group.position.stones(target);
-        return text_of(first_moves_object(alloc, size, target, &stones, first, first_moves)?);
+        return text_of(first_moves_object(alloc, group, &stones, first, first_moves)?);
     }
     let lines = match (first, first_moves.both()) {
         (None, Some((attacker, defender))) => {
             unsettled_lines(alloc, size, target, attacker, defender)?
         }
-        (Some(side), _) => match first_moves.by(side) {
+        (Some(side), _) => match first_moves.by(side.colour(group.defender)) {
             Some(proven) => by_move_lines(alloc, size, target, proven)?,
             None => String::new(alloc),
         },
@@ -183,15 +175,7 @@ fn answered_by_proof(
     let (target, defender, first) = (group.target, group.defender, request.first);
     if request.form == Form::Json {
         let stones = group.position.stones(target);
-        return text_of(proof_object(
-            alloc,
-            size,
-            target,
-            defender,
-            first,
-            &stones,
-            proof.proven(),
-        )?);
+        return text_of(proof_object(alloc, size, target, defender, first, &stones, proof)?);
     }
     let lines = proof_lines(alloc, size, target, defender, first, proof)?;
     match (request.form, proof.proven()) {
@@ -200,7 +184,7 @@ fn answered_by_proof(
         }
         (Form::Record, Some(proven)) => {
             let first = first_in_answers(proven);
-            let finding = Some(&proven.finding);
+            let finding = Some(proven.finding());
             let record = answers_record(alloc, group, first, finding, lines.as_str())?;
             Ok(Output::Record(record))
         }
@@ -215,9 +199,9 @@ fn answered_by_proof(
 /// The side whose moves are answered: the owner's of stones that die, else the other.
 fn first_in_answers(proven: &Proven) -> Colour {
     if proven.is_alive() {
-        proven.finding.colour.opponent()
+        proven.finding().colour.opponent()
     } else {
-        proven.finding.colour
+        proven.finding().colour
     }
 }
 

@@ -1,12 +1,12 @@
 //! The answer to a move, as lines for a reader or as JSON.
 
-use crate::answer_to::AnswerTo;
 use crate::json::{begun_at, push_points};
 use crate::lines::push_point;
 use crate::proof::{push_condition, push_details};
 use crate::proof_json::push_proof;
 use go_points::{Colour, Point, PointSet, Size};
 use group_search::Finding;
+use proved_groups::AnswerTo;
 use std::alloc::{AllocError, Global};
 use tool_parts::{colour_letter, colour_name};
 
@@ -29,17 +29,27 @@ impl MoveAsked {
 /// What is proved after the move and its answer, if something is.
 fn finding_of(answer: &AnswerTo) -> Option<&Finding> {
     match answer {
-        AnswerTo::Pass(proven) => Some(&proven.finding),
-        AnswerTo::Move(proven) => Some(&proven.finding),
+        AnswerTo::Pass(proven) => Some(proven.finding()),
+        AnswerTo::Move(proven) => Some(proven.finding()),
         AnswerTo::Barred => None,
         AnswerTo::Unknown => None,
+    }
+}
+
+/// The stones that are supposed for it to have liberties elsewhere.
+fn supposed_for(answer: &AnswerTo) -> PointSet {
+    match answer {
+        AnswerTo::Pass(proven) => proven.supposed(),
+        AnswerTo::Move(proven) => proven.supposed(),
+        AnswerTo::Barred => PointSet::new(),
+        AnswerTo::Unknown => PointSet::new(),
     }
 }
 
 /// The point of the answer, if it is one.
 fn point_of(answer: &AnswerTo) -> Option<Point> {
     match answer {
-        AnswerTo::Move(proven) => proven.first(),
+        AnswerTo::Move(proven) => proven.end().0,
         _ => None,
     }
 }
@@ -60,7 +70,7 @@ pub(crate) fn answer_lines(
     };
     let status = asked.status();
     write!(text, "{status} (proved")?;
-    push_condition(&mut text, asked.size, finding)?;
+    push_condition(&mut text, asked.size, finding.colour, &supposed_for(answer))?;
     text.push_str(") after ")?;
     push_move(&mut text, asked)?;
     match point_of(answer) {
@@ -121,7 +131,7 @@ pub(crate) fn answer_object(
     }
     text.push('"')?;
     push_points(&mut text, "stones", asked.size, stones)?;
-    push_proof(&mut text, asked.size, finding)?;
+    push_proof(&mut text, asked.size, finding, &supposed_for(answer))?;
     text.push_str(",\"questions\":[]}\n")?;
     Ok(text)
 }

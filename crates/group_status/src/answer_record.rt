@@ -1,14 +1,12 @@
 //! What is proved of a group, as a record for a viewer: a variation for each move that has to be answered.
 
-use crate::first_moves::FirstMoves;
 use crate::group::Group;
 use crate::past::without_past;
-use crate::proven::ProvenByMove;
 use crate::solutions::{Marks, marked_node, shown_nodes};
 use crate::variation::tree_with;
 use go_points::{Colour, Colouring, Point, PointSet, Turn};
 use group_search::{Answer, Finding};
-use group_words::Side;
+use proved_groups::{FirstMoves, ProvenByMove};
 use sgf_text::Tree;
 use std::alloc::{AllocError, Global};
 use tsumego_problem::turn_node;
@@ -71,8 +69,8 @@ pub(crate) fn first_moves_record(
     let marks = marks_of(group, None);
     let nodes = shown_nodes(alloc, &before, &marks, lines)?;
     let mut branches = Vec::new(alloc);
-    for side in [Side::Attacker, Side::Defender] {
-        if let Some(proven) = first_moves.by(side) {
+    for mover in [group.defender.opponent(), group.defender] {
+        if let Some(proven) = first_moves.by(mover) {
             branches.push(first_move_branch(alloc, group, proven)?)?;
         }
     }
@@ -88,13 +86,13 @@ pub(crate) fn first_move_branch(
 ) -> Result<Tree, AllocError> {
     let mover = proven.mover();
     let other = mover.opponent();
-    let Some(first) = proven.first() else {
+    let (Some(first), _) = proven.end() else {
         return Err(AllocError);
     };
     let mut nodes = Vec::new(alloc);
     let turn = turn_node(alloc, group.problem.size(), mover, Turn::At(first))?;
-    nodes.push(marked_node(alloc, &turn, &marks_of(group, Some(&proven.finding)))?)?;
-    let answers = proven.finding.answers.as_slice();
+    nodes.push(marked_node(alloc, &turn, &marks_of(group, Some(proven.finding())))?)?;
+    let answers = proven.finding().answers.as_slice();
     tree_with(nodes, answer_branches(alloc, group, other, answers)?)
 }
 

@@ -1,16 +1,15 @@
 //! The questions that were decided, each as a record with its claim, one after another.
 
-use crate::first_moves::FirstMoves;
 use crate::group::Group;
 use crate::json::cause_name;
 use crate::lines::push_point;
-use crate::proven::{Proven, ProvenByMove};
 use crate::table::Table;
 use cert_check::Checked;
 use go_points::{Colour, Point};
-use group_words::{Length, Side};
+use group_words::Length;
 use pn_search::{Audience, Budget, Cause, Verdict, solve};
 use proof_cert::{CertWrite, Certificate, write_cert, write_short};
+use proved_groups::{FirstMoves, Proven, ProvenByMove};
 use sgf_text::{WriteFault, write_bytes, write_tree};
 use short_proofs::{Proved, prove};
 use std::alloc::{AllocError, Global};
@@ -71,11 +70,11 @@ pub(crate) fn proof_claim(
     let mut head = String::new(alloc);
     head.push_str("== 1 ")?;
     push_point(&mut head, proven.problem().size(), target)?;
-    let owner = colour_name(proven.finding.colour);
+    let owner = colour_name(proven.finding().colour);
     let fate = if proven.is_alive() { "stands" } else { "dies" };
     write!(head, ", by answers: {owner} {fate}\n")?;
     push_question(alloc, proven.problem(), head.as_str(), &mut bytes)?;
-    bytes.extend_from_slice(proven.finding.claim.as_slice())?;
+    bytes.extend_from_slice(proven.finding().claim.as_slice())?;
     text_of(bytes)
 }
 
@@ -101,11 +100,11 @@ fn push_first_moves(
     bytes: &mut Vec<u8>,
 ) -> Result<usize, AllocError> {
     let mut count: usize = 0;
-    for side in [Side::Attacker, Side::Defender] {
+    for mover in [group.defender.opponent(), group.defender] {
         let found = if is_outright {
-            first_moves.outright(side)
+            first_moves.outright(mover)
         } else {
-            first_moves.by(side)
+            first_moves.by(mover)
         };
         if let Some(proven) = found {
             count = count.saturating_add(1);
@@ -127,11 +126,11 @@ fn push_first_move(
     write!(head, "== {number} ")?;
     push_point(&mut head, proven.problem().size(), target)?;
     let mover = colour_name(proven.mover());
-    let owner = colour_name(proven.finding.colour);
+    let owner = colour_name(proven.finding().colour);
     let fate = if proven.is_alive() { "stands" } else { "dies" };
     write!(head, ", {mover} first, by answers: {owner} {fate}\n")?;
     push_question(alloc, proven.problem(), head.as_str(), bytes)?;
-    bytes.extend_from_slice(proven.finding.claim.as_slice())
+    bytes.extend_from_slice(proven.finding().claim.as_slice())
 }
 
 /// What the line of a question begins with: its number, after so many others, who moves first, and the sizes and walls that ask it.

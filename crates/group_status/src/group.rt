@@ -2,6 +2,7 @@
 
 use go_points::{Colour, Point, PointSet};
 use group_words::Side;
+use proved_groups::FirstMoves;
 use regions::{Order, Position, Supposed};
 use std::alloc::{AllocError, Global};
 use target_game::Problem;
@@ -33,6 +34,27 @@ impl Group {
             target,
             defender,
         }))
+    }
+
+    /// What is proved of it by the first move of either side, or of this one alone.
+    pub(crate) fn first_moves(
+        &self,
+        alloc: Global,
+        first: Option<Side>,
+        steps: u64,
+    ) -> Result<FirstMoves, AllocError> {
+        let mover = match first {
+            Some(side) => Some(side.colour(self.defender)),
+            None => None,
+        };
+        FirstMoves::of(
+            alloc,
+            &self.problem,
+            self.target,
+            self.defender,
+            mover,
+            steps,
+        )
     }
 
     /// The problem of a position in which something is supposed about the outside, with this side to move first. If no stone was

@@ -1,89 +1,78 @@
 //! What is said of a group where all are asked about: one line.
 
-use crate::by_shape::lives_anywhere;
-use crate::first_moves::FirstMoves;
 use crate::group::Group;
 use crate::json::judged_object;
 use crate::lines::{Report, first_line, open_line};
 use crate::move_proof::unsettled_line;
-use crate::proof::proved_line;
+use crate::proof::{Proof, proved_line};
 use crate::proof_json::{first_moves_object, proof_object};
 use crate::table::Table;
 use crate::totals::Said;
 use crate::verdict::{Procedures, judge_by};
-use group_words::{Form, Judgement, Request, Side, Word};
+use group_words::{Form, Judgement, Request, Word};
 use pn_search::Budget;
+use proved_groups::{FirstMoves, lives_anywhere};
 use std::alloc::{AllocError, Global};
 
 /// The first, quick look at a group gets one part in this many of the steps.
 const QUICK_SHARE: u64 = 10;
 
-/// What is said about the group: that each side's first move decides it, if that is proved; what a quick look found, if that is sure;
-/// and otherwise what both procedures find.
+/// What is said about the group: that each side's first move decides it, if that is proved with few steps; what a quick look found, if
+/// that is sure; this proof, which depends on stones that are only supposed to stand; first moves that are proved with all steps; and
+/// otherwise what both procedures find.
 pub(crate) fn said_and_line(
     alloc: Global,
     group: &Group,
     request: &Request,
     budget: Budget,
+    proof: Option<&Proof>,
 ) -> Result<(Said, String), AllocError> {
-    // The notes of a run are about its groups, not about their questions.
-    let mut silent: Vec<u8> = Vec::new(alloc);
     let is_json = request.form == Form::Json;
     if lives_anywhere(group.problem.colouring(), group.target, group.defender) {
-        return Ok((Said::Proved, line_by_shape(alloc, group, is_json)?));
+        let shape = Proof::Shape(None);
+        return Ok((Said::Proved, line_by_proof(alloc, group, &shape, is_json)?));
     }
     let few = Budget {
         steps: (budget.steps / QUICK_SHARE).max(1),
         table: budget.table,
     };
-    let moves = FirstMoves::of(alloc, group, None, few.steps)?;
+    let moves = group.first_moves(alloc, None, few.steps)?;
     if let Some(line) = line_by_moves(alloc, group, &moves, is_json)? {
         return Ok((Said::Unsettled, line));
     }
-    let mut table = Table::new(alloc, few, false);
-    let first = judge_by(
-        alloc,
-        group,
-        &mut table,
-        Procedures::First,
-        &moves,
-        &mut silent,
-    )?;
-    let quick = report_of(group, &table, &moves, Procedures::First);
-    if first.word == Word::Sure || request.is_quick {
-        return line_of(alloc, quick, &first, is_json);
+    let (word, quick) = line_by(alloc, group, Procedures::First, few, &moves, is_json)?;
+    if word == Word::Sure {
+        return Ok(quick);
     }
-    let mut other = Table::new(alloc, budget, false);
-    let both = judge_by(
-        alloc,
-        group,
-        &mut other,
-        Procedures::Both,
-        &moves,
-        &mut silent,
-    )?;
-    line_of(
-        alloc,
-        report_of(group, &other, &moves, Procedures::Both),
-        &both,
-        is_json,
-    )
+    if let Some(proof) = proof {
+        return Ok((proof.said(), line_by_proof(alloc, group, proof, is_json)?));
+    }
+    if request.is_quick {
+        return Ok(quick);
+    }
+    let more = group.first_moves(alloc, None, budget.steps)?;
+    if let Some(line) = line_by_moves(alloc, group, &more, is_json)? {
+        return Ok((Said::Unsettled, line));
+    }
+    let (_, both) = line_by(alloc, group, Procedures::Both, budget, &more, is_json)?;
+    Ok(both)
 }
 
-/// What is told of a group among others.
-fn report_of<'a>(
-    group: &'a Group,
-    table: &'a Table,
-    first_moves: &'a FirstMoves,
+/// What these procedures find: how far that is to be trusted, what is said, and the line or the object.
+fn line_by(
+    alloc: Global,
+    group: &Group,
     procedures: Procedures,
-) -> Report<'a> {
-    Report {
-        group,
-        table,
-        first_moves,
-        procedures,
-        is_why: false,
-    }
+    budget: Budget,
+    moves: &FirstMoves,
+    is_json: bool,
+) -> Result<(Word, (Said, String)), AllocError> {
+    // The notes of a run are about its groups, not about their questions.
+    let mut silent: Vec<u8> = Vec::new(alloc);
+    let mut table = Table::new(alloc, budget, false);
+    let judged = judge_by(alloc, group, &mut table, procedures, moves, &mut silent)?;
+    let report = Report::of(group, &table, moves, procedures, false);
+    Ok((judged.word, line_of(alloc, report, &judged, is_json)?))
 }
 
 /// The line or the object of a group that each side is proved to decide by moving first, where nothing is supposed for it.
@@ -95,26 +84,31 @@ fn line_by_moves(
 ) -> Result<Option<String>, AllocError> {
     let (size, target) = (group.problem.size(), group.target);
     match moves.both() {
-        Some((attacker, _)) if moves.outright(Side::Attacker).is_some() => {
+        Some((attack, _)) if attack.supposed().is_empty() => {
             if !is_json {
-                return Ok(Some(unsettled_line(alloc, size, target, attacker)?));
+                return Ok(Some(unsettled_line(alloc, size, target, attack)?));
             }
             let stones = group.position.stones(target);
-            let text = first_moves_object(alloc, size, target, &stones, None, moves)?;
+            let text = first_moves_object(alloc, group, &stones, None, moves)?;
             Ok(Some(text))
         }
         _ => Ok(None),
     }
 }
 
-/// The line or the object of a group that lives by its shape.
-fn line_by_shape(alloc: Global, group: &Group, is_json: bool) -> Result<String, AllocError> {
+/// The line or the object of a group with this proof.
+fn line_by_proof(
+    alloc: Global,
+    group: &Group,
+    proof: &Proof,
+    is_json: bool,
+) -> Result<String, AllocError> {
     let (size, target) = (group.problem.size(), group.target);
     if is_json {
         let stones = group.position.stones(target);
-        return proof_object(alloc, size, target, group.defender, None, &stones, None);
+        return proof_object(alloc, size, target, group.defender, None, &stones, proof);
     }
-    proved_line(alloc, size, target, None)
+    proved_line(alloc, size, target, proof)
 }
 
 /// The line or the object of a group, and what it says. A group about which nothing was decided is open.

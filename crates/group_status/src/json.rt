@@ -50,7 +50,7 @@ pub(crate) fn judged_object(
         text.push_str(",\"ko\":true")?;
     }
     push_stones(&mut text, group)?;
-    push_first_moves(&mut text, group.problem.size(), report.first_moves, true)?;
+    push_first_moves(&mut text, group, report.first_moves, true)?;
     push_rows(&mut text, group, report.table)?;
     Ok(text)
 }

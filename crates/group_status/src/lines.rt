@@ -3,7 +3,6 @@
 ghost use Rattle.std.specs.Prelude.{◌≡◌};
 ghost use Rattle.group_words.specs.Sides.{end_text};
 
-use crate::first_moves::FirstMoves;
 use crate::group::Group;
 use crate::move_proof::push_by_move;
 use crate::question_lines::{push_all_walls, push_ko};
@@ -11,6 +10,7 @@ use crate::table::Table;
 use crate::verdict::Procedures;
 use go_points::{Colour, Point, Size, Turn, to_gtp};
 use group_words::{Fate, Finding, Judgement, Side, Word};
+use proved_groups::FirstMoves;
 use std::alloc::{AllocError, Global};
 use tool_parts::colour_name;
 
@@ -48,6 +48,24 @@ pub(crate) struct Report<'a> {
     pub(crate) is_why: bool,
 }
 
+impl<'a> Report<'a> {
+    pub(crate) fn of(
+        group: &'a Group,
+        table: &'a Table,
+        first_moves: &'a FirstMoves,
+        procedures: Procedures,
+        is_why: bool,
+    ) -> Report<'a> {
+        Report {
+            group,
+            table,
+            first_moves,
+            procedures,
+            is_why,
+        }
+    }
+}
+
 /// The lines of a group: its fate, and for each side to move first who wins, or why that is proved.
 pub(crate) fn judged_lines(
     alloc: Global,
@@ -55,9 +73,15 @@ pub(crate) fn judged_lines(
     judged: &Judgement,
 ) -> Result<String, AllocError> {
     let mut text = first_line(alloc, report, judged)?;
-    push_side(&mut text, report, Side::Attacker, &judged.attacker_first)?;
+    push_side(
+        alloc,
+        &mut text,
+        report,
+        Side::Attacker,
+        &judged.attacker_first,
+    )?;
     if let Some(finding) = judged.defender_first {
-        push_side(&mut text, report, Side::Defender, &finding)?;
+        push_side(alloc, &mut text, report, Side::Defender, &finding)?;
     }
     text.push_str(trust_text(judged.word, report.procedures))?;
     Ok(text)
@@ -65,13 +89,17 @@ pub(crate) fn judged_lines(
 
 /// Appends the lines for one first mover, by what is proved if that is something.
 fn push_side(
+    alloc: Global,
     text: &mut String,
     report: Report<'_>,
     first: Side,
     finding: &Finding,
 ) -> Result<(), AllocError> {
-    match report.first_moves.outright(first) {
-        Some(proven) => push_by_move(text, report.group.problem.size(), proven),
+    match report
+        .first_moves
+        .outright(first.colour(report.group.defender))
+    {
+        Some(proven) => push_by_move(alloc, text, report.group.problem.size(), proven),
         None => push_finding(text, report, first, finding),
     }
 }

@@ -1,19 +1,13 @@
 //! group_status: says whether a group is alive, dead or unsettled, and on what suppositions.
 #![tactic(auto)]
 
-mod alive;
 mod all_groups;
 mod answer;
 mod answer_lines;
 mod answer_record;
-mod answer_to;
 mod asked;
-mod asking;
 mod board_record;
-mod by_shape;
 mod claims;
-mod dead;
-mod first_moves;
 mod first_procedure;
 mod group;
 mod group_line;
@@ -26,13 +20,11 @@ mod program;
 mod progress;
 mod proof;
 mod proof_json;
-mod proven;
 mod question_lines;
 mod score;
 mod second_procedure;
 mod solutions;
 mod table;
-mod together;
 mod totals;
 mod variation;
 mod verdict;

@@ -1,9 +1,12 @@
 //! What a first move does to a group, where that is proved, as lines for a reader.
 
+ghost use Rattle.std.specs.Prelude.{IfOk, string_bytes};
+ghost use Rattle.group_status.specs.Lines.{IsMoveLine};
+
 use crate::lines::push_point;
-use crate::proof::{push_condition, push_details};
-use crate::proven::ProvenByMove;
+use crate::proof::{point_name, push_condition, push_details};
 use go_points::{Point, Size};
+use proved_groups::ProvenByMove;
 use std::alloc::{AllocError, Global};
 use tool_parts::colour_name;
 
@@ -12,12 +15,12 @@ pub(crate) fn unsettled_lines(
     alloc: Global,
     size: Size,
     target: Point,
-    attacker: &ProvenByMove,
-    defender: &ProvenByMove,
+    attack: &ProvenByMove,
+    defence: &ProvenByMove,
 ) -> Result<String, AllocError> {
-    let mut text = unsettled_line(alloc, size, target, attacker)?;
-    push_by_move(&mut text, size, attacker)?;
-    push_by_move(&mut text, size, defender)?;
+    let mut text = unsettled_line(alloc, size, target, attack)?;
+    push_by_move(alloc, &mut text, size, attack)?;
+    push_by_move(alloc, &mut text, size, defence)?;
     Ok(text)
 }
 
@@ -26,12 +29,17 @@ pub(crate) fn unsettled_line(
     alloc: Global,
     size: Size,
     target: Point,
-    attacker: &ProvenByMove,
+    attack: &ProvenByMove,
 ) -> Result<String, AllocError> {
     let mut text = String::new(alloc);
     push_point(&mut text, size, target)?;
     text.push_str(": unsettled (proved")?;
-    push_condition(&mut text, size, &attacker.finding)?;
+    push_condition(
+        &mut text,
+        size,
+        attack.problem().defender(),
+        &attack.supposed(),
+    )?;
     text.push_str(")\n")?;
     Ok(text)
 }
@@ -47,27 +55,47 @@ pub(crate) fn by_move_lines(
     push_point(&mut text, size, target)?;
     let winner = colour_name(proven.mover());
     write!(text, ": {winner} wins (proved")?;
-    push_condition(&mut text, size, &proven.finding)?;
+    push_condition(
+        &mut text,
+        size,
+        proven.problem().defender(),
+        &proven.supposed(),
+    )?;
     text.push_str(")\n")?;
-    push_by_move(&mut text, size, proven)?;
+    push_by_move(alloc, &mut text, size, proven)?;
     Ok(text)
+}
+
+/// Who moves first, what happens then and by which move.
+fn move_line(alloc: Global, size: Size, proven: &ProvenByMove) -> Result<String, AllocError>
+    ensures { IfOk result (λ text. IsMoveLine proven.now (string_bytes text)) }
+{
+    let mover = colour_name(proven.mover());
+    let (first, word) = proven.end();
+    let name = by_which(alloc, size, first)?;
+    format!(in alloc; "  {mover} first: {word}{name} (proved)\n")
+}
+
+/// By which move, if one is known.
+fn by_which(alloc: Global, size: Size, first: Option<Point>) -> Result<String, AllocError> {
+    let Some(point) = first else {
+        return Ok(String::new(alloc));
+    };
+    let name = point_name(alloc, size, point)?;
+    format!(in alloc; ", by {name}")
 }
 
 /// Appends who moves first, what happens then and by which move, and why.
 pub(crate) fn push_by_move(
+    alloc: Global,
     text: &mut String,
     size: Size,
     proven: &ProvenByMove,
 ) -> Result<(), AllocError> {
+    let line = move_line(alloc, size, proven)?;
+    text.push_str(line.as_str())?;
     let mover = colour_name(proven.mover());
     let other = colour_name(proven.mover().opponent());
-    let end = if proven.is_alive() { "lives" } else { "dies" };
-    write!(text, "  {mover} first: {end}")?;
-    if let Some(first) = proven.first() {
-        text.push_str(", by ")?;
-        push_point(text, size, first)?;
-    }
-    text.push_str(" (proved)\n")?;
     if proven.is_alive() {
         write!(
             text,
@@ -79,5 +107,5 @@ pub(crate) fn push_by_move(
             "    then, whatever {other} plays anywhere on the board, {mover} takes a stone of it by playing in the region\n"
         )?;
     }
-    push_details(text, size, &proven.finding, "    ")
+    push_details(text, size, proven.finding(), "    ")
 }

@@ -1,10 +1,14 @@
 //! Why a group is alive or dead, where that is proved, as lines for a reader.
 
+ghost use Rattle.std.specs.Prelude.{IfOk, string_bytes};
+ghost use Rattle.group_status.specs.Lines.{IsProvedLine, SaysFate};
+
 use crate::lines::push_point;
-use crate::proven::Proven;
+use crate::totals::Said;
 use go_points::{Colour, Point, PointSet, Size};
 use group_search::{Answer, Finding, Kind};
 use group_words::Side;
+use proved_groups::Proven;
 use std::alloc::{AllocError, Global};
 use tool_parts::colour_name;
 
@@ -32,6 +36,25 @@ impl Proof {
             Proof::Answers(proven) => proven.is_alive(),
         }
     }
+
+    /// What it says of the group where all are counted.
+    pub(crate) fn said(&self) -> Said {
+        if self.is_alive() {
+            Said::Proved
+        } else {
+            Said::Dead
+        }
+    }
+
+    /// Whether the group is `alive` or `dead`.
+    pub(crate) fn status(&self) -> &'static str
+        ensures { SaysFate self.now result.now }
+    {
+        match self {
+            Proof::Shape(_) => "alive",
+            Proof::Answers(proven) => proven.status(),
+        }
+    }
 }
 
 /// The lines of a group; if only one side is asked about, the first says who wins.
@@ -43,17 +66,14 @@ pub(crate) fn proof_lines(
     first: Option<Side>,
     proof: &Proof,
 ) -> Result<String, AllocError> {
-    let mut text = String::new(alloc);
-    push_point(&mut text, size, target)?;
-    push_status(&mut text, defender, first, proof.is_alive())?;
-    if let Some(proven) = proof.proven() {
-        push_condition(&mut text, size, &proven.finding)?;
-    }
-    text.push_str(")\n")?;
+    let mut text = match first {
+        None => proved_line(alloc, size, target, proof)?,
+        Some(_) => winner_line(alloc, size, target, defender, proof)?,
+    };
     match proof {
-        Proof::Answers(proven) if proven.finding.kind != Kind::PassAlive => {
+        Proof::Answers(proven) if proven.finding().kind != Kind::PassAlive => {
             push_by_answers(&mut text, defender, proven.is_alive())?;
-            push_details(&mut text, size, &proven.finding, "  ")?;
+            push_details(&mut text, size, proven.finding(), "  ")?;
         }
         _ => text.push_str(
             "  by its shape: nothing that is played takes it, anywhere on the board, even if its own side always passes\n",
@@ -62,71 +82,78 @@ pub(crate) fn proof_lines(
     Ok(text)
 }
 
-/// Appends the status, or who wins if one side moves first, and the word, up to what it depends on.
-fn push_status(
-    text: &mut String,
+/// The line of a group whose fate is proved, whoever moves first.
+pub(crate) fn proved_line(
+    alloc: Global,
+    size: Size,
+    target: Point,
+    proof: &Proof,
+) -> Result<String, AllocError>
+    ensures { IfOk result (λ text. IsProvedLine proof.now (string_bytes text)) }
+{
+    let name = point_name(alloc, size, target)?;
+    let condition = condition_of(alloc, size, proof)?;
+    let word = proof.status();
+    format!(in alloc; "{name}: {word} (proved{condition})\n")
+}
+
+/// The same if one side moves first: who wins.
+fn winner_line(
+    alloc: Global,
+    size: Size,
+    target: Point,
     defender: Colour,
-    first: Option<Side>,
-    is_alive: bool,
-) -> Result<(), AllocError> {
-    if first.is_none() {
-        return text.push_str(if is_alive {
-            ": alive (proved"
-        } else {
-            ": dead (proved"
-        });
-    }
-    let winner = colour_name(if is_alive {
+    proof: &Proof,
+) -> Result<String, AllocError> {
+    let name = point_name(alloc, size, target)?;
+    let condition = condition_of(alloc, size, proof)?;
+    let winner = colour_name(if proof.is_alive() {
         defender
     } else {
         defender.opponent()
     });
-    write!(text, ": {winner} wins (proved")
+    format!(in alloc; "{name}: {winner} wins (proved{condition})\n")
 }
 
-/// Appends on which stones it depends that they have liberties elsewhere, if on any.
+/// The name of the point.
+pub(crate) fn point_name(alloc: Global, size: Size, point: Point) -> Result<String, AllocError> {
+    let mut name = String::new(alloc);
+    push_point(&mut name, size, point)?;
+    Ok(name)
+}
+
+/// On which stones it depends that they have liberties elsewhere, if on any.
+fn condition_of(alloc: Global, size: Size, proof: &Proof) -> Result<String, AllocError> {
+    let mut text = String::new(alloc);
+    if let Some(proven) = proof.proven() {
+        let owner = proven.problem().defender();
+        push_condition(&mut text, size, owner, &proven.supposed())?;
+    }
+    Ok(text)
+}
+
+/// Appends on which stones, of the side that is not the owner, it depends that they have liberties elsewhere, if on any.
 pub(crate) fn push_condition(
     text: &mut String,
     size: Size,
-    finding: &Finding,
+    owner: Colour,
+    supposed: &PointSet,
 ) -> Result<(), AllocError> {
-    let stones = &finding.supposed;
-    if stones.is_empty() {
+    if supposed.is_empty() {
         return Ok(());
     }
-    let killer = match finding.colour.opponent() {
-        Colour::Black => "black",
-        Colour::White => "white",
+    let killer = match owner {
+        Colour::Black => "white",
+        Colour::White => "black",
     };
-    let (one, have) = if stones.len() == 1 {
+    let (one, have) = if supposed.len() == 1 {
         ("stone", "has")
     } else {
         ("stones", "have")
     };
     write!(text, ", as long as the {killer} {one} at ")?;
-    push_names(text, size, stones)?;
+    push_names(text, size, supposed)?;
     write!(text, " {have} liberties elsewhere")
-}
-
-/// The line of a group whose fate is proved, whoever moves first. `proven` is none where it lives by its shape.
-pub(crate) fn proved_line(
-    alloc: Global,
-    size: Size,
-    target: Point,
-    proven: Option<&Proven>,
-) -> Result<String, AllocError> {
-    let mut text = String::new(alloc);
-    push_point(&mut text, size, target)?;
-    let is_alive = match proven {
-        Some(proven) => proven.is_alive(),
-        None => true,
-    };
-    push_status(&mut text, Colour::Black, None, is_alive)?;
-    if let Some(proven) = proven {
-        push_condition(&mut text, size, &proven.finding)?;
-    }
-    text.push_str(")\n")?;
-    Ok(text)
 }
 
 /// Appends the line that says how the group lives or is taken.

@@ -1,13 +1,16 @@
 //! A group whose fate is proved, as an object of JSON.
 
-use crate::first_moves::FirstMoves;
+ghost use Rattle.std.specs.Prelude.{IfOk, string_bytes};
+ghost use Rattle.group_status.specs.Lines.{IsStatusFields};
+
+use crate::group::Group;
 use crate::json::{begun_at, push_points, push_set};
 use crate::lines::push_point;
-use crate::proof::push_answer_name;
-use crate::proven::{Proven, ProvenByMove};
+use crate::proof::{Proof, push_answer_name};
 use go_points::{Colour, Point, PointSet, Size};
 use group_search::{Answer, Finding, Kind};
 use group_words::Side;
+use proved_groups::{FirstMoves, ProvenByMove};
 use std::alloc::{AllocError, Global};
 use tool_parts::colour_letter;
 
@@ -31,18 +34,17 @@ pub(crate) fn proof_object(
     defender: Colour,
     first: Option<Side>,
     stones: &PointSet,
-    proven: Option<&Proven>,
+    proof: &Proof,
 ) -> Result<String, AllocError> {
     let mut text = begun_at(alloc, size, target)?;
-    let is_alive = match proven {
-        Some(proven) => proven.is_alive(),
-        None => true,
-    };
-    push_word(&mut text, defender, first, is_alive)?;
-    match proven {
+    match first {
+        None => text.push_str(status_fields(alloc, proof)?.as_str())?,
+        Some(side) => push_winner(&mut text, defender, side, proof.is_alive())?,
+    }
+    match proof.proven() {
         Some(proven) => {
-            push_points(&mut text, "stones", size, &proven.finding.stones)?;
-            push_proof(&mut text, size, &proven.finding)?;
+            push_points(&mut text, "stones", size, &proven.finding().stones)?;
+            push_proof(&mut text, size, proven.finding(), &proven.supposed())?;
         }
         None => push_points(&mut text, "stones", size, stones)?,
     }
@@ -50,56 +52,73 @@ pub(crate) fn proof_object(
     Ok(text)
 }
 
+/// The status, and that it is proved.
+fn status_fields(alloc: Global, proof: &Proof) -> Result<String, AllocError>
+    ensures { IfOk result (λ text. IsStatusFields proof.now (string_bytes text)) }
+{
+    let word = proof.status();
+    format!(in alloc; ",\"status\":\"{word}\",\"word\":\"proved\"")
+}
+
+/// Appends who wins if this side moves first, and that it is proved.
+fn push_winner(
+    text: &mut String,
+    defender: Colour,
+    first: Side,
+    is_alive: bool,
+) -> Result<(), AllocError> {
+    let mover = colour_letter(first.colour(defender));
+    let winner = colour_letter(if is_alive {
+        defender
+    } else {
+        defender.opponent()
+    });
+    write!(
+        text,
+        ",\"first\":\"{mover}\",\"word\":\"proved\",\"winner\":\"{winner}\""
+    )
+}
+
 /// The object of a group that each side decides by moving first, or where one side was asked about that decides it so.
 pub(crate) fn first_moves_object(
     alloc: Global,
-    size: Size,
-    target: Point,
+    group: &Group,
     stones: &PointSet,
     first: Option<Side>,
     first_moves: &FirstMoves,
 ) -> Result<String, AllocError> {
-    let mut text = begun_at(alloc, size, target)?;
+    let mut text = begun_at(alloc, group.problem.size(), group.target)?;
     match first {
         None => text.push_str(",\"status\":\"unsettled\",\"word\":\"proved\"")?,
-        Some(side) => push_mover_wins(&mut text, first_moves.by(side))?,
+        Some(side) => {
+            let is_alive = side.is(Side::Defender);
+            push_winner(&mut text, group.defender, side, is_alive)?;
+        }
     }
-    push_points(&mut text, "stones", size, stones)?;
-    push_first_moves(&mut text, size, first_moves, false)?;
+    push_points(&mut text, "stones", group.problem.size(), stones)?;
+    push_first_moves(&mut text, group, first_moves, false)?;
     text.push_str(",\"questions\":[]}\n")?;
     Ok(text)
-}
-
-/// Appends that the side that moves first wins.
-fn push_mover_wins(text: &mut String, proven: Option<&ProvenByMove>) -> Result<(), AllocError> {
-    let Some(proven) = proven else {
-        return Ok(());
-    };
-    let mover = colour_letter(proven.mover());
-    write!(
-        text,
-        ",\"first\":\"{mover}\",\"word\":\"proved\",\"winner\":\"{mover}\""
-    )
 }
 
 /// Appends the first moves that are proved to win, if there are any; only those for which nothing is supposed if `is_outright`.
 pub(crate) fn push_first_moves(
     text: &mut String,
-    size: Size,
+    group: &Group,
     first_moves: &FirstMoves,
     is_outright: bool,
 ) -> Result<(), AllocError> {
     let mut is_first = true;
-    for side in [Side::Attacker, Side::Defender] {
+    for mover in [group.defender.opponent(), group.defender] {
         let found = if is_outright {
-            first_moves.outright(side)
+            first_moves.outright(mover)
         } else {
-            first_moves.by(side)
+            first_moves.by(mover)
         };
         if let Some(proven) = found {
             text.push_str(if is_first { ",\"first_moves\":[" } else { "," })?;
             is_first = false;
-            push_first_move(text, size, proven)?;
+            push_first_move(text, group.problem.size(), proven)?;
         }
     }
     if is_first {
@@ -112,38 +131,13 @@ pub(crate) fn push_first_moves(
 fn push_first_move(text: &mut String, size: Size, proven: &ProvenByMove) -> Result<(), AllocError> {
     let mover = colour_letter(proven.mover());
     write!(text, "{{\"first\":\"{mover}\",\"winner\":\"{mover}\"")?;
-    if let Some(first) = proven.first() {
+    if let (Some(first), _) = proven.end() {
         text.push_str(",\"move\":\"")?;
         push_point(text, size, first)?;
         text.push('"')?;
     }
-    push_proof(text, size, &proven.finding)?;
+    push_proof(text, size, proven.finding(), &proven.supposed())?;
     text.push('}')
-}
-
-/// Appends the status, or who wins if one side moves first, and the word.
-fn push_word(
-    text: &mut String,
-    defender: Colour,
-    first: Option<Side>,
-    is_alive: bool,
-) -> Result<(), AllocError> {
-    match first {
-        None if is_alive => text.push_str(",\"status\":\"alive\",\"word\":\"proved\""),
-        None => text.push_str(",\"status\":\"dead\",\"word\":\"proved\""),
-        Some(side) => {
-            let mover = colour_letter(side.colour(defender));
-            let winner = colour_letter(if is_alive {
-                defender
-            } else {
-                defender.opponent()
-            });
-            write!(
-                text,
-                ",\"first\":\"{mover}\",\"word\":\"proved\",\"winner\":\"{winner}\""
-            )
-        }
-    }
 }
 
 /// Appends what a judge has accepted.
@@ -151,14 +145,15 @@ pub(crate) fn push_proof(
     text: &mut String,
     size: Size,
     finding: &Finding,
+    supposed: &PointSet,
 ) -> Result<(), AllocError> {
     let kind = kind_name(finding.kind);
     write!(text, ",\"proof\":{{\"kind\":\"{kind}\",")?;
     push_set(text, "kept", size, &finding.kept)?;
     push_points(text, "region", size, &finding.region)?;
     push_points(text, "friends", size, &finding.friends)?;
-    if !finding.supposed.is_empty() {
-        push_points(text, "while", size, &finding.supposed)?;
+    if !supposed.is_empty() {
+        push_points(text, "while", size, supposed)?;
     }
     push_answers(text, size, finding.answers.as_slice())?;
     push_claim(text, finding.claim.as_slice())?;

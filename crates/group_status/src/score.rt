@@ -4,11 +4,10 @@
 //! accepted; or if it is empty and all its neighbours are such stones, since no stone of the other side can stay there. All other
 //! points are open.
 
-use crate::asking::search_of;
-use crate::together::safe_together;
 use go_points::{Cell, Colour, Colouring, Point, PointSet, Size};
 use group_search::Finding;
 use group_words::{Form, Request};
+use proved_groups::{safe_together, search_of};
 use std::alloc::{AllocError, Global};
 use target_game::Problem;
 
@@ -57,7 +56,7 @@ fn standing(
     findings: &[Finding],
 ) -> Result<PointSet, AllocError> {
     match safe_together(alloc, problem, colour, findings)? {
-        Some(safe) => Ok(*safe.problem.targets()),
+        Some(safe) => Ok(*safe.problem().targets()),
         None => Ok(PointSet::new()),
     }
 }

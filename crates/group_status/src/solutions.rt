@@ -2,7 +2,6 @@
 //! with the stones that were placed.
 
 use crate::answer_record::first_move_branch;
-use crate::first_moves::FirstMoves;
 use crate::group::Group;
 use crate::lines::push_end;
 use crate::past::without_past;
@@ -11,6 +10,7 @@ use crate::table::{Row, Table};
 use crate::variation::{Question, alone, node_with, solved, tree_with};
 use go_points::{Colour, PointSet, Turn, to_sgf as letters_of};
 use group_words::{Finding, Side};
+use proved_groups::FirstMoves;
 use sgf_text::{Bytes, Property, SgfNode, Tree, Values};
 use std::alloc::{AllocError, Global};
 use target_game::Problem;
@@ -60,13 +60,16 @@ pub(crate) fn solutions(
     let mut left = MOST_TURNS;
     let mut branches = Vec::new(alloc);
     for one in told {
-        if first_moves.outright(one.first).is_none() {
+        if first_moves
+            .outright(one.first.colour(group.defender))
+            .is_none()
+        {
             branches.push(branch(alloc, group, table, &before, *one, &mut left)?)?;
         }
     }
     // What is proved comes last, so that the main line is a solution, which can be audited.
     for one in told {
-        if let Some(proven) = first_moves.outright(one.first) {
+        if let Some(proven) = first_moves.outright(one.first.colour(group.defender)) {
             branches.push(first_move_branch(alloc, group, proven)?)?;
         }
     }

@@ -3,12 +3,12 @@
 ghost use Rattle.std.specs.Prelude.{IfOk};
 ghost use Rattle.group_words.specs.Rule.{IsByRule};
 
-use crate::first_moves::FirstMoves;
 use crate::first_procedure::first_procedure;
 use crate::group::Group;
 use crate::second_procedure::second_procedure;
 use crate::table::Table;
 use group_words::{Fate, Finding, Judgement, Side, Word, judged_by, together};
+use proved_groups::FirstMoves;
 use regions::Walls;
 use std::alloc::{AllocError, Global};
 use std::io::Write;
@@ -57,6 +57,20 @@ pub(crate) fn found<N: Write>(
     Ok((both, Procedures::Both))
 }
 
+/// What the procedures need not be asked where this side moves first, since it is proved to win.
+fn proved_finding(group: &Group, first_moves: &FirstMoves, side: Side) -> Option<Finding> {
+    match first_moves.outright(side.colour(group.defender)) {
+        Some(_) => Some(Finding {
+            winner: Some(side),
+            word: Word::Sure,
+            since: 0,
+            largest: usize::MAX,
+            is_split: false,
+        }),
+        None => None,
+    }
+}
+
 /// What becomes of the group by these procedures. Where a side's first move is proved to win, they are not asked about it.
 pub(crate) fn judge_by<N: Write>(
     alloc: Global,
@@ -68,7 +82,7 @@ pub(crate) fn judge_by<N: Write>(
 ) -> Result<Judgement, AllocError>
     ensures { IfOk result (λ j. IsByRule j) }
 {
-    let attacker_first = match first_moves.finding(Side::Attacker) {
+    let attacker_first = match proved_finding(group, first_moves, Side::Attacker) {
         Some(proved) => proved,
         None => found_by(alloc, group, table, Side::Attacker, procedures, notes)?,
     };
@@ -81,7 +95,7 @@ pub(crate) fn judge_by<N: Write>(
             defender_first: None,
         });
     }
-    let asked = match first_moves.finding(Side::Defender) {
+    let asked = match proved_finding(group, first_moves, Side::Defender) {
         Some(proved) => proved,
         None => found_by(alloc, group, table, Side::Defender, procedures, notes)?,
     };

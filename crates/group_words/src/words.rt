@@ -118,8 +118,8 @@ fn fault_of(given: &ArgMatches<'_>) -> Option<&'static str> {
     if flag(given, "all") || flag(given, "score") {
         return fault_of_board(given, has_target);
     }
-    if given.get_str("answer").is_some() {
-        return fault_of_answer(given, has_target);
+    if let Some(answer) = given.get_str("answer") {
+        return fault_of_answer(given, answer, has_target);
     }
     if given.get_one::<u64>("node").is_some() && !has_target {
         return Some("'--node' wants a '--target' at that node, '--all' or '--score'");
@@ -128,7 +128,10 @@ fn fault_of(given: &ArgMatches<'_>) -> Option<&'static str> {
 }
 
 /// The same where the answer to a move is asked for.
-fn fault_of_answer(given: &ArgMatches<'_>, has_target: bool) -> Option<&'static str> {
+fn fault_of_answer(given: &ArgMatches<'_>, answer: &str, has_target: bool) -> Option<&'static str> {
+    if answer.is_empty() {
+        return Some("'--answer' wants a point of the board");
+    }
     let has_claims = flag(given, "claims") || flag(given, "full-claims");
     if flag(given, "sgf") || has_claims || given.get_str("first").is_some() {
         return Some("'--answer' is told in lines or with '--json', without '--first'");
@@ -148,9 +151,9 @@ fn fault_of_board(given: &ArgMatches<'_>, has_target: bool) -> Option<&'static s
     }
     let has_claims = flag(given, "claims") || flag(given, "full-claims");
     let is_of_one = given.get_str("first").is_some() || given.get_str("answer").is_some();
-    if has_claims || is_of_one {
+    if has_claims || is_of_one || flag(given, "why") {
         return Some(
-            "'--first', '--answer' and claims are for one target, and not for '--all' or '--score'",
+            "'--first', '--answer', '--why' and claims are for one target, and not for '--all' or '--score'",
         );
     }
     if flag(given, "score") && flag(given, "sgf") {

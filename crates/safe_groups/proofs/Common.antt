@@ -24,7 +24,7 @@ pub use Rattle.go_points.specs.declared.Cell.{Cell}
 pub use Rattle.go_points.specs.declared.Cell.TheVariants.{Empty, Stone}
 pub use Rattle.go_points.specs.declared.Colour.{Colour}
 pub use Rattle.go_chains.proofs.Joins.{joined_self, joined_beside, joined_on, joined_holds, reaches_beside}
-pub use Rattle.go_chains.specs.Joined.{IsWay, Joined, IsChainOf, AreLibertiesOf}
+pub use Rattle.go_chains.specs.Joined.{IsWay, Joined, IsChainOf}
 pub use Rattle.go_turns.specs.History.{has_occurred}
 pub use Rattle.target_game.specs.Legal.{holds_point}
 pub use Rattle.target_game.specs.State.{start, GameProblem, GameState}

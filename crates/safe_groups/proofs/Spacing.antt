@@ -1,10 +1,21 @@
 -- The keeper's stones of a state and the points between them, as the boards of a decision, and what they say of the state.
-use Rattle.safe_groups.proofs.Common.{sym, subst, refl, ◌≡◌, ◌≢◌, ◌∙◌, List, ℕ, ap, IsTrue, IsFalse, true, false, Bool, inl, inr, [], ◌∷◌, ◌*◌, ◌<◌, ◌⊎◌, ◌&&◌, cond, not, cell_at, adjacent, adjacent_on_board, Cell, Empty, Stone, Colour, same_cell, same_cell_eq, eq_same_cell, nat_lt, ltb-true, and_left, and_right, and_both, IsWay, Area, Points, own, theirs, is_outside, side_of, Ground, area_of, marked, IsState, lt-ltb, Place, place_of, holds_place, Joined, IsChainOf, AreLibertiesOf, joined_self, joined_holds, joined_beside, IsEye, TwoEyes, alone_cell, space_cell, IsEyePoint, IsSafeAt, IsGivenAt, same_place_decides, or_cases, or_left, or_right, sets_gain, IsOn, number_of, same_place, with_place, joined_on, IsOfChain}
+use Rattle.safe_groups.proofs.Common.{arith, sym, subst, refl, ◌≡◌, ◌≢◌, ◌∙◌, List, ℕ, ap, IsTrue, IsFalse, true, false, Bool, inl, inr, [], ◌∷◌, ◌*◌, ◌<◌, ◌⊎◌, ◌&&◌, cond, not, cell_at, adjacent, adjacent_back, adjacent_on_board, Cell, Empty, Stone, Colour, same_cell, same_cell_eq, eq_same_cell, nat_lt, ltb-true, and_left, and_right, and_both, IsWay, Area, Points, own, theirs, is_outside, side_of, Ground, area_of, marked, IsState, lt-ltb, Place, place_of, holds_place, Joined, IsChainOf, joined_self, joined_holds, joined_beside, IsEye, TwoEyes, alone_cell, space_cell, IsEyePoint, IsSafeAt, IsGivenAt, same_place_decides, or_cases, or_left, or_right, sets_gain, IsOn, number_of, same_place, with_place, joined_on, IsOfChain}
+use Rattle.std.proofs.Common.{div-add-mod'}
+use Rattle.std.proofs.lemmas.Nat.{div_below, mod_below}
 use Rattle.go_points.proofs.Sides.{number_below}
 use Rattle.go_turns.proofs.Openings.{place_back}
 use Rattle.go_chains.proofs.Joins.{joined_back}
-use Rattle.safe_groups.specs.Private.Spaces.{these, AreAlone, AreSpaces, AreEyePoints, AreBeside, IsFreeOf, LeansOn}
+use Rattle.safe_groups.specs.Private.Spaces.{these, AreAlone, AreSpaces, AreEyePoints, AreBeside, AreNear, IsFreeOf, LeansOn}
 use Rattle.safe_groups.proofs.Opening.{not_both}
+
+-- the point of a number
+number_at : (n q : ℕ) → number_of n (place_of n q) ≡ q
+number_at n q = div-add-mod' q n
+
+place_on : (n q : ℕ) → q < n * n → IsOn n (place_of n q)
+place_on n q low =
+    let some : 0 < n = grind (arith, low) in
+    record { row_within = div_below q n n some low; column_within = mod_below q n some }
 
 mine_or_not : (a : Area) (x : Cell) → (x ≡ own a) ⊎ (x ≢ own a)
 mine_or_not a x = go (same_cell x (own a)) refl
@@ -31,13 +42,60 @@ module _ (a : Area) (c stones : List Cell) (alone : AreAlone a c stones) where
   pub alone_joined : (p q : ℕ) → p < a.size * a.size → cell_at c p ≡ own a → Joined a.size stones p q → Joined a.size c p q
   alone_joined p q on is joined = (joined.0, subst (λ x. IsWay a.size c x p q joined.0) (sym is) (alone_way p q joined.0 on (subst (λ x. IsWay a.size stones x p q joined.0) (alone_there p on is) joined.1)))
 
-  pub near_beside : (p : ℕ) (s : List Place) → p < a.size * a.size → cell_at c p ≡ own a → AreLibertiesOf a.size stones p s → AreBeside a c p s
-  near_beside p s on is are = λ q at held. (let liberty = (are.liberties q at).0 held in (liberty.1.0, liberty.1.1, alone_joined p liberty.1.0 on is liberty.1.2))
+  pub near_beside : (p : ℕ) (chain near : List Place) → p < a.size * a.size → cell_at c p ≡ own a → IsChainOf a.size stones p chain → AreNear a.size chain near → AreBeside a c p near
+  near_beside p chain near on is are beside = λ q at held.
+      let found = beside (place_of a.size q) held in
+      let r = number_of a.size found.0 in
+      let r_on : r < a.size * a.size = number_below a.size found.0 found.1 in
+      let in_chain : IsTrue (holds_place chain (place_of a.size r)) = subst (λ y. IsTrue (holds_place chain y)) (sym (place_back a.size found.0 found.1)) found.2 in
+      let adj : IsTrue (adjacent a.size r q) = subst (λ m. IsTrue (adjacent a.size r m)) (number_at a.size q) found.3 in
+      (r, adjacent_back a.size r q adj, alone_joined p r on is ((are.joined r r_on).0 in_chain))
 
 module _ (g : Ground) (c stones : List Cell) (alone : AreAlone (area_of g) c stones) where
   pub leans_chain : (p : ℕ) (marks : List Cell) (s : List Place) → p < side_of g.cells * side_of g.cells → cell_at c p ≡ own (area_of g) → IsChainOf (side_of g.cells) stones p s → LeansOn g marks s
       → (q : ℕ) × IsTrue (marked g marks q) × Joined (side_of g.cells) c p q
   leans_chain p marks s on is chain lean = (lean.0, lean.2, alone_joined (area_of g) c stones alone p lean.0 on is ((chain.joined lean.0 lean.1).0 lean.3))
+
+-- Of the points of a space those that have been looked at are points of an eye.
+module _ (g : Ground) (space near avoided : List Place) where
+  abbrev pub AreFound : List Place → Type 0
+  AreFound left = (q : Place) → IsTrue (holds_place space q) → IsOn (side_of g.cells) q → IsTrue (holds_place left q) ⊎ IsEyePoint g near avoided (number_of (side_of g.cells) q)
+
+  pub found_one : (left rest : List Place) (x : Place) → left ≡ x ∷ rest → (IsOn (side_of g.cells) x → IsEyePoint g near avoided (number_of (side_of g.cells) x)) → AreFound left → AreFound rest
+  found_one left rest x is here before q held on = elim (before q held on) [
+    | inl waits ↦ elim (or_cases (same_place q x) (holds_place rest q) (ap (λ l. holds_place l q) (sym is) ∙ waits)) [
+      | inl same ↦
+          let at : x ≡ q = sym ((same_place_decides q x).0 same) in
+          inr (subst (λ y. IsEyePoint g near avoided (number_of (side_of g.cells) y)) at (here (subst (IsOn (side_of g.cells)) (sym at) on)))
+      | inr rests ↦ inl rests
+    ]
+    | inr found ↦ inr found
+  ]
+
+  pub found_all : (left : List Place) → left ≡ [] → AreFound left → AreEyePoints g space near avoided
+  found_all left none found q at held = elim (found (place_of (side_of g.cells) q) held (place_on (side_of g.cells) q at)) [
+    | inl waits ↦ absurd (cc (ap (λ l. holds_place l (place_of (side_of g.cells) q)) (sym none) ∙ waits))
+    | inr is ↦ subst (IsEyePoint g near avoided) (number_at (side_of g.cells) q) is
+  ]
+
+-- One point beside the stone after another is added.
+module _ (n : ℕ) (x : Place) (old : List Place) where
+  abbrev pub HasBeside : List Place → Type 0
+  HasBeside new = (q : Place) → IsTrue (holds_place new q) → IsTrue (holds_place old q) ⊎ IsTrue (adjacent n (number_of n x) (number_of n q))
+
+  pub beside_one : (new : List Place) (y : Place) → IsTrue (adjacent n (number_of n x) (number_of n y)) → HasBeside new → HasBeside (with_place new y)
+  beside_one new y adj more q held = elim (or_cases (same_place q y) (holds_place new q) (sym (sets_gain new y q) ∙ held)) [
+    | inl same ↦ inr (subst (λ z. IsTrue (adjacent n (number_of n x) (number_of n z))) (sym ((same_place_decides q y).0 same)) adj)
+    | inr had ↦ more q had
+  ]
+
+-- One stone of the chain after another has the points beside it added.
+module _ (n : ℕ) (chain : List Place) where
+  pub near_more : (x : Place) (old new : List Place) → IsOn n x → IsTrue (holds_place chain x) → HasBeside n x old new → AreNear n chain old → AreNear n chain new
+  near_more x old new on held more near q is = elim (more q is) [
+    | inl had ↦ near q had
+    | inr beside ↦ (x, on, held, beside)
+  ]
 
 -- a space that is enclosed by the keeper's stones, all of it near the chain, is an eye
 module _ (g : Ground) (c spaces : List Cell) (are : AreSpaces (area_of g) c spaces) (p : ℕ) (near avoided space : List Place) (beside : AreBeside (area_of g) c p near) where
@@ -147,6 +205,13 @@ safe_more a c stones p old new alone on here safe more q held = elim (more q hel
 pub some_there : (c : List Cell) (p : ℕ) → true ≡ not (same_cell (cell_at c p) Empty) → cell_at c p ≢ Empty
 some_there c p some e = cc (some, eq_same_cell (cell_at c p) Empty e)
 
+-- what is left of the chain is of it
+pub chain_first : (left rest chain : List Place) (x : Place) → left ≡ x ∷ rest → ((q : Place) → IsTrue (holds_place left q) → IsTrue (holds_place chain q)) → IsTrue (holds_place chain x)
+chain_first left rest chain x is among = among x (ap (λ l. holds_place l x) is ∙ or_left (same_place x x) (holds_place rest x) ((same_place_decides x x).1 refl))
+
+pub chain_rest : (left rest chain : List Place) (x : Place) → left ≡ x ∷ rest → ((q : Place) → IsTrue (holds_place left q) → IsTrue (holds_place chain q)) → (q : Place) → IsTrue (holds_place rest q) → IsTrue (holds_place chain q)
+chain_rest left rest chain x is among q held = among q (ap (λ l. holds_place l q) is ∙ or_right (same_place q x) (holds_place rest q) held)
+
 -- One stone of the chain after another is added.
 module _ (n : ℕ) (c : List Cell) (p : ℕ) (old : List Place) where
   abbrev pub HasChain : List Place → Type 0
@@ -157,13 +222,6 @@ module _ (n : ℕ) (c : List Cell) (p : ℕ) (old : List Place) where
     | inl same ↦ inr (subst (IsOfChain n c p) (sym ((same_place_decides q x).0 same)) is)
     | inr had ↦ more q had
   ]
-
-  -- what is left of the chain is of it
-  pub chain_first : (left rest chain : List Place) (x : Place) → left ≡ x ∷ rest → ((q : Place) → IsTrue (holds_place left q) → IsTrue (holds_place chain q)) → IsTrue (holds_place chain x)
-  chain_first left rest chain x is among = among x (ap (λ l. holds_place l x) is ∙ or_left (same_place x x) (holds_place rest x) ((same_place_decides x x).1 refl))
-
-  pub chain_rest : (left rest chain : List Place) (x : Place) → left ≡ x ∷ rest → ((q : Place) → IsTrue (holds_place left q) → IsTrue (holds_place chain q)) → (q : Place) → IsTrue (holds_place rest q) → IsTrue (holds_place chain q)
-  chain_rest left rest chain x is among q held = among q (ap (λ l. holds_place l q) is ∙ or_right (same_place q x) (holds_place rest q) held)
 
   pub of_chain : (chain : List Place) (x : Place) → IsChainOf n c p chain → cell_at c p ≢ Empty → IsTrue (holds_place chain x) → IsOfChain n c p x
   of_chain chain x are some held =

@@ -9,7 +9,6 @@ use Rattle.go_points.specs.declared.Cell.{Cell}
 use Rattle.go_points.specs.declared.Cell.TheVariants.{Empty, Stone}
 use Rattle.go_points.specs.Grid.{cell_at, same_cell, side_of}
 use Rattle.go_points.specs.Place.{Place, number_of}
-use Rattle.go_points.specs.Reach.{Reaches}
 use Rattle.go_turns.specs.History.{has_occurred}
 use Rattle.target_game.specs.State.{GameProblem, GameState, start}
 use Rattle.target_game.specs.Legal.{holds_point}

@@ -2,7 +2,7 @@
 -- that stands by another.
 --     RepliesTogether n k A W      with these states each area's stones stand, and the stones that they lean on do
 --     HoldsAt n k A c b history      the board fits one state of each area, and what has occurred bars no answer
-use Rattle.std.specs.Prelude.{◌≡◌, ℕ, zero, suc, ◌*◌, ◌<◌, Bool, false, ◌||◌, ◌⊎◌, ◌≢◌, IsTrue, List, length}
+use Rattle.std.specs.Prelude.{◌≡◌, ℕ, zero, suc, ◌*◌, ◌<◌, false, ◌||◌, ◌⊎◌, ◌≢◌, IsTrue, List, length}
 use Rattle.go_points.specs.declared.Colour.{Colour}
 use Rattle.go_points.specs.declared.Cell.{Cell}
 use Rattle.go_points.specs.declared.Cell.TheVariants.{Stone}

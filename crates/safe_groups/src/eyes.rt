@@ -8,9 +8,10 @@ ghost use Rattle.go_points.specs.Points.{holds_place};
 ghost use Rattle.safe_groups.specs.Areas.{own, theirs};
 ghost use Rattle.safe_groups.specs.Eyes.{IsEye, IsResting, TwoEyes};
 ghost use Rattle.safe_groups.specs.Ground.{area_of, marked, IsSized, IsState};
-ghost use Rattle.safe_groups.specs.Private.Spaces.{alone_cell, space_cell, these, AreAlone, AreSpaces, AreEyePoints, AreBeside, IsFreeOf, IsOfChain, IsSafeAt, IsGivenAt, LeansOn};
+ghost use Rattle.safe_groups.specs.Private.Spaces.{alone_cell, space_cell, these, AreAlone, AreSpaces, AreEyePoints, AreBeside, IsEyePoint, IsFreeOf, IsOfChain, IsSafeAt, IsGivenAt, LeansOn};
 
 use crate::ground::Ground;
+use crate::near::near_chain;
 use go_chains::ChainBoard;
 use go_points::{Cell, Colouring, Point, PointSet};
 
@@ -83,16 +84,26 @@ impl Ground {
         made
     }
 
+    /// Whether the point, if it is on the board, is of the region and near the chain, and is not to be avoided.
+    fn may_be_of_eye(&self, point: Point, near: &PointSet, avoided: &PointSet) -> bool
+        ensures { IsTrue result → IsOn (side_of self.now.cells) point
+            → IsEyePoint self.now near.now avoided.now (number_of (side_of self.now.cells) point) }
+    {
+        if !self.size().holds(point) {
+            return true;
+        }
+        if !near.has(point) || avoided.has(point) {
+            return false;
+        }
+        self.cells.get(point).is_empty()
+    }
+
     /// Whether all these points are of the region and near the chain, and none is to be avoided.
     fn are_eye_points(&self, space: &PointSet, near: &PointSet, avoided: &PointSet) -> bool
         ensures { IsTrue result → AreEyePoints self.now space.now near.now avoided.now }
     {
-        let size = self.size();
-        for number in 0..size.area() {
-            let point = size.point_at(number);
-            if space.has(point)
-                && (!near.has(point) || avoided.has(point) || !self.cells.cell(number).is_empty())
-            {
+        for point in space.iter() {
+            if !self.may_be_of_eye(point, near, avoided) {
                 return false;
             }
         }
@@ -225,16 +236,14 @@ impl Ground {
         if !state.cell(stone).is_stone_of(self.keeper) {
             return true;
         }
-        let point = self.size().point_at(stone);
-        let Some(chain) = stones.chain_of(point) else {
+        let size = self.size();
+        let Some(chain) = stones.chain_of(size.point_at(stone)) else {
             return false;
         };
         if self.marks_one(&self.held, &chain) {
             return true;
         }
-        let Some(near) = stones.liberties(point) else {
-            return false;
-        };
+        let near = near_chain(size, &chain);
         self.has_two_eyes(state, spaces, stone, &near)
     }
 
@@ -263,16 +272,14 @@ impl Ground {
         if !state.cell(stone).is_stone_of(self.keeper) {
             return false;
         }
-        let point = self.size().point_at(stone);
-        let Some(chain) = stones.chain_of(point) else {
+        let size = self.size();
+        let Some(chain) = stones.chain_of(size.point_at(stone)) else {
             return false;
         };
         if self.marks_one(&self.earlier, &chain) {
             return true;
         }
-        let Some(near) = stones.liberties(point) else {
-            return false;
-        };
+        let near = near_chain(size, &chain);
         let Some(_eye) = self.find_eye(state, spaces, stone, &near, &PointSet::new()) else {
             return false;
         };

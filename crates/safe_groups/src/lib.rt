@@ -10,6 +10,7 @@ mod heads;
 pub mod laws;
 mod liberties;
 mod lines;
+mod near;
 mod standing;
 mod states;
 mod together;

@@ -1,7 +1,5 @@
 -- What is asked of the areas of a claim, place by place.
 use Rattle.std.specs.Prelude.{◌≡◌, ◌≢◌, ℕ, ◌*◌, ◌<◌, ◌⊎◌, IsTrue, List, length}
-use Rattle.go_points.specs.declared.Cell.TheVariants.{Empty}
-use Rattle.go_points.specs.Grid.{cell_at, side_of}
 use Rattle.safe_groups.specs.Ground.{area_of, ground_at}
 use Rattle.safe_groups.specs.declared.ground.Ground.{Ground}
 

@@ -8,7 +8,7 @@ use Rattle.go_points.specs.Points.{holds_place}
 use Rattle.go_chains.specs.Joined.{Joined}
 use Rattle.safe_groups.specs.Areas.{Area, Points, own, theirs}
 use Rattle.safe_groups.specs.Eyes.{IsEye, TwoEyes}
-use Rattle.safe_groups.specs.Ground.{area_of, marked}
+use Rattle.safe_groups.specs.Ground.{marked}
 use Rattle.safe_groups.specs.declared.ground.Ground.{Ground}
 
 abbrev pub alone_cell : Area → List Cell → ℕ → Cell
@@ -42,6 +42,10 @@ IsFreeOf n s avoided = (q : ℕ) → IsTrue (these n s q) → IsFalse (these n a
 -- each point of the set is beside the chain of the stone p
 abbrev pub AreBeside : Area → List Cell → ℕ → List Place → Type 0
 AreBeside a c p near = (q : ℕ) → q < a.size * a.size → IsTrue (holds_place near (place_of a.size q)) → (r : ℕ) × IsTrue (adjacent a.size q r) × Joined a.size c p r
+
+-- each point of the set is beside a stone of the chain
+abbrev pub AreNear : ℕ → List Place → List Place → Type 0
+AreNear n chain near = (q : Place) → IsTrue (holds_place near q) → (r : Place) × IsOn n r × IsTrue (holds_place chain r) × IsTrue (adjacent n (number_of n r) (number_of n q))
 
 -- a marked point is in the chain
 abbrev pub LeansOn : Ground → List Cell → List Place → Type 0

@@ -16,11 +16,11 @@ loop-stone-preserved c =
     let cells = c.args.stones.now in let n = side_of cells in let p = number_of n c.args.point in let x = c.in-Some-stone.stone in let chain = c.into_iter-stone-iterator.result in
     let is : chain ≡ c.in-Some.chain = c.into_iter-stone-iterator.ensures.into_iter_gives ∙ c.iter-stone-items.ensures.value in
     let are : IsChainOf n cells p chain = subst (IsChainOf n cells p) (sym is) c.in-Some.ensures.chain in
-    let held = chain_first n cells p c.args.set.now c.loop-stone.stone-iterator c.next.new.self chain x c.in-Some-stone.ensures.steps c.loop-stone.invariant.3 in (
+    let held = chain_first c.loop-stone.stone-iterator c.next.new.self chain x c.in-Some-stone.ensures.steps c.loop-stone.invariant.3 in (
       search rules,
       search rules,
       subst (HasChain n cells p c.args.set.now) (sym c.insert.ensures) (chain_one n cells p c.args.set.now c.loop-stone.set x (of_chain n cells p c.args.set.now chain x are (some_there cells p c.in-Some.ensures.variant) held) c.loop-stone.invariant.2),
-      chain_rest n cells p c.args.set.now c.loop-stone.stone-iterator c.next.new.self chain x c.in-Some-stone.ensures.steps c.loop-stone.invariant.3,
+      chain_rest c.loop-stone.stone-iterator c.next.new.self chain x c.in-Some-stone.ensures.steps c.loop-stone.invariant.3,
     )
 
 pub returns : goal.returns

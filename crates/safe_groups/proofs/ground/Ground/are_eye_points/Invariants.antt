@@ -1,5 +1,8 @@
-use Rattle.safe_groups.proofs.Common.{◌<◌, ℕ, IsTrue, side_of, place_of, holds_place, IsEyePoint}
+use Rattle.safe_groups.proofs.Spacing.{AreFound}
 use Rattle.safe_groups.proofs.ground.Ground.are_eye_points.Given as goal
 
-abbrev pub invariant-loop-number : goal.invariant-loop-number
-invariant-loop-number l = (q : ℕ) → q < l.number → IsTrue (holds_place l.space (place_of (side_of l.self.cells) q)) → IsEyePoint l.self l.near l.avoided q
+abbrev pub invariant-loop-point : goal.invariant-loop-point
+invariant-loop-point l =
+    (goal.iterator-loop-point).can_next l.point-iterator
+    × (goal.iterator-loop-point).is_finite l.point-iterator
+    × AreFound l.self l.space l.near l.avoided l.point-iterator

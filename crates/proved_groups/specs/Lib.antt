@@ -1,0 +1,4 @@
+pub mod Dead
+pub mod Position
+pub mod Proven
+pub mod Shape

@@ -1,0 +1,58 @@
+-- What a judge has accepted of the stones of a finding.
+use Rattle.std.specs.Prelude.{◌≡◌, ◌⊎◌, ℕ, IsTrue, List, [], Option, Some, codes}
+use Rattle.go_points.specs.Place.{Place}
+use Rattle.go_points.specs.Points.{holds_place}
+use Rattle.target_game.specs.State.{GameProblem, start}
+use Rattle.safe_groups.specs.Ground.{IsSafeAs}
+use Rattle.safe_groups.specs.Laws.{IsSafe}
+use Rattle.proved_groups.specs.Dead.{IsLost, IsLostByMove}
+use Rattle.proved_groups.specs.Position.{IsOfStones}
+use Rattle.proved_groups.specs.declared.proven.Accepted.{Accepted}
+use Rattle.proved_groups.specs.declared.proven.Accepted.TheVariants as all
+use Rattle.proved_groups.specs.declared.proven.AcceptedByMove.{AcceptedByMove}
+use Rattle.proved_groups.specs.declared.proven.AcceptedByMove.TheVariants as one
+use Rattle.proved_groups.specs.declared.proven.Proven.{Proven}
+use Rattle.proved_groups.specs.declared.proven.ProvenByMove.{ProvenByMove}
+
+-- the problem whose targets these stones are, and the stones that are only supposed to stand
+abbrev pub problem_of : Accepted → GameProblem
+problem_of (all.Alive safe) = safe.problem
+problem_of (all.Dead dead) = dead.problem
+
+abbrev pub supposed_of : Accepted → List Place
+supposed_of (all.Alive safe) = []
+supposed_of (all.Dead dead) = dead.supposed
+
+-- What the word says: whoever moves first, they are safe by answers, or dead by answers.
+abbrev pub SaysStatus : Accepted → List ℕ → Type 0
+SaysStatus a text =
+    ((text ≡ codes "alive") × ∥ IsSafe (start (problem_of a)) ∥₁)
+    ⊎ ((text ≡ codes "dead") × ∥ IsLost (problem_of a) (supposed_of a) ∥₁)
+
+-- The same where one side moves first, who is to move.
+abbrev pub problem_by_move : AcceptedByMove → GameProblem
+problem_by_move (one.Alive safe) = safe.problem
+problem_by_move (one.Dead dead) = dead.problem
+
+abbrev pub supposed_by_move : AcceptedByMove → List Place
+supposed_by_move (one.Alive safe) = []
+supposed_by_move (one.Dead dead) = dead.supposed
+
+-- They live once their owner has played at this point, or die by some move of the other side's.
+abbrev pub SaysEnd : AcceptedByMove → Option Place → List ℕ → Type 0
+SaysEnd a first text =
+    ((text ≡ codes "lives") × (m : Place) × (first ≡ Some m) × ∥ IsSafeAs (Some m) (start (problem_by_move a)) ∥₁)
+    ⊎ ((text ≡ codes "dies") × ∥ IsLostByMove (problem_by_move a) (supposed_by_move a) ∥₁)
+
+-- The stones of the finding are the targets, in the position of q with its past; the point is one of them.
+abbrev pub IsAbout : GameProblem → Proven → Type 0
+IsAbout q p = IsOfStones q p.finding.stones (problem_of p.claim)
+
+abbrev pub IsAboutByMove : GameProblem → ProvenByMove → Type 0
+IsAboutByMove q p = IsOfStones q p.finding.stones (problem_by_move p.claim)
+
+abbrev pub IsOfStone : GameProblem → Place → Proven → Type 0
+IsOfStone q point p = IsTrue (holds_place p.finding.stones point) × IsAbout q p
+
+abbrev pub IsOfStoneByMove : GameProblem → Place → ProvenByMove → Type 0
+IsOfStoneByMove q point p = IsTrue (holds_place p.finding.stones point) × IsAboutByMove q p

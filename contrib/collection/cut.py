@@ -1,14 +1,13 @@
 """Cuts a problem out of its game: the fewest stones and the smallest board with which the answers stay, proved again each time."""
 
 from .boards import EMPTY, chain_at, chains, neighbours, without
-from .natural import joining, odd_stones, with_wall_stones
+from .natural import odd_stones, weakness
+from .surroundings import mended, shown
 
 STEPS = 5_000
 # Lines that stay free between the stones and the edges that they do not touch: in a collection so many that pictures and pages show
 # that the board goes on there.
 MARGIN, COLLECTION_MARGIN = 1, 4
-# How often walls are mended.
-MOST_MENDED = 4
 # A wall keeps so many liberties, if it has them.
 LIBERTIES = 4
 # So near an edge, in lines, that a problem stays as far from it as it is.
@@ -44,22 +43,31 @@ def distances(problem):
     return distance
 
 
-def with_fewest_stones(programs, problem):
+def anything(before, made):
+    return True
+
+
+def keeps_walls(before, made):
+    """Whether no more is wanting of the walls than before."""
+    return weakness(made) <= weakness(before)
+
+
+def with_fewest_stones(programs, problem, is_kept=anything):
     """The problem without the stones that it does not need: at once all that are far from the region, then chain by chain, then one
-    by one."""
+    by one. `is_kept` says whether what people see in it stays."""
     stones, distance = outer_stones(problem), distances(problem)
-    for least in (3, 5):
+    for least in (3, 4, 5, 7):
         made = problem._replace(cells=without(problem.cells, [it for it in stones if distance[it] >= least]))
-        if is_unsettled(programs, made):
+        if is_kept(problem, made) and is_unsettled(programs, made):
             problem = made
             break
     for chain in far_chains(problem):
         made = problem._replace(cells=without(problem.cells, chain))
-        if is_unsettled(programs, made):
+        if is_kept(problem, made) and is_unsettled(programs, made):
             problem = made
     for stone in outer_stones(problem):
         made = problem._replace(cells=without(problem.cells, [stone]))
-        if is_held(problem, made, stone) and is_unsettled(programs, made):
+        if is_held(problem, made, stone) and is_kept(problem, made) and is_unsettled(programs, made):
             problem = made
     return problem
 
@@ -122,6 +130,16 @@ def on_board(problem, rows, margin):
     return problem.moved(rows, "".join(cells), place)
 
 
+def on_shown_board(problem, most_put):
+    """What people are shown of a problem, on the smallest board that has the free lines of a collection; None where its walls cannot
+    be whole."""
+    seen = shown(problem, most_put)
+    if seen is None:
+        return None
+    found = (on_board(seen, rows, COLLECTION_MARGIN) for rows in range(2, seen.size + COLLECTION_MARGIN))
+    return next((it for it in found if it), seen)
+
+
 def on_smallest_board(programs, problem, margin):
     """The problem on the smallest board that has so many free lines, which may be larger than its own; on its own where there is none."""
     for rows in range(2, problem.size + margin):
@@ -141,17 +159,6 @@ def with_open_walls(programs, problem):
     return problem
 
 
-def with_whole_walls(programs, problem, most_put):
-    """The problem with the stones put up that make its walls whole, as far as that many do; the answers stay."""
-    for _ in range(MOST_MENDED):
-        wanted = joining(problem)
-        made = with_wall_stones(problem, wanted)
-        if not wanted or len(made.put) > most_put or not is_unsettled(programs, made):
-            return problem
-        problem = made
-    return problem
-
-
 def with_standing(problem):
     """The problem with those of the stones put up that still stand."""
     return problem._replace(put=tuple(it for it in problem.put if problem.cells[it] != EMPTY))
@@ -165,12 +172,16 @@ def cut_out(programs, problem):
 
 
 def cut_for_collection(programs, problem, most_put):
-    """The least position with walls that are whole as far as so many stones put up make them so, and that hold; else None."""
-    if not is_unsettled(programs, problem):
+    """The least position of what people are shown of a problem, where the answers are those of the game, and the walls are whole and
+    hold; else None."""
+    seen = on_shown_board(problem, most_put)
+    if seen is None or not is_unsettled(programs, problem) or not is_unsettled(programs, seen):
         return None
-    fewest = with_standing(with_fewest_stones(programs, with_open_walls(programs, problem)))
-    whole = with_whole_walls(programs, with_open_walls(programs, fewest), most_put)
-    made = on_smallest_board(programs, whole, COLLECTION_MARGIN)
+    whole = mended(with_open_walls(programs, seen), most_put)
+    if not is_unsettled(programs, whole):
+        return None
+    fewest = with_fewest_stones(programs, whole, keeps_walls)
+    made = on_smallest_board(programs, with_standing(fewest), COLLECTION_MARGIN)
     return made if walls_hold(programs, made) else None
 
 

@@ -2,10 +2,12 @@
 
 from typing import NamedTuple
 
-from .boards import chains
+from .boards import EMPTY, chains
+from .cut import on_shown_board
 from .problems import Problem
 from .records import points_of, positions
 from .regions import Board, closed
+from .variations import taken_back
 
 QUICK_STEPS = 1_000
 # A problem for people lies at an edge: at least so many points of its region do.
@@ -15,10 +17,13 @@ REACH = 3
 
 
 class Found(NamedTuple):
-    """An unsettled group: the node, and the problem with the attacker to move."""
+    """An unsettled group: the node, the problem with the attacker to move, how people are shown it, and in words what is other than in
+    the game."""
 
     node: int
     problem: Problem
+    shown: Problem
+    change: str = ""
 
 
 def read_problem(nodes):
@@ -32,19 +37,23 @@ def read_problem(nodes):
 
 
 class Finder:
-    """Goes over the nodes of a game, and remembers what surrounded the groups that it has looked at."""
+    """Goes over the nodes of a game, and remembers what surrounded the groups that it has looked at, and which stones came last."""
 
     def __init__(self, programs, given):
-        self.programs, self.given, self.seen = programs, given, set()
+        self.programs, self.given, self.seen, self.cells, self.came = programs, given, set(), "", {}
+        self.known = set()
 
     def found_at(self, node, size, cells, next_turn):
         """The unsettled groups of a position. `next_turn` is where the game goes on, which no stone that is put up may be."""
-        found = chains(size, cells)
-        board = Board(size, cells, found)
-        for chain, liberties in found:
-            is_wanted = len(chain) >= self.given.stones and len(liberties) <= self.given.liberties
-            if is_wanted and self.is_new(size, cells, chain):
+        self.came.update({it: node for it, cell in enumerate(cells) if cell != EMPTY and cell != self.cells[it : it + 1]})
+        self.cells = cells
+        board = Board(size, cells, chains(size, cells))
+        for chain, liberties in board.found:
+            if self.is_wanted(chain, liberties) and self.is_new(size, cells, chain):
                 yield from self.looked_at(node, board, chain, next_turn)
+
+    def is_wanted(self, chain, liberties):
+        return len(chain) >= self.given.stones and len(liberties) <= self.given.liberties
 
     def is_new(self, size, cells, chain):
         """Whether anything near a group has changed since it was looked at."""
@@ -58,15 +67,30 @@ class Finder:
         return is_new
 
     def looked_at(self, node, board, chain, next_turn):
-        """The group, where the largest region that a quick look decides says that it is unsettled."""
-        for problem in closed(board, chain, self.given.put_up):
-            if next_turn in problem.put or not is_at_edge(problem):
-                continue
-            status = self.status(problem)
+        """What a quick look at a group says: where it is unsettled, or was some turns before."""
+        for problem, seen, status in self.decided(board, chain, next_turn):
             if status == "unsettled":
-                yield Found(node, problem)
-            if status is not None:
-                return
+                yield Found(node, problem, seen)
+            elif seen not in self.known:
+                self.known.add(seen)
+                yield from self.taken_back(node, problem, seen)
+
+    def decided(self, board, chain, next_turn):
+        """The problems about a group that a quick look decides, the largest region first, each as it is shown, with what becomes of
+        the group. What would not look whole is not asked about."""
+        for problem in closed(board, chain, self.given.put_up):
+            if next_turn not in problem.put and is_at_edge(problem):
+                seen = on_shown_board(problem, self.given.put_up)
+                status = seen and self.status(seen)
+                if status:
+                    yield problem, seen, status
+
+    def taken_back(self, node, problem, seen):
+        """The unsettled groups of a position some turns before, in the walls of now."""
+        for change, before, shown in taken_back(problem, seen, self.came):
+            if shown not in self.known and self.status(shown) == "unsettled":
+                yield Found(node, before, shown, change)
+            self.known.add(shown)
 
     def status(self, problem):
         """What becomes of the targets, as far as a quick look says."""

@@ -5,7 +5,7 @@ from .boards import name_of, point_of
 from .cut import cut_for_collection
 from .find import Finder
 from .items import Item
-from .natural import NATURAL, may_be_seen_at_once
+from .natural import NATURAL
 from .quality import QUALITIES, score
 from .records import Unreadable, main_lines, positions, text_of
 from .same import canonical, name_of_problem
@@ -13,8 +13,8 @@ from .same import canonical, name_of_problem
 STEPS = 5_000
 # What is counted: how many are left after each step.
 COUNTED = (
-    *("nodes", "unsettled", "small", "cut out", "new", *(name for name, _ in NATURAL)),
-    *("one answer", "judged", *(name for name, _ in QUALITIES), "one of each group", "kept"),
+    *("nodes", "unsettled", "new", "one answer", *(name for name, _ in QUALITIES)),
+    *(*(name for name, _ in NATURAL), "judged", "one of each group", "kept"),
 )
 
 
@@ -23,7 +23,8 @@ class Game:
 
     def __init__(self, programs, given, label):
         self.programs, self.given, self.label = programs, given, label
-        self.items, self.faults, self.counts, self.names = [], [], dict.fromkeys(COUNTED, 0), {}
+        self.items, self.faults, self.counts = [], [], dict.fromkeys(COUNTED, 0)
+        self.names, self.made = {}, set()
 
     def work(self, content):
         """Goes over all games of the file."""
@@ -36,7 +37,7 @@ class Game:
 
     def work_on_game(self, nodes, number):
         """Goes over the nodes of a game; where one cannot be played, those before it count."""
-        found = []
+        found, self.made = [], set()
         try:
             for item in self.found_in(nodes, number):
                 self.counts["unsettled"] += 1
@@ -60,28 +61,37 @@ class Game:
 
     def item_of(self, nodes, number, found):
         problem = found.problem
-        where = f"{self.label}{f' game {number}' if number > 1 else ''}, node {found.node}, {name_of(problem.size, problem.targets[0])}"
+        node = f"node {found.node}{found.change and ' ' + found.change}"
+        where = f"{self.label}{f' game {number}' if number > 1 else ''}, {node}, {name_of(problem.size, problem.targets[0])}"
         title = title_of(nodes[0])
-        return Item(problem, f"{title} ({where})" if title else where, found.node, problem.targets)
+        return Item(problem, f"{title} ({where})" if title else where, found.node, problem.targets, shown=found.shown)
 
     def problems_of(self, item):
         """The problems of an unsettled group that nothing speaks against, for each side to move first. One that another node has had is
         not asked about again."""
-        if not may_be_seen_at_once(item.problem):
-            return []
-        self.counts["small"] += 1
-        problem = cut_for_collection(self.programs, item.problem, self.given.put_up)
-        if problem is None:
-            return []
-        self.counts["cut out"] += 1
-        sides = [canonical(problem.with_mover(it))[0] for it in (problem.attacker, problem.defender)]
-        names = [name_of_problem(it) for it in sides]
-        if names[0] not in self.names:
+        sides = [canonical(item.shown.with_mover(it))[0] for it in (item.shown.attacker, item.shown.defender)]
+        name = name_of_problem(sides[0])
+        if name not in self.names:
             self.counts["new"] += 1
-            is_natural = self.passes(NATURAL, problem)
-            self.names.update({name: self.answered(side) if is_natural else None for name, side in zip(names, sides)})
-        pairs = [(side, self.names[name]) for side, name in zip(sides, names)]
-        return [item._replace(problem=side, answers=answers) for side, answers in pairs if answers]
+            self.names[name] = any([self.answered(it) for it in sides])
+        if not self.names[name] or name in self.made:
+            return []
+        problem = cut_for_collection(self.programs, item.problem, self.given.put_up)
+        if problem is None or not self.passes(NATURAL, problem):
+            return []
+        self.made.add(name)
+        return self.judged(item, problem)
+
+    def judged(self, item, problem):
+        """The problems of an unsettled group that was cut out, for each side to move first."""
+        found = []
+        for mover in (problem.attacker, problem.defender):
+            side = canonical(problem.with_mover(mover))[0]
+            answers = answers_of(self.programs, side) if has_one_answer(self.programs, side) and is_judged(self.programs, side) else None
+            if answers and all(question(side, answers) for _, question in QUALITIES):
+                self.counts["judged"] += 1
+                found.append(item._replace(problem=side, answers=answers))
+        return found
 
     def passes(self, questions, *about):
         """Whether all questions are answered with yes; those that are, up to the first that is not, are counted."""
@@ -92,15 +102,12 @@ class Game:
         return True
 
     def answered(self, problem):
-        """The answers, where one first move is right, both claims are judged, and a teacher would show the problem."""
+        """Whether one first move is right, and a teacher would ask for it."""
         if not has_one_answer(self.programs, problem):
-            return None
+            return False
         self.counts["one answer"] += 1
-        if not is_judged(self.programs, problem):
-            return None
-        self.counts["judged"] += 1
         answers = answers_of(self.programs, problem)
-        return answers if answers and self.passes(QUALITIES, problem, answers) else None
+        return bool(answers) and self.passes(QUALITIES, problem, answers)
 
 
 def is_judged(programs, problem):

@@ -12,13 +12,15 @@ from .same import name_of_problem
 
 
 class Item(NamedTuple):
-    """`source` says in words which game, node and point; `group` are the target's points in the game, `node` its node."""
+    """`source` says in words which game, node and point; `group` are the target's points in the game, `node` its node, and `shown` is
+    how people are shown it."""
 
     problem: Problem
     source: str = ""
     node: int = 0
     group: tuple = ()
     answers: Answers = None
+    shown: Problem = None
 
     def name(self):
         return name_of_problem(self.problem)

@@ -87,6 +87,11 @@ def above(size, point):
     return [it for it in neighbours(size)[point] if not is_on_first_line(size, it)]
 
 
+def weakness(problem):
+    """How much is wanting of the walls: weak parts, and stones put up that hang on the first line."""
+    return len(hanging(problem)) + sum(not is_strong(problem, it) for it in wall_parts(problem))
+
+
 def joining(problem):
     """The stones that a natural wall lacks first: above a stone on the first line, or between a weak part and another. Empty where
     nothing is wanted, or where so few stones do not help."""

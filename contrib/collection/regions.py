@@ -1,7 +1,8 @@
 """Regions that a few stones close: where a group ends for people.
 
 Points come in the order of docs/REGIONS.md, the likeliest to matter first. Of the first K of them the rim is what is empty and beside
-them: the attacker's stones are put up there. Sizes are taken at which the fewest stones are wanted.
+them: the attacker's stones are put up there. A point of the rim with nothing further beside it belongs to the region instead: a stone
+there, as in a corner, would stand among the group's own points. Sizes are taken at which the fewest stones are wanted.
 """
 
 import heapq
@@ -10,14 +11,15 @@ from .boards import EMPTY, OTHER, chain_at, neighbours
 from .problems import Problem
 
 MOST_POINTS, LEAST_POINTS = 15, 3
-MOST_SIZES = 4
+MOST_SIZES = 8
 
 
 class Board:
     """A position with its chains: `chain_of` has for each stone its chain and that chain's liberties."""
 
     def __init__(self, size, cells, found):
-        self.size, self.cells, self.beside, self.chain_of = size, cells, neighbours(size), [None] * len(cells)
+        self.size, self.cells, self.found, self.beside = size, cells, found, neighbours(size)
+        self.chain_of = [None] * len(cells)
         for chain, liberties in found:
             for point in chain:
                 self.chain_of[point] = (chain, liberties)
@@ -89,17 +91,38 @@ class Board:
         return found - inside
 
 
+def filled(board, inside, defender):
+    """The points with those of the rim where a stone would stand inside: nothing further is beside them. Returned with the rim that is
+    left."""
+    inside, rim = set(inside), board.rim(inside, defender)
+    for point in sorted(rim):
+        if all(board.cells[near] != EMPTY or near in inside for near in board.beside[point]):
+            left = board.rim(inside | {point}, defender)
+            if left < rim:
+                inside.add(point)
+                rim = left
+    return inside, rim
+
+
+def widest(sizes):
+    """The regions that are in no other one that as few stones close, those of the fewest stones first."""
+    chosen = []
+    for inside in sorted(sizes, key=lambda it: (len(sizes[it]), -len(it), it)):
+        if not any(set(inside) <= set(it) for it in chosen):
+            chosen.append(inside)
+    return chosen
+
+
 def closed(board, chain, most_put):
     """The problems about a chain whose regions so many stones close, the largest region first, with the attacker to move."""
     order = board.order(chain, MOST_POINTS)
-    sizes = []
+    sizes = {}
     for points in range(LEAST_POINTS, len(order) + 1):
-        rim = board.rim(set(order[:points]), board.cells[min(chain)])
+        inside, rim = filled(board, set(order[:points]), board.cells[min(chain)])
         if len(rim) <= most_put:
-            sizes.append((len(rim), -points, rim))
-    chosen = sorted(sizes, key=lambda it: it[:2])[:MOST_SIZES]
-    for _, points, rim in sorted(chosen, key=lambda it: it[1]):
-        problem = closed_by(board, chain, set(order[:-points]), rim)
+            sizes[tuple(sorted(inside))] = rim
+    for inside in sorted(widest(sizes)[:MOST_SIZES], key=lambda it: (-len(it), it)):
+        problem = closed_by(board, chain, set(inside), sizes[inside])
         if problem:
             yield problem
 

@@ -244,8 +244,7 @@ def test_counted(folder):
     (folder / "three.sgf").write_text(problem.record().partition(";PL")[0] + ";B[])")
     code, said, told = call("--put-up", "0", folder / "three.sgf", folder / "three")
     expect("it is no problem for people", (code, told, said.splitlines()[-1].endswith("index.html: 0 problems")), (0, "", True))
-    found = "2 nodes, 1 unsettled, 1 small, 1 cut out, 1 new, 1 whole walls, 1 one group, 1 seen at once, 2 one answer, 2 judged, "
-    expect("each step says how many it left", found + "0 long enough" in said, True)
+    expect("each step says how many it left", "2 nodes, 1 unsettled, 1 new, 2 one answer, 0 long enough, 0 not obvious" in said, True)
 
 
 def run(folder):

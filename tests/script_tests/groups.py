@@ -277,3 +277,44 @@ end
     def wants_program(self):
         nothing = str(place("nothing"))
         self.refuses(4, "there is no program", "contrib/group-claims", place("none"), env={"GROUP_STATUS": nothing})
+
+
+def question(points, walls, winner):
+    return {"first": "W", "points": points, "walls": walls, "winner": winner, "shut": []}
+
+
+# What group_status may say of the straight three, in the form of its --json.
+DECIDED = {"questions": [question(3, "natural", "W"), question(4, "natural", "W"), question(9, "hard", "B"), question(18, "natural", "W")]}
+BY_MOVE = {"first_moves": [{"first": "W", "winner": "W", "move": "C7", "proof": {"region": ["B7", "C7", "D7"]}}], "questions": []}
+TOO_WIDE = {"questions": [question(18, "natural", "W"), question(9, "natural", None)]}
+
+
+class Best(Case):
+    """The region `best` of contrib/mark-table is that of the question on which the answer of group_status stands."""
+
+    def marked(self, said, row):
+        """How mark-table ends with one row, where group_status says this, and the folder of its records."""
+        table, folder = new_place() / "table.tsv", new_place() / "marked"
+        table.write_text("\t".join(row) + "\n")
+        says = executable(place("says"), f"#!/bin/sh\necho '{json.dumps(said)}'\n")
+        return run("contrib/mark-table", table, folder, env={"GROUP_STATUS": str(says)}), folder
+
+    @case("contrib/mark-table: the best region is that of a question", DECIDED, "4 points, natural: W wins",
+          "--region=4", "--walls=natural")
+    @case("contrib/mark-table: the best region is that of a proof", BY_MOVE, "by C7, as is proved", "--region=B7,C7,D7")
+    def marks(self, said, why, *words):
+        done, folder = self.marked(said, ("examples/straight-three.sgf", "", "A7", "white", "best"))
+        self.ends(0, done)
+        self.assertEqual(done.notes.split("\n")[0], f"mark-table: examples/straight-three.sgf: {why}")
+        wanted = run(program("problem_tools"), "mark", "--target=A7", "--to-play=white", *words, stdin=example("straight-three"))
+        self.assertEqual((folder / "0001-straight-three.sgf").read_text(), wanted.raw)
+
+    @case("contrib/mark-table: no best region", "decides nothing with at most 15 points", TOO_WIDE, "white")
+    @case("contrib/mark-table: a best region, and nobody is to move", "wants to know who is to move", DECIDED, "")
+    @case("contrib/mark-table: a best region with walls", "has walls of its own", DECIDED, "white", "hard")
+    def refuses_row(self, why, said, mover, *walls):
+        done, folder = self.marked(said, ("examples/straight-three.sgf", "", "A7", mover, "best", *walls))
+        self.ends(2, done)
+        self.assertIn("mark-table: row 1: examples/straight-three.sgf: ", done.notes)
+        self.assertIn(why, done.notes)
+        self.assertEqual(list(folder.iterdir()), [])

@@ -1,7 +1,9 @@
 -- What a run says, for what is asked for and the problem of the record that it has read.
 --     SaysWinner x node      the comment of the node begins with this side's win
+--     IsAccepted q claim x      the judge of short claims accepts the bytes of a claim, for this side
+--     IsProof whole q text      the record of the problem, and a claim that its judge accepts
 --     Says request q output      what is said is true of the problem
-use Rattle.std.specs.Prelude.{◌≡◌, ◌≢◌, ℕ, zero, suc, ◌*◌, List, [], ◌∷◌, ◌++◌, codes, Option, None, Some, Ok, ◌⊎◌, IsTrue, if◌then◌else◌}
+use Rattle.std.specs.Prelude.{◌≡◌, ◌≢◌, ℕ, zero, suc, ◌*◌, Bool, true, false, List, [], ◌∷◌, ◌++◌, codes, Option, None, Some, Ok, ◌⊎◌, IsTrue, if◌then◌else◌}
 use Rattle.go_points.specs.declared.Cell.{Cell}
 use Rattle.go_points.specs.declared.Cell.TheVariants.{Stone}
 use Rattle.go_points.specs.declared.Colour.{Colour}
@@ -9,11 +11,16 @@ use Rattle.go_points.specs.Grid.{cell_at, opponent_of, same_cell}
 use Rattle.go_points.specs.Place.{Place, place_of}
 use Rattle.go_points.specs.Sgf.{sgf_text}
 use Rattle.sgf_text.specs.Trees.{GameTree, Node}
+use Rattle.sgf_text.specs.Text.{tree_text}
 use Rattle.target_game.specs.State.{GameProblem, start}
 use Rattle.target_game.specs.Legal.{holds_point}
 use Rattle.target_game.specs.Wins.{Wins}
 use Rattle.tsumego_problem.specs.Walk.{problem_within, history_limit}
+use Rattle.tsumego_problem.specs.Canonical.{canonical}
 use Rattle.tsumego_replies.specs.Texts.{line, wins_text}
+use Rattle.pass_alive.specs.Told.{Tells}
+use Rattle.proof_cert.specs.Streamed.{reader_gives, short_streamed_of}
+use Rattle.cert_check.specs.Checks.{AcceptsBy}
 use Rattle.safe_groups.specs.Ground.{AllSafe, IsSafeAs}
 use Rattle.dead_groups.specs.Claims.{AreDead}
 use Rattle.tool_parts.specs.Says.{colour_text, winner_text}
@@ -81,11 +88,32 @@ pub record SaysVerdict (q : GameProblem) (o : Output) : Type 0 where
   pub answer : end_of o ≡ Answered → NamesWinner q (bytes_of o) ⊎ (NamesSafe q (bytes_of o) ⊎ NamesDead q (bytes_of o))
   pub rejection : end_of o ≡ Rejected → (rest : List ℕ) × (bytes_of o ≡ codes "rejected line " ++ rest)
 
--- What is said is true: by `check`, of a short claim or of one by answers; and by the record that `tree` writes, which names who wins.
+-- The judge of short claims accepts these bytes, and nothing after them, for this side: by each test that tells what lives by its shape.
+abbrev pub IsAccepted : GameProblem → List ℕ → Colour → Type 0
+IsAccepted q claim x = (shape : List Cell → Bool) → Tells q.game shape
+    → AcceptsBy shape reader_gives q.game.size q (short_streamed_of q.game.size claim (Some [])) x
+
+-- What a claim by answers shows: the targets are safe, at once or by a first move; or these of them are dead, as long as stones stand.
+abbrev pub IsSafeOrDead : GameProblem → Type 0
+IsSafeOrDead q = ((first : Option Place) × IsSafeAs first (start q))
+    ⊎ ((targets supposed : List Cell) × ((p : ℕ) → cell_at targets p ≡ Stone q.game.defender → IsTrue (holds_point q.game.targets p))
+    × AreDead (start q) targets supposed)
+
+-- The text is the canonical record of the problem, a line feed and the claim.
+abbrev pub IsRecordWith : GameProblem → List ℕ → List ℕ → Type 0
+IsRecordWith q claim text = text ≡ line (tree_text (canonical q)) ++ claim
+
+-- A short claim that is accepted for a side, which wins; or, of the whole board, a claim of what is so.
+abbrev pub IsProof : Bool → GameProblem → List ℕ → Type 0
+IsProof false q text = (x : Colour) × (claim : List ℕ) × IsRecordWith q claim text × IsAccepted q claim x × Wins x (start q)
+IsProof true q text = (claim : List ℕ) × IsRecordWith q claim text × IsSafeOrDead q
+
+-- What is said is true: by `check`, of a short claim or of one by answers; by the record that `tree` writes, which names who wins; and
+-- by the claim that `prove` writes.
 abbrev pub Says : Request → GameProblem → Output → Type 0
 Says asks.Check q o = SaysVerdict q o
 Says (asks.Tree steps) q o = end_of o ≡ Answered → (x : Colour) × (tree : GameTree) × (o ≡ Record tree) × HasVerdict x tree × Wins x (start q)
-Says (asks.Prove steps whole) q o = Unit
+Says (asks.Prove steps whole) q o = end_of o ≡ Answered → IsProof whole q (bytes_of o)
 
 -- What is said for a record: it is refused, or it has a problem, of which what is said is true.
 abbrev pub IsSaidOf : Request → GameTree → Output → Type 0

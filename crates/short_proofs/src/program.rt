@@ -1,12 +1,14 @@
 //! A run of the program: from its words and its input to its answer.
 
-ghost use Rattle.std.specs.Prelude.{◌≡◌, ◌≢◌, IfOk, Ok, Some};
+ghost use Rattle.std.specs.Prelude.{◌≡◌, ◌≢◌, ◌++◌, IfOk, OnOk, Ok, Some, true, false};
+ghost use Rattle.sgf_text.specs.Text.{tree_text};
+ghost use Rattle.tsumego_replies.specs.Texts.{line};
 ghost use Rattle.target_game.specs.State.{start};
-ghost use Rattle.tool_parts.specs.Written.{end_of};
+ghost use Rattle.tool_parts.specs.Written.{bytes_of, end_of};
 ghost use Rattle.tool_parts.specs.declared.status.Status.TheVariants.{Answered};
 ghost use Rattle.tsumego_problem.specs.Walk.{problem_within, history_limit};
-ghost use Rattle.short_proofs.specs.Says.{IsSaidOf, Says};
-ghost use Rattle.short_proofs.specs.declared.words.Request.TheVariants.{Tree as TreeAsked};
+ghost use Rattle.short_proofs.specs.Says.{IsRecordWith, IsSaidOf, Says};
+ghost use Rattle.short_proofs.specs.declared.words.Request.TheVariants.{Prove as ProveAsked, Tree as TreeAsked};
 
 use crate::judged::judged;
 use crate::proof::{Proved, prove};
@@ -14,7 +16,6 @@ use crate::reading::{Reading, find_reading};
 use crate::whole::{Found, find_claim};
 use crate::words::{Request, read_request};
 use pn_search::{Audience, Budget, Cause};
-use proof_cert::{Certificate, write_short};
 use sgf_text::{Tree, WriteFault, read_tree, write_bytes, write_tree};
 use std::alloc::{AllocError, Global};
 use std::convert::AsStr;
@@ -106,19 +107,24 @@ fn budget_of(steps: u64) -> Result<Budget, AllocError> {
 }
 
 /// The record of the problem and a short claim, or why there is none.
-fn proved(alloc: Global, problem: &Problem, budget: Budget) -> Result<Output, AllocError> {
+fn proved(alloc: Global, problem: &Problem, budget: Budget) -> Result<Output, AllocError>
+    ensures { (steps : _) → IfOk result (Says (ProveAsked steps false) problem.now) }
+{
     match prove(alloc, problem, Audience::Judge, budget)? {
         Proved::Wins {
             winner: _,
             turn: _,
-            certificate,
-        } => with_record(alloc, problem, &certificate),
+            text,
+            certificate: _certificate,
+        } => with_claim(alloc, problem, text.as_slice()),
         Proved::Unknown { cause, steps } => unknown(alloc, cause, steps),
     }
 }
 
 /// The record of the problem and a claim by answers, or why there is none.
-fn proved_whole(alloc: Global, problem: &Problem, steps: u64) -> Result<Output, AllocError> {
+fn proved_whole(alloc: Global, problem: &Problem, steps: u64) -> Result<Output, AllocError>
+    ensures { (same : _) → IfOk result (Says (ProveAsked same true) problem.now) }
+{
     match find_claim(alloc, problem, steps)? {
         Found::Claim(claim) => with_claim(alloc, problem, claim.as_slice()),
         Found::Refused => unknown(alloc, Cause::NotConfirmed, steps),
@@ -127,12 +133,14 @@ fn proved_whole(alloc: Global, problem: &Problem, steps: u64) -> Result<Output, 
 }
 
 /// The record of the problem, and the text of a claim.
-fn with_claim(alloc: Global, problem: &Problem, claim: &[u8]) -> Result<Output, AllocError> {
+fn with_claim(alloc: Global, problem: &Problem, claim: &[u8]) -> Result<Output, AllocError>
+    ensures { IfOk result (λ o. IsRecordWith problem.now claim.now (bytes_of o)) }
+{
     let tree = problem_tree(alloc, problem)?;
     let mut bytes = Vec::new(alloc);
-    written(write_tree(&tree, &mut bytes))?;
-    written(write_bytes(b"\n", &mut bytes))?;
-    written(write_bytes(claim, &mut bytes))?;
+    if push_all(&tree, claim, &mut bytes).is_err() {
+        return Err(AllocError);
+    }
     match String::from_utf8(bytes) {
         Ok(text) => Ok(Output::Text(text, Status::Answered)),
         Err(_) => Err(AllocError),
@@ -160,30 +168,17 @@ fn too_large(alloc: Global) -> Result<Output, AllocError>
     Ok(Output::Text(text_of(alloc, TOO_LARGE)?, Status::Rejected))
 }
 
-/// The record of the problem, and the claim.
-fn with_record(
-    alloc: Global,
-    problem: &Problem,
-    certificate: &Certificate,
-) -> Result<Output, AllocError> {
-    let tree = problem_tree(alloc, problem)?;
-    let mut bytes = Vec::new(alloc);
-    written(write_tree(&tree, &mut bytes))?;
-    written(write_bytes(b"\n", &mut bytes))?;
-    if write_short(certificate, &mut bytes).is_err() {
-        return Err(AllocError);
-    }
-    match String::from_utf8(bytes) {
-        Ok(text) => Ok(Output::Text(text, Status::Answered)),
-        Err(_) => Err(AllocError),
-    }
-}
-
-/// A write into memory fails only if memory is refused.
-fn written(outcome: Result<(), WriteFault>) -> Result<(), AllocError> {
-    match outcome {
-        Ok(()) => Ok(()),
-        Err(WriteFault::Write) => Err(AllocError),
+/// Appends the record, a line feed and the claim.
+fn push_all(tree: &Tree, claim: &[u8], bytes: &mut Vec<u8>) -> Result<(), WriteFault>
+    ensures { OnOk result
+        (bytes.new.items ≡ bytes.old.items ++ (line (tree_text tree.now) ++ claim.now)) }
+{
+    match write_tree(tree, bytes) {
+        Ok(()) => match write_bytes(b"\n", bytes) {
+            Ok(()) => write_bytes(claim, bytes),
+            Err(fault) => Err(fault),
+        },
+        Err(fault) => Err(fault),
     }
 }
 

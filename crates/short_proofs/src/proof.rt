@@ -4,24 +4,26 @@ ghost use Rattle.std.specs.Prelude.{IfOk};
 ghost use Rattle.target_game.specs.State.{start};
 ghost use Rattle.target_game.specs.Wins.{Wins};
 ghost use Rattle.short_proofs.specs.Proved.{HasWinner};
+ghost use Rattle.short_proofs.specs.Says.{IsAccepted};
 
 use crate::first_turn::first_turn;
-use cert_check::{Why, check, check_short};
+use cert_check::{Why, check_short};
 use go_points::{Colour, Turn};
 use pass_alive::lives_at;
 use pn_search::{Audience, Budget, Cause, find_short};
-use proof_cert::{Certificate, HeldSource, Node, ReaderSource, Version, write_short};
+use proof_cert::{Certificate, Node, ReaderSource, Version, write_short};
 use std::alloc::{AllocError, Global};
 use target_game::Problem;
 
 /// What a search for a short claim found.
 #[derive(Drop)]
 pub enum Proved {
-    /// This side wins: the short claim of this certificate is accepted. `turn` is the winner's first turn in it, if the
-    /// winner moves first.
+    /// This side wins: the judge accepts the text, which is the short claim of this certificate. `turn` is the winner's first turn in
+    /// it, if the winner moves first.
     Wins {
         winner: Colour,
         turn: Option<Turn>,
+        text: Vec<u8>,
         certificate: Certificate,
     },
     /// Nothing is known, for this cause, after so many steps.
@@ -39,7 +41,7 @@ pub fn prove(
     audience: Audience,
     budget: Budget,
 ) -> Result<Proved, AllocError>
-    ensures { IfOk result (HasWinner (start problem.now)) }
+    ensures { IfOk result (HasWinner problem.now) }
 {
     if lives_at(problem, problem.colouring()) {
         return judged(alloc, problem, living(alloc, problem), 0);
@@ -66,19 +68,24 @@ fn living(alloc: Global, problem: &Problem) -> Certificate {
     }
 }
 
-/// What the judge says of the certificate.
+/// What the judge says of the certificate's text.
 pub(crate) fn judged(
     alloc: Global,
     problem: &Problem,
     certificate: Certificate,
     steps: u64,
 ) -> Result<Proved, AllocError>
-    ensures { IfOk result (HasWinner (start problem.now)) }
+    ensures { IfOk result (HasWinner problem.now) }
 {
-    match winner_of(alloc, problem, &certificate) {
+    let mut text = Vec::new(alloc);
+    if write_short(&certificate, &mut text).is_err() {
+        return Err(AllocError);
+    }
+    match winner_of(alloc, problem, text.as_slice()) {
         Ok(winner) => Ok(Proved::Wins {
             winner,
             turn: first_turn(&certificate),
+            text,
             certificate,
         }),
         Err(Why::Memory) => Err(AllocError),
@@ -93,35 +100,13 @@ pub(crate) fn judged(
     }
 }
 
-/// Who wins according to the certificate, or why it is not accepted. A certificate in which no line says that the targets live is
-/// judged as it is held. Otherwise the first such line has no spelling there, and the text is judged.
-fn winner_of(alloc: Global, problem: &Problem, certificate: &Certificate) -> Result<Colour, Why>
-    ensures { IfOk result (λ x. Wins x (start problem.now)) }
+/// Who wins according to the short claim of these bytes, or why it is not accepted.
+fn winner_of(alloc: Global, problem: &Problem, claim: &[u8]) -> Result<Colour, Why>
+    ensures accepted { IfOk result (IsAccepted problem.now claim.now) }
+    ensures wins { IfOk result (λ x. Wins x (start problem.now)) }
 {
-    let mut held = HeldSource::new(alloc, certificate);
-    match check(alloc, problem, &mut held) {
-        Ok(winner) => Ok(winner),
-        Err(reject) => match reject.why {
-            Why::Malformed => winner_of_text(alloc, problem, certificate),
-            why => Err(why),
-        },
-    }
-}
-
-/// Who wins according to the short claim of the certificate's text, or why it is not accepted.
-fn winner_of_text(
-    alloc: Global,
-    problem: &Problem,
-    certificate: &Certificate,
-) -> Result<Colour, Why>
-    ensures { IfOk result (λ x. Wins x (start problem.now)) }
-{
-    let mut text = Vec::new(alloc);
-    if write_short(certificate, &mut text).is_err() {
-        return Err(Why::Memory);
-    }
     let mut nothing = b"".as_slice();
-    let mut source = ReaderSource::of_short(problem.size(), text.as_slice(), &mut nothing);
+    let mut source = ReaderSource::of_short(problem.size(), claim, &mut nothing);
     match check_short(alloc, problem, &mut source) {
         Ok(winner) => Ok(winner),
         Err(reject) => Err(reject.why),

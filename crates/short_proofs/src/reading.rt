@@ -81,13 +81,14 @@ fn of_proved(
     proved: Proved,
     most: usize,
 ) -> Result<Reading, AllocError>
-    requires { HasWinner (start problem.now) proved }
+    requires { HasWinner problem.now proved }
     ensures { IfOk result (HasNamedWinner (start problem.now)) }
 {
     match proved {
         Proved::Wins {
             winner,
             turn,
+            text: _text,
             certificate,
         } => shown(alloc, problem, winner, turn, &certificate, most),
         Proved::Unknown { cause, steps } => Ok(Reading::Unknown { cause, steps }),

@@ -1,5 +1,9 @@
 //! Claims by answers, which hold on the whole board: found for a problem, and judged before they count.
 
+ghost use Rattle.std.specs.Prelude.{IfOk, IsFalse, IsTrue};
+ghost use Rattle.short_proofs.specs.Says.{IsSafeOrDead};
+ghost use Rattle.short_proofs.specs.Proved.{HasClaim};
+
 use go_points::Point;
 use group_search::{Finding, Limits, find_for_stone};
 use safe_groups::{Reject, Stop};
@@ -18,11 +22,9 @@ pub(crate) enum Found {
 }
 
 /// Searches for a claim by answers about the first target, and gives what is found to the judge.
-pub(crate) fn find_claim(
-    alloc: Global,
-    problem: &Problem,
-    steps: u64,
-) -> Result<Found, AllocError> {
+pub(crate) fn find_claim(alloc: Global, problem: &Problem, steps: u64) -> Result<Found, AllocError>
+    ensures { IfOk result (HasClaim problem.now) }
+{
     let Some(target) = problem.targets().first() else {
         return Ok(Found::Nothing);
     };
@@ -64,7 +66,9 @@ fn copy_of(alloc: Global, bytes: &[u8]) -> Result<Option<Vec<u8>>, AllocError> {
 }
 
 /// The claim, if the judge accepts it for the problem.
-fn confirmed(alloc: Global, problem: &Problem, claim: Vec<u8>) -> Result<Found, AllocError> {
+fn confirmed(alloc: Global, problem: &Problem, claim: Vec<u8>) -> Result<Found, AllocError>
+    ensures { IfOk result (HasClaim problem.now) }
+{
     if is_accepted(alloc, problem, claim.as_slice())? {
         Ok(Found::Claim(claim))
     } else {
@@ -73,7 +77,9 @@ fn confirmed(alloc: Global, problem: &Problem, claim: Vec<u8>) -> Result<Found, 
 }
 
 /// Whether the judge of its kind accepts the claim for the problem.
-fn is_accepted(alloc: Global, problem: &Problem, claim: &[u8]) -> Result<bool, AllocError> {
+fn is_accepted(alloc: Global, problem: &Problem, claim: &[u8]) -> Result<bool, AllocError>
+    ensures { IfOk result (λ is. IsTrue is → IsSafeOrDead problem.now) }
+{
     let mut nothing = b"".as_slice();
     if claim.starts_with(b"tsudeath ") {
         return match dead_groups::judge(alloc, problem, claim, &mut nothing) {
@@ -88,7 +94,9 @@ fn is_accepted(alloc: Global, problem: &Problem, claim: &[u8]) -> Result<bool, A
 }
 
 /// That the claim is not accepted, unless memory ran out.
-fn refused(reject: &Reject) -> Result<bool, AllocError> {
+fn refused(reject: &Reject) -> Result<bool, AllocError>
+    ensures { IfOk result IsFalse }
+{
     if reject.stop == Stop::Memory {
         return Err(AllocError);
     }

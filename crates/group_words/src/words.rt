@@ -133,7 +133,7 @@ fn fault_of(given: &ArgMatches<'_>) -> Option<&'static str> {
     None
 }
 
-/// The same where the answer to a move is asked for.
+/// Why the words ask for nothing, or one changes nothing, where the answer to a move is asked for.
 fn fault_of_answer(given: &ArgMatches<'_>) -> Option<&'static str> {
     if is_empty(given, "answer") {
         return Some("'--answer' wants a point of the board");
@@ -150,7 +150,7 @@ fn fault_of_answer(given: &ArgMatches<'_>) -> Option<&'static str> {
     None
 }
 
-/// The same where the whole board is asked about.
+/// Why the words ask for nothing, or one changes nothing, where the whole board is asked about.
 fn fault_of_board(given: &ArgMatches<'_>, has_target: bool) -> Option<&'static str> {
     if has_target {
         return Some(
@@ -170,7 +170,7 @@ fn fault_of_board(given: &ArgMatches<'_>, has_target: bool) -> Option<&'static s
     None
 }
 
-/// The same where the score is asked for.
+/// Why the words ask for nothing, or one changes nothing, where the score is asked for.
 fn fault_of_score(given: &ArgMatches<'_>) -> Option<&'static str> {
     if flag(given, "sgf") {
         return Some("'--score' has no record; '--all --sgf' marks the stones of all groups");

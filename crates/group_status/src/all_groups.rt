@@ -88,7 +88,7 @@ pub(crate) fn all_groups<W: Write, N: Write>(
     each_group(alloc, problem, request, budget, writer, notes)
 }
 
-/// Like `all_groups`, for this problem with its past.
+/// Writes what is said about every group of the problem's position, with the past that the problem has.
 fn each_group<W: Write, N: Write>(
     alloc: Global,
     problem: &Problem,

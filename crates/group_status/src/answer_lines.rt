@@ -102,7 +102,7 @@ pub(crate) fn barred_line(alloc: Global, asked: MoveAsked) -> Result<String, All
     Ok(text)
 }
 
-/// The same as an object.
+/// The JSON object of a move and what is proved after it.
 pub(crate) fn answer_object(
     alloc: Global,
     asked: MoveAsked,

@@ -28,10 +28,14 @@ struct Course {
     sizes: usize,
     sure: Option<Side>,
     sure_before: Option<Side>,
-    /// How often the natural walls decided, and how at the last two sizes.
+    /// The last of these sizes.
+    size: usize,
+    /// How often the natural walls decided, how at the last two sizes, and which these are.
     naturals: usize,
     natural: Option<Side>,
     natural_before: Option<Side>,
+    natural_size: usize,
+    natural_size_before: usize,
 }
 
 impl Course {
@@ -43,24 +47,36 @@ impl Course {
             sizes: 0,
             sure: None,
             sure_before: None,
+            size: 0,
             naturals: 0,
             natural: None,
             natural_before: None,
+            natural_size: 0,
+            natural_size_before: 0,
         }
     }
 
-    /// Takes the answers of one size. Returns whether any was known.
-    fn note(&mut self, natural: Option<Side>, kind: Option<Side>, hard: Option<Side>) -> bool {
+    /// Takes the answers of this size. Returns whether any was known.
+    fn note(
+        &mut self,
+        size: usize,
+        natural: Option<Side>,
+        kind: Option<Side>,
+        hard: Option<Side>,
+    ) -> bool {
         if natural.is_none() && kind.is_none() && hard.is_none() {
             return false;
         }
         self.sizes = self.sizes.saturating_add(1);
+        self.size = size;
         self.sure_before = self.sure;
         self.sure = sure_winner(kind, hard);
         if natural.is_some() {
             self.naturals = self.naturals.saturating_add(1);
             self.natural_before = self.natural;
             self.natural = natural;
+            self.natural_size_before = self.natural_size;
+            self.natural_size = size;
         }
         true
     }
@@ -192,11 +208,41 @@ pub(crate) fn first_procedure<N: Write>(
             &mut course,
             notes,
         )?;
-        if !course.note(natural, kind, bound) || course.is_settled() || group.order.len() <= count {
+        if !course.note(count, natural, kind, bound)
+            || course.is_settled()
+            || group.order.len() <= count
+        {
             break;
         }
     }
-    Ok(course.finding(group.order.len() <= SIZES[0]))
+    let is_small = group.order.len() <= SIZES[0];
+    stand_on(table, &course, first, hard, is_small)?;
+    Ok(course.finding(is_small))
+}
+
+/// Notes in the table on which questions the finding stands: if it is sure, on the last one with the walls that speak against it and
+/// the last one with natural walls, otherwise on the last two with natural walls.
+fn stand_on(
+    table: &mut Table,
+    course: &Course,
+    first: Side,
+    hard: Walls,
+    is_small: bool,
+) -> Result<(), AllocError> {
+    if course.is_sure(is_small) {
+        let bound = if is_won_by(Side::Attacker, course.sure) {
+            Walls::Kind
+        } else {
+            hard
+        };
+        table.stand_on(first, bound, course.size)?;
+        return table.stand_on(first, Walls::Natural, course.natural_size);
+    }
+    if course.is_likely(is_small) {
+        table.stand_on(first, Walls::Natural, course.natural_size)?;
+        return table.stand_on(first, Walls::Natural, course.natural_size_before);
+    }
+    Ok(())
 }
 
 /// The answers if weak walls fall, and if the defender is shut in. If the natural walls are unknown here, only the side for which

@@ -173,10 +173,11 @@ pub(crate) fn is_by_ko(report: Report<'_>, fate: Fate) -> bool {
     let table = report.table;
     let defender = report.group.defender;
     match fate {
-        Fate::Alive => table.has_ko(Side::Attacker, defender),
-        Fate::Dead => table.has_ko(Side::Defender, defender),
+        Fate::Alive => table.stands_on_ko(Side::Attacker, defender),
+        Fate::Dead => table.stands_on_ko(Side::Defender, defender),
         Fate::Unsettled => {
-            table.has_ko(Side::Attacker, defender) || table.has_ko(Side::Defender, defender)
+            table.stands_on_ko(Side::Attacker, defender)
+                || table.stands_on_ko(Side::Defender, defender)
         }
         Fate::Unknown => false,
     }

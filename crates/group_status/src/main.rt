@@ -12,7 +12,6 @@ mod first_procedure;
 mod group;
 mod group_line;
 mod json;
-mod last_turn;
 mod lines;
 mod move_proof;
 mod past;

@@ -4,15 +4,13 @@ use crate::all_groups::{Stop, all_groups};
 use crate::answer::{answered, text_of};
 use crate::board_record::board_record;
 use crate::group::Group;
-use crate::last_turn::turn_at_node;
 use crate::past::without_past;
 use crate::score::score;
-use go_points::to_sgf;
 use group_words::{
     Form, Request, before_passes, no_marks, no_stone, no_tree, node_asked, read_request,
 };
 use pn_search::Budget;
-use record_marks::{NoStone, marked_problem, stone_problem};
+use record_marks::{NoStone, marked_problem, position_problem, stone_problem};
 use sgf_text::{Tree, read_tree, write_bytes};
 use std::alloc::{AllocError, Global};
 use std::convert::AsStr;
@@ -22,7 +20,7 @@ use target_game::Problem;
 use tool_parts::{
     Output, Status, read_whole, refused, without_input, without_request, write_output,
 };
-use tsumego_problem::{ProblemFault, board_size};
+use tsumego_problem::ProblemFault;
 
 /// The greatest number of entries of the search's table.
 const TABLE: usize = 65_536;
@@ -218,7 +216,7 @@ fn position_asked<N: Write>(
     node: Option<usize>,
     notes: &mut N,
 ) -> Result<Problem, NoStone> {
-    let found = any_problem(alloc, tree, node);
+    let found = position_problem(alloc, tree, node);
     if node.is_some() {
         return found;
     }
@@ -227,7 +225,7 @@ fn position_asked<N: Write>(
             let last = node_asked(tree, node);
             let before = before_passes(last);
             tell_passes(alloc, last, before, notes)?;
-            any_problem(alloc, tree, Some(before))
+            position_problem(alloc, tree, Some(before))
         }
         _ => found,
     }
@@ -245,26 +243,4 @@ fn tell_passes<N: Write>(
     )?;
     let _ = write_bytes(note.as_bytes(), notes);
     Ok(())
-}
-
-/// The problem of some stone of the position: of the one that was placed last, or else of the first.
-fn any_problem(alloc: Global, tree: &Tree, node: Option<usize>) -> Result<Problem, NoStone> {
-    // Each stone that is asked for has the game replayed.
-    if let Some(value) = turn_at_node(tree, node_asked(tree, node))
-        && let Ok(problem) = stone_problem(alloc, tree, node, value.as_slice())
-    {
-        return Ok(problem);
-    }
-    let Some(size) = board_size(&tree.nodes()[0]) else {
-        return Err(NoStone::NoPoint);
-    };
-    for number in 0..size.area() {
-        let letters = to_sgf(size.point_at(number));
-        match stone_problem(alloc, tree, node, letters.as_slice()) {
-            Ok(problem) => return Ok(problem),
-            Err(NoStone::NoProblem(ProblemFault::BadTargets { .. })) => {}
-            Err(none) => return Err(none),
-        }
-    }
-    Err(NoStone::NoPoint)
 }

@@ -97,7 +97,7 @@ pub(crate) fn proved_line(
     format!(in alloc; "{name}: {word} (proved{condition})\n")
 }
 
-/// The same if one side moves first: who wins.
+/// The line of a group whose fate is proved where one side moves first: who wins.
 fn winner_line(
     alloc: Global,
     size: Size,

@@ -150,7 +150,7 @@ fn score_lines(alloc: Global, owners: &Colouring) -> Result<String, AllocError> 
     Ok(text)
 }
 
-/// The same as an object.
+/// The JSON object of the board and the score.
 fn score_object(alloc: Global, owners: &Colouring) -> Result<String, AllocError> {
     let mut text = String::new(alloc);
     text.push_str("{\"board\":[")?;

@@ -154,5 +154,50 @@ pub(crate) fn second_procedure<N: Write>(
             break;
         }
     }
-    Ok(finding(done.as_slice(), is_stopped, is_ended))
+    let found = finding(done.as_slice(), is_stopped, is_ended);
+    stand_on(table, done.as_slice(), first, &found)?;
+    Ok(found)
+}
+
+/// Notes in the table on which questions the finding stands: if it is sure, on those with race walls and with the bound at the last
+/// sizes at which its winner won, as many as are needed; otherwise on those with race walls at the last two sizes.
+fn stand_on(
+    table: &mut Table,
+    done: &[Done],
+    first: Side,
+    found: &Finding,
+) -> Result<(), AllocError> {
+    let Some(winner) = found.winner else {
+        return Ok(());
+    };
+    let is_sure = found.word == Word::Sure;
+    let mut left = bounds_wanted(winner);
+    for back in 1..done.len().saturating_add(1) {
+        if let Some(one) = done.get(done.len().saturating_sub(back)) {
+            let counts = if is_sure {
+                one.bound.is_some()
+            } else {
+                back <= 2
+            };
+            if left > 0 && counts && one.winner == winner {
+                left = left.saturating_sub(1);
+                stand_on_size(table, first, one, is_sure)?;
+            }
+        }
+    }
+    Ok(())
+}
+
+/// Notes that a finding stands on the question of this size with race walls, and on that with the bound too if it is sure.
+fn stand_on_size(
+    table: &mut Table,
+    first: Side,
+    done: &Done,
+    is_sure: bool,
+) -> Result<(), AllocError> {
+    table.stand_on(first, Walls::Race, done.count)?;
+    if is_sure {
+        table.stand_on(first, bound_of(done.winner), done.count)?;
+    }
+    Ok(())
 }

@@ -37,6 +37,8 @@ pub(crate) struct Row {
 pub(crate) struct Table {
     pub(crate) asked: Vec<Asked>,
     pub(crate) rows: Vec<Row>,
+    /// The places of the rows on which what was found last stands.
+    grounds: Vec<usize>,
     pub(crate) budget: Budget,
     /// Whether each row is reported when it has been asked.
     pub(crate) is_told: bool,
@@ -56,6 +58,7 @@ impl Table {
         Table {
             asked: Vec::new(alloc),
             rows: Vec::new(alloc),
+            grounds: Vec::new(alloc),
             budget,
             is_told,
         }
@@ -100,11 +103,31 @@ impl Table {
             && self.winner_at(row.place, defender) != self.winner_at(row.forgotten, defender)
     }
 
-    /// Whether a question with this side to move first has a winner that depends on who took last.
-    pub(crate) fn has_ko(&self, first: Side, defender: Colour) -> bool {
-        for row in self.rows.as_slice() {
-            if row.first == first && self.is_ko(row, defender) {
-                return true;
+    /// Forgets on which questions findings stand, before others are made.
+    pub(crate) fn clear_grounds(&mut self) {
+        self.grounds.clear();
+    }
+
+    /// Notes that a finding stands on this question, if it was asked.
+    pub(crate) fn stand_on(
+        &mut self,
+        first: Side,
+        walls: Walls,
+        count: usize,
+    ) -> Result<(), AllocError> {
+        if let Some(row) = self.row_of(first, walls, count) {
+            self.grounds.push(row)?;
+        }
+        Ok(())
+    }
+
+    /// Whether a question that the finding for this side to move first stands on has a winner that depends on who took last.
+    pub(crate) fn stands_on_ko(&self, first: Side, defender: Colour) -> bool {
+        for place in self.grounds.as_slice() {
+            if let Some(row) = self.rows.get(*place) {
+                if row.first == first && self.is_ko(row, defender) {
+                    return true;
+                }
             }
         }
         false

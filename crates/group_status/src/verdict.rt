@@ -49,10 +49,12 @@ pub(crate) fn found<N: Write>(
     is_quick: bool,
     notes: &mut N,
 ) -> Result<(Finding, Procedures), AllocError> {
+    table.clear_grounds();
     let quick = found_by(alloc, group, table, first, Procedures::First, notes)?;
     if is_quick || quick.word == Word::Sure {
         return Ok((quick, Procedures::First));
     }
+    table.clear_grounds();
     let both = found_by(alloc, group, table, first, Procedures::Both, notes)?;
     Ok((both, Procedures::Both))
 }
@@ -82,6 +84,7 @@ pub(crate) fn judge_by<N: Write>(
 ) -> Result<Judgement, AllocError>
     ensures { IfOk result (λ j. IsByRule j) }
 {
+    table.clear_grounds();
     let attacker_first = match proved_finding(group, first_moves, Side::Attacker) {
         Some(proved) => proved,
         None => found_by(alloc, group, table, Side::Attacker, procedures, notes)?,

@@ -101,7 +101,7 @@ fn chosen(alloc: Global, given: &ArgMatches<'_>) -> Result<Request, NoRequest> {
     })
 }
 
-/// Why words that are each well formed ask for nothing when taken together.
+/// Why words that are each well formed ask for nothing when taken together, or one of them changes nothing.
 fn fault_of(given: &ArgMatches<'_>) -> Option<&'static str> {
     let forms = [
         flag(given, "json"),
@@ -118,31 +118,39 @@ fn fault_of(given: &ArgMatches<'_>) -> Option<&'static str> {
     if flag(given, "all") || flag(given, "score") {
         return fault_of_board(given, has_target);
     }
-    if let Some(answer) = given.get_str("answer") {
-        return fault_of_answer(given, answer, has_target);
+    if is_empty(given, "target") {
+        return Some("'--target' wants a point of the board");
     }
     if given.get_one::<u64>("node").is_some() && !has_target {
         return Some("'--node' wants a '--target' at that node, '--all' or '--score'");
     }
+    if given.get_str("answer").is_some() {
+        return fault_of_answer(given);
+    }
+    if flag(given, "why") && flag(given, "json") {
+        return Some("'--json' has every question already, so '--why' adds nothing to it");
+    }
     None
 }
 
-/// The same where the answer to a move is asked for.
-fn fault_of_answer(given: &ArgMatches<'_>, answer: &str, has_target: bool) -> Option<&'static str> {
-    if answer.is_empty() {
+/// Why the words ask for nothing, or one changes nothing, where the answer to a move is asked for.
+fn fault_of_answer(given: &ArgMatches<'_>) -> Option<&'static str> {
+    if is_empty(given, "answer") {
         return Some("'--answer' wants a point of the board");
     }
     let has_claims = flag(given, "claims") || flag(given, "full-claims");
     if flag(given, "sgf") || has_claims || given.get_str("first").is_some() {
         return Some("'--answer' is told in lines or with '--json', without '--first'");
     }
-    if given.get_one::<u64>("node").is_some() && !has_target {
-        return Some("'--node' wants a '--target' at that node, '--all' or '--score'");
+    if flag(given, "quick") || flag(given, "why") || flag(given, "progress") {
+        return Some(
+            "'--quick', '--why' and '--progress' are about procedures, and '--answer' asks none",
+        );
     }
     None
 }
 
-/// The same where the whole board is asked about.
+/// Why the words ask for nothing, or one changes nothing, where the whole board is asked about.
 fn fault_of_board(given: &ArgMatches<'_>, has_target: bool) -> Option<&'static str> {
     if has_target {
         return Some(
@@ -156,13 +164,24 @@ fn fault_of_board(given: &ArgMatches<'_>, has_target: bool) -> Option<&'static s
             "'--first', '--answer', '--why' and claims are for one target, and not for '--all' or '--score'",
         );
     }
-    if flag(given, "score") && flag(given, "sgf") {
+    if flag(given, "score") {
+        return fault_of_score(given);
+    }
+    None
+}
+
+/// Why the words ask for nothing, or one changes nothing, where the score is asked for.
+fn fault_of_score(given: &ArgMatches<'_>) -> Option<&'static str> {
+    if flag(given, "sgf") {
         return Some("'--score' has no record; '--all --sgf' marks the stones of all groups");
     }
-    if flag(given, "all") && flag(given, "score") {
+    if flag(given, "all") {
         return Some(
             "'--all' says a line of each group, '--score' who has which points; name one of them",
         );
+    }
+    if flag(given, "quick") || flag(given, "progress") {
+        return Some("'--quick' and '--progress' are about procedures, and '--score' asks none");
     }
     None
 }
@@ -186,6 +205,14 @@ fn chosen_form(given: &ArgMatches<'_>) -> Form {
 
 fn flag(given: &ArgMatches<'_>, id: &str) -> bool {
     given.get_one::<bool>(id).unwrap_or(false)
+}
+
+/// Whether an argument is there with no text.
+fn is_empty(given: &ArgMatches<'_>, id: &str) -> bool {
+    match given.get_str(id) {
+        Some(text) => text.is_empty(),
+        None => false,
+    }
 }
 
 /// The number of an argument.
@@ -218,9 +245,10 @@ fn text(alloc: Global, given: &ArgMatches<'_>, id: &str) -> Result<String, Alloc
 
 /// The side that moves first, if the words say so.
 fn first(alloc: Global, given: &ArgMatches<'_>) -> Result<Option<Side>, NoRequest> {
-    let text = text(alloc, given, "first")?;
-    match text.as_str() {
-        "" => Ok(None),
+    let Some(side) = given.get_str("first") else {
+        return Ok(None);
+    };
+    match side {
         "attacker" => Ok(Some(Side::Attacker)),
         "defender" => Ok(Some(Side::Defender)),
         _ => Err(NoRequest::Words(format!(in alloc;

@@ -1,6 +1,7 @@
 //! Marks a problem in a record: at which node it is asked about, for which stones and in which region, and the record with the marks.
 #![tactic(auto)]
 
+mod any_stone;
 mod asked_node;
 mod mark;
 mod marking;
@@ -10,6 +11,7 @@ mod stone_problem_of;
 mod stones;
 mod supposing;
 
+pub use any_stone::position_problem;
 pub use asked_node::{GREATEST_NUMBER, default_node, last_node, node_argument};
 pub use marking::{MarkedRecord, Marks, Refusal, Region, marked_record, problem_of};
 pub use region::touches;

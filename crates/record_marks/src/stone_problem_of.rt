@@ -45,17 +45,27 @@ pub fn stone_problem(
     node: Option<usize>,
     name: &[u8],
 ) -> Result<Problem, NoStone> {
-    let Some(point) = point_of(tree, name) else {
-        return Err(NoStone::NoPoint);
-    };
+    match point_of(tree, name) {
+        Some(point) => point_problem(alloc, tree, chosen_place(tree, node), point),
+        None => Err(NoStone::NoPoint),
+    }
+}
+
+/// The problem of the stone at the point, at the node of the main line with this number.
+pub(crate) fn point_problem(
+    alloc: Global,
+    tree: &Tree,
+    place: usize,
+    point: Point,
+) -> Result<Problem, NoStone> {
     let letters = to_sgf(point);
     let wanted = Marks {
-        node,
+        node: Some(place),
         targets: letters.as_slice(),
         region: Region::Board,
         mover: None,
     };
-    match asked_problem(alloc, tree, chosen_place(tree, node), wanted) {
+    match asked_problem(alloc, tree, place, wanted) {
         Ok(problem) => Ok(problem),
         Err(refusal) => Err(no_stone(refusal)),
     }

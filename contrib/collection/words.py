@@ -79,7 +79,7 @@ def read_words(words, steps):
     given = parser.parse_intermixed_args(words)
     given.step = given.names.pop(0) if given.names and given.names[0] in steps else None
     if given.step is None and len(given.names) != 2:
-        parser.error(f"wanted: GAMES and OUT, or a step; {len(given.names)} names are given")
+        parser.error(f"wanted: GAMES and OUT, or a step; given: {len(given.names)}")
     if given.step is None and not os.path.exists(given.names[0]):
         parser.error(f"there is no file or folder {shown(given.names[0])}")
     if given.hosts and given.shard:

@@ -303,8 +303,8 @@ function diagram(problem, line) {
   const stones = problem.stones.slice(), labels = new Map(), told = [];
   line.forEach((at, i) => {
     const colour = OTHER[at.mover], number = i + 1;
-    if (at.point < 0) told.push(`${number} passes`);
-    else if (stones[at.point] !== ".") told.push(`${number} at ${nameOf(problem.size, at.point)}`);
+    if (at.point < 0) told.push(`${SIDES[colour]} ${number} passes`);
+    else if (stones[at.point] !== ".") told.push(`${SIDES[colour]} ${number} at ${nameOf(problem.size, at.point)}`);
     else {
       stones[at.point] = colour;
       labels.set(at.point, String(number));

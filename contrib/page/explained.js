@@ -19,8 +19,8 @@ const WALLS = {
   kind: "walls with few liberties outside fall",
   hard: "the group is shut in, and cut off from every friend",
   race: "walls stand where the attacker gets there first",
-  given: "such walls stand, and those with one or two liberties outside fall",
-  alone: "such walls stand, no friend helps, and ways out where a stone would be taken are shut",
+  given: "walls stand where the attacker gets there first, and those with one or two liberties outside fall",
+  alone: "walls stand where the attacker gets there first, no friend helps, and ways out where a stone would be taken are shut",
 };
 const LEANS = { life: "it may live", death: "it may die", either: "it may depend on who moves first", none: "nothing is known" };
 const BY_LETTER = { B: "X", W: "O" };
@@ -45,10 +45,12 @@ function statusSentence(found) {
 
 const listed = (names) => (Array.isArray(names) ? names.join(", ") : String(names));
 
+// What a proof depends on, as the end of a sentence.
+const condition = (proof) => (proof.while && proof.while.length ? `, as long as these stones have liberties elsewhere: ${listed(proof.while)}` : "");
+
 // What a proof rests on, and its answers.
 function proofSentences(proof) {
   const told = [];
-  if (proof.while && proof.while.length) told.push(`It holds as long as these have liberties elsewhere: ${listed(proof.while)}.`);
   if (proof.friends && proof.friends.length) told.push(`It rests on these stones too, which stay by claims of their own: ${listed(proof.friends)}.`);
   if (proof.answers && proof.answers.length) told.push(`Answers: ${proof.answers.map((pair) => pair.join(" → ")).join(", ")}.`);
   return told;
@@ -58,7 +60,7 @@ function proofSentences(proof) {
 function firstMoveSentences(one, defender) {
   const side = BY_LETTER[one.first], by = one.move ? ` at ${one.move}` : "";
   const end = side === defender ? "the group lives, whatever is played then" : "the group is taken, whatever its owner plays then";
-  return [`If ${SIDES[side]} moves first${by}, ${end}. This is proved, on the whole board.`, ...proofSentences(one.proof)];
+  return [`If ${SIDES[side]} moves first${by}, ${end}. This is proved, on the whole board${condition(one.proof)}.`, ...proofSentences(one.proof)];
 }
 
 // What the word means, and, where it is proved, by what.
@@ -72,9 +74,9 @@ function wordSentences(found, defender) {
   }
   const meaning =
     found.status === "dead"
-      ? "This is proved, on the whole board: whatever its owner plays, the other side takes the group by playing at the squares."
-      : "This is proved, on the whole board: whatever is played at the squares is answered, and the stones with a frame stay.";
-  return [meaning, ...proofSentences(proof)];
+      ? "whatever its owner plays, the other side takes the group by playing at the squares"
+      : "whatever is played at the squares is answered, and the stones with a frame stay";
+  return [`This is proved, on the whole board: ${meaning}${condition(proof)}.`, ...proofSentences(proof)];
 }
 
 // A question in a sentence. `defender` is the side of the group.

@@ -75,6 +75,20 @@ class Building(Case):
         self.ends(0, self.builds("upper"))
         self.assertEqual(self.asked(), ["low", "right", "left", "upper"])
 
+    @case("tools/build --text-hash prints what a build of the same text has left, in whatever folder")
+    def prints_hash(self):
+        self.ends(0, self.builds("upper"))
+        copy = new_place() / "a copy"
+        shutil.copytree(self.folder / "crates", copy / "crates", ignore=shutil.ignore_patterns("out"))
+        shutil.copy(self.folder / "crates.txt", copy)
+        done = self.builds("--text-hash", copy, "upper")
+        self.ends(0, done)
+        self.assertEqual(done.out, (self.made("upper") / "built").read_text().rstrip("\n"))
+        (copy / "crates/low/src/lib.rt").write_text("another line\n")
+        self.assertNotEqual(self.builds("--text-hash", copy, "upper").out, done.out)
+        self.assertEqual(self.asked(), [])
+        self.ends(3, self.builds("--text-hash", self.folder / "nothing", "upper"))
+
     @case("tools/build of a crate that has no proof")
     def fails_to_build(self):
         done = self.builds("upper", fails="left")

@@ -146,3 +146,13 @@ class Packing(Case):
     @case("contrib/package with no programs")
     def wants_programs(self):
         self.refuses(4, "there is no program", "contrib/package", "--programs", Setting.work, place("three"))
+
+    @case("contrib/package --kept of programs that nobody says are of this text")
+    def wants_this_text(self):
+        has_packages(self)
+        kept = new_place()
+        for name in PROGRAMS:
+            (kept / "crates" / name / "out").mkdir(parents=True)
+            shutil.copy(program(name), kept / "crates" / name / "out" / name)
+        self.refuses(4, "out/tsumego is not of this text", "contrib/package", "--kept", kept, place("three"))
+        self.refuses(3, "usage", "contrib/package", "--kept", kept, "--programs", kept / "crates", place("three"))

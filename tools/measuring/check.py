@@ -81,7 +81,7 @@ def judge_samples(programs: list[list[str]]) -> int:
 def add_words(words: script_words.Words) -> None:
     words.add_argument("program", type=script_words.program, metavar="PROGRAM")
     words.add_argument("peer", type=script_words.program, nargs="?", metavar="PEER")
-    words.add_argument("files", type=script_words.file, nargs="*", metavar="FILE")
+    words.add_argument("files", type=script_words.file, nargs="*", default=[], metavar="FILE")
 
 
 def main(given: argparse.Namespace) -> int:

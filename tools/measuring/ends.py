@@ -203,8 +203,8 @@ def add_words(words: script_words.Words) -> None:
     words.add_argument("--seed", type=int, default=1)
     words.add_argument("--steps", type=script_words.a_number(1))
     words.add_argument("--table", type=pathlib.Path, metavar="FILE")
-    words.add_argument("program", type=script_words.program)
-    words.add_argument("files", nargs="*", type=script_words.file)
+    words.add_argument("program", type=script_words.program, metavar="GROUP_STATUS")
+    words.add_argument("files", nargs="*", default=[], type=script_words.file, metavar="FILE")
 
 
 def main(given: argparse.Namespace) -> int:

@@ -56,7 +56,7 @@ def costs(program: str, steps: str, count: int) -> dict[str, float]:
 
 
 def add_words(words: script_words.Words) -> None:
-    words.add_argument("program", type=script_words.program)
+    words.add_argument("program", type=script_words.program, metavar="PROGRAM")
     words.add_argument("--records", type=script_words.a_number(1), default=90)
     words.add_argument("--steps", type=script_words.a_number(1), default=10_000)
     words.add_argument("--most", type=float, default=5)

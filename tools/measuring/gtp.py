@@ -1,7 +1,7 @@
 """Times `tsumego gtp` on lists of 20,000 commands for 5, 9 and 19 rows, beside GNU Go where it is installed, and plays 200
 commands with it over two pipes, each sent only after the reply before it was read.
 
-    tools/measure gtp [PATH OF TSUMEGO]
+    tools/measure gtp [TSUMEGO]     the built program, by default that of this repository
 
 Half of each list is `play` at random points, every tenth command a `showboard`, the others are `undo` and, rarely,
 `clear_board`. It prints seconds of the processor and commands a second. Both programs get the same list, and what they answer
@@ -75,7 +75,7 @@ def client(path: str) -> None:
 
 
 def add_words(words: script_words.Words) -> None:
-    words.add_argument("program", nargs="?", type=script_words.program, default=TSUMEGO)
+    words.add_argument("program", nargs="?", type=script_words.program, default=TSUMEGO, metavar="TSUMEGO")
 
 
 def main(given: argparse.Namespace) -> int:

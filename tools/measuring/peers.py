@@ -196,8 +196,8 @@ def add_words(words: script_words.Words) -> None:
     words.add_argument("--instructions", action="store_true")
     words.add_argument("--problems", metavar="FOLDER", type=script_words.file)
     words.add_argument("--search", metavar="PEER", type=script_words.program)
-    words.add_argument("program", type=script_words.program)
-    words.add_argument("rows", nargs="*", metavar="ROW")
+    words.add_argument("program", type=script_words.program, metavar="PROGRAM")
+    words.add_argument("rows", nargs="*", default=[], metavar="ROW")
 
 
 def main(given: argparse.Namespace) -> int:

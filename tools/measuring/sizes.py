@@ -1,6 +1,6 @@
 """Times `within` and `solve` on one local fight, on boards of 9, 13, 19 and 25 rows.
 
-    tools/measure sizes [PATH OF TSUMEGO]
+    tools/measure sizes [TSUMEGO]     the built program, by default that of this repository
 
 The fight is that of examples/bulky-five.sgf at the upper edge: on each board the same stones, marks and moves. It prints
 the least processor time of several runs for each size, and how many times that of 9 rows it is; the greatest board has
@@ -16,7 +16,7 @@ RUNS = 15
 SIZES = (9, 13, 19, 25)
 WORDS = (("within", "14", "--nodes", "4294967295"), ("solve",))
 FIGHT = script_words.TOP / "examples/bulky-five.sgf"
-TSUMEGO = "crates/tsumego/out/tsumego"
+TSUMEGO = str(script_words.TOP / "crates/tsumego/out/tsumego")
 
 
 def record(rows: int) -> bytes:
@@ -24,7 +24,7 @@ def record(rows: int) -> bytes:
 
 
 def add_words(words: script_words.Words) -> None:
-    words.add_argument("program", nargs="?", type=script_words.program, default=TSUMEGO)
+    words.add_argument("program", nargs="?", type=script_words.program, default=TSUMEGO, metavar="TSUMEGO")
 
 
 def main(given: argparse.Namespace) -> int:

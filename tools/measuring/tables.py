@@ -203,7 +203,7 @@ def write(part: str, head: tuple[str, ...], rows: Rows) -> None:
 
 def add_words(words: script_words.Words) -> None:
     words.add_argument("programs", type=pathlib.Path, metavar="PROGRAMS")
-    words.add_argument("parts", nargs="*", metavar="PART")
+    words.add_argument("parts", nargs="*", default=[], metavar="PART")
 
 
 def main(given: argparse.Namespace) -> int:

@@ -3,7 +3,7 @@
 use crate::marking::chosen_place;
 use crate::stone_problem_of::{NoStone, point_problem};
 use go_chains::ChainBoard;
-use go_points::{Point, Size, Turn};
+use go_points::{Colour, Point, Size, Turn};
 use sgf_text::{SgfNode, Tree};
 use std::alloc::Global;
 use target_game::Problem;
@@ -70,23 +70,27 @@ fn change_by_all(board: &mut ChainBoard, nodes: &[SgfNode]) -> bool {
 
 /// Plays the turn of the node, or else sets up its stones. Returns whether that can be done.
 fn change_by(board: &mut ChainBoard, node: &SgfNode) -> bool {
-    let size = board.size();
-    match turn_at(size, node) {
-        Some((colour, Turn::At(point))) => {
-            if !size.holds(point) {
-                return false;
-            }
-            board.play(colour, point).is_ok()
-        }
-        Some((_, Turn::Pass)) => true,
-        None => {
-            if !has_setup(node) {
-                return true;
-            }
-            let after = assigned(size, node, &board.colouring());
-            board.assign(&after).is_ok()
-        }
+    match turn_at(board.size(), node) {
+        Some(played) => play(board, played.0, played.1),
+        None => set_up(board, node),
     }
+}
+
+/// Plays the turn. Returns whether that can be done.
+fn play(board: &mut ChainBoard, colour: Colour, turn: Turn) -> bool {
+    match turn {
+        Turn::At(point) => board.size().holds(point) && board.play(colour, point).is_ok(),
+        Turn::Pass => true,
+    }
+}
+
+/// Sets up the stones of the node, if it has any. Returns whether that can be done.
+fn set_up(board: &mut ChainBoard, node: &SgfNode) -> bool {
+    if !has_setup(node) {
+        return true;
+    }
+    let after = assigned(board.size(), node, &board.colouring());
+    board.assign(&after).is_ok()
 }
 
 /// The first stone, row by row.

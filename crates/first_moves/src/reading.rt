@@ -29,6 +29,7 @@ pub(crate) fn reading_by(
         Proved::Wins {
             winner,
             turn: _,
+            text: _text,
             certificate,
         } => {
             if winner != problem.mover() {

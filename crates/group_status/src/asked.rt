@@ -6,7 +6,6 @@ ghost use Rattle.target_game.specs.Wins.{Wins};
 
 use go_points::{Colour, Turn};
 use pn_search::{Audience, Budget, Cause};
-use proof_cert::Certificate;
 use short_proofs::{Proved, prove};
 use std::alloc::{AllocError, Global};
 use target_game::Problem;
@@ -32,14 +31,15 @@ pub(crate) fn ask(alloc: Global, problem: Problem, budget: Budget) -> Result<Ask
         Proved::Wins {
             winner,
             turn,
-            certificate,
-        } => Ok(won(problem, winner, turn, &certificate)),
+            text: _text,
+            certificate: _certificate,
+        } => Ok(won(problem, winner, turn)),
         Proved::Unknown { cause, steps } => unknown(problem, cause, steps),
     }
 }
 
-/// The problem, and the winner that this short claim names. The claim is not kept.
-fn won(problem: Problem, winner: Colour, turn: Option<Turn>, _certificate: &Certificate) -> Asked
+/// The problem, and the winner that an accepted short claim names. The claim is not kept.
+fn won(problem: Problem, winner: Colour, turn: Option<Turn>) -> Asked
     requires { Wins winner (start problem) }
     ensures { result.problem ≡ problem }
 {

@@ -8,7 +8,7 @@ use cert_check::Checked;
 use go_points::{Colour, Point};
 use group_words::Length;
 use pn_search::{Audience, Budget, Cause, Verdict, solve};
-use proof_cert::{CertWrite, Certificate, write_cert, write_short};
+use proof_cert::{CertWrite, write_cert};
 use proved_groups::{FirstMoves, Proven, ProvenByMove};
 use sgf_text::{WriteFault, write_bytes, write_tree};
 use short_proofs::{Proved, prove};
@@ -178,7 +178,7 @@ fn push_rows(text: &mut String, table: &Table, place: usize) -> Result<(), Alloc
 /// A claim of one kind or the other, or why there is none.
 #[derive(Drop)]
 enum Found {
-    Short(Certificate),
+    Short(Vec<u8>),
     Full(Checked),
     None { cause: Cause, steps: u64 },
 }
@@ -219,8 +219,9 @@ fn find_claim(
             Proved::Wins {
                 winner: _,
                 turn: _,
-                certificate,
-            } => Ok(Found::Short(certificate)),
+                text,
+                certificate: _certificate,
+            } => Ok(Found::Short(text)),
             Proved::Unknown { cause, steps } => Ok(Found::None { cause, steps }),
         },
         Length::Full => match solve(alloc, problem.copy(alloc)?, budget) {
@@ -233,7 +234,7 @@ fn find_claim(
 /// Appends the claim, if there is one. A write into memory fails only if memory is refused.
 fn write_claim(found: &Found, bytes: &mut Vec<u8>) -> Result<(), AllocError> {
     match found {
-        Found::Short(certificate) => written(write_short(certificate, bytes)),
+        Found::Short(text) => bytes.extend_from_slice(text.as_slice()),
         Found::Full(checked) => match write_cert(checked.certificate(), bytes) {
             Ok(()) => Ok(()),
             Err(CertWrite::Write) => Err(AllocError),

@@ -8,7 +8,6 @@ use Rattle.tool_parts.specs.Says.{winner_text}
 use Rattle.tsumego_problem.specs.Canonical.{property, verdict_text}
 use Rattle.short_proofs.specs.Says.{HasVerdict, IsSaidOf, Says, SaysWinner}
 use Rattle.short_proofs.specs.declared.words.Request.{Request}
-use Rattle.short_proofs.specs.declared.words.Request.TheVariants.{Tree as TreeAsked}
 use Rattle.target_game.specs.State.{GameProblem}
 use Rattle.tool_parts.specs.declared.output.Output.{Output}
 use Rattle.tsumego_problem.specs.Walk.{problem_within, history_limit}
@@ -35,6 +34,6 @@ module _ {E : Type 0} (x : Colour) (past nodes : List Node) (node : Node) (is : 
   verdict_last (Err e) ends = tt
 
 -- what is said of the problem of a record is said of the record
-pub said_of : {E : Type 0} (request : Request) (tree : GameTree) (q : GameProblem) (steps : ℕ) (r : Result Output E) → problem_within (Some history_limit) tree ≡ Ok q → request ≡ TreeAsked steps → IfOk r (Says (TreeAsked steps) q) → IfOk r (IsSaidOf request tree)
-said_of request tree q steps (Ok o) is asked says = inr (q, is, subst (λ a. Says a q o) (sym asked) says)
-said_of request tree q steps (Err e) is asked says = tt
+pub said_of : {E : Type 0} (request asked : Request) (tree : GameTree) (q : GameProblem) (r : Result Output E) → problem_within (Some history_limit) tree ≡ Ok q → request ≡ asked → IfOk r (Says asked q) → IfOk r (IsSaidOf request tree)
+said_of request asked tree q (Ok o) is same says = inr (q, is, subst (λ a. Says a q o) (sym same) says)
+said_of request asked tree q (Err e) is same says = tt

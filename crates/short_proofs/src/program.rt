@@ -86,14 +86,7 @@ fn output_of<R: Read>(
     };
     match request {
         Request::Check => judged(alloc, &problem, behind, reader),
-        Request::Prove {
-            steps,
-            is_whole: true,
-        } => proved_whole(alloc, &problem, steps),
-        Request::Prove {
-            steps,
-            is_whole: false,
-        } => proved(alloc, &problem, budget_of(steps)?),
+        Request::Prove { steps, is_whole } => claim_for(alloc, &problem, steps, is_whole),
         Request::Tree { steps } => read_out(alloc, &problem, budget_of(steps)?),
     }
 }
@@ -104,6 +97,21 @@ fn budget_of(steps: u64) -> Result<Budget, AllocError> {
         Some(table) => Ok(Budget { steps, table }),
         None => Err(AllocError),
     }
+}
+
+/// The record of the problem and a claim, or why there is none: a claim by answers of the whole board, or a short one.
+fn claim_for(
+    alloc: Global,
+    problem: &Problem,
+    steps: u64,
+    is_whole: bool,
+) -> Result<Output, AllocError>
+    ensures { IfOk result (Says (ProveAsked steps is_whole) problem.now) }
+{
+    if is_whole {
+        return proved_whole(alloc, problem, steps);
+    }
+    proved(alloc, problem, budget_of(steps)?)
 }
 
 /// The record of the problem and a short claim, or why there is none.

@@ -318,3 +318,9 @@ class Best(Case):
         self.assertIn("mark-table: row 1: examples/straight-three.sgf: ", done.notes)
         self.assertIn(why, done.notes)
         self.assertEqual(list(folder.iterdir()), [])
+
+    @case("contrib/mark-table: another program in place of group_status")
+    def knows_no_answer(self):
+        done, _ = self.marked("no answer", ("examples/straight-three.sgf", "", "A7", "white", "best"))
+        self.ends(4, done)
+        self.assertEqual(done.said, "mark-table: group_status wrote no answer about one group; is it another program?")

@@ -1,6 +1,6 @@
 //! The claim of shared proofs: lemmas for proofs that are used several times, and the main tree.
 
-use crate::lemma_choice::{LemmaChoice, may_fit};
+use crate::lemma_choice::{LemmaChoice, take_nodes};
 use crate::tree::Writer;
 use go_points::Colouring;
 use proof_cert::{Certificate, Lemma, MAX_LEMMAS, MAX_LISTED, Version};
@@ -279,12 +279,11 @@ fn lemmas_of(
     problem: &Problem,
     shared: &Shared,
     choice: Choice,
+    left: &mut u64,
 ) -> Result<Lemmas, Refusal> {
     let root = shared.root;
     let chosen = LemmaChoice::new(alloc, &shared.proofs, choice)?;
-    if !may_fit(chosen.nodes_of_claim(root)) {
-        return Err(Refusal::Limit);
-    }
+    take_nodes(chosen.nodes_of_claim(root), left)?;
     let mut walk = Walk::new(alloc, problem, &shared.proofs, chosen)?;
     let mut bodies = Writer::of_main(alloc, Play::of(alloc, problem)?, shared.winner);
     walk.make_lemmas(alloc, &mut bodies, &shared.proofs, root)?;
@@ -292,26 +291,27 @@ fn lemmas_of(
 }
 
 /// The claim of the proof, in which those that are chosen are lemmas. The others are written in line wherever they are used. A lemma
-/// needs the same colourings to have occurred as its proof. Refused if it would pass the limits of claims.
+/// needs the same colourings to have occurred as its proof. `left` falls by the nodes that the claim is counted to have. Refused if
+/// fewer are left, or if it would pass the limits of claims.
 pub fn claim_with_lemmas(
     alloc: Global,
     problem: &Problem,
     shared: &Shared,
     choice: Choice,
+    left: &mut u64,
 ) -> Result<Certificate, Refusal> {
-    let lemmas = lemmas_of(alloc, problem, shared, choice)?;
+    let lemmas = lemmas_of(alloc, problem, shared, choice, left)?;
     claim(alloc, problem, shared, lemmas)
 }
 
-/// The claim of the proof without lemmas.
+/// The claim of the proof without lemmas, with `left` as in `claim_with_lemmas`.
 pub fn claim_without_lemmas(
     alloc: Global,
     problem: &Problem,
     shared: &Shared,
+    left: &mut u64,
 ) -> Result<Certificate, Refusal> {
-    if !may_fit(shared.proofs.turns_below(Below::Proof(shared.root))) {
-        return Err(Refusal::Limit);
-    }
+    take_nodes(shared.proofs.turns_below(Below::Proof(shared.root)), left)?;
     let lemmas = Lemmas {
         made: Vec::new(alloc),
         version: Version::One,

@@ -3,16 +3,24 @@
 use crate::claim::{Choice, Pasts};
 use crate::list_length::ListLength;
 use proof_cert::MAX_NODES;
-use state_proofs::{Below, Form, Proof, Proofs};
+use state_proofs::{Below, Form, Proof, Proofs, Refusal};
 use std::alloc::{AllocError, Global};
 
 /// A claim that is counted to have more nodes is not begun. The count has all replies, and the past may bar some, so it may be too
 /// large, but hardly twice as large.
-const MOST_COUNTED: u64 = 2 * MAX_NODES as u64;
+const MAX_COUNTED: u64 = 2 * MAX_NODES as u64;
 
-/// Whether a claim with so many nodes may be begun.
-pub(crate) fn may_fit(nodes: u64) -> bool {
-    nodes <= MOST_COUNTED
+/// How many nodes the claims that are tried for one answer may be counted to have in all: no step counts how they are written and
+/// judged.
+pub const MAX_TRIED: u64 = 3 * MAX_NODES as u64;
+
+/// Takes the nodes of a claim from those that may still be tried. Refused if a claim with so many is not begun.
+pub(crate) fn take_nodes(nodes: u64, left: &mut u64) -> Result<(), Refusal> {
+    if nodes > MAX_COUNTED || nodes > *left {
+        return Err(Refusal::Limit);
+    }
+    *left -= nodes;
+    Ok(())
 }
 
 /// The lemmas that were chosen, from the lowest proof up.

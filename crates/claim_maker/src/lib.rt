@@ -11,3 +11,4 @@ mod tree;
 
 pub use claim::{Choice, Pasts, Saving, claim_with_lemmas, claim_without_lemmas};
 pub use full_tree::share_tree;
+pub use lemma_choice::MAX_TRIED;

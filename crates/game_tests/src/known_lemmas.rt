@@ -2,7 +2,7 @@
 
 use crate::expect::{expect_same, expect_that};
 use crate::proof_numbers::{ALL, WITHOUT_PASTS, accepted, found, found_plainly, problem, saving};
-use claim_maker::{Choice, Pasts, Saving, claim_with_lemmas, share_tree};
+use claim_maker::{Choice, MAX_TRIED, Pasts, Saving, claim_with_lemmas, share_tree};
 use go_points::Colour;
 use proof_cert::{Certificate, Version, read_cert, write_cert};
 use std::alloc::Global;
@@ -21,9 +21,10 @@ fn becomes(
     let size = problem.size();
     let given = read_cert(alloc, size, tree).expect(rt, "a claim");
     let mut text = Vec::new(alloc);
+    let mut nodes = MAX_TRIED;
     match share_tree(alloc, &problem, given.winner, &given.main) {
         Err(_) => panic!(rt; "a tree of legal turns"),
-        Ok(shared) => match claim_with_lemmas(alloc, &problem, &shared, choice) {
+        Ok(shared) => match claim_with_lemmas(alloc, &problem, &shared, choice, &mut nodes) {
             Err(_) => panic!(rt; "a claim"),
             Ok(claim) => {
                 expect_that(rt, write_cert(&claim, &mut text).is_ok());
@@ -198,7 +199,8 @@ fn a_lemma_may_need_what_was_played_above_it(rt: HostRuntime) {
     let edge = problem(&rt, alloc, 6, &texts, Colour::White, "acbc", region);
     let shared = found_plainly(&rt, alloc, &edge, 10_000);
     expect_same(&rt, shared.winner, Colour::Black);
-    match claim_with_lemmas(alloc, &edge, &shared, ALL) {
+    let mut nodes = MAX_TRIED;
+    match claim_with_lemmas(alloc, &edge, &shared, ALL, &mut nodes) {
         Ok(claim) => {
             expect_same(&rt, claim.version, Version::Two);
             expect_that(&rt, needs_what_was_played(&edge, &claim));

@@ -3,12 +3,14 @@
 use crate::expect::{expect_same, expect_that};
 use crate::positions::{Position, problem_of};
 use cert_check::check_held;
-use claim_maker::{Choice, Pasts, Saving, claim_with_lemmas, claim_without_lemmas};
+use claim_maker::{
+    Choice, MAX_TRIED, Pasts, Saving, claim_with_lemmas, claim_without_lemmas,
+};
 use df_pn::Search;
 use go_points::Colour;
 use local_search::prove;
 use proof_cert::{Certificate, Version, write_cert};
-use state_proofs::{Answers, Proofs, Shared, Stop};
+use state_proofs::{Answers, Proofs, Refusal, Shared, Stop};
 use std::alloc::Global;
 use std::num::NonZeroUsize;
 use std::process::Abort;
@@ -117,7 +119,8 @@ pub fn saving(saving: Saving) -> Choice {
 fn wins(rt: &impl Abort, alloc: Global, problem: &Problem, winner: Colour, table: usize) -> usize {
     let shared = found(rt, alloc, problem, table);
     expect_same(rt, shared.winner, winner);
-    match claim_without_lemmas(alloc, problem, &shared) {
+    let mut nodes = MAX_TRIED;
+    match claim_without_lemmas(alloc, problem, &shared, &mut nodes) {
         Ok(claim) => expect_same(rt, accepted(rt, alloc, problem, claim), 0),
         Err(_) => panic!(rt; "a claim"),
     }
@@ -149,7 +152,8 @@ fn claimed(
     shared: &Shared,
     choice: Choice,
 ) -> Certificate {
-    match claim_with_lemmas(alloc, problem, shared, choice) {
+    let mut nodes = MAX_TRIED;
+    match claim_with_lemmas(alloc, problem, shared, choice, &mut nodes) {
         Ok(claim) => claim,
         Err(_) => panic!(rt; "a claim with lemmas"),
     }
@@ -219,13 +223,34 @@ fn the_ko_is_filled_where_it_opens(rt: HostRuntime) {
     let ko = problem(&rt, alloc, 3, &texts, Colour::Black, "aa", "bacc");
     let shared = found(&rt, alloc, &ko, 100);
     let mut text = Vec::new(alloc);
-    if let Ok(claim) = claim_without_lemmas(alloc, &ko, &shared) {
+    let mut nodes = MAX_TRIED;
+    if let Ok(claim) = claim_without_lemmas(alloc, &ko, &shared, &mut nodes) {
         expect_that(&rt, write_cert(&claim, &mut text).is_ok());
     }
     let expected =
         "tsucert 1 3 W\nmain\nall 2\nreply cc\nplay ba\nall 1\nreply pass\nplay pass\nwon\n\
         reply pass\nplay pass\nwon\nend\n";
     expect_same(&rt, text.as_slice(), expected.as_bytes());
+}
+
+// A claim takes its nodes from those that may be tried, and is not begun where one is missing.
+#[test]
+fn claims_share_the_nodes_that_may_be_tried(rt: HostRuntime) {
+    let alloc = rt.alloc();
+    let corner = problem(&rt, alloc, 3, &["O..X....."], Colour::White, "aa", "ba");
+    let shared = found(&rt, alloc, &corner, 100);
+    let mut nodes = MAX_TRIED;
+    expect_that(&rt, claim_without_lemmas(alloc, &corner, &shared, &mut nodes).is_ok());
+    let taken = MAX_TRIED.saturating_sub(nodes);
+    expect_that(&rt, taken > 0);
+    let mut enough = taken;
+    expect_that(&rt, claim_without_lemmas(alloc, &corner, &shared, &mut enough).is_ok());
+    expect_same(&rt, enough, 0);
+    let mut too_few = taken.saturating_sub(1);
+    match claim_without_lemmas(alloc, &corner, &shared, &mut too_few) {
+        Err(Refusal::Limit) => expect_same(&rt, too_few, taken.saturating_sub(1)),
+        _ => panic!(&rt; "a refusal"),
+    }
 }
 
 // White's stone has two liberties that no move of Black's can take.

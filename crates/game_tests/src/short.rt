@@ -3,7 +3,7 @@
 use crate::expect::{expect_same, expect_that};
 use crate::positions::{Position, points, problem_of};
 use crate::proof_numbers::{accepted, count_listed, problem, six_points};
-use claim_maker::claim_without_lemmas;
+use claim_maker::{MAX_TRIED, claim_without_lemmas};
 use full_search::first_win;
 use go_chains::ChainBoard;
 use go_points::{Colour, Turn};
@@ -263,8 +263,9 @@ fn a_search_without_shapes_has_no_leaves(rt: HostRuntime) {
         Answers::Short,
         &mut left,
     );
+    let mut nodes = MAX_TRIED;
     match shared {
-        Ok(shared) => match claim_without_lemmas(alloc, &corner, &shared) {
+        Ok(shared) => match claim_without_lemmas(alloc, &corner, &shared, &mut nodes) {
             Ok(claim) => expect_same(&rt, accepted(&rt, alloc, &corner, claim), 0),
             Err(_) => panic!(&rt; "a claim"),
         },
@@ -302,8 +303,9 @@ fn a_leaf_is_shared(rt: HostRuntime) {
         .add(settled, &[branch], reached, &[])
         .expect(&rt, "memory");
     let line = Line::of(alloc, &corner).expect(&rt, "memory");
+    let mut nodes = MAX_TRIED;
     match share(alloc, line, proofs, root) {
-        Ok(shared) => match claim_without_lemmas(alloc, &corner, &shared) {
+        Ok(shared) => match claim_without_lemmas(alloc, &corner, &shared, &mut nodes) {
             Ok(claim) => expect_that(&rt, is_turn_to_leaf(&rt, &claim.main, "ba")),
             Err(_) => panic!(&rt; "a claim"),
         },

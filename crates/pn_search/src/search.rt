@@ -8,7 +8,9 @@ ghost use Rattle.pn_search.specs.declared.verdict.Cause.TheVariants.{Steps, Memo
 
 use crate::verdict::{Budget, Cause, Verdict};
 use cert_check::{Checked, Why, check_held};
-use claim_maker::{Choice, Pasts, Saving, claim_with_lemmas, claim_without_lemmas, share_tree};
+use claim_maker::{
+    Choice, MAX_TRIED, Pasts, Saving, claim_with_lemmas, claim_without_lemmas, share_tree,
+};
 use full_search::first_win;
 use go_points::{Colour, MAX_SIZE};
 use local_board::{MAX_PLACES, count_changing};
@@ -228,7 +230,8 @@ fn confirmed(alloc: Global, problem: Problem, winner: Colour, main: Node) -> Fou
     match share_tree(alloc, &problem, winner, &main) {
         Err(_) => confirmed_plainly(alloc, problem, winner, main),
         Ok(shared) => {
-            let claim = claim_with_lemmas(alloc, &problem, &shared, SHORT_CLAIMS);
+            let mut nodes = MAX_TRIED;
+            let claim = claim_with_lemmas(alloc, &problem, &shared, SHORT_CLAIMS, &mut nodes);
             match accepted(alloc, problem, claim) {
                 Ok(checked) => Ok(checked),
                 Err((problem, _)) => confirmed_without_pasts(alloc, problem, &shared, winner, main),
@@ -250,14 +253,16 @@ fn confirmed_without_pasts(
     ensures cause { IfErr result (λ r. r.1 ≢ Steps) }
     ensures refused { IfErr result (λ r. r.1 ≢ Memory → IsConfirmable problem winner main → ⊥) }
 {
-    let claim = claim_with_lemmas(alloc, &problem, shared, WITHOUT_PASTS);
+    let mut nodes = MAX_TRIED;
+    let claim = claim_with_lemmas(alloc, &problem, shared, WITHOUT_PASTS, &mut nodes);
     match accepted(alloc, problem, claim) {
         Ok(checked) => Ok(checked),
         Err((problem, _)) => confirmed_plainly(alloc, problem, winner, main),
     }
 }
 
-/// The claim of the proofs with lemmas, in the first of the choices for which the checker accepts it, otherwise without.
+/// The claim of the proofs with lemmas, in the first of the choices for which the checker accepts it, otherwise without. All choices
+/// share the nodes that may be tried.
 fn confirmed_in_turn(alloc: Global, problem: Problem, shared: Shared) -> Found
     ensures ok { IfOk result (λ c. c.problem ≡ problem) }
     ensures err { IfErr result (λ r. r.0 ≡ problem) }
@@ -267,14 +272,15 @@ fn confirmed_in_turn(alloc: Global, problem: Problem, shared: Shared) -> Found
         return Err((problem, Cause::Limit));
     }
     let mut rest = problem;
+    let mut nodes = MAX_TRIED;
     for choice in CHOICES {
-        let claim = claim_with_lemmas(alloc, &rest, &shared, choice);
+        let claim = claim_with_lemmas(alloc, &rest, &shared, choice, &mut nodes);
         match accepted(alloc, rest, claim) {
             Ok(checked) => return Ok(checked),
             Err((problem, _)) => rest = problem,
         }
     }
-    let claim = claim_without_lemmas(alloc, &rest, &shared);
+    let claim = claim_without_lemmas(alloc, &rest, &shared, &mut nodes);
     accepted(alloc, rest, claim)
 }
 

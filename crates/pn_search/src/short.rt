@@ -9,7 +9,9 @@ use crate::search::{
     LEMMA_TURNS, cause_of_refusal, cause_of_stop, proofs_of, steps_of_full_search,
 };
 use crate::verdict::{Budget, Cause};
-use claim_maker::{Choice, Pasts, Saving, claim_with_lemmas, claim_without_lemmas};
+use claim_maker::{
+    Choice, MAX_TRIED, Pasts, Saving, claim_with_lemmas, claim_without_lemmas,
+};
 use full_search::first_win;
 use go_points::Colour;
 use local_board::{MAX_PLACES, count_changing};
@@ -90,6 +92,7 @@ fn claim_of_proofs(
     if shared.proofs.len() > MAX_STATES {
         return Err(Cause::Limit);
     }
+    let mut nodes = MAX_TRIED;
     for saving in audience.savings() {
         let choice = Choice {
             pasts: Pasts::Needed,
@@ -97,13 +100,13 @@ fn claim_of_proofs(
             saving,
             otherwise: None,
         };
-        match claim_with_lemmas(alloc, problem, shared, choice) {
+        match claim_with_lemmas(alloc, problem, shared, choice, &mut nodes) {
             Ok(certificate) => return Ok(certificate),
             Err(Refusal::Limit) => {}
             Err(refusal) => return Err(cause_of_refusal(refusal)),
         }
     }
-    match claim_without_lemmas(alloc, problem, shared) {
+    match claim_without_lemmas(alloc, problem, shared, &mut nodes) {
         Ok(certificate) => Ok(certificate),
         Err(refusal) => Err(cause_of_refusal(refusal)),
     }

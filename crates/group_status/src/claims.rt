@@ -164,7 +164,7 @@ fn push_rows(text: &mut String, table: &Table, place: usize) -> Result<(), Alloc
         if row.place == Some(place) {
             write!(text, ", {count} points {walls}")?;
             is_named = true;
-        } else if row.forgotten == Some(place) {
+        } else if row.without_past == Some(place) {
             write!(text, ", {count} points {walls} without the past")?;
             is_named = true;
         }

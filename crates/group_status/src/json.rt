@@ -159,7 +159,7 @@ fn push_row(text: &mut String, group: &Group, table: &Table, row: &Row) -> Resul
         table.winner_at(row.place, group.defender),
     )?;
     push_cause(text, table, row)?;
-    push_forgotten(text, group, table, row)?;
+    push_winner_without_past(text, group, table, row)?;
     push_move(text, group, table, row)?;
     let size = group.position.colouring().size();
     push_points(text, "inside", size, &row.inside)?;
@@ -196,17 +196,17 @@ pub(crate) fn cause_name(cause: Cause) -> &'static str {
     }
 }
 
-/// Appends who wins if the past is forgotten, if the past bars a turn.
-fn push_forgotten(
+/// Appends who wins without the past, if the past bars a turn.
+fn push_winner_without_past(
     text: &mut String,
     group: &Group,
     table: &Table,
     row: &Row,
 ) -> Result<(), AllocError> {
-    if row.forgotten.is_none() {
+    if row.without_past.is_none() {
         return Ok(());
     }
-    let winner = table.winner_at(row.forgotten, group.defender);
+    let winner = table.winner_at(row.without_past, group.defender);
     push_named_winner(text, "winner_without_past", group.defender, winner)
 }
 

@@ -43,7 +43,7 @@ pub(crate) fn push_all_walls(
     Ok(())
 }
 
-/// Appends a line if a winner depends on who took last, with what happens at which sizes if the past is forgotten.
+/// Appends a line if a winner depends on who took last, with what happens at which sizes without the past.
 pub(crate) fn push_ko(
     text: &mut String,
     table: &Table,
@@ -59,7 +59,7 @@ pub(crate) fn push_ko(
                 ", "
             })?;
             is_first = false;
-            let end = end_name(table.winner_at(row.forgotten, defender));
+            let end = end_name(table.winner_at(row.without_past, defender));
             let count = row.count;
             let walls = row.walls.name();
             write!(text, "{end} at {count} ({walls})")?;

@@ -78,7 +78,7 @@ pub(crate) fn solutions(
 
 /// The position in the record: with the group's past if that bars a turn, and otherwise alone.
 fn shown_past(alloc: Global, group: &Group, table: &Table) -> Result<Problem, AllocError> {
-    if table.rows.iter().any(|row| row.forgotten.is_some()) {
+    if table.rows.iter().any(|row| row.without_past.is_some()) {
         return group.problem.copy(alloc);
     }
     match without_past(alloc, &group.problem)? {

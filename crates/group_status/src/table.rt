@@ -25,7 +25,7 @@ pub(crate) struct Row {
     /// The place of the problem among those that were asked. `None` if there is no such problem.
     pub(crate) place: Option<usize>,
     /// The place of the same problem without its past, if a position of the past bars a turn of the mover.
-    pub(crate) forgotten: Option<usize>,
+    pub(crate) without_past: Option<usize>,
     pub(crate) inside: PointSet,
     pub(crate) shut: PointSet,
     pub(crate) given: PointSet,
@@ -97,10 +97,11 @@ impl Table {
         Some((asked.cause?, asked.steps))
     }
 
-    /// Whether the winner of the row depends on who took last.
+    /// Whether the winner of the row depends on who took last: one side wins with the past, and the other without.
     pub(crate) fn is_ko(&self, row: &Row, defender: Colour) -> bool {
-        row.forgotten.is_some()
-            && self.winner_at(row.place, defender) != self.winner_at(row.forgotten, defender)
+        let with_past = self.winner_at(row.place, defender);
+        let without_past = self.winner_at(row.without_past, defender);
+        with_past.is_some() && without_past.is_some() && with_past != without_past
     }
 
     /// Forgets on which questions findings stand, before others are made.
@@ -205,7 +206,7 @@ pub(crate) fn question<N: Write>(
         return Ok(None);
     };
     let problem = group.problem_of(alloc, &supposed, group.target, first)?;
-    let forgotten = place_forgotten(alloc, table, problem.as_ref())?;
+    let without_past = place_without_past(alloc, table, problem.as_ref())?;
     let place = place_asked(alloc, table, problem)?;
     let winner = table.winner_at(place, group.defender);
     let row = Row {
@@ -213,7 +214,7 @@ pub(crate) fn question<N: Write>(
         count,
         walls,
         place,
-        forgotten,
+        without_past,
         inside: supposed.inside,
         shut,
         given: supposed.given,
@@ -227,7 +228,7 @@ pub(crate) fn question<N: Write>(
 }
 
 /// The place of the same problem without its past, which is also asked if the past bars a turn.
-fn place_forgotten(
+fn place_without_past(
     alloc: Global,
     table: &mut Table,
     problem: Option<&Problem>,

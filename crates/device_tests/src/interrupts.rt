@@ -3,12 +3,13 @@
 ghost use Rattle.std.specs.Prelude.{◌≡◌};
 
 use crate::expect::expect_written;
+use run_parts::Status;
 use std::alloc::{AllocGlobal, Global};
 use std::io;
 use std::io::{ErrorKind, Read, Write};
 use std::process::Abort;
 use std::rt::Env;
-use tool_parts::{Status, exit_code, read_whole, write_text};
+use tool_parts::{exit_code, read_whole, write_text};
 
 /// A reader or a writer whose next calls are interrupted.
 #[derive(Drop)]

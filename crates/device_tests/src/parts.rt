@@ -2,10 +2,11 @@
 
 use crate::expect::{expect_bytes, expect_that, expect_written};
 use record_pages::descending;
+use run_parts::Status;
 use sgf_text::read_tree;
 use std::alloc::AllocError;
 use std::process::Abort;
-use tool_parts::{Output, Status, copy_tree, read_whole, write_output};
+use tool_parts::{Output, copy_tree, read_whole, write_output};
 
 const RECORD: &str = "(;SZ[9]C[a\\]b];B[aa](;W[bb](;B[])(;B[cc]LB[dd:A][ee:B]))(;W[]))";
 
@@ -54,7 +55,7 @@ fn what_failed_is_said(rt: HostRuntime) {
 #[test]
 fn exit_codes(rt: HostRuntime) {
     expect_code(&rt, Status::Answered, 0);
-    expect_code(&rt, Status::Rejected, 1);
+    expect_code(&rt, Status::Unanswered, 1);
     expect_code(&rt, Status::Refused, 2);
     expect_code(&rt, Status::BadWords, 3);
     expect_code(&rt, Status::Failed, 4);

@@ -7,7 +7,7 @@ use Rattle.tsumego_problem.specs.Walk.{problem_within, history_limit}
 use Rattle.tool_parts.specs.Written.{end_of}
 use Rattle.tool_parts.specs.declared.output.Output.{Output}
 use Rattle.tool_parts.specs.declared.output.Output.TheVariants.{Record, Text}
-use Rattle.tool_parts.specs.declared.status.Status.TheVariants.{Refused}
+use Rattle.run_parts.specs.declared.status.Status.TheVariants.{Refused}
 use Rattle.first_moves.specs.declared.line_solution.LineSolution.{LineSolution}
 use Rattle.first_moves.specs.declared.names.Names.{Names}
 use Rattle.first_moves.specs.declared.words.Form.{Form}

@@ -10,7 +10,7 @@ use Rattle.target_game.specs.State.{GameProblem, start}
 use Rattle.tsumego_problem.specs.Walk.{problem_within, history_limit}
 use Rattle.tool_parts.specs.declared.output.Output.{Output}
 use Rattle.tool_parts.specs.declared.output.Output.TheVariants.{Record, Text}
-use Rattle.tool_parts.specs.declared.status.Status.TheVariants.{Answered}
+use Rattle.run_parts.specs.declared.status.Status.TheVariants.{Answered}
 use Rattle.first_moves.specs.declared.found.Found.{Found}
 use Rattle.first_moves.specs.declared.line.Later.{Later}
 use Rattle.first_moves.specs.declared.line_solution.LineSolution.{LineSolution}

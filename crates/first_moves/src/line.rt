@@ -11,13 +11,11 @@ use crate::found::{Found, Settings, judge_turns};
 use crate::judged::{Judged, problem_after};
 use cert_check::Checked;
 use go_points::Turn;
+use run_parts::MAX_TURNS;
 use solution_tree::{Answer, Expand, expand};
 use std::alloc::{AllocError, Global};
 use std::io::Write;
 use target_game::{PlayState, Problem, State};
-
-/// The most turns of an answer tree along which a line is followed, and of all answer trees of a record.
-pub(crate) const MOST_TURNS: usize = 90_000;
 
 /// A position of the line: the turns since the problem that lead to it, and the problem there, with all earlier positions.
 #[derive(Drop)]
@@ -63,7 +61,7 @@ pub(crate) fn judge_line<N: Write>(
             is_whole: true,
         });
     };
-    match expand(alloc, checked, MOST_TURNS) {
+    match expand(alloc, checked, MAX_TURNS) {
         Ok(answer) => judge_along(alloc, problem, &answer, depth, settings, notes),
         Err(Expand::TooLarge) => Ok(Line {
             later: none,

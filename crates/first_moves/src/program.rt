@@ -3,7 +3,7 @@
 ghost use Rattle.std.specs.Prelude.{◌≡◌, List, IfOk, IfSome};
 ghost use Rattle.tool_parts.specs.Answered.{HasAnswered, IsAnswered};
 ghost use Rattle.tool_parts.specs.Written.{end_of};
-ghost use Rattle.tool_parts.specs.declared.status.Status.TheVariants.{Answered};
+ghost use Rattle.run_parts.specs.declared.status.Status.TheVariants.{Answered};
 ghost use Rattle.first_moves.specs.Outputs.{IsInForm, IsLineSolution, IsList, IsOutput, names_of};
 ghost use Rattle.first_moves.specs.Text.{long_list, short_list};
 ghost use Rattle.first_moves.specs.declared.line_solution.LineSolution.{LineSolution};
@@ -15,19 +15,17 @@ use crate::names::Names;
 use crate::record::moves_record;
 use crate::words::{Form, Request};
 use pn_search::Budget;
+use run_parts::{Status, TABLE};
 use sgf_text::read_tree;
 use std::alloc::{AllocError, Global};
 use std::io::{Read, Write};
 use std::num::NonZeroUsize;
 use target_game::Problem;
 use tool_parts::{
-    NoRequest, Output, Status, read_whole, refused_problem, refused_tree, without_input,
-    without_request, write_output,
+    NoRequest, Output, read_whole, refused_problem, refused_tree, without_input, without_request,
+    write_output,
 };
 use tsumego_problem::read_problem;
-
-/// The greatest number of entries of the search's table.
-const TABLE: usize = 65_536;
 
 /// Runs the program for what its words ask for, if they ask for something. How far it is goes to `notes`.
 ///

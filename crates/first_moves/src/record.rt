@@ -8,13 +8,14 @@ ghost use Rattle.first_moves.specs.Branch.{label_text, HasLabel, IsLabelled};
 
 use crate::found::{Found, Tally};
 use crate::judged::Judged;
-use crate::line::{Line, MOST_TURNS};
+use crate::line::Line;
 use crate::line_record::with_line;
 use crate::list::solution_text;
 use crate::reading::reading_by;
 use cert_check::Checked;
 use go_points::Colour;
 use pn_search::Budget;
+use run_parts::MAX_TURNS;
 use sgf_text::{SgfNode, Tree};
 use solution_tree::{Expand, expand, to_sgf};
 use std::alloc::{AllocError, Global};
@@ -23,7 +24,7 @@ use tool_parts::{copy_properties, push_nodes, push_trees, single, winner_said};
 use tsumego_problem::{first_marked, marks_node, past_nodes, turn_node, values_at};
 
 /// The greatest number of turns of an answer tree below a right turn that is always played out.
-const MOST_PLAYED_OUT: usize = 1_000;
+const MAX_PLAYED_OUT: usize = 1_000;
 
 /// The kinds of branches, in the order in which they are written.
 #[derive(Clone, Copy, Debug, PartialEq, Eq)]
@@ -50,7 +51,7 @@ pub(crate) fn moves_record(
     let said = solution_text(alloc, tally, line)?;
     nodes.push(with_comment(alloc, &marks, None, said.as_str())?)?;
     let mut branches = Vec::new(alloc);
-    let mut left = MOST_TURNS;
+    let mut left = MAX_TURNS;
     for kind in [Kind::Right, Kind::Wrong, Kind::Unknown] {
         push_branches(
             alloc,
@@ -225,7 +226,7 @@ fn read_out(
     let Some(budget) = short else {
         return Ok(None);
     };
-    match expand(alloc, checked, MOST_PLAYED_OUT.min(*left)) {
+    match expand(alloc, checked, MAX_PLAYED_OUT.min(*left)) {
         Ok(_) => return Ok(None),
         Err(Expand::TooLarge) => {}
         Err(Expand::Memory) => return Err(AllocError),

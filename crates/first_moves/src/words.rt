@@ -2,16 +2,14 @@
 
 use clap::builder::ValueParser;
 use clap::{Arg, ArgAction, ArgMatches};
+use run_parts::MAX_STEPS;
 use std::alloc::{AllocError, Global};
 use std::convert::AsStr;
 use tool_parts::{NoRequest, no_request};
 use tsumego_version::VERSION;
 
-/// The greatest number of steps that may be asked for.
-const MOST_STEPS: u64 = 10_000_000;
-
 /// The greatest number of turns of a line that may be asked for.
-const MOST_DEPTH: u64 = 50;
+const MAX_DEPTH: u64 = 50;
 
 /// The form in which the answer is written.
 #[derive(Clone, Copy, Debug, PartialEq, Eq)]
@@ -88,7 +86,7 @@ fn steps_argument<'a>(alloc: Global) -> Arg<'a> {
         .help("The most steps of the search after each turn, 1 to 10000000")
         .long("steps")
         .value_name("N")
-        .value_parser(ValueParser::unsigned(1, MOST_STEPS))
+        .value_parser(ValueParser::unsigned(1, MAX_STEPS))
         .default_value("100000")
 }
 
@@ -97,7 +95,7 @@ fn depth_argument<'a>(alloc: Global) -> Arg<'a> {
         .help("Judges the winner's turns on the line too, up to its Nth, 1 to 50")
         .long("depth")
         .value_name("N")
-        .value_parser(ValueParser::unsigned(1, MOST_DEPTH))
+        .value_parser(ValueParser::unsigned(1, MAX_DEPTH))
         .default_value("1")
 }
 

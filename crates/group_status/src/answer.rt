@@ -17,9 +17,10 @@ use group_words::{Finding, Form, Judgement, Request, Side};
 use pn_search::Budget;
 use proved_groups::{AnswerTo, FirstMoves, Proven, answer_to, lives_anywhere, proven_stone};
 use regions::named_point;
+use run_parts::Status;
 use std::alloc::{AllocError, Global};
 use std::io::Write;
-use tool_parts::{Output, Status, refused};
+use tool_parts::{Output, refused};
 
 /// What is written of the group.
 pub(crate) fn answered<N: Write>(

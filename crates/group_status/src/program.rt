@@ -11,19 +11,15 @@ use group_words::{
 };
 use pn_search::Budget;
 use record_marks::{NoStone, marked_problem, position_problem, stone_problem};
+use run_parts::{Status, TABLE};
 use sgf_text::{Tree, read_tree, write_bytes};
 use std::alloc::{AllocError, Global};
 use std::convert::AsStr;
 use std::io::{Read, Write};
 use std::num::NonZeroUsize;
 use target_game::Problem;
-use tool_parts::{
-    Output, Status, read_whole, refused, without_input, without_request, write_output,
-};
+use tool_parts::{Output, read_whole, refused, without_input, without_request, write_output};
 use tsumego_problem::ProblemFault;
-
-/// The greatest number of entries of the search's table.
-const TABLE: usize = 65_536;
 
 /// Runs the program on its words, the first of which is its name.
 pub fn run<S: AsStr, R: Read, W: Write, N: Write>(

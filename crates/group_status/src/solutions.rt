@@ -11,14 +11,12 @@ use crate::variation::{Question, alone, node_with, solved, tree_with};
 use go_points::{Colour, PointSet, Turn, to_sgf as letters_of};
 use group_words::{Finding, Side};
 use proved_groups::FirstMoves;
+use run_parts::MAX_TURNS;
 use sgf_text::{Bytes, Property, SgfNode, Tree, Values};
 use std::alloc::{AllocError, Global};
 use target_game::Problem;
 use tool_parts::{copy_properties, single};
 use tsumego_problem::{past_nodes, turn_node};
-
-/// The greatest number of turns of all solutions of a record.
-const MOST_TURNS: usize = 90_000;
 
 /// What is found if one side moves first.
 #[derive(Clone, Copy, Debug)]
@@ -57,7 +55,7 @@ pub(crate) fn solutions(
     let before = shown_past(alloc, group, table)?;
     let marks = Marks::of(group.position.stones(group.target), PointSet::new());
     let nodes = shown_nodes(alloc, &before, &marks, lines)?;
-    let mut left = MOST_TURNS;
+    let mut left = MAX_TURNS;
     let mut branches = Vec::new(alloc);
     for one in told {
         if first_moves

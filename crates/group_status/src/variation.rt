@@ -13,7 +13,7 @@ use tool_parts::{copy_properties, push_nodes, push_trees, single};
 use tsumego_problem::{marks_with_winner, past_nodes, turn_node};
 
 /// The greatest number of turns of an answer tree that plays everything out.
-const MOST_PLAYED_OUT: usize = 1_000;
+const MAX_PLAYED_OUT: usize = 1_000;
 
 /// A question whose solution is shown, and what is said of it.
 #[derive(Clone, Copy)]
@@ -70,7 +70,7 @@ fn played_out(
     checked: &Checked,
     left: &mut usize,
 ) -> Result<Option<Tree>, AllocError> {
-    let most = MOST_PLAYED_OUT.min(*left);
+    let most = MAX_PLAYED_OUT.min(*left);
     let answer = match expand(alloc, checked, most) {
         Ok(answer) => answer,
         Err(Expand::TooLarge) => return Ok(None),

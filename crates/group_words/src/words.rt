@@ -3,14 +3,12 @@
 use crate::side::Side;
 use clap::builder::ValueParser;
 use clap::{Arg, ArgAction, ArgMatches};
-use record_marks::{GREATEST_NUMBER, node_argument};
+use record_marks::{MAX_NODE_NUMBER, node_argument};
+use run_parts::MAX_STEPS;
 use std::alloc::{AllocError, Global};
 use std::convert::AsStr;
 use tool_parts::{NoRequest, no_request};
 use tsumego_version::VERSION;
-
-/// The greatest number of steps that may be asked for.
-const MOST_STEPS: u64 = 10_000_000;
 
 /// The numbers of steps that are taken if none is asked for: about one group, and about all groups of a position, of which a board
 /// of 19 rows has some sixty.
@@ -218,7 +216,7 @@ fn is_empty(given: &ArgMatches<'_>, id: &str) -> bool {
 /// The number of an argument.
 fn number(given: &ArgMatches<'_>, id: &str) -> Option<usize> {
     match given.get_one::<u64>(id) {
-        Some(number) if number <= GREATEST_NUMBER => Some(number as usize),
+        Some(number) if number <= MAX_NODE_NUMBER => Some(number as usize),
         _ => None,
     }
 }
@@ -318,7 +316,7 @@ fn steps_argument<'a>(alloc: Global) -> Arg<'a> {
         )
         .long("steps")
         .value_name("N")
-        .value_parser(ValueParser::unsigned(1, MOST_STEPS))
+        .value_parser(ValueParser::unsigned(1, MAX_STEPS))
 }
 
 fn quick_argument<'a>(alloc: Global) -> Arg<'a> {

@@ -7,7 +7,7 @@ use std::alloc::Global;
 use tsumego_problem::{has_setup, values_at};
 
 /// The greatest number that words may give to a node or a game: more than a record may have.
-pub const GREATEST_NUMBER: u64 = 1_000_000;
+pub const MAX_NODE_NUMBER: u64 = 1_000_000;
 
 /// The argument of a command line that names the node: `default_node` says which it is without.
 pub fn node_argument<'a>(alloc: Global) -> Arg<'a> {
@@ -17,7 +17,7 @@ pub fn node_argument<'a>(alloc: Global) -> Arg<'a> {
         )
         .long("node")
         .value_name("N")
-        .value_parser(ValueParser::unsigned(0, GREATEST_NUMBER))
+        .value_parser(ValueParser::unsigned(0, MAX_NODE_NUMBER))
 }
 
 /// The number of the main line's last node.

@@ -12,7 +12,7 @@ mod stones;
 mod supposing;
 
 pub use any_stone::position_problem;
-pub use asked_node::{GREATEST_NUMBER, default_node, last_node, node_argument};
+pub use asked_node::{MAX_NODE_NUMBER, default_node, last_node, node_argument};
 pub use marking::{MarkedRecord, Marks, Refusal, Region, marked_record, problem_of};
 pub use region::touches;
 pub use stone_problem_of::{NoStone, marked_problem, stone_problem};

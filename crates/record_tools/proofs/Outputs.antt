@@ -8,7 +8,7 @@ use Rattle.tsumego_problem.specs.Walk.{problem_within, history_limit}
 use Rattle.tool_parts.specs.Written.{end_of}
 use Rattle.tool_parts.specs.declared.output.Output.{Output}
 use Rattle.tool_parts.specs.declared.output.Output.TheVariants.{Record, Text}
-use Rattle.tool_parts.specs.declared.status.Status.TheVariants.{Refused}
+use Rattle.run_parts.specs.declared.status.Status.TheVariants.{Refused}
 use Rattle.record_marks.specs.declared.marking.Marks.{Marks}
 use Rattle.record_tools.specs.declared.words.Request.{Request}
 use Rattle.record_tools.specs.declared.words.Request.TheVariants as requests

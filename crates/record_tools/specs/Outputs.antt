@@ -10,7 +10,7 @@ use Rattle.tsumego_problem.specs.Walk.{problem_within, history_limit}
 use Rattle.record_pages.specs.Bare.{IsBare}
 use Rattle.tool_parts.specs.declared.output.Output.{Output}
 use Rattle.tool_parts.specs.declared.output.Output.TheVariants.{Record, Text}
-use Rattle.tool_parts.specs.declared.status.Status.TheVariants.{Answered}
+use Rattle.run_parts.specs.declared.status.Status.TheVariants.{Answered}
 use Rattle.record_marks.specs.declared.marking.Marks.{Marks}
 use Rattle.record_marks.specs.declared.marking.Region.{Region}
 use Rattle.record_marks.specs.declared.marking.Region.TheVariants as regions

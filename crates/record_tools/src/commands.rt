@@ -2,7 +2,7 @@
 
 use clap::builder::ValueParser;
 use clap::{Arg, ArgAction};
-use record_marks::{GREATEST_NUMBER, node_argument};
+use record_marks::{MAX_NODE_NUMBER, node_argument};
 use std::alloc::{AllocError, Global};
 use tsumego_version::VERSION;
 
@@ -38,7 +38,7 @@ fn split_command<'a>(alloc: Global) -> Result<clap::Command<'a>, AllocError> {
 fn tree_argument<'a>(alloc: Global) -> Arg<'a> {
     Arg::new(alloc, "N")
         .help("The number of the tree, from 1")
-        .value_parser(ValueParser::unsigned(1, GREATEST_NUMBER))
+        .value_parser(ValueParser::unsigned(1, MAX_NODE_NUMBER))
 }
 
 fn folder_argument<'a>(alloc: Global) -> Arg<'a> {
@@ -151,7 +151,7 @@ fn short_argument<'a>(alloc: Global) -> Arg<'a> {
         )
         .long("short")
         .value_name("N")
-        .value_parser(ValueParser::unsigned(0, GREATEST_NUMBER))
+        .value_parser(ValueParser::unsigned(0, MAX_NODE_NUMBER))
 }
 
 fn depth_argument<'a>(alloc: Global) -> Arg<'a> {
@@ -159,7 +159,7 @@ fn depth_argument<'a>(alloc: Global) -> Arg<'a> {
         .help("Shows at most N turns of each line")
         .long("depth")
         .value_name("N")
-        .value_parser(ValueParser::unsigned(0, GREATEST_NUMBER))
+        .value_parser(ValueParser::unsigned(0, MAX_NODE_NUMBER))
 }
 
 fn picture_command<'a>(alloc: Global) -> Result<clap::Command<'a>, AllocError> {
@@ -217,7 +217,7 @@ fn pictured_argument<'a>(alloc: Global) -> Arg<'a> {
         .help("The node of the main line, from 0 [default: the problem's]")
         .long("node")
         .value_name("N")
-        .value_parser(ValueParser::unsigned(0, GREATEST_NUMBER))
+        .value_parser(ValueParser::unsigned(0, MAX_NODE_NUMBER))
 }
 
 fn numbers_argument<'a>(alloc: Global) -> Arg<'a> {
@@ -225,7 +225,7 @@ fn numbers_argument<'a>(alloc: Global) -> Arg<'a> {
         .help("Shows the first N turns after that node too, with their numbers")
         .long("numbers")
         .value_name("N")
-        .value_parser(ValueParser::unsigned(0, GREATEST_NUMBER))
+        .value_parser(ValueParser::unsigned(0, MAX_NODE_NUMBER))
 }
 
 fn plain_argument<'a>(alloc: Global) -> Arg<'a> {

@@ -7,7 +7,7 @@ ghost use Rattle.record_marks.specs.Supposed.{IsMarkedBy};
 ghost use Rattle.record_tools.specs.Outputs.{AnswersRecord, IsAlone, IsMarkedIn, IsOutput, IsWritten, IsZone};
 ghost use Rattle.tool_parts.specs.Answered.{HasAnswered, IsAnswered};
 ghost use Rattle.tool_parts.specs.Written.{end_of};
-ghost use Rattle.tool_parts.specs.declared.status.Status.TheVariants.{Answered};
+ghost use Rattle.run_parts.specs.declared.status.Status.TheVariants.{Answered};
 
 use crate::bare::bare_record;
 use crate::games::game;
@@ -18,14 +18,14 @@ use crate::words::{PageForm, Request, Zone};
 use record_marks::{Marks, Region, Supposition, marked_record, supposed_record};
 use record_pages::{Cut, page_json, page_of};
 use record_pictures::{Look, View, ascii, drawing_of, svg};
+use run_parts::Status;
 use sgf_text::{SgfFault, Tree, read_tree};
 use std::alloc::{AllocError, Global};
 use std::io::{Read, Write};
 use std::rt::Files;
 use target_game::Problem;
 use tool_parts::{
-    NoRequest, Output, Status, read_whole, refused_tree, without_input, without_request,
-    write_output,
+    NoRequest, Output, read_whole, refused_tree, without_input, without_request, write_output,
 };
 
 /// Runs the program for what its words ask for, if they ask for something. What is said besides the answer goes to `notes`, and the

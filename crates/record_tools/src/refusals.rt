@@ -2,15 +2,16 @@
 
 ghost use Rattle.std.specs.Prelude.{◌≡◌, IfOk};
 ghost use Rattle.tool_parts.specs.Written.{end_of};
-ghost use Rattle.tool_parts.specs.declared.status.Status.TheVariants.{Refused};
+ghost use Rattle.run_parts.specs.declared.status.Status.TheVariants.{Refused};
 
 use go_points::{Turn, to_sgf};
 use record_marks::Refusal;
 use record_pages::NoPage;
 use record_pictures::NoPicture;
+use run_parts::Status;
 use solution_tree::AuditWhy;
 use std::alloc::{AllocError, Global};
-use tool_parts::{Output, Status, refused, refused_problem, text_of};
+use tool_parts::{Output, refused, refused_problem, text_of};
 
 /// Why no record was made.
 pub(crate) fn no_mark(alloc: Global, refusal: Refusal) -> Result<Output, AllocError>
@@ -77,13 +78,13 @@ pub(crate) fn no_page(alloc: Global, refusal: NoPage) -> Result<Output, AllocErr
             let node = fault.node;
             let why = why_text(alloc, fault.why)?;
             let text = format!(in alloc; "rejected node {node}: {why}\n")?;
-            Ok(Output::Text(text, Status::Rejected))
+            Ok(Output::Text(text, Status::Unanswered))
         }
         NoPage::WrongTurn => {
             let text = format!(in alloc;
                 "rejected: what stands below a first turn does not show what is said of it\n"
             )?;
-            Ok(Output::Text(text, Status::Rejected))
+            Ok(Output::Text(text, Status::Unanswered))
         }
         NoPage::NoWinner => refused(format!(in alloc;
             "refused: the comment of the problem node does not say who wins\n"

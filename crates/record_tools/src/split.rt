@@ -2,13 +2,14 @@
 
 use crate::parts::{first_tree, next_line_of_tree, part_length, text_after};
 use counted_devices::Counting;
+use run_parts::Status;
 use sgf_text::{SgfFault, read_tree, write_bytes};
 use std::alloc::{AllocError, Global};
 use std::fs;
 use std::fs::File;
 use std::io::Write;
 use std::rt::Files;
-use tool_parts::{Output, Status, write_record};
+use tool_parts::{Output, write_record};
 
 /// How far a file has been split.
 #[derive(Drop)]

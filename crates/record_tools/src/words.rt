@@ -3,7 +3,7 @@
 use crate::commands::program;
 use clap::ArgMatches;
 use go_points::Colour;
-use record_marks::GREATEST_NUMBER;
+use record_marks::MAX_NODE_NUMBER;
 use record_pages::Cut;
 use record_pictures::{Look, Scheme, Shown, View};
 use regions::Walls;
@@ -206,7 +206,7 @@ fn chosen_scheme(given: &ArgMatches<'_>) -> Scheme {
 /// The number of an argument.
 fn number(given: &ArgMatches<'_>, id: &str) -> Option<usize> {
     match given.get_one::<u64>(id) {
-        Some(number) if number <= GREATEST_NUMBER => Some(number as usize),
+        Some(number) if number <= MAX_NODE_NUMBER => Some(number as usize),
         _ => None,
     }
 }

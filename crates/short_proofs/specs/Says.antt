@@ -27,7 +27,7 @@ use Rattle.tool_parts.specs.Says.{colour_text, winner_text}
 use Rattle.tool_parts.specs.Written.{bytes_of, end_of}
 use Rattle.tool_parts.specs.declared.output.Output.{Output}
 use Rattle.tool_parts.specs.declared.output.Output.TheVariants.{Record}
-use Rattle.tool_parts.specs.declared.status.Status.TheVariants.{Answered, Rejected, Refused}
+use Rattle.run_parts.specs.declared.status.Status.TheVariants.{Answered, Rejected, Refused}
 use Rattle.short_proofs.specs.declared.words.Request.{Request}
 use Rattle.short_proofs.specs.declared.words.Request.TheVariants as asks
 

@@ -11,10 +11,11 @@ ghost use Rattle.short_proofs.specs.Says.{stones_text, while_text, SaysVerdict};
 use crate::standing::{push_stones, rejected};
 use dead_groups::{Verdict, judge};
 use go_points::{Colour, Colouring};
+use run_parts::Status;
 use std::alloc::{AllocError, Global};
 use std::io::Read;
 use target_game::Problem;
-use tool_parts::{Output, Status, colour_name};
+use tool_parts::{Output, colour_name};
 
 /// What is said of the claim of death in these bytes and in what the reader has after them.
 pub(crate) fn judged_death<R: Read>(

@@ -5,7 +5,7 @@ ghost use Rattle.cert_check.specs.declared.reject.Why.TheVariants.{Memory as Mem
 ghost use Rattle.target_game.specs.State.{start};
 ghost use Rattle.target_game.specs.Wins.{Wins};
 ghost use Rattle.tool_parts.specs.Written.{bytes_of, end_of};
-ghost use Rattle.tool_parts.specs.declared.status.Status.TheVariants.{Answered};
+ghost use Rattle.run_parts.specs.declared.status.Status.TheVariants.{Answered};
 ghost use Rattle.tsumego_replies.specs.Texts.{wins_text};
 ghost use Rattle.short_proofs.specs.Says.{IsRejection, Says, SaysVerdict};
 ghost use Rattle.short_proofs.specs.declared.words.Request.TheVariants.{Check};
@@ -15,10 +15,11 @@ use crate::standing::judged_answers;
 use cert_check::{Reject, Why, check_short};
 use go_points::{Colour, Size};
 use proof_cert::ReaderSource;
+use run_parts::Status;
 use std::alloc::{AllocError, Global};
 use std::io::Read;
 use target_game::Problem;
-use tool_parts::{Output, Status, without_input};
+use tool_parts::{Output, without_input};
 use tsumego_problem::skip_white;
 use tsumego_replies::{MAX_WHITE, White, read_past_white, reject_text, wins_text};
 
@@ -163,7 +164,7 @@ fn rejected_line(
         return not_alive(alloc, reject.place);
     }
     let text = reject_text(alloc, size, reject)?;
-    Ok(Output::Text(text, Status::Rejected))
+    Ok(Output::Text(text, Status::Unanswered))
 }
 
 /// That the line of this number, which says that the targets live, is refused.
@@ -171,5 +172,5 @@ fn not_alive(alloc: Global, place: u64) -> Result<Output, AllocError>
     ensures { IfOk result IsRejection }
 {
     let text = format!(in alloc; "rejected line {place}: C20 not alive by shape\n")?;
-    Ok(Output::Text(text, Status::Rejected))
+    Ok(Output::Text(text, Status::Unanswered))
 }

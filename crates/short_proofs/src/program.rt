@@ -5,7 +5,7 @@ ghost use Rattle.sgf_text.specs.Text.{tree_text};
 ghost use Rattle.tsumego_replies.specs.Texts.{line};
 ghost use Rattle.target_game.specs.State.{start};
 ghost use Rattle.tool_parts.specs.Written.{bytes_of, end_of};
-ghost use Rattle.tool_parts.specs.declared.status.Status.TheVariants.{Answered};
+ghost use Rattle.run_parts.specs.declared.status.Status.TheVariants.{Answered};
 ghost use Rattle.tsumego_problem.specs.Walk.{problem_within, history_limit};
 ghost use Rattle.short_proofs.specs.Says.{IsRecordWith, IsSaidOf, Says};
 ghost use Rattle.short_proofs.specs.declared.words.Request.TheVariants.{Prove as ProveAsked, Tree as TreeAsked};
@@ -16,6 +16,7 @@ use crate::reading::{Reading, find_reading};
 use crate::whole::{Found, find_claim};
 use crate::words::{Request, read_request};
 use pn_search::{Audience, Budget, Cause};
+use run_parts::{InputEnd, MAX_FRONT, MAX_TURNS, Status, TABLE, read_to_limit};
 use sgf_text::{Tree, WriteFault, read_tree, write_bytes, write_tree};
 use std::alloc::{AllocError, Global};
 use std::convert::AsStr;
@@ -23,20 +24,10 @@ use std::io::{Read, Write};
 use std::num::NonZeroUsize;
 use target_game::Problem;
 use tool_parts::{
-    Output, Status, refused_problem, refused_tree, text_of, without_input, without_request,
-    write_output,
+    Output, refused_problem, refused_tree, text_of, without_input, without_request, write_output,
 };
 use tsumego_problem::{problem_tree, read_problem};
-use tsumego_replies::{InputEnd, TOO_LARGE, read_to_limit, unknown_text};
-
-/// The greatest number of entries of the search's table.
-const TABLE: usize = 65_536;
-
-/// The greatest number of turns of a record for readers, as in an answer tree of `tsumego solve`.
-const MOST_TURNS: usize = 90_000;
-
-/// How much of the input is read before the record is: more than a record may have.
-const MAX_FRONT: usize = 1_048_577;
+use tsumego_replies::{TOO_LARGE, unknown_text};
 
 /// Runs the program on its words, the first of which is its name.
 pub fn run<S: AsStr, R: Read, W: Write>(
@@ -159,7 +150,7 @@ fn with_claim(alloc: Global, problem: &Problem, claim: &[u8]) -> Result<Output, 
 fn read_out(alloc: Global, problem: &Problem, budget: Budget) -> Result<Output, AllocError>
     ensures { (steps : _) → IfOk result (Says (TreeAsked steps) problem.now) }
 {
-    match find_reading(alloc, problem, budget, MOST_TURNS)? {
+    match find_reading(alloc, problem, budget, MAX_TURNS)? {
         Reading::Wins {
             winner: _,
             turns: _,
@@ -173,7 +164,7 @@ fn read_out(alloc: Global, problem: &Problem, budget: Budget) -> Result<Output, 
 fn too_large(alloc: Global) -> Result<Output, AllocError>
     ensures { IfOk result (λ o. end_of o ≢ Answered) }
 {
-    Ok(Output::Text(text_of(alloc, TOO_LARGE)?, Status::Rejected))
+    Ok(Output::Text(text_of(alloc, TOO_LARGE)?, Status::Unanswered))
 }
 
 /// Appends the record, a line feed and the claim.
@@ -196,6 +187,6 @@ fn unknown(alloc: Global, cause: Cause, steps: u64) -> Result<Output, AllocError
 {
     match cause {
         Cause::Memory => Err(AllocError),
-        _ => Ok(Output::Text(unknown_text(alloc, cause, steps)?, Status::Rejected)),
+        _ => Ok(Output::Text(unknown_text(alloc, cause, steps)?, Status::Unanswered)),
     }
 }

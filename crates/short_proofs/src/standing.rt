@@ -8,11 +8,12 @@ ghost use Rattle.tool_parts.specs.Written.{bytes_of, end_of};
 ghost use Rattle.short_proofs.specs.Says.{first_text, spaced, stones_text, IsRejection, SaysVerdict};
 
 use go_points::{Cell, Colour, Colouring, Point, to_sgf};
+use run_parts::Status;
 use safe_groups::{Reject, Stop, Verdict, judge};
 use std::alloc::{AllocError, Global};
 use std::io::Read;
 use target_game::Problem;
-use tool_parts::{Output, Status, colour_name, without_input};
+use tool_parts::{Output, colour_name, without_input};
 
 /// What is said of the claim of life by answers in these bytes and in what the reader has after them.
 pub(crate) fn judged_answers<R: Read>(
@@ -107,7 +108,7 @@ pub(crate) fn rejected(alloc: Global, reject: &Reject) -> Result<Output, AllocEr
             let place = reject.line;
             let why = fault.text(alloc)?;
             let text = format!(in alloc; "rejected line {place}: {why}\n")?;
-            Ok(Output::Text(text, Status::Rejected))
+            Ok(Output::Text(text, Status::Unanswered))
         }
     }
 }

@@ -2,13 +2,11 @@
 
 use clap::builder::ValueParser;
 use clap::{Arg, ArgAction, ArgMatches};
+use run_parts::MAX_STEPS;
 use std::alloc::{AllocError, Global};
 use std::convert::AsStr;
 use tool_parts::{NoRequest, no_request};
 use tsumego_version::VERSION;
-
-/// The greatest number of steps that may be asked for.
-const MOST_STEPS: u64 = 10_000_000;
 
 /// What the words ask for.
 #[derive(Clone, Copy, Debug, PartialEq, Eq)]
@@ -102,6 +100,6 @@ fn steps_argument<'a>(alloc: Global) -> Arg<'a> {
         .help("The most steps of the search, 1 to 10000000")
         .long("steps")
         .value_name("N")
-        .value_parser(ValueParser::unsigned(1, MOST_STEPS))
+        .value_parser(ValueParser::unsigned(1, MAX_STEPS))
         .default_value("100000")
 }

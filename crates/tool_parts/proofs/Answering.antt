@@ -6,8 +6,8 @@ use Rattle.tool_parts.specs.Answered.{HasAnswered, IsAnswered}
 use Rattle.tool_parts.specs.Input.{Tells}
 use Rattle.tool_parts.specs.Written.{bytes_of, end_of}
 use Rattle.tool_parts.specs.declared.output.Output.{Output}
-use Rattle.tool_parts.specs.declared.status.Status.{Status}
-use Rattle.tool_parts.specs.declared.status.Status.TheVariants.{Answered, Failed}
+use Rattle.run_parts.specs.declared.status.Status.{Status}
+use Rattle.run_parts.specs.declared.status.Status.TheVariants.{Answered, Failed}
 use Rattle.tool_parts.specs.declared.words.NoRequest.{NoRequest}
 
 -- an output that is no answer, and one that may be

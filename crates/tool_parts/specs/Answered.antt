@@ -6,7 +6,7 @@ use Rattle.std.specs.Io.KnownBytes.{Appends}
 use Rattle.tool_parts.specs.Input.{Tells}
 use Rattle.tool_parts.specs.Written.{bytes_of, end_of}
 use Rattle.tool_parts.specs.declared.output.Output.{Output}
-use Rattle.tool_parts.specs.declared.status.Status.TheVariants.{Answered}
+use Rattle.run_parts.specs.declared.status.Status.TheVariants.{Answered}
 use Rattle.tool_parts.specs.declared.words.NoRequest.{NoRequest}
 
 -- the output is the one for the request, if there is one, and for all that the reader has

@@ -7,9 +7,9 @@ mod input;
 mod output;
 mod program;
 mod refusals;
-mod status;
 mod texts;
 mod words;
+mod writing;
 
 pub use colours::{colour_letter, colour_name, winner_said};
 pub use copies::{
@@ -20,6 +20,6 @@ pub use input::read_whole;
 pub use output::{Output, without_input, without_request, write_output};
 pub use program::exit_code;
 pub use refusals::{refused, refused_problem, refused_tree};
-pub use status::{Status, write_record, write_text};
 pub use texts::text_of;
 pub use words::{NoRequest, no_request};
+pub use writing::{write_record, write_text};

@@ -4,11 +4,12 @@ ghost use Rattle.std.specs.Prelude.{◌≡◌, ◌≢◌, codes, IfOk, IsTrue, O
 ghost use Rattle.std.specs.Io.KnownBytes.{Appends};
 ghost use Rattle.tool_parts.specs.Written.{bytes_of, end_of};
 ghost use Rattle.tool_parts.specs.declared.output.Output.TheVariants.{Text};
-ghost use Rattle.tool_parts.specs.declared.status.Status.TheVariants.{BadWords, Failed};
+ghost use Rattle.run_parts.specs.declared.status.Status.TheVariants.{BadWords, Failed};
 ghost use Rattle.tool_parts.specs.declared.words.NoRequest.TheVariants.{Words};
 
-use crate::status::{Status, write_record, write_text};
+use crate::writing::{write_record, write_text};
 use crate::words::NoRequest;
+use run_parts::Status;
 use sgf_text::Tree;
 use std::alloc::{AllocError, Global};
 use std::io::Write;

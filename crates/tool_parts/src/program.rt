@@ -1,13 +1,15 @@
 //! What the `main` of a helper program does: it reads the words, makes the devices, and ends with an exit code.
 
 ghost use Rattle.std.specs.Prelude.{◌≡◌, ◌⊎◌};
-ghost use Rattle.tool_parts.specs.Codes.{code_of, IsWordless};
-ghost use Rattle.tool_parts.specs.declared.status.Status.{Status};
+ghost use Rattle.run_parts.specs.Codes.{code_of};
+ghost use Rattle.tool_parts.specs.Written.{IsWordless};
+ghost use Rattle.run_parts.specs.declared.status.Status.{Status};
 
 use crate::output::write_output;
-use crate::status::{Status, write_text};
+use crate::writing::write_text;
 use crate::words::NoRequest;
 use counted_devices::Counting;
+use run_parts::Status;
 use std::alloc::{AllocError, AllocGlobal};
 use std::env;
 use std::io::{ErrorKind, Read, Write};

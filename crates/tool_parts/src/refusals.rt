@@ -3,10 +3,10 @@
 ghost use Rattle.std.specs.Prelude.{◌≡◌, IfOk, Ok};
 ghost use Rattle.tool_parts.specs.Written.{end_of};
 ghost use Rattle.tool_parts.specs.declared.output.Output.TheVariants.{Text};
-ghost use Rattle.tool_parts.specs.declared.status.Status.TheVariants.{Refused};
+ghost use Rattle.run_parts.specs.declared.status.Status.TheVariants.{Refused};
 
 use crate::output::Output;
-use crate::status::Status;
+use run_parts::Status;
 use sgf_text::SgfFault;
 use std::alloc::{AllocError, Global};
 use tsumego_problem::{ProblemFault, TurnFaultCause};

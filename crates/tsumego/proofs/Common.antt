@@ -30,8 +30,8 @@ pub use Rattle.tsumego_replies.proofs.Saying.{some_bytes}
 pub use Rattle.tsumego_replies.specs.Answers.{Says, SaysFailure, audit_answer, check_answer, within_answer}
 pub use Rattle.tsumego_replies.specs.Solutions.{MayAnswer, SolvedBy}
 pub use Rattle.tsumego_replies.specs.Texts.{no_memory_text, no_read_text, line, too_large_text}
-pub use Rattle.tsumego_replies.specs.declared.status.Status.{Status}
-pub use Rattle.tsumego_replies.specs.declared.status.Status.TheVariants.{Failed, Answered, Unanswered}
+pub use Rattle.run_parts.specs.declared.status.Status.{Status}
+pub use Rattle.run_parts.specs.declared.status.Status.TheVariants.{Failed, Answered, Unanswered}
 pub use Rattle.tsumego.specs.Devices.{ReadFails}
 pub use Rattle.tsumego.specs.Outcome.{RanOn, EndsOn, MaySay, Outcome}
 pub use Rattle.tsumego.specs.Private.Written.{Writes, IsSolutionOf}

@@ -2,7 +2,7 @@
 use Rattle.tsumego.proofs.Common.{◌≡◌, ℕ, false, List, [], ◌++◌, Option, Some, None, Result, Ok, Err, inl, inr, ◌⊎◌, sym, ◌∙◌, ap, subst, Colour, start, decision, Within as Decision, Verdict, accepted, rejected, Fault, audit, Command, Check, Audit, Solve, Gtp, Status, Failed, is_session, no_memory_text, no_read_text, Says, SaysFailure, check_answer, audit_answer, within_answer, Tells, Outcome, MaySay, RanOn, Writes, some_bytes}
 use Rattle.target_game.specs.declared.within.Within.TheVariants as decided
 use Rattle.tsumego_words.specs.declared.command_line.Command.TheVariants.{Within}
-use Rattle.tsumego_replies.specs.declared.status.Status.TheVariants.{BadWords}
+use Rattle.run_parts.specs.declared.status.Status.TheVariants.{BadWords}
 use Rattle.tsumego_replies.specs.Answers.{PassesBound}
 use Rattle.tsumego.specs.Devices.{PassesLimit}
 use Rattle.tsumego.specs.Outcome.{Explains}

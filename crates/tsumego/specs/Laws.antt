@@ -16,7 +16,7 @@ use Rattle.tsumego_problem.specs.StandsFor.{StandsFor}
 use Rattle.tsumego_problem.specs.Below.{Below}
 use Rattle.tsumego_problem.specs.Canonical.{solution}
 use Rattle.tsumego_words.specs.declared.command_line.Command.TheVariants as command
-use Rattle.tsumego_replies.specs.declared.status.Status.TheVariants.{Answered}
+use Rattle.run_parts.specs.declared.status.Status.TheVariants.{Answered}
 use Rattle.cert_check.specs.Verdict.{Verdict, accepted}
 use Rattle.gtp_core.specs.Lines.{asks, raw_lines, request_of}
 use Rattle.gtp_core.specs.Words.{colour_named, success, turn_text}

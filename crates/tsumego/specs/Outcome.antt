@@ -11,8 +11,8 @@ use Rattle.gtp_core.specs.Lines.{raw_lines}
 use Rattle.gtp_core.specs.Runs.{IsRun, IsReadTo, HasRun, first_session}
 use Rattle.tsumego_words.specs.declared.command_line.Command.{Command}
 use Rattle.tsumego_words.specs.declared.command_line.Command.TheVariants.{Gtp}
-use Rattle.tsumego_replies.specs.declared.status.Status.{Status}
-use Rattle.tsumego_replies.specs.declared.status.Status.TheVariants.{Answered, BadWords, Failed}
+use Rattle.run_parts.specs.declared.status.Status.{Status}
+use Rattle.run_parts.specs.declared.status.Status.TheVariants.{Answered, BadWords, Failed}
 use Rattle.tsumego_replies.specs.Texts.{no_memory_text, no_read_text}
 use Rattle.tsumego_replies.specs.Answers.{Says, SaysFailure}
 use Rattle.proof_cert.specs.Streamed.{Tells}

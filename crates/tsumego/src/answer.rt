@@ -17,6 +17,7 @@ use cert_check::{Checked, Lift, lift};
 use counted_devices::Counting;
 use proof_cert::laws::one_claim_of_text;
 use proof_cert::{Certificate, write_cert};
+use run_parts::{MAX_TURNS, Status};
 use sgf_text::laws::written_reads;
 use sgf_text::{Tree, WriteFault, write_bytes, write_tree};
 use solution_tree::laws::{audit_is_exact, expansions_ascend};
@@ -25,10 +26,7 @@ use std::alloc::{AllocError, Global};
 use std::io::Write;
 use tsumego_problem::laws::{canonical_reads, problems_are_kept, solution_reads};
 use tsumego_problem::problem_tree;
-use tsumego_replies::{NO_MEMORY, Status, TOO_LARGE};
-
-/// The greatest number of turns of an answer tree that is written.
-pub const MAX_TURNS: usize = 90_000;
+use tsumego_replies::{NO_MEMORY, TOO_LARGE};
 
 /// What is written of a claim: the whole text, and its status.
 #[derive(Drop)]

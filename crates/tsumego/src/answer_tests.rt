@@ -5,11 +5,11 @@ use crate::expect::{expect_status, expect_text, expect_that};
 use cert_check::{Checked, check_held};
 use counted_devices::Counting;
 use proof_cert::read_cert;
+use run_parts::Status;
 use sgf_text::read_tree;
 use std::alloc::{AllocError, Global};
 use std::process::Abort;
 use tsumego_problem::read_problem;
-use tsumego_replies::Status;
 
 // Black may only move on the last row, and White passes: nothing can be captured.
 const LAST_ROW: &[u8] = b"(;FF[4]SZ[9]AW[aa]PL[B]TR[aa]SQ[ai:hi])";

@@ -5,10 +5,10 @@ use crate::devices::Faulty;
 use crate::expect::{expect_number, expect_status, expect_text, expect_that};
 use crate::run::run;
 use counted_devices::Counting;
+use run_parts::Status;
 use std::alloc::{AllocError, Global};
 use std::io::{ErrorKind, Read};
 use std::process::Abort;
-use tsumego_replies::Status;
 
 const INPUT: &str =
     "(;FF[4]GM[1]SZ[3]AB[ab]AW[aa]PL[B]TR[aa]SQ[ba])\ntsucert 1 3 B\nmain\nplay ba\nwon\nend\n";

@@ -3,8 +3,8 @@
 
 ghost use Rattle.std.specs.Prelude.{IsTrue};
 
+use run_parts::Status;
 use std::process::Abort;
-use tsumego_replies::Status;
 
 /// Expects the program to have ended with this status.
 pub(crate) fn expect_status(rt: &impl Abort, found: Status, wanted: Status) {

@@ -9,11 +9,12 @@ ghost use Rattle.tsumego_replies.specs.Asking.{MayAsk};
 use crate::answer::{write_all, write_text};
 use counted_devices::Counting;
 use gtp_core::{GtpEnd, ReadFrom, WriteTo, run_over};
+use run_parts::Status;
 use sgf_text::WriteFault;
 use std::alloc::Global;
 use std::io;
 use std::io::{Read, Write};
-use tsumego_replies::{NO_MEMORY, NO_READ, Status};
+use tsumego_replies::{NO_MEMORY, NO_READ};
 use tsumego_words::Command;
 
 /// Devices that count their failures.

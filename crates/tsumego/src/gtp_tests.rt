@@ -4,10 +4,10 @@ use crate::devices::{Faulty, Flushable};
 use crate::expect::{expect_number, expect_status, expect_text, expect_that};
 use crate::run::run;
 use counted_devices::Counting;
+use run_parts::Status;
 use std::alloc::Global;
 use std::io::ErrorKind;
 use std::process::Abort;
-use tsumego_replies::Status;
 
 // A session whose reader fails at its second call, and whose writer fails at these calls.
 fn fails(

@@ -1,9 +1,9 @@
 //! Inputs that are as large as a limit allows, or a part larger, from the formats.
 
 use crate::tests::answers;
+use run_parts::Status;
 use std::alloc::Global;
 use std::process::Abort;
-use tsumego_replies::Status;
 
 const CHECK: [&str; 2] = ["tsumego", "check"];
 

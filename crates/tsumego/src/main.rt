@@ -24,12 +24,13 @@ mod tests;
 use answer::write_text;
 use counted_devices::Counting;
 use run::run;
+use run_parts::Status;
 use std::alloc::AllocError;
 use std::convert::AsStr;
 use std::env;
 use std::io::ErrorKind;
 use std::process::ExitCode;
-use tsumego_replies::{NO_MEMORY, Status};
+use tsumego_replies::NO_MEMORY;
 
 fn main(rt: HostRuntime) -> ExitCode {
     let alloc = rt.alloc();

@@ -12,16 +12,12 @@ ghost use Rattle.tsumego_replies.specs.Replies.{IsReply};
 use crate::answer::{answer, write_text};
 use crate::gtp::serve_gtp;
 use counted_devices::Counting;
+use run_parts::{InputEnd, MAX_FRONT, Status, read_to_limit};
 use std::alloc::Global;
 use std::convert::AsStr;
 use std::io::{Read, Write};
-use tsumego_replies::{
-    Failure, InputEnd, NO_MEMORY, NO_READ, Response, Status, read_to_limit, reply_to,
-};
+use tsumego_replies::{Failure, NO_MEMORY, NO_READ, Response, reply_to};
 use tsumego_words::{Command, NoCommand, read_command};
-
-/// The greatest number of bytes that are read for a record: one more than a record may have.
-pub const MAX_FRONT: usize = 1_048_577;
 
 /// Runs the program on its words, the first of which is its name, with devices for which nothing has been counted yet.
 ///

@@ -2,9 +2,9 @@
 
 use crate::expect::expect_that;
 use crate::tests::{answers, outcome};
+use run_parts::Status;
 use std::alloc::Global;
 use std::process::Abort;
-use tsumego_replies::Status;
 
 // What `solve` writes when these words follow it.
 fn written(rt: &impl Abort, alloc: Global, words: &[&str], record: &str) -> String {

@@ -4,10 +4,10 @@ use crate::devices::{Endless, Faulty, Pieces};
 use crate::expect::{expect_status, expect_text, expect_that};
 use crate::run::run;
 use counted_devices::Counting;
+use run_parts::Status;
 use std::alloc::Global;
 use std::io::ErrorKind;
 use std::process::Abort;
-use tsumego_replies::Status;
 
 // The outcome of these words and this input.
 pub fn outcome(alloc: Global, words: &[&str], input: &[u8]) -> (Status, Vec<u8>) {

@@ -20,5 +20,5 @@ pub use Rattle.tsumego_replies.specs.Replies.{AllWhite, HasNoRecord, IsReply, Is
 pub use Rattle.tsumego_replies.specs.Texts.{line, rejected_line_text, rejected_node_text, unknown_text}
 pub use Rattle.tsumego_replies.specs.declared.record.NoRecord.{NoRecord}
 pub use Rattle.tsumego_replies.specs.declared.reply.Response.{Response}
-pub use Rattle.tsumego_replies.specs.declared.status.Status.{Status}
-pub use Rattle.tsumego_replies.specs.declared.status.Status.TheVariants.{Answered}
+pub use Rattle.run_parts.specs.declared.status.Status.{Status}
+pub use Rattle.run_parts.specs.declared.status.Status.TheVariants.{Answered}

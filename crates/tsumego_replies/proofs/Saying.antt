@@ -1,7 +1,7 @@
 -- What a call that makes a text or a reply lets be said.
 use Rattle.tsumego_replies.proofs.Common.{◌≡◌, ℕ, false, List, [], ◌++◌, Option, Some, None, Result, Ok, Err, inl, inr, refl, sym, ◌∙◌, ap, IfOk, Consumes, IsAtEnd, GameProblem, GameTree, Refuses, Command, Check, Within, Audit, Solve, Gtp, Status, line, IsRecord, Says, Tells}
 use Rattle.std.proofs.lemmas.List.{append-nil}
-use Rattle.tsumego_replies.specs.declared.status.Status.TheVariants.{Refused}
+use Rattle.run_parts.specs.declared.status.Status.TheVariants.{Refused}
 use Rattle.tsumego_words.specs.CommandLine.{is_session}
 use Rattle.tsumego_replies.specs.Answers.{RefusedOr}
 

@@ -4,7 +4,7 @@ use Rattle.std.proofs.Common.{◌⊎◌}
 use Rattle.proof_cert.specs.Certificate.{claim_of}
 use Rattle.cert_check.specs.Expand.{expand}
 use Rattle.tsumego_replies.specs.declared.reply.Response.TheVariants.{Text, Solution, TooLong}
-use Rattle.tsumego_replies.specs.declared.status.Status.TheVariants.{Unanswered}
+use Rattle.run_parts.specs.declared.status.Status.TheVariants.{Unanswered}
 use Rattle.tsumego_replies.specs.Solutions.{Solved, MayAnswer, Unsolved}
 use Rattle.tsumego_replies.specs.Replies.{IsSearched}
 

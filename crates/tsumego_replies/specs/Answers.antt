@@ -19,8 +19,8 @@ use Rattle.cert_check.specs.Verdict.{Verdict, accepted, rejected}
 use Rattle.solution_tree.specs.Audit.{Fault, audit}
 use Rattle.tsumego_words.specs.declared.command_line.Command.{Command}
 use Rattle.tsumego_words.specs.declared.command_line.Command.TheVariants as command
-use Rattle.tsumego_replies.specs.declared.status.Status.{Status}
-use Rattle.tsumego_replies.specs.declared.status.Status.TheVariants.{Answered, Unanswered, Refused}
+use Rattle.run_parts.specs.declared.status.Status.{Status}
+use Rattle.run_parts.specs.declared.status.Status.TheVariants.{Answered, Unanswered, Refused}
 use Rattle.tsumego_replies.specs.Bounds.{white_limit}
 use Rattle.tsumego_replies.specs.Claims.{HasVerdict}
 use Rattle.tsumego_replies.specs.Solutions.{Solved, Unsolved}

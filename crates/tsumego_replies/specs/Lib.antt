@@ -5,4 +5,3 @@ pub mod Claims
 pub mod Solutions
 pub mod Answers
 pub mod Replies
-pub mod Codes

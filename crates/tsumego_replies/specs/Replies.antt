@@ -8,8 +8,8 @@ use Rattle.target_game.specs.State.{GameProblem}
 use Rattle.tsumego_problem.specs.Refusals.{Refuses}
 use Rattle.tsumego_replies.specs.declared.record.NoRecord.{NoRecord}
 use Rattle.tsumego_replies.specs.declared.record.NoRecord.TheVariants.{Refused, Memory}
-use Rattle.tsumego_replies.specs.declared.status.Status.{Status}
-use Rattle.tsumego_replies.specs.declared.status.Status.TheVariants.{Unanswered}
+use Rattle.run_parts.specs.declared.status.Status.{Status}
+use Rattle.run_parts.specs.declared.status.Status.TheVariants.{Unanswered}
 use Rattle.proof_cert.specs.Text.{lines}
 use Rattle.cert_check.specs.Body.{Why}
 use Rattle.cert_check.specs.Stage.{why_value}

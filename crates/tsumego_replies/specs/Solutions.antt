@@ -25,8 +25,8 @@ use Rattle.solution_tree.specs.Audit.{audit}
 use Rattle.pn_search.specs.Search.{IsHard}
 use Rattle.pn_search.specs.declared.verdict.Cause.{Cause}
 use Rattle.pn_search.specs.declared.verdict.Cause.TheVariants.{Steps, Memory}
-use Rattle.tsumego_replies.specs.declared.status.Status.{Status}
-use Rattle.tsumego_replies.specs.declared.status.Status.TheVariants.{Answered, Unanswered}
+use Rattle.run_parts.specs.declared.status.Status.{Status}
+use Rattle.run_parts.specs.declared.status.Status.TheVariants.{Answered, Unanswered}
 use Rattle.tsumego_replies.specs.Texts.{line, unknown_text, too_large_text}
 use Rattle.tsumego_replies.specs.Claims.{HasVerdict}
 

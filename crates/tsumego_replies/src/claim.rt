@@ -6,7 +6,7 @@ ghost use Rattle.tsumego_replies.specs.Replies.{IsCheckedAfter, IsJudged, IsJudg
 
 use crate::input::{White, read_past_white};
 use crate::reply::{Failure, Reply, said};
-use crate::status::Status;
+use run_parts::Status;
 use crate::texts::{reject_text, wins_text};
 use cert_check::laws::readers_judged;
 use cert_check::{Reject, Why, check};

@@ -5,11 +5,9 @@ mod claim;
 mod input;
 mod record;
 mod reply;
-mod status;
 mod texts;
 
 pub use claim::MAX_WHITE;
-pub use input::{InputEnd, White, read_past_white, read_to_limit};
+pub use input::{White, read_past_white};
 pub use reply::{Failure, Reply, Response, reply_to};
-pub use status::Status;
 pub use texts::{NO_MEMORY, NO_READ, TOO_LARGE, reject_text, unknown_text, wins_text};

@@ -12,7 +12,7 @@ ghost use Rattle.tsumego_replies.specs.Answers.{Says, audit_answer, within_answe
 
 use crate::claim::judge;
 use crate::record::{NoRecord, read_record};
-use crate::status::Status;
+use run_parts::Status;
 use crate::texts::{node_reject_text, unknown_text, wins_text};
 use cert_check::Checked;
 use go_points::Size;

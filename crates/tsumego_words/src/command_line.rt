@@ -17,16 +17,16 @@ use std::convert::AsStr;
 use tsumego_version::VERSION;
 
 /// The greatest number of turns that may be asked for.
-const MOST_TURNS: u64 = 200;
+const MAX_TURNS: u64 = 200;
 
 /// The greatest number of states that may be asked for.
-const MOST_NODES: u64 = 4_294_967_295;
+const MAX_NODES: u64 = 4_294_967_295;
 
 /// The greatest number of steps that may be asked for.
-const MOST_STEPS: u64 = 10_000_000;
+const MAX_STEPS: u64 = 10_000_000;
 
 /// The greatest number of table entries that may be asked for.
-const MOST_ENTRIES: u64 = 1_000_000;
+const MAX_ENTRIES: u64 = 1_000_000;
 
 /// What the words ask for.
 #[derive(Clone, Copy, Debug, PartialEq, Eq)]
@@ -121,8 +121,8 @@ fn chosen(matches: &ArgMatches<'_>) -> Option<Command>
         return Some(Command::Check);
     }
     if name == "within" {
-        let turns = number(given, "K", 0, MOST_TURNS)?;
-        let nodes = number(given, "nodes", 0, MOST_NODES)?;
+        let turns = number(given, "K", 0, MAX_TURNS)?;
+        let nodes = number(given, "nodes", 0, MAX_NODES)?;
         return Some(Command::Within {
             turns: turns as u32,
             nodes,
@@ -132,8 +132,8 @@ fn chosen(matches: &ArgMatches<'_>) -> Option<Command>
         return Some(Command::Audit);
     }
     if name == "solve" {
-        let steps = number(given, "steps", 1, MOST_STEPS)?;
-        let table = number(given, "table", 1, MOST_ENTRIES)?;
+        let steps = number(given, "steps", 1, MAX_STEPS)?;
+        let table = number(given, "table", 1, MAX_ENTRIES)?;
         return Some(Command::Solve {
             steps,
             table: table as usize,
@@ -252,7 +252,7 @@ fn turns_argument<'a>(alloc: Global) -> Arg<'a>
     Arg::new(alloc, "K")
         .help("The number of turns, 0 to 200")
         .required(true)
-        .value_parser(ValueParser::unsigned(0, MOST_TURNS))
+        .value_parser(ValueParser::unsigned(0, MAX_TURNS))
 }
 
 fn nodes_argument<'a>(alloc: Global) -> Arg<'a>
@@ -263,7 +263,7 @@ fn nodes_argument<'a>(alloc: Global) -> Arg<'a>
         .help("The most states of the tree, 0 to 4294967295")
         .long("nodes")
         .value_name("N")
-        .value_parser(ValueParser::unsigned(0, MOST_NODES))
+        .value_parser(ValueParser::unsigned(0, MAX_NODES))
         .default_value("1000000")
 }
 
@@ -275,7 +275,7 @@ fn steps_argument<'a>(alloc: Global) -> Arg<'a>
         .help("The most steps of the search, 1 to 10000000")
         .long("steps")
         .value_name("N")
-        .value_parser(ValueParser::unsigned(1, MOST_STEPS))
+        .value_parser(ValueParser::unsigned(1, MAX_STEPS))
         .default_value("1000000")
 }
 
@@ -287,7 +287,7 @@ fn table_argument<'a>(alloc: Global) -> Arg<'a>
         .help("The most entries of the table, 1 to 1000000")
         .long("table")
         .value_name("N")
-        .value_parser(ValueParser::unsigned(1, MOST_ENTRIES))
+        .value_parser(ValueParser::unsigned(1, MAX_ENTRIES))
         .default_value("100000")
 }
 

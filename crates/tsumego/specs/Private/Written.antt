@@ -9,8 +9,8 @@ use Rattle.tsumego_problem.specs.Canonical.{solution}
 use Rattle.proof_cert.specs.Certificate.{claim_of}
 use Rattle.cert_check.specs.Checked.{CheckedClaim}
 use Rattle.cert_check.specs.Expand.{expand}
-use Rattle.tsumego_replies.specs.declared.status.Status.{Status}
-use Rattle.tsumego_replies.specs.declared.status.Status.TheVariants.{Failed}
+use Rattle.run_parts.specs.declared.status.Status.{Status}
+use Rattle.run_parts.specs.declared.status.Status.TheVariants.{Failed}
 use Rattle.tsumego_replies.specs.Solutions.{tree_limit}
 
 -- The whole text was written, and this is the status; or a write failed after a part of it.

@@ -1,6 +1,6 @@
 use Rattle.std.proofs.Common.{rules}
-use Rattle.tsumego_replies.proofs.Front.{asked_more}
-use Rattle.tsumego_replies.proofs.input.read_to_limit.Goals as goal
+use Rattle.run_parts.proofs.Front.{asked_more}
+use Rattle.run_parts.proofs.input.read_to_limit.Goals as goal
 
 pub returns-in_err-extend_from_slice-in-Ok-clause-asked : goal.returns-in_err-extend_from_slice-in-Ok-clause-asked
 returns-in_err-extend_from_slice-in-Ok-clause-asked g c =

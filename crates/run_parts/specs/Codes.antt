@@ -1,7 +1,7 @@
 -- The exit code of a run by its status.
 use Rattle.std.specs.Prelude.{ℕ}
-use Rattle.tsumego_replies.specs.declared.status.Status.{Status}
-use Rattle.tsumego_replies.specs.declared.status.Status.TheVariants.{Answered, Unanswered, Refused, BadWords, Failed}
+use Rattle.run_parts.specs.declared.status.Status.{Status}
+use Rattle.run_parts.specs.declared.status.Status.TheVariants.{Answered, Unanswered, Refused, BadWords, Failed}
 
 abbrev pub code_of : Status → ℕ
 code_of Answered = 0

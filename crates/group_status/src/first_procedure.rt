@@ -7,11 +7,10 @@ ghost use Rattle.std.specs.Prelude.{◌≡◌};
 ghost use Rattle.group_words.specs.Sides.{is_won_by};
 ghost use Rattle.group_status.specs.First.{sure_winner, same_winner, is_sure, is_likely, first_finding, found_by};
 
-use crate::group::Group;
-use crate::table::{Table, question};
+use crate::asker::Asker;
 use group_words::{Finding, Side, Word, is_won_by};
 use regions::Walls;
-use std::alloc::{AllocError, Global};
+use std::alloc::AllocError;
 use std::io::Write;
 
 /// The sizes, in empty points.
@@ -20,10 +19,11 @@ const SIZES: [usize; 5] = [6, 9, 12, 15, 18];
 /// What was found so far.
 #[derive(Clone, Copy, Debug)]
 struct Course {
-    /// Walls that were unknown at one size. A larger region would take even longer.
-    no_natural: bool,
-    no_kind: bool,
-    no_hard: bool,
+    /// Whether an answer with these walls was unknown at one size: a larger region would take even longer. The last are those that
+    /// shut the defender in.
+    gave_up_on_natural: bool,
+    gave_up_on_kind: bool,
+    gave_up_on_hard: bool,
     /// At how many sizes something was known, and who surely won at the last two of them.
     sizes: usize,
     sure: Option<Side>,
@@ -41,9 +41,9 @@ struct Course {
 impl Course {
     fn begin() -> Course {
         Course {
-            no_natural: false,
-            no_kind: false,
-            no_hard: false,
+            gave_up_on_natural: false,
+            gave_up_on_kind: false,
+            gave_up_on_hard: false,
             sizes: 0,
             sure: None,
             sure_before: None,
@@ -53,6 +53,24 @@ impl Course {
             natural_before: None,
             natural_size: 0,
             natural_size_before: 0,
+        }
+    }
+
+    /// Whether these walls were unknown at a smaller size.
+    fn gave_up_on(&self, walls: Walls) -> bool {
+        match walls {
+            Walls::Natural => self.gave_up_on_natural,
+            Walls::Kind => self.gave_up_on_kind,
+            _ => self.gave_up_on_hard,
+        }
+    }
+
+    /// Notes that these walls were unknown.
+    fn give_up_on(&mut self, walls: Walls) {
+        match walls {
+            Walls::Natural => self.gave_up_on_natural = true,
+            Walls::Kind => self.gave_up_on_kind = true,
+            _ => self.gave_up_on_hard = true,
         }
     }
 
@@ -153,79 +171,46 @@ fn sure_winner(kind: Option<Side>, hard: Option<Side>) -> Option<Side>
 
 /// The answer with these walls, unless they were unknown at a smaller size.
 fn answer<N: Write>(
-    alloc: Global,
-    group: &Group,
-    table: &mut Table,
-    first: Side,
+    asker: &mut Asker<'_, N>,
+    course: &mut Course,
     walls: Walls,
     count: usize,
-    is_off: &mut bool,
-    notes: &mut N,
 ) -> Result<Option<Side>, AllocError> {
-    if *is_off {
+    if course.gave_up_on(walls) {
         return Ok(None);
     }
-    let winner = question(alloc, group, table, first, walls, count, notes)?;
+    let winner = asker.ask(walls, count)?;
     if winner.is_none() {
-        *is_off = true;
+        course.give_up_on(walls);
     }
     Ok(winner)
 }
 
-/// What is found if this side moves first. The walls that shut the defender in are the hard ones, or those with which no friend
+/// What is found about the asker's first mover. The walls that shut the defender in are the hard ones, or those with which no friend
 /// helps.
 pub(crate) fn first_procedure<N: Write>(
-    alloc: Global,
-    group: &Group,
-    table: &mut Table,
-    first: Side,
+    asker: &mut Asker<'_, N>,
     hard: Walls,
-    notes: &mut N,
 ) -> Result<Finding, AllocError> {
     let mut course = Course::begin();
     for i in 0..SIZES.len() {
         let count = SIZES[i];
-        let mut is_off = course.no_natural;
-        let natural = answer(
-            alloc,
-            group,
-            table,
-            first,
-            Walls::Natural,
-            count,
-            &mut is_off,
-            notes,
-        )?;
-        course.no_natural = is_off;
-        let (kind, bound) = bounds(
-            alloc,
-            group,
-            table,
-            first,
-            hard,
-            count,
-            natural,
-            &mut course,
-            notes,
-        )?;
-        if !course.note(count, natural, kind, bound)
-            || course.is_settled()
-            || group.order.len() <= count
-        {
+        let natural = answer(asker, &mut course, Walls::Natural, count)?;
+        let (kind, bound) = bounds(asker, &mut course, hard, count, natural)?;
+        if !course.note(count, natural, kind, bound) || course.is_settled() || asker.is_all(count) {
             break;
         }
     }
-    let is_small = group.order.len() <= SIZES[0];
-    stand_on(table, &course, first, hard, is_small)?;
+    let is_small = asker.is_all(SIZES[0]);
+    stand_on(asker, &course, hard, is_small)?;
     Ok(course.finding(is_small))
 }
 
 /// Notes in the table on which questions the finding stands: if it is sure, on the last one with the walls that speak against it and
 /// the last one with natural walls, otherwise on the last two with natural walls.
-fn stand_on(
-    table: &mut Table,
+fn stand_on<N: Write>(
+    asker: &mut Asker<'_, N>,
     course: &Course,
-    first: Side,
     hard: Walls,
     is_small: bool,
 ) -> Result<(), AllocError> {
@@ -235,12 +220,12 @@ fn stand_on(
         } else {
             hard
         };
-        table.stand_on(first, bound, course.size)?;
-        return table.stand_on(first, Walls::Natural, course.natural_size);
+        asker.stand_on(bound, course.size)?;
+        return asker.stand_on(Walls::Natural, course.natural_size);
     }
     if course.is_likely(is_small) {
-        table.stand_on(first, Walls::Natural, course.natural_size)?;
-        return table.stand_on(first, Walls::Natural, course.natural_size_before);
+        asker.stand_on(Walls::Natural, course.natural_size)?;
+        return asker.stand_on(Walls::Natural, course.natural_size_before);
     }
     Ok(())
 }
@@ -248,15 +233,11 @@ fn stand_on(
 /// The answers if weak walls fall, and if the defender is shut in. If the natural walls are unknown here, only the side for which
 /// they spoke before can still be sure: the walls that speak against it are asked first, and the others only if it may be.
 fn bounds<N: Write>(
-    alloc: Global,
-    group: &Group,
-    table: &mut Table,
-    first: Side,
+    asker: &mut Asker<'_, N>,
+    course: &mut Course,
     hard: Walls,
     count: usize,
     natural: Option<Side>,
-    course: &mut Course,
-    notes: &mut N,
 ) -> Result<(Option<Side>, Option<Side>), AllocError> {
     let before = if natural.is_some() {
         None
@@ -264,22 +245,18 @@ fn bounds<N: Write>(
         course.natural
     };
     if before == Some(Side::Defender) {
-        let bound = bound_of_hard(
-            alloc, group, table, first, hard, count, natural, course, notes,
-        )?;
+        let bound = bound_of_hard(asker, course, hard, count, natural)?;
         if !may_be_sure(Side::Defender, bound, course.sure) {
             return Ok((None, bound));
         }
-        let kind = bound_of_kind(alloc, group, table, first, count, natural, course, notes)?;
+        let kind = bound_of_kind(asker, course, count, natural)?;
         return Ok((kind, bound));
     }
-    let kind = bound_of_kind(alloc, group, table, first, count, natural, course, notes)?;
+    let kind = bound_of_kind(asker, course, count, natural)?;
     if before == Some(Side::Attacker) && !may_be_sure(Side::Attacker, kind, course.sure) {
         return Ok((kind, None));
     }
-    let bound = bound_of_hard(
-        alloc, group, table, first, hard, count, natural, course, notes,
-    )?;
+    let bound = bound_of_hard(asker, course, hard, count, natural)?;
     Ok((kind, bound))
 }
 
@@ -294,50 +271,27 @@ fn may_be_sure(side: Side, bound: Option<Side>, before: Option<Side>) -> bool {
 
 /// The answer if weak walls fall, unless the natural walls spoke for the defender.
 fn bound_of_kind<N: Write>(
-    alloc: Global,
-    group: &Group,
-    table: &mut Table,
-    first: Side,
+    asker: &mut Asker<'_, N>,
+    course: &mut Course,
     count: usize,
     natural: Option<Side>,
-    course: &mut Course,
-    notes: &mut N,
 ) -> Result<Option<Side>, AllocError> {
     if natural == Some(Side::Defender) {
         return Ok(None);
     }
-    let mut is_off = course.no_kind;
-    let winner = answer(
-        alloc,
-        group,
-        table,
-        first,
-        Walls::Kind,
-        count,
-        &mut is_off,
-        notes,
-    )?;
-    course.no_kind = is_off;
-    Ok(winner)
+    answer(asker, course, Walls::Kind, count)
 }
 
 /// The answer if the defender is shut in, unless the natural walls spoke for the attacker.
 fn bound_of_hard<N: Write>(
-    alloc: Global,
-    group: &Group,
-    table: &mut Table,
-    first: Side,
+    asker: &mut Asker<'_, N>,
+    course: &mut Course,
     hard: Walls,
     count: usize,
     natural: Option<Side>,
-    course: &mut Course,
-    notes: &mut N,
 ) -> Result<Option<Side>, AllocError> {
     if natural == Some(Side::Attacker) {
         return Ok(None);
     }
-    let mut is_off = course.no_hard;
-    let winner = answer(alloc, group, table, first, hard, count, &mut is_off, notes)?;
-    course.no_hard = is_off;
-    Ok(winner)
+    answer(asker, course, hard, count)
 }

@@ -6,6 +6,7 @@ mod answer;
 mod answer_lines;
 mod answer_record;
 mod asked;
+mod asker;
 mod board_record;
 mod claims;
 mod first_procedure;

@@ -3,11 +3,10 @@
 //! The bound against the attacker is that walls with few liberties outside fall; the bound against the defender is that no friend
 //! helps.
 
-use crate::group::Group;
-use crate::table::{Table, question};
+use crate::asker::Asker;
 use group_words::{Finding, Side, Word};
 use regions::Walls;
-use std::alloc::{AllocError, Global};
+use std::alloc::AllocError;
 use std::io::Write;
 
 /// The sizes, in empty points.
@@ -126,45 +125,38 @@ fn finding(done: &[Done], is_stopped: bool, is_ended: bool) -> Finding {
     }
 }
 
-/// What is found if this side moves first.
-pub(crate) fn second_procedure<N: Write>(
-    alloc: Global,
-    group: &Group,
-    table: &mut Table,
-    first: Side,
-    notes: &mut N,
-) -> Result<Finding, AllocError> {
-    let mut done = Vec::new(alloc);
+/// What is found about the asker's first mover.
+pub(crate) fn second_procedure<N: Write>(asker: &mut Asker<'_, N>) -> Result<Finding, AllocError> {
+    let mut done = Vec::new(asker.alloc);
     let mut is_stopped = false;
     let mut is_ended = false;
     for i in 0..SIZES.len() {
         let count = SIZES[i];
-        let Some(winner) = question(alloc, group, table, first, Walls::Race, count, notes)? else {
+        let Some(winner) = asker.ask(Walls::Race, count)? else {
             break;
         };
-        let bound = question(alloc, group, table, first, bound_of(winner), count, notes)?;
+        let bound = asker.ask(bound_of(winner), count)?;
         done.push(Done {
             count,
             winner,
             bound,
         })?;
-        is_ended = group.order.len() <= count;
+        is_ended = asker.is_all(count);
         is_stopped = count >= ENOUGH && are_three_sure(done.as_slice(), winner);
         if is_stopped || is_ended {
             break;
         }
     }
     let found = finding(done.as_slice(), is_stopped, is_ended);
-    stand_on(table, done.as_slice(), first, &found)?;
+    stand_on(asker, done.as_slice(), &found)?;
     Ok(found)
 }
 
 /// Notes in the table on which questions the finding stands: if it is sure, on those with race walls and with the bound at the last
 /// sizes at which its winner won, as many as are needed; otherwise on those with race walls at the last two sizes.
-fn stand_on(
-    table: &mut Table,
+fn stand_on<N: Write>(
+    asker: &mut Asker<'_, N>,
     done: &[Done],
-    first: Side,
     found: &Finding,
 ) -> Result<(), AllocError> {
     let Some(winner) = found.winner else {
@@ -181,7 +173,7 @@ fn stand_on(
             };
             if left > 0 && counts && one.winner == winner {
                 left = left.saturating_sub(1);
-                stand_on_size(table, first, one, is_sure)?;
+                stand_on_size(asker, one, is_sure)?;
             }
         }
     }
@@ -189,15 +181,14 @@ fn stand_on(
 }
 
 /// Notes that a finding stands on the question of this size with race walls, and on that with the bound too if it is sure.
-fn stand_on_size(
-    table: &mut Table,
-    first: Side,
+fn stand_on_size<N: Write>(
+    asker: &mut Asker<'_, N>,
     done: &Done,
     is_sure: bool,
 ) -> Result<(), AllocError> {
-    table.stand_on(first, Walls::Race, done.count)?;
+    asker.stand_on(Walls::Race, done.count)?;
     if is_sure {
-        table.stand_on(first, bound_of(done.winner), done.count)?;
+        asker.stand_on(bound_of(done.winner), done.count)?;
     }
     Ok(())
 }

@@ -3,6 +3,7 @@
 ghost use Rattle.std.specs.Prelude.{IfOk};
 ghost use Rattle.group_words.specs.Rule.{IsByRule};
 
+use crate::asker::Asker;
 use crate::first_procedure::first_procedure;
 use crate::group::Group;
 use crate::second_procedure::second_procedure;
@@ -30,11 +31,18 @@ fn found_by<N: Write>(
     procedures: Procedures,
     notes: &mut N,
 ) -> Result<Finding, AllocError> {
+    let mut asker = Asker {
+        alloc,
+        group,
+        table,
+        first,
+        notes,
+    };
     match procedures {
-        Procedures::First => first_procedure(alloc, group, table, first, Walls::Alone, notes),
+        Procedures::First => first_procedure(&mut asker, Walls::Alone),
         Procedures::Both => {
-            let one = first_procedure(alloc, group, table, first, Walls::Hard, notes)?;
-            let other = second_procedure(alloc, group, table, first, notes)?;
+            let one = first_procedure(&mut asker, Walls::Hard)?;
+            let other = second_procedure(&mut asker)?;
             Ok(together(&one, &other))
         }
     }

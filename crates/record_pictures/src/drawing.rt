@@ -7,7 +7,7 @@ use go_chains::ChainBoard;
 use go_points::{Cell, Colour, Colouring, Point, PointSet, Size, Turn, sgf_point};
 use sgf_text::{SgfNode, Tree};
 use std::alloc::{AllocError, Global};
-use tool_parts::{push_nodes, text_of};
+use tool_parts::{colour_name, push_nodes, text_of};
 use tsumego_problem::{
     ProblemFault, assigned, board_size, points_at, problem_node, read_problem, turn_at, values_at,
 };
@@ -114,10 +114,7 @@ fn task_of(alloc: Global, tree: &Tree) -> Result<String, NoPicture> {
         Err(ProblemFault::Memory) => return Err(NoPicture::Memory),
         Err(fault) => return Err(NoPicture::NoProblem(fault)),
     };
-    let side = match problem.mover() {
-        Colour::Black => "Black",
-        Colour::White => "White",
-    };
+    let side = colour_name(problem.mover());
     let verb = if problem.mover() == problem.defender() {
         "save"
     } else {

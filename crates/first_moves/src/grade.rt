@@ -49,7 +49,7 @@ pub(crate) fn winner_of(mover: Colour, tally: Tally) -> Option<Colour>
 }
 
 /// What is found of the problem. `None` if not one first turn is right and all others are refuted, or no short claim is found.
-pub(crate) fn lesson(
+pub(crate) fn lesson_of(
     alloc: Global,
     problem: &Problem,
     found: &[Found],
@@ -65,7 +65,7 @@ pub(crate) fn lesson(
     };
     let mut traps = Vec::new(alloc);
     for one in found {
-        if let Some(trap) = trap(alloc, problem, one, settings)? {
+        if let Some(trap) = trap_of(alloc, problem, one, settings)? {
             traps.push(trap)?;
         }
     }
@@ -97,7 +97,7 @@ fn shown(
 }
 
 /// The first turn as a trap: if it is refuted, is a move beside a stone or across a corner from one, and threatens something.
-fn trap(
+fn trap_of(
     alloc: Global,
     problem: &Problem,
     one: &Found,

@@ -1,7 +1,7 @@
 //! What is found, as JSON with a grade.
 
 use crate::found::{Found, Settings, counted};
-use crate::grade::{Lesson, Trap, grade_of, has_ko, lesson, points, winner_of};
+use crate::grade::{Lesson, Trap, grade_of, has_ko, lesson_of, points, winner_of};
 use crate::line::Line;
 use crate::list::json_lines;
 use crate::names::{Names, push_text, quoted_turns, turn_name};
@@ -22,7 +22,7 @@ pub(crate) fn graded_lines(
     let tally = counted(found);
     let mut text = json_lines(alloc, &settings.names, found, tally, line)?;
     let winner = winner_field(alloc, winner_of(problem.mover(), tally))?;
-    match lesson(alloc, problem, found, tally, settings)? {
+    match lesson_of(alloc, problem, found, tally, settings)? {
         Some(lesson) => {
             for trap in &lesson.traps {
                 let object = trap_object(alloc, &settings.names, trap)?;

@@ -26,4 +26,4 @@ winner_of mover solution winning = if nat_lt 0 winning then Some mover else winn
 
 -- A grade for each four points, from 1 to 9.
 abbrev pub grade_of : ℕ → ℕ
-grade_of points = min 9 (1 + points / 4)
+grade_of points = min (points / 4 + 1) 9

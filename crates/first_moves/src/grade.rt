@@ -44,7 +44,9 @@ pub(crate) fn winner_of(mover: Colour, tally: Tally) -> Option<Colour>
     }
     match tally.solution {
         Solution::Lost => Some(mover.opponent()),
-        _ => None,
+        Solution::Unique => None,
+        Solution::Several => None,
+        Solution::Open => None,
     }
 }
 
@@ -79,8 +81,8 @@ fn shown(
     winner: Colour,
     settings: &Settings,
 ) -> Result<Option<Variation>, AllocError> {
-    let budget = settings.budget;
-    match find_reading(alloc, problem, budget, MOST_TURNS)? {
+    let table = settings.budget.table;
+    match find_reading(alloc, problem, settings.budget, MOST_TURNS)? {
         Reading::Wins {
             winner: found,
             turns: _,
@@ -89,7 +91,7 @@ fn shown(
             if found != winner {
                 return Ok(None);
             }
-            Ok(Some(variation_of(alloc, problem, winner, &tree, budget.table)?))
+            Ok(Some(variation_of(alloc, problem, winner, &tree, table)?))
         }
         Reading::TooLarge { winner: _, turn: _ } => Ok(None),
         Reading::Unknown { cause: _, steps: _ } => Ok(None),
@@ -224,5 +226,5 @@ fn mean(sum: usize, count: usize) -> usize {
 pub(crate) fn grade_of(points: usize) -> usize
     ensures { result ≡ grade_of points }
 {
-    (1 + points / POINTS_OF_GRADE).min(MOST_GRADE)
+    (points / POINTS_OF_GRADE + 1).min(MOST_GRADE)
 }

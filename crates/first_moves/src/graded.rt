@@ -31,7 +31,9 @@ pub(crate) fn graded_lines(
             let object = grade_object(alloc, &settings.names, winner.as_str(), &lesson)?;
             push_text(&mut text, object.as_str())?;
         }
-        None => write!(text, "{{\"winner\":{winner}}}\n")?,
+        None => {
+            write!(text, "{{\"winner\":{winner}}}\n")?;
+        }
     }
     Ok(text)
 }

@@ -1,7 +1,7 @@
 //! The turns of a record below its problem, numbered in the order of the text.
 
 use go_points::{Size, Turn};
-use sgf_text::Tree;
+use sgf_text::{SgfNode, Tree};
 use std::alloc::{AllocError, Global};
 use tsumego_problem::turn_at;
 
@@ -31,24 +31,40 @@ fn push_tree(
     parent: usize,
     into: &mut Vec<Reply>,
 ) -> Result<(), AllocError> {
-    let mut above = parent;
-    for node in tree.nodes() {
-        let turn = match turn_at(size, node) {
-            Some((_side, turn)) => Some(turn),
-            None => None,
-        };
-        let number = into.len();
-        into.push(Reply {
-            parent: above,
-            turn,
-            below: 0,
-        })?;
-        above = number;
-    }
+    let last = push_sequence(size, tree.nodes(), parent, into)?;
     for child in tree.children() {
-        push_tree(size, child, above, into)?;
+        push_tree(size, child, last, into)?;
     }
     Ok(())
+}
+
+/// Appends the nodes, each below the one before. The number of the last one; that of the first's parent if there is none.
+fn push_sequence(
+    size: Size,
+    nodes: &[SgfNode],
+    parent: usize,
+    into: &mut Vec<Reply>,
+) -> Result<usize, AllocError> {
+    let mut above = parent;
+    for i in 0..nodes.len() {
+        let number = into.len();
+        into.push(reply_of(size, &nodes[i], above))?;
+        above = number;
+    }
+    Ok(above)
+}
+
+/// The node below the one of this number, with nothing below it yet.
+fn reply_of(size: Size, node: &SgfNode, parent: usize) -> Reply {
+    let turn = match turn_at(size, node) {
+        Some((_side, turn)) => Some(turn),
+        None => None,
+    };
+    Reply {
+        parent,
+        turn,
+        below: 0,
+    }
 }
 
 /// Counts what stands below each node: each adds to the one above it, the last ones first.
@@ -56,12 +72,12 @@ fn count_below(all: &mut Vec<Reply>) {
     let count = all.len();
     for i in 0..count {
         let at = count - 1 - i;
-        if at == 0 || at >= all.len() {
-            continue;
-        }
-        let Reply { parent, below, .. } = all[at];
-        if parent < all.len() {
-            all[parent].below = all[parent].below.saturating_add(below).saturating_add(1);
+        if at > 0 && at < all.len() {
+            let parent = all[at].parent;
+            let more = all[at].below.saturating_add(1);
+            if parent < all.len() {
+                all[parent].below = all[parent].below.saturating_add(more);
+            }
         }
     }
 }
@@ -70,7 +86,7 @@ fn count_below(all: &mut Vec<Reply>) {
 pub(crate) fn first_below(all: &[Reply], above: usize) -> Option<(usize, Turn)> {
     for i in 0..all.len() {
         if all[i].parent == above && i > above {
-            return Some((i, move_of(all[i])?));
+            return numbered(&all[i], i);
         }
     }
     None
@@ -83,49 +99,60 @@ pub(crate) fn longest_below(
     above: usize,
     after: Option<usize>,
 ) -> Option<(usize, Turn)> {
-    let mut found = None;
+    let mut found: Option<usize> = None;
     for i in 0..all.len() {
-        if all[i].parent == above && i > above && is_between(all, after, i, found) {
-            if let Some(_turn) = move_of(all[i]) {
+        // The prover takes what was passed on as moved.
+        let first = after;
+        let before = found;
+        if all[i].parent == above && i > above && is_move(&all[i]) {
+            if is_after(all, first, i) && is_before(all, i, before) {
                 found = Some(i);
             }
         }
     }
     let number = found?;
-    match all.get(number) {
-        Some(one) => Some((number, move_of(*one)?)),
-        None => None,
+    numbered(all.get(number)?, number)
+}
+
+/// Whether a node comes after this one, if there is one, in the order of `longest_below`.
+fn is_after(all: &[Reply], first: Option<usize>, one: usize) -> bool {
+    match first {
+        Some(number) => is_longer(all, number, one),
+        None => true,
     }
 }
 
-/// Whether a node comes after the first of these, and before the last, in the order of `longest_below`.
-fn is_between(all: &[Reply], after: Option<usize>, one: usize, before: Option<usize>) -> bool {
-    let is_after = match after {
-        Some(number) => is_longer(all, number, one),
-        None => true,
-    };
-    let is_before = match before {
+/// Whether a node comes before this one, if there is one, in the order of `longest_below`.
+fn is_before(all: &[Reply], one: usize, before: Option<usize>) -> bool {
+    match before {
         Some(number) => is_longer(all, one, number),
         None => true,
-    };
-    is_after && is_before
+    }
 }
 
 /// Whether a node comes before another in the order of `longest_below`.
 fn is_longer(all: &[Reply], one: usize, other: usize) -> bool {
-    let (Some(one_reply), Some(other_reply)) = (all.get(one), all.get(other)) else {
+    if one >= all.len() || other >= all.len() {
         return false;
-    };
-    if one_reply.below == other_reply.below {
+    }
+    if all[one].below == all[other].below {
         return one < other;
     }
-    one_reply.below > other_reply.below
+    all[one].below > all[other].below
 }
 
-/// The node's move. `None` for a pass, and for a node without a turn.
-fn move_of(one: Reply) -> Option<Turn> {
+/// Whether the node's turn is a move.
+fn is_move(one: &Reply) -> bool {
     match one.turn {
-        Some(Turn::At(point)) => Some(Turn::At(point)),
+        Some(Turn::At(_)) => true,
+        _ => false,
+    }
+}
+
+/// The node's move with its number. `None` for a pass, and for a node without a turn.
+fn numbered(one: &Reply, number: usize) -> Option<(usize, Turn)> {
+    match one.turn {
+        Some(Turn::At(point)) => Some((number, Turn::At(point))),
         _ => None,
     }
 }

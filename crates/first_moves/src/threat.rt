@@ -2,10 +2,13 @@
 
 ghost use Rattle.std.specs.Prelude.{◌≡◌, true, IfOk, IfSome};
 ghost use Rattle.go_points.specs.Ply.{ply_of};
-ghost use Rattle.first_moves.specs.Threat.{EndsWon, IsSameSide, WinsAgain};
+ghost use Rattle.target_game.specs.State.{start};
+ghost use Rattle.target_game.specs.Wins.{Wins};
+ghost use Rattle.short_proofs.specs.Proved.{HasWinner};
+ghost use Rattle.first_moves.specs.Threat.{EndsWon, IsSameSide};
 
 use crate::judged::{problem_after, problem_with};
-use go_points::Turn;
+use go_points::{Colour, Turn};
 use pn_search::{Audience, Budget};
 use short_proofs::{Proved, prove};
 use std::alloc::{AllocError, Global};
@@ -25,59 +28,34 @@ pub(crate) fn threatens(
 ) -> Result<bool, AllocError> {
     // The prover takes a turn that was passed on as moved.
     let same = turn;
-    if ends_won(alloc, problem, turn)? {
-        return Ok(true);
-    }
-    wins_again(alloc, problem, same, table)
-}
-
-/// Whether the turn ends the game, and the mover has won.
-fn ends_won(alloc: Global, problem: &Problem, turn: Turn) -> Result<bool, AllocError>
-    ensures { IfOk result
-        (λ b. b ≡ true → EndsWon problem.now (ply_of problem.now.game.size turn)) }
-{
     prove!(problem.place() < problem.history().len());
     let state = PlayState::of(alloc, problem)?;
-    let Some(child) = state.child(turn) else {
+    if ends_won(problem, &state, turn) {
+        return Ok(true);
+    }
+    let Some(later) = problem_after(alloc, problem, &state, same)? else {
         return Ok(false);
     };
-    match child.winner {
-        Some(winner) => Ok(winner == problem.mover()),
+    match same_side(alloc, &later)? {
+        Some(again) => wins(alloc, &again, problem.mover(), table),
         None => Ok(false),
     }
 }
 
-/// Whether the mover is proved to win the problem in which it moves again after the turn.
-fn wins_again(
-    alloc: Global,
-    problem: &Problem,
-    turn: Turn,
-    table: NonZeroUsize,
-) -> Result<bool, AllocError>
-    ensures { IfOk result
-        (λ b. b ≡ true → WinsAgain problem.now (ply_of problem.now.game.size turn)) }
+/// Whether the turn ends the game, and the mover has won.
+fn ends_won(problem: &Problem, state: &PlayState, turn: Turn) -> bool
+    requires { state.now.state ≡ start problem.now }
+    ensures { result ≡ true → EndsWon problem.now (ply_of problem.now.game.size turn) }
 {
-    prove!(problem.place() < problem.history().len());
-    let state = PlayState::of(alloc, problem)?;
-    let Some(later) = problem_after(alloc, problem, &state, turn)? else {
-        return Ok(false);
+    let Some(child) = state.child(turn) else {
+        return false;
     };
-    let Some(again) = same_side(alloc, &later)? else {
-        return Ok(false);
-    };
-    let budget = Budget {
-        steps: STEPS,
-        table,
-    };
-    match prove(alloc, &again, Audience::Judge, budget)? {
-        Proved::Wins {
-            winner,
-            turn: _turn,
-            text: _text,
-            certificate: _certificate,
-        } => Ok(winner == problem.mover()),
-        Proved::Unknown { cause: _, steps: _ } => Ok(false),
+    if let Some(winner) = child.winner {
+        if winner == problem.mover() {
+            return true;
+        }
     }
+    false
 }
 
 /// The problem with the side to move that has just moved, as if the other had given its turn away, but without a pass.
@@ -86,4 +64,42 @@ fn same_side(alloc: Global, later: &Problem) -> Result<Option<Problem>, AllocErr
 {
     let history = later.history().to_vec(alloc)?;
     Ok(problem_with(later, history, later.place(), 0))
+}
+
+/// Whether this side is proved to win the problem.
+fn wins(
+    alloc: Global,
+    problem: &Problem,
+    side: Colour,
+    table: NonZeroUsize,
+) -> Result<bool, AllocError>
+    ensures { IfOk result (λ b. b ≡ true → Wins side (start problem.now)) }
+{
+    let budget = Budget {
+        steps: STEPS,
+        table,
+    };
+    let proved = prove(alloc, problem, Audience::Judge, budget)?;
+    Ok(names_winner(problem, &proved, side))
+}
+
+/// Whether this side is the winner that is proved.
+fn names_winner(problem: &Problem, proved: &Proved, side: Colour) -> bool
+    requires { HasWinner problem.now proved.now }
+    ensures { result ≡ true → Wins side (start problem.now) }
+{
+    match proved {
+        Proved::Wins {
+            winner,
+            turn: _,
+            text: _,
+            certificate: _,
+        } => {
+            if *winner == side {
+                return true;
+            }
+            false
+        }
+        Proved::Unknown { cause: _, steps: _ } => false,
+    }
 }

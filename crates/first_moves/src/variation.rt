@@ -4,7 +4,7 @@
 use crate::line::turn_made;
 use crate::replies::{Reply, first_below, longest_below, replies_of};
 use crate::threat::threatens;
-use go_points::{Cell, Colour, Colouring, Point, Turn};
+use go_points::{Colour, Colouring, Point, Turn};
 use sgf_text::Tree;
 use std::alloc::{AllocError, Global};
 use std::num::NonZeroUsize;
@@ -53,38 +53,40 @@ pub(crate) fn variation_of(
     table: NonZeroUsize,
 ) -> Result<Variation, AllocError> {
     let replies = replies_of(alloc, problem.size(), record)?;
+    let replies = replies.as_slice();
     let mut place = first_marked(record.nodes()).unwrap_or(0);
     let mut position = problem.copy(alloc)?;
-    let mut found = no_turns(alloc);
+    let mut turns = Vec::new(alloc);
+    let mut lost: usize = 0;
+    let mut has_ko = false;
     for _ in 0..MOST_TURNS {
-        let mover = position.mover();
-        let Some((number, turn)) = next_turn(
-            alloc,
-            &position,
-            mover == winner,
-            replies.as_slice(),
-            place,
-            table,
-        )?
-        else {
+        let is_winners = position.mover() == winner;
+        let next = next_turn(alloc, &position, is_winners, replies, place, table)?;
+        let Some((number, turn)) = next else {
             break;
         };
         // The prover takes a turn that was passed on as moved.
         let same = turn;
         let again = turn;
         let capture = capture_of(alloc, &position, turn)?;
-        if mover != winner {
-            found.lost = found.lost.saturating_add(capture.stones);
+        if !is_winners {
+            lost = lost.saturating_add(capture.stones);
         }
-        found.has_ko = found.has_ko || capture.is_ko;
-        found.turns.push(same)?;
+        if capture.is_ko {
+            has_ko = true;
+        }
+        turns.push(same)?;
         place = number;
-        match turn_made(alloc, &position, again)? {
-            Some(later) => position = later,
-            None => break,
-        }
+        let Some(later) = turn_made(alloc, &position, again)? else {
+            break;
+        };
+        position = later;
     }
-    Ok(found)
+    Ok(Variation {
+        turns,
+        lost,
+        has_ko,
+    })
 }
 
 /// The turn that the line goes on with below this node, and its number.
@@ -115,35 +117,53 @@ fn next_turn(
 
 /// What the turn captures; nothing if it is no legal move.
 fn capture_of(alloc: Global, position: &Problem, turn: Turn) -> Result<Capture, AllocError> {
+    match turn {
+        Turn::Pass => Ok(Capture {
+            stones: 0,
+            is_ko: false,
+        }),
+        Turn::At(point) => {
+            prove!(position.place() < position.history().len());
+            let state = PlayState::of(alloc, position)?;
+            Ok(captured_at(&state, position.mover(), point))
+        }
+    }
+}
+
+/// The same of the mover's move at a point.
+fn captured_at(state: &PlayState, mover: Colour, point: Point) -> Capture {
     let nothing = Capture {
         stones: 0,
         is_ko: false,
     };
-    prove!(position.place() < position.history().len());
-    let state = PlayState::of(alloc, position)?;
-    let Turn::At(point) = turn else {
-        return Ok(nothing);
-    };
     if !state.size().holds(point) {
-        return Ok(nothing);
+        return nothing;
     }
     if !state.is_open(point) {
-        return Ok(nothing);
+        return nothing;
     }
+    let before = state.colouring();
     let after = state.result(point);
-    let other = position.mover().opponent();
-    let before = stones_of(position.colouring(), other);
-    let stones = before.saturating_sub(stones_of(&after, other));
-    let is_ko = stones == 1 && is_in_atari_alone(&after, point, position.mover());
-    Ok(Capture { stones, is_ko })
+    let other = mover.opponent();
+    let stones = stones_of(&before, other).saturating_sub(stones_of(&after, other));
+    if stones != 1 {
+        return Capture {
+            stones,
+            is_ko: false,
+        };
+    }
+    Capture {
+        stones,
+        is_ko: is_in_atari_alone(&after, mover, point),
+    }
 }
 
 /// How many stones of this colour there are.
 fn stones_of(colouring: &Colouring, colour: Colour) -> usize {
     let size = colouring.size();
     let mut count: usize = 0;
-    for point in size.points() {
-        if colouring.get(point).is_stone_of(colour) {
+    for number in 0..size.area() {
+        if colouring.cell(number).is_stone_of(colour) {
             count = count.saturating_add(1);
         }
     }
@@ -151,20 +171,22 @@ fn stones_of(colouring: &Colouring, colour: Colour) -> usize {
 }
 
 /// Whether the stone of this colour at the point is alone, and has one liberty.
-fn is_in_atari_alone(colouring: &Colouring, point: Point, colour: Colour) -> bool {
+fn is_in_atari_alone(colouring: &Colouring, colour: Colour, point: Point) -> bool {
     let size = colouring.size();
-    if !size.holds(point) || !colouring.get(point).is_stone_of(colour) {
+    if !size.holds(point) {
         return false;
     }
     let mut liberties: usize = 0;
     for near in point.neighbours(size) {
-        match colouring.get(near) {
-            Cell::Empty => liberties = liberties.saturating_add(1),
-            Cell::Stone(other) => {
-                if other == colour {
-                    return false;
-                }
-            }
+        if !size.holds(near) {
+            return false;
+        }
+        let cell = colouring.get(near);
+        if cell.is_stone_of(colour) {
+            return false;
+        }
+        if cell.is_empty() {
+            liberties = liberties.saturating_add(1);
         }
     }
     liberties == 1

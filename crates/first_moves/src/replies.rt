@@ -48,22 +48,22 @@ fn push_sequence(
     let mut above = parent;
     for i in 0..nodes.len() {
         let number = into.len();
-        into.push(reply_of(size, &nodes[i], above))?;
+        let turn: Option<Turn> = turn_of(size, &nodes[i]);
+        into.push(Reply {
+            parent: above,
+            turn,
+            below: 0,
+        })?;
         above = number;
     }
     Ok(above)
 }
 
-/// The node below the one of this number, with nothing below it yet.
-fn reply_of(size: Size, node: &SgfNode, parent: usize) -> Reply {
-    let turn = match turn_at(size, node) {
+/// The node's turn, if it has one.
+fn turn_of(size: Size, node: &SgfNode) -> Option<Turn> {
+    match turn_at(size, node) {
         Some((_side, turn)) => Some(turn),
         None => None,
-    };
-    Reply {
-        parent,
-        turn,
-        below: 0,
     }
 }
 

@@ -52,8 +52,7 @@ pub(crate) fn variation_of(
     record: &Tree,
     table: NonZeroUsize,
 ) -> Result<Variation, AllocError> {
-    let replies = replies_of(alloc, problem.size(), record)?;
-    let replies = replies.as_slice();
+    let all = replies_of(alloc, problem.size(), record)?;
     let mut place = first_marked(record.nodes()).unwrap_or(0);
     let mut position = problem.copy(alloc)?;
     let mut turns = Vec::new(alloc);
@@ -61,6 +60,7 @@ pub(crate) fn variation_of(
     let mut has_ko = false;
     for _ in 0..MOST_TURNS {
         let is_winners = position.mover() == winner;
+        let replies = all.as_slice();
         let next = next_turn(alloc, &position, is_winners, replies, place, table)?;
         let Some((number, turn)) = next else {
             break;

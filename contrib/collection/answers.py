@@ -1,10 +1,9 @@
-"""The answers to a problem: which first moves win, the line that shows it, and how each other try is refuted."""
+"""The answers to a problem: which first moves win, the line that shows it, how each other try is refuted, and a grade. All of it is
+what `first_moves --grade` says; docs/FORMATS.md has the rules and the formula."""
 
 from typing import NamedTuple
 
-from .boards import EMPTY, around, letters_of, point_of
-from .problems import TURNS
-from .trees import line_of, read_tree, taken_on, threatens
+from .boards import point_of
 
 STEPS = 10_000
 
@@ -17,50 +16,27 @@ class Answers(NamedTuple):
     tries: list
     sacrifices: int
     ko: bool
-
-
-def right_moves(programs, problem, steps=STEPS):
-    """The points of the first moves that win, and those that lose; None where something is not known, or a pass wins."""
-    turns = programs.first_moves(problem, steps)
-    if not turns or turns[-1]["unknown"] > 0 or any(it["turn"] == "pass" and it["mover"] == "wins" for it in turns[:-1]):
-        return None
-    moves = [(point_of(problem.size, it["turn"]), it["mover"]) for it in turns[:-1] if it["turn"] != "pass"]
-    return [point for point, worth in moves if worth == "wins"], [point for point, worth in moves if worth == "loses"]
-
-
-def has_one_answer(programs, problem):
-    moves = right_moves(programs, problem)
-    return moves is not None and len(moves[0]) == 1
-
-
-def after_turn_record(problem, point):
-    """The record of the problem after a first move, with the position before it as its past."""
-    marks = f"TR{problem.values(problem.targets)}SQ{problem.values(problem.region)}"
-    before = problem.record().partition(";PL")[0]
-    turn = TURNS[problem.mover]
-    return f"{before}PL[{turn}];{turn}[{letters_of(problem.size, point)}]{marks})\n"
+    points: int = 0
+    grade: int = 0
 
 
 def answers_of(programs, problem):
-    """The answers to a problem with one right first move; None where a tree is not found."""
-    moves = right_moves(programs, problem)
-    text = programs.tree(problem.record(), STEPS)
-    if moves is None or len(moves[0]) != 1 or text is None:
+    """The answers to a problem with one right first move, which is no pass; None for any other, and where no short claim is found."""
+    found = programs.graded(problem, STEPS)
+    if not found or "grade" not in found[-1] or any(it.get("turn") == "pass" and it["mover"] == "wins" for it in found):
         return None
-    line = line_of(programs, problem, read_tree(text, problem.size), problem.mover)
-    tries = [found for found in (refuted(programs, problem, point) for point in moves[1]) if found]
-    lost, has_ko = taken_on(problem, line)
-    has_ko = has_ko or any(taken_on(problem, it)[1] for it in tries)
-    return Answers(line, tries, lost[problem.mover], has_ko)
+    traps, last = [it for it in found if "trap" in it], found[-1]
+    tries = [points_of(problem, [it["trap"], *it["variation"]]) for it in traps]
+    line = points_of(problem, last["variation"])
+    return Answers(line, tries, last["sacrifices"], last["ko"], last["points"], last["grade"])
 
 
-def refuted(programs, problem, point):
-    """A wrong first move and the line that refutes it; None for one that no player would try: beside nothing, or no threat."""
-    is_beside = any(problem.cells[near] != EMPTY for near in around(problem.size)[point])
-    if not is_beside or not threatens(programs, problem, point):
-        return None
-    text = programs.tree(after_turn_record(problem, point), STEPS)
-    if text is None:
-        return [point]
-    after = problem.after(point)
-    return [point, *line_of(programs, after, read_tree(text, problem.size), after.mover)]
+def points_of(problem, names):
+    return [point_of(problem.size, it) for it in names]
+
+
+def has_one_answer(programs, problem):
+    """Whether one first move wins, and every other loses."""
+    found = programs.graded(problem, STEPS) or []
+    winning = [it["turn"] for it in found if it.get("mover") == "wins"]
+    return any(it.get("solution") == "unique" for it in found) and winning != ["pass"]

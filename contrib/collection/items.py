@@ -5,7 +5,6 @@ from typing import NamedTuple
 from .answers import Answers
 from .boards import BLACK, WHITE, letters_of, name_of
 from .find import read_problem
-from .grade import grade
 from .problems import SIDES, TURNS, Problem
 from .records import Unreadable, escaped, main_lines, text_of
 from .same import name_of_problem
@@ -53,7 +52,7 @@ def record_of(item, title=""):
     problem = item.problem
     notes = [item.task() + "."]
     if item.answers:
-        notes.append(f"Grade {grade(item.answers)}.")
+        notes.append(f"Grade {item.answers.grade}.")
     if problem.put:
         notes.append(f"Not in the game: {put_list(problem)}.")
     root = f"GN[{escaped(title)}]" * bool(title) + f"SO[{escaped(item.source)}]" * bool(item.source)

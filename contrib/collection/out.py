@@ -7,7 +7,6 @@ import subprocess
 import sys
 import tempfile
 
-from .grade import grade, points
 from .items import put_list, record_of
 from .pictures import Picture
 from .programs import Programs, find_programs, read_text
@@ -17,18 +16,18 @@ INDEX, TABLE, SHEET = "index.html", "index.tsv", "sheet.html"
 COLUMNS = ("number", "name", "grade", "points", "task", "turns", "tries", "sacrifices", "ko", "put up", "rows", "source")
 MAKE_PAGE = os.path.join(os.path.dirname(os.path.dirname(os.path.realpath(__file__))), "make-page")
 # A page shows lines up to so many turns, and leaves out replies that lose at once.
-PAGE_WORDS = ("--unaudited", "--short", "2", "--depth", "15")
+PAGE_WORDS = ("--judged", "--unaudited", "--short", "2", "--depth", "15")
 PER_PAGE = 6
 
 
 def ordered(items):
     """The items from the easiest to the hardest."""
-    return sorted(items, key=lambda it: (grade(it.answers), points(it.answers), it.name()))
+    return sorted(items, key=lambda it: (it.answers.grade, it.answers.points, it.name()))
 
 
 def row_of(number, item):
     answers = item.answers
-    measured = (grade(answers), points(answers), item.task(), len(answers.line), len(answers.tries), answers.sacrifices)
+    measured = (answers.grade, answers.points, item.task(), len(answers.line), len(answers.tries), answers.sacrifices)
     fields = (number, item.name(), *measured, "yes" if answers.ko else "no", put_list(item.problem) or "-", item.problem.size, item.source)
     return "\t".join(re.sub(r"\s+", " ", str(it)) for it in fields) + "\n"
 
@@ -111,7 +110,7 @@ def make_pages(folder, work, numbers, given):
     if not records:
         write_file(folder, INDEX, "<!DOCTYPE html>\n<title>No problems</title>\n<p>No problems.\n")
         return
-    environment = {**os.environ, "PROBLEM_TOOLS": find_programs()["problem_tools"]}
+    environment = {**os.environ, **{name.upper(): path for name, path in find_programs().items()}}
     for words in (["--into", folder], ["--sheet", "--per-page", str(PER_PAGE)]):
         done = subprocess.run([*common, *words, *records], capture_output=True, env=environment)
         if done.returncode != 0:

@@ -7,8 +7,7 @@ import re
 import shutil
 import subprocess
 
-from .boards import BLACK, WHITE, letters_of
-from .problems import TURNS
+from .boards import BLACK, WHITE
 from .words import FAILED, Stop, shown
 
 NAMES = ("short_claims", "first_moves", "problem_tools")
@@ -86,22 +85,9 @@ class Programs:
             return None
         return self.called("short_claims", ("check",), claim, lambda _, said: SIDES.get(said[5:6]) if said.startswith("wins ") else None)
 
-    def tree(self, record, steps):
-        """The record for readers of a claim; None where none is found."""
-        return self.ask("short_claims", ("tree", "--steps", str(steps)), record, read_text)
-
-    def first_moves(self, problem, steps):
-        """What each first turn is worth, as `first_moves --json` has it; None where it is refused."""
-        return self.ask("first_moves", ("--json", "--steps", str(steps)), problem.record(), read_lines)
-
-    def marked(self, problem, target, points, walls):
-        """The record that asks about a stone of a position, and None where that is refused."""
-        words = ("mark", "--bare", "--region", str(points), "--walls", walls, "--to-play", TURNS[problem.mover])
-        words += ("--target", letters_of(problem.size, target))
-        return self.ask("problem_tools", words, problem.record(), read_text)
-
-    def picture(self, record, *words):
-        return self.ask("problem_tools", ("picture", *words), record, read_text)
+    def graded(self, problem, steps):
+        """What each first turn is worth, with the answers and the grade, as `first_moves --grade` has it; None where it is refused."""
+        return self.ask("first_moves", ("--grade", "--steps", str(steps)), problem.record(), read_lines)
 
 
 def read_winner(status, text):

@@ -1,9 +1,9 @@
 """What a teacher would ask of a problem, as far as it can be counted, and which of several problems is best."""
 
 from .boards import EMPTY, OTHER, chain_at, neighbours
-from .grade import LEAST_TURNS
 
-# The fewest wrong first moves that a player would try.
+# The fewest turns of a solution that is worth a problem, and the fewest wrong first moves that a player would try.
+LEAST_TURNS = 3
 LEAST_TRIES = 2
 
 

@@ -66,6 +66,16 @@ def read_token(nodes, mark, letters, value, name):
     return name
 
 
+def place_of(content, name):
+    """The place of a property's first byte where it comes first in a record; None where it does not."""
+    at = re.search(rb"\(\s*;", content).start()
+    while token := TOKEN.match(content, at):
+        if token[2] == name:
+            return token.start(2)
+        at = token.end()
+    return None
+
+
 def size_of(root):
     """The rows of a game's board."""
     text = root.get("SZ", [b"19"])[0].decode("latin-1").strip()

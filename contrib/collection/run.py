@@ -23,7 +23,7 @@ from .words import BAD_WORDS, FAILED, SOLVED, UNKNOWN, Stop, shown, tell
 
 OPTIONS = ("every", "stones", "liberties", "put_up", "best")
 # It changes where what is kept of a game would be made otherwise.
-VERSION = 3
+VERSION = 4
 
 
 def find_games(path):

@@ -7,7 +7,6 @@ import sys
 from .answers import answers_of, has_one_answer
 from .cut import cut_out
 from .games import Game, item_of_file
-from .grade import grade
 from .items import put_list, read_items, record_of
 from .out import check_ours, write_collection
 from .programs import Programs, find_programs
@@ -91,7 +90,7 @@ def grades(given):
             status = UNKNOWN
             tell(f"{shown(name)}: record {number}: not one right first move")
             continue
-        measured = (grade(answers), len(answers.line), len(answers.tries), answers.sacrifices, "yes" if answers.ko else "no")
+        measured = (answers.grade, len(answers.line), len(answers.tries), answers.sacrifices, "yes" if answers.ko else "no")
         write("\t".join(map(str, (*measured, put_list(item.problem) or "-", item.name(), f"{name}:{number}"))) + "\n")
     return status
 

@@ -12,6 +12,6 @@ _first_moves() {
         return
         ;;
     esac
-    mapfile -t COMPREPLY < <(compgen -W '--list --json --coordinates --steps --depth --progress --help -h --version -V' -- "$word")
+    mapfile -t COMPREPLY < <(compgen -W '--list --json --grade --coordinates --steps --depth --progress --help -h --version -V' -- "$word")
 }
 complete -F _first_moves first_moves

@@ -12,7 +12,7 @@ _make_page() {
         ;;
     esac
     case $word in
-    -*) mapfile -t COMPREPLY < <(compgen -W '--sheet --per-page --into --keep-going --unaudited --short --depth --title --help -h' -- "$word") ;;
+    -*) mapfile -t COMPREPLY < <(compgen -W '--sheet --per-page --into --keep-going --unaudited --judged --grade --short --depth --title --help -h' -- "$word") ;;
     # Files and folders.
     *) compopt -o default ;;
     esac

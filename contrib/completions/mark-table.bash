@@ -10,7 +10,7 @@ _mark_table() {
         ;;
     esac
     case $word in
-    -*) mapfile -t COMPREPLY < <(compgen -W '--bare --help -h' -- "$word") ;;
+    -*) mapfile -t COMPREPLY < <(compgen -W '--bare --circles --help -h' -- "$word") ;;
     # Files and folders.
     *) compopt -o default ;;
     esac

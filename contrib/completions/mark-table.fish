@@ -2,3 +2,4 @@
 
 complete -c mark-table -s h -l help -d 'Print help'
 complete -c mark-table -l bare -d 'Write each position alone, without the moves before it'
+complete -c mark-table -l circles -d 'Mark the stones that are put up by circles'

@@ -173,10 +173,15 @@ function solution(problem) {
   }
 }
 
-// What is said of what nobody audited: of the solution, or of a line that begins with this position.
+// What is said of what nobody audited: of the solution, or of a line that begins with this position; or of what was judged otherwise.
 const UNAUDITED = "Nobody audited this solution; what proves such an answer is the short claim that “short_claims prove” writes.";
-const auditOf = (problem, first) =>
-  problem.unaudited ? UNAUDITED : first && noteOf(first.node).unaudited ? UNAUDITED.replace("this solution", "what follows this first move") : "";
+const JUDGED = "A short claim of this answer was accepted; nobody audited the lines.";
+function auditOf(problem, first) {
+  const note = first ? noteOf(first.node) : {};
+  if (problem.unaudited) return UNAUDITED;
+  if (problem.judged || note.judged) return JUDGED;
+  return note.unaudited ? UNAUDITED.replace("this solution", "what follows this first move") : "";
+}
 
 // The first turns that are right by the record.
 function rightTurns(problem) {
@@ -190,8 +195,12 @@ function isWon(problem) {
   return words.includes("wins") || (words.length && words.every((word) => word === "loses") ? false : null);
 }
 
-// What is asked, as books say it.
-const shortTask = (problem) => `${SIDES[problem.mover]} to play and ${problem.mover === problem.defender ? "live" : "kill"}`;
+// What is asked, as books say it. A seki cannot be killed: where not all of several problems can be solved, all are questions, so
+// that none gives its answer away.
+function shortTask(problem, isQuestion) {
+  const verb = problem.mover === problem.defender ? "live" : "kill";
+  return `${SIDES[problem.mover]} to play${isQuestion ? `. Can it ${verb}?` : ` and ${verb}.`}`;
+}
 
 function taskOf(problem) {
   const side = SIDES[problem.mover];

@@ -11,9 +11,11 @@ function solvedKeys() {
   }
 }
 
+const isQuestion = problems.some((one) => !one.won);
+
 function entry(one) {
   const svg = drawn(one, one.stones, { labels: new Map() });
-  return element("a", { href: one.page, "data-key": one.key }, svg, element("span", {}, one.name || one.page.replace(/\.html$/, "")), element("br", {}), shortTask(one));
+  return element("a", { href: one.page, "data-key": one.key }, svg, element("span", {}, one.name || one.page.replace(/\.html$/, "")), element("br", {}), shortTask(one, isQuestion).replace(/\.$/, ""));
 }
 
 function showIndex() {

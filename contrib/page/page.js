@@ -79,11 +79,12 @@ function takeBack() {
   say("Taken back.", "");
 }
 
+// Who is to move stands above the board.
 function startAgain() {
   line = [problem.start];
   isShown = false;
   show();
-  say(`${SIDES[problem.mover]} to move.`, "");
+  say("", "");
 }
 
 function showSolution() {
@@ -149,7 +150,8 @@ function openProblem(which) {
   cursor = null;
   byId("name").textContent = problem.name || "";
   byId("task").textContent = taskOf(problem);
-  byId("comment").textContent = [problem.comment, problem.source].filter(Boolean).join("\n\n");
+  const comment = (problem.comment || "").replace(shortTask(problem), "").trim();
+  byId("comment").textContent = [comment, problem.source].filter(Boolean).join("\n\n");
   document.title = problem.name || taskOf(problem);
   byId("turning").hidden = problems.length < 2;
   byId("previous").disabled = number === 0;

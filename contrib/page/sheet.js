@@ -3,9 +3,22 @@
 
 const problems = JSON.parse(byId("problems").textContent).map(problemOf);
 
+const isQuestion = problems.some((one) => !isWon(one));
+
+const isOpen = (one) => !["", JUDGED].includes(auditOf(one, solution(one)[0]));
+
 function figure(index, one, svg, told) {
-  const title = `${index + 1}. ${one.name ? `${one.name}: ` : ""}`;
-  return element("figure", {}, svg, element("figcaption", {}, title + told));
+  const title = `${index + 1}.${one.name ? ` ${one.name}${told && ":"}` : ""}`;
+  return element("figure", {}, svg, element("figcaption", {}, [title, told].filter(Boolean).join(" ")));
+}
+
+// Whether the side to move wins, and by which first moves where there are several. What was not asked is not answered.
+function verdict(one, isExplained) {
+  const won = isWon(one), right = rightTurns(one);
+  if (won === null) return "Not judged.";
+  if (!won) return isExplained ? "No." : `No: the marked stones ${one.mover === one.defender ? "die" : "live"}.`;
+  const also = right.length > 1 ? right.join(", ") : "";
+  return isQuestion ? `Yes${also && ": "}${also}.` : also && `Right are ${also}.`;
 }
 
 function sheets(perPage) {
@@ -16,16 +29,15 @@ function sheets(perPage) {
     }
     return made;
   };
-  const asked = problems.map((one, i) => figure(i, one, drawn(one, one.stones, { labels: labelsAt(one, one.labels) }), `${shortTask(one)}.`));
+  const asked = problems.map((one, i) => figure(i, one, drawn(one, one.stones, { labels: labelsAt(one, one.labels) }), shortTask(one, isQuestion)));
   const answers = problems.map((one, i) => {
-    const moves = solution(one), won = isWon(one);
+    const moves = solution(one);
     const { svg, told, comment } = diagram(one, moves);
-    const right = rightTurns(one);
-    const says = [won === null ? "Not judged." : won ? (right.length > 1 ? `Yes: ${right.join(", ")}.` : "Yes.") : "No.", told && `${told}.`, comment];
-    return figure(i, one, svg, says.filter(Boolean).join(" ") + (auditOf(one, moves[0]) && " *"));
+    const says = [verdict(one, Boolean(comment)), told && `${told}.`, comment];
+    return figure(i, one, svg, says.filter(Boolean).join(" ") + (isOpen(one) ? " *" : ""));
   });
   const last = pages(answers, 12, "sheet answers", "Answers");
-  if (problems.some((one) => auditOf(one, solution(one)[0]))) last[last.length - 1].append(element("p", { class: "audit" }, `* ${UNAUDITED}`));
+  if (problems.some(isOpen)) last[last.length - 1].append(element("p", { class: "audit" }, `* ${UNAUDITED}`));
   document.body.append(...pages(asked, perPage, "sheet"), ...last);
 }
 

@@ -319,6 +319,31 @@ class Best(Case):
         self.assertIn(why, done.notes)
         self.assertEqual(list(folder.iterdir()), [])
 
+    @case("contrib/mark-table: circles for the stones that are put up", "AW[gb]PL[W]CR[gb]TR")
+    @case("contrib/mark-table: circles in a position alone", "PL[W]CR[gb]TR", "bare")
+    def circles(self, circles, *bare):
+        table, folder, record = new_place() / "table.tsv", new_place() / "marked", place("three.sgf")
+        record.write_text(example("straight-three").replace("PL[W]", "C[CR and TR[ are names\\] here]PL[W]"))
+        table.write_text("\t".join([str(record), "", "A7", "white", "4", "natural", *bare]) + "\n")
+        done = run("contrib/mark-table", "--circles", table, folder)
+        self.ends(0, done)
+        self.assertIn("white stones are put up at G6", done.notes)
+        text = (folder / "0001-three.sgf").read_text()
+        self.assertIn(circles, text)
+        self.assertEqual(text.count("CR["), 1)
+
+    @case("contrib/mark-table: no stone is put up where the game goes on", "G6", 2)
+    @case("contrib/mark-table: one may be put up elsewhere", "G5", 0)
+    def next_turn(self, point, status):
+        table, folder, record = new_place() / "table.tsv", new_place() / "marked", place("game.sgf")
+        turn = "g" + "gfedcba"[int(point[1]) - 1]
+        record.write_text(example("straight-three").rstrip()[:-1] + f";W[{turn}])")
+        table.write_text(f"{record}\t0\tA7\twhite\t4\tnatural\n{record}\t\tA7\twhite\t4\tnatural\n")
+        done = run("contrib/mark-table", table, folder)
+        self.ends(status, done)
+        self.assertEqual(done.notes.count(f"a stone would be put up at {point}, where the game goes on"), status)
+        self.assertEqual(len(list(folder.iterdir())), 2 - status)
+
     @case("contrib/mark-table: another program in place of group_status")
     def knows_no_answer(self):
         done, _ = self.marked("no answer", ("examples/straight-three.sgf", "", "A7", "white", "best"))

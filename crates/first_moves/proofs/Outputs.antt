@@ -26,6 +26,7 @@ refused form Is (Err fault) e = tt
 refused forms.List Is (Ok o) e = no_answer Is o e
 refused forms.Record Is (Ok o) e = tt
 refused forms.Json Is (Ok o) e = tt
+refused forms.Graded Is (Ok o) e = tt
 
 -- what is said of a text in one way may be said in another
 with_text : (P Q : List ℕ → Type 0) → ((text : List ℕ) → P text → Q text) → (o : Output) → AnswersText P o → AnswersText Q o
@@ -37,6 +38,7 @@ in_form form P Q f (Err fault) h = tt
 in_form forms.List P Q f (Ok o) h = with_text P Q f o h
 in_form forms.Record P Q f (Ok o) h = tt
 in_form forms.Json P Q f (Ok o) h = tt
+in_form forms.Graded P Q f (Ok o) h = tt
 
 -- the list of the first turns, and with those of the line
 pub short : (request : Request) (q : GameProblem) (names : Names) (found : List Found) → names ≡ names_of request.coordinates q.game.size → AreJudged q (legal_turns (start q)) found

@@ -62,6 +62,7 @@ abbrev pub IsInForm : Form → (List ℕ → Type 0) → Output → Type 0
 IsInForm forms.List Is output = AnswersText Is output
 IsInForm forms.Record Is output = Unit
 IsInForm forms.Json Is output = Unit
+IsInForm forms.Graded Is output = Unit
 
 -- the list of the problem of the first tree of these bytes
 abbrev pub IsListOf : Request → List ℕ → List ℕ → Type 0

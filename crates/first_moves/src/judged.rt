@@ -31,7 +31,7 @@ pub(crate) enum Judged {
 }
 
 /// The problem with this history and the other side to move.
-fn problem_with(
+pub(crate) fn problem_with(
     problem: &Problem,
     history: Vec<Colouring>,
     place: usize,

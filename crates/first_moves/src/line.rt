@@ -190,7 +190,11 @@ fn next_position(
 }
 
 /// The problem after the turn; none where there is none.
-fn turn_made(alloc: Global, problem: &Problem, turn: Turn) -> Result<Option<Problem>, AllocError>
+pub(crate) fn turn_made(
+    alloc: Global,
+    problem: &Problem,
+    turn: Turn,
+) -> Result<Option<Problem>, AllocError>
     ensures { IfOk result
         (λ made. IfSome made (λ later. IsProblemAfter problem.now
         (ply_of problem.now.game.size turn) later)) }

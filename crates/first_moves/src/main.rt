@@ -3,6 +3,8 @@
 
 mod claim;
 mod found;
+mod grade;
+mod graded;
 mod judged;
 mod line;
 mod line_record;
@@ -12,6 +14,9 @@ mod names;
 mod program;
 mod reading;
 mod record;
+mod replies;
+mod threat;
+mod variation;
 mod words;
 
 use program::run;

@@ -9,6 +9,7 @@ ghost use Rattle.first_moves.specs.Text.{long_list, short_list};
 ghost use Rattle.first_moves.specs.declared.line_solution.LineSolution.{LineSolution};
 
 use crate::found::{Found, Settings, counted, judge_turns};
+use crate::graded::graded_lines;
 use crate::line::{Line, judge_line};
 use crate::list::{json_lines, long_list, short_list};
 use crate::names::Names;
@@ -152,6 +153,10 @@ fn first_written(
             let text = json_lines(alloc, &settings.names, found, counted(found), None)?;
             Ok(Output::Text(text, Status::Answered))
         }
+        Form::Graded => {
+            let text = graded_lines(alloc, problem, settings, found, None)?;
+            Ok(Output::Text(text, Status::Answered))
+        }
     }
 }
 
@@ -180,6 +185,10 @@ fn line_written(
         }
         Form::Json => {
             let text = json_lines(alloc, &settings.names, found, counted(found), Some(line))?;
+            Ok(Output::Text(text, Status::Answered))
+        }
+        Form::Graded => {
+            let text = graded_lines(alloc, problem, settings, found, Some(line))?;
             Ok(Output::Text(text, Status::Answered))
         }
     }

@@ -20,6 +20,8 @@ pub enum Form {
     List,
     /// The lines as JSON, with one object on each line.
     Json,
+    /// The same, with an object for each trap, and one for the winner and the grade.
+    Graded,
 }
 
 /// What the words ask for.
@@ -56,8 +58,11 @@ fn chosen(given: &ArgMatches<'_>) -> Request {
     }
 }
 
-/// The form that is asked for; JSON if both others are named.
+/// The form that is asked for; JSON if both others are named, and where a grade is asked for.
 fn chosen_form(given: &ArgMatches<'_>) -> Form {
+    if given.get_one::<bool>("grade").unwrap_or(false) {
+        return Form::Graded;
+    }
     if given.get_one::<bool>("json").unwrap_or(false) {
         return Form::Json;
     }
@@ -77,6 +82,7 @@ fn program<'a>(alloc: Global) -> Result<clap::Command<'a>, AllocError> {
     let program = program.arg(depth_argument(alloc))?;
     let program = program.arg(list_argument(alloc))?;
     let program = program.arg(json_argument(alloc))?;
+    let program = program.arg(grade_argument(alloc))?;
     let program = program.arg(coordinates_argument(alloc))?;
     program.arg(progress_argument(alloc))
 }
@@ -110,6 +116,15 @@ fn json_argument<'a>(alloc: Global) -> Arg<'a> {
     Arg::new(alloc, "json")
         .help("Writes JSON, an object a line, in place of the record")
         .long("json")
+        .action(ArgAction::SetTrue)
+}
+
+fn grade_argument<'a>(alloc: Global) -> Arg<'a> {
+    Arg::new(alloc, "grade")
+        .help(
+            "Writes JSON with the winner, and for one right turn a line for people, traps and a grade",
+        )
+        .long("grade")
         .action(ArgAction::SetTrue)
 }
 

@@ -5,10 +5,11 @@ ghost use Rattle.first_moves.specs.Grade.{grade_of, is_refuted, winner_of};
 
 use crate::found::{Found, Settings, Solution, Tally};
 use crate::judged::Judged;
-use crate::line::{MOST_TURNS, turn_made};
+use crate::line::turn_made;
 use crate::threat::threatens;
 use crate::variation::{Variation, no_turns, variation_of};
 use go_points::{Colour, Point, Size, Turn};
+use run_parts::MAX_TURNS;
 use short_proofs::{Reading, find_reading};
 use std::alloc::{AllocError, Global};
 use target_game::Problem;
@@ -16,10 +17,10 @@ use target_game::Problem;
 /// So many points make a grade, of which this is the greatest.
 const POINTS_OF_GRADE: usize = 4;
 
-const MOST_GRADE: usize = 9;
+const MAX_GRADE: usize = 9;
 
 /// The most stones lost that count.
-const MOST_LOST: usize = 3;
+const MAX_LOST: usize = 3;
 
 /// A wrong first move that a player would try, and the line that refutes it.
 #[derive(Drop)]
@@ -82,7 +83,7 @@ fn shown(
     settings: &Settings,
 ) -> Result<Option<Variation>, AllocError> {
     let table = settings.budget.table;
-    match find_reading(alloc, problem, settings.budget, MOST_TURNS)? {
+    match find_reading(alloc, problem, settings.budget, MAX_TURNS)? {
         Reading::Wins {
             winner: found,
             turns: _,
@@ -192,7 +193,7 @@ pub(crate) fn points(lesson: &Lesson) -> usize {
         turns = turns.saturating_add(trap.refutation.turns.len());
     }
     let traps = lesson.traps.len();
-    let lost = lesson.solution.lost.min(MOST_LOST);
+    let lost = lesson.solution.lost.min(MAX_LOST);
     let ko: usize = if has_ko(lesson) { 2 } else { 0 };
     let line = lesson.solution.turns.len().saturating_sub(1);
     line.saturating_add(traps)
@@ -226,5 +227,5 @@ fn mean(sum: usize, count: usize) -> usize {
 pub(crate) fn grade_of(points: usize) -> usize
     ensures { result ≡ grade_of points }
 {
-    (points / POINTS_OF_GRADE + 1).min(MOST_GRADE)
+    (points / POINTS_OF_GRADE + 1).min(MAX_GRADE)
 }

@@ -12,9 +12,9 @@ use target_game::{PlayState, Problem};
 use tsumego_problem::first_marked;
 
 /// The most turns of such a line, and the most replies that are tried for one that threatens something.
-const MOST_TURNS: u64 = 21;
+const MAX_TURNS: u64 = 21;
 
-const MOST_TRIED: u64 = 12;
+const MAX_TRIED: u64 = 12;
 
 /// A line of play for people.
 #[derive(Drop)]
@@ -58,7 +58,7 @@ pub(crate) fn variation_of(
     let mut turns = Vec::new(alloc);
     let mut lost: usize = 0;
     let mut has_ko = false;
-    for _ in 0..MOST_TURNS {
+    for _ in 0..MAX_TURNS {
         let is_winners = position.mover() == winner;
         let replies = all.as_slice();
         let next = next_turn(alloc, &position, is_winners, replies, place, table)?;
@@ -102,7 +102,7 @@ fn next_turn(
         return Ok(first_below(replies, above));
     }
     let mut last = None;
-    for _ in 0..MOST_TRIED {
+    for _ in 0..MAX_TRIED {
         let Some((number, turn)) = longest_below(replies, above, last) else {
             return Ok(None);
         };

@@ -27,7 +27,7 @@ use Rattle.tool_parts.specs.Says.{colour_text, winner_text}
 use Rattle.tool_parts.specs.Written.{bytes_of, end_of}
 use Rattle.tool_parts.specs.declared.output.Output.{Output}
 use Rattle.tool_parts.specs.declared.output.Output.TheVariants.{Record}
-use Rattle.run_parts.specs.declared.status.Status.TheVariants.{Answered, Rejected, Refused}
+use Rattle.run_parts.specs.declared.status.Status.TheVariants.{Answered, Unanswered, Refused}
 use Rattle.short_proofs.specs.declared.words.Request.{Request}
 use Rattle.short_proofs.specs.declared.words.Request.TheVariants as asks
 
@@ -45,7 +45,7 @@ HasVerdict x tree = (before after : List Node) × (node : Node) × (tree.nodes �
 
 -- It is not answered, and what is rejected is said to be.
 abbrev pub IsRejection : Output → Type 0
-IsRejection o = (end_of o ≢ Answered) × (end_of o ≡ Rejected → (rest : List ℕ) × (bytes_of o ≡ codes "rejected line " ++ rest))
+IsRejection o = (end_of o ≢ Answered) × (end_of o ≡ Unanswered → (rest : List ℕ) × (bytes_of o ≡ codes "rejected line " ++ rest))
 
 -- What is said of stones that stand: their colour, by which first move, if it takes one, and all of them, row by row.
 abbrev pub spaced : Place → List ℕ
@@ -86,7 +86,7 @@ NamesDead q text = (targets supposed : List Cell) × (text ≡ dead_text q.game.
 -- What is answered is one of these, and what is rejected is said to be.
 pub record SaysVerdict (q : GameProblem) (o : Output) : Type 0 where
   pub answer : end_of o ≡ Answered → NamesWinner q (bytes_of o) ⊎ (NamesSafe q (bytes_of o) ⊎ NamesDead q (bytes_of o))
-  pub rejection : end_of o ≡ Rejected → (rest : List ℕ) × (bytes_of o ≡ codes "rejected line " ++ rest)
+  pub rejection : end_of o ≡ Unanswered → (rest : List ℕ) × (bytes_of o ≡ codes "rejected line " ++ rest)
 
 -- The judge of short claims accepts these bytes, and nothing after them, for this side: by each test that tells what lives by its shape.
 abbrev pub IsAccepted : GameProblem → List ℕ → Colour → Type 0

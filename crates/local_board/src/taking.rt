@@ -6,17 +6,17 @@ use crate::position::{Position, Side};
 
 /// What is known of the chains of a side.
 #[derive(Clone, Copy)]
-struct Liberties {
+struct Liberties<S> {
     /// The liberties of chains that can be taken and have only one.
-    last: PlaceSet,
+    last: S,
     /// The places beside the stones of all other chains.
-    strong: PlaceSet,
+    strong: S,
 }
 
-impl Board {
+impl<S: PlaceSet> Board<S> {
     /// The position after a stone of this side at the empty place, by the rules of capture and suicide. It is the same position if
     /// a single stone takes itself off.
-    pub fn after(&self, position: Position, side: Side, place: usize) -> Position {
+    pub fn after(&self, position: Position<S>, side: Side, place: usize) -> Position<S> {
         let own = position.of(side).with(place);
         let other = position.of(side.other());
         let empty = self.all.minus(own).minus(other);
@@ -31,43 +31,31 @@ impl Board {
     }
 
     /// The stones of this side's chains beside the place that have no liberty.
-    fn taken_beside(
-        &self,
-        place: usize,
-        stones: PlaceSet,
-        empty: PlaceSet,
-        side: Side,
-    ) -> PlaceSet {
-        let mut taken = PlaceSet::empty();
-        let mut rest = self.near(place).and(stones).places();
+    fn taken_beside(&self, place: usize, stones: S, empty: S, side: Side) -> S {
+        let mut taken = S::empty();
+        let mut rest = self.near(place).and(stones);
         for _ in 0..u64::MAX {
-            let Some(at) = rest.take() else {
+            let Some(at) = rest.take_first() else {
                 return taken;
             };
             if let Some(chain) = self.chain_without_liberty(stones, empty, at, side) {
                 taken = taken.or(chain);
-                rest.skip(chain);
+                rest = rest.minus(chain);
             }
         }
         taken
     }
 
     /// The chain of the stone at this place, if it has no liberty.
-    fn chain_without_liberty(
-        &self,
-        own: PlaceSet,
-        empty: PlaceSet,
-        place: usize,
-        side: Side,
-    ) -> Option<PlaceSet> {
+    fn chain_without_liberty(&self, own: S, empty: S, place: usize, side: Side) -> Option<S> {
         let lasting = self.lasting.of(side);
         if lasting.has(place) {
             return None;
         }
-        let mut chain = PlaceSet::empty().with(place);
-        let mut front = chain.places();
+        let mut chain = S::empty().with(place);
+        let mut front = chain;
         for _ in 0..u64::MAX {
-            let Some(at) = front.take() else {
+            let Some(at) = front.take_first() else {
                 return Some(chain);
             };
             let near = self.near(at);
@@ -76,50 +64,50 @@ impl Board {
                 return None;
             }
             chain = chain.or(more);
-            front.add(more);
+            front = front.or(more);
         }
         None
     }
 
     /// For each side, the empty places where its stone takes nothing and has a liberty: the stone is put down, and nothing else
     /// changes.
-    pub fn plain(&self, position: Position) -> Position {
+    pub fn quiet(&self, position: Position<S>) -> Position<S> {
         let empty = self.empty(position);
         let attacker = self.liberties(position.attacker, empty, Side::Attacker);
         let defender = self.liberties(position.defender, empty, Side::Defender);
         let open = self.all_beside(empty);
         Position {
-            attacker: self.plain_for(position, Side::Attacker, open, attacker, defender),
-            defender: self.plain_for(position, Side::Defender, open, defender, attacker),
+            attacker: self.quiet_for(position, Side::Attacker, open, attacker, defender),
+            defender: self.quiet_for(position, Side::Defender, open, defender, attacker),
         }
     }
 
-    fn plain_for(
+    fn quiet_for(
         &self,
-        position: Position,
+        position: Position<S>,
         side: Side,
-        open: PlaceSet,
-        own: Liberties,
-        other: Liberties,
-    ) -> PlaceSet {
+        open: S,
+        own: Liberties<S>,
+        other: Liberties<S>,
+    ) -> S {
         let safe = open.or(self.lasting.of(side)).or(own.strong);
         self.empty(position).minus(other.last).and(safe)
     }
 
     /// What is known of the chains of this side.
-    fn liberties(&self, own: PlaceSet, empty: PlaceSet, side: Side) -> Liberties {
+    fn liberties(&self, own: S, empty: S, side: Side) -> Liberties<S> {
         let lasting = self.lasting.of(side);
         let mut found = Liberties {
-            last: PlaceSet::empty(),
-            strong: PlaceSet::empty(),
+            last: S::empty(),
+            strong: S::empty(),
         };
-        let mut rest = own.places();
+        let mut rest = own;
         for _ in 0..u64::MAX {
-            let Some(at) = rest.take() else {
+            let Some(at) = rest.take_first() else {
                 return found;
             };
             let (chain, near) = self.chain_and_near(own, at);
-            rest.skip(chain);
+            rest = rest.minus(chain);
             let liberties = near.and(empty);
             if liberties.has_several() || chain.meets(lasting) {
                 found.strong = found.strong.or(near);
@@ -130,16 +118,16 @@ impl Board {
         found
     }
 
-    /// The position after a stone of this side at the empty place. `None` if nothing changes. `plain` has places where a stone is
+    /// The position after a stone of this side at the empty place. `None` if nothing changes. `quiet` has places where a stone is
     /// put down and nothing else changes.
     pub fn played(
         &self,
-        position: Position,
+        position: Position<S>,
         side: Side,
         place: usize,
-        plain: PlaceSet,
-    ) -> Option<Position> {
-        if plain.has(place) {
+        quiet: S,
+    ) -> Option<Position<S>> {
+        if quiet.has(place) {
             return Some(position.with(side, place));
         }
         let after = self.after(position, side, place);
@@ -149,13 +137,13 @@ impl Board {
     /// The key of that position, from the key of this one.
     pub fn played_key(
         &self,
-        position: Position,
+        position: Position<S>,
         key: u64,
         side: Side,
         place: usize,
-        plain: PlaceSet,
+        quiet: S,
     ) -> Option<u64> {
-        if plain.has(place) {
+        if quiet.has(place) {
             return Some(key ^ self.word(side, place));
         }
         let after = self.after(position, side, place);
@@ -166,14 +154,10 @@ impl Board {
     }
 
     /// The places where the attacker takes a target at once.
-    pub fn takes(&self, position: Position) -> PlaceSet {
+    pub fn takes(&self, position: Position<S>) -> S {
         let empty = self.empty(position);
-        let mut found = PlaceSet::empty();
-        let mut rest = self.heads.and(position.defender).places();
-        for _ in 0..u64::MAX {
-            let Some(at) = rest.take() else {
-                return found;
-            };
+        let mut found = S::empty();
+        for at in self.heads.and(position.defender).places() {
             let last = self.last_liberty(position.defender, empty, at);
             found = found.or(last.and(self.region));
         }
@@ -182,22 +166,22 @@ impl Board {
 
     /// The only liberty of the defender's chain at this place. The set is empty if the chain has more liberties, or can never be
     /// taken.
-    fn last_liberty(&self, own: PlaceSet, empty: PlaceSet, place: usize) -> PlaceSet {
-        let mut chain = PlaceSet::empty().with(place);
-        let mut front = chain.places();
-        let mut liberties = PlaceSet::empty();
+    fn last_liberty(&self, own: S, empty: S, place: usize) -> S {
+        let mut chain = S::empty().with(place);
+        let mut front = chain;
+        let mut liberties = S::empty();
         for _ in 0..u64::MAX {
-            let Some(at) = front.take() else {
+            let Some(at) = front.take_first() else {
                 break;
             };
             let near = self.near(at);
             liberties = liberties.or(near.and(empty));
             if liberties.has_several() || self.lasting.defender.has(at) {
-                return PlaceSet::empty();
+                return S::empty();
             }
             let more = near.and(own).minus(chain);
             chain = chain.or(more);
-            front.add(more);
+            front = front.or(more);
         }
         liberties
     }

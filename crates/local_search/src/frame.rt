@@ -8,8 +8,8 @@ use state_proofs::{Count, MoverNumbers, Standing, Thresholds, key_after_move, ke
 
 /// A state: the places of its stones, and its key.
 #[derive(Clone, Copy)]
-pub(crate) struct State {
-    pub(crate) position: Position,
+pub(crate) struct State<S> {
+    pub(crate) position: Position<S>,
     pub(crate) key: Key,
 }
 
@@ -47,15 +47,15 @@ pub(crate) struct Child {
     pub(crate) key: Key,
     pub(crate) outcome: Outcome,
     /// How many points are left there where the defender could have an eye, if that was asked.
-    pub(crate) many: Option<u8>,
+    pub(crate) eye_points: Option<u8>,
     /// How unlikely the turn is to win, in eighths: the number of the child is multiplied by this.
     pub(crate) weight: u32,
 }
 
 /// A state of the line. Its children come after those of the states above it, in one list for all.
 #[derive(Clone, Copy)]
-pub(crate) struct Frame {
-    pub(crate) state: State,
+pub(crate) struct Frame<S> {
+    pub(crate) state: State<S>,
     /// The turn before it.
     pub(crate) last: Step,
     pub(crate) thresholds: Thresholds,

@@ -7,7 +7,7 @@ use crate::finish::{Finish, Goal};
 use crate::frame::State;
 use crate::search::Search;
 use crate::smaller::Smaller;
-use local_board::{Side, Step};
+use local_board::{LargeSet, MAX_SMALL, PlaceSet, Side, SmallSet, Step, count_changing};
 use state_proofs::{Answers, Proofs, Refusal, Shared, Stop, steps_for_smaller};
 use std::alloc::{AllocError, Global};
 use std::mem;
@@ -34,7 +34,27 @@ pub fn prove(
     ensures fewer { left.new ≤ left.old }
     ensures all { IfErr result (λ stop. stop ≡ Steps → left.new ≡ 0) }
 {
-    let Ok((search, start)) = Search::of(alloc, problem, table) else {
+    match count_changing(alloc, problem) {
+        Ok(count) if count <= MAX_SMALL => {
+            prove_by::<SmallSet>(alloc, problem, table, answers, left)
+        }
+        Ok(_) => prove_by::<LargeSet>(alloc, problem, table, answers, left),
+        Err(_) => Err(Stop::Refused(Refusal::Memory)),
+    }
+}
+
+/// The same with sets of this kind, which have room for all points that can change.
+fn prove_by<S: PlaceSet>(
+    alloc: Global,
+    problem: &Problem,
+    table: NonZeroUsize,
+    answers: Answers,
+    left: &mut u64,
+) -> Result<Shared, Stop>
+    ensures fewer { left.new ≤ left.old }
+    ensures all { IfErr result (λ stop. stop ≡ Steps → left.new ≡ 0) }
+{
+    let Ok((search, start)) = Search::<S>::of(alloc, problem, table) else {
         return Err(Stop::Refused(Refusal::Memory));
     };
     let mut proving = Proving {
@@ -60,14 +80,14 @@ pub fn prove(
 
 /// The whole search.
 #[derive(Drop)]
-struct Proving {
-    finish: Finish,
-    start: State,
+struct Proving<S> {
+    finish: Finish<S>,
+    start: State<S>,
     /// The proofs that were made whole, by their places in the list.
     whole: Vec<(usize, usize)>,
 }
 
-impl Proving {
+impl<S: PlaceSet> Proving<S> {
     /// The proofs that are found.
     fn prove(&mut self, alloc: Global, answers: Answers) -> Result<Shared, Stop> {
         self.finish.search.has_leaves = answers == Answers::Short;

@@ -15,7 +15,7 @@ use crate::kept::KeptMoves;
 use crate::numbers::{numbers_of, thresholds_below};
 use crate::results::TurnResults;
 use go_points::Colour;
-use local_board::{Board, Position, Shapes, Side, Step};
+use local_board::{Board, PlaceSet, Position, Shapes, Side, Step};
 use pn_table::{Key, Numbers, Table};
 use state_proofs::{
     Branch, Count, Form, MAX_LINE, Marks, MoverNumbers, Past, Proofs, Refusal, Standing, Steps,
@@ -30,10 +30,10 @@ use target_game::Problem;
 /// vain.
 const STORED: usize = 130_000;
 
-/// A search on a board of at most 128 points that can change.
+/// A search on a board whose places sets of this kind hold.
 #[derive(Drop)]
-pub(crate) struct Search {
-    pub(crate) shapes: Shapes,
+pub(crate) struct Search<S> {
+    pub(crate) shapes: Shapes<S>,
     pub(crate) proofs: Proofs,
     /// What has occurred before the end of the line, and how many turns the line has.
     pub(crate) past: Past,
@@ -51,7 +51,7 @@ pub(crate) struct Search {
     stored: Marks,
     pub(crate) kept: KeptMoves,
     pub(crate) results: TurnResults,
-    pub(crate) frames: Vec<Frame>,
+    pub(crate) frames: Vec<Frame<S>>,
     pub(crate) children: Vec<Child>,
     /// The branches of one proof.
     pub(crate) branches: Vec<Branch>,
@@ -59,13 +59,13 @@ pub(crate) struct Search {
     pub(crate) barred: Vec<u64>,
 }
 
-impl Search {
+impl<S: PlaceSet> Search<S> {
     /// A search that knows nothing yet, at the start of the problem, and its first state.
     pub(crate) fn of(
         alloc: Global,
         problem: &Problem,
         capacity: NonZeroUsize,
-    ) -> Result<(Search, State), AllocError> {
+    ) -> Result<(Search<S>, State<S>), AllocError> {
         let (board, position) = Board::of(alloc, problem)?;
         let places = board.len();
         let mut stored = Marks::new(alloc);
@@ -110,7 +110,7 @@ impl Search {
     }
 
     /// The state after this turn.
-    pub(crate) fn after(&self, state: State, step: Step) -> State {
+    pub(crate) fn after(&self, state: State<S>, step: Step) -> State<S> {
         match step {
             Step::Pass => State {
                 position: state.position,
@@ -186,7 +186,7 @@ impl Search {
     /// Searches the state at the end of the line, to which this turn has led, until it is settled. The line is then as it was.
     pub(crate) fn settle(
         &mut self,
-        state: State,
+        state: State<S>,
         last: Step,
         steps: &mut Steps,
     ) -> Result<u32, Stop>
@@ -202,7 +202,7 @@ impl Search {
     }
 
     /// The search, which leaves the line where it ends.
-    fn search(&mut self, state: State, last: Step, steps: &mut Steps) -> Result<u32, Stop>
+    fn search(&mut self, state: State<S>, last: Step, steps: &mut Steps) -> Result<u32, Stop>
         ensures work { work steps.new ≤ work steps.old }
     {
         self.expand(state, last, Thresholds::none(), steps)?;
@@ -215,7 +215,7 @@ impl Search {
     }
 
     /// The children of the frame, which is the last.
-    pub(crate) fn children_of(&self, frame: Frame) -> &[Child] {
+    pub(crate) fn children_of(&self, frame: Frame<S>) -> &[Child] {
         part_from(self.children.as_slice(), frame.first)
     }
 
@@ -242,7 +242,7 @@ impl Search {
     }
 
     /// Makes the proof of the last frame, and gives it to the frame above.
-    fn settle_last(&mut self, frame: Frame, form: Form) -> Result<Option<u32>, Stop> {
+    fn settle_last(&mut self, frame: Frame<S>, form: Form) -> Result<Option<u32>, Stop> {
         let mover = frame.state.key.mover;
         let winner = match form {
             Form::Turn => mover,
@@ -259,7 +259,7 @@ impl Search {
     }
 
     /// Notes which turns of the frame have won.
-    fn learn(&mut self, frame: Frame, mover_wins: bool) {
+    fn learn(&mut self, frame: Frame<S>, mover_wins: bool) {
         let side = self.side(frame.state.key.mover);
         for place in frame.first..self.children.len() {
             if let Some(child) = self.children.get(place).copied() {
@@ -277,7 +277,7 @@ impl Search {
     }
 
     /// Removes the last frame, and notes this outcome in the frame above. Returns whether there is one.
-    fn leave(&mut self, frame: Frame, outcome: Outcome) -> bool {
+    fn leave(&mut self, frame: Frame<S>, outcome: Outcome) -> bool {
         self.frames.pop();
         self.children.truncate(frame.first);
         let Some(above) = self.frames.last().copied() else {
@@ -289,7 +289,7 @@ impl Search {
     }
 
     /// Leaves the last frame, which is not settled, with these numbers.
-    fn leave_open(&mut self, frame: Frame, numbers: MoverNumbers) {
+    fn leave_open(&mut self, frame: Frame<S>, numbers: MoverNumbers) {
         let key = frame.state.key;
         let is_attacker = key.mover == self.attacker;
         self.stored.mark(key.position);
@@ -305,7 +305,7 @@ impl Search {
     }
 
     /// Goes down to the child with the least weighed number, or settles it if it has been proved in the meantime.
-    fn go_down(&mut self, frame: Frame, count: Count, steps: &mut Steps) -> Result<(), Stop>
+    fn go_down(&mut self, frame: Frame<S>, count: Count, steps: &mut Steps) -> Result<(), Stop>
         ensures work { work steps.new ≤ work steps.old }
     {
         let place = frame.first.saturating_add(count.best);
@@ -333,7 +333,7 @@ impl Search {
 }
 
 /// The state of the problem.
-fn first_state(problem: &Problem, position: Position) -> State {
+fn first_state<S: PlaceSet>(problem: &Problem, position: Position<S>) -> State<S> {
     State {
         position,
         key: Key {

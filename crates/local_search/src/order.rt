@@ -23,7 +23,8 @@ const ROOMS: [u32; 5] = [0, 15, 11, 7, 4];
 /// The steps that are set aside for the last walk.
 const LAST_STEPS: u64 = 500;
 
-/// The proofs that the search finds with a table of this many states. Each state that is opened is a step.
+/// The proofs that the search finds with a table of this many states. Each state that is opened is a step. Where more points can
+/// change than a small set holds, it does not ask about shapes.
 pub fn prove(
     alloc: Global,
     problem: &Problem,
@@ -36,25 +37,26 @@ pub fn prove(
 {
     match count_changing(alloc, problem) {
         Ok(count) if count <= MAX_SMALL => {
-            prove_by::<SmallSet>(alloc, problem, table, answers, left)
+            prove_by::<SmallSet>(alloc, problem, table, true, answers, left)
         }
-        Ok(_) => prove_by::<LargeSet>(alloc, problem, table, answers, left),
+        Ok(_) => prove_by::<LargeSet>(alloc, problem, table, false, answers, left),
         Err(_) => Err(Stop::Refused(Refusal::Memory)),
     }
 }
 
-/// The same with sets of this kind, which have room for all points that can change.
+/// The same with sets of this kind, which have room for all points that can change, and with or without questions about shapes.
 fn prove_by<S: PlaceSet>(
     alloc: Global,
     problem: &Problem,
     table: NonZeroUsize,
+    asks_shapes: bool,
     answers: Answers,
     left: &mut u64,
 ) -> Result<Shared, Stop>
     ensures fewer { left.new ≤ left.old }
     ensures all { IfErr result (λ stop. stop ≡ Steps → left.new ≡ 0) }
 {
-    let Ok((search, start)) = Search::<S>::of(alloc, problem, table) else {
+    let Ok((search, start)) = Search::<S>::of(alloc, problem, table, asks_shapes) else {
         return Err(Stop::Refused(Refusal::Memory));
     };
     let mut proving = Proving {
@@ -173,7 +175,8 @@ impl<S: PlaceSet> Proving<S> {
     fn smaller(&mut self, alloc: Global, first: u32) -> u32 {
         let mut best = first;
         for room in ROOMS {
-            if (room == 0) == (self.turns_of(best) <= LARGE) {
+            let is_due = (room == 0) == (self.turns_of(best) <= LARGE);
+            if is_due && self.finish.search.asks_shapes {
                 best = self.with_room(alloc, room, best);
             }
         }

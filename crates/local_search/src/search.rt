@@ -39,6 +39,9 @@ pub(crate) struct Search<S> {
     pub(crate) past: Past,
     pub(crate) turns: usize,
     pub(crate) attacker: Colour,
+    /// Whether shapes are asked about at all. On a wide board a state has hundreds of children, and questions about each of them
+    /// would take far longer than all else.
+    pub(crate) asks_shapes: bool,
     /// Whether to ask who lives, and who cannot have two eyes, by shape; and how little must be left to play for a group to be
     /// taken to live (0 for any amount).
     pub(crate) asks_life: bool,
@@ -65,6 +68,7 @@ impl<S: PlaceSet> Search<S> {
         alloc: Global,
         problem: &Problem,
         capacity: NonZeroUsize,
+        asks_shapes: bool,
     ) -> Result<(Search<S>, State<S>), AllocError> {
         let (board, position) = Board::of(alloc, problem)?;
         let places = board.len();
@@ -76,8 +80,9 @@ impl<S: PlaceSet> Search<S> {
             past: Past::of(alloc, problem)?,
             turns: 0,
             attacker: problem.defender().opponent(),
-            asks_life: true,
-            asks_death: true,
+            asks_shapes,
+            asks_life: asks_shapes,
+            asks_death: asks_shapes,
             room: 0,
             has_leaves: false,
             table: Table::with_capacity(alloc, capacity)?,

@@ -1,7 +1,7 @@
 //! Claims of given trees whose lemmas are known beforehand, and one whose lemma needs what was played above it.
 
 use crate::expect::{expect_same, expect_that};
-use crate::proof_numbers::{ALL, WITHOUT_PASTS, accepted, found, found_plainly, problem, saving};
+use crate::proof_numbers::{ALL, WITHOUT_PASTS, accepted, found, problem, saving};
 use claim_maker::{Choice, Pasts, Saving, claim_with_lemmas, share_tree};
 use go_points::Colour;
 use proof_cert::{Certificate, Version, read_cert, write_cert};
@@ -196,7 +196,7 @@ fn a_lemma_may_need_what_was_played_above_it(rt: HostRuntime) {
     let texts = [".O...X.....OOOXXOXXXXXX............."];
     let region = "aabacadaeaabbbcbdbeb";
     let edge = problem(&rt, alloc, 6, &texts, Colour::White, "acbc", region);
-    let shared = found_plainly(&rt, alloc, &edge, 10_000);
+    let shared = found(&rt, alloc, &edge, 10_000);
     expect_same(&rt, shared.winner, Colour::Black);
     match claim_with_lemmas(alloc, &edge, &shared, ALL) {
         Ok(claim) => {

@@ -342,13 +342,23 @@ fn each_state_of_an_answer_is_a_step(rt: HostRuntime) {
 #[test]
 fn a_state_is_proved_anew_where_its_proof_does_not_hold(rt: HostRuntime) {
     let alloc = rt.alloc();
-    let corner = six_points(&rt, alloc, Colour::Black);
+    let texts = ["OOO.X.XO.OX.....X.XXXXX............."];
+    let region = "aabacadaabbbcbdbacbcccdc";
+    let corner = problem(&rt, alloc, 6, &texts, Colour::White, "aa", region);
     let shared = found(&rt, alloc, &corner, 10_000);
-    expect_that(
-        &rt,
-        proved_states(&shared.proofs) < shared.proofs.len() as u64,
-    );
+    let proofs = &shared.proofs;
+    expect_that(&rt, proved_states(proofs) < proofs.len() as u64);
     expect_that(&rt, wins(&rt, alloc, &corner, Colour::Black, 10_000) > 0);
+}
+
+// White has to live in ten points on the edge, and does not. There is a ko.
+#[test]
+fn ten_points_on_the_edge_are_blacks(rt: HostRuntime) {
+    let alloc = rt.alloc();
+    let texts = [".O...X.....OOOXXOXXXXXX............."];
+    let region = "aabacadaeaabbbcbdbeb";
+    let edge = problem(&rt, alloc, 6, &texts, Colour::White, "acbc", region);
+    expect_that(&rt, wins(&rt, alloc, &edge, Colour::Black, 10_000) > 0);
 }
 
 // With a table of one entry, states that it forgets are searched in another order.

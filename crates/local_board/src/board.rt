@@ -30,7 +30,8 @@ pub struct Board<S> {
     pub(crate) all: S,
     pub(crate) region: S,
     pub(crate) targets: S,
-    /// One target of each chain that has any in the problem's position. Stones of one chain stay on one chain.
+    /// One stone of each chain that has targets in the problem's position, beside an empty place if that may be. Stones of one chain
+    /// stay on one chain.
     pub(crate) heads: S,
     /// Places where a stone of a side can never be taken: beside them is an empty point that does not change, or a stone of the
     /// side that does not change.
@@ -58,7 +59,7 @@ impl<S: PlaceSet> Board<S> {
         board.add_spots(problem, changing.as_slice())?;
         board.add_lasting(problem);
         let position = board.position_of(problem);
-        board.heads = board.heads_of(position.defender);
+        board.heads = board.heads_of(position);
         Ok((board, position))
     }
 
@@ -170,16 +171,19 @@ impl<S: PlaceSet> Board<S> {
         position
     }
 
-    /// One target of each chain of these stones that has any.
-    fn heads_of(&self, defender: S) -> S {
+    /// A stone of each of the defender's chains that have targets, beside an empty place if the chain has such a stone.
+    fn heads_of(&self, position: Position<S>) -> S {
+        let defender = position.defender;
+        let open = self.all_beside(self.empty(position));
         let mut heads = S::empty();
         let mut rest = self.targets.and(defender);
         for _ in 0..u64::MAX {
             let Some(at) = rest.take_first() else {
                 return heads;
             };
-            heads = heads.with(at);
-            rest = rest.minus(self.chain(defender, at));
+            let chain = self.chain(defender, at);
+            heads = heads.with(chain.and(open).first().unwrap_or(at));
+            rest = rest.minus(chain);
         }
         heads
     }
@@ -309,6 +313,31 @@ impl<S: PlaceSet> Board<S> {
             found = found.or(self.near(place));
         }
         found
+    }
+
+    /// The places beside these. `None` if one of them is among the others.
+    pub(crate) fn all_beside_but(&self, places: S, others: S) -> Option<S> {
+        let mut found = S::empty();
+        for place in places.places() {
+            let near = self.near(place);
+            if near.meets(others) {
+                return None;
+            }
+            found = found.or(near);
+        }
+        Some(found)
+    }
+
+    /// The places that have one or more of these beside them, and those that have several.
+    pub(crate) fn beside_one_and_several(&self, places: S) -> (S, S) {
+        let mut one = S::empty();
+        let mut several = S::empty();
+        for at in places.places() {
+            let near = self.near(at);
+            several = several.or(one.and(near));
+            one = one.or(near);
+        }
+        (one, several)
     }
 
     /// Whether a target has been taken.

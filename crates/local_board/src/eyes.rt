@@ -152,24 +152,13 @@ impl<S: PlaceSet> Board<S> {
             .minus(reach.position.defender)
             .minus(reach.permanent);
         let free = hits.minus(reach.used);
-        let several = eyes.and(self.beside_several(free));
+        let (_, beside_several) = self.beside_one_and_several(free);
+        let several = eyes.and(beside_several);
         let mut left = eyes.minus(several);
         for points in self.by_count(several, free) {
             left = left.or(self.pair_off(reach, hits, points));
         }
         left
-    }
-
-    /// The places that have several of these beside them.
-    fn beside_several(&self, places: S) -> S {
-        let mut one = S::empty();
-        let mut several = S::empty();
-        for at in places.places() {
-            let near = self.near(at);
-            several = several.or(one.and(near));
-            one = one.or(near);
-        }
-        several
     }
 
     /// Of these points, each of which has several of `hits` beside it: those that have two, three and four.

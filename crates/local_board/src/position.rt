@@ -51,6 +51,14 @@ impl<S: PlaceSet> Position<S> {
         }
     }
 
+    /// Whether the side has this place.
+    pub fn has(&self, side: Side, place: usize) -> bool {
+        match side {
+            Side::Attacker => self.attacker.has(place),
+            Side::Defender => self.defender.has(place),
+        }
+    }
+
     /// The position in which the side has the places `own`, and the other side the places `other`.
     pub fn made(side: Side, own: S, other: S) -> Position<S> {
         match side {

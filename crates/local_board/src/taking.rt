@@ -4,13 +4,23 @@ use crate::board::Board;
 use crate::place_set::PlaceSet;
 use crate::position::{Position, Side};
 
-/// What is known of the chains of a side.
+/// What is known of the chains of a side that are beside empty places.
 #[derive(Clone, Copy)]
-struct Liberties<S> {
+struct Chains<S> {
     /// The liberties of chains that can be taken and have only one.
     last: S,
-    /// The places beside the stones of all other chains.
+    /// Stones of all other chains, among them all that are beside an empty place.
     strong: S,
+}
+
+/// The stones of a chain that were looked at: all of them, unless the chain is seen to be strong before.
+#[derive(Clone, Copy)]
+struct Looked<S> {
+    stones: S,
+    /// Their liberties.
+    liberties: S,
+    /// Whether the chain has two liberties, or can never be taken.
+    is_strong: bool,
 }
 
 impl<S: PlaceSet> Board<S> {
@@ -55,67 +65,92 @@ impl<S: PlaceSet> Board<S> {
         let mut chain = S::empty().with(place);
         let mut front = chain;
         for _ in 0..u64::MAX {
-            let Some(at) = front.take_first() else {
-                return Some(chain);
-            };
-            let near = self.near(at);
-            let more = near.and(own).minus(chain);
-            if near.meets(empty) || more.meets(lasting) {
+            let near = self.all_beside_but(front, empty)?;
+            front = near.and(own).minus(chain);
+            if front.meets(lasting) {
                 return None;
             }
-            chain = chain.or(more);
-            front = front.or(more);
+            if front.is_empty() {
+                return Some(chain);
+            }
+            chain = chain.or(front);
         }
         None
     }
 
     /// For each side, the empty places where its stone takes nothing and has a liberty: the stone is put down, and nothing else
-    /// changes.
+    /// changes. Chains are looked at from their liberties, so on a full board most stones are not looked at.
     pub fn quiet(&self, position: Position<S>) -> Position<S> {
         let empty = self.empty(position);
-        let attacker = self.liberties(position.attacker, empty, Side::Attacker);
-        let defender = self.liberties(position.defender, empty, Side::Defender);
-        let open = self.all_beside(empty);
+        let (open, wide) = self.beside_one_and_several(empty);
+        let attacker = self.chains(position, Side::Attacker, open, wide);
+        let defender = self.chains(position, Side::Defender, open, wide);
+        let closed = empty.minus(open);
         Position {
-            attacker: self.quiet_for(position, Side::Attacker, open, attacker, defender),
-            defender: self.quiet_for(position, Side::Defender, open, defender, attacker),
+            attacker: self.quiet_for(Side::Attacker, empty.minus(defender.last), closed, attacker),
+            defender: self.quiet_for(Side::Defender, empty.minus(attacker.last), closed, defender),
         }
     }
 
-    fn quiet_for(
-        &self,
-        position: Position<S>,
-        side: Side,
-        open: S,
-        own: Liberties<S>,
-        other: Liberties<S>,
-    ) -> S {
-        let safe = open.or(self.lasting.of(side)).or(own.strong);
-        self.empty(position).minus(other.last).and(safe)
-    }
-
-    /// What is known of the chains of this side.
-    fn liberties(&self, own: S, empty: S, side: Side) -> Liberties<S> {
-        let lasting = self.lasting.of(side);
-        let mut found = Liberties {
-            last: S::empty(),
-            strong: S::empty(),
-        };
-        let mut rest = own;
-        for _ in 0..u64::MAX {
-            let Some(at) = rest.take_first() else {
-                return found;
-            };
-            let (chain, near) = self.chain_and_near(own, at);
-            rest = rest.minus(chain);
-            let liberties = near.and(empty);
-            if liberties.has_several() || chain.meets(lasting) {
-                found.strong = found.strong.or(near);
-            } else {
-                found.last = found.last.or(liberties);
+    /// Those of the places where the side's stone takes nothing at which it has a liberty. `closed` has the empty places that have
+    /// none beside them.
+    fn quiet_for(&self, side: Side, places: S, closed: S, own: Chains<S>) -> S {
+        let mut quiet = places;
+        for at in closed.and(places).minus(self.lasting.of(side)).places() {
+            if !self.near(at).meets(own.strong) {
+                quiet = quiet.minus(S::empty().with(at));
             }
         }
-        found
+        quiet
+    }
+
+    /// What is known of this side's chains. `open` has the places beside empty ones, and `wide` those beside several.
+    fn chains(&self, position: Position<S>, side: Side, open: S, wide: S) -> Chains<S> {
+        let own = position.of(side);
+        let empty = self.empty(position);
+        let mut last = S::empty();
+        let mut strong = own.and(wide.or(self.lasting.of(side)));
+        let mut rest = own.and(open).minus(strong);
+        for _ in 0..u64::MAX {
+            let Some(at) = rest.take_first() else {
+                break;
+            };
+            let looked = self.look_at_chain(own, empty, strong, at);
+            rest = rest.minus(looked.stones);
+            if looked.is_strong {
+                strong = strong.or(looked.stones);
+            } else {
+                last = last.or(looked.liberties);
+            }
+        }
+        Chains { last, strong }
+    }
+
+    /// Looks at the stones of the chain at this place, the nearest first, until it has two liberties or one of the stones that are
+    /// known to be strong.
+    fn look_at_chain(&self, own: S, empty: S, strong: S, place: usize) -> Looked<S> {
+        let mut stones = S::empty().with(place);
+        let mut front = stones;
+        let mut liberties = S::empty();
+        for _ in 0..u64::MAX {
+            let near = self.all_beside(front);
+            liberties = liberties.or(near.and(empty));
+            front = near.and(own).minus(stones);
+            let is_strong = liberties.has_several() || front.meets(strong);
+            if is_strong || front.is_empty() {
+                return Looked {
+                    stones,
+                    liberties,
+                    is_strong,
+                };
+            }
+            stones = stones.or(front);
+        }
+        Looked {
+            stones,
+            liberties,
+            is_strong: true,
+        }
     }
 
     /// The position after a stone of this side at the empty place. `None` if nothing changes. `quiet` has places where a stone is
@@ -157,32 +192,13 @@ impl<S: PlaceSet> Board<S> {
     pub fn takes(&self, position: Position<S>) -> S {
         let empty = self.empty(position);
         let mut found = S::empty();
-        for at in self.heads.and(position.defender).places() {
-            let last = self.last_liberty(position.defender, empty, at);
-            found = found.or(last.and(self.region));
+        let lasting = self.lasting.defender;
+        for at in self.heads.and(position.defender).minus(lasting).places() {
+            let looked = self.look_at_chain(position.defender, empty, lasting, at);
+            if !looked.is_strong {
+                found = found.or(looked.liberties.and(self.region));
+            }
         }
         found
-    }
-
-    /// The only liberty of the defender's chain at this place. The set is empty if the chain has more liberties, or can never be
-    /// taken.
-    fn last_liberty(&self, own: S, empty: S, place: usize) -> S {
-        let mut chain = S::empty().with(place);
-        let mut front = chain;
-        let mut liberties = S::empty();
-        for _ in 0..u64::MAX {
-            let Some(at) = front.take_first() else {
-                break;
-            };
-            let near = self.near(at);
-            liberties = liberties.or(near.and(empty));
-            if liberties.has_several() || self.lasting.defender.has(at) {
-                return S::empty();
-            }
-            let more = near.and(own).minus(chain);
-            chain = chain.or(more);
-            front = front.or(more);
-        }
-        liberties
     }
 }

@@ -154,15 +154,15 @@ impl<S: PlaceSet> Board<S> {
         let free = hits.minus(reach.used);
         let (_, beside_several) = self.beside_one_and_several(free);
         let several = eyes.and(beside_several);
+        let (two, three, four) = self.by_count(several, free);
         let mut left = eyes.minus(several);
-        for points in self.by_count(several, free) {
-            left = left.or(self.pair_off(reach, hits, points));
-        }
-        left
+        left = left.or(self.pair_off(reach, hits, two));
+        left = left.or(self.pair_off(reach, hits, three));
+        left.or(self.pair_off(reach, hits, four))
     }
 
     /// Of these points, each of which has several of `hits` beside it: those that have two, three and four.
-    fn by_count(&self, points: S, hits: S) -> [S; 3] {
+    fn by_count(&self, points: S, hits: S) -> (S, S, S) {
         let mut two = S::empty();
         let mut three = S::empty();
         let mut four = S::empty();
@@ -173,7 +173,7 @@ impl<S: PlaceSet> Board<S> {
                 _ => four = four.with(at),
             }
         }
-        [two, three, four]
+        (two, three, four)
     }
 
     /// Takes a pair beside each of these points, and returns the points that have none.

@@ -25,7 +25,7 @@ struct Part<S> {
 }
 
 /// Eyes or chains.
-#[derive(Clone, Copy)]
+#[derive(Drop)]
 struct Parts<S> {
     parts: [Part<S>; ROOM],
     count: usize,
@@ -33,7 +33,7 @@ struct Parts<S> {
 
 /// The eyes and the chains of one question. They are made anew for each, in the same memory: a function fills its own large values
 /// before it begins, which would take longer than most questions.
-#[derive(Clone, Copy)]
+#[derive(Drop)]
 pub(crate) struct LifeParts<S> {
     eyes: Parts<S>,
     chains: Parts<S>,

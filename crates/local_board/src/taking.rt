@@ -86,22 +86,27 @@ impl<S: PlaceSet> Board<S> {
         let attacker = self.chains(position, Side::Attacker, open, wide);
         let defender = self.chains(position, Side::Defender, open, wide);
         let closed = empty.minus(open);
+        let closed_attacker = closed.minus(self.lasting.attacker);
+        let closed_defender = closed.minus(self.lasting.defender);
         Position {
-            attacker: self.quiet_for(Side::Attacker, empty.minus(defender.last), closed, attacker),
-            defender: self.quiet_for(Side::Defender, empty.minus(attacker.last), closed, defender),
+            attacker: empty
+                .minus(defender.last)
+                .minus(self.away_from(closed_attacker, attacker.strong)),
+            defender: empty
+                .minus(attacker.last)
+                .minus(self.away_from(closed_defender, defender.strong)),
         }
     }
 
-    /// Those of the places where the side's stone takes nothing at which it has a liberty. `closed` has the empty places that have
-    /// none beside them.
-    fn quiet_for(&self, side: Side, places: S, closed: S, own: Chains<S>) -> S {
-        let mut quiet = places;
-        for at in closed.and(places).minus(self.lasting.of(side)).places() {
-            if !self.near(at).meets(own.strong) {
-                quiet = quiet.minus(S::empty().with(at));
+    /// Those of the places that have none of these stones beside them.
+    fn away_from(&self, places: S, stones: S) -> S {
+        let mut found = S::empty();
+        for at in places.places() {
+            if !self.near(at).meets(stones) {
+                found = found.with(at);
             }
         }
-        quiet
+        found
     }
 
     /// What is known of this side's chains. `open` has the places beside empty ones, and `wide` those beside several.

@@ -4,7 +4,7 @@ ghost use Rattle.std.specs.Prelude.{◌≡◌};
 
 use crate::expanding::step_at;
 use crate::finish::Finish;
-use crate::frame::State;
+use crate::frame::{State, place_added, side_of};
 use crate::smaller::Smaller;
 use local_board::{PlaceSet, Room, Side, Step};
 use state_proofs::{Below, Branch, Proof};
@@ -114,7 +114,7 @@ impl<S: PlaceSet> Smaller<S> {
     ) -> Result<S, AllocError>
         ensures steps { finish.new.steps ≡ finish.old.steps }
     {
-        if finish.search.side(state.key.mover) == Side::Attacker {
+        if side_of(finish.search.attacker, state.key.mover) == Side::Attacker {
             return Ok(S::empty());
         }
         let mut best = LivingTurns::none();
@@ -137,7 +137,7 @@ impl<S: PlaceSet> Smaller<S> {
         own: Option<Step>,
         living: S,
     ) -> Result<(), AllocError> {
-        let side = finish.search.side(state.key.mover);
+        let side = side_of(finish.search.attacker, state.key.mover);
         for place in finish.playable(state).minus(living).places() {
             let after = finish.search.after_move_at(state, side, place);
             let is_legal = after.position != state.position
@@ -197,15 +197,14 @@ fn question_below(branch: Branch) -> Question {
 
 /// The turn by which the winner, who is to move, ends the game at once.
 fn ending_turn<S: PlaceSet>(finish: &Finish<S>, state: State<S>) -> Option<(Step, State<S>)> {
-    if finish.search.side(state.key.mover) == Side::Defender {
+    if side_of(finish.search.attacker, state.key.mover) == Side::Defender {
         if state.key.passes == 0 {
             return None;
         }
         return Some((Step::Pass, finish.search.after(state, Step::Pass)));
     }
     let after = finish.search.taking_turn(state)?;
-    let added = after.position.attacker.minus(state.position.attacker);
-    let place = added.first()?;
+    let place = place_added(&state, &after)?;
     Some((step_at(place), after))
 }
 

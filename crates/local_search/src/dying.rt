@@ -7,7 +7,7 @@ ghost use Rattle.state_proofs.specs.Work.{work};
 
 use crate::expanding::step_at;
 use crate::finish::{Due, Entered, Finish, Goal, Needed};
-use crate::frame::State;
+use crate::frame::{State, side_of};
 use crate::values::Turned;
 use local_board::{PlaceSet, Side, Step};
 use state_proofs::{Form, Stop};
@@ -82,7 +82,7 @@ impl<S: PlaceSet> Finish<S> {
             }
             return Ok(Entered::Failed);
         }
-        if self.search.side(state.key.mover) == Side::Attacker {
+        if side_of(self.search.attacker, state.key.mover) == Side::Attacker {
             self.steps.take()?;
             return self.begin_attack(state);
         }

@@ -8,7 +8,7 @@ ghost use Rattle.std.specs.Prelude.{◌≡◌, ◌≤◌, ◌<◌, ◌+◌, fals
 ghost use Rattle.state_proofs.specs.Work.{work};
 
 use crate::expanding::step_at;
-use crate::frame::State;
+use crate::frame::{State, side_of};
 use crate::search::Search;
 use go_points::Colour;
 use local_board::{PlaceSet, Side, Step};
@@ -347,14 +347,22 @@ impl<S: PlaceSet> Finish<S> {
     fn leave(&mut self, visit: Visit<S>) -> Result<Entered, Stop>
         ensures steps { self.new.steps ≡ self.old.steps }
     {
-        self.search.barred.clear();
-        if visit.form == Form::Replies && visit.is_barred {
-            self.search.list_barred(visit.state)?;
-        }
+        self.list_barred(&visit)?;
         let reached = self.reached_by(visit);
         let number = self.add(visit, reached)?;
         self.drop_last();
         Ok(Entered::Done(number))
+    }
+
+    /// Lists the positions after moves at the state that the past bars, if a proof of replies needs them.
+    fn list_barred(&mut self, visit: &Visit<S>) -> Result<(), AllocError>
+        ensures steps { self.new.steps ≡ self.old.steps }
+    {
+        self.search.barred.clear();
+        if visit.form == Form::Replies && visit.is_barred {
+            return self.search.list_barred(visit.state);
+        }
+        Ok(())
     }
 
     /// The position after the winner's move.
@@ -410,7 +418,7 @@ impl<S: PlaceSet> Finish<S> {
     /// Whether the attacker wins by the proof.
     pub(crate) fn is_attackers(&self, number: u32) -> bool {
         match self.search.proofs.get(number) {
-            Some(proof) => self.search.side(proof.winner) == Side::Attacker,
+            Some(proof) => side_of(self.search.attacker, proof.winner) == Side::Attacker,
             None => false,
         }
     }

@@ -2,7 +2,7 @@
 
 use crate::numbers::weighed;
 use go_points::Colour;
-use local_board::{Position, Step};
+use local_board::{PlaceSet, Position, Side, Step};
 use pn_table::Key;
 use state_proofs::{Count, MoverNumbers, Standing, Thresholds, key_after_move, key_after_pass};
 
@@ -67,6 +67,13 @@ pub(crate) struct Frame<S> {
     pub(crate) is_barred: bool,
 }
 
+/// The place of a stone of the attacker that the first state does not have, and the second has.
+pub(crate) fn place_added<S: PlaceSet>(before: &State<S>, after: &State<S>) -> Option<usize> {
+    let had = before.position.attacker;
+    let has = after.position.attacker;
+    has.minus(had).first()
+}
+
 /// What these children say of their state.
 pub(crate) fn standing_of(children: &[Child]) -> Standing {
     let mut count = Count::none();
@@ -88,6 +95,15 @@ pub(crate) fn after_step(key: Key, step: Step, position: u64) -> Key {
     match step {
         Step::Pass => key_after_pass(key),
         Step::At(_) => key_after_move(key, position),
+    }
+}
+
+/// The side of this colour, if the attacker has that one.
+pub(crate) fn side_of(attacker: Colour, colour: Colour) -> Side {
+    if colour == attacker {
+        Side::Attacker
+    } else {
+        Side::Defender
     }
 }
 

@@ -6,7 +6,7 @@ ghost use Rattle.state_proofs.specs.Work.{work};
 
 use crate::expanding::step_at;
 use crate::finish::{Due, Entered, Finish, Goal, Needed};
-use crate::frame::State;
+use crate::frame::{State, side_of};
 use crate::values::Turned;
 use go_points::Colour;
 use local_board::{PlaceSet, Side, Step};
@@ -29,7 +29,7 @@ impl<S: PlaceSet> Finish<S> {
             return Ok(Entered::Done(self.search.proof_by_shape(state, Side::Defender)?));
         }
         self.steps.take()?;
-        if self.search.side(state.key.mover) == Side::Attacker {
+        if side_of(self.search.attacker, state.key.mover) == Side::Attacker {
             return self.begin_attack_on_life(state);
         }
         if state.key.passes == 1 {
@@ -39,7 +39,7 @@ impl<S: PlaceSet> Finish<S> {
     }
 
     fn defender(&self) -> Colour {
-        self.search.colour(Side::Defender)
+        self.search.attacker.opponent()
     }
 
     /// Begins with the defender's turn.
@@ -126,7 +126,7 @@ impl<S: PlaceSet> Finish<S> {
     pub(crate) fn list_turns(&mut self, state: State<S>, goal: Goal) -> Result<bool, AllocError>
         ensures steps { self.new.steps ≡ self.old.steps }
     {
-        let side = self.search.side(state.key.mover);
+        let side = side_of(self.search.attacker, state.key.mover);
         let mut is_barred = false;
         for place in self.playable(state).places() {
             let after = self.search.after_move_at(state, side, place);

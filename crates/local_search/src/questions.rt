@@ -3,6 +3,7 @@
 //! A question makes no state and is not a step. What is answered by shape is played out at the end, and a wrong guess costs steps
 //! but never gives a wrong answer.
 
+use crate::expanding::step_at;
 use crate::frame::{Reason, State};
 use crate::search::Search;
 use local_board::{PlaceSet, Position, Room, Side, Step};
@@ -177,9 +178,15 @@ impl<S: PlaceSet> Search<S> {
 
     /// Whether the defender is taken to live here, by his shape and with no more left to play than is allowed.
     pub(crate) fn lives_by_shape(&mut self, position: Position<S>) -> bool {
-        self.asks_life
-            && self.shapes.is_alive(position)
-            && (self.room == 0 || self.shapes.room_of_life(position).whole < self.room)
+        if !self.asks_life {
+            return false;
+        }
+        let lives = self.shapes.is_alive(position);
+        if !lives || self.room == 0 {
+            return lives;
+        }
+        let left = self.shapes.room_of_life(position);
+        left.whole < self.room
     }
 
     /// The places where one more stone makes the defender live, if the attacker takes nothing before it: then the defender still has
@@ -244,14 +251,14 @@ impl<S: PlaceSet> Search<S> {
         let mut rest = empty.and(self.shapes.board.region()).and(at);
         if let Some(place) = first {
             if rest.has(place) {
-                if self.certain_turn(state, side, place).is_some() {
+                if self.certain_after(state, side, place).is_some() {
                     return first;
                 }
                 rest = rest.minus(S::empty().with(place));
             }
         }
         for place in rest.places() {
-            if self.certain_turn(state, side, place).is_some() {
+            if self.certain_after(state, side, place).is_some() {
                 return Some(place);
             }
         }
@@ -263,18 +270,23 @@ impl<S: PlaceSet> Search<S> {
         let mut best: Option<NextTurn<S>> = None;
         let empty = self.shapes.board.empty(state.position);
         for place in empty.and(self.shapes.board.region()).places() {
-            if let Some(turn) = self.certain_turn(state, side, place) {
-                let weighed = self.weigh_turn(turn, side, place);
-                best = better_turn(best, weighed);
+            if let Some(after) = self.certain_after(state, side, place) {
+                let room = self.room_left(&after, side, place);
+                let turn = NextTurn {
+                    step: step_at(place),
+                    state: after,
+                    room,
+                };
+                best = better_turn(best, turn);
             }
         }
         best
     }
 
-    /// The side's turn at this place, if the state is certain after it and its result has not occurred.
-    fn certain_turn(&mut self, state: State<S>, side: Side, place: usize) -> Option<NextTurn<S>> {
+    /// The state after the side's turn at this place, if it is certain and its position has not occurred.
+    fn certain_after(&mut self, state: State<S>, side: Side, place: usize) -> Option<State<S>> {
         // Mostly this tells what the position after the turn would, which costs more.
-        if side == Side::Defender && !self.shapes.may_live(state.position.defender.with(place)) {
+        if side == Side::Defender && !self.may_live_with(&state, place) {
             return None;
         }
         let position = self.shapes.board.after(state.position, side, place);
@@ -282,24 +294,23 @@ impl<S: PlaceSet> Search<S> {
             return None;
         }
         let after = self.moved(state, position);
-        if self.past.has(after.key.position) || place > u16::MAX as usize {
+        if self.past.has(after.key.position) {
             return None;
         }
-        Some(NextTurn {
-            step: Step::At(place as u16),
-            state: after,
-            room: Room::most(),
-        })
+        Some(after)
     }
 
-    /// The turn with what it leaves to play.
-    fn weigh_turn(&mut self, turn: NextTurn<S>, side: Side, place: usize) -> NextTurn<S> {
-        let position = turn.state.position;
-        let room = match side {
-            Side::Defender => self.shapes.room_of_life(position),
-            Side::Attacker => self.shapes.board.room_of_death(position, place),
-        };
-        NextTurn { room, ..turn }
+    /// Whether the defender's stones and one at this place live by their shape.
+    fn may_live_with(&mut self, state: &State<S>, place: usize) -> bool {
+        self.shapes.may_live(state.position.defender.with(place))
+    }
+
+    /// What the side's turn at this place, which led to this state, leaves to play.
+    fn room_left(&mut self, after: &State<S>, side: Side, place: usize) -> Room {
+        match side {
+            Side::Defender => self.shapes.room_of_life(after.position),
+            Side::Attacker => self.shapes.board.room_of_death(after.position, place),
+        }
     }
 }
 

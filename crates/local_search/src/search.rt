@@ -10,7 +10,9 @@
 ghost use Rattle.std.specs.Prelude.{◌≤◌};
 ghost use Rattle.state_proofs.specs.Work.{work};
 
-use crate::frame::{Child, Frame, Outcome, Reason, State, after_step, outcome_by, standing_of};
+use crate::frame::{
+    Child, Frame, Outcome, Reason, State, after_step, outcome_by, side_of, standing_of,
+};
 use crate::kept::KeptMoves;
 use crate::numbers::{numbers_of, thresholds_below};
 use crate::results::TurnResults;
@@ -99,11 +101,7 @@ impl<S: PlaceSet> Search<S> {
 
     /// The side that has this colour.
     pub(crate) fn side(&self, colour: Colour) -> Side {
-        if colour == self.attacker {
-            Side::Attacker
-        } else {
-            Side::Defender
-        }
+        side_of(self.attacker, colour)
     }
 
     /// The colour of this side.
@@ -135,7 +133,7 @@ impl<S: PlaceSet> Search<S> {
         if step != Step::Pass && !self.past.add(position)? {
             return Err(Refusal::Fault);
         }
-        self.turns += 1;
+        self.turns = self.turns.saturating_add(1);
         Ok(())
     }
 

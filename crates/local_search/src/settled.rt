@@ -1,7 +1,7 @@
 //! The proof of a state that is settled, from its children.
 
 use crate::expanding::step_at;
-use crate::frame::{Child, Frame, Outcome, Reason, State};
+use crate::frame::{Child, Frame, Outcome, Reason, State, place_added};
 use crate::search::Search;
 use go_points::{Colour, Turn};
 use local_board::{PlaceSet, Side, Step};
@@ -132,8 +132,7 @@ impl<S: PlaceSet> Search<S> {
         let Some(after) = self.taking_turn(state) else {
             return Err(Refusal::Fault);
         };
-        let added = after.position.attacker.minus(state.position.attacker);
-        let step = match added.first() {
+        let step = match place_added(&state, &after) {
             Some(place) => step_at(place),
             None => Step::Pass,
         };

@@ -2,7 +2,7 @@
 
 use crate::expanding::step_at;
 use crate::finish::Finish;
-use crate::frame::State;
+use crate::frame::{State, side_of};
 use local_board::{PlaceSet, Room, Side, Step};
 use state_proofs::key_after_move;
 
@@ -74,7 +74,7 @@ impl<S: PlaceSet> Finish<S> {
     /// How many states a proof that begins with this one may have: the states after a turn of the mover that have no proof yet, and
     /// this one, each as often as its room says. If it is more than `most`, the result is some number above that.
     pub(crate) fn value(&self, state: State<S>, room: u32, most: u64) -> u64 {
-        let side = self.search.side(state.key.mover);
+        let side = side_of(self.search.attacker, state.key.mover);
         let one = match side {
             Side::Attacker => value_of_room(LIFE, room),
             Side::Defender => value_of_room(DEATH, room),
@@ -105,7 +105,7 @@ impl<S: PlaceSet> Finish<S> {
 
     /// The mover's turn to a state that is already proved for him, by the fewest turns. `None` if there is no such turn.
     pub(crate) fn known_turn(&self, state: State<S>) -> Option<(Step, u32)> {
-        let side = self.search.side(state.key.mover);
+        let side = side_of(self.search.attacker, state.key.mover);
         let mut best = None;
         let mut least = u64::MAX;
         for place in self.playable(state).places() {

@@ -35,7 +35,8 @@ const STORED: usize = 130_000;
 /// A search on a board whose places sets of this kind hold.
 #[derive(Drop)]
 pub(crate) struct Search<S> {
-    pub(crate) shapes: Shapes<S>,
+    /// On the heap, so that the size of what holds them does not depend on the kind of sets.
+    pub(crate) shapes: Box<Shapes<S>>,
     pub(crate) proofs: Proofs,
     /// What has occurred before the end of the line, and how many turns the line has.
     pub(crate) past: Past,
@@ -77,7 +78,7 @@ impl<S: PlaceSet> Search<S> {
         let mut stored = Marks::new(alloc);
         stored.make_room(capacity.get().min(STORED))?;
         let search = Search {
-            shapes: Shapes::of(alloc, board),
+            shapes: Box::new(alloc, Shapes::of(alloc, board))?,
             proofs: Proofs::new(alloc),
             past: Past::of(alloc, problem)?,
             turns: 0,

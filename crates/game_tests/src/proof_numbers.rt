@@ -3,9 +3,7 @@
 use crate::expect::{expect_same, expect_that};
 use crate::positions::{Position, problem_of};
 use cert_check::check_held;
-use claim_maker::{
-    Choice, MAX_TRIED, Pasts, Saving, claim_with_lemmas, claim_without_lemmas,
-};
+use claim_maker::{Choice, MAX_TRIED, Pasts, Saving, claim_with_lemmas, claim_without_lemmas};
 use df_pn::Search;
 use go_points::Colour;
 use local_search::prove;
@@ -240,11 +238,17 @@ fn claims_share_the_nodes_that_may_be_tried(rt: HostRuntime) {
     let corner = problem(&rt, alloc, 3, &["O..X....."], Colour::White, "aa", "ba");
     let shared = found(&rt, alloc, &corner, 100);
     let mut nodes = MAX_TRIED;
-    expect_that(&rt, claim_without_lemmas(alloc, &corner, &shared, &mut nodes).is_ok());
+    expect_that(
+        &rt,
+        claim_without_lemmas(alloc, &corner, &shared, &mut nodes).is_ok(),
+    );
     let taken = MAX_TRIED.saturating_sub(nodes);
     expect_that(&rt, taken > 0);
     let mut enough = taken;
-    expect_that(&rt, claim_without_lemmas(alloc, &corner, &shared, &mut enough).is_ok());
+    expect_that(
+        &rt,
+        claim_without_lemmas(alloc, &corner, &shared, &mut enough).is_ok(),
+    );
     expect_same(&rt, enough, 0);
     let mut too_few = taken.saturating_sub(1);
     match claim_without_lemmas(alloc, &corner, &shared, &mut too_few) {

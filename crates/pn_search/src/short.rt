@@ -9,9 +9,7 @@ use crate::search::{
     LEMMA_TURNS, cause_of_refusal, cause_of_stop, proofs_of, steps_of_full_search,
 };
 use crate::verdict::{Budget, Cause};
-use claim_maker::{
-    Choice, MAX_TRIED, Pasts, Saving, claim_with_lemmas, claim_without_lemmas,
-};
+use claim_maker::{Choice, MAX_TRIED, Pasts, Saving, claim_with_lemmas, claim_without_lemmas};
 use full_search::first_win;
 use go_points::Colour;
 use local_board::{MAX_PLACES, count_changing};

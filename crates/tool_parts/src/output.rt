@@ -7,8 +7,8 @@ ghost use Rattle.tool_parts.specs.declared.output.Output.TheVariants.{Text};
 ghost use Rattle.run_parts.specs.declared.status.Status.TheVariants.{BadWords, Failed};
 ghost use Rattle.tool_parts.specs.declared.words.NoRequest.TheVariants.{Words};
 
-use crate::writing::{write_record, write_text};
 use crate::words::NoRequest;
+use crate::writing::{write_record, write_text};
 use run_parts::Status;
 use sgf_text::Tree;
 use std::alloc::{AllocError, Global};

@@ -6,8 +6,8 @@ ghost use Rattle.tool_parts.specs.Written.{IsWordless};
 ghost use Rattle.run_parts.specs.declared.status.Status.{Status};
 
 use crate::output::write_output;
-use crate::writing::write_text;
 use crate::words::NoRequest;
+use crate::writing::write_text;
 use counted_devices::Counting;
 use run_parts::Status;
 use std::alloc::{AllocError, AllocGlobal};

@@ -6,12 +6,12 @@ ghost use Rattle.tsumego_replies.specs.Replies.{IsCheckedAfter, IsJudged, IsJudg
 
 use crate::input::{White, read_past_white};
 use crate::reply::{Failure, Reply, said};
-use run_parts::Status;
 use crate::texts::{reject_text, wins_text};
 use cert_check::laws::readers_judged;
 use cert_check::{Reject, Why, check};
 use go_points::Size;
 use proof_cert::ReaderSource;
+use run_parts::Status;
 use std::alloc::Global;
 use std::io::Read;
 use target_game::Problem;

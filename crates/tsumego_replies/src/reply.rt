@@ -12,11 +12,11 @@ ghost use Rattle.tsumego_replies.specs.Answers.{Says, audit_answer, within_answe
 
 use crate::claim::judge;
 use crate::record::{NoRecord, read_record};
-use run_parts::Status;
 use crate::texts::{node_reject_text, unknown_text, wins_text};
 use cert_check::Checked;
 use go_points::Size;
 use pn_search::{Answers, Budget, Verdict, solve_for};
+use run_parts::Status;
 use sgf_text::Tree;
 use sgf_text::laws::fronts_decide;
 use solution_tree::{AuditFault, AuditWhy, audit};

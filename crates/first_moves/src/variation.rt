@@ -12,7 +12,7 @@ use target_game::{PlayState, Problem};
 use tsumego_problem::first_marked;
 
 /// The most turns of such a line, and the most replies that are tried for one that threatens something.
-const MAX_TURNS: u64 = 21;
+const MAX_LINE: u64 = 21;
 
 const MAX_TRIED: u64 = 12;
 
@@ -58,7 +58,7 @@ pub(crate) fn variation_of(
     let mut turns = Vec::new(alloc);
     let mut lost: usize = 0;
     let mut has_ko = false;
-    for _ in 0..MAX_TURNS {
+    for _ in 0..MAX_LINE {
         let is_winners = position.mover() == winner;
         let replies = all.as_slice();
         let next = next_turn(alloc, &position, is_winners, replies, place, table)?;

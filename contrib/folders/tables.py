@@ -1,4 +1,4 @@
-"""The folder of answers and its tables: docs/FORMATS.md, "Tables of answers".
+"""The folder of answers and its tables: `man solve-folder`, under FILES.
 
 An answer's line is written before the answer takes its name, and a former answer is removed before that. So wherever a
 run is cut off, an answer has the line of the bytes that it answers, or there is no answer, and the record is asked again.

@@ -1,5 +1,5 @@
 """The answers to a problem: which first moves win, the line that shows it, how each other try is refuted, and a grade. All of it is
-what `first_moves --grade` says; docs/FORMATS.md has the rules and the formula."""
+what `first_moves --grade` says; `man first_moves` has the rules and the formula."""
 
 from typing import NamedTuple
 

@@ -1,4 +1,4 @@
-"""Which problems are one: docs/FORMATS.md, "The same problem"."""
+"""Which problems are one: `man make-collection`, under FILES."""
 
 import hashlib
 

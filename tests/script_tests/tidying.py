@@ -1,4 +1,4 @@
-"""The tools that keep edits, imports and words in order."""
+"""The tools that keep edits, imports, words and documents in order."""
 
 import shutil
 
@@ -34,7 +34,31 @@ class Edits(Case):
         self.assertIn(fault, done.out)
 
 
+class Documents(Case):
+    """docs/check --text, of the documents with one page more."""
+
+    @case("a page in order", 0, "0 faults", "# One\n\nBack to [the beginning](#one), on to [the moves](RULES.md#moves).\n")
+    @case("a link to no page", 1, "links NONE.md, which is not there", "See [none](NONE.md).\n")
+    @case("a link to no heading", 1, "links #two, where no heading is", "# One\n\nSee [two](#two).\n")
+    @case("a link to no heading of another page", 1, "links RULES.md#none, where no heading is", "See [none](RULES.md#none).\n")
+    @case("a path to nothing", 1, "names tools/none, which is not there", "Call `tools/none`.\n")
+    @case("a long sentence", 1, "a sentence of 41 words", " ".join(["word"] * 41) + ".\n")
+    @case("sentences that are long in the mean", 1, "19.0 words in the mean", " ".join(["word"] * 19) + ".\n")
+    def finds_in_page(self, status, told, text):
+        folder = new_place()
+        for it in TOP.iterdir():
+            if it.name not in (".git", "docs"):
+                (folder / it.name).symlink_to(it)
+        shutil.copytree(TOP / "docs", folder / "docs", ignore=shutil.ignore_patterns("pictures"))
+        (folder / "docs/pictures").symlink_to(TOP / "docs/pictures")
+        (folder / "docs/ADDED.md").write_text(text)
+        done = run(folder / "docs/check", "--text")
+        self.ends(status, done)
+        self.assertIn(told, done.out + done.notes)
+
+
 class Repository(Case):
+    @case("the text of the documents", "docs/check", "--text")
     @case("the edits of the repository", "tools/check-edits")
     @case("the words of the keys", "tools/make_words", "--check")
     @case("the imports of the proofs", "tools/proof_imports", "--check")

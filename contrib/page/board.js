@@ -1,5 +1,5 @@
 // Problems as data, the rules of the game, and pictures: what the page to click, the sheet to print and the page to ask share.
-// docs/FORMATS.md has the data, which stand in the element "problems".
+// `man problem_tools` has the data, which stand in the element "problems".
 "use strict";
 
 const LETTERS = "ABCDEFGHJKLMNOPQRSTUVWXYZ";

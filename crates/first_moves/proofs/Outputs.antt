@@ -8,13 +8,11 @@ use Rattle.tool_parts.specs.Written.{end_of}
 use Rattle.tool_parts.specs.declared.output.Output.{Output}
 use Rattle.tool_parts.specs.declared.output.Output.TheVariants.{Record, Text}
 use Rattle.run_parts.specs.declared.status.Status.TheVariants.{Refused}
-use Rattle.first_moves.specs.declared.line_solution.LineSolution.{LineSolution}
 use Rattle.first_moves.specs.declared.names.Names.{Names}
 use Rattle.first_moves.specs.declared.words.Form.{Form}
 use Rattle.first_moves.specs.declared.words.Form.TheVariants as forms
 use Rattle.first_moves.specs.declared.words.Request.{Request}
-use Rattle.first_moves.specs.Outputs.{AnswersText, IsInForm, IsLineSolution, IsList, IsListBy, IsListOf, names_of}
-use Rattle.first_moves.specs.Text.{short_list, long_list}
+use Rattle.first_moves.specs.Outputs.{AnswersText, IsInForm, IsOfLine, IsShortText, IsTold, IsToldBy, IsToldOf, names_of}
 
 -- a refusal is no answer
 no_answer : (Is : List ℕ → Type 0) (o : Output) → end_of o ≡ Refused → AnswersText Is o
@@ -25,8 +23,8 @@ pub refused : {E : Type 0} (form : Form) (Is : List ℕ → Type 0) (r : Result 
 refused form Is (Err fault) e = tt
 refused forms.List Is (Ok o) e = no_answer Is o e
 refused forms.Record Is (Ok o) e = tt
-refused forms.Json Is (Ok o) e = tt
-refused forms.Graded Is (Ok o) e = tt
+refused forms.Json Is (Ok o) e = no_answer Is o e
+refused forms.Graded Is (Ok o) e = no_answer Is o e
 
 -- what is said of a text in one way may be said in another
 with_text : (P Q : List ℕ → Type 0) → ((text : List ℕ) → P text → Q text) → (o : Output) → AnswersText P o → AnswersText Q o
@@ -37,22 +35,24 @@ pub in_form : {E : Type 0} (form : Form) (P Q : List ℕ → Type 0) → ((text 
 in_form form P Q f (Err fault) h = tt
 in_form forms.List P Q f (Ok o) h = with_text P Q f o h
 in_form forms.Record P Q f (Ok o) h = tt
-in_form forms.Json P Q f (Ok o) h = tt
-in_form forms.Graded P Q f (Ok o) h = tt
+in_form forms.Json P Q f (Ok o) h = with_text P Q f o h
+in_form forms.Graded P Q f (Ok o) h = with_text P Q f o h
 
--- the list of the first turns, and with those of the line
+-- the text of the first turns, and with those of the line
 pub short : (request : Request) (q : GameProblem) (names : Names) (found : List Found) → names ≡ names_of request.coordinates q.game.size → AreJudged q (legal_turns (start q)) found
-    → nat_lt request.depth 2 ≡ true → (text : List ℕ) → text ≡ short_list names found → IsList request q text
-short request q names found named judged e text is = subst (λ (b : Bool). IsListBy b request.depth q (names_of request.coordinates q.game.size) text) (sym e) (found, judged, is ∙ ap (λ ns. short_list ns found) named)
+    → nat_lt request.depth 2 ≡ true → (text : List ℕ) → IsShortText request.form names q.mover found text → IsTold request q text
+short request q names found named judged e text is =
+    subst (λ (b : Bool). IsToldBy b request.form request.depth q (names_of request.coordinates q.game.size) text) (sym e)
+    (found, judged, subst (λ (ns : Names). IsShortText request.form ns q.mover found text) named is)
 
 pub long : (request : Request) (q : GameProblem) (names : Names) (found : List Found) (later : List Later) (is_whole : Bool) → names ≡ names_of request.coordinates q.game.size
     → AreJudged q (legal_turns (start q)) found → AreLater request.depth q later → nat_lt request.depth 2 ≡ false
-    → (text : List ℕ) → ((solution : LineSolution) × IsLineSolution found later solution × (text ≡ long_list names found later solution is_whole)) → IsList request q text
-long request q names found later is_whole named judged all e text w =
-    subst (λ (b : Bool). IsListBy b request.depth q (names_of request.coordinates q.game.size) text) (sym e)
-    (found, judged, later, all, w.0, w.1, is_whole, w.2 ∙ ap (λ ns. long_list ns found later w.0 is_whole) named)
+    → (text : List ℕ) → IsOfLine request.form names q.mover found later is_whole text → IsTold request q text
+long request q names found later is_whole named judged all e text is =
+    subst (λ (b : Bool). IsToldBy b request.form request.depth q (names_of request.coordinates q.game.size) text) (sym e)
+    (found, judged, later, all, is_whole, subst (λ (ns : Names). IsOfLine request.form ns q.mover found later is_whole text) named is)
 
--- the list of a problem is that of the bytes
+-- the text of a problem is that of the bytes
 pub of_bytes : {E : Type 0} (request : Request) (bytes : List ℕ) (tree : GameTree) (n : ℕ) (q : GameProblem) (r : Result Output E)
-    → Reads bytes tree n → problem_within (Some history_limit) tree ≡ Ok q → IfOk r (IsInForm request.form (IsList request q)) → IfOk r (IsOutput request bytes)
-of_bytes request bytes tree n q r reads is = in_form request.form (IsList request q) (IsListOf request bytes) (λ text list. (tree, n, q, reads, is, list)) r
+    → Reads bytes tree n → problem_within (Some history_limit) tree ≡ Ok q → IfOk r (IsInForm request.form (IsTold request q)) → IfOk r (IsOutput request bytes)
+of_bytes request bytes tree n q r reads is = in_form request.form (IsTold request q) (IsToldOf request bytes) (λ text told. (tree, n, q, reads, is, told)) r

@@ -1,6 +1,7 @@
 -- What is found about a first turn.
-use Rattle.std.specs.Prelude.{◌≡◌, ℕ, ◌+◌, Bool, true, false, List, [], ◌∷◌, ◌++◌, length, map, nat_lt, nat_eq, if◌then◌else◌, Some, Ok}
+use Rattle.std.specs.Prelude.{◌≡◌, ℕ, ◌+◌, Bool, true, false, List, [], ◌∷◌, ◌++◌, length, map, nat_lt, nat_eq, if◌then◌else◌, Option, Some, None, option_map, Ok}
 use Rattle.go_points.specs.declared.Cell.{Cell}
+use Rattle.go_points.specs.declared.Turn.{Turn}
 use Rattle.go_points.specs.Grid.{opponent_of}
 use Rattle.go_points.specs.Move.{after_move}
 use Rattle.go_points.specs.Place.{Place, number_of}
@@ -44,10 +45,22 @@ IsJudged q t (judged.Refuted checked) =
 IsJudged q t judged.Ends = over (next (start q) t) ≡ Some (opponent_of q.mover)
 IsJudged q t judged.Unknown = Unit
 
+-- The reply that refutes a turn is the first turn of the claim that shows it.
+abbrev pub IsReply : Judged → Option Turn → Type 0
+IsReply (judged.Right checked) reply = reply ≡ None
+IsReply (judged.Refuted checked) reply =
+    option_map (ply_of checked.problem.game.size) reply ≡ first_turn (claim_of checked.certificate) (start checked.problem)
+IsReply judged.Ends reply = reply ≡ None
+IsReply judged.Unknown reply = reply ≡ None
+
+-- This turn was judged.
+abbrev pub IsFound : GameProblem → Ply → Found → Type 0
+IsFound q t f = (ply_of q.game.size f.turn ≡ t) × IsJudged q t f.judged × IsReply f.judged f.reply
+
 -- Each of these turns was judged, in this order, and nothing else was.
 abbrev pub AreJudged : GameProblem → List Ply → List Found → Type 0
 AreJudged q [] [] = Unit
-AreJudged q (t ∷ ts) (f ∷ fs) = (ply_of q.game.size f.turn ≡ t) × IsJudged q t f.judged × AreJudged q ts fs
+AreJudged q (t ∷ ts) (f ∷ fs) = IsFound q t f × AreJudged q ts fs
 AreJudged q [] (f ∷ fs) = ⊥
 AreJudged q (t ∷ ts) [] = ⊥
 

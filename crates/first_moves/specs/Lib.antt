@@ -1,5 +1,7 @@
 pub mod Branch
 pub mod Grade
+pub mod Graded
+pub mod Json
 pub mod Judged
 pub mod Line
 pub mod Outputs

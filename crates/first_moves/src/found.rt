@@ -3,7 +3,7 @@
 ghost use Rattle.std.specs.Prelude.{◌≡◌, IfOk};
 ghost use Rattle.target_game.specs.Legal.{legal_turns};
 ghost use Rattle.target_game.specs.State.{start};
-ghost use Rattle.first_moves.specs.Judged.{AreJudged, count, is_right, is_unknown, solution_of};
+ghost use Rattle.first_moves.specs.Judged.{AreJudged, IsReply, count, is_right, is_unknown, solution_of};
 
 use crate::judged::{Judged, judge_with};
 use crate::names::{Names, before_text, turn_name, worth_name};
@@ -30,6 +30,8 @@ pub(crate) struct Settings {
 pub(crate) struct Found {
     pub(crate) turn: Turn,
     pub(crate) judged: Judged,
+    /// The reply that refutes it, the first turn of that claim.
+    pub(crate) reply: Option<Turn>,
 }
 
 /// What is known about the solution.
@@ -80,12 +82,26 @@ pub(crate) fn judge_turns<N: Write>(
             let place = place_text(alloc, settings, before, found.len(), count)?;
             tell(alloc, settings, place.as_str(), same, &judged, notes)?;
         }
+        let reply = reply_of(&judged);
         found.push(Found {
             turn: again,
             judged,
+            reply,
         })?;
     }
     Ok(found)
+}
+
+/// The reply that refutes a turn, if a claim does.
+fn reply_of(judged: &Judged) -> Option<Turn>
+    ensures { IsReply judged.now result }
+{
+    match judged {
+        Judged::Right(_) => None,
+        Judged::Refuted(checked) => checked.first_turn(),
+        Judged::Ends => None,
+        Judged::Unknown => None,
+    }
 }
 
 /// How far the turns after these are: `after dc eb: 2 of 5`.

@@ -1,9 +1,11 @@
 //! How hard a problem with one right first turn is: a grade from 1 to 9 by what is found.
 
+ghost use Rattle.std.specs.List.{All};
 ghost use Rattle.std.specs.Prelude.{◌≡◌, true, IfOk, IfSome};
 ghost use Rattle.first_moves.specs.Grade.{grade_of, is_refuted, winner_of};
+ghost use Rattle.first_moves.specs.Graded.{HasTraps, IsTrap};
 
-use crate::found::{Found, Settings, Solution, Tally};
+use crate::found::{Found, Settings, Solution, Tally, counted};
 use crate::judged::Judged;
 use crate::line::turn_made;
 use crate::threat::threatens;
@@ -56,23 +58,37 @@ pub(crate) fn lesson_of(
     alloc: Global,
     problem: &Problem,
     found: &[Found],
-    tally: Tally,
     settings: &Settings,
-) -> Result<Option<Lesson>, AllocError> {
-    match tally.solution {
+) -> Result<Option<Lesson>, AllocError>
+    ensures { IfOk result (HasTraps found.now) }
+{
+    match counted(found).solution {
         Solution::Unique => {}
         _ => return Ok(None),
     }
     let Some(solution) = shown(alloc, problem, problem.mover(), settings)? else {
         return Ok(None);
     };
+    let traps = traps_of(alloc, problem, found, settings)?;
+    Ok(Some(Lesson { solution, traps }))
+}
+
+/// The traps among the first turns.
+fn traps_of(
+    alloc: Global,
+    problem: &Problem,
+    found: &[Found],
+    settings: &Settings,
+) -> Result<Vec<Trap>, AllocError>
+    ensures { IfOk result (λ traps. All (IsTrap found.now) traps.items) }
+{
     let mut traps = Vec::new(alloc);
-    for one in found {
-        if let Some(trap) = trap_of(alloc, problem, one, settings)? {
+    for i in 0..found.len() {
+        if let Some(trap) = trap_of(alloc, problem, &found[i], settings)? {
             traps.push(trap)?;
         }
     }
-    Ok(Some(Lesson { solution, traps }))
+    Ok(traps)
 }
 
 /// The line by which this side wins, if a short claim of it is found.

@@ -6,10 +6,9 @@ ghost use Rattle.first_moves.specs.Text.{end_text, later_lines, line_text, long_
 ghost use Rattle.first_moves.specs.declared.line_solution.LineSolution.{LineSolution};
 
 use crate::found::{Found, Solution, Tally, counted};
-use crate::judged::Judged;
 use crate::line::{Later, Line};
 use crate::line_solution::{LineSolution, line_solution};
-use crate::names::{Names, before_text, push_text, quoted_turns, turn_name, worth_name};
+use crate::names::{Names, before_text, push_text, turn_name, worth_name};
 use go_points::Turn;
 use std::alloc::{AllocError, Global};
 
@@ -135,7 +134,7 @@ pub(crate) fn tally_text(alloc: Global, what: &str, tally: Tally) -> Result<Stri
     format!(in alloc; "{what} {word}: {winning} winning, {unknown} unknown")
 }
 
-fn solution_name(solution: Solution) -> &'static str
+pub(crate) fn solution_name(solution: Solution) -> &'static str
     ensures { result.now ≡ solution_name solution }
 {
     match solution {
@@ -170,90 +169,4 @@ fn end_text(is_whole: bool) -> &'static str
     ensures { result.now ≡ end_text is_whole }
 {
     if is_whole { ", its last" } else { "" }
-}
-
-/// The lines as JSON, with one object on each line. A turn that is refuted has the other side's first reply in that refutation.
-pub(crate) fn json_lines(
-    alloc: Global,
-    names: &Names,
-    found: &[Found],
-    tally: Tally,
-    line: Option<&Line>,
-) -> Result<String, AllocError> {
-    let mut text = String::new(alloc);
-    push_objects(alloc, &mut text, names, &[], found)?;
-    if let Some(line) = line {
-        for later in &line.later {
-            let before = later.position.turns.as_slice();
-            push_objects(alloc, &mut text, names, before, later.found.as_slice())?;
-        }
-    }
-    let word = solution_name(tally.solution);
-    let winning = tally.winning;
-    let unknown = tally.unknown;
-    write!(
-        text,
-        "{{\"solution\":\"{word}\",\"winning\":{winning},\"unknown\":{unknown}}}\n"
-    )?;
-    if let Some(line) = line {
-        let last = line_object(alloc, tally, line)?;
-        write!(text, "{{\"line\":{last}}}\n")?;
-    }
-    Ok(text)
-}
-
-/// Puts an object for each of the turns after these at the end.
-fn push_objects(
-    alloc: Global,
-    text: &mut String,
-    names: &Names,
-    before: &[Turn],
-    found: &[Found],
-) -> Result<(), AllocError> {
-    let after = after_field(alloc, names, before)?;
-    for one in found {
-        let name = turn_name(alloc, names, one.turn)?;
-        let worth = worth_name(&one.judged);
-        let refutation = refutation(alloc, names, &one.judged)?;
-        write!(
-            text,
-            "{{{after}\"turn\":\"{name}\",\"mover\":\"{worth}\"{refutation}}}\n"
-        )?;
-    }
-    Ok(())
-}
-
-/// The field with the turns that come before, or nothing.
-fn after_field(alloc: Global, names: &Names, before: &[Turn]) -> Result<String, AllocError> {
-    if before.is_empty() {
-        return Ok(String::new(alloc));
-    }
-    let turns = quoted_turns(alloc, names, before)?;
-    format!(in alloc; "\"after\":[{turns}],")
-}
-
-/// The field with the reply that refutes a turn, or nothing.
-fn refutation(alloc: Global, names: &Names, judged: &Judged) -> Result<String, AllocError> {
-    if let Judged::Refuted(checked) = judged {
-        if let Some(reply) = checked.first_turn() {
-            let name = turn_name(alloc, names, reply)?;
-            return format!(in alloc; ",\"refutation\":\"{name}\"");
-        }
-    }
-    Ok(String::new(alloc))
-}
-
-/// What is said of the line of play, after its key.
-fn line_object(alloc: Global, tally: Tally, line: &Line) -> Result<String, AllocError> {
-    match line_solution(tally, line.later.as_slice()) {
-        LineSolution::Unique(turns) => {
-            let is_whole = line.is_whole;
-            format!(in alloc; "\"unique\",\"turn\":{turns},\"last\":{is_whole}")
-        }
-        LineSolution::Several(turn) => format!(in alloc; "\"several\",\"turn\":{turn}"),
-        LineSolution::Open(turn, unknown) => {
-            format!(in alloc; "\"open\",\"turn\":{turn},\"unknown\":{unknown}")
-        }
-        LineSolution::Lost => format!(in alloc; "\"none\""),
-    }
 }

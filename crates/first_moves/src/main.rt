@@ -5,6 +5,7 @@ mod claim;
 mod found;
 mod grade;
 mod graded;
+mod json;
 mod judged;
 mod line;
 mod line_record;

@@ -95,21 +95,6 @@ pub(crate) fn before_text(
     format!(in alloc; "after{turns}: ")
 }
 
-/// The names of the turns in quotes, with commas between them.
-pub(crate) fn quoted_turns(
-    alloc: Global,
-    names: &Names,
-    turns: &[Turn],
-) -> Result<String, AllocError> {
-    let mut text = String::new(alloc);
-    for i in 0..turns.len() {
-        let name = turn_name(alloc, names, turns[i])?;
-        let comma = if i > 0 { "," } else { "" };
-        write!(text, "{comma}\"{name}\"")?;
-    }
-    Ok(text)
-}
-
 /// What becomes of the mover.
 pub(crate) fn worth_name(judged: &Judged) -> &'static str
     ensures { result.now ≡ worth_text judged.now }

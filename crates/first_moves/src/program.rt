@@ -4,14 +4,13 @@ ghost use Rattle.std.specs.Prelude.{◌≡◌, List, IfOk, IfSome};
 ghost use Rattle.tool_parts.specs.Answered.{HasAnswered, IsAnswered};
 ghost use Rattle.tool_parts.specs.Written.{end_of};
 ghost use Rattle.run_parts.specs.declared.status.Status.TheVariants.{Answered};
-ghost use Rattle.first_moves.specs.Outputs.{IsInForm, IsLineSolution, IsList, IsOutput, names_of};
-ghost use Rattle.first_moves.specs.Text.{long_list, short_list};
-ghost use Rattle.first_moves.specs.declared.line_solution.LineSolution.{LineSolution};
+ghost use Rattle.first_moves.specs.Outputs.{IsInForm, IsOfLine, IsOutput, IsShortText, IsTold, names_of};
 
 use crate::found::{Found, Settings, counted, judge_turns};
-use crate::graded::graded_lines;
+use crate::graded::{long_graded, short_graded};
+use crate::json::{long_json, short_json};
 use crate::line::{Line, judge_line};
-use crate::list::{json_lines, long_list, short_list};
+use crate::list::{long_list, short_list};
 use crate::names::Names;
 use crate::record::moves_record;
 use crate::words::{Form, Request};
@@ -93,7 +92,7 @@ fn answered<N: Write>(
     request: &Request,
     notes: &mut N,
 ) -> Result<Output, AllocError>
-    ensures { IfOk result (IsInForm request.now.form (IsList request.now problem.now)) }
+    ensures { IfOk result (IsInForm request.now.form (IsTold request.now problem.now)) }
 {
     let Some(settings) = settings(problem, request) else {
         return Err(AllocError);
@@ -137,7 +136,7 @@ fn first_written(
     found: &[Found],
 ) -> Result<Output, AllocError>
     ensures { IfOk result
-        (IsInForm form (λ text. text ≡ short_list settings.now.names found.now)) }
+        (IsInForm form (IsShortText form settings.now.names problem.now.mover found.now)) }
 {
     match form {
         Form::Record => {
@@ -150,11 +149,11 @@ fn first_written(
             Ok(Output::Text(text, Status::Answered))
         }
         Form::Json => {
-            let text = json_lines(alloc, &settings.names, found, counted(found), None)?;
+            let text = short_json(alloc, &settings.names, found)?;
             Ok(Output::Text(text, Status::Answered))
         }
         Form::Graded => {
-            let text = graded_lines(alloc, problem, settings, found, None)?;
+            let text = short_graded(alloc, problem, settings, found)?;
             Ok(Output::Text(text, Status::Answered))
         }
     }
@@ -169,9 +168,8 @@ fn line_written(
     found: &[Found],
     line: &Line,
 ) -> Result<Output, AllocError>
-    ensures { IfOk result (IsInForm form (λ text. (solution : LineSolution)
-        × IsLineSolution found.now line.now.later.items solution × (text
-        ≡ long_list settings.now.names found.now line.now.later.items solution line.now.is_whole))) }
+    ensures { IfOk result (IsInForm form (IsOfLine form settings.now.names problem.now.mover
+        found.now line.now.later.items line.now.is_whole)) }
 {
     match form {
         Form::Record => {
@@ -184,11 +182,11 @@ fn line_written(
             Ok(Output::Text(text, Status::Answered))
         }
         Form::Json => {
-            let text = json_lines(alloc, &settings.names, found, counted(found), Some(line))?;
+            let text = long_json(alloc, &settings.names, found, line)?;
             Ok(Output::Text(text, Status::Answered))
         }
         Form::Graded => {
-            let text = graded_lines(alloc, problem, settings, found, Some(line))?;
+            let text = long_graded(alloc, problem, settings, found, line)?;
             Ok(Output::Text(text, Status::Answered))
         }
     }

@@ -15,7 +15,7 @@ use crate::verdict::{found, judge};
 use go_points::Colour;
 use group_words::{Finding, Form, Judgement, Request, Side};
 use pn_search::Budget;
-use proved_groups::{AnswerTo, FirstMoves, Proven, answer_to, lives_anywhere, proven_stone};
+use proved_groups::{AnswerTo, ByShape, FirstMoves, Proven, answer_to, proven_stone};
 use regions::named_point;
 use run_parts::Status;
 use std::alloc::{AllocError, Global};
@@ -155,9 +155,9 @@ fn answered_by_moves(
 
 /// Why the group is alive or dead, where that is proved.
 fn proof_of(alloc: Global, group: &Group, steps: u64) -> Result<Option<Proof>, AllocError> {
-    if lives_anywhere(group.problem.colouring(), group.target, group.defender) {
+    if let Some(shape) = ByShape::of(group.problem.colouring(), group.target, group.defender) {
         let proven = proven_stone(alloc, &group.problem, group.target, 0)?;
-        return Ok(Some(Proof::Shape(proven)));
+        return Ok(Some(Proof::Shape(shape, proven)));
     }
     match proven_stone(alloc, &group.problem, group.target, steps)? {
         Some(proven) => Ok(Some(Proof::Answers(proven))),

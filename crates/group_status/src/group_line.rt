@@ -11,7 +11,7 @@ use crate::totals::Said;
 use crate::verdict::{Procedures, judge_by};
 use group_words::{Form, Judgement, Request, Word};
 use pn_search::Budget;
-use proved_groups::{FirstMoves, lives_anywhere};
+use proved_groups::{ByShape, FirstMoves};
 use std::alloc::{AllocError, Global};
 
 /// The first, quick look at a group gets one part in this many of the steps.
@@ -28,8 +28,8 @@ pub(crate) fn said_and_line(
     proof: Option<&Proof>,
 ) -> Result<(Said, String), AllocError> {
     let is_json = request.form == Form::Json;
-    if lives_anywhere(group.problem.colouring(), group.target, group.defender) {
-        let shape = Proof::Shape(None);
+    if let Some(shape) = ByShape::of(group.problem.colouring(), group.target, group.defender) {
+        let shape = Proof::Shape(shape, None);
         return Ok((Said::Proved, line_by_proof(alloc, group, &shape, is_json)?));
     }
     let few = Budget {
@@ -84,15 +84,18 @@ fn line_by_moves(
 ) -> Result<Option<String>, AllocError> {
     let (size, target) = (group.problem.size(), group.target);
     match moves.both() {
-        Some((attack, _)) if attack.supposed().is_empty() => {
+        Some((attack, defence)) => {
+            if !attack.supposed().is_empty() {
+                return Ok(None);
+            }
             if !is_json {
-                return Ok(Some(unsettled_line(alloc, size, target, attack)?));
+                return Ok(Some(unsettled_line(alloc, size, target, attack, defence)?));
             }
             let stones = group.position.stones(target);
             let text = first_moves_object(alloc, group, &stones, None, moves)?;
             Ok(Some(text))
         }
-        _ => Ok(None),
+        None => Ok(None),
     }
 }
 

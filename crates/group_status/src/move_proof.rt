@@ -1,9 +1,9 @@
 //! What a first move does to a group, where that is proved, as lines for a reader.
 
 ghost use Rattle.std.specs.Prelude.{IfOk, string_bytes};
-ghost use Rattle.group_status.specs.Lines.{IsMoveLine};
+ghost use Rattle.proved_groups.specs.Proven.{IsUnsettled};
+ghost use Rattle.group_status.specs.Lines.{IsMoveLine, IsUnsettledLine, IsWinnerByMoveLine};
 
-use crate::lines::push_point;
 use crate::proof::{point_name, push_condition, push_details};
 use go_points::{Point, Size};
 use proved_groups::ProvenByMove;
@@ -17,30 +17,36 @@ pub(crate) fn unsettled_lines(
     target: Point,
     attack: &ProvenByMove,
     defence: &ProvenByMove,
-) -> Result<String, AllocError> {
-    let mut text = unsettled_line(alloc, size, target, attack)?;
+) -> Result<String, AllocError>
+    requires { IsUnsettled attack.now defence.now }
+{
+    let mut text = unsettled_line(alloc, size, target, attack, defence)?;
     push_by_move(alloc, &mut text, size, attack)?;
     push_by_move(alloc, &mut text, size, defence)?;
     Ok(text)
 }
 
-/// The first of these lines.
+/// The first of these lines. Of the defence only that it decides is needed.
 pub(crate) fn unsettled_line(
     alloc: Global,
     size: Size,
     target: Point,
     attack: &ProvenByMove,
-) -> Result<String, AllocError> {
+    _defence: &ProvenByMove,
+) -> Result<String, AllocError>
+    requires { IsUnsettled attack.now _defence.now }
+    ensures { IfOk result (λ text. IsUnsettledLine attack.now _defence.now (string_bytes text)) }
+{
+    let name = point_name(alloc, size, target)?;
+    let condition = condition_of(alloc, size, attack)?;
+    format!(in alloc; "{name}: unsettled (proved{condition})\n")
+}
+
+/// On which stones it depends that they have liberties elsewhere, if on any.
+fn condition_of(alloc: Global, size: Size, proven: &ProvenByMove) -> Result<String, AllocError> {
     let mut text = String::new(alloc);
-    push_point(&mut text, size, target)?;
-    text.push_str(": unsettled (proved")?;
-    push_condition(
-        &mut text,
-        size,
-        attack.problem().defender(),
-        &attack.supposed(),
-    )?;
-    text.push_str(")\n")?;
+    let owner = proven.problem().defender();
+    push_condition(&mut text, size, owner, &proven.supposed())?;
     Ok(text)
 }
 
@@ -51,19 +57,24 @@ pub(crate) fn by_move_lines(
     target: Point,
     proven: &ProvenByMove,
 ) -> Result<String, AllocError> {
-    let mut text = String::new(alloc);
-    push_point(&mut text, size, target)?;
-    let winner = colour_name(proven.mover());
-    write!(text, ": {winner} wins (proved")?;
-    push_condition(
-        &mut text,
-        size,
-        proven.problem().defender(),
-        &proven.supposed(),
-    )?;
-    text.push_str(")\n")?;
+    let mut text = winner_line(alloc, size, target, proven)?;
     push_by_move(alloc, &mut text, size, proven)?;
     Ok(text)
+}
+
+/// The first of these lines.
+fn winner_line(
+    alloc: Global,
+    size: Size,
+    target: Point,
+    proven: &ProvenByMove,
+) -> Result<String, AllocError>
+    ensures { IfOk result (λ text. IsWinnerByMoveLine proven.now (string_bytes text)) }
+{
+    let name = point_name(alloc, size, target)?;
+    let condition = condition_of(alloc, size, proven)?;
+    let winner = colour_name(proven.winner());
+    format!(in alloc; "{name}: {winner} wins (proved{condition})\n")
 }
 
 /// Who moves first, what happens then and by which move.

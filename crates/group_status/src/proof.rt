@@ -1,14 +1,14 @@
 //! Why a group is alive or dead, where that is proved, as lines for a reader.
 
 ghost use Rattle.std.specs.Prelude.{IfOk, string_bytes};
-ghost use Rattle.group_status.specs.Lines.{IsProvedLine, SaysFate};
+ghost use Rattle.group_status.specs.Lines.{IsProvedLine, IsWinnerLine, SaysFate, SaysWhoWins};
 
 use crate::lines::push_point;
 use crate::totals::Said;
 use go_points::{Colour, Point, PointSet, Size};
 use group_search::{Answer, Finding, Kind};
 use group_words::Side;
-use proved_groups::Proven;
+use proved_groups::{ByShape, Proven};
 use std::alloc::{AllocError, Global};
 use tool_parts::colour_name;
 
@@ -16,7 +16,7 @@ use tool_parts::colour_name;
 #[derive(Drop)]
 pub(crate) enum Proof {
     /// It lives by its shape. With the finding that says so, if there is one.
-    Shape(Option<Proven>),
+    Shape(ByShape, Option<Proven>),
     /// By answers.
     Answers(Proven),
 }
@@ -25,15 +25,25 @@ impl Proof {
     /// What a judge has accepted of the group.
     pub(crate) fn proven(&self) -> Option<&Proven> {
         match self {
-            Proof::Shape(proven) => proven.as_ref(),
+            Proof::Shape(_, proven) => proven.as_ref(),
             Proof::Answers(proven) => Some(proven),
         }
     }
 
     pub(crate) fn is_alive(&self) -> bool {
         match self {
-            Proof::Shape(_) => true,
+            Proof::Shape(_, _) => true,
             Proof::Answers(proven) => proven.is_alive(),
+        }
+    }
+
+    /// Who wins, whoever moves first.
+    pub(crate) fn winner(&self) -> Colour
+        ensures { SaysWhoWins self.now result }
+    {
+        match self {
+            Proof::Shape(shape, _) => shape.owner(),
+            Proof::Answers(proven) => proven.winner(),
         }
     }
 
@@ -51,7 +61,7 @@ impl Proof {
         ensures { SaysFate self.now result.now }
     {
         match self {
-            Proof::Shape(_) => "alive",
+            Proof::Shape(_, _) => "alive",
             Proof::Answers(proven) => proven.status(),
         }
     }
@@ -68,7 +78,7 @@ pub(crate) fn proof_lines(
 ) -> Result<String, AllocError> {
     let mut text = match first {
         None => proved_line(alloc, size, target, proof)?,
-        Some(_) => winner_line(alloc, size, target, defender, proof)?,
+        Some(_) => winner_line(alloc, size, target, proof)?,
     };
     match proof {
         Proof::Answers(proven) if proven.finding().kind != Kind::PassAlive => {
@@ -102,16 +112,13 @@ fn winner_line(
     alloc: Global,
     size: Size,
     target: Point,
-    defender: Colour,
     proof: &Proof,
-) -> Result<String, AllocError> {
+) -> Result<String, AllocError>
+    ensures { IfOk result (λ text. IsWinnerLine proof.now (string_bytes text)) }
+{
     let name = point_name(alloc, size, target)?;
     let condition = condition_of(alloc, size, proof)?;
-    let winner = colour_name(if proof.is_alive() {
-        defender
-    } else {
-        defender.opponent()
-    });
+    let winner = colour_name(proof.winner());
     format!(in alloc; "{name}: {winner} wins (proved{condition})\n")
 }
 

@@ -1,7 +1,9 @@
 //! A group whose fate is proved, as an object of JSON.
 
-ghost use Rattle.std.specs.Prelude.{IfOk, string_bytes};
-ghost use Rattle.group_status.specs.Lines.{IsStatusFields};
+ghost use Rattle.std.specs.Prelude.{◌≡◌, IfOk, string_bytes};
+ghost use Rattle.proved_groups.specs.Proven.{IsUnsettled};
+ghost use Rattle.tool_parts.specs.Says.{letter_text};
+ghost use Rattle.group_status.specs.Lines.{IsStatusFields, IsUnsettledFields, IsWinnerByMoveFields, IsWinnerFields, winner_fields};
 
 use crate::group::Group;
 use crate::json::{begun_at, push_points, push_set};
@@ -37,10 +39,11 @@ pub(crate) fn proof_object(
     proof: &Proof,
 ) -> Result<String, AllocError> {
     let mut text = begun_at(alloc, size, target)?;
-    match first {
-        None => text.push_str(status_fields(alloc, proof)?.as_str())?,
-        Some(side) => push_winner(&mut text, defender, side, proof.is_alive())?,
-    }
+    let said = match first {
+        None => status_fields(alloc, proof)?,
+        Some(side) => winner_of_proof(alloc, side.colour(defender), proof)?,
+    };
+    text.push_str(said.as_str())?;
     match proof.proven() {
         Some(proven) => {
             push_points(&mut text, "stones", size, &proven.finding().stones)?;
@@ -60,23 +63,60 @@ fn status_fields(alloc: Global, proof: &Proof) -> Result<String, AllocError>
     format!(in alloc; ",\"status\":\"{word}\",\"word\":\"proved\"")
 }
 
-/// Appends who wins if this side moves first, and that it is proved.
-fn push_winner(
-    text: &mut String,
+/// Who wins where this side moves first, and that it is proved.
+fn winner_of_proof(alloc: Global, mover: Colour, proof: &Proof) -> Result<String, AllocError>
+    ensures { IfOk result (λ text. IsWinnerFields proof.now (string_bytes text)) }
+{
+    winner_fields(alloc, mover, proof.winner())
+}
+
+/// The same of a first move.
+fn winner_by_move(alloc: Global, proven: &ProvenByMove) -> Result<String, AllocError>
+    ensures { IfOk result (λ text. IsWinnerByMoveFields proven.now (string_bytes text)) }
+{
+    winner_fields(alloc, proven.mover(), proven.winner())
+}
+
+/// Who moves first, and who wins.
+fn winner_fields(alloc: Global, mover: Colour, winner: Colour) -> Result<String, AllocError>
+    ensures { IfOk result
+        (λ text. string_bytes text ≡ winner_fields (letter_text mover) winner) }
+{
+    let first = colour_letter(mover);
+    let won = colour_letter(winner);
+    format!(in alloc; ",\"first\":\"{first}\",\"word\":\"proved\",\"winner\":\"{won}\"")
+}
+
+/// The status of a group that these two decide. Of the defence only that it does is needed.
+fn unsettled_fields(
+    alloc: Global,
+    _attack: &ProvenByMove,
+    _defence: &ProvenByMove,
+) -> Result<String, AllocError>
+    requires { IsUnsettled _attack.now _defence.now }
+    ensures { IfOk result
+        (λ text. IsUnsettledFields _attack.now _defence.now (string_bytes text)) }
+{
+    format!(in alloc; ",\"status\":\"unsettled\",\"word\":\"proved\"")
+}
+
+/// What the first moves say: of the group if both sides were asked about, or of who wins where this side moves first.
+fn said_by_moves(
+    alloc: Global,
     defender: Colour,
-    first: Side,
-    is_alive: bool,
-) -> Result<(), AllocError> {
-    let mover = colour_letter(first.colour(defender));
-    let winner = colour_letter(if is_alive {
-        defender
-    } else {
-        defender.opponent()
-    });
-    write!(
-        text,
-        ",\"first\":\"{mover}\",\"word\":\"proved\",\"winner\":\"{winner}\""
-    )
+    first: Option<Side>,
+    first_moves: &FirstMoves,
+) -> Result<String, AllocError> {
+    match first {
+        None => match first_moves.both() {
+            Some((attack, defence)) => unsettled_fields(alloc, attack, defence),
+            None => Ok(String::new(alloc)),
+        },
+        Some(side) => match first_moves.by(side.colour(defender)) {
+            Some(proven) => winner_by_move(alloc, proven),
+            None => Ok(String::new(alloc)),
+        },
+    }
 }
 
 /// The object of a group that each side decides by moving first, or where one side was asked about that decides it so.
@@ -88,13 +128,8 @@ pub(crate) fn first_moves_object(
     first_moves: &FirstMoves,
 ) -> Result<String, AllocError> {
     let mut text = begun_at(alloc, group.problem.size(), group.target)?;
-    match first {
-        None => text.push_str(",\"status\":\"unsettled\",\"word\":\"proved\"")?,
-        Some(side) => {
-            let is_alive = side.is(Side::Defender);
-            push_winner(&mut text, group.defender, side, is_alive)?;
-        }
-    }
+    let said = said_by_moves(alloc, group.defender, first, first_moves)?;
+    text.push_str(said.as_str())?;
     push_points(&mut text, "stones", group.problem.size(), stones)?;
     push_first_moves(&mut text, group, first_moves, false)?;
     text.push_str(",\"questions\":[]}\n")?;

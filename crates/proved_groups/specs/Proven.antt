@@ -1,5 +1,7 @@
 -- What a judge has accepted of the stones of a finding.
 use Rattle.std.specs.Prelude.{◌≡◌, ◌⊎◌, ℕ, IsTrue, List, [], Option, Some, codes}
+use Rattle.go_points.specs.declared.Colour.{Colour}
+use Rattle.go_points.specs.Grid.{opponent_of}
 use Rattle.go_points.specs.Place.{Place}
 use Rattle.go_points.specs.Points.{holds_place}
 use Rattle.target_game.specs.State.{GameProblem, start}
@@ -29,6 +31,12 @@ SaysStatus a text =
     ((text ≡ codes "alive") × ∥ IsSafe (start (problem_of a)) ∥₁)
     ⊎ ((text ≡ codes "dead") × ∥ IsLost (problem_of a) (supposed_of a) ∥₁)
 
+-- Who wins, whoever moves first: the defender where they are safe, the other side where they are dead.
+abbrev pub SaysWinner : Accepted → Colour → Type 0
+SaysWinner a x =
+    ((x ≡ (problem_of a).game.defender) × ∥ IsSafe (start (problem_of a)) ∥₁)
+    ⊎ ((x ≡ opponent_of (problem_of a).game.defender) × ∥ IsLost (problem_of a) (supposed_of a) ∥₁)
+
 -- The same where one side moves first, who is to move.
 abbrev pub problem_by_move : AcceptedByMove → GameProblem
 problem_by_move (one.Alive safe) = safe.problem
@@ -39,10 +47,22 @@ supposed_by_move (one.Alive safe) = []
 supposed_by_move (one.Dead dead) = dead.supposed
 
 -- They live once their owner has played at this point, or die by some move of the other side's.
+abbrev pub LivesBy : AcceptedByMove → Place → Type 0
+LivesBy a m = ∥ IsSafeAs (Some m) (start (problem_by_move a)) ∥₁
+
+abbrev pub Dies : AcceptedByMove → Type 0
+Dies a = ∥ IsLostByMove (problem_by_move a) (supposed_by_move a) ∥₁
+
 abbrev pub SaysEnd : AcceptedByMove → Option Place → List ℕ → Type 0
-SaysEnd a first text =
-    ((text ≡ codes "lives") × (m : Place) × (first ≡ Some m) × ∥ IsSafeAs (Some m) (start (problem_by_move a)) ∥₁)
-    ⊎ ((text ≡ codes "dies") × ∥ IsLostByMove (problem_by_move a) (supposed_by_move a) ∥₁)
+SaysEnd a first text = ((text ≡ codes "lives") × (m : Place) × (first ≡ Some m) × LivesBy a m) ⊎ ((text ≡ codes "dies") × Dies a)
+
+-- Who moves first decides.
+abbrev pub SaysWinnerByMove : AcceptedByMove → Colour → Type 0
+SaysWinnerByMove a x = (x ≡ (problem_by_move a).mover) × (((m : Place) × LivesBy a m) ⊎ Dies a)
+
+-- The other side takes them by moving first, and their owner saves them.
+abbrev pub IsUnsettled : ProvenByMove → ProvenByMove → Type 0
+IsUnsettled attack defence = Dies attack.claim × ((m : Place) × LivesBy defence.claim m)
 
 -- The stones of the finding are the targets, in the position of q with its past; the point is one of them.
 abbrev pub IsAbout : GameProblem → Proven → Type 0

@@ -1,7 +1,7 @@
 //! What each side's first move does to a group whose fate is not proved as it is.
 
 ghost use Rattle.std.specs.Prelude.{IfOk, IfSome};
-ghost use Rattle.proved_groups.specs.Proven.{IsOfStoneByMove};
+ghost use Rattle.proved_groups.specs.Proven.{IsOfStoneByMove, IsUnsettled};
 
 use crate::asking::proven_by_move;
 use crate::proven::ProvenByMove;
@@ -61,12 +61,30 @@ impl FirstMoves {
     }
 
     /// The attack and the defence, if each side decides the group by moving first.
-    pub fn both(&self) -> Option<(&ProvenByMove, &ProvenByMove)> {
+    pub fn both(&self) -> Option<(&ProvenByMove, &ProvenByMove)>
+        ensures { IfSome result (λ both. IsUnsettled both.0.now both.1.now) }
+    {
         match (self.attack.as_ref(), self.defence.as_ref()) {
-            (Some(attack), Some(defence)) => Some((attack, defence)),
+            (Some(attack), Some(defence)) => deciding(attack, defence),
             _ => None,
         }
     }
+}
+
+/// The two, if the group dies by the one, and lives by the other.
+fn deciding<'a>(
+    attack: &'a ProvenByMove,
+    defence: &'a ProvenByMove,
+) -> Option<(&'a ProvenByMove, &'a ProvenByMove)>
+    ensures { IfSome result (λ both. IsUnsettled both.0.now both.1.now) }
+{
+    if attack.is_alive() {
+        return None;
+    }
+    if !defence.is_alive() {
+        return None;
+    }
+    Some((attack, defence))
 }
 
 /// What is proved by the first move of this side, that the group lives or else that it dies, if that side is asked about.

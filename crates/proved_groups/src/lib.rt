@@ -13,7 +13,7 @@ mod safe;
 mod together;
 
 pub use asking::{proven_stone, search_of};
-pub use by_shape::lives_anywhere;
+pub use by_shape::ByShape;
 pub use dead::{Dead, DeadByMove};
 pub use first_moves::FirstMoves;
 pub use move_answer::{AnswerTo, answer_to};

@@ -2,8 +2,9 @@
 //!
 //! Of a group that does not live by its shape the word `proved` is written only from what is made here.
 
-ghost use Rattle.std.specs.Prelude.{◌≡◌, IfOk, IfSome, IsTrue};
-ghost use Rattle.proved_groups.specs.Proven.{problem_of, problem_by_move, supposed_of, supposed_by_move, IsAbout, IsAboutByMove, SaysEnd, SaysStatus};
+ghost use Rattle.std.specs.Prelude.{◌≡◌, false, IfOk, IfSome, IsTrue};
+ghost use Rattle.go_points.specs.Place.{Place};
+ghost use Rattle.proved_groups.specs.Proven.{problem_of, problem_by_move, supposed_of, supposed_by_move, Dies, IsAbout, IsAboutByMove, LivesBy, SaysEnd, SaysStatus, SaysWinner, SaysWinnerByMove};
 
 use crate::dead::{Dead, DeadByMove, dead_stones, stones_dead_by_move};
 use crate::safe::{Safe, SafeByMove, safe_stones, stones_safe_by_move};
@@ -71,6 +72,16 @@ impl Proven {
             Accepted::Dead(_) => "dead",
         }
     }
+
+    /// Who wins, whoever moves first.
+    pub fn winner(&self) -> Colour
+        ensures { SaysWinner self.now.claim result }
+    {
+        match &self.claim {
+            Accepted::Alive(_) => self.problem().defender(),
+            Accepted::Dead(_) => self.problem().defender().opponent(),
+        }
+    }
 }
 
 /// What a judge has accepted of the stones of a finding where one side moves first, which is to move in the problem.
@@ -116,7 +127,10 @@ impl ProvenByMove {
     }
 
     /// Whether the stones live by that move, which is their owner's; otherwise they are taken by it, which is the other side's.
-    pub fn is_alive(&self) -> bool {
+    pub fn is_alive(&self) -> bool
+        ensures lives { IsTrue result → (m : Place) × LivesBy self.now.claim m }
+        ensures dies { result ≡ false → Dies self.now.claim }
+    {
         match &self.claim {
             AcceptedByMove::Alive(_) => true,
             AcceptedByMove::Dead(_) => false,
@@ -128,6 +142,13 @@ impl ProvenByMove {
         ensures { result ≡ (problem_by_move self.now.claim).mover }
     {
         self.problem().mover()
+    }
+
+    /// Who wins by moving first.
+    pub fn winner(&self) -> Colour
+        ensures { SaysWinnerByMove self.now.claim result }
+    {
+        self.mover()
     }
 
     /// The first move, and whether they are said to live or to die by it: `lives` or `dies`. Where they die, that it is this move is

@@ -17,6 +17,6 @@ loop-turn-preserved g c =
     subst (λ (s : GameState). turns_due s c.loop-turn.turns_left.next ≡ ply_of s.game.size turn ∷ turns_due s c.next_left.new.left.next)
     (ap (λ l. l.state) c.in_ok-state.ensures) c.in-Some.ensures.0 in
     let found = judged_more q (legal_turns (start q)) (turns_due (start q) c.next_left.new.left.next) (ply_of q.game.size turn)
-    (record { turn = turn; judged = c.in_ok-judged.judged }) c.loop-turn.found.items refl c.in_ok-judged.ensures
+    (record { turn = turn; judged = c.in_ok-judged.judged; reply = c.reply_of-reply.result }) c.loop-turn.found.items (refl, c.in_ok-judged.ensures, c.reply_of-reply.ensures)
     (subst (λ ts. JudgedBefore q (legal_turns (start q)) ts c.loop-turn.found.items) due c.loop-turn.invariant) in
     subst (JudgedBefore q (legal_turns (start q)) (turns_due (start q) c.next_left.new.left.next)) (sym c.in_ok-push.ensures.items) found

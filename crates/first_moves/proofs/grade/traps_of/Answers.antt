@@ -1,10 +1,9 @@
-use Rattle.first_moves.proofs.Common.{◌≡◌, IfSome, Option, subst, sym, List, rules}
+use Rattle.first_moves.proofs.Common.{◌≡◌, IfSome, Option, subst, sym, List, rules, Found}
 use Rattle.std.specs.List.{All, Contains}
 use Rattle.std.specs.Prelude.{true}
 use Rattle.std.proofs.lemmas.List.Elements.{All-push}
 use Rattle.first_moves.specs.Grade.{is_refuted}
 use Rattle.first_moves.specs.Graded.{IsTrap}
-use Rattle.first_moves.specs.declared.found.Found.{Found}
 use Rattle.first_moves.specs.declared.grade.Trap.{Trap}
 use Rattle.first_moves.proofs.grade.traps_of.Goals.{in-Some+in_ok-push, in_default}
 use Rattle.first_moves.proofs.grade.traps_of.Goals as goal

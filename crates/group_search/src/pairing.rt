@@ -18,18 +18,8 @@ const PAIR_SIZES: [usize; 10] = [1, 2, 3, 4, 5, 6, 7, 8, 10, 12];
 struct Pair {
     /// The points that the next region may not have.
     barred: NumberSet,
-    /// The liberties from which a region was too much. Larger ones are not decided either, mostly.
-    hard: NumberSet,
     first: Option<Kept>,
     second: Option<Kept>,
-}
-
-/// One of two regions that is asked about: the chain, and the liberty from which the region was made.
-#[derive(Clone, Copy)]
-struct Half {
-    chain: usize,
-    liberty: usize,
-    region: NumberSet,
 }
 
 impl GroupSearch {
@@ -44,7 +34,6 @@ impl GroupSearch {
         }
         let mut pair = Pair {
             barred: rounds.used,
-            hard: NumberSet::empty(),
             first: None,
             second: None,
         };
@@ -69,7 +58,7 @@ impl GroupSearch {
             Some(found) => found.liberties,
             None => NumberSet::empty(),
         };
-        for liberty in liberties.minus(&pair.hard).iter() {
+        for liberty in liberties.iter() {
             if pair.second.is_none() && !pair.barred.has(liberty) {
                 self.try_liberty(rounds, chain, liberty, size, pair)?;
             }
@@ -92,12 +81,7 @@ impl GroupSearch {
         let from = NumberSet::of(liberty);
         let mut points = self.nearest(rounds.colour, &from, &barred, size)?;
         let region = region_of(&self.board, rounds.colour, &set_of(points.as_slice()));
-        let half = Half {
-            chain,
-            liberty,
-            region,
-        };
-        let Some(kept) = self.try_half(rounds, &half, pair)? else {
+        let Some(kept) = self.try_half(rounds, chain, &region)? else {
             return Ok(());
         };
         let kept = self.shrink(kept, &mut points)?;
@@ -114,24 +98,26 @@ impl GroupSearch {
     fn try_half(
         &mut self,
         rounds: &Rounds,
-        half: &Half,
-        pair: &mut Pair,
+        chain: usize,
+        region: &NumberSet,
     ) -> Result<Option<Kept>, AllocError> {
-        let (friends, others) = self.sides_of(rounds.colour, &half.region);
-        if !others.has(half.chain) {
+        let (friends, others) = self.sides_of(rounds.colour, region);
+        if !others.has(chain) {
             return Ok(None);
         }
-        for kept in choices(&self.board, &others, &half.region, half.chain) {
+        for kept in choices(&self.board, &others, region, chain) {
             let asked = Asked {
-                region: half.region,
+                region: *region,
                 kept,
                 friends,
-                giving: NumberSet::of(half.chain),
+                giving: NumberSet::of(chain),
             };
-            match self.ask_once(rounds.colour, asked, false)? {
-                Said::Yes(found) => return Ok(Some(found)),
-                Said::No(Some(_)) => {}
-                Said::No(None) | Said::Open => pair.hard.insert(half.liberty),
+            if !self.tried.contains(&asked) {
+                let question = asked.question(rounds.colour);
+                if let Said::Yes(found) = self.ask(&question, self.limits.steps)? {
+                    return Ok(Some(found));
+                }
+                self.tried.insert(asked)?;
             }
         }
         Ok(None)

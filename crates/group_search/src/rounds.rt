@@ -173,11 +173,14 @@ impl GroupSearch {
                 friends,
                 giving: NumberSet::empty(),
             };
-            match self.ask_once(rounds.colour, asked, false)? {
-                Said::Yes(found) => return Ok(Some(found)),
-                Said::No(Some(_)) => {}
-                // Larger regions are not decided either, mostly.
-                Said::No(None) | Said::Open => rounds.hard.insert(chain),
+            if self.tried.insert(asked)? {
+                let question = asked.question(rounds.colour);
+                match self.ask(&question, self.limits.steps)? {
+                    Said::Yes(found) => return Ok(Some(found)),
+                    Said::No(Some(_)) => {}
+                    // Larger regions are not decided either, mostly.
+                    Said::No(None) | Said::Open => rounds.hard.insert(chain),
+                }
             }
         }
         Ok(None)

@@ -1,6 +1,6 @@
 //! The group that is asked about.
 
-use go_points::{Colour, Point, PointSet, Size};
+use go_points::{Colour, Point, PointSet};
 use group_words::Side;
 use proved_groups::FirstMoves;
 use regions::{Order, Position, Supposed};
@@ -16,8 +16,6 @@ pub(crate) struct Group {
     pub(crate) order: Order,
     pub(crate) target: Point,
     pub(crate) defender: Colour,
-    /// Stones of the board that are proved to be taken, perhaps as long as others stand: as far as that was asked before.
-    pub(crate) lost: PointSet,
 }
 
 impl Group {
@@ -35,20 +33,7 @@ impl Group {
             order,
             target,
             defender,
-            lost: PointSet::new(),
         }))
-    }
-
-    /// Those of these stones, of the attacker's, that are beside the target's chain.
-    pub(crate) fn beside(&self, stones: &PointSet) -> PointSet {
-        let own = self.position.stones(self.target);
-        let mut beside = PointSet::new();
-        for stone in stones.iter() {
-            if !own.has(stone) && touches(self.problem.size(), stone, &own) {
-                beside.insert(stone);
-            }
-        }
-        beside
     }
 
     /// What is proved of it by the first move of either side, or of this one alone.
@@ -97,9 +82,4 @@ impl Group {
             Err(_) => Ok(None),
         }
     }
-}
-
-/// Whether one of these stones is beside the point.
-fn touches(size: Size, point: Point, stones: &PointSet) -> bool {
-    size.holds(point) && point.neighbours(size).iter().any(|it| stones.has(*it))
 }

@@ -17,10 +17,9 @@ use std::alloc::{AllocError, Global};
 /// The first, quick look at a group gets one part in this many of the steps.
 const QUICK_SHARE: u64 = 10;
 
-/// What is said about the group: that it lives, if a quick look finds that surely, or likely without such a proof of death; that each
-/// side's first move decides it, if that is proved with few steps; what the quick look finds with these, if that is sure; this proof,
-/// which depends on stones that are only supposed to stand; first moves that are proved with all steps; and otherwise what both
-/// procedures find.
+/// What is said about the group: that each side's first move decides it, if that is proved with few steps; what a quick look found, if
+/// that is sure; this proof, which depends on stones that are only supposed to stand; first moves that are proved with all steps; and
+/// otherwise what both procedures find.
 pub(crate) fn said_and_line(
     alloc: Global,
     group: &Group,
@@ -37,16 +36,11 @@ pub(crate) fn said_and_line(
         steps: (budget.steps / QUICK_SHARE).max(1),
         table: budget.table,
     };
-    let none = group.first_moves(alloc, None, 0)?;
-    let (word, quick) = line_by(alloc, group, Procedures::First, few, &none, is_json)?;
-    if quick.0 == Said::Alive && (word == Word::Sure || proof.is_none()) {
-        return Ok(quick);
-    }
     let moves = group.first_moves(alloc, None, few.steps)?;
     if let Some(line) = line_by_moves(alloc, group, &moves, is_json)? {
         return Ok((Said::Unsettled, line));
     }
-    let (word, quick) = with_moves(alloc, group, few, &moves, (word, quick), is_json)?;
+    let (word, quick) = line_by(alloc, group, Procedures::First, few, &moves, is_json)?;
     if word == Word::Sure {
         return Ok(quick);
     }
@@ -64,22 +58,6 @@ pub(crate) fn said_and_line(
     Ok(both)
 }
 
-/// What the quick look found, or finds anew if a first move is proved to win.
-fn with_moves(
-    alloc: Global,
-    group: &Group,
-    few: Budget,
-    moves: &FirstMoves,
-    found: (Word, (Said, String)),
-    is_json: bool,
-) -> Result<(Word, (Said, String)), AllocError> {
-    let attack = moves.outright(group.defender.opponent());
-    if attack.is_none() && moves.outright(group.defender).is_none() {
-        return Ok(found);
-    }
-    line_by(alloc, group, Procedures::First, few, moves, is_json)
-}
-
 /// What these procedures find: how far that is to be trusted, what is said, and the line or the object.
 fn line_by(
     alloc: Global,
@@ -92,7 +70,6 @@ fn line_by(
     // The notes of a run are about its groups, not about their questions.
     let mut silent: Vec<u8> = Vec::new(alloc);
     let mut table = Table::new(alloc, budget, false);
-    table.lost = group.lost;
     let judged = judge_by(alloc, group, &mut table, procedures, moves, &mut silent)?;
     let report = Report::of(group, &table, moves, procedures, false);
     Ok((judged.word, line_of(alloc, report, &judged, is_json)?))

@@ -8,7 +8,7 @@ use crate::first_procedure::first_procedure;
 use crate::group::Group;
 use crate::second_procedure::second_procedure;
 use crate::table::Table;
-use group_words::{Fate, Finding, Judgement, Side, Word, is_won_by, judged_by, together};
+use group_words::{Fate, Finding, Judgement, Side, Word, judged_by, together};
 use proved_groups::FirstMoves;
 use regions::Walls;
 use std::alloc::{AllocError, Global};
@@ -67,24 +67,6 @@ pub(crate) fn found<N: Write>(
     Ok((both, Procedures::Both))
 }
 
-/// The same, where a win of the attacker's is only a leaning if the target may live by taking stones that no region has: stones beside
-/// it that are proved to be taken.
-fn asked_for<N: Write>(
-    alloc: Global,
-    group: &Group,
-    table: &mut Table,
-    first: Side,
-    procedures: Procedures,
-    notes: &mut N,
-) -> Result<Finding, AllocError> {
-    let mut found = found_by(alloc, group, table, first, procedures, notes)?;
-    let lost = group.beside(&table.lost);
-    if is_won_by(Side::Attacker, found.winner) && table.leaves_out(first, &lost) {
-        found.word = Word::Leaning;
-    }
-    Ok(found)
-}
-
 /// What the procedures need not be asked where this side moves first, since it is proved to win.
 fn proved_finding(group: &Group, first_moves: &FirstMoves, side: Side) -> Option<Finding> {
     match first_moves.outright(side.colour(group.defender)) {
@@ -113,7 +95,7 @@ pub(crate) fn judge_by<N: Write>(
     table.clear_grounds();
     let attacker_first = match proved_finding(group, first_moves, Side::Attacker) {
         Some(proved) => proved,
-        None => asked_for(alloc, group, table, Side::Attacker, procedures, notes)?,
+        None => found_by(alloc, group, table, Side::Attacker, procedures, notes)?,
     };
     if attacker_first.is_sure_of(Side::Defender) {
         // It also lives if it moves first: it passes.
@@ -126,7 +108,7 @@ pub(crate) fn judge_by<N: Write>(
     }
     let asked = match proved_finding(group, first_moves, Side::Defender) {
         Some(proved) => proved,
-        None => asked_for(alloc, group, table, Side::Defender, procedures, notes)?,
+        None => found_by(alloc, group, table, Side::Defender, procedures, notes)?,
     };
     Ok(judged_by(attacker_first, &asked))
 }

@@ -15,16 +15,12 @@ const QUESTIONS: u64 = 2;
 /// All questions about a board may take the square of the steps of one, divided by this: with few steps little is asked.
 const SHARE: u64 = 200;
 
-/// How many times the steps of a question one about a whole area of a side may take: most large groups live there, and their proofs
-/// are long.
-const WHOLE_AREA: u64 = 5;
-
-/// The limits by which one question takes at most these steps, one about a whole area more, and all of them so many.
+/// The limits by which one question takes at most these steps, and all of them so many.
 fn limits(steps: u64, all_steps: u64) -> Limits {
     let most = Limits::default();
     Limits {
         steps: most.steps.min(steps),
-        closed_steps: most.closed_steps.min(steps.saturating_mul(WHOLE_AREA)),
+        closed_steps: most.closed_steps.min(steps),
         all_steps: most.all_steps.min(all_steps),
         ..most
     }
